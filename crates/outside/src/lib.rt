@@ -7,21 +7,26 @@
 #![tactic(auto)]
 
 mod clocks;
+mod duplex;
 mod faults;
+pub mod memory;
 mod parcels;
 mod ports;
 mod sinks;
 mod sources;
+mod standard;
 mod stores;
 mod streams;
 mod tells;
 
 pub use clocks::Clock;
+pub use duplex::Duplex;
 pub use faults::{BlobFault, Failed, NoMemory};
 pub use parcels::Parcel;
 pub use ports::Port;
 pub use sinks::{Sink, write_all};
 pub use sources::{Source, read_full};
+pub use standard::{ReaderSource, WriterSink};
 pub use stores::{Blobs, Held};
 pub use streams::Stream;
 pub use tells::Tells;
