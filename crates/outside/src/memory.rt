@@ -1,5 +1,4 @@
-//! The outside in memory: what tests and a replayed run stand on. Each form tells all that its trait lets it
-//! tell, and fails at the calls that its script names.
+// The outside in memory: what tests and a replayed run stand on.
 
 mod fault_script;
 mod mem_blobs;
@@ -8,9 +7,13 @@ mod mem_source;
 mod script_clock;
 mod script_port;
 
+use crate::duplex::Duplex;
 pub use fault_script::FaultScript;
 pub use mem_blobs::{MemBlobs, MemHeld};
 pub use mem_sink::MemSink;
 pub use mem_source::MemSource;
 pub use script_clock::ScriptClock;
 pub use script_port::ScriptPort;
+
+/// A connection in memory.
+pub type MemLink = Duplex<MemSource, MemSink>;

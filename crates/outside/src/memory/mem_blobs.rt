@@ -1,5 +1,5 @@
 ghost use Rattle.std.specs.Prelude.{◌≡◌, ◌↔◌, Some, IfOk, Contains, IsErrOf};
-ghost use Rattle.outside.specs.Blobs.{HasBlobCause};
+ghost use Rattle.outside.specs.Blobs.{HasBlobCause, script_after_blob_call};
 
 use crate::faults::{BlobFault, NoMemory};
 use crate::memory::fault_script::FaultScript;
@@ -73,6 +73,7 @@ impl Blobs for MemBlobs {
         ensures cause { HasBlobCause self.old.faults self.new.faults result }
         ensures when { IsErrOf result BlobFault.Failed ↔ Contains self.old.failing self.old.calls }
         ensures told { IfOk result (λ held. held ≡ bytes.now) }
+        ensures after { self.new ≡ script_after_blob_call self.old result }
     {
         self.script.next_call()?;
         Ok(MemHeld {
@@ -84,6 +85,7 @@ impl Blobs for MemBlobs {
         ensures cause { HasBlobCause self.old.faults self.new.faults result }
         ensures when { IsErrOf result BlobFault.Failed ↔ Contains self.old.failing self.old.calls }
         ensures told { IfOk result (λ bytes. bytes.items ≡ held.now) }
+        ensures after { self.new ≡ script_after_blob_call self.old result }
     {
         self.script.next_call()?;
         Ok(Vec::from_slice(self.alloc, held.bytes.as_slice())?)

@@ -26,15 +26,22 @@ impl<T: Stream + Drop> Model for ScriptPort<T> {
 
     ghost Value = { PortState T };
 
-    ghost view = { λ p. record { left = into_iter_items p.left; given_back = p.given_back.items; room = p.room; script = p.script } };
+    ghost view = { λ p. record {
+      left = into_iter_items p.left;
+      given_back = p.given_back.items;
+      room = p.room;
+      script = p.script;
+    } };
 
-    ghost invariant = { λ p. (vec_len p.given_back + into_iter_len p.left ≤ p.room) × (p.room ≤ vec_capacity p.given_back) };
+    ghost invariant = { λ p. (vec_len p.given_back + into_iter_len p.left ≤ p.room)
+        × (p.room ≤ vec_capacity p.given_back) };
 }
 
 impl<T: Stream + Drop> ScriptPort<T> {
     /// A port of these connections, in this order. It takes no memory afterwards.
     pub fn new(alloc: Global, links: Vec<T>, script: FaultScript) -> Result<ScriptPort<T>, NoMemory>
-        ensures { IfOk result (λ port. port ≡ record { left = links.items; given_back = []; room = length links.items; script = script }) }
+        ensures { IfOk result (λ port. port
+            ≡ record { left = links.items; given_back = []; room = length links.items; script = script }) }
     {
         let room = links.len();
         Ok(ScriptPort {
@@ -76,8 +83,10 @@ impl<T: Stream + Drop> Port for ScriptPort<T> {
         ensures when { IsErr result ↔ Contains self.old.script.failing self.old.script.calls }
         ensures given { IfOk result (λ link. self.old.left ≡ option_to_list link ++ self.new.left) }
         ensures end { IfOk result (λ link. IfNone link (self.new.left ≡ [])) }
-        ensures place { IfOk result (λ link. OnSome link (length self.new.given_back + length self.new.left < self.new.room)) }
-        ensures ok { OnOk result (self.new ≡ record self.old { left = self.new.left; script = script_passed self.old.script }) }
+        ensures place { IfOk result (λ link. OnSome link
+            (length self.new.given_back + length self.new.left < self.new.room)) }
+        ensures ok { OnOk result (self.new
+            ≡ record self.old { left = self.new.left; script = script_passed self.old.script }) }
         ensures err { OnErr result (self.new ≡ record self.old { script = script_failed self.old.script }) }
     {
         self.script.next_call()?;
