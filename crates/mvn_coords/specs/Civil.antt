@@ -1,5 +1,6 @@
 -- A civil time: a day of the proleptic Gregorian calendar of ISO 8601 and a time of day to the second, and its text `yyyyMMdd.HHmmss`, the timestamp of a unique snapshot in the Maven 2 repository layout.
-use Rattle.std.specs.Prelude.{◌≡◌, ℕ, zero, suc, ◌+◌, ◌-◌, ◌*◌, ◌/◌, ◌%◌, Bool, ◌&&◌, ◌==◌, nat_le, if◌then◌else◌, List, [], ◌∷◌, ◌++◌, length, take, drop, fold, slice_index, slice_range, Option, Some, None, ℤ, pos, ◌+ℤ◌, ◌*ℤ◌}
+use Rattle.std.specs.Prelude.{◌≡◌, ℕ, zero, suc, ◌+◌, ◌-◌, ◌*◌, ◌/◌, ◌%◌, Bool, ◌&&◌, ◌==◌, nat_le, if◌then◌else◌, List, [], ◌∷◌, ◌++◌, length, take, drop, fold, slice_index, slice_range, Option, Some, None, ℤ, pos, ◌+ℤ◌, ◌*ℤ◌, unsigned_abs}
+use Rattle.jiff_core.specs.declared.civil.datetime.DateTime.{DateTime}
 use Rattle.std.specs.Char.{is_ascii_digit}
 use Rattle.std.specs.List.{list_all}
 use Rattle.jiff_core.specs.Calendar.{days_in_month, days_from_civil}
@@ -40,21 +41,38 @@ text_of_time t =
     ++ digits 2 t.hour ++ digits 2 t.minute ++ digits 2 t.second
 
 -- eight digits, a dot and six digits
+abbrev pub are_digits : List ℕ → Bool
+are_digits text = list_all is_ascii_digit text
+
 abbrev pub is_time_form : List ℕ → Bool
 is_time_form text =
-    (length text == 15) && list_all is_ascii_digit (take 8 text)
-    && (slice_index text 8 == 46) && list_all is_ascii_digit (drop 9 text)
+    (length text == 15) && (slice_index text 8 == 46) && are_digits (take 8 text) && are_digits (drop 9 text)
 
-abbrev pub fields_of : List ℕ → CivilTime
-fields_of text = record {
-  year = decimal (slice_range text 0 4);
-  month = decimal (slice_range text 4 6);
-  day = decimal (slice_range text 6 8);
-  hour = decimal (slice_range text 9 11);
-  minute = decimal (slice_range text 11 13);
-  second = decimal (slice_range text 13 15);
+-- the numbers that the digits of the date and those of the time write
+abbrev pub fields_of : List ℕ → List ℕ → CivilTime
+fields_of date time = record {
+  year = decimal (slice_range date 0 4);
+  month = decimal (slice_range date 4 6);
+  day = decimal (slice_range date 6 8);
+  hour = decimal (slice_range time 0 2);
+  minute = decimal (slice_range time 2 4);
+  second = decimal (slice_range time 4 6);
 }
+
+abbrev pub if_civil : CivilTime → Option CivilTime
+if_civil t = if is_civil t then Some t else None
 
 -- the civil time that a text writes
 abbrev pub time_of : List ℕ → Option CivilTime
-time_of text = if is_time_form text && is_civil (fields_of text) then Some (fields_of text) else None
+time_of text = if is_time_form text then if_civil (fields_of (take 8 text) (drop 9 text)) else None
+
+-- what a date and time of the calendar shows, its year being 0 or later
+abbrev pub shown : DateTime → CivilTime
+shown c = record {
+  year = unsigned_abs c.date.year;
+  month = c.date.month;
+  day = c.date.day;
+  hour = c.time.hour;
+  minute = c.time.minute;
+  second = c.time.second;
+}

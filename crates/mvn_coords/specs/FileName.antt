@@ -1,7 +1,7 @@
 -- The name of a file in its version directory (Maven 2 repository layout): `artifact-version` with an extension, or with a classifier and an extension; in a snapshot directory the version is that of a unique snapshot, `base-yyyyMMdd.HHmmss-number`.
-use Rattle.std.specs.Prelude.{◌≡◌, ℕ, ◌+◌, ◌-◌, Bool, true, false, not, cond, ◌&&◌, ◌||◌, ◌==◌, nat_eq, nat_le, nat_lt, if◌then◌else◌, List, [], ◌∷◌, ◌++◌, length, take, drop, take_while, Option, Some, None, option_and_then, Result, Ok, Err, codes}
+use Rattle.std.specs.Prelude.{◌≡◌, ℕ, ◌+◌, ◌-◌, Bool, true, false, not, cond, ◌&&◌, ◌||◌, ◌==◌, nat_eq, nat_le, nat_lt, if◌then◌else◌, List, [], ◌∷◌, ◌++◌, length, take, drop, Option, Some, None, option_and_then, Result, Ok, Err, codes}
 use Rattle.std.specs.Char.{is_ascii_digit}
-use Rattle.std.specs.List.{list_all, starts_with, ends_with, before_first, after_first}
+use Rattle.std.specs.List.{list_all, starts_with, ends_with, before_first, after_first, position_or_len}
 use Rattle.std.specs.Option.{ok_or, option_map}
 use Rattle.mvn_coords.specs.declared.fault.PathFault.{PathFault}
 use Rattle.mvn_coords.specs.declared.fault.PathFault.TheVariants as fault
@@ -17,6 +17,10 @@ abbrev pub ◌>>=◌ : {A B : Type 0} → Result A PathFault → (A → Result B
 pub record BuildOf : Type 0 where
   pub stamp : CivilTime
   pub number : ℕ
+
+-- a build's number is from 1 to 999,999,999
+abbrev pub is_build_number : ℕ → Bool
+is_build_number n = nat_le 1 n && nat_le n 999_999_999
 
 -- what a file's name tells beside artifact and version directory
 pub record Ending : Type 0 where
@@ -69,7 +73,7 @@ release_ending artifact directory name = do
 abbrev pub number_of : List ℕ → Option ℕ
 number_of run =
     if nat_lt 0 (length run) && nat_le (length run) 9 && list_all is_ascii_digit run
-      && not (starts_with nat_eq run (codes "0"))
+    && not (starts_with nat_eq run (codes "0"))
     then Some (decimal run) else None
 
 -- the word `SNAPSHOT` stands here for the timestamp and number of a build
@@ -80,22 +84,28 @@ is_end_of_word (b ∷ bs) = (b == 46) || (b == 45)
 abbrev pub is_literal : List ℕ → Bool
 is_literal text = starts_with nat_eq text (codes "SNAPSHOT") && is_end_of_word (drop 8 text)
 
-abbrev pub leading_digits : List ℕ → List ℕ
-leading_digits text = take_while is_ascii_digit text
+-- the whole run of digits at the front, and what follows it
+abbrev pub is_no_digit : ℕ → Bool
+is_no_digit b = not (is_ascii_digit b)
 
--- `-` and the whole run of digits: the number, and what follows it
+abbrev pub digit_count : List ℕ → ℕ
+digit_count text = position_or_len is_no_digit text
+
 abbrev pub number_in : List ℕ → Option (ℕ × List ℕ)
-number_in run =
-    option_map (λ n. (n, drop (length (leading_digits run)) run)) (number_of (leading_digits run))
+number_in run = option_map (λ n. (n, drop (digit_count run) run)) (number_of (take (digit_count run) run))
 
+-- `-` and a number
 abbrev pub numbered : List ℕ → Option (ℕ × List ℕ)
 numbered text = option_and_then number_in (behind (codes "-") text)
+
+-- the civil time that the first 15 bytes write, and what follows it
+abbrev pub stamped : List ℕ → Option (CivilTime × List ℕ)
+stamped text = option_map (λ t. (t, drop 15 text)) (time_of (take 15 text))
 
 -- in the version directory base-SNAPSHOT
 abbrev pub snapshot_ending : List ℕ → List ℕ → List ℕ → Result Ending PathFault
 snapshot_ending artifact base name = do
   text ← ok_or (behind (artifact ++ 45 ∷ base ++ 45 ∷ []) name) fault.NotNamed
-  stamp ← (if is_literal text then Err fault.LiteralSnapshot
-    else ok_or (time_of (take 15 text)) fault.BadStamp)
-  number ← ok_or (numbered (drop 15 text)) fault.BadBuild
-  ending_of (Some (record { stamp = stamp; number = number.0 })) number.1
+  stamp ← (if is_literal text then Err fault.LiteralSnapshot else ok_or (stamped text) fault.BadStamp)
+  number ← ok_or (numbered stamp.1) fault.BadBuild
+  ending_of (Some (record { stamp = stamp.0; number = number.0 })) number.1

@@ -1,11 +1,11 @@
 -- The path rule (Maven 2 repository layout; repository metadata 1.1.0): what a path of a repository names and for which side file, or the first step that it breaks.
-use Rattle.std.specs.Prelude.{◌≡◌, ℕ, Bool, true, false, not, cond, ◌&&◌, ◌||◌, ◌==◌, nat_eq, nat_le, nat_lt, if◌then◌else◌, List, [], ◌∷◌, ◌++◌, length, take, Option, Some, None, is_some, Result, Ok, Err, codes}
+use Rattle.std.specs.Prelude.{◌≡◌, ℕ, Bool, true, false, not, cond, ◌&&◌, ◌||◌, ◌==◌, nat_eq, nat_le, nat_lt, if◌then◌else◌, List, [], ◌∷◌, ◌++◌, length, take, Option, Some, None, is_some, Result, Ok, Err, codes, IsTrue, ◌≤◌}
 use Rattle.std.specs.List.{list_all, ends_with}
 use Rattle.mvn_coords.specs.declared.fault.PathFault.{PathFault}
 use Rattle.mvn_coords.specs.declared.fault.PathFault.TheVariants as fault
 use Rattle.mvn_coords.specs.declared.fault.Side.{Side}
 use Rattle.mvn_coords.specs.declared.fault.Side.TheVariants.{Sha1, Md5}
-use Rattle.mvn_coords.specs.Segment.{levels, is_segment}
+use Rattle.mvn_coords.specs.Segment.{levels, is_segment, is_path_byte}
 use Rattle.mvn_coords.specs.FileName.{◌>>=◌, before}
 use Rattle.mvn_coords.specs.Layout.{Coordinates, Directory, Named, file, document, named, text_of, text_of_document}
 
@@ -63,3 +63,13 @@ IsFile c = parts_of (text_of c) ≡ Ok (record { thing = file c; side = None })
 -- this directory has a document: the path of its document names it
 abbrev pub IsDirectory : Directory → Type 0
 IsDirectory d = parts_of (text_of_document d) ≡ Ok (record { thing = document d; side = None })
+
+-- a path without a side suffix, its directory and its last segment, where all may stand in a path but for what a cut suffix left
+pub record Stands (path above name : List ℕ) : Type 0 where
+  pub joined : path ≡ above ++ 47 ∷ name
+  pub split : levels path ≡ name ∷ levels above
+  pub short : length path ≤ 1024
+  pub plain : has_suffix path ≡ false
+  pub directory : IsTrue (list_all is_segment (levels above))
+  pub bytes : IsTrue (list_all is_path_byte name)
+  pub size : length name ≤ 255

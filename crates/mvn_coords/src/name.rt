@@ -1,0 +1,147 @@
+//! The name of a file in its version directory.
+ghost use Rattle.std.specs.Prelude.{◌≡◌, ◌++◌, ◌∷◌, Option};
+ghost use Rattle.std.specs.Option.{option_copied, option_map};
+ghost use Rattle.mvn_coords.specs.FileName as spec;
+
+use crate::build::build_number;
+use crate::text::{before, behind};
+use crate::{Build, PathFault, Stamp};
+use std::marker::Model;
+
+/// What a file's name tells beside artifact and version directory.
+#[derive(Drop)]
+pub(crate) struct Ending<'a> {
+    pub build: Option<Build>,
+    pub classifier: &'a str,
+    pub extension: &'a str,
+}
+
+impl<'a> Model for Ending<'a> {
+    ghost use Rattle.mvn_coords.specs.FileName.{Ending as EndingOf};
+
+    ghost Value = { EndingOf };
+
+    ghost view = { λ e. record {
+      build = e.build;
+      classifier = e.classifier.now;
+      extension = e.extension.now;
+    } };
+}
+
+/// X, where a directory is X-SNAPSHOT.
+pub(crate) fn base_of(directory: &str) -> Option<&str>
+    ensures { option_copied result ≡ spec.base_of directory.now }
+{
+    if directory.len() <= 9 {
+        return None;
+    }
+    before("-SNAPSHOT", directory)
+}
+
+/// What is left of a name behind `artifact-version`.
+fn behind_version<'a>(artifact: &str, version: &str, name: &'a str) -> Option<&'a str>
+    ensures { option_copied result ≡ spec.behind (artifact.now ++ 45 ∷ version.now) name.now }
+{
+    behind(version, behind("-", behind(artifact, name)?)?)
+}
+
+/// The classifier, empty where there is none, and the extension.
+fn tail(text: &str) -> Option<(&str, &str)>
+    ensures { option_map (λ x. (x.0.now, x.1.now)) result ≡ spec.tail_of text.now }
+{
+    if let Some(extension) = behind(".", text) {
+        if extension.is_empty() {
+            return None;
+        }
+        return Some(("", extension));
+    }
+    let (classifier, extension) = behind("-", text)?.split_once('.')?;
+    if classifier.is_empty() || extension.is_empty() {
+        return None;
+    }
+    Some((classifier, extension))
+}
+
+fn ending_with(build: Option<Build>, text: &str) -> Result<Ending<'_>, PathFault>
+    ensures { result ≡ spec.ending_of build text.now }
+{
+    let (classifier, extension) = tail(text).ok_or(PathFault::NotNamed)?;
+    Ok(Ending {
+        build,
+        classifier,
+        extension,
+    })
+}
+
+/// The ending of a name in a version directory of a release.
+pub(crate) fn release<'a>(
+    artifact: &str,
+    directory: &str,
+    name: &'a str,
+) -> Result<Ending<'a>, PathFault>
+    ensures { result ≡ spec.release_ending artifact.now directory.now name.now }
+{
+    let text = behind_version(artifact, directory, name).ok_or(PathFault::NotNamed)?;
+    ending_with(None, text)
+}
+
+/// Whether `SNAPSHOT` stands where a unique snapshot has its timestamp and number.
+fn is_literal(text: &str) -> bool
+    ensures { result ≡ spec.is_literal text.now }
+{
+    match behind("SNAPSHOT", text) {
+        Some(rest) => rest.is_empty() || rest.starts_with(".") || rest.starts_with("-"),
+        None => false,
+    }
+}
+
+/// How many digits a text begins with.
+fn digit_count(text: &str) -> usize
+    ensures { result ≡ spec.digit_count text.now }
+{
+    text.bytes()
+        .position(|b| !b.is_ascii_digit())
+        .unwrap_or(text.len())
+}
+
+/// The number behind `-`, and what follows its digits.
+fn numbered(text: &str) -> Option<(u32, &str)>
+    ensures { option_map (λ x. (x.0, x.1.now)) result ≡ spec.numbered text.now }
+{
+    let run = behind("-", text)?;
+    let (digits, rest) = run.split_at_checked(digit_count(run))?;
+    Some((build_number(digits)?, rest))
+}
+
+/// The ending of a name in the version directory base-SNAPSHOT.
+pub(crate) fn snapshot<'a>(
+    artifact: &str,
+    base: &str,
+    name: &'a str,
+) -> Result<Ending<'a>, PathFault>
+    ensures { result ≡ spec.snapshot_ending artifact.now base.now name.now }
+{
+    let text = behind_version(artifact, base, name).ok_or(PathFault::NotNamed)?;
+    let text = behind("-", text).ok_or(PathFault::NotNamed)?;
+    if is_literal(text) {
+        return Err(PathFault::LiteralSnapshot);
+    }
+    let Some((stamp, rest)) = stamped(text) else {
+        return Err(PathFault::BadStamp);
+    };
+    let Some((number, rest)) = numbered(rest) else {
+        return Err(PathFault::BadBuild);
+    };
+    let Some(build) = Build::new(stamp, number) else {
+        return Err(PathFault::BadBuild);
+    };
+    ending_with(Some(build), rest)
+}
+
+/// The stamp in a text's first 15 bytes, and what follows it.
+fn stamped(text: &str) -> Option<(Stamp, &str)>
+    ensures { option_map (λ x. (x.0, x.1.now)) result ≡ spec.stamped text.now }
+{
+    let (front, rest) = text.split_at_checked(15)?;
+    Some((Stamp::parse(front)?, rest))
+}

@@ -1,0 +1,214 @@
+//! What a path names, by the Maven 2 repository layout.
+ghost use Rattle.std.specs.Prelude.{◌≡◌, ◌≤◌, ◌<◌, length, Ok, IfOk, string_bytes, ◌++◌, ◌∷◌, codes, false};
+ghost use Rattle.std.specs.List.{list_all};
+ghost use Rattle.std.specs.Str.{bytes_eq};
+ghost use Rattle.mvn_coords.specs.Segment as segment;
+ghost use Rattle.mvn_coords.specs.Layout as layout;
+ghost use Rattle.mvn_coords.specs.Path as path_rule;
+ghost use Rattle.mvn_coords.specs.Kind.{kind, text_of_kind, IsExact};
+
+use crate::name::{base_of, release, snapshot};
+use crate::text::{before, cut_last};
+use crate::{
+    Coord, Dir, Kind, NoMemory, PathFault, Side, is_artifact, is_group_segment, is_segment,
+    is_version_directory,
+};
+use std::alloc::Global;
+use std::marker::Model;
+
+/// What a path names, or the first step of the path rule that it breaks.
+///
+/// A path has 1 to 1,024 bytes, and segments of 1 to 255 bytes of `A-Z a-z 0-9 . _ + -` between
+/// single slashes. It names a file, `group/artifact/version/artifact-version[-classifier].extension`
+/// with one or more group segments, or the document `maven-metadata.xml` of a directory; with
+/// `.sha1` or `.md5` at its end, a side file of either (Maven 2 repository layout).
+pub fn kind_of(path: &str) -> Result<Kind<'_>, PathFault>
+    ensures kind { result ≡ kind path.now }
+    ensures path { IfOk result (λ k. text_of_kind k ≡ path.now) }
+{
+    if path.is_empty() {
+        return Err(PathFault::Empty);
+    }
+    if path.len() > 1024 {
+        return Err(PathFault::Long);
+    }
+    if !all_segments(path) {
+        return Err(PathFault::BadSegment);
+    }
+    let Cut { path, side } = cut_side(path)?;
+    let (above, name) = cut_last(path).ok_or(PathFault::Short)?;
+    if name == "maven-metadata.xml" {
+        let dir = directory(path, above)?;
+        return Ok(match side {
+            Some(side) => Kind::DocSide(dir, side),
+            None => Kind::Doc(dir),
+        });
+    }
+    let coord = file(path, above, name)?;
+    Ok(match side {
+        Some(side) => Kind::FileSide(coord, side),
+        None => Kind::File(coord),
+    })
+}
+
+/// The path of a file. The only error is want of memory.
+pub fn path_of(alloc: Global, c: &Coord<'_>) -> Result<String, NoMemory>
+    ensures path { IfOk result (λ path. string_bytes path ≡ layout.text_of c.now) }
+    ensures kind { kind (layout.text_of c.now) ≡ Ok (Kind.File c.now) }
+{
+    String::from_str(alloc, c.path())
+}
+
+/// A path is the one path of what it names, and a side file's path without its suffix names the
+/// file or document that it stands beside.
+pub fn exact_paths()
+    ensures { IsExact }
+{}
+
+/// Whether each part between slashes is a segment.
+fn all_segments(path: &str) -> bool
+    ensures { result ≡ list_all segment.is_segment (segment.levels path.now) }
+{
+    let mut rest = path;
+    while let Some((above, last)) = cut_last(rest) {
+        if !is_segment(last) {
+            return false;
+        }
+        rest = above;
+    }
+    is_segment(rest)
+}
+
+/// Whether each part between slashes may be part of a group.
+fn all_groups(path: &str) -> bool
+    ensures { result ≡ layout.all_groups (segment.levels path.now) }
+{
+    let mut rest = path;
+    while let Some((above, last)) = cut_last(rest) {
+        if !is_group_segment(last) {
+            return false;
+        }
+        rest = above;
+    }
+    is_group_segment(rest)
+}
+
+/// A path without its side suffix, and the side.
+#[derive(Drop)]
+struct Cut<'a> {
+    path: &'a str,
+    side: Option<Side>,
+}
+
+impl<'a> Model for Cut<'a> {
+    ghost use Rattle.mvn_coords.specs.Path.{Cut as CutOf};
+
+    ghost Value = { CutOf };
+
+    ghost view = { λ c. record { path = c.path.now; side = c.side } };
+}
+
+fn has_other_suffix(path: &str) -> bool
+    ensures { result ≡ path_rule.has_other_suffix path.now }
+{
+    path.ends_with(".sha256") || path.ends_with(".sha512")
+}
+
+fn has_suffix(path: &str) -> bool
+    ensures { result ≡ path_rule.has_suffix path.now }
+{
+    has_other_suffix(path) || path.ends_with(".sha1") || path.ends_with(".md5")
+}
+
+fn cut_side(path: &str) -> Result<Cut<'_>, PathFault>
+    ensures { result ≡ path_rule.cut_side path.now }
+{
+    if has_other_suffix(path) {
+        return Err(PathFault::BadSide);
+    }
+    if let Some(rest) = before(".sha1", path) {
+        return cut_off(Side::Sha1, rest);
+    }
+    if let Some(rest) = before(".md5", path) {
+        return cut_off(Side::Md5, rest);
+    }
+    Ok(Cut { path, side: None })
+}
+
+fn cut_off(side: Side, path: &str) -> Result<Cut<'_>, PathFault>
+    ensures { result ≡ path_rule.cut_off side path.now }
+{
+    if has_suffix(path) {
+        return Err(PathFault::BadSide);
+    }
+    Ok(Cut {
+        path,
+        side: Some(side),
+    })
+}
+
+/// The file that a path names: group segments, artifact, version directory and the file's name.
+fn file<'a>(path: &'a str, above: &'a str, name: &'a str) -> Result<Coord<'a>, PathFault>
+    requires stands { path_rule.Stands path.now above.now name.now }
+    requires file { bytes_eq name.now (codes "maven-metadata.xml") ≡ false }
+    ensures { result ≡ layout.file_of (segment.levels path.now) }
+{
+    let (above, dir) = cut_last(above).ok_or(PathFault::Short)?;
+    let (group, artifact) = cut_last(above).ok_or(PathFault::Short)?;
+    if !all_groups(group) || !is_artifact(artifact) || !is_version_directory(dir) {
+        return Err(PathFault::BadSegment);
+    }
+    let ending = match base_of(dir) {
+        Some(base) => snapshot(artifact, base, name)?,
+        None => release(artifact, dir, name)?,
+    };
+    Ok(Coord {
+        path,
+        group,
+        artifact,
+        dir,
+        build: ending.build,
+        classifier: ending.classifier,
+        extension: ending.extension,
+    })
+}
+
+/// The directory of the document that a path names.
+fn directory<'a>(document: &str, path: &'a str) -> Result<Dir<'a>, PathFault>
+    requires { path_rule.Stands document.now path.now (codes "maven-metadata.xml") }
+    ensures { result ≡ layout.directory_of (segment.levels path.now) }
+{
+    let Some((above, last)) = cut_last(path) else {
+        if !is_artifact(path) {
+            return Err(PathFault::BadSegment);
+        }
+        return Ok(Dir {
+            path,
+            group: "",
+            artifact: path,
+            version: None,
+        });
+    };
+    if base_of(last).is_some()
+        && let Some((group, artifact)) = cut_last(above)
+    {
+        if !all_groups(group) || !is_artifact(artifact) || !is_version_directory(last) {
+            return Err(PathFault::BadSegment);
+        }
+        return Ok(Dir {
+            path,
+            group,
+            artifact,
+            version: Some(last),
+        });
+    }
+    if !all_groups(above) || !is_artifact(last) {
+        return Err(PathFault::BadSegment);
+    }
+    Ok(Dir {
+        path,
+        group: above,
+        artifact: last,
+        version: None,
+    })
+}
