@@ -39,10 +39,13 @@ pub(crate) fn base_of(directory: &str) -> Option<&str>
 }
 
 /// What is left of a name behind `artifact-version`.
+#[tactic(auto, using(crate::proofs::Cuts::behind_version))]
 fn behind_version<'a>(artifact: &str, version: &str, name: &'a str) -> Option<&'a str>
     ensures { option_copied result ≡ spec.behind (artifact.now ++ 45 ∷ version.now) name.now }
 {
-    behind(version, behind("-", behind(artifact, name)?)?)
+    let dashed = behind(artifact, name)?;
+    let rest = behind("-", dashed)?;
+    behind(version, rest)
 }
 
 /// The classifier, empty where there is none, and the extension.

@@ -108,12 +108,14 @@ impl<'a> Model for Cut<'a> {
     ghost view = { λ c. record { path = c.path.now; side = c.side } };
 }
 
+#[tactic(auto, using(std::proofs::lemmas::Str::Pattern::ends_text))]
 fn has_other_suffix(path: &str) -> bool
     ensures { result ≡ path_rule.has_other_suffix path.now }
 {
     path.ends_with(".sha256") || path.ends_with(".sha512")
 }
 
+#[tactic(auto, using(std::proofs::lemmas::Str::Pattern::ends_text))]
 fn has_suffix(path: &str) -> bool
     ensures { result ≡ path_rule.has_suffix path.now }
 {
