@@ -112,3 +112,7 @@ behind-append a b text = by_first (behind a text) refl
 -- an artifact, `-` and a version
 pub behind_version : (a v text : List ℕ) → behind (a ++ 45 ∷ v) text ≡ option_and_then (λ r. option_and_then (behind v) (behind (45 ∷ []) r)) (behind a text)
 behind_version a v text = behind-append a (45 ∷ v) text ∙ ap (λ f. option_and_then f (behind a text)) (λ i r. behind-append (45 ∷ []) v r i)
+
+-- the same with `-` at its end
+pub behind_base : (a b text : List ℕ) → behind (a ++ 45 ∷ b ++ 45 ∷ []) text ≡ option_and_then (behind (45 ∷ [])) (behind (a ++ 45 ∷ b) text)
+behind_base a b text = behind-append (a ++ 45 ∷ b) (45 ∷ []) text

@@ -1,7 +1,7 @@
 -- The name of a file in its version directory (Maven 2 repository layout): `artifact-version` with an extension, or with a classifier and an extension; in a snapshot directory the version is that of a unique snapshot, `base-yyyyMMdd.HHmmss-number`.
-use Rattle.std.specs.Prelude.{◌≡◌, ℕ, ◌+◌, ◌-◌, Bool, true, false, not, cond, ◌&&◌, ◌||◌, ◌==◌, nat_eq, nat_le, nat_lt, if◌then◌else◌, List, [], ◌∷◌, ◌++◌, length, take, drop, Option, Some, None, option_and_then, Result, Ok, Err, codes}
+use Rattle.std.specs.Prelude.{◌≡◌, ℕ, ◌+◌, ◌-◌, Bool, true, false, not, cond, ◌&&◌, ◌||◌, ◌==◌, nat_eq, nat_le, nat_lt, if◌then◌else◌, List, [], ◌∷◌, ◌++◌, length, take, drop, Option, Some, None, option_and_then, unwrap_or, Result, Ok, Err, codes}
 use Rattle.std.specs.Char.{is_ascii_digit}
-use Rattle.std.specs.List.{list_all, starts_with, ends_with, before_first, after_first, position_or_len}
+use Rattle.std.specs.List.{list_all, starts_with, ends_with, before_first, after_first, position}
 use Rattle.std.specs.Option.{ok_or, option_map}
 use Rattle.mvn_coords.specs.declared.fault.PathFault.{PathFault}
 use Rattle.mvn_coords.specs.declared.fault.PathFault.TheVariants as fault
@@ -89,7 +89,7 @@ abbrev pub is_no_digit : ℕ → Bool
 is_no_digit b = not (is_ascii_digit b)
 
 abbrev pub digit_count : List ℕ → ℕ
-digit_count text = position_or_len is_no_digit text
+digit_count text = unwrap_or (position is_no_digit text) (length text)
 
 abbrev pub number_in : List ℕ → Option (ℕ × List ℕ)
 number_in run = option_map (λ n. (n, drop (digit_count run) run)) (number_of (take (digit_count run) run))
@@ -98,14 +98,16 @@ number_in run = option_map (λ n. (n, drop (digit_count run) run)) (number_of (t
 abbrev pub numbered : List ℕ → Option (ℕ × List ℕ)
 numbered text = option_and_then number_in (behind (codes "-") text)
 
--- the civil time that the first 15 bytes write, and what follows it
-abbrev pub stamped : List ℕ → Option (CivilTime × List ℕ)
-stamped text = option_map (λ t. (t, drop 15 text)) (time_of (take 15 text))
-
 -- in the version directory base-SNAPSHOT
 abbrev pub snapshot_ending : List ℕ → List ℕ → List ℕ → Result Ending PathFault
 snapshot_ending artifact base name = do
   text ← ok_or (behind (artifact ++ 45 ∷ base ++ 45 ∷ []) name) fault.NotNamed
-  stamp ← (if is_literal text then Err fault.LiteralSnapshot else ok_or (stamped text) fault.BadStamp)
-  number ← ok_or (numbered stamp.1) fault.BadBuild
-  ending_of (Some (record { stamp = stamp.0; number = number.0 })) number.1
+  stamp ← (if is_literal text then Err fault.LiteralSnapshot
+    else ok_or (time_of (take 15 text)) fault.BadStamp)
+  number ← ok_or (numbered (drop 15 text)) fault.BadBuild
+  ending_of (Some (record { stamp = stamp; number = number.0 })) number.1
+
+-- in a version directory, which has a base or none
+abbrev pub ending_in : List ℕ → List ℕ → List ℕ → Option (List ℕ) → Result Ending PathFault
+ending_in artifact directory name None = release_ending artifact directory name
+ending_in artifact directory name (Some base) = snapshot_ending artifact base name

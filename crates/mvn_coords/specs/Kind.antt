@@ -6,7 +6,7 @@ use Rattle.mvn_coords.specs.declared.kind.Kind.{Kind}
 use Rattle.mvn_coords.specs.declared.kind.Kind.TheVariants.{File, FileSide, Doc, DocSide}
 use Rattle.mvn_coords.specs.FileName.{◌>>=◌}
 use Rattle.mvn_coords.specs.Layout.{Coordinates, Directory, Named, file, document, text_of, text_of_document}
-use Rattle.mvn_coords.specs.Path.{Parts, parts_of, suffix_of}
+use Rattle.mvn_coords.specs.Path.{Cut, Parts, parts_by, parts_of, suffix_of}
 
 abbrev pub with_side : Named → Option Side → Kind
 with_side (file c) None = File c
@@ -20,6 +20,10 @@ kind_of_parts p = with_side p.thing p.side
 -- the kind of a path, or the first step that it breaks
 abbrev pub kind : List ℕ → Result Kind PathFault
 kind path = parts_of path >>= λ p. Ok (kind_of_parts p)
+
+-- the kind of a path whose side suffix is cut off
+abbrev pub kind_by : Cut → Result Kind PathFault
+kind_by cut = parts_by cut >>= λ p. Ok (kind_of_parts p)
 
 -- the one path of a kind
 abbrev pub text_of_kind : Kind → List ℕ

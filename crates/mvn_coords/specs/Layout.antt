@@ -6,7 +6,7 @@ use Rattle.mvn_coords.specs.declared.fault.PathFault.{PathFault}
 use Rattle.mvn_coords.specs.declared.fault.PathFault.TheVariants as fault
 use Rattle.mvn_coords.specs.Civil.{text_of_time, digits}
 use Rattle.mvn_coords.specs.Segment.{Segment, path_of_levels, is_group_segment, is_artifact, is_version_directory}
-use Rattle.mvn_coords.specs.FileName.{BuildOf, Ending, ◌>>=◌, base_of, is_filled, release_ending, snapshot_ending}
+use Rattle.mvn_coords.specs.FileName.{BuildOf, Ending, ◌>>=◌, base_of, is_filled, ending_in}
 
 -- a file's coordinates: the group's segments joined by `/`, the classifier empty where there is none
 pub record Coordinates : Type 0 where
@@ -30,47 +30,51 @@ pub data Named : Type 0 where
 abbrev pub all_groups : List Segment → Bool
 all_groups groups = list_all is_group_segment groups
 
--- what the name of a file in a version directory tells
-abbrev pub ending_in : Segment → Segment → Segment → Option (List ℕ) → Result Ending PathFault
-ending_in artifact directory name None = release_ending artifact directory name
-ending_in artifact directory name (Some base) = snapshot_ending artifact base name
+-- which segments may stand as the group, the last one first, the artifact and the version directory
+abbrev pub may_stand : List Segment → Segment → Segment → Bool
+may_stand groups artifact version = all_groups groups && is_artifact artifact && is_version_directory version
+
+abbrev pub with_ending : List Segment → Segment → Segment → Ending → Coordinates
+with_ending groups artifact directory e = record {
+  group = path_of_levels groups;
+  artifact = artifact;
+  directory = directory;
+  build = e.build;
+  classifier = e.classifier;
+  extension = e.extension;
+}
+
+abbrev pub file_in : Segment → Segment → Segment → List Segment → Result Coordinates PathFault
+file_in name directory artifact groups =
+    if may_stand groups artifact directory
+    then (ending_in artifact directory name (base_of directory) >>= λ e. Ok (with_ending groups artifact directory e))
+    else Err fault.BadSegment
 
 -- a file by its path's segments, the last one first: name, version directory, artifact, group
 abbrev pub file_of : List Segment → Result Coordinates PathFault
-file_of (name ∷ directory ∷ artifact ∷ group ∷ above) =
-    if all_groups (group ∷ above) && is_artifact artifact && is_version_directory directory
-    then (ending_in artifact directory name (base_of directory) >>= λ e. Ok (record {
-      group = path_of_levels (group ∷ above);
-      artifact = artifact;
-      directory = directory;
-      build = e.build;
-      classifier = e.classifier;
-      extension = e.extension;
-    }))
-    else Err fault.BadSegment
+file_of (name ∷ directory ∷ artifact ∷ group ∷ above) = file_in name directory artifact (group ∷ above)
 file_of _ = Err fault.Short
 
--- a directory by its segments, the last one first
-abbrev pub is_snapshot_directory : List Segment → Bool
-is_snapshot_directory (last ∷ artifact ∷ group ∷ above) = is_some (base_of last)
-is_snapshot_directory _ = false
-
-abbrev pub artifact_directory : List Segment → Result Directory PathFault
-artifact_directory [] = Err fault.Short
-artifact_directory (artifact ∷ above) =
-    if all_groups above && is_artifact artifact
-    then Ok (record { group = path_of_levels above; artifact = artifact; version = None })
+-- the directory of an artifact or a group
+abbrev pub artifact_directory : Segment → List Segment → Result Directory PathFault
+artifact_directory artifact groups =
+    if all_groups groups && is_artifact artifact
+    then Ok (record { group = path_of_levels groups; artifact = artifact; version = None })
     else Err fault.BadSegment
 
-abbrev pub snapshot_directory : List Segment → Result Directory PathFault
-snapshot_directory (version ∷ artifact ∷ above) =
-    if all_groups above && is_artifact artifact && is_version_directory version
-    then Ok (record { group = path_of_levels above; artifact = artifact; version = Some version })
+abbrev pub snapshot_directory : Segment → Segment → List Segment → Result Directory PathFault
+snapshot_directory version artifact groups =
+    if may_stand groups artifact version
+    then Ok (record { group = path_of_levels groups; artifact = artifact; version = Some version })
     else Err fault.BadSegment
-snapshot_directory _ = Err fault.Short
 
+-- a directory by its segments, the last one first: X-SNAPSHOT below an artifact and a group is a snapshot directory
 abbrev pub directory_of : List Segment → Result Directory PathFault
-directory_of above = if is_snapshot_directory above then snapshot_directory above else artifact_directory above
+directory_of [] = Err fault.Short
+directory_of (last ∷ artifact ∷ group ∷ above) =
+    if is_some (base_of last) then snapshot_directory last artifact (group ∷ above)
+    else artifact_directory last (artifact ∷ group ∷ above)
+directory_of (last ∷ above) = artifact_directory last above
 
 -- what the segments without a side suffix name, the last one first
 abbrev pub named : List Segment → Result Named PathFault

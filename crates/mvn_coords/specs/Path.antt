@@ -1,11 +1,11 @@
 -- The path rule (Maven 2 repository layout; repository metadata 1.1.0): what a path of a repository names and for which side file, or the first step that it breaks.
-use Rattle.std.specs.Prelude.{◌≡◌, ℕ, Bool, true, false, not, cond, ◌&&◌, ◌||◌, ◌==◌, nat_eq, nat_le, nat_lt, if◌then◌else◌, List, [], ◌∷◌, ◌++◌, length, take, Option, Some, None, is_some, Result, Ok, Err, codes, IsTrue, ◌≤◌}
+use Rattle.std.specs.Prelude.{◌≡◌, ℕ, Bool, true, false, not, cond, ◌&&◌, ◌||◌, ◌==◌, nat_eq, nat_le, nat_lt, if◌then◌else◌, List, [], ◌∷◌, ◌++◌, length, take, Option, Some, None, is_some, Result, Ok, Err, codes, ◌≤◌}
 use Rattle.std.specs.List.{list_all, ends_with}
 use Rattle.mvn_coords.specs.declared.fault.PathFault.{PathFault}
 use Rattle.mvn_coords.specs.declared.fault.PathFault.TheVariants as fault
 use Rattle.mvn_coords.specs.declared.fault.Side.{Side}
 use Rattle.mvn_coords.specs.declared.fault.Side.TheVariants.{Sha1, Md5}
-use Rattle.mvn_coords.specs.Segment.{levels, is_segment, is_path_byte}
+use Rattle.mvn_coords.specs.Segment.{Segment, levels, is_segment, is_path_byte}
 use Rattle.mvn_coords.specs.FileName.{◌>>=◌, before}
 use Rattle.mvn_coords.specs.Layout.{Coordinates, Directory, Named, file, document, named, text_of, text_of_document}
 
@@ -45,8 +45,8 @@ pub record Parts : Type 0 where
   pub thing : Named
   pub side : Option Side
 
-abbrev pub named_by : Cut → Result Parts PathFault
-named_by cut = named (levels cut.path) >>= λ thing. Ok (record { thing = thing; side = cut.side })
+abbrev pub parts_by : Cut → Result Parts PathFault
+parts_by cut = named (levels cut.path) >>= λ thing. Ok (record { thing = thing; side = cut.side })
 
 -- the rule, step by step: the length, each segment, the side, and what the segments name
 unfoldable pub parts_of : List ℕ → Result Parts PathFault
@@ -54,7 +54,7 @@ parts_of path =
     if length path == 0 then Err fault.Empty
     else (if nat_lt 1024 (length path) then Err fault.Long
     else (if not (list_all is_segment (levels path)) then Err fault.BadSegment
-    else (cut_side path >>= named_by)))
+    else (cut_side path >>= parts_by)))
 
 -- these are the coordinates of a file: their path names them
 abbrev pub IsFile : Coordinates → Type 0
@@ -64,12 +64,15 @@ IsFile c = parts_of (text_of c) ≡ Ok (record { thing = file c; side = None })
 abbrev pub IsDirectory : Directory → Type 0
 IsDirectory d = parts_of (text_of_document d) ≡ Ok (record { thing = document d; side = None })
 
--- a path without a side suffix, its directory and its last segment, where all may stand in a path but for what a cut suffix left
-pub record Stands (path above name : List ℕ) : Type 0 where
-  pub joined : path ≡ above ++ 47 ∷ name
-  pub split : levels path ≡ name ∷ levels above
+-- a path without a side suffix, whose segments may stand in a path but for what a cut suffix left of the last one
+pub record IsPlain (path : List ℕ) : Type 0 where
   pub short : length path ≤ 1024
   pub plain : has_suffix path ≡ false
-  pub directory : IsTrue (list_all is_segment (levels above))
-  pub bytes : IsTrue (list_all is_path_byte name)
-  pub size : length name ≤ 255
+  pub above : (name : Segment) (above : List Segment) → levels path ≡ name ∷ above → list_all is_segment above ≡ true
+  pub bytes : (name : Segment) (above : List Segment) → levels path ≡ name ∷ above → list_all is_path_byte name ≡ true
+  pub size : (name : Segment) (above : List Segment) → levels path ≡ name ∷ above → length name ≤ 255
+
+-- the path of a directory and a last segment
+pub record IsBelow (path above name : List ℕ) : Type 0 where
+  pub joined : path ≡ above ++ 47 ∷ name
+  pub split : levels path ≡ name ∷ levels above

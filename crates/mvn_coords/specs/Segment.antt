@@ -35,8 +35,8 @@ is_path_byte b = is_artifact_byte b || (b == 43)
 -- 1 to 255 bytes of the path's alphabet, but not `.` and not `..`
 abbrev pub is_segment : Segment → Bool
 is_segment s =
-    nat_lt 0 (length s) && nat_le (length s) 255 && list_all is_path_byte s
-    && not (bytes_eq s (codes ".")) && not (bytes_eq s (codes ".."))
+    nat_lt 0 (length s) && nat_le (length s) 255 && not (bytes_eq s (codes "."))
+    && not (bytes_eq s (codes "..")) && list_all is_path_byte s
 
 abbrev pub is_group_segment : Segment → Bool
 is_group_segment s = list_all is_group_byte s

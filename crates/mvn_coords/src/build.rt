@@ -1,4 +1,4 @@
-ghost use Rattle.std.specs.Prelude.{◌≡◌, Some, None, if◌then◌else◌, IsTrue};
+ghost use Rattle.std.specs.Prelude.{◌≡◌, Some, None, if◌then◌else◌, IsTrue, IfSome};
 ghost use Rattle.mvn_coords.specs.FileName.{number_of, is_build_number};
 
 use crate::Stamp;
@@ -56,7 +56,8 @@ impl Build {
 
 /// The number that a text of 1 to 9 digits writes, the first of them not `0`.
 pub fn build_number(text: &str) -> Option<u32>
-    ensures { result ≡ number_of text.now }
+    ensures value { result ≡ number_of text.now }
+    ensures range { IfSome result (λ n. IsTrue (is_build_number n)) }
 {
     let digits = text.as_bytes();
     if digits.is_empty() || digits.len() > 9 || !are_digits(digits) || text.starts_with("0") {

@@ -1,6 +1,7 @@
 //! The name of a file in its version directory.
-ghost use Rattle.std.specs.Prelude.{◌≡◌, ◌++◌, ◌∷◌, Option};
+ghost use Rattle.std.specs.Prelude.{◌≡◌, ◌++◌, ◌∷◌, [], Option, IfSome, IsTrue};
 ghost use Rattle.std.specs.Option.{option_copied, option_map};
+ghost use Rattle.std.specs.List.{position};
 ghost use Rattle.mvn_coords.specs.FileName as spec;
 
 use crate::build::build_number;
@@ -48,6 +49,15 @@ fn behind_version<'a>(artifact: &str, version: &str, name: &'a str) -> Option<&'
     behind(version, rest)
 }
 
+/// What is left of a name behind `artifact-base-`.
+#[tactic(auto, using(crate::proofs::Cuts::behind_base))]
+fn behind_base<'a>(artifact: &str, base: &str, name: &'a str) -> Option<&'a str>
+    ensures { option_copied result ≡ spec.behind (artifact.now ++ 45 ∷ base.now ++ 45 ∷ []) name.now }
+{
+    let rest = behind_version(artifact, base, name)?;
+    behind("-", rest)
+}
+
 /// The classifier, empty where there is none, and the extension.
 fn tail(text: &str) -> Option<(&str, &str)>
     ensures { option_map (λ x. (x.0.now, x.1.now)) result ≡ spec.tail_of text.now }
@@ -77,7 +87,7 @@ fn ending_with(build: Option<Build>, text: &str) -> Result<Ending<'_>, PathFault
 }
 
 /// The ending of a name in a version directory of a release.
-pub(crate) fn release<'a>(
+fn release<'a>(
     artifact: &str,
     directory: &str,
     name: &'a str,
@@ -98,18 +108,24 @@ fn is_literal(text: &str) -> bool
     }
 }
 
+/// The place of the first byte that is no digit.
+fn first_other(bytes: &[u8]) -> Option<usize>
+    ensures { result ≡ position spec.is_no_digit bytes.now }
+{
+    bytes.iter().position(|b| !b.is_ascii_digit())
+}
+
 /// How many digits a text begins with.
 fn digit_count(text: &str) -> usize
     ensures { result ≡ spec.digit_count text.now }
 {
-    text.bytes()
-        .position(|b| !b.is_ascii_digit())
-        .unwrap_or(text.len())
+    first_other(text.as_bytes()).unwrap_or(text.len())
 }
 
 /// The number behind `-`, and what follows its digits.
 fn numbered(text: &str) -> Option<(u32, &str)>
-    ensures { option_map (λ x. (x.0, x.1.now)) result ≡ spec.numbered text.now }
+    ensures value { option_map (λ x. (x.0, x.1.now)) result ≡ spec.numbered text.now }
+    ensures range { IfSome result (λ x. IsTrue (spec.is_build_number x.0)) }
 {
     let run = behind("-", text)?;
     let (digits, rest) = run.split_at_checked(digit_count(run))?;
@@ -117,34 +133,34 @@ fn numbered(text: &str) -> Option<(u32, &str)>
 }
 
 /// The ending of a name in the version directory base-SNAPSHOT.
-pub(crate) fn snapshot<'a>(
+fn snapshot<'a>(
     artifact: &str,
     base: &str,
     name: &'a str,
 ) -> Result<Ending<'a>, PathFault>
     ensures { result ≡ spec.snapshot_ending artifact.now base.now name.now }
 {
-    let text = behind_version(artifact, base, name).ok_or(PathFault::NotNamed)?;
-    let text = behind("-", text).ok_or(PathFault::NotNamed)?;
+    let text = behind_base(artifact, base, name).ok_or(PathFault::NotNamed)?;
     if is_literal(text) {
         return Err(PathFault::LiteralSnapshot);
     }
-    let Some((stamp, rest)) = stamped(text) else {
-        return Err(PathFault::BadStamp);
-    };
-    let Some((number, rest)) = numbered(rest) else {
-        return Err(PathFault::BadBuild);
-    };
-    let Some(build) = Build::new(stamp, number) else {
-        return Err(PathFault::BadBuild);
-    };
+    let (front, rest) = text.split_at_checked(15).ok_or(PathFault::BadStamp)?;
+    let stamp = Stamp::parse(front).ok_or(PathFault::BadStamp)?;
+    let (number, rest) = numbered(rest).ok_or(PathFault::BadBuild)?;
+    let build = Build::new(stamp, number).ok_or(PathFault::BadBuild)?;
     ending_with(Some(build), rest)
 }
 
-/// The stamp in a text's first 15 bytes, and what follows it.
-fn stamped(text: &str) -> Option<(Stamp, &str)>
-    ensures { option_map (λ x. (x.0, x.1.now)) result ≡ spec.stamped text.now }
+/// The ending of a name in a version directory.
+pub(crate) fn ending_in<'a>(
+    artifact: &str,
+    dir: &str,
+    name: &'a str,
+) -> Result<Ending<'a>, PathFault>
+    ensures { result ≡ spec.ending_in artifact.now dir.now name.now (spec.base_of dir.now) }
 {
-    let (front, rest) = text.split_at_checked(15)?;
-    Some((Stamp::parse(front)?, rest))
+    match base_of(dir) {
+        Some(base) => snapshot(artifact, base, name),
+        None => release(artifact, dir, name),
+    }
 }

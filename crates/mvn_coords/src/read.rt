@@ -5,9 +5,9 @@ ghost use Rattle.std.specs.Str.{bytes_eq};
 ghost use Rattle.mvn_coords.specs.Segment as segment;
 ghost use Rattle.mvn_coords.specs.Layout as layout;
 ghost use Rattle.mvn_coords.specs.Path as path_rule;
-ghost use Rattle.mvn_coords.specs.Kind.{kind, text_of_kind, IsExact};
+ghost use Rattle.mvn_coords.specs.Kind.{kind, kind_by, text_of_kind, IsExact};
 
-use crate::name::{base_of, release, snapshot};
+use crate::name::{base_of, ending_in};
 use crate::text::{before, cut_last};
 use crate::{
     Coord, Dir, Kind, NoMemory, PathFault, Side, is_artifact, is_group_segment, is_segment,
@@ -35,20 +35,7 @@ pub fn kind_of(path: &str) -> Result<Kind<'_>, PathFault>
     if !all_segments(path) {
         return Err(PathFault::BadSegment);
     }
-    let Cut { path, side } = cut_side(path)?;
-    let (above, name) = cut_last(path).ok_or(PathFault::Short)?;
-    if name == "maven-metadata.xml" {
-        let dir = directory(path, above)?;
-        return Ok(match side {
-            Some(side) => Kind::DocSide(dir, side),
-            None => Kind::Doc(dir),
-        });
-    }
-    let coord = file(path, above, name)?;
-    Ok(match side {
-        Some(side) => Kind::FileSide(coord, side),
-        None => Kind::File(coord),
-    })
+    named(cut_side(path)?)
 }
 
 /// The path of a file. The only error is want of memory.
@@ -70,7 +57,7 @@ fn all_segments(path: &str) -> bool
     ensures { result ≡ list_all segment.is_segment (segment.levels path.now) }
 {
     let mut rest = path;
-    while let Some((above, last)) = cut_last(rest) {
+    'levels: while let Some((above, last)) = cut_last(rest) {
         if !is_segment(last) {
             return false;
         }
@@ -84,7 +71,7 @@ fn all_groups(path: &str) -> bool
     ensures { result ≡ layout.all_groups (segment.levels path.now) }
 {
     let mut rest = path;
-    while let Some((above, last)) = cut_last(rest) {
+    'levels: while let Some((above, last)) = cut_last(rest) {
         if !is_group_segment(last) {
             return false;
         }
@@ -149,21 +136,47 @@ fn cut_off(side: Side, path: &str) -> Result<Cut<'_>, PathFault>
     })
 }
 
+/// What a path without a side suffix names.
+fn named(cut: Cut<'_>) -> Result<Kind<'_>, PathFault>
+    requires { path_rule.IsPlain cut.entry.path }
+    ensures { result ≡ kind_by cut.entry }
+{
+    let Cut { path, side } = cut;
+    let (above, name) = cut_last(path).ok_or(PathFault::Short)?;
+    if name == "maven-metadata.xml" {
+        let dir = directory(path, above)?;
+        return Ok(match side {
+            Some(side) => Kind::DocSide(dir, side),
+            None => Kind::Doc(dir),
+        });
+    }
+    let coord = file(path, above, name)?;
+    Ok(match side {
+        Some(side) => Kind::FileSide(coord, side),
+        None => Kind::File(coord),
+    })
+}
+
+/// Whether these may stand as group, artifact and version directory.
+fn may_stand(group: &str, artifact: &str, version: &str) -> bool
+    ensures { result ≡ layout.may_stand (segment.levels group.now) artifact.now version.now }
+{
+    all_groups(group) && is_artifact(artifact) && is_version_directory(version)
+}
+
 /// The file that a path names: group segments, artifact, version directory and the file's name.
 fn file<'a>(path: &'a str, above: &'a str, name: &'a str) -> Result<Coord<'a>, PathFault>
-    requires stands { path_rule.Stands path.now above.now name.now }
+    requires plain { path_rule.IsPlain path.now }
+    requires below { path_rule.IsBelow path.now above.now name.now }
     requires file { bytes_eq name.now (codes "maven-metadata.xml") ≡ false }
     ensures { result ≡ layout.file_of (segment.levels path.now) }
 {
     let (above, dir) = cut_last(above).ok_or(PathFault::Short)?;
     let (group, artifact) = cut_last(above).ok_or(PathFault::Short)?;
-    if !all_groups(group) || !is_artifact(artifact) || !is_version_directory(dir) {
+    if !may_stand(group, artifact, dir) {
         return Err(PathFault::BadSegment);
     }
-    let ending = match base_of(dir) {
-        Some(base) => snapshot(artifact, base, name)?,
-        None => release(artifact, dir, name)?,
-    };
+    let ending = ending_in(artifact, dir, name)?;
     Ok(Coord {
         path,
         group,
@@ -177,7 +190,8 @@ fn file<'a>(path: &'a str, above: &'a str, name: &'a str) -> Result<Coord<'a>, P
 
 /// The directory of the document that a path names.
 fn directory<'a>(document: &str, path: &'a str) -> Result<Dir<'a>, PathFault>
-    requires { path_rule.Stands document.now path.now (codes "maven-metadata.xml") }
+    requires plain { path_rule.IsPlain document.now }
+    requires below { path_rule.IsBelow document.now path.now (codes "maven-metadata.xml") }
     ensures { result ≡ layout.directory_of (segment.levels path.now) }
 {
     let Some((above, last)) = cut_last(path) else {
@@ -191,10 +205,8 @@ fn directory<'a>(document: &str, path: &'a str) -> Result<Dir<'a>, PathFault>
             version: None,
         });
     };
-    if base_of(last).is_some()
-        && let Some((group, artifact)) = cut_last(above)
-    {
-        if !all_groups(group) || !is_artifact(artifact) || !is_version_directory(last) {
+    if base_of(last).is_some() && let Some((group, artifact)) = cut_last(above) {
+        if !may_stand(group, artifact, last) {
             return Err(PathFault::BadSegment);
         }
         return Ok(Dir {

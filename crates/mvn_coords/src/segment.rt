@@ -1,4 +1,5 @@
 ghost use Rattle.std.specs.Prelude.{◌≡◌};
+ghost use Rattle.std.specs.List.{list_all};
 ghost use Rattle.mvn_coords.specs.Segment as spec;
 
 fn is_group_byte(b: u8) -> bool
@@ -24,11 +25,16 @@ fn is_path_byte(b: u8) -> bool
 pub fn is_segment(text: &str) -> bool
     ensures { result ≡ spec.is_segment text.now }
 {
-    !text.is_empty()
-        && text.len() <= 255
-        && text.bytes().all(|b| is_path_byte(b))
-        && text != "."
-        && text != ".."
+    if text.is_empty() || text.len() > 255 || text == "." || text == ".." {
+        return false;
+    }
+    are_path_bytes(text)
+}
+
+fn are_path_bytes(text: &str) -> bool
+    ensures { result ≡ list_all spec.is_path_byte text.now }
+{
+    text.bytes().all(|b| is_path_byte(b))
 }
 
 /// Whether a segment may be part of a group: letters, digits, `_` and `-`.

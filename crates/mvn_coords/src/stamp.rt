@@ -1,4 +1,4 @@
-ghost use Rattle.std.specs.Prelude.{◌≡◌, ◌≤◌, ◌+◌, ◌%◌, pos, ◌≤ℤ◌, length, IsTrue};
+ghost use Rattle.std.specs.Prelude.{◌≡◌, ◌≤◌, ◌+◌, ◌%◌, ◌^◌, ◌<◌, pos, ◌≤ℤ◌, length, IsTrue};
 ghost use Rattle.mvn_coords.specs.Civil as spec;
 
 use jiff::Timestamp;
@@ -53,7 +53,7 @@ impl Model for Stamp {
 }
 
 impl Stamp {
-    ghost use Rattle.mvn_coords.specs.Civil.{seconds_of, text_of_time, time_of, if_civil, shown};
+    ghost use Rattle.mvn_coords.specs.Civil.{seconds_of, text_of_time, time_of, if_civil, fields_of, shown};
 
     /// The greatest moment that has a stamp, in seconds since 1970-01-01T00:00:00Z.
     pub const LAST_MOMENT: u64 = 253_402_207_200;
@@ -70,13 +70,24 @@ impl Stamp {
         if !are_digits(date) || !are_digits(time) {
             return None;
         }
+        Stamp::from_digits(date, time)
+    }
+
+    /// The stamp that the eight digits of a date and the six of a time write.
+    fn from_digits(date: &[u8], time: &[u8]) -> Option<Stamp>
+        requires date_length { length date.now ≡ 8 }
+        requires time_length { length time.now ≡ 6 }
+        requires date { IsTrue (spec.are_digits date.now) }
+        requires time { IsTrue (spec.are_digits time.now) }
+        ensures { result ≡ if_civil (fields_of date.now time.now) }
+    {
         let civil = DateTime::new(
-            decimal(&date[0..4]) as i16,
-            decimal(&date[4..6]) as i8,
-            decimal(&date[6..8]) as i8,
-            decimal(&time[0..2]) as i8,
-            decimal(&time[2..4]) as i8,
-            decimal(&time[4..6]) as i8,
+            four_digits(&date[0..4]),
+            two_digits(&date[4..6]),
+            two_digits(&date[6..8]),
+            two_digits(&time[0..2]),
+            two_digits(&time[2..4]),
+            two_digits(&time[4..6]),
             0,
         );
         match civil {
@@ -155,11 +166,30 @@ pub(crate) fn are_digits(bytes: &[u8]) -> bool
 pub(crate) fn decimal(digits: &[u8]) -> u32
     requires digits { IsTrue (spec.are_digits digits.now) }
     requires short { length digits.now ≤ 9 }
-    ensures { result ≡ spec.decimal digits.now }
+    ensures value { result ≡ spec.decimal digits.now }
+    ensures bound { result < 10 ^ length digits.now }
 {
     let mut number = 0;
     for digit in digits {
         number = number * 10 + u32::from(*digit - b'0');
     }
     number
+}
+
+/// The number that four digits write.
+fn four_digits(digits: &[u8]) -> i16
+    requires digits { IsTrue (spec.are_digits digits.now) }
+    requires four { length digits.now ≡ 4 }
+    ensures { result ≡ pos (spec.decimal digits.now) }
+{
+    decimal(digits) as i16
+}
+
+/// The number that two digits write.
+fn two_digits(digits: &[u8]) -> i8
+    requires digits { IsTrue (spec.are_digits digits.now) }
+    requires two { length digits.now ≡ 2 }
+    ensures { result ≡ pos (spec.decimal digits.now) }
+{
+    decimal(digits) as i8
 }
