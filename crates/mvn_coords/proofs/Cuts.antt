@@ -36,20 +36,19 @@ onto_first-append : (x : ℕ) (ys zs : List (List ℕ)) → 0 < length ys → on
 onto_first-append x [] zs h = absurd (omega arith)
 onto_first-append x (y ∷ ys) zs h = refl
 
-abbrev slash : ℕ → Bool
+abbrev pub slash : ℕ → Bool
 slash b = eqb b 47
+
+-- one more byte in front of a path whose last part is b
+pub split_onto : (t : Bool) (x : ℕ) (xs b : List ℕ) → slice_split slash (xs ++ 47 ∷ b) ≡ slice_split slash xs ++ b ∷ [] → cond t ([] ∷ slice_split slash (xs ++ 47 ∷ b)) (onto_first x (slice_split slash (xs ++ 47 ∷ b))) ≡ cond t ([] ∷ slice_split slash xs) (onto_first x (slice_split slash xs)) ++ b ∷ []
+split_onto true x xs b ih = ap (λ v. [] ∷ v) ih
+split_onto false x xs b ih =
+    ap (onto_first x) ih ∙ onto_first-append x (slice_split slash xs) (b ∷ []) (omega (arith, length-slice_split slash xs))
 
 -- a text without a slash behind the last one is the last part
 pub split_last : (a b : List ℕ) → All (λ x. slash x ≡ false) b → slice_split slash (a ++ 47 ∷ b) ≡ slice_split slash a ++ b ∷ []
 split_last [] b h = ap (λ v. [] ∷ v) (slice_split_none slash b h)
-split_last (x ∷ xs) b h =
-    let ih = split_last xs b h in
-    let filled : 0 < length (slice_split slash xs) = omega (arith, length-slice_split slash xs) in
-    first (slash x) x xs b ih filled
- where
-  first : (t : Bool) (x : ℕ) (xs b : List ℕ) → slice_split slash (xs ++ 47 ∷ b) ≡ slice_split slash xs ++ b ∷ [] → 0 < length (slice_split slash xs) → cond t ([] ∷ slice_split slash (xs ++ 47 ∷ b)) (onto_first x (slice_split slash (xs ++ 47 ∷ b))) ≡ cond t ([] ∷ slice_split slash xs) (onto_first x (slice_split slash xs)) ++ b ∷ []
-  first true x xs b ih filled = ap (λ v. [] ∷ v) ih
-  first false x xs b ih filled = ap (onto_first x) ih ∙ onto_first-append x (slice_split slash xs) (b ∷ []) filled
+split_last (x ∷ xs) b h = split_onto (slash x) x xs b (split_last xs b h)
 
 pub levels_last : (a b : List ℕ) → All (λ x. slash x ≡ false) b → levels (a ++ 47 ∷ b) ≡ b ∷ levels a
 levels_last a b h = ap reverse (split_last a b h) ∙ reverse-append (slice_split slash a) (b ∷ [])
