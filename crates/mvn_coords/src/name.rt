@@ -1,8 +1,9 @@
 //! The name of a file in its version directory.
-ghost use Rattle.std.specs.Prelude.{◌≡◌, ◌++◌, ◌∷◌, [], Option, IfSome, IsTrue};
+ghost use Rattle.std.specs.Prelude.{◌≡◌, ◌++◌, ◌∷◌, [], Option, None, IfSome, IsTrue, MatchOption, take, drop};
 ghost use Rattle.std.specs.Option.{option_copied, option_map};
 ghost use Rattle.std.specs.List.{position};
 ghost use Rattle.mvn_coords.specs.FileName as spec;
+ghost use Rattle.mvn_coords.specs.Civil.{time_of};
 
 use crate::build::build_number;
 use crate::text::{before, behind};
@@ -122,14 +123,30 @@ fn digit_count(text: &str) -> usize
     first_other(text.as_bytes()).unwrap_or(text.len())
 }
 
+/// The digits at a text's front, and what follows them.
+fn split_digits(text: &str) -> (&str, &str)
+    ensures front { result.0.now ≡ take (spec.digit_count text.now) text.now }
+    ensures back { result.1.now ≡ drop (spec.digit_count text.now) text.now }
+{
+    text.split_at(digit_count(text))
+}
+
 /// The number behind `-`, and what follows its digits.
 fn numbered(text: &str) -> Option<(u32, &str)>
     ensures value { option_map (λ x. (x.0, x.1.now)) result ≡ spec.numbered text.now }
     ensures range { IfSome result (λ x. IsTrue (spec.is_build_number x.0)) }
 {
     let run = behind("-", text)?;
-    let (digits, rest) = run.split_at_checked(digit_count(run))?;
+    let (digits, rest) = split_digits(run);
     Some((build_number(digits)?, rest))
+}
+
+/// The first 15 bytes of a text, and what follows them; none where they can be no stamp.
+fn split_stamp(text: &str) -> Option<(&str, &str)>
+    ensures { MatchOption result (time_of (take 15 text.now) ≡ None)
+        (λ x. (x.0.now ≡ take 15 text.now) × (x.1.now ≡ drop 15 text.now)) }
+{
+    text.split_at_checked(15)
 }
 
 /// The ending of a name in the version directory base-SNAPSHOT.
@@ -144,7 +161,7 @@ fn snapshot<'a>(
     if is_literal(text) {
         return Err(PathFault::LiteralSnapshot);
     }
-    let (front, rest) = text.split_at_checked(15).ok_or(PathFault::BadStamp)?;
+    let (front, rest) = split_stamp(text).ok_or(PathFault::BadStamp)?;
     let stamp = Stamp::parse(front).ok_or(PathFault::BadStamp)?;
     let (number, rest) = numbered(rest).ok_or(PathFault::BadBuild)?;
     let build = Build::new(stamp, number).ok_or(PathFault::BadBuild)?;
