@@ -115,3 +115,10 @@ behind_version a v text = behind-append a (45 ∷ v) text ∙ ap (λ f. option_a
 -- the same with `-` at its end
 pub behind_base : (a b text : List ℕ) → behind (a ++ 45 ∷ b ++ 45 ∷ []) text ≡ option_and_then (behind (45 ∷ [])) (behind (a ++ 45 ∷ b) text)
 behind_base a b text = behind-append (a ++ 45 ∷ b) (45 ∷ []) text
+
+pub before_none : (end text : List ℕ) → before end text ≡ None → ends_with eqb text end ≡ false
+before_none end text h = none (ends_with eqb text end) h
+ where
+  none : (t : Bool) → cond t (Some (take (length text - length end) text)) None ≡ None → t ≡ false
+  none true h = cc
+  none false h = refl

@@ -5,7 +5,7 @@ use Rattle.std.specs.List.{list_all}
 use Rattle.std.proofs.lemmas.Bool.{and_parts, leb-true, ltb-true}
 use Rattle.std.proofs.lemmas.List.{take_more, length_push, take-append-drop}
 use Rattle.std.proofs.lemmas.List.Folds.{list_all-append}
-use Rattle.std.proofs.Math.Nat.{pow-suc}
+use Rattle.std.proofs.Math.Nat.{pow-suc, mul-le-mul_right, mul-one}
 use Rattle.std.proofs.lemmas.List.Sums.{fold_push}
 use Rattle.mvn_coords.specs.Civil.{decimal, digits, are_digits}
 
@@ -44,3 +44,18 @@ decimal-digits (suc n) x h =
     let p : 10 ^ suc n ≡ 10 ^ n * 10 = pow-suc 10 n in
     let ih = decimal-digits n (x / 10) (omega arith) in
     decimal_push (digits n (x / 10)) (48 + x % 10) ∙ rw ih (omega arith)
+
+-- digits write a number below ten to the power of their count
+fold_below : (ds : List ℕ) (x : ℕ) → are_digits ds ≡ true → fold (λ n d. n * 10 + (d - 48)) x ds < (x + 1) * 10 ^ length ds
+fold_below [] x h = omega (arith, mul-one (x + 1))
+fold_below (d ∷ ds) x h =
+    let p = and_parts (is_ascii_digit d) (are_digits ds) h in
+    let low = digit_bounds d p.0 in
+    let ih = fold_below ds (x * 10 + (d - 48)) p.1 in
+    let next : 10 ^ suc (length ds) ≡ 10 ^ length ds * 10 = pow-suc 10 (length ds) in
+    let wider : (x * 10 + (d - 48) + 1) * 10 ^ length ds ≤ ((x + 1) * 10) * 10 ^ length ds = mul-le-mul_right (10 ^ length ds) (omega arith) in
+    let same : ((x + 1) * 10) * 10 ^ length ds ≡ (x + 1) * (10 ^ length ds * 10) = grind arith in
+    rw next (omega (arith, ih, wider, same))
+
+pub decimal_below : (ds : List ℕ) → are_digits ds ≡ true → decimal ds < 10 ^ length ds
+decimal_below ds h = omega (arith, fold_below ds 0 h)

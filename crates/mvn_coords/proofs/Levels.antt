@@ -69,7 +69,7 @@ below path last next above e = by_cut (last_cut path)
   by_cut (inr c) =
       let split : levels path ≡ c.last ∷ levels c.above = ap levels c.joined ∙ levels_below c.above c.last c.whole in
       let same : c.last ≡ last = cc in
-      (c.above, (c.joined ∙ ap (λ v. c.above ++ 47 ∷ v) same, cc))
+      (c.above, c.joined ∙ ap (λ v. c.above ++ 47 ∷ v) same, cc)
 
 pub one_segment : (path : List ℕ) (last : Segment) → levels path ≡ last ∷ [] → path ≡ last
 one_segment path last e = sym (path_of_levels-levels path) ∙ ap path_of_levels e

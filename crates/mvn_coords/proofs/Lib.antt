@@ -1,6 +1,9 @@
 pub mod Cuts
 pub mod Digits
+pub mod Documents
 pub mod Endings
+pub mod Files
+pub mod Laws
 pub mod Levels
 pub mod Names
 pub mod Results

@@ -34,5 +34,5 @@ ok_or_some (Some y) e x h = cc
 pub some_same : {A : Type 0} (x y : A) → Some x ≡ Some y → x ≡ y
 some_same x y h = cc
 
-pub ok_same : {A : Type 0} (x y : A) → Ok {E = PathFault} x ≡ Ok y → x ≡ y
+pub ok_same : {A : Type 0} (x y : A) → ◌≡◌ {A = Result A PathFault} (Ok x) (Ok y) → x ≡ y
 ok_same x y h = cc
