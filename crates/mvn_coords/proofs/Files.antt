@@ -12,7 +12,7 @@ use Rattle.mvn_coords.specs.declared.fault.Side.{Side}
 use Rattle.mvn_coords.specs.declared.fault.Side.TheVariants.{Sha1, Md5}
 use Rattle.mvn_coords.specs.Segment.{Segment, levels, path_of_levels, is_segment, is_path_byte, is_artifact}
 use Rattle.mvn_coords.specs.FileName.{Ending, ◌>>=◌, before, base_of, ending_in, is_filled}
-use Rattle.mvn_coords.specs.Layout.{Coordinates, Directory, Named, file, document, may_stand, all_groups, with_ending, file_in, file_of, version_with, tail_text, version_directory_of, name_of, artifact_directory, snapshot_directory, directory_of, named, text_of, text_of_directory, text_of_document}
+use Rattle.mvn_coords.specs.Layout.{Coordinates, Directory, Named, file, document, may_stand, all_groups, coordinates_of, with_ending, file_in, file_of, version_with, tail_text, version_directory_of, name_of, artifact_directory, snapshot_directory, directory_of, named, text_of, text_of_directory, text_of_document}
 use Rattle.mvn_coords.specs.Path.{Cut, cut_off, cut_by, cut_side, has_suffix, has_other_suffix, suffix_of, Parts, parts_by, parts_of, IsFile, IsDirectory, IsPlain, IsBelow}
 use Rattle.mvn_coords.proofs.Cuts.{before_some}
 use Rattle.mvn_coords.proofs.Levels.{Whole, Filled, filled, below, one_segment, levels_longer, path_of_levels-levels}
@@ -128,3 +128,27 @@ keeps_file path c plain name h =
     let some : 0 < length path = some_bytes path (version_directory_of c) (name_of c) p.text in
     let rule = parts_of_plain path (file c) some plain (plain_segments path p.name p.above plain p.split segment) name in
     (ap parts_of (sym p.text) ∙ rule, p.text)
+
+-- the steps by which a path is judged a file
+four : (ls : List Segment) (name version artifact : Segment) (group : List ℕ) → ls ≡ name ∷ version ∷ artifact ∷ levels group → file_of ls ≡ file_in name version artifact (levels group)
+four ls name version artifact group e = ap file_of e ∙ by_group (filled group)
+ where
+  by_group : Filled group → file_of (name ∷ version ∷ artifact ∷ levels group) ≡ file_in name version artifact (levels group)
+  by_group f = rw f.split refl
+
+pub file_refused : (ls : List Segment) (name version artifact : Segment) (group : List ℕ) → ls ≡ name ∷ version ∷ artifact ∷ levels group → may_stand (levels group) artifact version ≡ false → file_of ls ≡ Err fault.BadSegment
+file_refused ls name version artifact group e h =
+    four ls name version artifact group e
+    ∙ ap (λ t. cond t (ending_in artifact version name (base_of version) >>= λ e. Ok (with_ending (levels group) artifact version e)) (Err fault.BadSegment)) h
+
+pub file_judged : (ls : List Segment) (name version artifact : Segment) (group : List ℕ) → ls ≡ name ∷ version ∷ artifact ∷ levels group → may_stand (levels group) artifact version ≡ true → file_of ls ≡ (ending_in artifact version name (base_of version) >>= λ e. Ok (coordinates_of group artifact version e))
+file_judged ls name version artifact group e h =
+    four ls name version artifact group e
+    ∙ ap (λ t. cond t (ending_in artifact version name (base_of version) >>= λ e. Ok (with_ending (levels group) artifact version e)) (Err fault.BadSegment)) h
+    ∙ ap (λ (g : List ℕ). ending_in artifact version name (base_of version) >>= λ e. Ok (coordinates_of g artifact version e)) (path_of_levels-levels group)
+
+pub named_file : (path above name : List ℕ) (c : Coordinates) → IsBelow path above name → bytes_eq name (codes "maven-metadata.xml") ≡ false → file_of (levels path) ≡ Ok c → named (levels path) ≡ Ok (file c)
+named_file path above name c place other h =
+    ap named place.split
+    ∙ ap (λ t. cond t (directory_of (levels above) >>= λ d. Ok (document d)) (file_of (name ∷ levels above) >>= λ k. Ok (file k))) other
+    ∙ ap (λ r. r >>= λ k. Ok (file k)) (ap file_of (sym place.split) ∙ h)

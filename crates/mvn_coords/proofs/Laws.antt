@@ -18,7 +18,7 @@ use Rattle.mvn_coords.specs.Layout.{Coordinates, Directory, Named, file, documen
 use Rattle.mvn_coords.specs.Path.{Cut, cut_off, cut_by, cut_side, has_suffix, has_other_suffix, suffix_of, Parts, parts_by, parts_of, IsPlain, IsBelow, IsFile, IsDirectory}
 use Rattle.mvn_coords.specs.Kind.{with_side, kind_of_parts, kind, kind_by, text_of_kind, IsExact}
 use Rattle.mvn_coords.proofs.Cuts.{before_some, before_none}
-use Rattle.mvn_coords.proofs.Levels.{Whole, levels_longer, levels_below, below}
+use Rattle.mvn_coords.proofs.Levels.{Whole, Filled, filled, levels_longer, below}
 use Rattle.mvn_coords.proofs.Files.{keeps_file}
 use Rattle.mvn_coords.proofs.Documents.{keeps_directory}
 use Rattle.mvn_coords.proofs.Results.{bound, chosen, ok_same}
@@ -119,10 +119,95 @@ passes path p h = by_length (eqb (length path) 0) h
   by_length false h = by_long (ltb 1024 (length path)) refl h
 
 -- what a path without a suffix names has that path, and is named by it
-pub text_of_named : Named → List ℕ
+abbrev pub text_of_named : Named → List ℕ
 text_of_named (file c) = text_of c
 text_of_named (document d) = text_of_document d
 
 pub record IsKept (path : List ℕ) (thing : Named) : Type 0 where
   pub text : path ≡ text_of_named thing
   pub rule : parts_of path ≡ Ok (record { thing = thing; side = None })
+
+kept_file : (path : List ℕ) (thing : Named) → IsPlain path → named (levels path) ≡ Ok thing → (file_of (levels path) >>= λ c. Ok (file c)) ≡ Ok thing → IsKept path thing
+kept_file path thing plain name h =
+    let b = bound (file_of (levels path)) (λ c. Ok (file c)) thing h in
+    let same : file b.value ≡ thing = ok_same _ _ b.next in
+    let k = keeps_file path b.value plain (name ∙ sym b.next) b.first in
+    let kept : IsKept path (file b.value) = record { text = k.1; rule = ap parts_of k.1 ∙ k.0 } in
+    subst (λ (t : Named). IsKept path t) same kept
+
+kept_document : (path : List ℕ) (thing : Named) (name : Segment) (above : List Segment) → IsPlain path → levels path ≡ name ∷ above → name ≡ codes "maven-metadata.xml" → (directory_of above >>= λ d. Ok (document d)) ≡ Ok thing → IsKept path thing
+kept_document path thing name [] plain split same h = cc
+kept_document path thing name (next ∷ more) plain split same h =
+    let b = bound (directory_of (next ∷ more)) (λ d. Ok (document d)) thing h in
+    let cut = below path name next more split in
+    let place : IsBelow path cut.0 (codes "maven-metadata.xml") = record {
+      joined = cut.1 ∙ ap (λ n. cut.0 ++ 47 ∷ n) same;
+      split = split ∙ ap (λ n. n ∷ next ∷ more) same ∙ ap (λ ls. codes "maven-metadata.xml" ∷ ls) (sym cut.2);
+    } in
+    let k = keeps_directory path cut.0 b.value plain place (ap directory_of cut.2 ∙ b.first) in
+    let text : path ≡ text_of_document b.value = place.joined ∙ ap (λ t. t ++ 47 ∷ codes "maven-metadata.xml") k.1 in
+    let kept : IsKept path (document b.value) = record { text = text; rule = ap parts_of text ∙ k.0 } in
+    subst (λ (t : Named). IsKept path t) (ok_same _ _ b.next) kept
+
+pub kept : (path : List ℕ) (thing : Named) → IsPlain path → named (levels path) ≡ Ok thing → IsKept path thing
+kept path thing plain h = by_last (filled path)
+ where
+  by_name : (f : Filled path) (t : Bool) → bytes_eq f.last (codes "maven-metadata.xml") ≡ t → cond t (directory_of f.above >>= λ d. Ok (document d)) (file_of (f.last ∷ f.above) >>= λ c. Ok (file c)) ≡ Ok thing → IsKept path thing
+  by_name f true e h = kept_document path thing f.last f.above plain f.split ((bytes_eq-Decides f.last (codes "maven-metadata.xml")).0 e) h
+  by_name f false e g = kept_file path thing plain h (ap (λ ls. file_of ls >>= λ c. Ok (file c)) f.split ∙ g)
+  by_last : Filled path → IsKept path thing
+  by_last f = by_name f (bytes_eq f.last (codes "maven-metadata.xml")) refl (sym (ap named f.split) ∙ h)
+
+text_of_side : (thing : Named) (side : Option Side) → text_of_kind (with_side thing side) ≡ text_of_named thing ++ side_text side
+text_of_side (file c) None = sym (append-nil (text_of c))
+text_of_side (file c) (Some side) = refl
+text_of_side (document d) None = sym (append-nil (text_of_document d))
+text_of_side (document d) (Some side) = refl
+
+pub exact_path : (path : List ℕ) (k : Kind) → kind path ≡ Ok k → text_of_kind k ≡ path
+exact_path path k h =
+    let b = bound (parts_of path) (λ p. Ok (kind_of_parts p)) k h in
+    let q = passes path b.value b.first in
+    let m = kept q.cut.path q.thing q.plain q.named in
+    let same : with_side q.thing q.cut.side ≡ k = ap kind_of_parts q.value ∙ ok_same _ _ b.next in
+    sym (ap text_of_kind same) ∙ text_of_side q.thing q.cut.side ∙ ap (λ t. t ++ side_text q.cut.side) (sym m.text) ∙ sym q.is_cut.joined
+
+-- what stands beside a side file
+beside : (path : List ℕ) (k : Kind) (thing : Named) → kind path ≡ Ok k → ((t : Named) (side : Option Side) → with_side t side ≡ k → t ≡ thing) → parts_of (text_of_named thing) ≡ Ok (record { thing = thing; side = None })
+beside path k thing h only =
+    let b = bound (parts_of path) (λ p. Ok (kind_of_parts p)) k h in
+    let q = passes path b.value b.first in
+    let m = kept q.cut.path q.thing q.plain q.named in
+    let same : q.thing ≡ thing = only q.thing q.cut.side (ap kind_of_parts q.value ∙ ok_same _ _ b.next) in
+    let rule : parts_of (text_of_named q.thing) ≡ Ok (record { thing = q.thing; side = None }) = sym (ap parts_of m.text) ∙ m.rule in
+    subst (λ (t : Named). parts_of (text_of_named t) ≡ Ok (record { thing = t; side = None })) same rule
+
+only_file : (c : Coordinates) (s : Side) (t : Named) (side : Option Side) → with_side t side ≡ FileSide c s → t ≡ file c
+only_file c s (file d) None h = cc
+only_file c s (file d) (Some side) h = cc
+only_file c s (document d) None h = cc
+only_file c s (document d) (Some side) h = cc
+
+only_document : (d : Directory) (s : Side) (t : Named) (side : Option Side) → with_side t side ≡ DocSide d s → t ≡ document d
+only_document d s (file c) None h = cc
+only_document d s (file c) (Some side) h = cc
+only_document d s (document e) None h = cc
+only_document d s (document e) (Some side) h = cc
+
+pub kind_of_file : (c : Coordinates) → IsFile c → kind (text_of c) ≡ Ok (File c)
+kind_of_file c h = ap (λ r. r >>= λ p. Ok (kind_of_parts p)) h
+
+pub kind_of_document : (d : Directory) → IsDirectory d → kind (text_of_document d) ≡ Ok (Doc d)
+kind_of_document d h = ap (λ r. r >>= λ p. Ok (kind_of_parts p)) h
+
+pub exact : IsExact
+exact = record {
+  path = exact_path;
+  file = λ path c side h. kind_of_file c (beside path (FileSide c side) (file c) h (only_file c side));
+  document = λ path d side h. kind_of_document d (beside path (DocSide d side) (document d) h (only_document d side));
+}
+
+-- the answer of a reader by the rule has the path that was read
+pub path_kept : (path : List ℕ) (r : Result Kind PathFault) → r ≡ kind path → IfOk r (λ k. text_of_kind k ≡ path)
+path_kept path (Ok k) h = exact_path path k (sym h)
+path_kept path (Err e) h = tt

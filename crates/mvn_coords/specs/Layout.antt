@@ -23,6 +23,9 @@ pub record Directory : Type 0 where
   pub artifact : List ℕ
   pub version : Option (List ℕ)
 
+abbrev pub directory : List ℕ → List ℕ → Option (List ℕ) → Directory
+directory group artifact version = record { group = group; artifact = artifact; version = version }
+
 pub data Named : Type 0 where
   file : Coordinates → Named
   document : Directory → Named
@@ -34,38 +37,41 @@ all_groups groups = list_all is_group_segment groups
 abbrev pub may_stand : List Segment → Segment → Segment → Bool
 may_stand groups artifact version = all_groups groups && is_artifact artifact && is_version_directory version
 
-abbrev pub with_ending : List Segment → Segment → Segment → Ending → Coordinates
-with_ending groups artifact directory e = record {
-  group = path_of_levels groups;
+abbrev pub coordinates_of : List ℕ → Segment → Segment → Ending → Coordinates
+coordinates_of group artifact version e = record {
+  group = group;
   artifact = artifact;
-  directory = directory;
+  directory = version;
   build = e.build;
   classifier = e.classifier;
   extension = e.extension;
 }
 
+abbrev pub with_ending : List Segment → Segment → Segment → Ending → Coordinates
+with_ending groups artifact version e = coordinates_of (path_of_levels groups) artifact version e
+
 abbrev pub file_in : Segment → Segment → Segment → List Segment → Result Coordinates PathFault
-file_in name directory artifact groups =
-    if may_stand groups artifact directory
-    then (ending_in artifact directory name (base_of directory) >>= λ e. Ok (with_ending groups artifact directory e))
+file_in name version artifact groups =
+    if may_stand groups artifact version
+    then (ending_in artifact version name (base_of version) >>= λ e. Ok (with_ending groups artifact version e))
     else Err fault.BadSegment
 
 -- a file by its path's segments, the last one first: name, version directory, artifact, group
 abbrev pub file_of : List Segment → Result Coordinates PathFault
-file_of (name ∷ directory ∷ artifact ∷ group ∷ above) = file_in name directory artifact (group ∷ above)
+file_of (name ∷ version ∷ artifact ∷ group ∷ above) = file_in name version artifact (group ∷ above)
 file_of _ = Err fault.Short
 
 -- the directory of an artifact or a group
 abbrev pub artifact_directory : Segment → List Segment → Result Directory PathFault
 artifact_directory artifact groups =
     if all_groups groups && is_artifact artifact
-    then Ok (record { group = path_of_levels groups; artifact = artifact; version = None })
+    then Ok (directory (path_of_levels groups) artifact None)
     else Err fault.BadSegment
 
 abbrev pub snapshot_directory : Segment → Segment → List Segment → Result Directory PathFault
 snapshot_directory version artifact groups =
     if may_stand groups artifact version
-    then Ok (record { group = path_of_levels groups; artifact = artifact; version = Some version })
+    then Ok (directory (path_of_levels groups) artifact (Some version))
     else Err fault.BadSegment
 
 -- a directory by its segments, the last one first: X-SNAPSHOT below an artifact and a group is a snapshot directory
@@ -94,8 +100,8 @@ text_of_build b = text_of_time b.stamp ++ 45 ∷ without_zeros (digits 9 b.numbe
 
 -- the version that a file's name has: the version directory, but with a build in the place of `SNAPSHOT`
 abbrev pub version_with : List ℕ → Option BuildOf → Option (List ℕ) → List ℕ
-version_with directory (Some build) (Some base) = base ++ 45 ∷ text_of_build build
-version_with directory build base = directory
+version_with version (Some build) (Some base) = base ++ 45 ∷ text_of_build build
+version_with version build base = version
 
 abbrev pub version_of : Coordinates → List ℕ
 version_of c = version_with c.directory c.build (base_of c.directory)

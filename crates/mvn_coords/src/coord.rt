@@ -2,19 +2,20 @@ ghost use Rattle.std.specs.Prelude.{◌≡◌, is_some};
 ghost use Rattle.std.specs.Option.{option_copied};
 
 use crate::Build;
+use crate::name::Ending;
 use std::marker::Model;
 
 /// The coordinates of a file, which always meet the path rule, and the path that they were read
 /// from.
 #[derive(Debug, Drop)]
 pub struct Coord<'a> {
-    pub(crate) path: &'a str,
-    pub(crate) group: &'a str,
-    pub(crate) artifact: &'a str,
-    pub(crate) dir: &'a str,
-    pub(crate) build: Option<Build>,
-    pub(crate) classifier: &'a str,
-    pub(crate) extension: &'a str,
+    path: &'a str,
+    group: &'a str,
+    artifact: &'a str,
+    dir: &'a str,
+    build: Option<Build>,
+    classifier: &'a str,
+    extension: &'a str,
 }
 
 impl<'a> Model for Coord<'a> {
@@ -30,8 +31,35 @@ impl<'a> Model for Coord<'a> {
 }
 
 impl<'a> Coord<'a> {
-    ghost use Rattle.mvn_coords.specs.Layout.{text_of};
+    ghost use Rattle.mvn_coords.specs.Layout.{coordinates_of, text_of};
     ghost use Rattle.mvn_coords.specs.Path.{IsFile};
+
+    pub(crate) fn with_ending(
+        path: &'a str,
+        group: &'a str,
+        artifact: &'a str,
+        dir: &'a str,
+        ending: Ending<'a>,
+    ) -> Self
+        requires rule { IsFile (coordinates_of group.now artifact.now dir.now ending) }
+        requires text { path.now ≡ text_of (coordinates_of group.now artifact.now dir.now ending) }
+        ensures { result ≡ coordinates_of group.now artifact.now dir.now ending }
+    {
+        let Ending {
+            build,
+            classifier,
+            extension,
+        } = ending;
+        Coord {
+            path,
+            group,
+            artifact,
+            dir,
+            build,
+            classifier,
+            extension,
+        }
+    }
 
     /// The file's path, with its segments joined by `/`.
     pub fn path(&self) -> &'a str
@@ -94,10 +122,10 @@ impl<'a> Coord<'a> {
 /// segment then stands as the artifact), or a snapshot directory.
 #[derive(Debug, Drop)]
 pub struct Dir<'a> {
-    pub(crate) path: &'a str,
-    pub(crate) group: &'a str,
-    pub(crate) artifact: &'a str,
-    pub(crate) version: Option<&'a str>,
+    path: &'a str,
+    group: &'a str,
+    artifact: &'a str,
+    version: Option<&'a str>,
 }
 
 impl<'a> Model for Dir<'a> {
@@ -113,8 +141,27 @@ impl<'a> Model for Dir<'a> {
 }
 
 impl<'a> Dir<'a> {
-    ghost use Rattle.mvn_coords.specs.Layout.{text_of_directory};
+    ghost use Rattle.mvn_coords.specs.Layout.{directory, text_of_directory};
     ghost use Rattle.mvn_coords.specs.Path.{IsDirectory};
+
+    pub(crate) fn new(
+        path: &'a str,
+        group: &'a str,
+        artifact: &'a str,
+        version: Option<&'a str>,
+    ) -> Self
+        requires rule { IsDirectory (directory group.now artifact.now (option_copied version.entry)) }
+        requires text { path.now
+            ≡ text_of_directory (directory group.now artifact.now (option_copied version.entry)) }
+        ensures { result ≡ directory group.now artifact.now (option_copied version.entry) }
+    {
+        Dir {
+            path,
+            group,
+            artifact,
+            version,
+        }
+    }
 
     /// The directory's path, with its segments joined by `/`.
     pub fn path(&self) -> &'a str

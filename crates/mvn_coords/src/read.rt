@@ -138,8 +138,8 @@ fn cut_off(side: Side, path: &str) -> Result<Cut<'_>, PathFault>
 
 /// What a path without a side suffix names.
 fn named(cut: Cut<'_>) -> Result<Kind<'_>, PathFault>
-    requires { path_rule.IsPlain cut.entry.path }
-    ensures { result ≡ kind_by cut.entry }
+    requires { path_rule.IsPlain cut.path }
+    ensures { result ≡ kind_by cut }
 {
     let Cut { path, side } = cut;
     let (above, name) = cut_last(path).ok_or(PathFault::Short)?;
@@ -171,21 +171,19 @@ fn file<'a>(path: &'a str, above: &'a str, name: &'a str) -> Result<Coord<'a>, P
     requires file { bytes_eq name.now (codes "maven-metadata.xml") ≡ false }
     ensures { result ≡ layout.file_of (segment.levels path.now) }
 {
-    let (above, dir) = cut_last(above).ok_or(PathFault::Short)?;
-    let (group, artifact) = cut_last(above).ok_or(PathFault::Short)?;
+    let Some((version_path, dir)) = cut_last(above) else {
+        return Err(PathFault::Short);
+    };
+    let Some((group, artifact)) = cut_last(version_path) else {
+        return Err(PathFault::Short);
+    };
     if !may_stand(group, artifact, dir) {
         return Err(PathFault::BadSegment);
     }
-    let ending = ending_in(artifact, dir, name)?;
-    Ok(Coord {
-        path,
-        group,
-        artifact,
-        dir,
-        build: ending.build,
-        classifier: ending.classifier,
-        extension: ending.extension,
-    })
+    match ending_in(artifact, dir, name) {
+        Ok(ending) => Ok(Coord::with_ending(path, group, artifact, dir, ending)),
+        Err(fault) => Err(fault),
+    }
 }
 
 /// The directory of the document that a path names.
@@ -198,31 +196,35 @@ fn directory<'a>(document: &str, path: &'a str) -> Result<Dir<'a>, PathFault>
         if !is_artifact(path) {
             return Err(PathFault::BadSegment);
         }
-        return Ok(Dir {
-            path,
-            group: "",
-            artifact: path,
-            version: None,
-        });
+        return Ok(Dir::new(path, "", path, None));
     };
-    if base_of(last).is_some() && let Some((group, artifact)) = cut_last(above) {
-        if !may_stand(group, artifact, last) {
-            return Err(PathFault::BadSegment);
-        }
-        return Ok(Dir {
-            path,
-            group,
-            artifact,
-            version: Some(last),
-        });
+    let Some((group, artifact)) = cut_last(above) else {
+        return artifact_directory(document, path, above, last);
+    };
+    if base_of(last).is_none() {
+        return artifact_directory(document, path, above, last);
     }
-    if !all_groups(above) || !is_artifact(last) {
+    if !may_stand(group, artifact, last) {
         return Err(PathFault::BadSegment);
     }
-    Ok(Dir {
-        path,
-        group: above,
-        artifact: last,
-        version: None,
-    })
+    Ok(Dir::new(path, group, artifact, Some(last)))
+}
+
+/// The directory of an artifact or a group.
+fn artifact_directory<'a>(
+    document: &str,
+    path: &'a str,
+    group: &'a str,
+    artifact: &'a str,
+) -> Result<Dir<'a>, PathFault>
+    requires plain { path_rule.IsPlain document.now }
+    requires below { path_rule.IsBelow document.now path.now (codes "maven-metadata.xml") }
+    requires judged { layout.directory_of (segment.levels path.now)
+        ≡ layout.artifact_directory artifact.now (segment.levels group.now) }
+    ensures { result ≡ layout.directory_of (segment.levels path.now) }
+{
+    if !all_groups(group) || !is_artifact(artifact) {
+        return Err(PathFault::BadSegment);
+    }
+    Ok(Dir::new(path, group, artifact, None))
 }
