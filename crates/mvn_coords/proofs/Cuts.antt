@@ -1,5 +1,5 @@
 -- Cuts of a text: at its front, at its end, and at its last slash.
-use Rattle.std.proofs.Common.{◌≡◌, ℕ, suc, ◌+◌, ◌-◌, ◌<◌, ◌≤◌, Bool, true, false, cond, not, eqb, List, [], ◌∷◌, ◌++◌, length, get_or, take, drop, reverse, Option, Some, None, MatchOption, option_and_then, ◌≢◌, refl, ap, sym, ◌∙◌, arith, Bor, lit<}
+use Rattle.std.proofs.Common.{◌≡◌, ℕ, suc, ◌+◌, ◌-◌, ◌<◌, ◌≤◌, Bool, true, false, cond, not, eqb, List, [], ◌∷◌, ◌++◌, length, get_or, take, drop, reverse, Option, Some, None, MatchOption, option_and_then, is_some, ◌≢◌, refl, ap, sym, ◌∙◌, arith, Bor, lit<}
 use Rattle.std.specs.Option.{option_copied}
 use Rattle.std.specs.List.{All, slice_split, onto_first, starts_with, ends_with, list_all, count_by}
 use Rattle.std.specs.Str.Pattern.{FindsTextPrefix, FindsTextSuffix, StripsPrefix, StripsSuffix, RFindsChar, SplitsAroundMatch}
@@ -122,3 +122,7 @@ before_none end text h = none (ends_with eqb text end) h
   none : (t : Bool) → cond t (Some (take (length text - length end) text)) None ≡ None → t ≡ false
   none true h = cc
   none false h = refl
+
+pub is_some_copied : (r : Option (Bor (List ℕ))) → is_some (option_copied r) ≡ is_some r
+is_some_copied None = refl
+is_some_copied (Some x) = refl

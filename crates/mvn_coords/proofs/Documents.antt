@@ -1,15 +1,15 @@
 -- What the segments of a directory name has the path that was cut, and is read again from its document's path.
 use Rattle.std.proofs.Common.{◌≡◌, ℕ, zero, suc, ◌+◌, ◌<◌, ◌≤◌, Bool, true, false, cond, not, ◌&&◌, List, [], ◌∷◌, ◌++◌, length, Option, Some, None, is_some, Result, Ok, Err, codes, refl, ap, sym, ◌∙◌, arith}
 use Rattle.std.specs.List.{list_all}
-use Rattle.std.proofs.lemmas.Bool.{and_parts, false≢true, lt-ltb}
+use Rattle.std.proofs.lemmas.Bool.{and_parts, and_from, false≢true, lt-ltb}
 use Rattle.std.proofs.lemmas.List.{append-nil}
 use Rattle.mvn_coords.specs.declared.fault.PathFault.{PathFault}
 use Rattle.mvn_coords.specs.declared.fault.PathFault.TheVariants as fault
 use Rattle.mvn_coords.specs.Segment.{Segment, levels, path_of_levels, is_segment, is_artifact}
 use Rattle.mvn_coords.specs.FileName.{base_of, is_filled}
-use Rattle.mvn_coords.specs.Layout.{Directory, Named, document, may_stand, all_groups, artifact_directory, snapshot_directory, directory_of, named, text_of_directory, text_of_document, below_group, version_part}
+use Rattle.mvn_coords.specs.Layout.{Directory, directory, Named, document, may_stand, all_groups, artifact_directory, snapshot_directory, directory_of, named, text_of_directory, text_of_document, below_group, version_part}
 use Rattle.mvn_coords.specs.Path.{parts_of, IsDirectory, IsPlain, IsBelow}
-use Rattle.mvn_coords.proofs.Levels.{below, one_segment, path_of_levels-levels}
+use Rattle.mvn_coords.proofs.Levels.{Filled, filled, below, one_segment, path_of_levels-levels}
 use Rattle.mvn_coords.proofs.Files.{parts_of_plain, plain_segments, some_bytes}
 use Rattle.mvn_coords.proofs.Results.{chosen, ok_same}
 
@@ -66,3 +66,31 @@ keeps_directory path above d plain place h =
     let rule = parts_of_plain path (document d) (some_bytes path above name place.joined) plain (plain_segments path name (levels above) plain place.split refl) thing in
     let whole : path ≡ text_of_document d = place.joined ∙ ap (λ t. t ++ 47 ∷ name) text in
     (ap parts_of (sym whole) ∙ rule, text)
+
+-- the steps by which a path is judged a directory
+pub one_directory : (ls : List Segment) (artifact : Segment) → ls ≡ artifact ∷ [] → is_artifact artifact ≡ true → directory_of ls ≡ Ok (directory [] artifact None)
+one_directory ls artifact e h = rw (e, h) refl
+
+pub artifact_judged : (ls : List Segment) (artifact : Segment) (group : List ℕ) → directory_of ls ≡ artifact_directory artifact (levels group) → all_groups (levels group) ≡ true → is_artifact artifact ≡ true → directory_of ls ≡ Ok (directory group artifact None)
+artifact_judged ls artifact group e g a =
+    e ∙ ap (λ t. cond t (Ok (directory (path_of_levels (levels group)) artifact None)) (Err fault.BadSegment)) (and_from _ _ g a)
+    ∙ ap (λ (p : List ℕ). Ok (directory p artifact None)) (path_of_levels-levels group)
+
+three : (ls : List Segment) (version artifact : Segment) (group : List ℕ) → ls ≡ version ∷ artifact ∷ levels group → is_some (base_of version) ≡ true → directory_of ls ≡ snapshot_directory version artifact (levels group)
+three ls version artifact group e h = ap directory_of e ∙ by_group (filled group)
+ where
+  by_group : Filled group → directory_of (version ∷ artifact ∷ levels group) ≡ snapshot_directory version artifact (levels group)
+  by_group f = ap (λ (g : List Segment). directory_of (version ∷ artifact ∷ g)) f.split
+    ∙ ap (λ t. cond t (snapshot_directory version artifact (f.last ∷ f.above)) (artifact_directory version (artifact ∷ f.last ∷ f.above))) h
+    ∙ ap (λ (g : List Segment). snapshot_directory version artifact g) (sym f.split)
+
+pub snapshot_refused : (ls : List Segment) (version artifact : Segment) (group : List ℕ) → ls ≡ version ∷ artifact ∷ levels group → is_some (base_of version) ≡ true → may_stand (levels group) artifact version ≡ false → directory_of ls ≡ Err fault.BadSegment
+snapshot_refused ls version artifact group e b h =
+    three ls version artifact group e b
+    ∙ ap (λ t. cond t (Ok (directory (path_of_levels (levels group)) artifact (Some version))) (Err fault.BadSegment)) h
+
+pub snapshot_judged : (ls : List Segment) (version artifact : Segment) (group : List ℕ) → ls ≡ version ∷ artifact ∷ levels group → is_some (base_of version) ≡ true → may_stand (levels group) artifact version ≡ true → directory_of ls ≡ Ok (directory group artifact (Some version))
+snapshot_judged ls version artifact group e b h =
+    three ls version artifact group e b
+    ∙ ap (λ t. cond t (Ok (directory (path_of_levels (levels group)) artifact (Some version))) (Err fault.BadSegment)) h
+    ∙ ap (λ (p : List ℕ). Ok (directory p artifact (Some version))) (path_of_levels-levels group)

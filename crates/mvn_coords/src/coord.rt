@@ -43,7 +43,7 @@ impl<'a> Coord<'a> {
     ) -> Self
         requires rule { IsFile (coordinates_of group.now artifact.now dir.now ending) }
         requires text { path.now ≡ text_of (coordinates_of group.now artifact.now dir.now ending) }
-        ensures { result ≡ coordinates_of group.now artifact.now dir.now ending }
+        ensures { result ≡ coordinates_of group.now artifact.now dir.now ending.entry }
     {
         let Ending {
             build,
@@ -150,9 +150,9 @@ impl<'a> Dir<'a> {
         artifact: &'a str,
         version: Option<&'a str>,
     ) -> Self
-        requires rule { IsDirectory (directory group.now artifact.now (option_copied version.entry)) }
+        requires rule { IsDirectory (directory group.now artifact.now (option_copied version)) }
         requires text { path.now
-            ≡ text_of_directory (directory group.now artifact.now (option_copied version.entry)) }
+            ≡ text_of_directory (directory group.now artifact.now (option_copied version)) }
         ensures { result ≡ directory group.now artifact.now (option_copied version.entry) }
     {
         Dir {

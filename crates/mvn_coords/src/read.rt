@@ -139,7 +139,7 @@ fn cut_off(side: Side, path: &str) -> Result<Cut<'_>, PathFault>
 /// What a path without a side suffix names.
 fn named(cut: Cut<'_>) -> Result<Kind<'_>, PathFault>
     requires { path_rule.IsPlain cut.path }
-    ensures { result ≡ kind_by cut }
+    ensures { result ≡ kind_by cut.entry }
 {
     let Cut { path, side } = cut;
     let (above, name) = cut_last(path).ok_or(PathFault::Short)?;
