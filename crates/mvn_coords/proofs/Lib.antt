@@ -3,6 +3,7 @@ pub mod Digits
 pub mod Documents
 pub mod Endings
 pub mod Files
+pub mod Judged
 pub mod Laws
 pub mod Levels
 pub mod Names

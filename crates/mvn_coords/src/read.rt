@@ -5,7 +5,7 @@ ghost use Rattle.std.specs.Str.{bytes_eq};
 ghost use Rattle.mvn_coords.specs.Segment as segment;
 ghost use Rattle.mvn_coords.specs.Layout as layout;
 ghost use Rattle.mvn_coords.specs.Path as path_rule;
-ghost use Rattle.mvn_coords.specs.Kind.{kind, kind_by, text_of_kind, IsExact};
+ghost use Rattle.mvn_coords.specs.Kind.{kind, kind_by, text_of_kind, with_side, IsExact};
 
 use crate::name::{base_of, ending_in};
 use crate::text::{before, cut_last};
@@ -35,7 +35,8 @@ pub fn kind_of(path: &str) -> Result<Kind<'_>, PathFault>
     if !all_segments(path) {
         return Err(PathFault::BadSegment);
     }
-    named(cut_side(path)?)
+    let cut = cut_side(path)?;
+    named(cut)
 }
 
 /// The path of a file. The only error is want of memory.
@@ -142,19 +143,37 @@ fn named(cut: Cut<'_>) -> Result<Kind<'_>, PathFault>
     ensures { result ≡ kind_by cut.entry }
 {
     let Cut { path, side } = cut;
-    let (above, name) = cut_last(path).ok_or(PathFault::Short)?;
+    let Some((above, name)) = cut_last(path) else {
+        return Err(PathFault::Short);
+    };
     if name == "maven-metadata.xml" {
-        let dir = directory(path, above)?;
-        return Ok(match side {
-            Some(side) => Kind::DocSide(dir, side),
-            None => Kind::Doc(dir),
-        });
+        return match directory(path, above) {
+            Ok(dir) => Ok(document_kind(dir, side)),
+            Err(fault) => Err(fault),
+        };
     }
-    let coord = file(path, above, name)?;
-    Ok(match side {
+    match file(path, above, name) {
+        Ok(coord) => Ok(file_kind(coord, side)),
+        Err(fault) => Err(fault),
+    }
+}
+
+fn file_kind(coord: Coord<'_>, side: Option<Side>) -> Kind<'_>
+    ensures { result ≡ with_side (layout.file coord.entry) side }
+{
+    match side {
         Some(side) => Kind::FileSide(coord, side),
         None => Kind::File(coord),
-    })
+    }
+}
+
+fn document_kind(dir: Dir<'_>, side: Option<Side>) -> Kind<'_>
+    ensures { result ≡ with_side (layout.document dir.entry) side }
+{
+    match side {
+        Some(side) => Kind::DocSide(dir, side),
+        None => Kind::Doc(dir),
+    }
 }
 
 /// Whether these may stand as group, artifact and version directory.
