@@ -35,8 +35,10 @@ pub fn kind_of(path: &str) -> Result<Kind<'_>, PathFault>
     if !all_segments(path) {
         return Err(PathFault::BadSegment);
     }
-    let cut = cut_side(path)?;
-    named(cut)
+    match cut_side(path) {
+        Ok(cut) => named(cut),
+        Err(fault) => Err(fault),
+    }
 }
 
 /// The path of a file. The only error is want of memory.

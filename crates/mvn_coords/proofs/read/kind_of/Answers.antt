@@ -19,15 +19,17 @@ returns-then-not-all_segments-clause-kind c =
 
 pub named-requires : goal.named-requires
 named-requires c =
-    let cut = is_cut c.args.path.now c.in_ok-cut.cut (sym c.in_ok-cut.ensures) in
-    plain_cut c.args.path.now c.in_ok-cut.cut (omega arith) (sym c.all_segments.ensures ∙ c.if-not-all_segments.false) cut
+    let cut = is_cut c.args.path.now c.in-Ok.cut (sym c.in-Ok.ensures) in
+    plain_cut c.args.path.now c.in-Ok.cut (omega arith) (sym c.all_segments.ensures ∙ c.if-not-all_segments.false) cut
 
-pub returns-in_err-cut-clause-kind : goal.returns-in_err-cut-clause-kind
-returns-in_err-cut-clause-kind c = ?
+pub returns-in-Err-clause-kind : goal.returns-in-Err-clause-kind
+returns-in-Err-clause-kind c =
+    sym (kind_side c.args.path.now c.in-Err.fault (sym c.is_empty.ensures ∙ c.if-is_empty.false) (le-ltb 1024 (length c.args.path.now) (omega arith)) (sym c.all_segments.ensures ∙ c.if-not-all_segments.false) (sym c.in-Err.ensures))
 
-pub returns-clause-kind : goal.returns-clause-kind
-returns-clause-kind c =
-    c.named.ensures ∙ sym (kind_cut c.args.path.now c.in_ok-cut.cut (sym c.is_empty.ensures ∙ c.if-is_empty.false) (le-ltb 1024 (length c.args.path.now) (omega arith)) (sym c.all_segments.ensures ∙ c.if-not-all_segments.false) (sym c.in_ok-cut.ensures))
+pub returns-in-Ok-clause-kind : goal.returns-in-Ok-clause-kind
+returns-in-Ok-clause-kind c =
+    c.named.ensures ∙ sym (kind_cut c.args.path.now c.in-Ok.cut (sym c.is_empty.ensures ∙ c.if-is_empty.false) (le-ltb 1024 (length c.args.path.now) (omega arith)) (sym c.all_segments.ensures ∙ c.if-not-all_segments.false) (sym c.in-Ok.ensures))
 
-pub returns-clause-path : goal.returns-clause-path
-returns-clause-path c = path_kept c.args.path.now c.named.result ?
+pub returns-in-Ok-clause-path : goal.returns-in-Ok-clause-path
+returns-in-Ok-clause-path c =
+    path_kept c.args.path.now c.named.result (c.named.ensures ∙ sym (kind_cut c.args.path.now c.in-Ok.cut (sym c.is_empty.ensures ∙ c.if-is_empty.false) (le-ltb 1024 (length c.args.path.now) (omega arith)) (sym c.all_segments.ensures ∙ c.if-not-all_segments.false) (sym c.in-Ok.ensures)))
