@@ -1,0 +1,5 @@
+pub mod Token
+pub mod Element
+pub mod Key
+pub mod Order
+pub mod Worked

@@ -1,0 +1,8 @@
+//! Maven's version order: versions are parsed once and compared without memory.
+#![tactic(auto)]
+
+mod element;
+mod token;
+mod version;
+
+pub use version::{NoMemory, Version, compare};
