@@ -4,7 +4,7 @@ use Rattle.std.specs.Char.{is_ascii_digit}
 use Rattle.std.specs.List.{list_all}
 use Rattle.mvn_version.specs.declared.token.Mark.{Mark}
 use Rattle.mvn_version.specs.declared.token.Mark.TheVariants.{Dot, Dash, Seam}
-use Rattle.mvn_version.specs.Token.{Token, folded, tokens}
+use Rattle.mvn_version.specs.Token.{Token, folded, is_dot, is_seam, tokens}
 
 -- a token without bytes is the number 0
 abbrev pub is_number : List ℕ → Bool
@@ -12,16 +12,6 @@ is_number text = list_all is_ascii_digit text
 
 abbrev pub is_zero : List ℕ → Bool
 is_zero text = list_all (λ c. c == 48) text
-
-abbrev pub is_dot : Mark → Bool
-is_dot Dot = true
-is_dot Dash = false
-is_dot Seam = false
-
-abbrev pub is_seam : Mark → Bool
-is_seam Dot = false
-is_seam Dash = false
-is_seam Seam = true
 
 -- a word in full, `joined` where a digit follows it at once
 abbrev pub full_word : Bool → List ℕ → List ℕ

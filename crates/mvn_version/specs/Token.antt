@@ -21,14 +21,24 @@ folded_byte c = if c == 95 then 45 else to_ascii_lowercase c
 abbrev pub folded : List ℕ → List ℕ
 folded text = map folded_byte text
 
+abbrev pub is_dot : Mark → Bool
+is_dot Dot = true
+is_dot Dash = false
+is_dot Seam = false
+
+abbrev pub is_seam : Mark → Bool
+is_seam Dot = false
+is_seam Dash = false
+is_seam Seam = true
+
 -- the mark that a separator is
 abbrev pub separator_mark : ℕ → Option Mark
 separator_mark c = if c == 46 then Some Dot else (if c == 45 then Some Dash else None)
 
 -- a byte that is no separator, where a digit meets another such byte
-abbrev pub is_seam : ℕ → List ℕ → Bool
-is_seam c [] = false
-is_seam c (d ∷ cs) =
+abbrev pub seam_follows : ℕ → List ℕ → Bool
+seam_follows c [] = false
+seam_follows c (d ∷ cs) =
     is_none (separator_mark d) && (if is_ascii_digit c then not (is_ascii_digit d) else is_ascii_digit d)
 
 abbrev pub dotted : List ℕ → Token
@@ -53,4 +63,4 @@ before c None false ts = longer c ts
 -- the second step: the tokens of a text, the first with the mark `.`
 abbrev pub tokens : List ℕ → List Token
 tokens [] = dotted [] ∷ []
-tokens (c ∷ cs) = before c (separator_mark c) (is_seam c cs) (tokens cs)
+tokens (c ∷ cs) = before c (separator_mark c) (seam_follows c cs) (tokens cs)

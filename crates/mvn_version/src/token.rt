@@ -1,17 +1,31 @@
 //! A version text cut into tokens.
 
 ghost use Rattle.std.specs.Prelude.{◌≡◌, ◌+◌, ◌<◌, IfOk, map, reverse, drop, length, slice_index};
-ghost use Rattle.mvn_version.specs.Token.{folded_byte, folded, separator_mark, is_seam, shown, tokens};
+ghost use Rattle.mvn_version.specs.Token.{folded_byte, folded, separator_mark, is_dot, is_seam, seam_follows, shown, tokens};
 
 use std::alloc::{AllocError, Global};
 
 /// What stands before a token.
-#[derive(Clone, Copy, Debug, PartialEq, Eq)]
+#[derive(Clone, Copy, Debug)]
 pub enum Mark {
     Dot,
     Dash,
     /// Nothing: a digit meets another byte.
     Seam,
+}
+
+impl Mark {
+    pub fn is_dot(self) -> bool
+        ensures { result ≡ is_dot self }
+    {
+        matches!(self, Mark::Dot)
+    }
+
+    pub fn is_seam(self) -> bool
+        ensures { result ≡ is_seam self }
+    {
+        matches!(self, Mark::Seam)
+    }
 }
 
 /// A part of a version text between two cuts: digits alone, no digit at all, or no byte.
@@ -45,9 +59,9 @@ fn separator_mark(c: u8) -> Option<Mark>
 }
 
 // Whether the text is cut behind `i` although no separator stands there.
-fn is_seam(text: &[u8], i: usize) -> bool
+fn seam_follows(text: &[u8], i: usize) -> bool
     requires { i < length text.now }
-    ensures { result ≡ is_seam (slice_index text.now i) (drop (i + 1) text.now) }
+    ensures { result ≡ seam_follows (slice_index text.now i) (drop (i + 1) text.now) }
 {
     match text[i + 1..].first() {
         None => false,
@@ -70,7 +84,7 @@ pub fn tokens<'a>(alloc: Global, text: &'a [u8]) -> Result<Vec<Token<'a>>, Alloc
                 text: &text[i + 1..end],
             })?;
             end = i;
-        } else if is_seam(text, i) {
+        } else if seam_follows(text, i) {
             tokens.push(Token {
                 mark: Mark::Seam,
                 text: &text[i + 1..end],
