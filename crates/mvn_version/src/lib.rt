@@ -5,4 +5,4 @@ mod element;
 mod token;
 mod version;
 
-pub use version::{NoMemory, Version, compare};
+pub use version::{NoMemory, Version, compare, list_order};

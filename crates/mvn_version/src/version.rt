@@ -1,8 +1,14 @@
-use std::alloc::AllocError;
+//! Versions and their order.
+
+ghost use Rattle.std.specs.Prelude.{◌≡◌, IfOk, bytes_eq};
+ghost use Rattle.mvn_version.specs.Order.{list_cmp, version_cmp};
+
+use std::alloc::{AllocError, Global};
 use std::cmp::Ordering;
 use std::marker::Model;
 
-use crate::element::Element;
+use crate::element::{Element, elements};
+use crate::token::{folded, tokens};
 
 /// There was no memory left.
 pub type NoMemory = AllocError;
@@ -28,7 +34,16 @@ impl Model for Version {
 }
 
 impl Version {
-    ghost use Rattle.std.specs.Prelude.{◌≡◌};
+    /// The version with this text, in time linear in its length.
+    pub fn parse(alloc: Global, text: &str) -> Result<Version, NoMemory>
+        ensures { IfOk result (λ v. v ≡ text.now) }
+    {
+        let folded = folded(alloc, text.as_bytes())?;
+        let tokens = tokens(alloc, &folded)?;
+        let elements = elements(alloc, &tokens)?;
+        let text = String::from_str(alloc, text)?;
+        Ok(Version { text, elements })
+    }
 
     /// The text that the version was parsed from.
     pub fn as_str(&self) -> &str
@@ -38,12 +53,16 @@ impl Version {
     }
 }
 
-ghost use Rattle.std.specs.Prelude.{◌≡◌};
-ghost use Rattle.mvn_version.specs.Order.{version_cmp};
-
 /// The order of the keys.
 pub fn compare(left: &Version, right: &Version) -> Ordering
     ensures { result ≡ version_cmp left.now right.now }
 {
     left.elements.as_slice().cmp(right.elements.as_slice())
+}
+
+/// The order of the keys.
+pub fn list_order(left: &Version, right: &Version) -> Ordering
+    ensures { result ≡ list_cmp left.now right.now }
+{
+    compare(left, right).then_with(|| left.as_str().cmp(right.as_str()))
 }
