@@ -2,7 +2,8 @@
 #![tactic(auto)]
 
 mod element;
+pub mod laws;
 mod token;
 mod version;
 
-pub use version::{NoMemory, Version, compare, list_order};
+pub use version::{NoMemory, Version, compare};

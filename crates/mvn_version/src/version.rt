@@ -1,6 +1,11 @@
 //! Versions and their order.
 
 ghost use Rattle.std.specs.Prelude.{◌≡◌, IfOk, bytes_eq};
+ghost use Rattle.std.proofs.Common.{refl};
+ghost use Rattle.std.specs.Cmp.{partial_equiv_from_equiv, po};
+ghost use Rattle.std.specs.Cmp.Lexicographic.{nat_list_eq_equiv};
+ghost use Rattle.std.specs.Ordering.{as_partial_cmp};
+ghost use Rattle.mvn_version.specs.Laws.{bytes_eq_ties, list_cmp_total};
 ghost use Rattle.mvn_version.specs.Order.{list_cmp, version_cmp};
 
 use std::alloc::{AllocError, Global};
@@ -60,9 +65,41 @@ pub fn compare(left: &Version, right: &Version) -> Ordering
     left.elements.as_slice().cmp(right.elements.as_slice())
 }
 
-/// The order of the keys.
-pub fn list_order(left: &Version, right: &Version) -> Ordering
-    ensures { result ≡ list_cmp left.now right.now }
-{
-    compare(left, right).then_with(|| left.as_str().cmp(right.as_str()))
+impl PartialEq for Version {
+    ghost eq = { bytes_eq };
+
+    ghost laws = { partial_equiv_from_equiv nat_list_eq_equiv };
+
+    fn eq(&self, other: &Version) -> bool {
+        self.as_str() == other.as_str()
+    }
+}
+
+impl Eq for Version {
+    ghost laws = { nat_list_eq_equiv };
+}
+
+/// The order in lists of versions: that of `compare`, and where it tells no difference that of the texts' bytes.
+impl Ord for Version {
+    ghost cmp = { list_cmp };
+
+    ghost total = { list_cmp_total };
+
+    ghost matches_partial_cmp = { λ v w. refl };
+
+    ghost matches_eq = { bytes_eq_ties };
+
+    fn cmp(&self, other: &Version) -> Ordering {
+        compare(self, other).then_with(|| self.as_str().cmp(other.as_str()))
+    }
+}
+
+impl PartialOrd for Version {
+    ghost partial_cmp = { as_partial_cmp list_cmp };
+
+    ghost laws = { po list_cmp_total bytes_eq_ties };
+
+    fn partial_cmp(&self, other: &Version) -> Option<Ordering> {
+        Some(self.cmp(other))
+    }
 }
