@@ -1,5 +1,5 @@
 -- Elements compare as the lists that they stand for.
-use Rattle.std.proofs.Common.{◌≡◌, ℕ, List, [], ◌∷◌, map, refl, ap, ◌∙◌, sym}
+use Rattle.std.proofs.Common.{◌≡◌, List, map, refl, ap, ◌∙◌, sym}
 use Rattle.std.specs.Cmp.Derive.Mapped.{lex_map}
 use Rattle.std.specs.Cmp.Lexicographic.{slice_cmp}
 use Rattle.std.specs.Ordering.{nat_cmp, ordering_then}

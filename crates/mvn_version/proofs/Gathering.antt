@@ -1,5 +1,5 @@
 -- The key of the tokens of a text with one more token in front.
-use Rattle.std.proofs.Common.{◌≡◌, ℕ, ◌+◌, ◌<◌, Bool, true, false, cond, not, ◌&&◌, ◌||◌, List, [], ◌∷◌, ◌++◌, map, reverse, length, take, get_or, refl, ap, sym, ◌∙◌}
+use Rattle.std.proofs.Common.{◌≡◌, ℕ, ◌+◌, ◌<◌, Bool, true, false, cond, not, ◌&&◌, ◌||◌, List, [], ◌∷◌, map, reverse, length, take, get_or, refl, ap, ◌∙◌}
 use Rattle.std.proofs.lemmas.List.{take_more, reverse-append}
 use Rattle.mvn_version.specs.declared.token.Mark.TheVariants.{Dot}
 use Rattle.mvn_version.specs.declared.token.Token as code
@@ -45,6 +45,7 @@ module _ (t : Token) (ts : List Token) where
   -- neither a word of release nor a zero that trails
   pub standing : is_release text ≡ false → (is_zero text && zeros_trail (kept ts)) ≡ false
       → (elements (t ∷ ts) ≡ element full ∷ elements ts) × (zeros_trail (kept (t ∷ ts)) ≡ (not (is_number text) || not (is_dot t.mark)))
-  standing h z =
-      (ap (λ ks. map element (without_zeros ks)) (stays h) ∙ (λ j. map element (put_unless (z j) full (without_zeros (kept ts)))),
-        ap zeros_trail (stays h) ∙ (λ j. not (is_number text) || not (is_dot t.mark) || z j) ∙ or_false (not (is_number text) || not (is_dot t.mark)))
+  standing h z = (
+    ap (λ ks. map element (without_zeros ks)) (stays h) ∙ (λ j. map element (put_unless (z j) full (without_zeros (kept ts)))),
+    ap zeros_trail (stays h) ∙ (λ j. not (is_number text) || not (is_dot t.mark) || z j) ∙ or_false (not (is_number text) || not (is_dot t.mark)),
+  )

@@ -1,6 +1,6 @@
 -- The laws of the order of versions: a total preorder whose ties are equal keys, and in lists a total order of texts.
-use Rattle.std.specs.Prelude.{◌≡◌, ℕ, Bool, true, false, List, [], ◌∷◌, ◌++◌, bytes_eq}
-use Rattle.std.proofs.Common.{refl, sym, ap, ◌∙◌, subst}
+use Rattle.std.specs.Prelude.{◌≡◌, ℕ, List, [], ◌∷◌, bytes_eq}
+use Rattle.std.proofs.Common.{ap, ◌∙◌}
 use Rattle.std.proofs.lemmas.List.{append_cancel_right}
 use Rattle.std.proofs.lemmas.Slice.Eq.{bytes_eq-Decides}
 use Rattle.std.proofs.lemmas.Cmp.{on_total, then_total, lists_total, nat_list_cmp_total, tied_itself}
@@ -19,7 +19,7 @@ version_cmp_total = on_total (λ (v : List ℕ). ended (key v)) (lists_total nat
 pub version_cmp_ties : (v w : List ℕ) → version_cmp v w ≡ Equal → key v ≡ key w
 version_cmp_ties v w e =
     append_cancel_right (key v) (key w) (end_mark ∷ [])
-      (slice_cmp-IsAntisymmetric (slice_cmp-IsAntisymmetric nat_cmp-IsAntisymmetric) (ended (key v)) (ended (key w)) e)
+    (slice_cmp-IsAntisymmetric (slice_cmp-IsAntisymmetric nat_cmp-IsAntisymmetric) (ended (key v)) (ended (key w)) e)
 
 pub version_cmp_alike : (v w : List ℕ) → key v ≡ key w → version_cmp v w ≡ Equal
 version_cmp_alike v w e =
@@ -41,5 +41,5 @@ list_cmp_ties v w e =
 pub bytes_eq_ties : (v w : List ℕ) → bytes_eq v w ≡ eq_by_cmp list_cmp v w
 bytes_eq_ties v w =
     both_ways (bytes_eq v w) (eq_by_cmp list_cmp v w)
-      (λ e. ap is_eq ((λ i. list_cmp ((bytes_eq-Decides v w).0 e i) w) ∙ tied_itself list_cmp_total w))
-      (λ e. (bytes_eq-Decides v w).1 (list_cmp_ties v w ((Equal-is (list_cmp v w)).0 e)))
+    (λ e. ap is_eq ((λ i. list_cmp ((bytes_eq-Decides v w).0 e i) w) ∙ tied_itself list_cmp_total w))
+    (λ e. (bytes_eq-Decides v w).1 (list_cmp_ties v w ((Equal-is (list_cmp v w)).0 e)))

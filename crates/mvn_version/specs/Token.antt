@@ -1,5 +1,6 @@
 -- A version text cut into tokens (Maven, POM reference, "Version Order Specification", for any text).
-use Rattle.std.specs.Prelude.{ℕ, Bool, true, false, ◌&&◌, not, ◌==◌, is_none, Option, Some, None, List, [], ◌∷◌, map, if◌then◌else◌}
+use Rattle.std.specs.Prelude.{ℕ, Bool, true, false, ◌&&◌, ◌||◌, not, ◌==◌, is_none, Option, Some, None, List, [], ◌∷◌, ◌++◌, map, if◌then◌else◌}
+use Rattle.std.specs.List.{list_all}
 use Rattle.std.specs.Char.{is_ascii_digit, to_ascii_lowercase}
 use Rattle.mvn_version.specs.declared.token.Mark.{Mark}
 use Rattle.mvn_version.specs.declared.token.Mark.TheVariants.{Dot, Dash, Seam}
@@ -64,3 +65,41 @@ before c None false ts = longer c ts
 abbrev pub tokens : List ℕ → List Token
 tokens [] = dotted [] ∷ []
 tokens (c ∷ cs) = before c (separator_mark c) (seam_follows c cs) (tokens cs)
+
+-- the bytes that a mark stands for
+abbrev pub mark_bytes : Mark → List ℕ
+mark_bytes Dot = 46 ∷ []
+mark_bytes Dash = 45 ∷ []
+mark_bytes Seam = []
+
+-- tokens one after another, each behind its mark
+abbrev pub written : List Token → List ℕ
+written [] = []
+written (t ∷ ts) = mark_bytes t.mark ++ (t.text ++ written ts)
+
+-- the text that tokens are cut from: the first has no separator
+abbrev pub joined : List Token → List ℕ
+joined [] = []
+joined (t ∷ ts) = t.text ++ written ts
+
+abbrev pub is_letter : ℕ → Bool
+is_letter c = is_none (separator_mark c) && not (is_ascii_digit c)
+
+-- digits alone, or letters alone
+abbrev pub is_uniform : List ℕ → Bool
+is_uniform text = list_all is_ascii_digit text || list_all is_letter text
+
+-- one begins with a digit and the other with a letter
+abbrev pub alternate : List ℕ → List ℕ → Bool
+alternate [] v = false
+alternate (c ∷ u) [] = false
+alternate (c ∷ u) (d ∷ v) = if is_ascii_digit c then not (is_ascii_digit d) else is_ascii_digit d
+
+abbrev pub seam_fits : List ℕ → List Token → Bool
+seam_fits text [] = true
+seam_fits text (u ∷ ts) = not (is_seam u.mark) || alternate text u.text
+
+-- a seam stands only between digits and letters
+abbrev pub seams_fit : List Token → Bool
+seams_fit [] = true
+seams_fit (t ∷ ts) = seam_fits t.text ts && seams_fit ts

@@ -6,9 +6,8 @@ ghost use Rattle.mvn_version.specs.Key.{element, elements, full_word, is_number,
 ghost use Rattle.mvn_version.specs.Order.{end_mark, ended};
 ghost use Rattle.mvn_version.specs.Token.{shown as shown_token};
 
-use std::alloc::{AllocError, Global};
-
 use crate::token::{Mark, Token};
+use std::alloc::{AllocError, Global};
 
 /// The kinds of a key's elements, in rising order.
 #[derive(Clone, Copy, Debug, PartialEq, Eq, PartialOrd, Ord)]

@@ -1,12 +1,14 @@
 //! What holds of the order for all texts, and worked rows of it, as contracts of functions that do nothing.
 
-ghost use Rattle.std.specs.Prelude.{◌≡◌, ◌↔◌, ℕ, List, [], ◌∷◌, false, codes};
+ghost use Rattle.std.specs.Prelude.{◌≡◌, ◌↔◌, ℕ, List, [], ◌∷◌, true, false, codes};
+ghost use Rattle.std.specs.List.{list_all};
 ghost use Rattle.std.specs.Cmp.{IsTotalOrder};
 ghost use Rattle.std.specs.Ordering.{is_gt, ordering_reverse};
 ghost use Rattle.std.specs.declared.cmp.Ordering.TheVariants.{Less, Equal};
 ghost use Rattle.mvn_version.specs.declared.token.Mark.TheVariants.{Dot, Dash};
 ghost use Rattle.mvn_version.specs.Key.{key, number, word};
 ghost use Rattle.mvn_version.specs.Order.{list_cmp, version_cmp};
+ghost use Rattle.mvn_version.specs.Token.{is_uniform, joined, seams_fit, tokens};
 ghost use Rattle.mvn_version.specs.Worked.{AreAlike, IsRising};
 
 /// `compare` orders all texts, any two in one way, and ties those with equal keys.
@@ -18,16 +20,21 @@ pub fn version_laws()
     ensures antisymmetric { (v w : List ℕ)
         → is_gt (version_cmp v w) ≡ false → is_gt (version_cmp w v) ≡ false → key v ≡ key w }
     ensures ties { (v w : List ℕ) → (version_cmp v w ≡ Equal) ↔ (key v ≡ key w) }
-{
-}
+{}
 
 /// The order in lists goes by `compare`, and ties each text with itself alone.
 pub fn list_laws()
     ensures total { IsTotalOrder list_cmp }
     ensures ties { (v w : List ℕ) → (list_cmp v w ≡ Equal) ↔ (v ≡ w) }
     ensures below { (v w : List ℕ) → version_cmp v w ≡ Less → list_cmp v w ≡ Less }
-{
-}
+{}
+
+/// The tokens of a text put together are the text; each is digits or letters alone; seams stand between these alone.
+pub fn token_laws()
+    ensures joined { (text : List ℕ) → joined (tokens text) ≡ text }
+    ensures uniform { (text : List ℕ) → list_all (λ t. is_uniform t.text) (tokens text) ≡ true }
+    ensures seams { (text : List ℕ) → seams_fit (tokens text) ≡ true }
+{}
 
 /// Keys of versions.
 pub fn worked_keys()
@@ -48,8 +55,7 @@ pub fn worked_keys()
         ≡ number Dot (codes "1") ∷ number Dash [] ∷ number Dot (codes "1") ∷ [] }
     ensures empty_tokens { key (codes ".-x.")
         ≡ word (codes "x") ∷ [] }
-{
-}
+{}
 
 /// Comparisons of versions.
 pub fn worked_order()
@@ -62,5 +68,4 @@ pub fn worked_order()
     ensures candidates { AreAlike (codes "1-cr" ∷ codes "1-rc" ∷ codes "1_RC" ∷ []) }
     ensures leading_zeros { AreAlike (codes "1.7" ∷ codes "1.000000000000000000000000000007" ∷ []) }
     ensures long_numbers { IsRising (codes "99999999999999999999" ∷ codes "100000000000000000000" ∷ []) }
-{
-}
+{}

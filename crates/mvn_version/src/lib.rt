@@ -1,8 +1,14 @@
-//! Maven's version order: versions are parsed once and compared without memory.
+//! Maven's version order (POM reference, "Version Order Specification"), for any text. A version is parsed once, in
+//! time linear in its text, and compared without memory. Where releases of Maven differ from one another, the
+//! definition of a key in `specs/Key.antt` decides.
 #![tactic(auto)]
 
 mod element;
 pub mod laws;
+#[cfg(test)]
+mod plain;
+#[cfg(test)]
+mod tests;
 mod token;
 mod version;
 

@@ -38,7 +38,11 @@ pub struct Token<'a> {
 fn folded_byte(c: u8) -> u8
     ensures { result ≡ folded_byte c }
 {
-    if c == b'_' { b'-' } else { c.to_ascii_lowercase() }
+    if c == b'_' {
+        b'-'
+    } else {
+        c.to_ascii_lowercase()
+    }
 }
 
 /// The text without regard to case, with `_` read as `-`.

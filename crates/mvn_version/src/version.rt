@@ -8,17 +8,16 @@ ghost use Rattle.std.specs.Ordering.{as_partial_cmp};
 ghost use Rattle.mvn_version.specs.Laws.{bytes_eq_ties, list_cmp_total};
 ghost use Rattle.mvn_version.specs.Order.{list_cmp, version_cmp};
 
+use crate::element::{Element, elements};
+use crate::token::{folded, tokens};
 use std::alloc::{AllocError, Global};
 use std::cmp::Ordering;
 use std::marker::Model;
 
-use crate::element::{Element, elements};
-use crate::token::{folded, tokens};
-
 /// There was no memory left.
 pub type NoMemory = AllocError;
 
-/// A version text with its key. Contracts see it as the bytes of the text.
+/// A version: a text, kept as it is, and its key. Contracts see the bytes of the text, so `==` is that of texts.
 #[derive(Debug, Drop)]
 pub struct Version {
     text: String,
@@ -58,7 +57,8 @@ impl Version {
     }
 }
 
-/// The order of the keys.
+/// Maven's order of two versions, which is that of their keys: a total preorder, in which versions such as `1` and
+/// `1.0` are equal (`laws::version_laws`). It takes no memory.
 pub fn compare(left: &Version, right: &Version) -> Ordering
     ensures { result ≡ version_cmp left.now right.now }
 {
@@ -79,7 +79,7 @@ impl Eq for Version {
     ghost laws = { nat_list_eq_equiv };
 }
 
-/// The order in lists of versions: that of `compare`, and where it tells no difference that of the texts' bytes.
+/// The order in lists of versions: that of `compare`, and where it answers `Equal` the byte order of the texts.
 impl Ord for Version {
     ghost cmp = { list_cmp };
 

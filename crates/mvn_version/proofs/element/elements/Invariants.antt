@@ -1,4 +1,4 @@
-use Rattle.std.proofs.Common.{◌≡◌, ◌≤◌, map, reverse, length}
+use Rattle.std.proofs.Common.{◌≡◌, map, reverse}
 use Rattle.mvn_version.specs.Element.{shown}
 use Rattle.mvn_version.specs.Key.{elements, is_joined, zeros_trail}
 use Rattle.mvn_version.specs.Order.{ended}

@@ -1,3 +1,4 @@
+-- The laws of the order of keys and then of texts.
 use Rattle.std.proofs.Common.{◌∙◌}
 use Rattle.std.proofs.lemmas.Cmp.{tied_itself}
 use Rattle.mvn_version.specs.Laws.{list_cmp_ties, list_cmp_total}

@@ -1,3 +1,4 @@
+-- The laws of the order of keys, which is one of lists of lists.
 use Rattle.std.proofs.Common.{◌≡◌, false, refl, sym, ap, ◌∙◌}
 use Rattle.std.proofs.lemmas.Cmp.{tied_itself, upto}
 use Rattle.std.specs.Ordering.{is_gt, ordering_reverse}

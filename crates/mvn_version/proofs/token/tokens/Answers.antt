@@ -1,3 +1,4 @@
+-- The iterations that cut at a seam and that cut nowhere.
 use Rattle.std.proofs.Common.{◌-◌, ◌∙◌, sym, arith}
 use Rattle.std.proofs.lemmas.List.{reverse-append}
 use Rattle.mvn_version.proofs.Cutting.{cut_seam, cut_inside}
@@ -9,7 +10,7 @@ loop-i-preserved-then-seam_follows c = record {
   within = omega arith;
   cut = rw (c.in_ok-push-2.ensures.items, reverse-append)
       (cut_seam c.args.text.now (c.loop-i.i - 1) c.loop-i.i c.loop-i.end _ (omega arith) (omega arith)
-        (sym c.in_default.ensures) c.loop-i.invariant.cut (sym c.seam_follows.ensures ∙ c.if-seam_follows.true));
+      (sym c.in_default.ensures) c.loop-i.invariant.cut (sym c.seam_follows.ensures ∙ c.if-seam_follows.true));
 }
 
 pub loop-i-preserved : goal.loop-i-preserved
