@@ -1,0 +1,4 @@
+pub mod Compared
+pub mod Cutting
+pub mod Gathering
+pub mod TokenLaws
