@@ -1,0 +1,108 @@
+//! The laws of the machine. No function here has code: its contract is the law.
+
+ghost use Rattle.std.specs.Prelude.{◌≡◌, ◌≢◌, ◌≤◌, ℕ, List, ◌++◌, map, Some, Option, IsTrue, All};
+ghost use Rattle.std.specs.List.Sorted.{IsNonDecreasing};
+ghost use Rattle.std.specs.List.{AllZip};
+ghost use Rattle.outside.specs.Moments.{Moments};
+ghost use Rattle.repo_model.specs.Data.{Row, Blob, Settings};
+ghost use Rattle.repo_model.specs.State.{State, opening, condemned_draft};
+ghost use Rattle.repo_model.specs.Yard.{IsOrderly};
+ghost use Rattle.repo_model.specs.Command.{put};
+ghost use Rattle.repo_model.specs.Reply.{created, relisted, taken};
+ghost use Rattle.repo_model.specs.Step.{latest_moment, ticked, with_yard};
+ghost use Rattle.repo_model.specs.History.{Entry, Fits, Legal, after, end};
+ghost use Rattle.repo_model.specs.Laws.{FadingAreSnapshots, KeepsReleases, is_refusal, AsksAlike, moments_of};
+
+/// A turn keeps each row of a release with every field the same, where only rows of snapshots fade, and it lets no other row fade.
+pub fn releases_stay_in_a_step()
+    ensures kept {
+        (settings : Settings) (old : State) (e : Entry) →
+        FadingAreSnapshots old → Fits settings old e → KeepsReleases old (after old e)
+    }
+    ensures fading {
+        (settings : Settings) (old : State) (e : Entry) →
+        FadingAreSnapshots old → Fits settings old e → FadingAreSnapshots (after old e)
+    }
+    ensures opening {
+        (settings : Settings) (clock : Option Moments) → FadingAreSnapshots (opening settings clock)
+    }
+{
+}
+
+/// A row of a release stands for good, with every field the same, in every legal history from the opening state.
+pub fn releases_stay()
+    ensures {
+        (settings : Settings) (clock : Option Moments) (before later : List Entry) →
+        let start = opening settings clock in
+        Legal settings start (before ++ later) → KeepsReleases (end start before) (end start (before ++ later))
+    }
+{
+}
+
+/// A turn keeps the yard in order, and it is in order at the opening.
+pub fn one_place_in_a_step()
+    ensures kept {
+        (settings : Settings) (old : State) (e : Entry) →
+        IsOrderly old → Fits settings old e → IsOrderly (after old e)
+    }
+    ensures opening {
+        (settings : Settings) (clock : Option Moments) → IsOrderly (opening settings clock)
+    }
+{
+}
+
+/// A blob number stands in one place at most, in every legal history from the opening state.
+pub fn one_place()
+    ensures {
+        (settings : Settings) (clock : Option Moments) (entries : List Entry) →
+        let start = opening settings clock in Legal settings start entries → IsOrderly (end start entries)
+    }
+{
+}
+
+/// A command that is refused changes nothing but the moment. `taken` condemns the draft besides.
+/// Rows change only where a file is created or listed again.
+pub fn refusals_change_nothing()
+    ensures refused {
+        (settings : Settings) (old : State) (e : Entry) →
+        Fits settings old e → IsTrue (is_refusal e.reply) → after old e ≡ ticked old e.moment
+    }
+    ensures taken {
+        (settings : Settings) (old : State) (e : Entry) (repo path : List ℕ) (draft : ℕ) (blob : Blob) (kept sent : _) →
+        Fits settings old e → e.command ≡ put repo path draft blob → e.reply ≡ taken kept sent →
+        after old e ≡ with_yard (condemned_draft draft) (ticked old e.moment)
+    }
+    ensures rows {
+        (settings : Settings) (old : State) (e : Entry) →
+        Fits settings old e → e.reply ≢ created → e.reply ≢ relisted → (after old e).hosted ≡ old.hosted
+    }
+{
+}
+
+/// Two legal histories from one state that ask alike have the same replies and the same end.
+pub fn replies_are_determined()
+    ensures replies {
+        (settings : Settings) (start : State) (one other : List Entry) →
+        Legal settings start one → Legal settings start other → AllZip AsksAlike one other →
+        map (λ e. e.reply) one ≡ map (λ e. e.reply) other
+    }
+    ensures ends {
+        (settings : Settings) (start : State) (one other : List Entry) →
+        Legal settings start one → Legal settings start other → AllZip AsksAlike one other →
+        end start one ≡ end start other
+    }
+{
+}
+
+/// The moments of a legal history never fall, and none is later than the latest moment, where the last one before is not.
+pub fn moments_rise()
+    ensures rising {
+        (settings : Settings) (start : State) (entries : List Entry) →
+        Legal settings start entries → IsNonDecreasing (moments_of start entries)
+    }
+    ensures capped {
+        (settings : Settings) (start : State) (entries : List Entry) →
+        Legal settings start entries → start.last ≤ latest_moment → All (λ moment. moment ≤ latest_moment) (moments_of start entries)
+    }
+{
+}

@@ -1,0 +1,60 @@
+-- The moments of a legal history never fall, nor pass the latest moment.
+use Rattle.std.proofs.Common.{◌≡◌, ℕ, zero, suc, ◌<◌, ◌≤◌, min, max, List, [], ◌∷◌, map, length, get_or, Option, Some, None, refl, sym, subst, arith}
+use Rattle.std.specs.Prelude.{All, MatchOption}
+use Rattle.std.specs.List.Sorted.{IsNonDecreasing}
+use Rattle.std.proofs.lemmas.List.Elements.{All-nil, All-cons}
+use Rattle.std.proofs.lemmas.List.Sorted.{IsNonDecreasingBy-short}
+use Rattle.outside.specs.Moments.{Moments}
+use Rattle.repo_model.specs.Data.{Settings}
+use Rattle.repo_model.specs.State.{State}
+use Rattle.repo_model.specs.Step.{latest_moment, MomentFits}
+use Rattle.repo_model.specs.History.{Entry, Fits, after, Legal}
+use Rattle.repo_model.specs.Laws.{moments_of}
+use Rattle.repo_model.proofs.Turns.{Change, rests, lends, returns, draws, creates, relists, condemns, turned}
+
+-- the moment of a turn becomes the last one
+last_of : (old : State) (moment : ℕ) (new : State) → Change old moment new → new.last ≡ moment
+last_of old moment new rests = refl
+last_of old moment new (lends repo path row is) = refl
+last_of old moment new (returns lease) = refl
+last_of old moment new draws = refl
+last_of old moment new (creates repo path n blob among number none) = refl
+last_of old moment new (relists repo path n row since among is fades) = refl
+last_of old moment new (condemns n among) = refl
+
+last-after : (settings : Settings) (old : State) (e : Entry) → Fits settings old e → (after old e).last ≡ e.moment
+last-after settings old e fits = last_of old e.moment (after old e) (turned settings old e fits)
+
+-- a moment that fits is no earlier than the last one, and no later than both it and the latest
+bounded : (last moment : ℕ) (clock : Option Moments) →
+    MatchOption clock ((last ≤ moment) × (moment ≤ latest_moment)) (λ left. moment ≡ max last (min latest_moment left.next)) →
+    (last ≤ moment) × (moment ≤ max last latest_moment)
+bounded last moment None fits = (fits.0, omega (arith, fits.1))
+bounded last moment (Some left) fits = (omega (arith, fits), omega (arith, fits))
+
+rises : (first second : ℕ) (rest : List ℕ) → first ≤ second → IsNonDecreasing (second ∷ rest) → IsNonDecreasing (first ∷ second ∷ rest)
+rises first second rest up rising zero zero d le lt = omega arith
+rises first second rest up rising zero (suc j) d le lt =
+    let later : second ≤ get_or (second ∷ rest) j d = rising 0 j d (omega arith) (omega arith) in omega (arith, later)
+rises first second rest up rising (suc i) zero d le lt = absurd (omega arith)
+rises first second rest up rising (suc i) (suc j) d le lt = rising i j d (omega arith) (omega arith)
+
+pub moments-rising : (settings : Settings) (start : State) (entries : List Entry) → Legal settings start entries →
+    IsNonDecreasing (moments_of start entries)
+moments-rising settings start [] legal = IsNonDecreasingBy-short (λ (n : ℕ). n) (start.last ∷ []) (omega arith)
+moments-rising settings start (e ∷ entries) legal =
+    let rest : IsNonDecreasing (e.moment ∷ map (λ x. x.moment) entries) =
+        subst (λ (m : ℕ). IsNonDecreasing (m ∷ map (λ (x : Entry). x.moment) entries)) (last-after settings start e legal.0)
+            (moments-rising settings (after start e) entries legal.1) in
+    rises start.last e.moment (map (λ x. x.moment) entries) (bounded start.last e.moment start.clock legal.0.moment).0 rest
+
+pub moments-capped : (settings : Settings) (start : State) (entries : List Entry) → Legal settings start entries → start.last ≤ latest_moment →
+    All (λ moment. moment ≤ latest_moment) (moments_of start entries)
+moments-capped settings start [] legal cap = All-cons (λ moment. moment ≤ latest_moment) start.last [] cap (All-nil (λ moment. moment ≤ latest_moment))
+moments-capped settings start (e ∷ entries) legal cap =
+    let P : ℕ → Type 0 = λ moment. moment ≤ latest_moment in
+    let later = map (λ (x : Entry). x.moment) entries in
+    let here : P e.moment = omega (arith, (bounded start.last e.moment start.clock legal.0.moment).1) in
+    let is = last-after settings start e legal.0 in
+    let rest = moments-capped settings (after start e) entries legal.1 (subst P (sym is) here) in
+    All-cons P start.last (e.moment ∷ later) cap (subst (λ (m : ℕ). All P (m ∷ later)) is rest)

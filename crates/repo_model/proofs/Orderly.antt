@@ -1,0 +1,147 @@
+-- The yard stays in order: each change of the state leaves a blob number in one place at most.
+use Rattle.std.proofs.Common.{◌≡◌, ℕ, ◌+◌, ◌<◌, ◌≤◌, Bool, true, false, cond, ◌⊎◌, inl, inr, List, [], ◌∷◌, ◌++◌, map, length, Option, Some, None, refl, sym, ◌∙◌, ap, subst, arith}
+use Rattle.std.specs.Prelude.{◌==◌, not, All, count_by, sum_by}
+use Rattle.std.proofs.lemmas.Bool.{eq-eqb, ne_eqb, cases_eq, cases_lt}
+use Rattle.std.proofs.lemmas.List.Elements.{All-nil, All-push, All-filter, All-weaker}
+use Rattle.outside.specs.Moments.{Moments}
+use Rattle.repo_model.specs.Data.{Row, Blob, Policy, Settings}
+use Rattle.repo_model.specs.State.{State, Hosted, Lease, Yard, row_at, rows_of, with_rows, with_row, relisted, with_number, without_number, is_among, condemned_draft, kept_draft, drawn_draft, leased, given_back, empty_hosted, opening}
+use Rattle.repo_model.specs.Step.{ticked, with_yard, with_rows_of, new_row}
+use Rattle.repo_model.specs.History.{Entry, Fits, after}
+use Rattle.repo_model.specs.Yard.{count_of, rows_with, places_of, IsOrderly}
+use Rattle.repo_model.proofs.Turns.{Change, rests, lends, returns, draws, creates, relists, condemns, turned}
+use Rattle.repo_model.proofs.Counts.{one_if, names, count_of-cons, count_of-push, count_of-with_number, count_of-without_number, count_of-without_other, is_among-counts, count_by-with_row, count_by-relisted, rows_with-cons, rows_with-with_rows, rows_with-row_at}
+
+-- a draft that is taken away makes room for its number in another place
+draft_moves : (k n : ℕ) (drafts : List ℕ) → is_among n drafts ≡ true → count_of k (without_number n drafts) + one_if (n == k) ≤ count_of k drafts
+draft_moves k n drafts among =
+    elim (cases_eq n k) as (λ _. count_of k (without_number n drafts) + one_if (n == k) ≤ count_of k drafts)
+        [ inl same ↦ subst (λ (j : ℕ). count_of j (without_number n drafts) + one_if (n == j) ≤ count_of j drafts) same
+            (let one : one_if (n == n) ≡ 1 = ap one_if (eq-eqb n n refl) in
+            omega (arith, count_of-without_number n drafts, is_among-counts n drafts among, one))
+        | inr other ↦
+            let none : one_if (n == k) ≡ 0 = ap one_if (ne_eqb n k other) in
+            omega (arith, count_of-without_other k n drafts other, none)
+        ]
+
+-- a blob that is a row's or condemned
+abbrev IsHeld : State → Lease → Type 0
+IsHeld s lease = 0 < rows_with lease.blob s.hosted + count_of lease.blob s.yard.condemned
+
+-- what stands in order does so after numbers only left the drafts, each for at most one other place
+module _ (old new : State) (order : IsOrderly old) where
+  moved : new.yard.next_draft ≡ old.yard.next_draft → new.yard.leases ≡ old.yard.leases →
+      ((k : ℕ) → places_of k new ≤ places_of k old) →
+      ((k : ℕ) → rows_with k old.hosted + count_of k old.yard.condemned ≤ rows_with k new.hosted + count_of k new.yard.condemned) →
+      IsOrderly new
+  moved next leases fewer held = record {
+    one_place = λ k. omega (arith, fewer k, order.one_place k);
+    drawn = λ k stands. let there : 0 < places_of k old = omega (arith, fewer k) in
+        ((order.drawn k there).0, omega (arith, (order.drawn k there).1, next));
+    begun = omega (arith, order.begun, next);
+    leased = subst (λ (ls : List Lease). All (IsHeld new) ls) (sym leases)
+        (All-weaker (IsHeld old) (IsHeld new) (λ lease is. omega (arith, held lease.blob)) old.yard.leases order.leased);
+  }
+
+drawn_in_order : (old : State) (moment : ℕ) → IsOrderly old → IsOrderly (with_yard drawn_draft (ticked old moment))
+drawn_in_order old moment order =
+    let new = with_yard drawn_draft (ticked old moment) in
+    let next = old.yard.next_draft in
+    let unused : places_of next old ≡ 0 =
+        elim (cases_lt 0 (places_of next old)) as (λ _. places_of next old ≡ 0)
+            [ inl stands ↦ absurd (omega (arith, (order.drawn next stands).1)) | inr none ↦ omega arith ] in
+    let more = λ (k : ℕ). count_of-push k old.yard.drafts next in
+    let places : (k : ℕ) → ((next ≡ k) × (places_of k new ≡ 1)) ⊎ (places_of k new ≡ places_of k old) =
+        λ k. elim (cases_eq next k) as (λ _. ((next ≡ k) × (places_of k new ≡ 1)) ⊎ (places_of k new ≡ places_of k old))
+            [ inl same ↦
+                let one : one_if (next == k) ≡ 1 = ap one_if (eq-eqb next k same) in
+                let none : places_of k old ≡ 0 = subst (λ (j : ℕ). places_of j old ≡ 0) same unused in
+                inl (same, omega (arith, more k, one, none))
+            | inr other ↦
+                let zero : one_if (next == k) ≡ 0 = ap one_if (ne_eqb next k other) in
+                inr (omega (arith, more k, zero))
+            ] in
+    record {
+      one_place = λ k. elim (places k) as (λ _. places_of k new ≤ 1)
+          [ inl here ↦ omega (arith, here.1) | inr same ↦ omega (arith, same, order.one_place k) ];
+      drawn = λ k stands. elim (places k) as (λ _. (0 < k) × (k < next + 1))
+          [ inl here ↦ (omega (arith, here.0, order.begun), omega (arith, here.0))
+          | inr same ↦
+              let there : 0 < places_of k old = omega (arith, same, stands) in
+              ((order.drawn k there).0, omega (arith, (order.drawn k there).1))
+          ];
+      begun = omega (arith, order.begun);
+      leased = order.leased;
+    }
+
+condemned_in_order : (old : State) (moment n : ℕ) → IsOrderly old → is_among n old.yard.drafts ≡ true →
+    IsOrderly (with_yard (condemned_draft n) (ticked old moment))
+condemned_in_order old moment n order among =
+    moved old (with_yard (condemned_draft n) (ticked old moment)) order refl refl
+        (λ k. omega (arith, draft_moves k n old.yard.drafts among, count_of-with_number k n old.yard.condemned))
+        (λ k. omega (arith, count_of-with_number k n old.yard.condemned))
+
+relisted_in_order : (old : State) (moment : ℕ) (repo path : List ℕ) (n : ℕ) → IsOrderly old → is_among n old.yard.drafts ≡ true →
+    IsOrderly (with_rows_of repo (relisted path moment) (with_yard (condemned_draft n) (ticked old moment)))
+relisted_in_order old moment repo path n order among =
+    let rows = rows_of repo old.hosted in
+    let same = λ (k : ℕ). rows_with-with_rows k 0 repo (relisted path moment rows) old.hosted (let e = count_by-relisted k path moment rows in omega (arith, e)) in
+    moved old (with_rows_of repo (relisted path moment) (with_yard (condemned_draft n) (ticked old moment))) order refl refl
+        (λ k. omega (arith, draft_moves k n old.yard.drafts among, count_of-with_number k n old.yard.condemned, (same k).1))
+        (λ k. omega (arith, count_of-with_number k n old.yard.condemned, (same k).0))
+
+created_in_order : (old : State) (moment : ℕ) (repo path : List ℕ) (n : ℕ) (blob : Blob) → IsOrderly old →
+    is_among n old.yard.drafts ≡ true → blob.number ≡ n →
+    IsOrderly (with_rows_of repo (with_row (new_row path blob moment)) (with_yard (kept_draft n) (ticked old moment)))
+created_in_order old moment repo path n blob order among number =
+    let rows = rows_of repo old.hosted in
+    let row = new_row path blob moment in
+    let one = λ (k : ℕ). ap (λ (m : ℕ). one_if (m == k)) number in
+    let more = λ (k : ℕ). rows_with-with_rows k (one_if (blob.number == k)) repo (with_row row rows) old.hosted (count_by-with_row (names k) row rows) in
+    moved old (with_rows_of repo (with_row row) (with_yard (kept_draft n) (ticked old moment))) order refl refl
+        (λ k. omega (arith, draft_moves k n old.yard.drafts among, one k, (more k).1))
+        (λ k. omega (arith, (more k).0))
+
+lent_in_order : (old : State) (moment : ℕ) (repo path : List ℕ) (row : Row) → IsOrderly old →
+    row_at path (rows_of repo old.hosted) ≡ Some row → IsOrderly (with_yard (leased row.blob.number) (ticked old moment))
+lent_in_order old moment repo path row order is =
+    let lease : Lease = record { number = old.yard.next_lease; blob = row.blob.number } in
+    record {
+      one_place = order.one_place;
+      drawn = order.drawn;
+      begun = order.begun;
+      leased = All-push (IsHeld old) old.yard.leases lease order.leased (omega (arith, rows_with-row_at repo path old.hosted row is));
+    }
+
+returned_in_order : (old : State) (moment lease : ℕ) → IsOrderly old → IsOrderly (with_yard (given_back lease) (ticked old moment))
+returned_in_order old moment lease order = record {
+  one_place = order.one_place;
+  drawn = order.drawn;
+  begun = order.begun;
+  leased = All-filter (λ l. not (l.number == lease)) (IsHeld old) old.yard.leases order.leased;
+}
+
+orderly_kept : (old : State) (moment : ℕ) (new : State) → IsOrderly old → Change old moment new → IsOrderly new
+orderly_kept old moment new order rests = record { one_place = order.one_place; drawn = order.drawn; begun = order.begun; leased = order.leased }
+orderly_kept old moment new order (lends repo path row is) = lent_in_order old moment repo path row order is
+orderly_kept old moment new order (returns lease) = returned_in_order old moment lease order
+orderly_kept old moment new order draws = drawn_in_order old moment order
+orderly_kept old moment new order (creates repo path n blob among number none) = created_in_order old moment repo path n blob order among number
+orderly_kept old moment new order (relists repo path n row since among is fades) = relisted_in_order old moment repo path n order among
+orderly_kept old moment new order (condemns n among) = condemned_in_order old moment n order among
+
+pub orderly-after : (settings : Settings) (old : State) (e : Entry) → IsOrderly old → Fits settings old e → IsOrderly (after old e)
+orderly-after settings old e order fits = orderly_kept old e.moment (after old e) order (turned settings old e fits)
+
+no_rows : (n : ℕ) (policies : List Policy) → rows_with n (map empty_hosted policies) ≡ 0
+no_rows n [] = refl
+no_rows n (policy ∷ policies) =
+    omega (arith, rows_with-cons n (empty_hosted policy) (map empty_hosted policies), no_rows n policies)
+
+pub orderly-opening : (settings : Settings) (clock : Option Moments) → IsOrderly (opening settings clock)
+orderly-opening settings clock = record {
+  one_place = λ k. omega (arith, no_rows k settings.hosted);
+  drawn = λ k stands. absurd (omega (arith, no_rows k settings.hosted));
+  begun = omega arith;
+  leased = All-nil (IsHeld (opening settings clock));
+}
