@@ -1,6 +1,6 @@
 -- How often a blob number stands in the drafts, in the rows and among the condemned, after each change of them.
 use Rattle.std.proofs.Common.{◌≡◌, ℕ, ◌+◌, ◌<◌, ◌≤◌, Bool, true, false, not, cond, ◌||◌, List, [], ◌∷◌, ◌++◌, Option, Some, None, refl, sym, ◌∙◌, ap, subst, arith, eqb-true}
-use Rattle.std.specs.Prelude.{◌==◌, nat_lt, sum_by, count_by}
+use Rattle.std.specs.Prelude.{◌==◌, nat_lt, sum_by, count_by, filter}
 use Rattle.std.specs.Str.{bytes_eq}
 use Rattle.std.specs.Ordering.{nat_cmp, match_ordering}
 use Rattle.std.specs.declared.cmp.Ordering.TheVariants.{Less, Equal, Greater}
@@ -140,3 +140,13 @@ pub rows_with-row_at : (repo path : List ℕ) (hosted : List Hosted) (row : Row)
     0 < rows_with row.blob.number hosted
 rows_with-row_at repo path hosted row is =
     omega (arith, count_by-row_at path (rows_of repo hosted) row is, count_by-rows_of row.blob.number repo hosted)
+
+-- a filter keeps no more
+pub count_by-filter : {X : Type 0} (p q : X → Bool) (xs : List X) → count_by p (filter q xs) ≤ count_by p xs
+count_by-filter p q [] = omega arith
+count_by-filter {X} p q (x ∷ xs) =
+    let f : X → ℕ = λ y. one_if (p y) in
+    let fewer = count_by-filter p q xs in
+    let more = sum_by-cons f x xs in
+    elim (q x) as (λ b. count_by p (cond b (x ∷ filter q xs) (filter q xs)) ≤ count_by p (x ∷ xs))
+        [ true ↦ omega (arith, more, fewer, sum_by-cons f x (filter q xs)) | false ↦ omega (arith, more, fewer) ]

@@ -15,9 +15,9 @@ use Rattle.repo_model.proofs.Turns.{Change, rests, lends, returns, draws, create
 -- the moment of a turn becomes the last one
 last_of : (old : State) (moment : ℕ) (new : State) → Change old moment new → new.last ≡ moment
 last_of old moment new rests = refl
-last_of old moment new (lends repo path row is) = refl
+last_of old moment new (lends repo path row is below) = refl
 last_of old moment new (returns lease) = refl
-last_of old moment new draws = refl
+last_of old moment new (draws below) = refl
 last_of old moment new (creates repo path n blob among number none) = refl
 last_of old moment new (relists repo path n row since among is fades) = refl
 last_of old moment new (condemns n among) = refl

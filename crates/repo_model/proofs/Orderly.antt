@@ -3,14 +3,16 @@ use Rattle.std.proofs.Common.{◌≡◌, ℕ, ◌+◌, ◌<◌, ◌≤◌, Bool,
 use Rattle.std.specs.Prelude.{◌==◌, not, All, count_by, sum_by}
 use Rattle.std.proofs.lemmas.Bool.{eq-eqb, ne_eqb, cases_eq, cases_lt}
 use Rattle.std.proofs.lemmas.List.Elements.{All-nil, All-push, All-filter, All-weaker}
+use Rattle.std.proofs.lemmas.List.Sums.{sum_by_push}
 use Rattle.outside.specs.Moments.{Moments}
 use Rattle.repo_model.specs.Data.{Row, Blob, Policy, Settings}
 use Rattle.repo_model.specs.State.{State, Hosted, Lease, Yard, row_at, rows_of, with_rows, with_row, relisted, with_number, without_number, is_among, condemned_draft, kept_draft, drawn_draft, leased, given_back, empty_hosted, opening}
 use Rattle.repo_model.specs.Step.{ticked, with_yard, with_rows_of, new_row}
 use Rattle.repo_model.specs.History.{Entry, Fits, after}
-use Rattle.repo_model.specs.Yard.{count_of, rows_with, places_of, IsOrderly}
+use Rattle.repo_model.specs.Yard.{count_of, rows_with, places_of, leases_of, AreDrawnOnce, IsOrderly}
+use Rattle.repo_model.specs.Command.{number_end}
 use Rattle.repo_model.proofs.Turns.{Change, rests, lends, returns, draws, creates, relists, condemns, turned}
-use Rattle.repo_model.proofs.Counts.{one_if, names, count_of-cons, count_of-push, count_of-with_number, count_of-without_number, count_of-without_other, is_among-counts, count_by-with_row, count_by-relisted, rows_with-cons, rows_with-with_rows, rows_with-row_at}
+use Rattle.repo_model.proofs.Counts.{one_if, names, count_of-cons, count_of-push, count_of-with_number, count_of-without_number, count_of-without_other, is_among-counts, count_by-with_row, count_by-relisted, rows_with-cons, rows_with-with_rows, rows_with-row_at, count_by-filter}
 
 -- a draft that is taken away makes room for its number in another place
 draft_moves : (k n : ℕ) (drafts : List ℕ) → is_among n drafts ≡ true → count_of k (without_number n drafts) + one_if (n == k) ≤ count_of k drafts
@@ -28,56 +30,77 @@ draft_moves k n drafts among =
 abbrev IsHeld : State → Lease → Type 0
 IsHeld s lease = 0 < rows_with lease.blob s.hosted + count_of lease.blob s.yard.condemned
 
--- what stands in order does so after numbers only left the drafts, each for at most one other place
-module _ (old new : State) (order : IsOrderly old) where
-  moved : new.yard.next_draft ≡ old.yard.next_draft → new.yard.leases ≡ old.yard.leases →
-      ((k : ℕ) → places_of k new ≤ places_of k old) →
-      ((k : ℕ) → rows_with k old.hosted + count_of k old.yard.condemned ≤ rows_with k new.hosted + count_of k new.yard.condemned) →
-      IsOrderly new
-  moved next leases fewer held = record {
-    one_place = λ k. omega (arith, fewer k, order.one_place k);
-    drawn = λ k stands. let there : 0 < places_of k old = omega (arith, fewer k) in
-        ((order.drawn k there).0, omega (arith, (order.drawn k there).1, next));
-    begun = omega (arith, order.begun, next);
-    leased = subst (λ (ls : List Lease). All (IsHeld new) ls) (sym leases)
-        (All-weaker (IsHeld old) (IsHeld new) (λ lease is. omega (arith, held lease.blob)) old.yard.leases order.leased);
+module _ (times later : ℕ → ℕ) (next : ℕ) (order : AreDrawnOnce times next) where
+  -- numbers that stand no more often than before
+  fewer_drawn : ((n : ℕ) → later n ≤ times n) → AreDrawnOnce later next
+  fewer_drawn fewer = record {
+    once = λ n. omega (arith, fewer n, order.once n);
+    drawn = λ n stands. order.drawn n (omega (arith, fewer n));
+    begun = order.begun;
+    capped = order.capped;
   }
 
-drawn_in_order : (old : State) (moment : ℕ) → IsOrderly old → IsOrderly (with_yard drawn_draft (ticked old moment))
-drawn_in_order old moment order =
+  unused : times next ≡ 0
+  unused = elim (cases_lt 0 (times next)) as (λ _. times next ≡ 0)
+      [ inl stands ↦ absurd (omega (arith, (order.drawn next stands).1)) | inr none ↦ omega arith ]
+
+  -- the next number is drawn
+  next_drawn : (next ≡ number_end → ⊥) → ((n : ℕ) → later n ≡ times n + one_if (next == n)) → AreDrawnOnce later (next + 1)
+  next_drawn below more =
+      let Cases : ℕ → Type 0 = λ n. ((next ≡ n) × (later n ≡ 1)) ⊎ (later n ≡ times n) in
+      let cases : (n : ℕ) → Cases n = λ n. elim (cases_eq next n) as (λ _. Cases n)
+          [ inl same ↦
+              let one : one_if (next == n) ≡ 1 = ap one_if (eq-eqb next n same) in
+              let none : times n ≡ 0 = subst (λ (k : ℕ). times k ≡ 0) same unused in
+              inl (same, omega (arith, more n, one, none))
+          | inr other ↦
+              let zero : one_if (next == n) ≡ 0 = ap one_if (ne_eqb next n other) in
+              inr (omega (arith, more n, zero))
+          ] in
+      record {
+        once = λ n. elim (cases n) as (λ _. later n ≤ 1) [ inl here ↦ omega (arith, here.1) | inr same ↦ omega (arith, same, order.once n) ];
+        drawn = λ n stands. elim (cases n) as (λ _. (0 < n) × (n < next + 1))
+            [ inl here ↦ (omega (arith, here.0, order.begun), omega (arith, here.0))
+            | inr same ↦
+                let there : 0 < times n = omega (arith, same, stands) in
+                ((order.drawn n there).0, omega (arith, (order.drawn n there).1))
+            ];
+        begun = omega (arith, order.begun);
+        capped = omega (arith, below, order.capped);
+      }
+
+-- what stands in order does so after numbers only left the drafts, each for at most one other place
+moved : (old new : State) → IsOrderly old → new.yard.next_draft ≡ old.yard.next_draft →
+    new.yard.leases ≡ old.yard.leases → new.yard.next_lease ≡ old.yard.next_lease →
+    ((k : ℕ) → places_of new k ≤ places_of old k) →
+    ((k : ℕ) → rows_with k old.hosted + count_of k old.yard.condemned ≤ rows_with k new.hosted + count_of k new.yard.condemned) →
+    IsOrderly new
+moved old new order next leases next_lease fewer held = record {
+  places = subst (AreDrawnOnce (places_of new)) (sym next)
+      (fewer_drawn (places_of old) (places_of new) old.yard.next_draft order.places fewer);
+  leases = subst (AreDrawnOnce (leases_of new)) (sym next_lease)
+      (fewer_drawn (leases_of old) (leases_of new) old.yard.next_lease order.leases
+          (λ n. let same : leases_of new n ≡ leases_of old n = ap (count_by (λ (l : Lease). l.number == n)) leases in omega (arith, same)));
+  held = subst (λ (ls : List Lease). All (IsHeld new) ls) (sym leases)
+      (All-weaker (IsHeld old) (IsHeld new) (λ lease is. omega (arith, held lease.blob)) old.yard.leases order.held);
+}
+
+drawn_in_order : (old : State) (moment : ℕ) → IsOrderly old → (old.yard.next_draft ≡ number_end → ⊥) →
+    IsOrderly (with_yard drawn_draft (ticked old moment))
+drawn_in_order old moment order below =
     let new = with_yard drawn_draft (ticked old moment) in
     let next = old.yard.next_draft in
-    let unused : places_of next old ≡ 0 =
-        elim (cases_lt 0 (places_of next old)) as (λ _. places_of next old ≡ 0)
-            [ inl stands ↦ absurd (omega (arith, (order.drawn next stands).1)) | inr none ↦ omega arith ] in
-    let more = λ (k : ℕ). count_of-push k old.yard.drafts next in
-    let places : (k : ℕ) → ((next ≡ k) × (places_of k new ≡ 1)) ⊎ (places_of k new ≡ places_of k old) =
-        λ k. elim (cases_eq next k) as (λ _. ((next ≡ k) × (places_of k new ≡ 1)) ⊎ (places_of k new ≡ places_of k old))
-            [ inl same ↦
-                let one : one_if (next == k) ≡ 1 = ap one_if (eq-eqb next k same) in
-                let none : places_of k old ≡ 0 = subst (λ (j : ℕ). places_of j old ≡ 0) same unused in
-                inl (same, omega (arith, more k, one, none))
-            | inr other ↦
-                let zero : one_if (next == k) ≡ 0 = ap one_if (ne_eqb next k other) in
-                inr (omega (arith, more k, zero))
-            ] in
     record {
-      one_place = λ k. elim (places k) as (λ _. places_of k new ≤ 1)
-          [ inl here ↦ omega (arith, here.1) | inr same ↦ omega (arith, same, order.one_place k) ];
-      drawn = λ k stands. elim (places k) as (λ _. (0 < k) × (k < next + 1))
-          [ inl here ↦ (omega (arith, here.0, order.begun), omega (arith, here.0))
-          | inr same ↦
-              let there : 0 < places_of k old = omega (arith, same, stands) in
-              ((order.drawn k there).0, omega (arith, (order.drawn k there).1))
-          ];
-      begun = omega (arith, order.begun);
-      leased = order.leased;
+      places = next_drawn (places_of old) (places_of new) next order.places below
+          (λ k. omega (arith, count_of-push k old.yard.drafts next));
+      leases = order.leases;
+      held = order.held;
     }
 
 condemned_in_order : (old : State) (moment n : ℕ) → IsOrderly old → is_among n old.yard.drafts ≡ true →
     IsOrderly (with_yard (condemned_draft n) (ticked old moment))
 condemned_in_order old moment n order among =
-    moved old (with_yard (condemned_draft n) (ticked old moment)) order refl refl
+    moved old (with_yard (condemned_draft n) (ticked old moment)) order refl refl refl
         (λ k. omega (arith, draft_moves k n old.yard.drafts among, count_of-with_number k n old.yard.condemned))
         (λ k. omega (arith, count_of-with_number k n old.yard.condemned))
 
@@ -86,7 +109,7 @@ relisted_in_order : (old : State) (moment : ℕ) (repo path : List ℕ) (n : ℕ
 relisted_in_order old moment repo path n order among =
     let rows = rows_of repo old.hosted in
     let same = λ (k : ℕ). rows_with-with_rows k 0 repo (relisted path moment rows) old.hosted (let e = count_by-relisted k path moment rows in omega (arith, e)) in
-    moved old (with_rows_of repo (relisted path moment) (with_yard (condemned_draft n) (ticked old moment))) order refl refl
+    moved old (with_rows_of repo (relisted path moment) (with_yard (condemned_draft n) (ticked old moment))) order refl refl refl
         (λ k. omega (arith, draft_moves k n old.yard.drafts among, count_of-with_number k n old.yard.condemned, (same k).1))
         (λ k. omega (arith, count_of-with_number k n old.yard.condemned, (same k).0))
 
@@ -98,34 +121,39 @@ created_in_order old moment repo path n blob order among number =
     let row = new_row path blob moment in
     let one = λ (k : ℕ). ap (λ (m : ℕ). one_if (m == k)) number in
     let more = λ (k : ℕ). rows_with-with_rows k (one_if (blob.number == k)) repo (with_row row rows) old.hosted (count_by-with_row (names k) row rows) in
-    moved old (with_rows_of repo (with_row row) (with_yard (kept_draft n) (ticked old moment))) order refl refl
+    moved old (with_rows_of repo (with_row row) (with_yard (kept_draft n) (ticked old moment))) order refl refl refl
         (λ k. omega (arith, draft_moves k n old.yard.drafts among, one k, (more k).1))
         (λ k. omega (arith, (more k).0))
 
 lent_in_order : (old : State) (moment : ℕ) (repo path : List ℕ) (row : Row) → IsOrderly old →
-    row_at path (rows_of repo old.hosted) ≡ Some row → IsOrderly (with_yard (leased row.blob.number) (ticked old moment))
-lent_in_order old moment repo path row order is =
+    row_at path (rows_of repo old.hosted) ≡ Some row → (old.yard.next_lease ≡ number_end → ⊥) →
+    IsOrderly (with_yard (leased row.blob.number) (ticked old moment))
+lent_in_order old moment repo path row order is below =
+    let new = with_yard (leased row.blob.number) (ticked old moment) in
     let lease : Lease = record { number = old.yard.next_lease; blob = row.blob.number } in
     record {
-      one_place = order.one_place;
-      drawn = order.drawn;
-      begun = order.begun;
-      leased = All-push (IsHeld old) old.yard.leases lease order.leased (omega (arith, rows_with-row_at repo path old.hosted row is));
+      places = order.places;
+      leases = next_drawn (leases_of old) (leases_of new) old.yard.next_lease order.leases below
+          (λ n. sum_by_push (λ (l : Lease). one_if (l.number == n)) old.yard.leases lease);
+      held = All-push (IsHeld old) old.yard.leases lease order.held (omega (arith, rows_with-row_at repo path old.hosted row is));
     }
 
 returned_in_order : (old : State) (moment lease : ℕ) → IsOrderly old → IsOrderly (with_yard (given_back lease) (ticked old moment))
-returned_in_order old moment lease order = record {
-  one_place = order.one_place;
-  drawn = order.drawn;
-  begun = order.begun;
-  leased = All-filter (λ l. not (l.number == lease)) (IsHeld old) old.yard.leases order.leased;
-}
+returned_in_order old moment lease order =
+    let new = with_yard (given_back lease) (ticked old moment) in
+    let stays : Lease → Bool = λ l. not (l.number == lease) in
+    record {
+      places = order.places;
+      leases = fewer_drawn (leases_of old) (leases_of new) old.yard.next_lease order.leases
+          (λ n. count_by-filter (λ (l : Lease). l.number == n) stays old.yard.leases);
+      held = All-filter stays (IsHeld old) old.yard.leases order.held;
+    }
 
 orderly_kept : (old : State) (moment : ℕ) (new : State) → IsOrderly old → Change old moment new → IsOrderly new
-orderly_kept old moment new order rests = record { one_place = order.one_place; drawn = order.drawn; begun = order.begun; leased = order.leased }
-orderly_kept old moment new order (lends repo path row is) = lent_in_order old moment repo path row order is
+orderly_kept old moment new order rests = record { places = order.places; leases = order.leases; held = order.held }
+orderly_kept old moment new order (lends repo path row is below) = lent_in_order old moment repo path row order is below
 orderly_kept old moment new order (returns lease) = returned_in_order old moment lease order
-orderly_kept old moment new order draws = drawn_in_order old moment order
+orderly_kept old moment new order (draws below) = drawn_in_order old moment order below
 orderly_kept old moment new order (creates repo path n blob among number none) = created_in_order old moment repo path n blob order among number
 orderly_kept old moment new order (relists repo path n row since among is fades) = relisted_in_order old moment repo path n order among
 orderly_kept old moment new order (condemns n among) = condemned_in_order old moment n order among
@@ -140,8 +168,12 @@ no_rows n (policy ∷ policies) =
 
 pub orderly-opening : (settings : Settings) (clock : Option Moments) → IsOrderly (opening settings clock)
 orderly-opening settings clock = record {
-  one_place = λ k. omega (arith, no_rows k settings.hosted);
-  drawn = λ k stands. absurd (omega (arith, no_rows k settings.hosted));
-  begun = omega arith;
-  leased = All-nil (IsHeld (opening settings clock));
+  places = record {
+    once = λ n. omega (arith, no_rows n settings.hosted);
+    drawn = λ n stands. absurd (omega (arith, no_rows n settings.hosted));
+    begun = omega arith;
+    capped = omega arith;
+  };
+  leases = record { once = λ n. omega arith; drawn = λ n stands. absurd (omega arith); begun = omega arith; capped = omega arith };
+  held = All-nil (IsHeld (opening settings clock));
 }

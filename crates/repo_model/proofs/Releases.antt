@@ -82,9 +82,9 @@ relisted_all path moment (row ∷ rows) all =
 
 fading_kept : (old : State) (moment : ℕ) (new : State) → FadingAreSnapshots old → Change old moment new → FadingAreSnapshots new
 fading_kept old moment new all rests = all
-fading_kept old moment new all (lends repo path row is) = all
+fading_kept old moment new all (lends repo path row is below) = all
 fading_kept old moment new all (returns lease) = all
-fading_kept old moment new all draws = all
+fading_kept old moment new all (draws below) = all
 fading_kept old moment new all (creates repo path n blob among number is) =
     let row = new_row path blob moment in
     let rows = rows_of repo old.hosted in
@@ -111,9 +111,9 @@ unfading path at rows row since release_path all is fades same =
 
 releases_kept : (old : State) (moment : ℕ) (new : State) → FadingAreSnapshots old → Change old moment new → KeepsReleases old new
 releases_kept old moment new all rests id at found is_release is = is
-releases_kept old moment new all (lends repo path row at_row) id at found is_release is = is
+releases_kept old moment new all (lends repo path row at_row below) id at found is_release is = is
 releases_kept old moment new all (returns lease) id at found is_release is = is
-releases_kept old moment new all draws id at found is_release is = is
+releases_kept old moment new all (draws below) id at found is_release is = is
 releases_kept old moment new all (creates repo path n blob among number none) id at found is_release is =
     let rows = rows_of repo old.hosted in
     let row = new_row path blob moment in

@@ -1,7 +1,7 @@
 -- What an entry that fits does to the state: one of seven changes.
 use Rattle.std.proofs.Common.{◌≡◌, ℕ, Bool, true, false, ◌&&◌, inl, inr, List, Option, Some, None, refl, sym, subst, eqb-true}
 use Rattle.std.specs.Prelude.{IsTrue, nat_lt, ◌==◌, if◌then◌else◌}
-use Rattle.std.proofs.lemmas.Bool.{and_parts, false≢true}
+use Rattle.std.proofs.lemmas.Bool.{and_parts, eqb-false, false≢true}
 use Rattle.repo_model.specs.declared.print.Print.{Print}
 use Rattle.repo_model.specs.Data.{Blob, Row, Phase, listed, fading, Settings, is_same_print}
 use Rattle.repo_model.specs.File.{is_taken}
@@ -13,10 +13,10 @@ use Rattle.repo_model.specs.History.{Entry, Fits, after}
 
 pub data Change (old : State) (moment : ℕ) : State → Type 0 where
   rests : Change old moment (ticked old moment)
-  lends : (repo path : List ℕ) (row : Row) → row_at path (rows_of repo old.hosted) ≡ Some row →
+  lends : (repo path : List ℕ) (row : Row) → row_at path (rows_of repo old.hosted) ≡ Some row → (old.yard.next_lease ≡ number_end → ⊥) →
       Change old moment (with_yard (leased row.blob.number) (ticked old moment))
   returns : (lease : ℕ) → Change old moment (with_yard (without_lease lease) (ticked old moment))
-  draws : Change old moment (with_yard drawn_draft (ticked old moment))
+  draws : (old.yard.next_draft ≡ number_end → ⊥) → Change old moment (with_yard drawn_draft (ticked old moment))
   creates : (repo path : List ℕ) (n : ℕ) (blob : Blob) → is_among n old.yard.drafts ≡ true → blob.number ≡ n →
       row_at path (rows_of repo old.hosted) ≡ None →
       Change old moment (with_rows_of repo (with_row (new_row path blob moment)) (with_yard (kept_draft n) (ticked old moment)))
@@ -35,14 +35,14 @@ module _ (old : State) (moment : ℕ) where
   looks repo path None is = rests
   looks repo path (Some row) is =
       elim (old.yard.next_lease == number_end)
-          as (λ end. To (look repo path) (if end then spent else file old.yard.next_lease row.blob))
-          [ true ↦ rests | false ↦ lends repo path row is ]
+          as (λ end. (old.yard.next_lease == number_end) ≡ end → To (look repo path) (if end then spent else file old.yard.next_lease row.blob))
+          [ true ↦ λ _. rests | false ↦ λ below. lends repo path row is (eqb-false old.yard.next_lease number_end below) ] refl
 
-  asks : (repo path : List ℕ) (here end : Bool) →
+  asks : (repo path : List ℕ) (here end : Bool) → (old.yard.next_draft == number_end) ≡ end →
       To (may_put repo path) (if here then (if end then spent else draft old.yard.next_draft) else kind_refused)
-  asks repo path true true = rests
-  asks repo path true false = draws
-  asks repo path false end = rests
+  asks repo path true true is = rests
+  asks repo path true false is = draws (eqb-false old.yard.next_draft number_end is)
+  asks repo path false end is = rests
 
   puts_again : (repo path : List ℕ) (n : ℕ) (blob : Blob) (row : Row) → is_among n old.yard.drafts ≡ true →
       row_at path (rows_of repo old.hosted) ≡ Some row →
@@ -77,7 +77,7 @@ module _ (old : State) (moment : ℕ) where
   replies settings (look repo path) can = looks repo path (row_at path (rows_of repo old.hosted)) refl
   replies settings (done lease) can = returns lease
   replies settings (may_put repo path) can =
-      asks repo path (fits_repo settings repo path is_taken) (old.yard.next_draft == number_end)
+      asks repo path (fits_repo settings repo path is_taken) (old.yard.next_draft == number_end) refl
   replies settings (put repo path n blob) can =
       let taken_here = fits_repo settings repo path is_taken in
       let number = (and_parts taken_here (blob.number == n) (and_parts (taken_here && (blob.number == n)) (nat_lt blob.print.length number_end) can).0).1 in

@@ -7,3 +7,4 @@ pub mod Reply
 pub mod Step
 pub mod History
 pub mod Laws
+pub mod Worked

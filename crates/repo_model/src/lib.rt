@@ -5,5 +5,6 @@
 
 mod laws;
 mod print;
+mod worked;
 
 pub use print::Print;
