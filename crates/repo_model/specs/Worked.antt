@@ -1,11 +1,11 @@
--- A worked history of one repository of releases: a file deployed, read and deployed again.
+-- Worked cases: a file of a release deployed, deployed again and read, and a build that is listed again.
 use Rattle.std.specs.Prelude.{ℕ, true, false, List, [], ◌∷◌, codes, Option, Some, None}
 use Rattle.outside.specs.Moments.{Moments}
 use Rattle.repo_model.specs.declared.print.Print.{Print}
-use Rattle.repo_model.specs.Data.{Blob, Row, listed, Settings}
+use Rattle.repo_model.specs.Data.{Blob, Row, Phase, listed, fading, Settings}
 use Rattle.repo_model.specs.State.{State, Yard, Lease, Hosted}
 use Rattle.repo_model.specs.Command.{Command, look, done, may_put, put, drop_draft, number_end}
-use Rattle.repo_model.specs.Reply.{Reply, file, missed, given_back, draft, no_draft, taken, same, created, dropped, no_memory}
+use Rattle.repo_model.specs.Reply.{Reply, file, missed, given_back, kind_refused, draft, no_draft, taken, same, relisted, created, dropped, no_memory}
 use Rattle.repo_model.specs.History.{Entry}
 
 abbrev pub releases : List ℕ
@@ -16,6 +16,10 @@ jar = codes "g/a/1.0/a-1.0.jar"
 
 abbrev pub pom : List ℕ
 pom = codes "g/a/1.0/a-1.0.pom"
+
+-- a unique snapshot
+abbrev pub build : List ℕ
+build = codes "g/a/2.0-SNAPSHOT/a-2.0-20240102.030405-1.jar"
 
 abbrev pub shop : Settings
 shop = record { hosted = record { id = releases; releases = true; snapshots = false } ∷ []; max_file = 1000 }
@@ -64,6 +68,7 @@ deployed =
     ∷ at 253402207200 (put releases jar 3 (abc 3)) same
     ∷ at 253402207200 (put releases jar 3 (abc 3)) no_draft
     ∷ at 253402207200 (drop_draft 3) dropped
+    ∷ at 253402207200 (may_put releases build) kind_refused
     ∷ []
 
 -- a file read, one that is not there, and leases given back
@@ -92,3 +97,28 @@ yard_then = record {
   next_draft = 4;
   next_lease = 3;
 }
+
+-- a repository of snapshots with one build
+abbrev pub snapshots : List ℕ
+snapshots = codes "snapshots"
+
+abbrev pub nightly : Settings
+nightly = record { hosted = record { id = snapshots; releases = false; snapshots = true } ∷ []; max_file = 1000 }
+
+-- the build was accepted or listed again at a moment, and is in a phase
+abbrev pub hosted_with : ℕ → Phase → List Hosted
+hosted_with accepted phase =
+    record { id = snapshots; rows = record { path = build; blob = abc 1; accepted = accepted; phase = phase } ∷ [] } ∷ []
+
+-- the build has faded since 500, and 2 is a draft
+abbrev pub faded : State
+faded = record {
+  hosted = hosted_with 100 (fading 500);
+  yard = record { drafts = 2 ∷ []; leases = []; condemned = []; next_draft = 3; next_lease = 1 };
+  last = 600;
+  clock = None;
+}
+
+-- the same bytes again
+abbrev pub sent_again : Entry
+sent_again = at 700 (put snapshots build 2 (abc 2)) relisted

@@ -1,15 +1,16 @@
 //! The laws of the machine. No function here has code: its contract is the law.
 
-ghost use Rattle.std.specs.Prelude.{◌≡◌, ◌≢◌, ◌≤◌, ℕ, List, ◌++◌, map, Some, Option, IsTrue, All};
+ghost use Rattle.std.specs.Prelude.{◌≡◌, ◌≢◌, ◌≤◌, ◌^◌, ◌↔◌, ℕ, List, ◌++◌, map, Some, Option, IsTrue, IsSome, All};
 ghost use Rattle.std.specs.List.Sorted.{IsNonDecreasing};
 ghost use Rattle.std.specs.List.{AllZip};
 ghost use Rattle.outside.specs.Moments.{Moments};
 ghost use Rattle.repo_model.specs.Data.{Row, Blob, Settings};
-ghost use Rattle.repo_model.specs.State.{State, opening, condemned_draft};
+ghost use Rattle.repo_model.specs.State.{State, opening, row_at, rows_of, condemned_draft};
 ghost use Rattle.repo_model.specs.Yard.{IsOrderly};
-ghost use Rattle.repo_model.specs.Command.{put};
-ghost use Rattle.repo_model.specs.Reply.{created, relisted, taken};
-ghost use Rattle.repo_model.specs.Step.{latest_moment, ticked, with_yard};
+ghost use Rattle.repo_model.specs.Command.{look, may_put, put, number_end, fits_repo};
+ghost use Rattle.repo_model.specs.File.{is_taken};
+ghost use Rattle.repo_model.specs.Reply.{created, relisted, taken, spent};
+ghost use Rattle.repo_model.specs.Step.{latest_moment, ticked, with_yard, reply_of};
 ghost use Rattle.repo_model.specs.History.{Entry, Fits, Legal, after, end};
 ghost use Rattle.repo_model.specs.Laws.{FadingAreSnapshots, KeepsReleases, is_refusal, AsksAlike, moments_of};
 
@@ -103,6 +104,22 @@ pub fn moments_rise()
     ensures capped {
         (settings : Settings) (start : State) (entries : List Entry) →
         Legal settings start entries → start.last ≤ latest_moment → All (λ moment. moment ≤ latest_moment) (moments_of start entries)
+    }
+{
+}
+
+/// `spent` is the reply exactly where a number is to be drawn and the next one is 2 ^ 63.
+pub fn numbers_are_spent()
+    ensures end { number_end ≡ 2 ^ 63 }
+    ensures drafts {
+        (settings : Settings) (s : State) (repo path : List ℕ) →
+        (reply_of settings s (may_put repo path) ≡ spent)
+            ↔ (IsTrue (fits_repo settings repo path is_taken) × (s.yard.next_draft ≡ number_end))
+    }
+    ensures leases {
+        (settings : Settings) (s : State) (repo path : List ℕ) →
+        (reply_of settings s (look repo path) ≡ spent)
+            ↔ (IsSome (row_at path (rows_of repo s.hosted)) × (s.yard.next_lease ≡ number_end))
     }
 {
 }

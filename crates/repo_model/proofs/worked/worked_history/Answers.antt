@@ -1,7 +1,7 @@
-use Rattle.std.proofs.Common.{◌≡◌, ℕ, ◌≤◌, refl, inl, inr, arith}
+use Rattle.std.proofs.Common.{◌≡◌, ℕ, ◌≤◌, refl, inl, inr, rules}
 use Rattle.repo_model.specs.File.{parts_of}
 use Rattle.repo_model.proofs.worked.worked_history.Goals as goal
 
 pub returns-clause-legal : goal.returns-clause-legal
 unfolding parts_of
-returns-clause-legal c = search
+returns-clause-legal c = search rules
