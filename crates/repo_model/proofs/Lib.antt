@@ -1,6 +1,7 @@
 pub mod Turns
 pub mod Rows
 pub mod Releases
+pub mod Arranged
 pub mod Counts
 pub mod Orderly
 pub mod Histories

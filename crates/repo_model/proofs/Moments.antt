@@ -13,17 +13,17 @@ use Rattle.repo_model.specs.Laws.{moments_of}
 use Rattle.repo_model.proofs.Turns.{Change, rests, lends, returns, draws, creates, relists, condemns, turned}
 
 -- the moment of a turn becomes the last one
-last_of : (old : State) (moment : ℕ) (new : State) → Change old moment new → new.last ≡ moment
-last_of old moment new rests = refl
-last_of old moment new (lends repo path row is below) = refl
-last_of old moment new (returns lease) = refl
-last_of old moment new (draws below) = refl
-last_of old moment new (creates repo path n blob among number none) = refl
-last_of old moment new (relists repo path n row since among is fades) = refl
-last_of old moment new (condemns n among) = refl
+last_of : (settings : Settings) (old : State) (moment : ℕ) (new : State) → Change settings old moment new → new.last ≡ moment
+last_of settings old moment new rests = refl
+last_of settings old moment new (lends repo path row is below) = refl
+last_of settings old moment new (returns lease) = refl
+last_of settings old moment new (draws below) = refl
+last_of settings old moment new (creates repo path n blob known among number none) = refl
+last_of settings old moment new (relists repo path n row since among is fades) = refl
+last_of settings old moment new (condemns n among) = refl
 
 last-after : (settings : Settings) (old : State) (e : Entry) → Fits settings old e → (after old e).last ≡ e.moment
-last-after settings old e fits = last_of old e.moment (after old e) (turned settings old e fits)
+last-after settings old e fits = last_of settings old e.moment (after old e) (turned settings old e fits)
 
 -- a moment that fits is no earlier than the last one, and no later than both it and the latest
 bounded : (last moment : ℕ) (clock : Option Moments) →

@@ -149,17 +149,17 @@ returned_in_order old moment lease order =
       held = All-filter stays (IsHeld old) old.yard.leases order.held;
     }
 
-orderly_kept : (old : State) (moment : ℕ) (new : State) → IsOrderly old → Change old moment new → IsOrderly new
-orderly_kept old moment new order rests = record { places = order.places; leases = order.leases; held = order.held }
-orderly_kept old moment new order (lends repo path row is below) = lent_in_order old moment repo path row order is below
-orderly_kept old moment new order (returns lease) = returned_in_order old moment lease order
-orderly_kept old moment new order (draws below) = drawn_in_order old moment order below
-orderly_kept old moment new order (creates repo path n blob among number none) = created_in_order old moment repo path n blob order among number
-orderly_kept old moment new order (relists repo path n row since among is fades) = relisted_in_order old moment repo path n order among
-orderly_kept old moment new order (condemns n among) = condemned_in_order old moment n order among
+orderly_kept : (settings : Settings) (old : State) (moment : ℕ) (new : State) → IsOrderly old → Change settings old moment new → IsOrderly new
+orderly_kept settings old moment new order rests = record { places = order.places; leases = order.leases; held = order.held }
+orderly_kept settings old moment new order (lends repo path row is below) = lent_in_order old moment repo path row order is below
+orderly_kept settings old moment new order (returns lease) = returned_in_order old moment lease order
+orderly_kept settings old moment new order (draws below) = drawn_in_order old moment order below
+orderly_kept settings old moment new order (creates repo path n blob known among number none) = created_in_order old moment repo path n blob order among number
+orderly_kept settings old moment new order (relists repo path n row since among is fades) = relisted_in_order old moment repo path n order among
+orderly_kept settings old moment new order (condemns n among) = condemned_in_order old moment n order among
 
 pub orderly-after : (settings : Settings) (old : State) (e : Entry) → IsOrderly old → Fits settings old e → IsOrderly (after old e)
-orderly-after settings old e order fits = orderly_kept old e.moment (after old e) order (turned settings old e fits)
+orderly-after settings old e order fits = orderly_kept settings old e.moment (after old e) order (turned settings old e fits)
 
 no_rows : (n : ℕ) (policies : List Policy) → rows_with n (map empty_hosted policies) ≡ 0
 no_rows n [] = refl

@@ -15,7 +15,7 @@ use Rattle.repo_model.specs.History.{Entry, Fits, after}
 use Rattle.repo_model.specs.Step.{new_row}
 use Rattle.repo_model.specs.Laws.{FadingAreSnapshots, KeepsReleases}
 use Rattle.repo_model.proofs.Turns.{Change, rests, lends, returns, draws, creates, relists, condemns, turned}
-use Rattle.repo_model.proofs.Rows.{same_path, other_path, row_at_path, with_rows_keeps, row_at-with_row, row_at-relisted}
+use Rattle.repo_model.proofs.Rows.{same_path, other_path, row_at_path, with_rows_keeps, row_at-with_row, row_at-relisted, rows_of-All, with_rows-All, opening-All}
 
 -- a row that fades is a snapshot's
 abbrev pub FadesRightly : Row → Type 0
@@ -27,15 +27,6 @@ RowsFadeRightly rows = All FadesRightly rows
 abbrev pub HostedFadeRightly : List Hosted → Type 0
 HostedFadeRightly hosted = All (λ h. RowsFadeRightly h.rows) hosted
 
--- what holds of each row of each repository holds of those found by id
-rows_of_all : (id : List ℕ) (hosted : List Hosted) → HostedFadeRightly hosted → RowsFadeRightly (rows_of id hosted)
-rows_of_all id [] all = All-nil FadesRightly
-rows_of_all id (h ∷ hosted) all =
-    elim (bytes_eq h.id id) as (λ b. RowsFadeRightly (cond b h.rows (rows_of id hosted)))
-        [ true ↦ All-head (λ x. RowsFadeRightly x.rows) h hosted all
-        | false ↦ rows_of_all id hosted (All-tail (λ x. RowsFadeRightly x.rows) h hosted all)
-        ]
-
 row_at_all : (path : List ℕ) (rows : List Row) (row : Row) → RowsFadeRightly rows → row_at path rows ≡ Some row → FadesRightly row
 row_at_all path [] row all is = absurd (let e : None ≡ Some row = is in cc)
 row_at_all path (first ∷ rows) row all is =
@@ -43,18 +34,6 @@ row_at_all path (first ∷ rows) row all is =
         [ true ↦ λ found. let first_is : first ≡ row = cc in subst FadesRightly first_is (All-head FadesRightly first rows all)
         | false ↦ λ found. row_at_all path rows row (All-tail FadesRightly first rows all) found
         ] is
-
-with_rows_all : (id : List ℕ) (new : List Row) (hosted : List Hosted) → RowsFadeRightly new →
-    HostedFadeRightly hosted → HostedFadeRightly (with_rows id new hosted)
-with_rows_all id new [] right all = all
-with_rows_all id new (h ∷ hosted) right all =
-    let P : Hosted → Type 0 = λ x. RowsFadeRightly x.rows in
-    let first = All-head P h hosted all in
-    let rest = All-tail P h hosted all in
-    elim (bytes_eq h.id id) as (λ b. HostedFadeRightly (cond b (record h { rows = new } ∷ hosted) (h ∷ with_rows id new hosted)))
-        [ true ↦ All-cons P (record h { rows = new }) hosted right rest
-        | false ↦ All-cons P h (with_rows id new hosted) first (with_rows_all id new hosted right rest)
-        ]
 
 with_row_all : (new : Row) (rows : List Row) → FadesRightly new → RowsFadeRightly rows → RowsFadeRightly (with_row new rows)
 with_row_all new [] right all = All-cons FadesRightly new [] right all
@@ -80,20 +59,20 @@ relisted_all path moment (row ∷ rows) all =
         | false ↦ All-cons FadesRightly row (relisted path moment rows) (All-head FadesRightly row rows all) rest
         ]
 
-fading_kept : (old : State) (moment : ℕ) (new : State) → FadingAreSnapshots old → Change old moment new → FadingAreSnapshots new
-fading_kept old moment new all rests = all
-fading_kept old moment new all (lends repo path row is below) = all
-fading_kept old moment new all (returns lease) = all
-fading_kept old moment new all (draws below) = all
-fading_kept old moment new all (creates repo path n blob among number is) =
+fading_kept : (settings : Settings) (old : State) (moment : ℕ) (new : State) → FadingAreSnapshots old → Change settings old moment new → FadingAreSnapshots new
+fading_kept settings old moment new all rests = all
+fading_kept settings old moment new all (lends repo path row is below) = all
+fading_kept settings old moment new all (returns lease) = all
+fading_kept settings old moment new all (draws below) = all
+fading_kept settings old moment new all (creates repo path n blob known among number is) =
     let row = new_row path blob moment in
     let rows = rows_of repo old.hosted in
-    with_rows_all repo (with_row row rows) old.hosted
-        (with_row_all row rows (listed_right row refl) (rows_of_all repo old.hosted all)) all
-fading_kept old moment new all (relists repo path n row since among is fades) =
-    with_rows_all repo (relisted path moment (rows_of repo old.hosted)) old.hosted
-        (relisted_all path moment (rows_of repo old.hosted) (rows_of_all repo old.hosted all)) all
-fading_kept old moment new all (condemns n among) = all
+    with_rows-All RowsFadeRightly repo (with_row row rows) old.hosted
+        (with_row_all row rows (listed_right row refl) (rows_of-All RowsFadeRightly repo old.hosted (All-nil FadesRightly) all)) all
+fading_kept settings old moment new all (relists repo path n row since among is fades) =
+    with_rows-All RowsFadeRightly repo (relisted path moment (rows_of repo old.hosted)) old.hosted
+        (relisted_all path moment (rows_of repo old.hosted) (rows_of-All RowsFadeRightly repo old.hosted (All-nil FadesRightly) all)) all
+fading_kept settings old moment new all (condemns n among) = all
 
 -- a path with a row is not one without
 apart : (path at : List ℕ) (rows : List Row) (row : Row) → row_at path rows ≡ Some row → row_at at rows ≡ None → at ≡ path → ⊥
@@ -109,33 +88,28 @@ unfading path at rows row since release_path all is fades same =
     let path_is : row.path ≡ path = row_at_path at rows row is ∙ same in
     let e : Some release ≡ Some snapshot = sym release_path ∙ ap file_kind (sym path_is) ∙ kind_of_row in cc
 
-releases_kept : (old : State) (moment : ℕ) (new : State) → FadingAreSnapshots old → Change old moment new → KeepsReleases old new
-releases_kept old moment new all rests id at found is_release is = is
-releases_kept old moment new all (lends repo path row at_row below) id at found is_release is = is
-releases_kept old moment new all (returns lease) id at found is_release is = is
-releases_kept old moment new all (draws below) id at found is_release is = is
-releases_kept old moment new all (creates repo path n blob among number none) id at found is_release is =
+releases_kept : (settings : Settings) (old : State) (moment : ℕ) (new : State) → FadingAreSnapshots old → Change settings old moment new → KeepsReleases old new
+releases_kept settings old moment new all rests id at found is_release is = is
+releases_kept settings old moment new all (lends repo path row at_row below) id at found is_release is = is
+releases_kept settings old moment new all (returns lease) id at found is_release is = is
+releases_kept settings old moment new all (draws below) id at found is_release is = is
+releases_kept settings old moment new all (creates repo path n blob known among number none) id at found is_release is =
     let rows = rows_of repo old.hosted in
     let row = new_row path blob moment in
     with_rows_keeps (λ held. row_at at held ≡ Some found) repo (with_row row rows) old.hosted id
         (λ here. row_at-with_row at row rows (other_path path at (apart at path rows found here none)) ∙ here) is
-releases_kept old moment new all (relists repo path n row since among at_row fades) id at found is_release is =
+releases_kept settings old moment new all (relists repo path n row since among at_row fades) id at found is_release is =
     let rows = rows_of repo old.hosted in
     with_rows_keeps (λ held. row_at at held ≡ Some found) repo (relisted path moment rows) old.hosted id
         (λ here. row_at-relisted at path moment rows
-            (unfading at path rows row since is_release (rows_of_all repo old.hosted all) at_row fades) ∙ here) is
-releases_kept old moment new all (condemns n among) id at found is_release is = is
-
-opening_all : (policies : List Policy) → HostedFadeRightly (map empty_hosted policies)
-opening_all [] = All-nil (λ h. RowsFadeRightly h.rows)
-opening_all (policy ∷ policies) =
-    All-cons (λ h. RowsFadeRightly h.rows) (empty_hosted policy) (map empty_hosted policies) (All-nil FadesRightly) (opening_all policies)
+            (unfading at path rows row since is_release (rows_of-All RowsFadeRightly repo old.hosted (All-nil FadesRightly) all) at_row fades) ∙ here) is
+releases_kept settings old moment new all (condemns n among) id at found is_release is = is
 
 pub releases-after : (settings : Settings) (old : State) (e : Entry) → FadingAreSnapshots old → Fits settings old e → KeepsReleases old (after old e)
-releases-after settings old e all fits = releases_kept old e.moment (after old e) all (turned settings old e fits)
+releases-after settings old e all fits = releases_kept settings old e.moment (after old e) all (turned settings old e fits)
 
 pub fading-after : (settings : Settings) (old : State) (e : Entry) → FadingAreSnapshots old → Fits settings old e → FadingAreSnapshots (after old e)
-fading-after settings old e all fits = fading_kept old e.moment (after old e) all (turned settings old e fits)
+fading-after settings old e all fits = fading_kept settings old e.moment (after old e) all (turned settings old e fits)
 
 pub fading-opening : (settings : Settings) (clock : Option Moments) → FadingAreSnapshots (opening settings clock)
-fading-opening settings clock = opening_all settings.hosted
+fading-opening settings clock = opening-All RowsFadeRightly (All-nil FadesRightly) settings.hosted

@@ -1,15 +1,17 @@
 -- Rows found by path: what stays found when rows are added or listed again.
-use Rattle.std.proofs.Common.{◌≡◌, ℕ, Bool, true, false, cond, List, [], ◌∷◌, Option, Some, None, refl, sym, ◌∙◌, ap, subst}
-use Rattle.std.specs.Prelude.{find}
+use Rattle.std.proofs.Common.{◌≡◌, ℕ, Bool, true, false, cond, List, [], ◌∷◌, map, Option, Some, None, refl, sym, ◌∙◌, ap, subst}
+use Rattle.std.specs.Prelude.{find, All}
 use Rattle.std.specs.Str.{bytes_eq}
 use Rattle.std.specs.Ordering.{nat_cmp, match_ordering}
 use Rattle.std.specs.declared.cmp.Ordering.{Ordering}
 use Rattle.std.specs.declared.cmp.Ordering.TheVariants.{Less, Equal, Greater}
 use Rattle.std.specs.Cmp.Lexicographic.{slice_cmp}
 use Rattle.std.proofs.lemmas.Bool.{false_from_ne_true, false≢true}
+use Rattle.std.proofs.lemmas.List.Elements.{All-nil, All-cons, All-head, All-tail}
+use Rattle.std.proofs.lemmas.Option.{none-some}
 use Rattle.std.proofs.lemmas.Slice.Eq.{bytes_eq-Decides}
-use Rattle.repo_model.specs.Data.{Row}
-use Rattle.repo_model.specs.State.{Hosted, row_at, rows_of, with_rows, with_row, list_again, relisted}
+use Rattle.repo_model.specs.Data.{Row, Policy}
+use Rattle.repo_model.specs.State.{Hosted, row_at, rows_of, with_rows, with_row, list_again, relisted, empty_hosted}
 
 pub same_path : (a b : List ℕ) → bytes_eq a b ≡ true → a ≡ b
 same_path a b = (bytes_eq-Decides a b).0
@@ -69,3 +71,37 @@ row_at-relisted path again moment (row ∷ rows) other =
                 ∙ sym (ap (λ b. cond b (Some row) (row_at path rows)) apart)
         | false ↦ λ is. ap (λ found. Found row found) rest
         ] refl
+
+-- what holds of the rows of every repository holds of those found by id, and after other such rows at one
+module _ (P : List Row → Type 0) where
+  pub rows_of-All : (id : List ℕ) (hosted : List Hosted) → P [] → All (λ h. P h.rows) hosted → P (rows_of id hosted)
+  rows_of-All id [] none all = none
+  rows_of-All id (h ∷ hosted) none all =
+      elim (bytes_eq h.id id) as (λ b. P (cond b h.rows (rows_of id hosted)))
+          [ true ↦ All-head (λ x. P x.rows) h hosted all
+          | false ↦ rows_of-All id hosted none (All-tail (λ x. P x.rows) h hosted all)
+          ]
+
+  pub with_rows-All : (id : List ℕ) (new : List Row) (hosted : List Hosted) → P new →
+      All (λ h. P h.rows) hosted → All (λ h. P h.rows) (with_rows id new hosted)
+  with_rows-All id new [] right all = all
+  with_rows-All id new (h ∷ hosted) right all =
+      let Q : Hosted → Type 0 = λ x. P x.rows in
+      let first = All-head Q h hosted all in
+      let rest = All-tail Q h hosted all in
+      elim (bytes_eq h.id id) as (λ b. All Q (cond b (record h { rows = new } ∷ hosted) (h ∷ with_rows id new hosted)))
+          [ true ↦ All-cons Q (record h { rows = new }) hosted right rest
+          | false ↦ All-cons Q h (with_rows id new hosted) first (with_rows-All id new hosted right rest)
+          ]
+
+  pub opening-All : P [] → (policies : List Policy) → All (λ h. P h.rows) (map empty_hosted policies)
+  opening-All none [] = All-nil (λ h. P h.rows)
+  opening-All none (policy ∷ policies) =
+      All-cons (λ h. P h.rows) (empty_hosted policy) (map empty_hosted policies) none (opening-All none policies)
+
+-- where no row is found at a path, the first row is of another one, and none is found behind it
+pub none_found : (path : List ℕ) (row : Row) (rows : List Row) → row_at path (row ∷ rows) ≡ None →
+    (bytes_eq row.path path ≡ false) × (row_at path rows ≡ None)
+none_found path row rows =
+    elim (bytes_eq row.path path) as (λ b. cond b (Some row) (row_at path rows) ≡ None → (b ≡ false) × (row_at path rows ≡ None))
+        [ true ↦ λ found. absurd (none-some row (sym found)) | false ↦ λ none. (refl, none) ]

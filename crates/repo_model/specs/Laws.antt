@@ -1,6 +1,9 @@
--- Words of the laws: what becomes of release rows, refusals, and histories that ask alike.
-use Rattle.std.specs.Prelude.{◌≡◌, ◌≢◌, ◌↔◌, ℕ, Bool, true, false, List, ◌∷◌, map, Some, All}
-use Rattle.repo_model.specs.Data.{Row, fading}
+-- Words of the laws: what becomes of rows, refusals, and histories that ask alike.
+use Rattle.std.specs.Prelude.{◌≡◌, ◌≢◌, ◌↔◌, ℕ, Bool, true, false, List, ◌∷◌, map, Some, All, AllPairs}
+use Rattle.std.specs.Ordering.{nat_cmp}
+use Rattle.std.specs.declared.cmp.Ordering.TheVariants.{Less}
+use Rattle.std.specs.Cmp.Lexicographic.{slice_cmp}
+use Rattle.repo_model.specs.Data.{Row, fading, Settings}
 use Rattle.repo_model.specs.State.{State, row_at, rows_of}
 use Rattle.repo_model.specs.File.{file_kind, release, snapshot}
 use Rattle.repo_model.specs.Reply.{Reply, missed, kind_refused, no_draft, spent, no_memory}
@@ -16,6 +19,15 @@ abbrev pub KeepsReleases : State → State → Type 0
 KeepsReleases old new =
     (repo path : List ℕ) (row : Row) → file_kind path ≡ Some release →
     row_at path (rows_of repo old.hosted) ≡ Some row → row_at path (rows_of repo new.hosted) ≡ Some row
+
+-- in byte order of path, each path once
+abbrev pub AreByPath : List Row → Type 0
+AreByPath rows = AllPairs (λ path later. slice_cmp nat_cmp path later ≡ Less) (map (λ row. row.path) rows)
+
+-- the repositories are those of the settings in their order, and the rows of each are in byte order of path
+pub record IsArranged (settings : Settings) (s : State) : Type 0 where
+  pub repositories : map (λ h. h.id) s.hosted ≡ map (λ policy. policy.id) settings.hosted
+  pub rows : All (λ h. AreByPath h.rows) s.hosted
 
 -- the replies that refuse a command and change nothing (`taken` refuses too, and takes the draft)
 abbrev pub is_refusal : Reply → Bool

@@ -32,3 +32,7 @@ pub record IsOrderly (s : State) : Type 0 where
   pub leases : AreDrawnOnce (leases_of s) s.yard.next_lease
   -- a blob that a reader has borrowed is a row's or condemned
   pub held : All (λ lease. 0 < rows_with lease.blob s.hosted + count_of lease.blob s.yard.condemned) s.yard.leases
+
+-- each number drawn stands somewhere
+abbrev pub DrawnStand : State → Type 0
+DrawnStand s = (n : ℕ) → 0 < n → n < s.yard.next_draft → 0 < places_of s n
