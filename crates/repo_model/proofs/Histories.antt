@@ -3,10 +3,12 @@ use Rattle.std.proofs.Common.{◌≡◌, ℕ, List, [], ◌∷◌, ◌++◌, Opt
 use Rattle.outside.specs.Moments.{Moments}
 use Rattle.repo_model.specs.Data.{Settings}
 use Rattle.repo_model.specs.State.{State, opening}
-use Rattle.repo_model.specs.Yard.{IsOrderly}
+use Rattle.repo_model.specs.Yard.{IsOrderly, DrawnStand}
 use Rattle.repo_model.specs.History.{Entry, Fits, after, Legal, end}
-use Rattle.repo_model.specs.Laws.{FadingAreSnapshots, KeepsReleases}
+use Rattle.repo_model.specs.Laws.{FadingAreSnapshots, KeepsReleases, IsArranged}
 use Rattle.repo_model.proofs.Releases.{releases-after, fading-after, fading-opening}
+use Rattle.repo_model.proofs.Arranged.{arranged-after, arranged-opening}
+use Rattle.repo_model.proofs.Standing.{standing-after, standing-opening}
 use Rattle.repo_model.proofs.Orderly.{orderly-after, orderly-opening}
 
 end-append : (start : State) (before later : List Entry) → end start (before ++ later) ≡ end (end start before) later
@@ -42,13 +44,27 @@ releases-later settings clock before later legal =
     subst (KeepsReleases (end start before)) (sym (end-append start before later))
         (releases-end settings (end start before) later (fading-end settings start before (fading-opening settings clock) parts.0) parts.1)
 
-orderly-end : (settings : Settings) (start : State) (entries : List Entry) → IsOrderly start → Legal settings start entries →
-    IsOrderly (end start entries)
-orderly-end settings start [] order legal = order
-orderly-end settings start (e ∷ entries) order legal =
-    orderly-end settings (after start e) entries (orderly-after settings start e order legal.0) legal.1
+-- the repositories and the yard in order, and no number lost
+pub record IsSound (settings : Settings) (s : State) : Type 0 where
+  pub arranged : IsArranged settings s
+  pub orderly : IsOrderly s
+  pub standing : DrawnStand s
 
-pub orderly-later : (settings : Settings) (clock : Option Moments) (entries : List Entry) →
-    Legal settings (opening settings clock) entries → IsOrderly (end (opening settings clock) entries)
-orderly-later settings clock entries legal =
-    orderly-end settings (opening settings clock) entries (orderly-opening settings clock) legal
+sound-end : (settings : Settings) (start : State) (entries : List Entry) → IsSound settings start → Legal settings start entries →
+    IsSound settings (end start entries)
+sound-end settings start [] sound legal = sound
+sound-end settings start (e ∷ entries) sound legal =
+    let next : IsSound settings (after start e) = record {
+      arranged = arranged-after settings start e sound.arranged legal.0;
+      orderly = orderly-after settings start e sound.orderly legal.0;
+      standing = standing-after settings start e sound.arranged sound.orderly sound.standing legal.0;
+    } in sound-end settings (after start e) entries next legal.1
+
+pub sound-later : (settings : Settings) (clock : Option Moments) (entries : List Entry) →
+    Legal settings (opening settings clock) entries → IsSound settings (end (opening settings clock) entries)
+sound-later settings clock entries legal =
+    let sound : IsSound settings (opening settings clock) = record {
+      arranged = arranged-opening settings clock;
+      orderly = orderly-opening settings clock;
+      standing = standing-opening settings clock;
+    } in sound-end settings (opening settings clock) entries sound legal

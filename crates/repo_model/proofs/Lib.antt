@@ -4,6 +4,8 @@ pub mod Releases
 pub mod Arranged
 pub mod Counts
 pub mod Orderly
+pub mod Standing
+pub mod Leases
 pub mod Histories
 pub mod Determined
 pub mod Moments

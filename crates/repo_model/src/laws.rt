@@ -1,18 +1,18 @@
 //! The laws of the machine. No function here has code: its contract is the law.
 
-ghost use Rattle.std.specs.Prelude.{◌≡◌, ◌≢◌, ◌≤◌, ◌^◌, ◌↔◌, ℕ, List, ◌++◌, map, Some, Option, IsTrue, IsSome, All};
+ghost use Rattle.std.specs.Prelude.{◌≡◌, ◌≢◌, ◌≤◌, ◌^◌, ◌↔◌, ℕ, List, ◌++◌, map, Some, Option, IsTrue, IsSome, All, Contains};
 ghost use Rattle.std.specs.List.Sorted.{IsNonDecreasing};
 ghost use Rattle.std.specs.List.{AllZip};
 ghost use Rattle.outside.specs.Moments.{Moments};
 ghost use Rattle.repo_model.specs.Data.{Row, Blob, Settings};
-ghost use Rattle.repo_model.specs.State.{State, opening, row_at, rows_of, condemned_draft};
-ghost use Rattle.repo_model.specs.Yard.{IsOrderly};
-ghost use Rattle.repo_model.specs.Command.{look, may_put, put, number_end, fits_repo};
+ghost use Rattle.repo_model.specs.State.{State, Lease, opening, row_at, rows_of, condemned_draft};
+ghost use Rattle.repo_model.specs.Yard.{IsOrderly, DrawnStand, leases_of};
+ghost use Rattle.repo_model.specs.Command.{look, done, may_put, put, number_end, fits_repo};
 ghost use Rattle.repo_model.specs.File.{is_taken};
-ghost use Rattle.repo_model.specs.Reply.{created, relisted, taken, spent};
+ghost use Rattle.repo_model.specs.Reply.{file, created, relisted, taken, spent};
 ghost use Rattle.repo_model.specs.Step.{latest_moment, ticked, with_yard, reply_of};
 ghost use Rattle.repo_model.specs.History.{Entry, Fits, Legal, after, end};
-ghost use Rattle.repo_model.specs.Laws.{FadingAreSnapshots, KeepsReleases, is_refusal, AsksAlike, moments_of};
+ghost use Rattle.repo_model.specs.Laws.{FadingAreSnapshots, KeepsReleases, IsArranged, is_refusal, AsksAlike, moments_of};
 
 /// A turn keeps each row of a release with every field the same, where only rows of snapshots fade, and it lets no other row fade.
 pub fn releases_stay_in_a_step()
@@ -40,6 +40,18 @@ pub fn releases_stay()
 {
 }
 
+/// A turn leaves the repositories those of the settings, and the rows of each in byte order of path, each path once.
+pub fn rows_stay_arranged_in_a_step()
+    ensures kept {
+        (settings : Settings) (old : State) (e : Entry) →
+        IsArranged settings old → Fits settings old e → IsArranged settings (after old e)
+    }
+    ensures opening {
+        (settings : Settings) (clock : Option Moments) → IsArranged settings (opening settings clock)
+    }
+{
+}
+
 /// A turn keeps the yard in order, and it is in order at the opening.
 pub fn one_place_in_a_step()
     ensures kept {
@@ -52,11 +64,47 @@ pub fn one_place_in_a_step()
 {
 }
 
-/// A blob number stands in one place at most, in every legal history from the opening state.
-pub fn one_place()
+/// A turn loses no number: a draft becomes a row's blob or is condemned, and what a row has or is condemned stays.
+pub fn no_number_is_lost_in_a_step()
     ensures {
+        (settings : Settings) (old : State) (e : Entry) →
+        IsArranged settings old → IsOrderly old → DrawnStand old → Fits settings old e → DrawnStand (after old e)
+    }
+{
+}
+
+/// In every legal history from the opening state the rows are in order of path, a blob number stands in one place
+/// at most, and each one drawn stands in one.
+pub fn one_place()
+    ensures arranged {
+        (settings : Settings) (clock : Option Moments) (entries : List Entry) →
+        let start = opening settings clock in Legal settings start entries → IsArranged settings (end start entries)
+    }
+    ensures orderly {
         (settings : Settings) (clock : Option Moments) (entries : List Entry) →
         let start = opening settings clock in Legal settings start entries → IsOrderly (end start entries)
+    }
+    ensures standing {
+        (settings : Settings) (clock : Option Moments) (entries : List Entry) →
+        let start = opening settings clock in Legal settings start entries → DrawnStand (end start entries)
+    }
+{
+}
+
+/// A file is answered with a lease on its blob, and a lease lasts until it is given back.
+pub fn leases_last()
+    ensures lent {
+        (settings : Settings) (old : State) (e : Entry) (lease : ℕ) (blob : Blob) →
+        Fits settings old e → e.reply ≡ file lease blob →
+        Contains (after old e).yard.leases (record { number = lease; blob = blob.number })
+    }
+    ensures kept {
+        (settings : Settings) (old : State) (e : Entry) (lease : Lease) →
+        Contains old.yard.leases lease → e.command ≢ done lease.number → Contains (after old e).yard.leases lease
+    }
+    ensures given_back {
+        (settings : Settings) (old : State) (e : Entry) (lease : ℕ) →
+        e.command ≡ done lease → leases_of (after old e) lease ≡ 0
     }
 {
 }
