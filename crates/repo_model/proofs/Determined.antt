@@ -4,7 +4,7 @@ use Rattle.std.specs.List.{AllZip}
 use Rattle.repo_model.specs.Data.{Settings}
 use Rattle.repo_model.specs.State.{State}
 use Rattle.repo_model.specs.Command.{Command}
-use Rattle.repo_model.specs.Reply.{Reply, no_memory}
+use Rattle.repo_model.specs.Reply.{Reply}
 use Rattle.repo_model.specs.Step.{reply_of}
 use Rattle.repo_model.specs.History.{Entry, Fits, after, Legal}
 use Rattle.repo_model.specs.Laws.{AsksAlike}
@@ -12,13 +12,13 @@ use Rattle.repo_model.specs.Laws.{AsksAlike}
 same_reply : (settings : Settings) (old : State) (one other : Entry) → Fits settings old one → Fits settings old other →
     AsksAlike one other → one.reply ≡ other.reply
 same_reply settings old one other fits fits' alike =
-    elim fits.reply as (λ _. one.reply ≡ other.reply)
-        [ inl is ↦ elim fits'.reply as (λ _. one.reply ≡ other.reply)
-            [ inl is' ↦ is ∙ ap (λ (command : Command). reply_of settings old command) alike.command ∙ sym is'
-            | inr none ↦ alike.memory.1 none.0 ∙ sym none.0
-            ]
-        | inr none ↦ none.0 ∙ sym (alike.memory.0 none.0)
-        ]
+    elim fits.reply as (λ _. one.reply ≡ other.reply) [
+      | inl is ↦ elim fits'.reply as (λ _. one.reply ≡ other.reply) [
+        | inl is' ↦ is ∙ ap (λ (command : Command). reply_of settings old command) alike.command ∙ sym is'
+        | inr none ↦ alike.memory.1 none.0 ∙ sym none.0
+      ]
+      | inr none ↦ none.0 ∙ sym (alike.memory.0 none.0)
+    ]
 
 entry : (c d : Command) (m n : ℕ) (r s : Reply) → c ≡ d → m ≡ n → r ≡ s →
     let first : Entry = record { command = c; moment = m; reply = r } in
@@ -32,7 +32,7 @@ histories_same settings start [] (e ∷ other) legal legal' alike = absurd alike
 histories_same settings start (e ∷ one) [] legal legal' alike = absurd alike
 histories_same settings start (e ∷ one) (f ∷ other) legal legal' alike =
     let same : e ≡ f = entry e.command f.command e.moment f.moment e.reply f.reply alike.0.command alike.0.moment
-        (same_reply settings start e f legal.0 legal'.0 alike.0) in
+    (same_reply settings start e f legal.0 legal'.0 alike.0) in
     let legal_there = subst (λ (x : Entry). Legal settings (after start x) other) (sym same) legal'.1 in
     let rest = histories_same settings (after start e) one other legal.1 legal_there alike.1 in
     cc

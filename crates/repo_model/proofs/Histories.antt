@@ -1,10 +1,10 @@
 -- Legal histories: what each entry keeps a history keeps, and a history cut in two.
-use Rattle.std.proofs.Common.{◌≡◌, ℕ, List, [], ◌∷◌, ◌++◌, Option, refl, sym, subst}
+use Rattle.std.proofs.Common.{◌≡◌, List, [], ◌∷◌, ◌++◌, Option, refl, sym, subst}
 use Rattle.outside.specs.Moments.{Moments}
 use Rattle.repo_model.specs.Data.{Settings}
 use Rattle.repo_model.specs.State.{State, opening}
 use Rattle.repo_model.specs.Yard.{IsOrderly, DrawnStand}
-use Rattle.repo_model.specs.History.{Entry, Fits, after, Legal, end}
+use Rattle.repo_model.specs.History.{Entry, after, Legal, end}
 use Rattle.repo_model.specs.Laws.{FadingAreSnapshots, KeepsReleases, IsArranged}
 use Rattle.repo_model.proofs.Releases.{releases-after, fading-after, fading-opening}
 use Rattle.repo_model.proofs.Arranged.{arranged-after, arranged-opening}
@@ -33,7 +33,7 @@ releases-end : (settings : Settings) (start : State) (entries : List Entry) → 
 releases-end settings start [] all legal repo path row is_release is = is
 releases-end settings start (e ∷ entries) all legal repo path row is_release is =
     releases-end settings (after start e) entries (fading-after settings start e all legal.0) legal.1 repo path row is_release
-        (releases-after settings start e all legal.0 repo path row is_release is)
+    (releases-after settings start e all legal.0 repo path row is_release is)
 
 pub releases-later : (settings : Settings) (clock : Option Moments) (before later : List Entry) →
     Legal settings (opening settings clock) (before ++ later) →
@@ -42,7 +42,7 @@ releases-later settings clock before later legal =
     let start = opening settings clock in
     let parts = Legal-parts settings start before later legal in
     subst (KeepsReleases (end start before)) (sym (end-append start before later))
-        (releases-end settings (end start before) later (fading-end settings start before (fading-opening settings clock) parts.0) parts.1)
+    (releases-end settings (end start before) later (fading-end settings start before (fading-opening settings clock) parts.0) parts.1)
 
 -- the repositories and the yard in order, and no number lost
 pub record IsSound (settings : Settings) (s : State) : Type 0 where

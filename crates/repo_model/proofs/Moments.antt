@@ -1,5 +1,5 @@
 -- The moments of a legal history never fall, nor pass the latest moment.
-use Rattle.std.proofs.Common.{◌≡◌, ℕ, zero, suc, ◌<◌, ◌≤◌, min, max, List, [], ◌∷◌, map, length, get_or, Option, Some, None, refl, sym, subst, arith}
+use Rattle.std.proofs.Common.{◌≡◌, ℕ, zero, suc, ◌≤◌, min, max, List, [], ◌∷◌, map, get_or, Option, Some, None, refl, sym, subst, arith}
 use Rattle.std.specs.Prelude.{All, MatchOption}
 use Rattle.std.specs.List.Sorted.{IsNonDecreasing}
 use Rattle.std.proofs.lemmas.List.Elements.{All-nil, All-cons}
@@ -7,7 +7,7 @@ use Rattle.std.proofs.lemmas.List.Sorted.{IsNonDecreasingBy-short}
 use Rattle.outside.specs.Moments.{Moments}
 use Rattle.repo_model.specs.Data.{Settings}
 use Rattle.repo_model.specs.State.{State}
-use Rattle.repo_model.specs.Step.{latest_moment, MomentFits}
+use Rattle.repo_model.specs.Step.{latest_moment}
 use Rattle.repo_model.specs.History.{Entry, Fits, after, Legal}
 use Rattle.repo_model.specs.Laws.{moments_of}
 use Rattle.repo_model.proofs.Turns.{Change, rests, lends, returns, draws, creates, relists, condemns, turned}
@@ -44,8 +44,8 @@ pub moments-rising : (settings : Settings) (start : State) (entries : List Entry
 moments-rising settings start [] legal = IsNonDecreasingBy-short (λ (n : ℕ). n) (start.last ∷ []) (omega arith)
 moments-rising settings start (e ∷ entries) legal =
     let rest : IsNonDecreasing (e.moment ∷ map (λ x. x.moment) entries) =
-        subst (λ (m : ℕ). IsNonDecreasing (m ∷ map (λ (x : Entry). x.moment) entries)) (last-after settings start e legal.0)
-            (moments-rising settings (after start e) entries legal.1) in
+    subst (λ (m : ℕ). IsNonDecreasing (m ∷ map (λ (x : Entry). x.moment) entries)) (last-after settings start e legal.0)
+    (moments-rising settings (after start e) entries legal.1) in
     rises start.last e.moment (map (λ x. x.moment) entries) (bounded start.last e.moment start.clock legal.0.moment).0 rest
 
 pub moments-capped : (settings : Settings) (start : State) (entries : List Entry) → Legal settings start entries → start.last ≤ latest_moment →

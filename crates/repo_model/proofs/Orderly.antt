@@ -1,30 +1,30 @@
 -- The yard stays in order: each change of the state leaves a blob number in one place at most.
-use Rattle.std.proofs.Common.{◌≡◌, ℕ, ◌+◌, ◌<◌, ◌≤◌, Bool, true, false, cond, ◌⊎◌, inl, inr, List, [], ◌∷◌, ◌++◌, map, length, Option, Some, None, refl, sym, ◌∙◌, ap, subst, arith}
-use Rattle.std.specs.Prelude.{◌==◌, not, All, count_by, sum_by}
+use Rattle.std.proofs.Common.{◌≡◌, ℕ, ◌+◌, ◌<◌, ◌≤◌, Bool, true, ◌⊎◌, inl, inr, List, [], ◌∷◌, map, Option, Some, refl, sym, ap, subst, arith}
+use Rattle.std.specs.Prelude.{◌==◌, not, All, count_by}
 use Rattle.std.proofs.lemmas.Bool.{eq-eqb, ne_eqb, cases_eq, cases_lt}
 use Rattle.std.proofs.lemmas.List.Elements.{All-nil, All-push, All-filter, All-weaker}
 use Rattle.std.proofs.lemmas.List.Sums.{sum_by_push}
 use Rattle.outside.specs.Moments.{Moments}
 use Rattle.repo_model.specs.Data.{Row, Blob, Policy, Settings}
-use Rattle.repo_model.specs.State.{State, Hosted, Lease, Yard, row_at, rows_of, with_rows, with_row, relisted, with_number, without_number, is_among, condemned_draft, kept_draft, drawn_draft, leased, given_back, empty_hosted, opening}
+use Rattle.repo_model.specs.State.{State, Lease, row_at, rows_of, with_row, relisted, without_number, is_among, condemned_draft, kept_draft, drawn_draft, leased, given_back, empty_hosted, opening}
 use Rattle.repo_model.specs.Step.{ticked, with_yard, with_rows_of, new_row}
 use Rattle.repo_model.specs.History.{Entry, Fits, after}
 use Rattle.repo_model.specs.Yard.{count_of, rows_with, places_of, leases_of, AreDrawnOnce, IsOrderly}
 use Rattle.repo_model.specs.Command.{number_end}
 use Rattle.repo_model.proofs.Turns.{Change, rests, lends, returns, draws, creates, relists, condemns, turned}
-use Rattle.repo_model.proofs.Counts.{one_if, names, count_of-cons, count_of-push, count_of-with_number, count_of-without_number, count_of-without_other, is_among-counts, count_by-with_row, count_by-relisted, rows_with-cons, rows_with-with_rows, rows_with-row_at, count_by-filter}
+use Rattle.repo_model.proofs.Counts.{one_if, names, count_of-push, count_of-with_number, count_of-without_number, count_of-without_other, is_among-counts, count_by-with_row, count_by-relisted, rows_with-cons, rows_with-with_rows, rows_with-row_at, count_by-filter}
 
 -- a draft that is taken away makes room for its number in another place
 draft_moves : (k n : ℕ) (drafts : List ℕ) → is_among n drafts ≡ true → count_of k (without_number n drafts) + one_if (n == k) ≤ count_of k drafts
 draft_moves k n drafts among =
-    elim (cases_eq n k) as (λ _. count_of k (without_number n drafts) + one_if (n == k) ≤ count_of k drafts)
-        [ inl same ↦ subst (λ (j : ℕ). count_of j (without_number n drafts) + one_if (n == j) ≤ count_of j drafts) same
-            (let one : one_if (n == n) ≡ 1 = ap one_if (eq-eqb n n refl) in
-            omega (arith, count_of-without_number n drafts, is_among-counts n drafts among, one))
-        | inr other ↦
-            let none : one_if (n == k) ≡ 0 = ap one_if (ne_eqb n k other) in
-            omega (arith, count_of-without_other k n drafts other, none)
-        ]
+    elim (cases_eq n k) as (λ _. count_of k (without_number n drafts) + one_if (n == k) ≤ count_of k drafts) [
+      | inl same ↦ subst (λ (j : ℕ). count_of j (without_number n drafts) + one_if (n == j) ≤ count_of j drafts) same
+          (let one : one_if (n == n) ≡ 1 = ap one_if (eq-eqb n n refl) in
+          omega (arith, count_of-without_number n drafts, is_among-counts n drafts among, one))
+      | inr other ↦
+          let none : one_if (n == k) ≡ 0 = ap one_if (ne_eqb n k other) in
+          omega (arith, count_of-without_other k n drafts other, none)
+    ]
 
 -- a blob that is a row's or condemned
 abbrev IsHeld : State → Lease → Type 0
@@ -48,23 +48,23 @@ module _ (times later : ℕ → ℕ) (next : ℕ) (order : AreDrawnOnce times ne
   next_drawn : (next ≡ number_end → ⊥) → ((n : ℕ) → later n ≡ times n + one_if (next == n)) → AreDrawnOnce later (next + 1)
   next_drawn below more =
       let Cases : ℕ → Type 0 = λ n. ((next ≡ n) × (later n ≡ 1)) ⊎ (later n ≡ times n) in
-      let cases : (n : ℕ) → Cases n = λ n. elim (cases_eq next n) as (λ _. Cases n)
-          [ inl same ↦
-              let one : one_if (next == n) ≡ 1 = ap one_if (eq-eqb next n same) in
-              let none : times n ≡ 0 = subst (λ (k : ℕ). times k ≡ 0) same unused in
-              inl (same, omega (arith, more n, one, none))
-          | inr other ↦
-              let zero : one_if (next == n) ≡ 0 = ap one_if (ne_eqb next n other) in
-              inr (omega (arith, more n, zero))
-          ] in
+      let cases : (n : ℕ) → Cases n = λ n. elim (cases_eq next n) as (λ _. Cases n) [
+        | inl same ↦
+            let one : one_if (next == n) ≡ 1 = ap one_if (eq-eqb next n same) in
+            let none : times n ≡ 0 = subst (λ (k : ℕ). times k ≡ 0) same unused in
+            inl (same, omega (arith, more n, one, none))
+        | inr other ↦
+            let zero : one_if (next == n) ≡ 0 = ap one_if (ne_eqb next n other) in
+            inr (omega (arith, more n, zero))
+      ] in
       record {
         once = λ n. elim (cases n) as (λ _. later n ≤ 1) [ inl here ↦ omega (arith, here.1) | inr same ↦ omega (arith, same, order.once n) ];
-        drawn = λ n stands. elim (cases n) as (λ _. (0 < n) × (n < next + 1))
-            [ inl here ↦ (omega (arith, here.0, order.begun), omega (arith, here.0))
-            | inr same ↦
-                let there : 0 < times n = omega (arith, same, stands) in
-                ((order.drawn n there).0, omega (arith, (order.drawn n there).1))
-            ];
+        drawn = λ n stands. elim (cases n) as (λ _. (0 < n) × (n < next + 1)) [
+          | inl here ↦ (omega (arith, here.0, order.begun), omega (arith, here.0))
+          | inr same ↦
+              let there : 0 < times n = omega (arith, same, stands) in
+              ((order.drawn n there).0, omega (arith, (order.drawn n there).1))
+        ];
         begun = omega (arith, order.begun);
         capped = omega (arith, below, order.capped);
       }
@@ -80,7 +80,7 @@ moved old new order next leases next_lease fewer held = record {
       (fewer_drawn (places_of old) (places_of new) old.yard.next_draft order.places fewer);
   leases = subst (AreDrawnOnce (leases_of new)) (sym next_lease)
       (fewer_drawn (leases_of old) (leases_of new) old.yard.next_lease order.leases
-          (λ n. let same : leases_of new n ≡ leases_of old n = ap (count_by (λ (l : Lease). l.number == n)) leases in omega (arith, same)));
+      (λ n. let same : leases_of new n ≡ leases_of old n = ap (count_by (λ (l : Lease). l.number == n)) leases in omega (arith, same)));
   held = subst (λ (ls : List Lease). All (IsHeld new) ls) (sym leases)
       (All-weaker (IsHeld old) (IsHeld new) (λ lease is. omega (arith, held lease.blob)) old.yard.leases order.held);
 }
@@ -101,8 +101,8 @@ condemned_in_order : (old : State) (moment n : ℕ) → IsOrderly old → is_amo
     IsOrderly (with_yard (condemned_draft n) (ticked old moment))
 condemned_in_order old moment n order among =
     moved old (with_yard (condemned_draft n) (ticked old moment)) order refl refl refl
-        (λ k. omega (arith, draft_moves k n old.yard.drafts among, count_of-with_number k n old.yard.condemned))
-        (λ k. omega (arith, count_of-with_number k n old.yard.condemned))
+    (λ k. omega (arith, draft_moves k n old.yard.drafts among, count_of-with_number k n old.yard.condemned))
+    (λ k. omega (arith, count_of-with_number k n old.yard.condemned))
 
 relisted_in_order : (old : State) (moment : ℕ) (repo path : List ℕ) (n : ℕ) → IsOrderly old → is_among n old.yard.drafts ≡ true →
     IsOrderly (with_rows_of repo (relisted path moment) (with_yard (condemned_draft n) (ticked old moment)))
@@ -110,8 +110,8 @@ relisted_in_order old moment repo path n order among =
     let rows = rows_of repo old.hosted in
     let same = λ (k : ℕ). rows_with-with_rows k 0 repo (relisted path moment rows) old.hosted (let e = count_by-relisted k path moment rows in omega (arith, e)) in
     moved old (with_rows_of repo (relisted path moment) (with_yard (condemned_draft n) (ticked old moment))) order refl refl refl
-        (λ k. omega (arith, draft_moves k n old.yard.drafts among, count_of-with_number k n old.yard.condemned, (same k).1))
-        (λ k. omega (arith, count_of-with_number k n old.yard.condemned, (same k).0))
+    (λ k. omega (arith, draft_moves k n old.yard.drafts among, count_of-with_number k n old.yard.condemned, (same k).1))
+    (λ k. omega (arith, count_of-with_number k n old.yard.condemned, (same k).0))
 
 created_in_order : (old : State) (moment : ℕ) (repo path : List ℕ) (n : ℕ) (blob : Blob) → IsOrderly old →
     is_among n old.yard.drafts ≡ true → blob.number ≡ n →
@@ -122,8 +122,8 @@ created_in_order old moment repo path n blob order among number =
     let one = λ (k : ℕ). ap (λ (m : ℕ). one_if (m == k)) number in
     let more = λ (k : ℕ). rows_with-with_rows k (one_if (blob.number == k)) repo (with_row row rows) old.hosted (count_by-with_row (names k) row rows) in
     moved old (with_rows_of repo (with_row row) (with_yard (kept_draft n) (ticked old moment))) order refl refl refl
-        (λ k. omega (arith, draft_moves k n old.yard.drafts among, one k, (more k).1))
-        (λ k. omega (arith, (more k).0))
+    (λ k. omega (arith, draft_moves k n old.yard.drafts among, one k, (more k).1))
+    (λ k. omega (arith, (more k).0))
 
 lent_in_order : (old : State) (moment : ℕ) (repo path : List ℕ) (row : Row) → IsOrderly old →
     row_at path (rows_of repo old.hosted) ≡ Some row → (old.yard.next_lease ≡ number_end → ⊥) →

@@ -4,13 +4,12 @@ use Rattle.std.specs.Prelude.{IsTrue, nat_lt, ◌==◌, if◌then◌else◌}
 use Rattle.std.specs.List.{list_any}
 use Rattle.std.specs.Str.{bytes_eq}
 use Rattle.std.proofs.lemmas.Bool.{and_parts, eqb-false, false≢true}
-use Rattle.repo_model.specs.declared.print.Print.{Print}
 use Rattle.repo_model.specs.Data.{Blob, Row, Phase, listed, fading, Policy, Settings, is_same_print}
 use Rattle.repo_model.specs.File.{FileKind, file_kind, is_taken}
 use Rattle.repo_model.specs.State.{State, row_at, rows_of, with_row, relisted as listed_again, is_among, condemned_draft, kept_draft, drawn_draft, leased, given_back as without_lease}
 use Rattle.repo_model.specs.Command.{Command, look, done, may_put, put, drop_draft, meets, takes_memory, number_end, policy_of, both, fits_repo}
-use Rattle.repo_model.specs.Reply.{Reply, file, draft, created, relisted, same, taken, spent, kind_refused, no_draft, no_memory}
-use Rattle.repo_model.specs.Step.{ticked, with_yard, with_rows_of, new_row, reply_of, changed, look_reply, may_put_reply, put_reply, equal_reply}
+use Rattle.repo_model.specs.Reply.{Reply, file, draft, taken, spent, kind_refused, no_draft, no_memory}
+use Rattle.repo_model.specs.Step.{ticked, with_yard, with_rows_of, new_row, reply_of, changed, look_reply, put_reply, equal_reply}
 use Rattle.repo_model.specs.History.{Entry, Fits, after}
 
 -- the settings have a repository of that id
@@ -38,8 +37,8 @@ found_repository : (repo : List ℕ) (policies : List Policy) (kind : Option Fil
 found_repository repo [] kind test takes = absurd (false≢true takes)
 found_repository repo (policy ∷ policies) kind test takes =
     elim (bytes_eq policy.id repo)
-        as (λ b. both (if b then Some policy else policy_of repo policies) kind test ≡ true → (b || list_any (λ p. bytes_eq p.id repo) policies) ≡ true)
-        [ true ↦ λ _. refl | false ↦ λ later. found_repository repo policies kind test later ] takes
+    as (λ b. both (if b then Some policy else policy_of repo policies) kind test ≡ true → (b || list_any (λ p. bytes_eq p.id repo) policies) ≡ true)
+    [ true ↦ λ _. refl | false ↦ λ later. found_repository repo policies kind test later ] takes
 
 module _ (settings : Settings) (old : State) (moment : ℕ) where
   abbrev To : Command → Reply → Type 0
@@ -50,8 +49,8 @@ module _ (settings : Settings) (old : State) (moment : ℕ) where
   looks repo path None is = rests
   looks repo path (Some row) is =
       elim (old.yard.next_lease == number_end)
-          as (λ end. (old.yard.next_lease == number_end) ≡ end → To (look repo path) (if end then spent else file old.yard.next_lease row.blob))
-          [ true ↦ λ _. rests | false ↦ λ below. lends repo path row is (eqb-false old.yard.next_lease number_end below) ] refl
+      as (λ end. (old.yard.next_lease == number_end) ≡ end → To (look repo path) (if end then spent else file old.yard.next_lease row.blob))
+      [ true ↦ λ _. rests | false ↦ λ below. lends repo path row is (eqb-false old.yard.next_lease number_end below) ] refl
 
   asks : (repo path : List ℕ) (here end : Bool) → (old.yard.next_draft == number_end) ≡ end →
       To (may_put repo path) (if here then (if end then spent else draft old.yard.next_draft) else kind_refused)
@@ -71,8 +70,8 @@ module _ (settings : Settings) (old : State) (moment : ℕ) where
   puts repo path n blob known among number None is = creates repo path n blob known among number is
   puts repo path n blob known among number (Some row) is =
       elim (is_same_print row.blob.print blob.print)
-          as (λ equal. To (put repo path n blob) (if equal then equal_reply row.phase else taken row.blob.print blob.print))
-          [ true ↦ puts_again repo path n blob row among is row.phase refl | false ↦ condemns n among ]
+      as (λ equal. To (put repo path n blob) (if equal then equal_reply row.phase else taken row.blob.print blob.print))
+      [ true ↦ puts_again repo path n blob row among is row.phase refl | false ↦ condemns n among ]
 
   puts_draft : (repo path : List ℕ) (n : ℕ) (blob : Blob) → is_repository settings repo ≡ true → blob.number ≡ n →
       (among : Bool) → is_among n old.yard.drafts ≡ among →
@@ -97,7 +96,7 @@ module _ (settings : Settings) (old : State) (moment : ℕ) where
       let parts = and_parts (takes && (blob.number == n)) (nat_lt blob.print.length number_end) can in
       let both_parts = and_parts takes (blob.number == n) parts.0 in
       puts_draft repo path n blob (found_repository repo settings.hosted (file_kind path) is_taken both_parts.0)
-          (eqb-true blob.number n both_parts.1) (is_among n old.yard.drafts) refl
+      (eqb-true blob.number n both_parts.1) (is_among n old.yard.drafts) refl
   replies (drop_draft n) can = drops n (is_among n old.yard.drafts) refl
 
   -- want of memory
@@ -112,6 +111,6 @@ pub turned : (settings : Settings) (old : State) (e : Entry) → Fits settings o
 turned settings old e fits =
     let To_reply : Reply → Type 0 = λ reply. To settings old e.moment e.command reply in
     elim fits.reply as (λ _. To_reply e.reply) [
-      inl is ↦ subst To_reply (sym is) (replies settings old e.moment e.command fits.condition)
-    | inr is ↦ subst To_reply (sym is.0) (wants settings old e.moment e.command is.1)
+      | inl is ↦ subst To_reply (sym is) (replies settings old e.moment e.command fits.condition)
+      | inr is ↦ subst To_reply (sym is.0) (wants settings old e.moment e.command is.1)
     ]

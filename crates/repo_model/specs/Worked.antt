@@ -1,10 +1,10 @@
 -- Worked cases: a file of a release deployed, deployed again and read, and a build that is listed again.
-use Rattle.std.specs.Prelude.{ℕ, true, false, List, [], ◌∷◌, codes, Option, Some, None}
+use Rattle.std.specs.Prelude.{ℕ, true, false, List, [], ◌∷◌, codes, Some, None}
 use Rattle.outside.specs.Moments.{Moments}
 use Rattle.repo_model.specs.declared.print.Print.{Print}
 use Rattle.repo_model.specs.Data.{Blob, Row, Phase, listed, fading, Settings}
-use Rattle.repo_model.specs.State.{State, Yard, Lease, Hosted}
-use Rattle.repo_model.specs.Command.{Command, look, done, may_put, put, drop_draft, number_end}
+use Rattle.repo_model.specs.State.{State, Yard, Hosted}
+use Rattle.repo_model.specs.Command.{Command, look, done, may_put, put, drop_draft}
 use Rattle.repo_model.specs.Reply.{Reply, file, missed, given_back, kind_refused, draft, no_draft, taken, same, relisted, created, dropped, no_memory}
 use Rattle.repo_model.specs.History.{Entry}
 

@@ -16,158 +16,99 @@ ghost use Rattle.repo_model.specs.Laws.{FadingAreSnapshots, KeepsReleases, IsArr
 
 /// A turn keeps each row of a release with every field the same, where only rows of snapshots fade, and it lets no other row fade.
 pub fn releases_stay_in_a_step()
-    ensures kept {
-        (settings : Settings) (old : State) (e : Entry) →
-        FadingAreSnapshots old → Fits settings old e → KeepsReleases old (after old e)
-    }
-    ensures fading {
-        (settings : Settings) (old : State) (e : Entry) →
-        FadingAreSnapshots old → Fits settings old e → FadingAreSnapshots (after old e)
-    }
-    ensures opening {
-        (settings : Settings) (clock : Option Moments) → FadingAreSnapshots (opening settings clock)
-    }
-{
-}
+    ensures kept { (settings : Settings) (old : State) (e : Entry) →
+        FadingAreSnapshots old → Fits settings old e → KeepsReleases old (after old e) }
+    ensures fading { (settings : Settings) (old : State) (e : Entry) →
+        FadingAreSnapshots old → Fits settings old e → FadingAreSnapshots (after old e) }
+    ensures opening { (settings : Settings) (clock : Option Moments) → FadingAreSnapshots (opening settings clock) }
+{}
 
 /// A row of a release stands for good, with every field the same, in every legal history from the opening state.
 pub fn releases_stay()
-    ensures {
-        (settings : Settings) (clock : Option Moments) (before later : List Entry) →
+    ensures { (settings : Settings) (clock : Option Moments) (before later : List Entry) →
         let start = opening settings clock in
-        Legal settings start (before ++ later) → KeepsReleases (end start before) (end start (before ++ later))
-    }
-{
-}
+        Legal settings start (before ++ later) → KeepsReleases (end start before) (end start (before ++ later)) }
+{}
 
 /// A turn leaves the repositories those of the settings, and the rows of each in byte order of path, each path once.
 pub fn rows_stay_arranged_in_a_step()
-    ensures kept {
-        (settings : Settings) (old : State) (e : Entry) →
-        IsArranged settings old → Fits settings old e → IsArranged settings (after old e)
-    }
-    ensures opening {
-        (settings : Settings) (clock : Option Moments) → IsArranged settings (opening settings clock)
-    }
-{
-}
+    ensures kept { (settings : Settings) (old : State) (e : Entry) →
+        IsArranged settings old → Fits settings old e → IsArranged settings (after old e) }
+    ensures opening { (settings : Settings) (clock : Option Moments) → IsArranged settings (opening settings clock) }
+{}
 
 /// A turn keeps the yard in order, and it is in order at the opening.
 pub fn one_place_in_a_step()
-    ensures kept {
-        (settings : Settings) (old : State) (e : Entry) →
-        IsOrderly old → Fits settings old e → IsOrderly (after old e)
-    }
-    ensures opening {
-        (settings : Settings) (clock : Option Moments) → IsOrderly (opening settings clock)
-    }
-{
-}
+    ensures kept { (settings : Settings) (old : State) (e : Entry) →
+        IsOrderly old → Fits settings old e → IsOrderly (after old e) }
+    ensures opening { (settings : Settings) (clock : Option Moments) → IsOrderly (opening settings clock) }
+{}
 
 /// A turn loses no number: a draft becomes a row's blob or is condemned, and what a row has or is condemned stays.
 pub fn no_number_is_lost_in_a_step()
-    ensures {
-        (settings : Settings) (old : State) (e : Entry) →
-        IsArranged settings old → IsOrderly old → DrawnStand old → Fits settings old e → DrawnStand (after old e)
-    }
-{
-}
+    ensures { (settings : Settings) (old : State) (e : Entry) →
+        IsArranged settings old → IsOrderly old → DrawnStand old → Fits settings old e → DrawnStand (after old e) }
+{}
 
 /// In every legal history from the opening state the rows are in order of path, a blob number stands in one place
 /// at most, and each one drawn stands in one.
 pub fn one_place()
-    ensures arranged {
-        (settings : Settings) (clock : Option Moments) (entries : List Entry) →
-        let start = opening settings clock in Legal settings start entries → IsArranged settings (end start entries)
-    }
-    ensures orderly {
-        (settings : Settings) (clock : Option Moments) (entries : List Entry) →
-        let start = opening settings clock in Legal settings start entries → IsOrderly (end start entries)
-    }
-    ensures standing {
-        (settings : Settings) (clock : Option Moments) (entries : List Entry) →
-        let start = opening settings clock in Legal settings start entries → DrawnStand (end start entries)
-    }
-{
-}
+    ensures arranged { (settings : Settings) (clock : Option Moments) (entries : List Entry) →
+        let start = opening settings clock in Legal settings start entries → IsArranged settings (end start entries) }
+    ensures orderly { (settings : Settings) (clock : Option Moments) (entries : List Entry) →
+        let start = opening settings clock in Legal settings start entries → IsOrderly (end start entries) }
+    ensures standing { (settings : Settings) (clock : Option Moments) (entries : List Entry) →
+        let start = opening settings clock in Legal settings start entries → DrawnStand (end start entries) }
+{}
 
 /// A file is answered with a lease on its blob, and a lease lasts until it is given back.
 pub fn leases_last()
-    ensures lent {
-        (settings : Settings) (old : State) (e : Entry) (lease : ℕ) (blob : Blob) →
+    ensures lent { (settings : Settings) (old : State) (e : Entry) (lease : ℕ) (blob : Blob) →
         Fits settings old e → e.reply ≡ file lease blob →
-        Contains (after old e).yard.leases (record { number = lease; blob = blob.number })
-    }
-    ensures kept {
-        (settings : Settings) (old : State) (e : Entry) (lease : Lease) →
-        Contains old.yard.leases lease → e.command ≢ done lease.number → Contains (after old e).yard.leases lease
-    }
-    ensures given_back {
-        (settings : Settings) (old : State) (e : Entry) (lease : ℕ) →
-        e.command ≡ done lease → leases_of (after old e) lease ≡ 0
-    }
-{
-}
+        Contains (after old e).yard.leases (record { number = lease; blob = blob.number }) }
+    ensures kept { (settings : Settings) (old : State) (e : Entry) (lease : Lease) →
+        Contains old.yard.leases lease → e.command ≢ done lease.number → Contains (after old e).yard.leases lease }
+    ensures given_back { (settings : Settings) (old : State) (e : Entry) (lease : ℕ) →
+        e.command ≡ done lease → leases_of (after old e) lease ≡ 0 }
+{}
 
 /// A command that is refused changes nothing but the moment. `taken` condemns the draft besides.
 /// Rows change only where a file is created or listed again.
 pub fn refusals_change_nothing()
-    ensures refused {
-        (settings : Settings) (old : State) (e : Entry) →
-        Fits settings old e → IsTrue (is_refusal e.reply) → after old e ≡ ticked old e.moment
-    }
-    ensures taken {
-        (settings : Settings) (old : State) (e : Entry) (repo path : List ℕ) (draft : ℕ) (blob : Blob) (kept sent : _) →
+    ensures refused { (settings : Settings) (old : State) (e : Entry) →
+        Fits settings old e → IsTrue (is_refusal e.reply) → after old e ≡ ticked old e.moment }
+    ensures taken { (settings : Settings) (old : State) (e : Entry) (repo path : List ℕ) (draft : ℕ) (blob : Blob) (kept sent : _) →
         Fits settings old e → e.command ≡ put repo path draft blob → e.reply ≡ taken kept sent →
-        after old e ≡ with_yard (condemned_draft draft) (ticked old e.moment)
-    }
-    ensures rows {
-        (settings : Settings) (old : State) (e : Entry) →
-        Fits settings old e → e.reply ≢ created → e.reply ≢ relisted → (after old e).hosted ≡ old.hosted
-    }
-{
-}
+        after old e ≡ with_yard (condemned_draft draft) (ticked old e.moment) }
+    ensures rows { (settings : Settings) (old : State) (e : Entry) →
+        Fits settings old e → e.reply ≢ created → e.reply ≢ relisted → (after old e).hosted ≡ old.hosted }
+{}
 
 /// Two legal histories from one state that ask alike have the same replies and the same end.
 pub fn replies_are_determined()
-    ensures replies {
-        (settings : Settings) (start : State) (one other : List Entry) →
+    ensures replies { (settings : Settings) (start : State) (one other : List Entry) →
         Legal settings start one → Legal settings start other → AllZip AsksAlike one other →
-        map (λ e. e.reply) one ≡ map (λ e. e.reply) other
-    }
-    ensures ends {
-        (settings : Settings) (start : State) (one other : List Entry) →
+        map (λ e. e.reply) one ≡ map (λ e. e.reply) other }
+    ensures ends { (settings : Settings) (start : State) (one other : List Entry) →
         Legal settings start one → Legal settings start other → AllZip AsksAlike one other →
-        end start one ≡ end start other
-    }
-{
-}
+        end start one ≡ end start other }
+{}
 
 /// The moments of a legal history never fall, and none is later than the latest moment, where the last one before is not.
 pub fn moments_rise()
-    ensures rising {
-        (settings : Settings) (start : State) (entries : List Entry) →
-        Legal settings start entries → IsNonDecreasing (moments_of start entries)
-    }
-    ensures capped {
-        (settings : Settings) (start : State) (entries : List Entry) →
-        Legal settings start entries → start.last ≤ latest_moment → All (λ moment. moment ≤ latest_moment) (moments_of start entries)
-    }
-{
-}
+    ensures rising { (settings : Settings) (start : State) (entries : List Entry) →
+        Legal settings start entries → IsNonDecreasing (moments_of start entries) }
+    ensures capped { (settings : Settings) (start : State) (entries : List Entry) →
+        Legal settings start entries → start.last ≤ latest_moment → All (λ moment. moment ≤ latest_moment) (moments_of start entries) }
+{}
 
 /// `spent` is the reply exactly where a number is to be drawn and the next one is 2 ^ 63.
 pub fn numbers_are_spent()
     ensures end { number_end ≡ 2 ^ 63 }
-    ensures drafts {
-        (settings : Settings) (s : State) (repo path : List ℕ) →
+    ensures drafts { (settings : Settings) (s : State) (repo path : List ℕ) →
         (reply_of settings s (may_put repo path) ≡ spent)
-            ↔ (IsTrue (fits_repo settings repo path is_taken) × (s.yard.next_draft ≡ number_end))
-    }
-    ensures leases {
-        (settings : Settings) (s : State) (repo path : List ℕ) →
+        ↔ (IsTrue (fits_repo settings repo path is_taken) × (s.yard.next_draft ≡ number_end)) }
+    ensures leases { (settings : Settings) (s : State) (repo path : List ℕ) →
         (reply_of settings s (look repo path) ≡ spent)
-            ↔ (IsSome (row_at path (rows_of repo s.hosted)) × (s.yard.next_lease ≡ number_end))
-    }
-{
-}
+        ↔ (IsSome (row_at path (rows_of repo s.hosted)) × (s.yard.next_lease ≡ number_end)) }
+{}

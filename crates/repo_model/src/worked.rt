@@ -11,8 +11,7 @@ pub fn worked_history()
     ensures legal { Legal shop (opening shop (Some clock)) (deployed ++ read) }
     ensures hosted { (end (opening shop (Some clock)) (deployed ++ read)).hosted ≡ hosted_then }
     ensures yard { (end (opening shop (Some clock)) (deployed ++ read)).yard ≡ yard_then }
-{
-}
+{}
 
 /// A build that had faded is listed again at the moment of the same bytes, which are not kept a second time.
 pub fn worked_relisting()
@@ -20,5 +19,4 @@ pub fn worked_relisting()
     ensures hosted { (after faded sent_again).hosted ≡ hosted_with 700 listed }
     ensures condemned { (after faded sent_again).yard.condemned ≡ 2 ∷ [] }
     ensures drafts { (after faded sent_again).yard.drafts ≡ [] }
-{
-}
+{}

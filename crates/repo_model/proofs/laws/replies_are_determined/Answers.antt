@@ -1,5 +1,4 @@
 use Rattle.std.proofs.Common.{List, map, ap}
-use Rattle.repo_model.specs.Reply.{Reply}
 use Rattle.repo_model.specs.History.{Entry, end}
 use Rattle.repo_model.proofs.laws.replies_are_determined.Goals as goal
 use Rattle.repo_model.proofs.Determined.{histories_same}

@@ -1,4 +1,4 @@
-use Rattle.std.proofs.Common.{◌≡◌, ℕ, ◌≤◌, refl, inl, inr, rules}
+use Rattle.std.proofs.Common.{rules}
 use Rattle.repo_model.specs.File.{parts_of}
 use Rattle.repo_model.proofs.worked.worked_history.Goals as goal
 
