@@ -5,6 +5,7 @@ use Rattle.std.specs.declared.cmp.Ordering.TheVariants.{Less}
 use Rattle.std.specs.Cmp.Lexicographic.{slice_cmp}
 use Rattle.repo_model.specs.Data.{Row, fading, Settings}
 use Rattle.repo_model.specs.State.{State, row_at, rows_of}
+use Rattle.repo_model.specs.Yard.{IsOrderly, DrawnStand}
 use Rattle.repo_model.specs.File.{file_kind, release, snapshot}
 use Rattle.repo_model.specs.Reply.{Reply, missed, kind_refused, no_draft, spent, no_memory}
 use Rattle.repo_model.specs.History.{Entry}
@@ -28,6 +29,13 @@ AreByPath rows = AllPairs (λ path later. slice_cmp nat_cmp path later ≡ Less)
 pub record IsArranged (settings : Settings) (s : State) : Type 0 where
   pub repositories : map (λ h. h.id) s.hosted ≡ map (λ policy. policy.id) settings.hosted
   pub rows : All (λ h. AreByPath h.rows) s.hosted
+
+-- what holds of a state at every reachable moment
+pub record IsSound (settings : Settings) (s : State) : Type 0 where
+  pub arranged : IsArranged settings s
+  pub orderly : IsOrderly s
+  pub standing : DrawnStand s
+  pub fading : FadingAreSnapshots s
 
 -- the replies that refuse a command and change nothing (`taken` refuses too, and takes the draft)
 abbrev pub is_refusal : Reply → Bool

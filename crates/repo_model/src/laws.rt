@@ -1,18 +1,18 @@
 //! The laws of the machine. No function here has code: its contract is the law.
 
-ghost use Rattle.std.specs.Prelude.{◌≡◌, ◌≢◌, ◌≤◌, ◌^◌, ◌↔◌, ℕ, List, ◌++◌, map, Some, Option, IsTrue, IsSome, All, Contains};
+ghost use Rattle.std.specs.Prelude.{◌≡◌, ◌≢◌, ◌<◌, ◌≤◌, ◌+◌, ◌^◌, ◌⊎◌, ◌↔◌, ℕ, List, ◌++◌, map, Some, Option, IsTrue, IsSome, All, Contains};
 ghost use Rattle.std.specs.List.Sorted.{IsNonDecreasing};
 ghost use Rattle.std.specs.List.{AllZip};
 ghost use Rattle.outside.specs.Moments.{Moments};
 ghost use Rattle.repo_model.specs.Data.{Row, Blob, Settings};
 ghost use Rattle.repo_model.specs.State.{State, Lease, opening, row_at, rows_of, condemned_draft};
-ghost use Rattle.repo_model.specs.Yard.{IsOrderly, DrawnStand, leases_of};
+ghost use Rattle.repo_model.specs.Yard.{IsOrderly, DrawnStand, leases_of, places_of, rows_with, count_of};
 ghost use Rattle.repo_model.specs.Command.{look, done, may_put, put, number_end, fits_repo};
 ghost use Rattle.repo_model.specs.File.{is_taken};
 ghost use Rattle.repo_model.specs.Reply.{file, created, relisted, taken, spent};
 ghost use Rattle.repo_model.specs.Step.{latest_moment, ticked, with_yard, reply_of};
 ghost use Rattle.repo_model.specs.History.{Entry, Fits, Legal, after, end};
-ghost use Rattle.repo_model.specs.Laws.{FadingAreSnapshots, KeepsReleases, IsArranged, is_refusal, AsksAlike, moments_of};
+ghost use Rattle.repo_model.specs.Laws.{FadingAreSnapshots, KeepsReleases, IsArranged, IsSound, is_refusal, AsksAlike, moments_of};
 
 /// A turn keeps each row of a release with every field the same, where only rows of snapshots fade, and it lets no other row fade.
 pub fn releases_stay_in_a_step()
@@ -50,15 +50,28 @@ pub fn no_number_is_lost_in_a_step()
         IsArranged settings old → IsOrderly old → DrawnStand old → Fits settings old e → DrawnStand (after old e) }
 {}
 
-/// In every legal history from the opening state the rows are in order of path, a blob number stands in one place
-/// at most, and each one drawn stands in one.
+/// The opening state is sound, a turn leaves a sound state sound, and so does a legal history.
+pub fn states_stay_sound()
+    ensures opening { (settings : Settings) (clock : Option Moments) → IsSound settings (opening settings clock) }
+    ensures turn { (settings : Settings) (old : State) (e : Entry) →
+        IsSound settings old → Fits settings old e → IsSound settings (after old e) }
+    ensures history { (settings : Settings) (start : State) (entries : List Entry) →
+        IsSound settings start → Legal settings start entries → IsSound settings (end start entries) }
+{}
+
+/// In every legal history from the opening state a blob number that was drawn stands in exactly one place, and any
+/// other in none. A blob that a reader has borrowed is a row's or condemned.
 pub fn one_place()
-    ensures arranged { (settings : Settings) (clock : Option Moments) (entries : List Entry) →
-        let start = opening settings clock in Legal settings start entries → IsArranged settings (end start entries) }
-    ensures orderly { (settings : Settings) (clock : Option Moments) (entries : List Entry) →
-        let start = opening settings clock in Legal settings start entries → IsOrderly (end start entries) }
-    ensures standing { (settings : Settings) (clock : Option Moments) (entries : List Entry) →
-        let start = opening settings clock in Legal settings start entries → DrawnStand (end start entries) }
+    ensures one { (settings : Settings) (clock : Option Moments) (entries : List Entry) (n : ℕ) →
+        let s = end (opening settings clock) entries in
+        Legal settings (opening settings clock) entries → 0 < n → n < s.yard.next_draft → places_of s n ≡ 1 }
+    ensures none { (settings : Settings) (clock : Option Moments) (entries : List Entry) (n : ℕ) →
+        let s = end (opening settings clock) entries in
+        Legal settings (opening settings clock) entries → (n ≡ 0) ⊎ (s.yard.next_draft ≤ n) → places_of s n ≡ 0 }
+    ensures leased { (settings : Settings) (clock : Option Moments) (entries : List Entry) →
+        let s = end (opening settings clock) entries in
+        Legal settings (opening settings clock) entries →
+        All (λ lease. 0 < rows_with lease.blob s.hosted + count_of lease.blob s.yard.condemned) s.yard.leases }
 {}
 
 /// A file is answered with a lease on its blob, and a lease lasts until it is given back.
