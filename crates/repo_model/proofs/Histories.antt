@@ -48,7 +48,7 @@ releases-end : (settings : Settings) (start : State) (entries : List Entry) → 
 releases-end settings start [] sound legal repo path row is_release is = is
 releases-end settings start (e ∷ entries) sound legal repo path row is_release is =
     releases-end settings (after start e) entries (sound-after settings start e sound legal.0) legal.1 repo path row is_release
-        (releases-after settings start e sound.fading legal.0 repo path row is_release is)
+    (releases-after settings start e sound.fading legal.0 repo path row is_release is)
 
 pub releases-later : (settings : Settings) (clock : Option Moments) (before later : List Entry) →
     Legal settings (opening settings clock) (before ++ later) →
@@ -57,7 +57,7 @@ releases-later settings clock before later legal =
     let start = opening settings clock in
     let parts = Legal-parts settings start before later legal in
     subst (KeepsReleases (end start before)) (sym (end-append start before later))
-        (releases-end settings (end start before) later (sound-end settings start before (sound-opening settings clock) parts.0) parts.1)
+    (releases-end settings (end start before) later (sound-end settings start before (sound-opening settings clock) parts.0) parts.1)
 
 pub sound-later : (settings : Settings) (clock : Option Moments) (entries : List Entry) →
     Legal settings (opening settings clock) entries → IsSound settings (end (opening settings clock) entries)

@@ -5,6 +5,7 @@ pub mod Arranged
 pub mod Counts
 pub mod Orderly
 pub mod Standing
+pub mod Drafts
 pub mod Leases
 pub mod Histories
 pub mod Determined

@@ -7,9 +7,9 @@ ghost use Rattle.outside.specs.Moments.{Moments};
 ghost use Rattle.repo_model.specs.Data.{Row, Blob, Settings};
 ghost use Rattle.repo_model.specs.State.{State, Lease, opening, row_at, rows_of, condemned_draft};
 ghost use Rattle.repo_model.specs.Yard.{IsOrderly, DrawnStand, leases_of, places_of, rows_with, count_of};
-ghost use Rattle.repo_model.specs.Command.{look, done, may_put, put, number_end, fits_repo};
+ghost use Rattle.repo_model.specs.Command.{look, done, may_put, put, drop_draft, number_end, fits_repo};
 ghost use Rattle.repo_model.specs.File.{is_taken};
-ghost use Rattle.repo_model.specs.Reply.{file, created, relisted, taken, spent};
+ghost use Rattle.repo_model.specs.Reply.{file, created, relisted, taken, spent, no_memory};
 ghost use Rattle.repo_model.specs.Step.{latest_moment, ticked, with_yard, reply_of};
 ghost use Rattle.repo_model.specs.History.{Entry, Fits, Legal, after, end};
 ghost use Rattle.repo_model.specs.Laws.{FadingAreSnapshots, KeepsReleases, IsArranged, IsSound, is_refusal, AsksAlike, moments_of};
@@ -72,6 +72,18 @@ pub fn one_place()
         let s = end (opening settings clock) entries in
         Legal settings (opening settings clock) entries →
         All (λ lease. 0 < rows_with lease.blob s.hosted + count_of lease.blob s.yard.condemned) s.yard.leases }
+{}
+
+/// A draft serves once: a `put` or `drop_draft` that names it gives it up, and it is never drawn again.
+pub fn drafts_serve_once()
+    ensures put { (settings : Settings) (old : State) (e : Entry) (repo path : List ℕ) (draft : ℕ) (blob : Blob) →
+        Fits settings old e → e.command ≡ put repo path draft blob → e.reply ≢ no_memory →
+        count_of draft (after old e).yard.drafts ≡ 0 }
+    ensures dropped { (old : State) (e : Entry) (draft : ℕ) →
+        e.command ≡ drop_draft draft → count_of draft (after old e).yard.drafts ≡ 0 }
+    ensures gone { (settings : Settings) (old : State) (e : Entry) (n : ℕ) →
+        Fits settings old e → n < old.yard.next_draft → count_of n old.yard.drafts ≡ 0 →
+        (n < (after old e).yard.next_draft) × (count_of n (after old e).yard.drafts ≡ 0) }
 {}
 
 /// A file is answered with a lease on its blob, and a lease lasts until it is given back.

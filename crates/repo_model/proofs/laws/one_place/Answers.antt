@@ -1,4 +1,4 @@
-use Rattle.std.proofs.Common.{◌≡◌, ℕ, ◌<◌, ◌≤◌, inl, inr, arith}
+use Rattle.std.proofs.Common.{◌≡◌, inl, inr, arith}
 use Rattle.std.proofs.lemmas.Bool.{cases_lt}
 use Rattle.repo_model.specs.State.{opening}
 use Rattle.repo_model.specs.Yard.{places_of}
@@ -16,7 +16,7 @@ returns-clause-none c settings clock entries n legal past =
     let s = end (opening settings clock) entries in
     let sound = sound-later settings clock entries legal in
     elim (cases_lt 0 (places_of s n)) as (λ _. places_of s n ≡ 0)
-        [ inl stands ↦ absurd (omega (arith, past, sound.orderly.places.drawn n stands)) | inr none ↦ omega arith ]
+    [ inl stands ↦ absurd (omega (arith, past, sound.orderly.places.drawn n stands)) | inr none ↦ omega arith ]
 
 pub returns-clause-leased : goal.returns-clause-leased
 returns-clause-leased c settings clock entries legal = (sound-later settings clock entries legal).orderly.held
