@@ -1,13 +1,23 @@
 -- Histories that ask alike from one state are the same.
-use Rattle.std.proofs.Common.{◌≡◌, ℕ, List, [], ◌∷◌, inl, inr, refl, sym, ◌∙◌, ap, subst}
+use Rattle.std.proofs.Common.{◌≡◌, ◌≢◌, ℕ, List, [], ◌∷◌, inl, inr, refl, sym, ◌∙◌, ap, subst}
 use Rattle.std.specs.List.{AllZip}
 use Rattle.repo_model.specs.Data.{Settings}
 use Rattle.repo_model.specs.State.{State}
 use Rattle.repo_model.specs.Command.{Command}
-use Rattle.repo_model.specs.Reply.{Reply}
-use Rattle.repo_model.specs.Step.{reply_of}
+use Rattle.repo_model.specs.Reply.{Reply, no_memory}
+use Rattle.repo_model.specs.Step.{ticked, reply_of, changed, state_after}
 use Rattle.repo_model.specs.History.{Entry, Fits, after, Legal}
 use Rattle.repo_model.specs.Laws.{AsksAlike}
+
+pub reply-determined : (settings : Settings) (old : State) (e : Entry) → Fits settings old e → e.reply ≢ no_memory →
+    e.reply ≡ reply_of settings old e.command
+reply-determined settings old e fits remembered =
+    elim fits.reply as (λ _. e.reply ≡ reply_of settings old e.command) [ inl is ↦ is | inr none ↦ absurd (remembered none.0) ]
+
+pub state-determined : (settings : Settings) (old : State) (e : Entry) → Fits settings old e → e.reply ≢ no_memory →
+    after old e ≡ state_after settings old e.command e.moment
+state-determined settings old e fits remembered =
+    ap (changed (ticked old e.moment) e.command e.moment) (reply-determined settings old e fits remembered)
 
 same_reply : (settings : Settings) (old : State) (one other : Entry) → Fits settings old one → Fits settings old other →
     AsksAlike one other → one.reply ≡ other.reply

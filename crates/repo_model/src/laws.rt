@@ -10,7 +10,7 @@ ghost use Rattle.repo_model.specs.Yard.{IsOrderly, DrawnStand, leases_of, places
 ghost use Rattle.repo_model.specs.Command.{look, done, may_put, put, drop_draft, number_end, fits_repo};
 ghost use Rattle.repo_model.specs.File.{is_taken};
 ghost use Rattle.repo_model.specs.Reply.{file, created, relisted, taken, spent, no_memory};
-ghost use Rattle.repo_model.specs.Step.{latest_moment, ticked, with_yard, reply_of};
+ghost use Rattle.repo_model.specs.Step.{latest_moment, ticked, with_yard, reply_of, state_after};
 ghost use Rattle.repo_model.specs.History.{Entry, Fits, Legal, after, end};
 ghost use Rattle.repo_model.specs.Laws.{FadingAreSnapshots, KeepsReleases, IsArranged, IsSound, is_refusal, AsksAlike, moments_of};
 
@@ -109,8 +109,13 @@ pub fn refusals_change_nothing()
         Fits settings old e → e.reply ≢ created → e.reply ≢ relisted → (after old e).hosted ≡ old.hosted }
 {}
 
-/// Two legal histories from one state that ask alike have the same replies and the same end.
+/// But for want of memory the reply and the next state are functions of the state, the command and the moment. So two
+/// legal histories from one state that ask alike have the same replies and the same end.
 pub fn replies_are_determined()
+    ensures reply { (settings : Settings) (old : State) (e : Entry) →
+        Fits settings old e → e.reply ≢ no_memory → e.reply ≡ reply_of settings old e.command }
+    ensures state { (settings : Settings) (old : State) (e : Entry) →
+        Fits settings old e → e.reply ≢ no_memory → after old e ≡ state_after settings old e.command e.moment }
     ensures replies { (settings : Settings) (start : State) (one other : List Entry) →
         Legal settings start one → Legal settings start other → AllZip AsksAlike one other →
         map (λ e. e.reply) one ≡ map (λ e. e.reply) other }
