@@ -2,14 +2,14 @@
 use Rattle.std.proofs.Common.{◌≡◌, ℕ, zero, suc, ◌≤◌, min, max, List, [], ◌∷◌, map, get_or, Option, Some, None, refl, sym, subst, arith}
 use Rattle.std.specs.Prelude.{All, MatchOption}
 use Rattle.std.specs.List.Sorted.{IsNonDecreasing}
-use Rattle.std.proofs.lemmas.List.Elements.{All-nil, All-cons}
-use Rattle.std.proofs.lemmas.List.Sorted.{IsNonDecreasingBy-short}
+use Rattle.std.proofs.lemmas.List.Elements.{All-nil, All-cons, All-weaker}
 use Rattle.outside.specs.Moments.{Moments}
 use Rattle.repo_model.specs.Data.{Settings}
 use Rattle.repo_model.specs.State.{State}
 use Rattle.repo_model.specs.Step.{latest_moment}
 use Rattle.repo_model.specs.History.{Entry, Fits, after, Legal}
 use Rattle.repo_model.specs.Laws.{moments_of}
+use Rattle.repo_model.proofs.Rising.{IsNonDecreasing-cons, IsNonDecreasing-one, first_least}
 use Rattle.repo_model.proofs.Turns.{Change, rests, lends, returns, draws, creates, relists, condemns, turned}
 
 -- the moment of a turn becomes the last one
@@ -33,15 +33,14 @@ bounded last moment None fits = (fits.0, omega (arith, fits.1))
 bounded last moment (Some left) fits = (omega (arith, fits), omega (arith, fits))
 
 rises : (first second : ℕ) (rest : List ℕ) → first ≤ second → IsNonDecreasing (second ∷ rest) → IsNonDecreasing (first ∷ second ∷ rest)
-rises first second rest up rising zero zero d le lt = omega arith
-rises first second rest up rising zero (suc j) d le lt =
-    let later : second ≤ get_or (second ∷ rest) j d = rising 0 j d (omega arith) (omega arith) in omega (arith, later)
-rises first second rest up rising (suc i) zero d le lt = absurd (omega arith)
-rises first second rest up rising (suc i) (suc j) d le lt = rising i j d (omega arith) (omega arith)
+rises first second rest up rising =
+    let above : All (λ m. second ≤ m) rest = first_least second rest rising in
+    IsNonDecreasing-cons first (second ∷ rest)
+        (All-cons (λ m. first ≤ m) second rest up (All-weaker (λ m. second ≤ m) (λ m. first ≤ m) (λ m le. omega (arith, up)) rest above)) rising
 
 pub moments-rising : (settings : Settings) (start : State) (entries : List Entry) → Legal settings start entries →
     IsNonDecreasing (moments_of start entries)
-moments-rising settings start [] legal = IsNonDecreasingBy-short (λ (n : ℕ). n) (start.last ∷ []) (omega arith)
+moments-rising settings start [] legal = IsNonDecreasing-one start.last
 moments-rising settings start (e ∷ entries) legal =
     let rest : IsNonDecreasing (e.moment ∷ map (λ x. x.moment) entries) =
     subst (λ (m : ℕ). IsNonDecreasing (m ∷ map (λ (x : Entry). x.moment) entries)) (last-after settings start e legal.0)

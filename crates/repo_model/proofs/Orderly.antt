@@ -4,6 +4,8 @@ use Rattle.std.specs.Prelude.{◌==◌, not, All, count_by}
 use Rattle.std.proofs.lemmas.Bool.{eq-eqb, ne_eqb, cases_eq, cases_lt}
 use Rattle.std.proofs.lemmas.List.Elements.{All-nil, All-push, All-filter, All-weaker}
 use Rattle.std.proofs.lemmas.List.Sums.{sum_by_push}
+use Rattle.std.specs.List.Sorted.{IsNonDecreasing}
+use Rattle.std.proofs.lemmas.List.Sorted.{IsNonDecreasingBy-short}
 use Rattle.outside.specs.Moments.{Moments}
 use Rattle.repo_model.specs.Data.{Row, Blob, Policy, Settings}
 use Rattle.repo_model.specs.State.{State, Lease, row_at, rows_of, with_row, relisted, without_number, is_among, condemned_draft, kept_draft, drawn_draft, leased, given_back, empty_hosted, opening}
@@ -11,6 +13,7 @@ use Rattle.repo_model.specs.Step.{ticked, with_yard, with_rows_of, new_row}
 use Rattle.repo_model.specs.History.{Entry, Fits, after}
 use Rattle.repo_model.specs.Yard.{count_of, rows_with, places_of, leases_of, AreDrawnOnce, IsOrderly}
 use Rattle.repo_model.specs.Command.{number_end}
+use Rattle.repo_model.proofs.Rising.{IsNonDecreasing-with_number}
 use Rattle.repo_model.proofs.Turns.{Change, rests, lends, returns, draws, creates, relists, condemns, turned}
 use Rattle.repo_model.proofs.Counts.{one_if, names, count_of-push, count_of-with_number, count_of-without_number, count_of-without_other, is_among-counts, count_by-with_row, count_by-relisted, rows_with-cons, rows_with-with_rows, rows_with-row_at, count_by-filter}
 
@@ -74,13 +77,14 @@ moved : (old new : State) → IsOrderly old → new.yard.next_draft ≡ old.yard
     new.yard.leases ≡ old.yard.leases → new.yard.next_lease ≡ old.yard.next_lease →
     ((k : ℕ) → places_of new k ≤ places_of old k) →
     ((k : ℕ) → rows_with k old.hosted + count_of k old.yard.condemned ≤ rows_with k new.hosted + count_of k new.yard.condemned) →
-    IsOrderly new
-moved old new order next leases next_lease fewer held = record {
+    IsNonDecreasing new.yard.condemned → IsOrderly new
+moved old new order next leases next_lease fewer held rising = record {
   places = subst (AreDrawnOnce (places_of new)) (sym next)
       (fewer_drawn (places_of old) (places_of new) old.yard.next_draft order.places fewer);
   leases = subst (AreDrawnOnce (leases_of new)) (sym next_lease)
       (fewer_drawn (leases_of old) (leases_of new) old.yard.next_lease order.leases
       (λ n. let same : leases_of new n ≡ leases_of old n = ap (count_by (λ (l : Lease). l.number == n)) leases in omega (arith, same)));
+  condemned = rising;
   held = subst (λ (ls : List Lease). All (IsHeld new) ls) (sym leases)
       (All-weaker (IsHeld old) (IsHeld new) (λ lease is. omega (arith, held lease.blob)) old.yard.leases order.held);
 }
@@ -94,6 +98,7 @@ drawn_in_order old moment order below =
       places = next_drawn (places_of old) (places_of new) next order.places below
           (λ k. omega (arith, count_of-push k old.yard.drafts next));
       leases = order.leases;
+      condemned = order.condemned;
       held = order.held;
     }
 
@@ -103,6 +108,7 @@ condemned_in_order old moment n order among =
     moved old (with_yard (condemned_draft n) (ticked old moment)) order refl refl refl
     (λ k. omega (arith, draft_moves k n old.yard.drafts among, count_of-with_number k n old.yard.condemned))
     (λ k. omega (arith, count_of-with_number k n old.yard.condemned))
+        (IsNonDecreasing-with_number n old.yard.condemned order.condemned)
 
 relisted_in_order : (old : State) (moment : ℕ) (repo path : List ℕ) (n : ℕ) → IsOrderly old → is_among n old.yard.drafts ≡ true →
     IsOrderly (with_rows_of repo (relisted path moment) (with_yard (condemned_draft n) (ticked old moment)))
@@ -112,6 +118,7 @@ relisted_in_order old moment repo path n order among =
     moved old (with_rows_of repo (relisted path moment) (with_yard (condemned_draft n) (ticked old moment))) order refl refl refl
     (λ k. omega (arith, draft_moves k n old.yard.drafts among, count_of-with_number k n old.yard.condemned, (same k).1))
     (λ k. omega (arith, count_of-with_number k n old.yard.condemned, (same k).0))
+        (IsNonDecreasing-with_number n old.yard.condemned order.condemned)
 
 created_in_order : (old : State) (moment : ℕ) (repo path : List ℕ) (n : ℕ) (blob : Blob) → IsOrderly old →
     is_among n old.yard.drafts ≡ true → blob.number ≡ n →
@@ -124,6 +131,7 @@ created_in_order old moment repo path n blob order among number =
     moved old (with_rows_of repo (with_row row) (with_yard (kept_draft n) (ticked old moment))) order refl refl refl
     (λ k. omega (arith, draft_moves k n old.yard.drafts among, one k, (more k).1))
     (λ k. omega (arith, (more k).0))
+        order.condemned
 
 lent_in_order : (old : State) (moment : ℕ) (repo path : List ℕ) (row : Row) → IsOrderly old →
     row_at path (rows_of repo old.hosted) ≡ Some row → (old.yard.next_lease ≡ number_end → ⊥) →
@@ -135,6 +143,7 @@ lent_in_order old moment repo path row order is below =
       places = order.places;
       leases = next_drawn (leases_of old) (leases_of new) old.yard.next_lease order.leases below
           (λ n. sum_by_push (λ (l : Lease). one_if (l.number == n)) old.yard.leases lease);
+      condemned = order.condemned;
       held = All-push (IsHeld old) old.yard.leases lease order.held (omega (arith, rows_with-row_at repo path old.hosted row is));
     }
 
@@ -146,11 +155,12 @@ returned_in_order old moment lease order =
       places = order.places;
       leases = fewer_drawn (leases_of old) (leases_of new) old.yard.next_lease order.leases
           (λ n. count_by-filter (λ (l : Lease). l.number == n) stays old.yard.leases);
+      condemned = order.condemned;
       held = All-filter stays (IsHeld old) old.yard.leases order.held;
     }
 
 orderly_kept : (settings : Settings) (old : State) (moment : ℕ) (new : State) → IsOrderly old → Change settings old moment new → IsOrderly new
-orderly_kept settings old moment new order rests = record { places = order.places; leases = order.leases; held = order.held }
+orderly_kept settings old moment new order rests = record { places = order.places; leases = order.leases; condemned = order.condemned; held = order.held }
 orderly_kept settings old moment new order (lends repo path row is below) = lent_in_order old moment repo path row order is below
 orderly_kept settings old moment new order (returns lease) = returned_in_order old moment lease order
 orderly_kept settings old moment new order (draws below) = drawn_in_order old moment order below
@@ -175,5 +185,6 @@ orderly-opening settings clock = record {
     capped = omega arith;
   };
   leases = record { once = λ n. omega arith; drawn = λ n stands. absurd (omega arith); begun = omega arith; capped = omega arith };
+  condemned = IsNonDecreasingBy-short (λ (n : ℕ). n) [] (omega arith);
   held = All-nil (IsHeld (opening settings clock));
 }

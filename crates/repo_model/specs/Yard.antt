@@ -1,5 +1,6 @@
 -- The yard in order: numbers are drawn once, and a blob number stands in one place at most.
 use Rattle.std.specs.Prelude.{ℕ, ◌+◌, ◌<◌, ◌≤◌, ◌==◌, List, sum_by, count_by, All}
+use Rattle.std.specs.List.Sorted.{IsNonDecreasing}
 use Rattle.repo_model.specs.State.{State, Hosted}
 use Rattle.repo_model.specs.Command.{number_end}
 
@@ -30,6 +31,7 @@ pub record IsOrderly (s : State) : Type 0 where
   -- each blob number stands in one place at most
   pub places : AreDrawnOnce (places_of s) s.yard.next_draft
   pub leases : AreDrawnOnce (leases_of s) s.yard.next_lease
+  pub condemned : IsNonDecreasing s.yard.condemned
   -- a blob that a reader has borrowed is a row's or condemned
   pub held : All (λ lease. 0 < rows_with lease.blob s.hosted + count_of lease.blob s.yard.condemned) s.yard.leases
 
