@@ -2,6 +2,7 @@ pub mod Turns
 pub mod Rows
 pub mod Releases
 pub mod Arranged
+pub mod Prints
 pub mod Rising
 pub mod Counts
 pub mod Orderly

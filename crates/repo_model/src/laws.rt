@@ -4,7 +4,8 @@ ghost use Rattle.std.specs.Prelude.{◌≡◌, ◌≢◌, ◌<◌, ◌≤◌, �
 ghost use Rattle.std.specs.List.Sorted.{IsNonDecreasing};
 ghost use Rattle.std.specs.List.{AllZip};
 ghost use Rattle.outside.specs.Moments.{Moments};
-ghost use Rattle.repo_model.specs.Data.{Row, Blob, Settings};
+ghost use Rattle.repo_model.specs.declared.print.Print.{Print};
+ghost use Rattle.repo_model.specs.Data.{is_same_print, Blob, Settings};
 ghost use Rattle.repo_model.specs.State.{State, Lease, opening, row_at, rows_of, condemned_draft};
 ghost use Rattle.repo_model.specs.Yard.{IsOrderly, DrawnStand, leases_of, places_of, rows_with, count_of};
 ghost use Rattle.repo_model.specs.Command.{look, done, may_put, put, drop_draft, number_end, fits_repo};
@@ -141,4 +142,9 @@ pub fn numbers_are_spent()
     ensures leases { (settings : Settings) (s : State) (repo path : List ℕ) →
         (reply_of settings s (look repo path) ≡ spent)
         ↔ (IsSome (row_at path (rows_of repo s.hosted)) × (s.yard.next_lease ≡ number_end)) }
+{}
+
+/// Contents count as equal exactly where length and both digests are the same.
+pub fn prints_compare()
+    ensures { (a b : Print) → IsTrue (is_same_print a b) ↔ (a ≡ b) }
 {}
