@@ -1,5 +1,5 @@
 -- Legal histories: what each entry keeps a history keeps, and a history cut in two.
-use Rattle.std.proofs.Common.{◌≡◌, List, [], ◌∷◌, ◌++◌, Option, refl, sym, subst}
+use Rattle.std.proofs.Common.{◌≡◌, List, [], ◌∷◌, ◌++◌, Option, refl, sym, subst, arith}
 use Rattle.outside.specs.Moments.{Moments}
 use Rattle.repo_model.specs.Data.{Settings}
 use Rattle.repo_model.specs.State.{State, opening}
@@ -8,6 +8,7 @@ use Rattle.repo_model.specs.Laws.{KeepsReleases, IsSound}
 use Rattle.repo_model.proofs.Releases.{releases-after, fading-after, fading-opening}
 use Rattle.repo_model.proofs.Arranged.{arranged-after, arranged-opening}
 use Rattle.repo_model.proofs.Standing.{standing-after, standing-opening}
+use Rattle.repo_model.proofs.Moments.{last-capped}
 use Rattle.repo_model.proofs.Orderly.{orderly-after, orderly-opening}
 
 end-append : (start : State) (before later : List Entry) → end start (before ++ later) ≡ end (end start before) later
@@ -27,6 +28,7 @@ sound-opening settings clock = record {
   orderly = orderly-opening settings clock;
   standing = standing-opening settings clock;
   fading = fading-opening settings clock;
+  last = omega arith;
 }
 
 pub sound-after : (settings : Settings) (old : State) (e : Entry) → IsSound settings old → Fits settings old e → IsSound settings (after old e)
@@ -35,6 +37,7 @@ sound-after settings old e sound fits = record {
   orderly = orderly-after settings old e sound.orderly fits;
   standing = standing-after settings old e sound.arranged sound.orderly sound.standing fits;
   fading = fading-after settings old e sound.fading fits;
+  last = last-capped settings old e sound.last fits;
 }
 
 pub sound-end : (settings : Settings) (start : State) (entries : List Entry) → IsSound settings start → Legal settings start entries →

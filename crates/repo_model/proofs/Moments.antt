@@ -1,5 +1,5 @@
 -- The moments of a legal history never fall, nor pass the latest moment.
-use Rattle.std.proofs.Common.{◌≡◌, ℕ, zero, suc, ◌≤◌, min, max, List, [], ◌∷◌, map, get_or, Option, Some, None, refl, sym, subst, arith}
+use Rattle.std.proofs.Common.{◌≡◌, ℕ, ◌≤◌, min, max, List, [], ◌∷◌, map, Option, Some, None, refl, sym, subst, arith}
 use Rattle.std.specs.Prelude.{All, MatchOption}
 use Rattle.std.specs.List.Sorted.{IsNonDecreasing}
 use Rattle.std.proofs.lemmas.List.Elements.{All-nil, All-cons, All-weaker}
@@ -32,11 +32,17 @@ bounded : (last moment : ℕ) (clock : Option Moments) →
 bounded last moment None fits = (fits.0, omega (arith, fits.1))
 bounded last moment (Some left) fits = (omega (arith, fits), omega (arith, fits))
 
+pub last-capped : (settings : Settings) (old : State) (e : Entry) → old.last ≤ latest_moment → Fits settings old e →
+    (after old e).last ≤ latest_moment
+last-capped settings old e cap fits =
+    let is = last-after settings old e fits in
+    omega (arith, is, cap, (bounded old.last e.moment old.clock fits.moment).1)
+
 rises : (first second : ℕ) (rest : List ℕ) → first ≤ second → IsNonDecreasing (second ∷ rest) → IsNonDecreasing (first ∷ second ∷ rest)
 rises first second rest up rising =
     let above : All (λ m. second ≤ m) rest = first_least second rest rising in
     IsNonDecreasing-cons first (second ∷ rest)
-        (All-cons (λ m. first ≤ m) second rest up (All-weaker (λ m. second ≤ m) (λ m. first ≤ m) (λ m le. omega (arith, up)) rest above)) rising
+    (All-cons (λ m. first ≤ m) second rest up (All-weaker (λ m. second ≤ m) (λ m. first ≤ m) (λ m le. omega (arith, up)) rest above)) rising
 
 pub moments-rising : (settings : Settings) (start : State) (entries : List Entry) → Legal settings start entries →
     IsNonDecreasing (moments_of start entries)

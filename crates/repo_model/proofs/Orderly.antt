@@ -11,7 +11,7 @@ use Rattle.repo_model.specs.Data.{Row, Blob, Policy, Settings}
 use Rattle.repo_model.specs.State.{State, Lease, row_at, rows_of, with_row, relisted, without_number, is_among, condemned_draft, kept_draft, drawn_draft, leased, given_back, empty_hosted, opening}
 use Rattle.repo_model.specs.Step.{ticked, with_yard, with_rows_of, new_row}
 use Rattle.repo_model.specs.History.{Entry, Fits, after}
-use Rattle.repo_model.specs.Yard.{count_of, rows_with, places_of, leases_of, AreDrawnOnce, IsOrderly}
+use Rattle.repo_model.specs.Yard.{count_of, rows_with, places_of, leases_of, AreDrawnOnce, IsStored, IsOrderly}
 use Rattle.repo_model.specs.Command.{number_end}
 use Rattle.repo_model.proofs.Rising.{IsNonDecreasing-with_number}
 use Rattle.repo_model.proofs.Turns.{Change, rests, lends, returns, draws, creates, relists, condemns, turned}
@@ -31,7 +31,7 @@ draft_moves k n drafts among =
 
 -- a blob that is a row's or condemned
 abbrev IsHeld : State → Lease → Type 0
-IsHeld s lease = 0 < rows_with lease.blob s.hosted + count_of lease.blob s.yard.condemned
+IsHeld s lease = IsStored s lease.blob
 
 module _ (times later : ℕ → ℕ) (next : ℕ) (order : AreDrawnOnce times next) where
   -- numbers that stand no more often than before
@@ -108,7 +108,7 @@ condemned_in_order old moment n order among =
     moved old (with_yard (condemned_draft n) (ticked old moment)) order refl refl refl
     (λ k. omega (arith, draft_moves k n old.yard.drafts among, count_of-with_number k n old.yard.condemned))
     (λ k. omega (arith, count_of-with_number k n old.yard.condemned))
-        (IsNonDecreasing-with_number n old.yard.condemned order.condemned)
+    (IsNonDecreasing-with_number n old.yard.condemned order.condemned)
 
 relisted_in_order : (old : State) (moment : ℕ) (repo path : List ℕ) (n : ℕ) → IsOrderly old → is_among n old.yard.drafts ≡ true →
     IsOrderly (with_rows_of repo (relisted path moment) (with_yard (condemned_draft n) (ticked old moment)))
@@ -118,7 +118,7 @@ relisted_in_order old moment repo path n order among =
     moved old (with_rows_of repo (relisted path moment) (with_yard (condemned_draft n) (ticked old moment))) order refl refl refl
     (λ k. omega (arith, draft_moves k n old.yard.drafts among, count_of-with_number k n old.yard.condemned, (same k).1))
     (λ k. omega (arith, count_of-with_number k n old.yard.condemned, (same k).0))
-        (IsNonDecreasing-with_number n old.yard.condemned order.condemned)
+    (IsNonDecreasing-with_number n old.yard.condemned order.condemned)
 
 created_in_order : (old : State) (moment : ℕ) (repo path : List ℕ) (n : ℕ) (blob : Blob) → IsOrderly old →
     is_among n old.yard.drafts ≡ true → blob.number ≡ n →
@@ -131,7 +131,7 @@ created_in_order old moment repo path n blob order among number =
     moved old (with_rows_of repo (with_row row) (with_yard (kept_draft n) (ticked old moment))) order refl refl refl
     (λ k. omega (arith, draft_moves k n old.yard.drafts among, one k, (more k).1))
     (λ k. omega (arith, (more k).0))
-        order.condemned
+    order.condemned
 
 lent_in_order : (old : State) (moment : ℕ) (repo path : List ℕ) (row : Row) → IsOrderly old →
     row_at path (rows_of repo old.hosted) ≡ Some row → (old.yard.next_lease ≡ number_end → ⊥) →

@@ -1,5 +1,5 @@
 -- Fingerprints are compared in full.
-use Rattle.std.proofs.Common.{◌≡◌, ℕ, Bool, true, ◌&&◌, List, refl, subst, eqb-true}
+use Rattle.std.proofs.Common.{◌≡◌, ℕ, true, List, refl, subst, eqb-true}
 use Rattle.std.specs.Prelude.{◌==◌, ◌↔◌, IsTrue}
 use Rattle.std.specs.Str.{bytes_eq}
 use Rattle.std.proofs.lemmas.Bool.{and_parts, and_from, eq-eqb}
@@ -29,8 +29,8 @@ same_print a b same =
 is_same_print-itself : (a : Print) → is_same_print a a ≡ true
 is_same_print-itself a =
     and_from (a.length == a.length) (is_same_digests a.digests a.digests) (eq-eqb a.length a.length refl)
-        (and_from (bytes_eq a.digests.sha1 a.digests.sha1) (bytes_eq a.digests.md5 a.digests.md5)
-            ((bytes_eq-Decides a.digests.sha1 a.digests.sha1).1 refl) ((bytes_eq-Decides a.digests.md5 a.digests.md5).1 refl))
+    (and_from (bytes_eq a.digests.sha1 a.digests.sha1) (bytes_eq a.digests.md5 a.digests.md5)
+    ((bytes_eq-Decides a.digests.sha1 a.digests.sha1).1 refl) ((bytes_eq-Decides a.digests.md5 a.digests.md5).1 refl))
 
 pub prints-compare : (a b : Print) → IsTrue (is_same_print a b) ↔ (a ≡ b)
 prints-compare a b = (same_print a b, λ same. subst (λ (p : Print). is_same_print a p ≡ true) same (is_same_print-itself a))

@@ -1,5 +1,5 @@
 -- Words of the laws: what becomes of rows, refusals, and histories that ask alike.
-use Rattle.std.specs.Prelude.{◌≡◌, ◌↔◌, ℕ, Bool, true, false, List, ◌∷◌, map, Some, All, AllPairs}
+use Rattle.std.specs.Prelude.{◌≡◌, ◌↔◌, ℕ, ◌≤◌, Bool, true, false, List, ◌∷◌, map, Some, All, AllPairs}
 use Rattle.std.specs.Ordering.{nat_cmp}
 use Rattle.std.specs.declared.cmp.Ordering.TheVariants.{Less}
 use Rattle.std.specs.Cmp.Lexicographic.{slice_cmp}
@@ -8,6 +8,7 @@ use Rattle.repo_model.specs.State.{State, row_at, rows_of}
 use Rattle.repo_model.specs.Yard.{IsOrderly, DrawnStand}
 use Rattle.repo_model.specs.File.{file_kind, release, snapshot}
 use Rattle.repo_model.specs.Reply.{Reply, missed, kind_refused, no_draft, spent, no_memory}
+use Rattle.repo_model.specs.Step.{latest_moment}
 use Rattle.repo_model.specs.History.{Entry}
 
 -- each row that fades stands at the path of a snapshot
@@ -36,6 +37,7 @@ pub record IsSound (settings : Settings) (s : State) : Type 0 where
   pub orderly : IsOrderly s
   pub standing : DrawnStand s
   pub fading : FadingAreSnapshots s
+  pub last : s.last ≤ latest_moment
 
 -- the replies that refuse a command and change nothing (`taken` refuses too, and takes the draft)
 abbrev pub is_refusal : Reply → Bool

@@ -27,13 +27,17 @@ pub record AreDrawnOnce (times : ℕ → ℕ) (next : ℕ) : Type 0 where
   pub begun : 0 < next
   pub capped : next ≤ number_end
 
+-- a row has the blob, or it is condemned
+abbrev pub IsStored : State → ℕ → Type 0
+IsStored s n = 0 < rows_with n s.hosted + count_of n s.yard.condemned
+
 pub record IsOrderly (s : State) : Type 0 where
   -- each blob number stands in one place at most
   pub places : AreDrawnOnce (places_of s) s.yard.next_draft
   pub leases : AreDrawnOnce (leases_of s) s.yard.next_lease
   pub condemned : IsNonDecreasing s.yard.condemned
-  -- a blob that a reader has borrowed is a row's or condemned
-  pub held : All (λ lease. 0 < rows_with lease.blob s.hosted + count_of lease.blob s.yard.condemned) s.yard.leases
+  -- a reader's blob is a row's or condemned
+  pub held : All (λ lease. IsStored s lease.blob) s.yard.leases
 
 -- each number drawn stands somewhere
 abbrev pub DrawnStand : State → Type 0

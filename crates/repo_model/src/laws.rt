@@ -7,7 +7,7 @@ ghost use Rattle.outside.specs.Moments.{Moments};
 ghost use Rattle.repo_model.specs.declared.print.Print.{Print};
 ghost use Rattle.repo_model.specs.Data.{is_same_print, Blob, Settings};
 ghost use Rattle.repo_model.specs.State.{State, Lease, opening, row_at, rows_of, condemned_draft};
-ghost use Rattle.repo_model.specs.Yard.{IsOrderly, DrawnStand, leases_of, places_of, rows_with, count_of};
+ghost use Rattle.repo_model.specs.Yard.{IsOrderly, DrawnStand, leases_of, places_of, count_of, IsStored};
 ghost use Rattle.repo_model.specs.Command.{look, done, may_put, put, drop_draft, number_end, fits_repo};
 ghost use Rattle.repo_model.specs.File.{is_taken};
 ghost use Rattle.repo_model.specs.Reply.{file, created, relisted, taken, spent, no_memory};
@@ -71,8 +71,7 @@ pub fn one_place()
         Legal settings (opening settings clock) entries → (n ≡ 0) ⊎ (s.yard.next_draft ≤ n) → places_of s n ≡ 0 }
     ensures leased { (settings : Settings) (clock : Option Moments) (entries : List Entry) →
         let s = end (opening settings clock) entries in
-        Legal settings (opening settings clock) entries →
-        All (λ lease. 0 < rows_with lease.blob s.hosted + count_of lease.blob s.yard.condemned) s.yard.leases }
+        Legal settings (opening settings clock) entries → All (λ lease. IsStored s lease.blob) s.yard.leases }
 {}
 
 /// A draft serves once: a `put` or `drop_draft` that names it gives it up, and it is never drawn again.
@@ -103,7 +102,7 @@ pub fn leases_last()
 pub fn refusals_change_nothing()
     ensures refused { (settings : Settings) (old : State) (e : Entry) →
         Fits settings old e → IsTrue (is_refusal e.reply) → after old e ≡ ticked old e.moment }
-    ensures taken { (settings : Settings) (old : State) (e : Entry) (repo path : List ℕ) (draft : ℕ) (blob : Blob) (kept sent : _) →
+    ensures taken { (settings : Settings) (old : State) (e : Entry) (repo path : List ℕ) (draft : ℕ) (blob : Blob) (kept sent : Print) →
         Fits settings old e → e.command ≡ put repo path draft blob → e.reply ≡ taken kept sent →
         after old e ≡ with_yard (condemned_draft draft) (ticked old e.moment) }
     ensures rows { (settings : Settings) (old : State) (e : Entry) →
