@@ -1,5 +1,5 @@
 use Rattle.std.proofs.Common.{rules}
-use Rattle.repo_model.specs.File.{parts_of}
+use Rattle.mvn_coords.specs.Path.{parts_of}
 use Rattle.repo_model.proofs.worked.worked_history.Goals as goal
 
 pub returns-clause-legal : goal.returns-clause-legal
