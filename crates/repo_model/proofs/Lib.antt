@@ -1,0 +1,14 @@
+pub mod Turns
+pub mod Rows
+pub mod Releases
+pub mod Arranged
+pub mod Prints
+pub mod Rising
+pub mod Counts
+pub mod Orderly
+pub mod Standing
+pub mod Drafts
+pub mod Leases
+pub mod Histories
+pub mod Determined
+pub mod Moments

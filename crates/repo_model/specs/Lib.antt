@@ -1,0 +1,10 @@
+pub mod Data
+pub mod State
+pub mod Yard
+pub mod File
+pub mod Command
+pub mod Reply
+pub mod Step
+pub mod History
+pub mod Laws
+pub mod Worked
