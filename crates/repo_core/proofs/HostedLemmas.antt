@@ -7,7 +7,9 @@ use Rattle.outside.specs.declared.stores.Held.{Ghosts}
 use Rattle.repo_model.specs.Data as plain
 use Rattle.repo_model.specs.State.{rows_of, with_rows}
 use Rattle.repo_core.specs.declared.hosted.Repo.{Repo}
-use Rattle.repo_core.specs.Shown.{shown_policy, shown_policies, shown_rows, shown_repo, shown_repos}
+use Rattle.repo_core.specs.Hosted.{shown_policies, shown_repo, shown_repos}
+use Rattle.repo_core.specs.Rows.{shown_rows}
+use Rattle.repo_core.specs.Shown.{shown_policy}
 
 rows-cond : {X : Type 0} {G : Ghosts X} (b : Bool) (repo : Repo X G) (rows : List plain.Row) (o : Option (Repo X G)) → rows ≡ option_map_or (λ r. shown_rows r.rows.items) o [] → (if b then shown_rows repo.rows.items else rows) ≡ option_map_or (λ r. shown_rows r.rows.items) (if b then Some repo else o) []
 rows-cond true repo rows o e = refl

@@ -11,7 +11,7 @@ use Rattle.repo_model.specs.Data as plain
 use Rattle.repo_model.specs.State.{with_row, list_again, relisted}
 use Rattle.repo_core.specs.declared.rows.Row.{Row}
 use Rattle.repo_core.specs.declared.rows.Phase.TheVariants.{Listed}
-use Rattle.repo_core.specs.Shown.{shown_row, shown_rows}
+use Rattle.repo_core.specs.Rows.{shown_row, shown_rows}
 
 match_ordering-ge : {X : Type 0} (o : Ordering) (below here : X) → is_ge o ≡ true → match_ordering o below here here ≡ here
 match_ordering-ge Less below here h = cc

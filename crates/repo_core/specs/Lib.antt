@@ -1,6 +1,7 @@
-pub mod Calls
+pub mod Hosted
 pub mod Kinds
 pub mod Numbers
+pub mod Rows
 pub mod Shown
 pub mod Turn
 pub mod Whole

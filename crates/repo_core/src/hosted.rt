@@ -4,7 +4,9 @@ ghost use Rattle.repo_model.specs.Command.{policy_of, both};
 ghost use Rattle.repo_model.specs.State.{rows_of, with_rows, empty_hosted};
 ghost use Rattle.repo_model.specs.File.{file_kind, is_taken};
 ghost use Rattle.repo_core.specs.Kinds.{shown_kind};
-ghost use Rattle.repo_core.specs.Shown.{shown_policy, shown_policies, shown_rows, shown_repos};
+ghost use Rattle.repo_core.specs.Hosted.{shown_policies, shown_repos};
+ghost use Rattle.repo_core.specs.Rows.{shown_rows};
+ghost use Rattle.repo_core.specs.Shown.{shown_policy};
 
 use crate::kinds::{FileKind, kind_of_file};
 use crate::rows::Row;

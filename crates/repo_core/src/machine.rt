@@ -27,7 +27,7 @@ impl<C: Clock, H: Held> Model for Core<C, H> {
 
     ghost Value = { Whole };
 
-    ghost use Rattle.repo_core.specs.Shown.{shown_policies, shown_repos};
+    ghost use Rattle.repo_core.specs.Hosted.{shown_policies, shown_repos};
 
     ghost view = { λ c. record {
       settings = record { hosted = shown_policies c.repos.items; max_file = c.max_file };
@@ -49,8 +49,7 @@ impl<C: Clock, H: Held> Core<C, H> {
     ghost use Rattle.repo_model.specs.State.{opening};
     ghost use Rattle.repo_model.specs.Command.{meets, look, may_put, put, drop_draft};
     ghost use Rattle.repo_model.specs.History.{Fits, after};
-    ghost use Rattle.repo_core.specs.Shown.{shown_policy, shown_parcel};
-    ghost use Rattle.repo_core.specs.Calls.{shown_command, shown_reply, entry_of};
+    ghost use Rattle.repo_core.specs.Shown.{shown_policy, shown_parcel, shown_command, shown_reply, entry_of};
     ghost use Rattle.repo_core.specs.Turn.{Turned};
 
     /// A repository without rows, of these hosted repositories. A file has at most `max_file` bytes.

@@ -3,8 +3,8 @@ ghost use Rattle.std.specs.Option.{option_map};
 ghost use Rattle.repo_model.specs.Data as plain;
 ghost use Rattle.repo_model.specs.State.{row_at, with_row, relisted};
 ghost use Rattle.repo_model.specs.Step.{put_reply};
-ghost use Rattle.repo_core.specs.Shown.{shown_print, shown_parcel, shown_row, shown_rows, shown_outcome};
-ghost use Rattle.repo_core.specs.Turn.{IsReply, rows_after};
+ghost use Rattle.repo_core.specs.Rows.{shown_row, shown_rows, shown_outcome, IsReply, rows_after};
+ghost use Rattle.repo_core.specs.Shown.{shown_print, shown_parcel};
 
 use outside::{Held, NoMemory, Parcel};
 use repo_model::Print;

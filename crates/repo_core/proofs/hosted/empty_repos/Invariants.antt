@@ -1,6 +1,7 @@
 use Rattle.std.proofs.Common.{◌≡◌, map, take}
 use Rattle.repo_model.specs.State.{empty_hosted}
-use Rattle.repo_core.specs.Shown.{shown_policy, shown_policies, shown_repos}
+use Rattle.repo_core.specs.Hosted.{shown_policies, shown_repos}
+use Rattle.repo_core.specs.Shown.{shown_policy}
 use Rattle.repo_core.proofs.hosted.empty_repos.Given as goal
 
 -- the repositories so far

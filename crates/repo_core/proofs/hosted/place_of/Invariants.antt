@@ -2,7 +2,7 @@ use Rattle.std.proofs.Common.{◌≡◌, List, ◌++◌, take, drop}
 use Rattle.repo_model.specs.Data as plain
 use Rattle.repo_model.specs.Command.{policy_of}
 use Rattle.repo_model.specs.State.{rows_of, with_rows}
-use Rattle.repo_core.specs.Shown.{shown_policies, shown_repos}
+use Rattle.repo_core.specs.Hosted.{shown_policies, shown_repos}
 use Rattle.repo_core.proofs.hosted.place_of.Given as goal
 
 -- the repository is none of those before

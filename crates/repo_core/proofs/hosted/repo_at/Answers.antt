@@ -3,7 +3,8 @@ use Rattle.std.specs.Option.{option_map, option_map_or}
 use Rattle.std.specs.Str.{bytes_eq}
 use Rattle.std.proofs.lemmas.Iterator.{YieldsList-from_slice}
 use Rattle.std.proofs.lemmas.Iterator.Search.{find_from_yields_List}
-use Rattle.repo_core.specs.Shown.{shown_policy, shown_rows}
+use Rattle.repo_core.specs.Rows.{shown_rows}
+use Rattle.repo_core.specs.Shown.{shown_policy}
 use Rattle.repo_core.proofs.ListLemmas.{find-map, option_map-map, option_map_or-map}
 use Rattle.repo_core.proofs.HostedLemmas.{rows_of-find}
 use Rattle.repo_core.proofs.hosted.repo_at.Goals as goal

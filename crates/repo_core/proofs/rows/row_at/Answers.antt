@@ -3,7 +3,7 @@ use Rattle.std.specs.Option.{option_map}
 use Rattle.std.specs.Str.{bytes_eq}
 use Rattle.std.proofs.lemmas.Iterator.{YieldsList-from_slice}
 use Rattle.std.proofs.lemmas.Iterator.Search.{find_from_yields_List}
-use Rattle.repo_core.specs.Shown.{shown_row}
+use Rattle.repo_core.specs.Rows.{shown_row}
 use Rattle.repo_core.proofs.ListLemmas.{find-map, option_map-map}
 use Rattle.repo_core.proofs.rows.row_at.Goals as goal
 
