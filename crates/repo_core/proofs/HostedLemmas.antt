@@ -19,25 +19,25 @@ pub rows_of-find : {X : Type 0} {G : Ghosts X} (id : List ℕ) (repos : List (Re
 rows_of-find id [] = refl
 rows_of-find id (repo ∷ repos) = rows-cond (bytes_eq repo.policy.id id) repo (rows_of id (shown_repos repos)) (find (λ r. bytes_eq r.policy.id id) repos) (rows_of-find id repos)
 
-if-true : {X : Type 0} (b : Bool) (x y : X) → b ≡ true → (if b then x else y) ≡ x
+if-true : {X : Type 0} (b : Bool) (x y : X) → true ≡ b → (if b then x else y) ≡ x
 if-true true x y e = refl
 if-true false x y e = cc
 
 -- at the place that was found
-pub rows_of-place : {X : Type 0} {G : Ghosts X} (id : List ℕ) (repos : List (Repo X G)) (i : ℕ) (d : Repo X G) → i < length repos → bytes_eq (get_or repos i d).policy.id id ≡ true → rows_of id (shown_repos (drop i repos)) ≡ shown_rows (get_or repos i d).rows.items
+pub rows_of-place : {X : Type 0} {G : Ghosts X} (id : List ℕ) (repos : List (Repo X G)) (i : ℕ) (d : Repo X G) → i < length repos → true ≡ bytes_eq (get_or repos i d).policy.id id → rows_of id (shown_repos (drop i repos)) ≡ shown_rows (get_or repos i d).rows.items
 rows_of-place id repos i d h e =
     let rest : drop i repos ≡ get_or repos i d ∷ drop (i + 1) repos = drop_more repos i d h in
     let here = get_or repos i d in
     rw rest (if-true (bytes_eq here.policy.id id) (shown_rows here.rows.items) (rows_of id (shown_repos (drop (i + 1) repos))) e)
 
-with_rows-place : {X : Type 0} {G : Ghosts X} (id : List ℕ) (rows : List plain.Row) (repos : List (Repo X G)) (i : ℕ) (d : Repo X G) → i < length repos → bytes_eq (get_or repos i d).policy.id id ≡ true → with_rows id rows (shown_repos (drop i repos)) ≡ record { id = (get_or repos i d).policy.id; rows = rows } ∷ shown_repos (drop (i + 1) repos)
+with_rows-place : {X : Type 0} {G : Ghosts X} (id : List ℕ) (rows : List plain.Row) (repos : List (Repo X G)) (i : ℕ) (d : Repo X G) → i < length repos → true ≡ bytes_eq (get_or repos i d).policy.id id → with_rows id rows (shown_repos (drop i repos)) ≡ record { id = (get_or repos i d).policy.id; rows = rows } ∷ shown_repos (drop (i + 1) repos)
 with_rows-place id rows repos i d h e =
     let rest : drop i repos ≡ get_or repos i d ∷ drop (i + 1) repos = drop_more repos i d h in
     let here = get_or repos i d in
     rw rest (if-true (bytes_eq here.policy.id id) (record { id = here.policy.id; rows = rows } ∷ shown_repos (drop (i + 1) repos)) (shown_repo here ∷ with_rows id rows (shown_repos (drop (i + 1) repos))) e)
 
 -- other rows at the place
-pub shown_repos-set : {X : Type 0} {G : Ghosts X} (id : List ℕ) (repos : List (Repo X G)) (i : ℕ) (new : Repo X G) → i < length repos → bytes_eq (get_or repos i new).policy.id id ≡ true → new.policy ≡ (get_or repos i new).policy → ((rows : List plain.Row) → shown_repos (take i repos) ++ with_rows id rows (shown_repos (drop i repos)) ≡ with_rows id rows (shown_repos repos)) → shown_repos (set repos i new) ≡ with_rows id (shown_rows new.rows.items) (shown_repos repos)
+pub shown_repos-set : {X : Type 0} {G : Ghosts X} (id : List ℕ) (repos : List (Repo X G)) (i : ℕ) (new : Repo X G) → i < length repos → true ≡ bytes_eq (get_or repos i new).policy.id id → new.policy ≡ (get_or repos i new).policy → ((rows : List plain.Row) → shown_repos (take i repos) ++ with_rows id rows (shown_repos (drop i repos)) ≡ with_rows id rows (shown_repos repos)) → shown_repos (set repos i new) ≡ with_rows id (shown_rows new.rows.items) (shown_repos repos)
 shown_repos-set id repos i new h e same front =
     let there : set repos i new ≡ take i repos ++ new ∷ drop (i + 1) repos = rw add-one (set_split repos i new h) in
     let kept : with_rows id (shown_rows new.rows.items) (shown_repos (drop i repos)) ≡ record { id = (get_or repos i new).policy.id; rows = shown_rows new.rows.items } ∷ shown_repos (drop (i + 1) repos) = with_rows-place id (shown_rows new.rows.items) repos i new h e in

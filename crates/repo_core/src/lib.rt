@@ -14,3 +14,6 @@ pub use command::Command;
 pub use hosted::Policy;
 pub use machine::Core;
 pub use reply::Reply;
+
+#[cfg(test)]
+mod tests;

@@ -103,6 +103,7 @@ impl Yard {
     {
         take_out(&mut self.drafts, draft);
         let place = place_of(&self.condemned, draft);
+        // The draft left its room.
         let _ = self.condemned.insert(place, draft);
     }
 

@@ -10,8 +10,8 @@ loop-row-preserved g c =
     let ys = c.loop-row.rows in
     let i = c.loop-row.row-index in
     elim c.if-eq.branch [
-      then-eq w ↦ again-listed c.args.path.now c.args.moment xs ys c.if-eq.rows i c.row-item.result (omega arith) c.loop-row.auto.rows c.loop-row.invariant (rw (← c.as_str.ensures) (sym w.if-eq.ensures)) w.rows-is
-    | else-eq w ↦ again-kept c.args.path.now c.args.moment xs ys c.if-eq.rows i c.row-item.result (omega arith) c.loop-row.auto.rows c.loop-row.invariant (rw (← c.as_str.ensures) (sym w.if-eq.ensures)) w.rows-is
+      | then-eq w ↦ again-listed c.args.path.now c.args.moment xs ys c.if-eq.rows i c.row-item.result (omega arith) c.loop-row.auto.rows c.loop-row.invariant (rw (← c.as_str.ensures) w.if-eq.ensures) w.rows-is
+      | else-eq w ↦ again-kept c.args.path.now c.args.moment xs ys c.if-eq.rows i c.row-item.result (omega arith) c.loop-row.auto.rows c.loop-row.invariant (rw (← c.as_str.ensures) w.if-eq.ensures) w.rows-is
     ]
 
 pub returns : goal.returns

@@ -8,5 +8,5 @@ use Rattle.repo_core.proofs.rows.place_of.Goals as goal
 pub returns-then-ge-clause-place : goal.returns-then-ge-clause-place
 returns-then-ge-clause-place g c = λ new at.
     let row = c.index-rows-place.result in
-    let ge : is_ge (slice_cmp nat_cmp row.path new.path) ≡ true = rw (at, ← c.as_str.ensures) (sym c.if-ge.ensures) in
+    let ge : true ≡ is_ge (slice_cmp nat_cmp row.path new.path) = rw (at, ← c.as_str.ensures) c.if-ge.ensures in
     insert-place c.args.rows.now c.loop-place.place row new c.loop-place-test.true (rw (← c.index-rows-place.is) ge) (c.loop-place.invariant new at)
