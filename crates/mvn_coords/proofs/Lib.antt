@@ -1,0 +1,12 @@
+pub mod Cuts
+pub mod Digits
+pub mod Documents
+pub mod Endings
+pub mod Files
+pub mod Judged
+pub mod Laws
+pub mod Levels
+pub mod Names
+pub mod Results
+pub mod Times
+pub mod Written

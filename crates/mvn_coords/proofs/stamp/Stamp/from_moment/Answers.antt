@@ -1,0 +1,21 @@
+use Rattle.std.proofs.Common.{◌≡◌, ◌∙◌, ◌*◌, ℕ, ap, arith, pos, ◌*ℤ◌, ◌+ℤ◌}
+use Rattle.std.proofs.lemmas.Int.{ints}
+use Rattle.jiff_core.specs.DateTime.{civil_nanos}
+use Rattle.mvn_coords.specs.Civil.{seconds_of}
+use Rattle.mvn_coords.proofs.Times.{year_since_epoch, seconds_shown}
+use Rattle.mvn_coords.proofs.stamp.Stamp.from_moment.Goals.{After-to_datetime}
+use Rattle.mvn_coords.proofs.stamp.Stamp.from_moment.Goals as goal
+
+-- the instant's nanoseconds
+nanos : (c : After-to_datetime) → civil_nanos c.to_datetime.result ≡ pos (c.args.moment * 1_000_000_000)
+nanos c =
+    let instant : c.in-Ok.instant.nanosecond ≡ pos (c.args.moment * 1_000_000_000) = omega (arith, ints, c.in-Ok.ensures.value) in
+    omega (arith, ints, c.to_datetime.ensures, instant)
+
+pub from_civil-requires : goal.from_civil-requires
+from_civil-requires c = year_since_epoch c.to_datetime.result (c.args.moment * 1_000_000_000) (nanos (goal.at.from_civil-requires c).After-to_datetime)
+
+pub returns : goal.returns
+returns c =
+    let n = nanos (goal.at.returns c).After-to_datetime in
+    ap seconds_of c.from_civil.ensures ∙ seconds_shown c.to_datetime.result c.args.moment n (year_since_epoch c.to_datetime.result (c.args.moment * 1_000_000_000) n)

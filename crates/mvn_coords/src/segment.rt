@@ -1,0 +1,60 @@
+ghost use Rattle.std.specs.Prelude.{◌≡◌};
+ghost use Rattle.std.specs.List.{list_all};
+ghost use Rattle.mvn_coords.specs.Segment as spec;
+
+fn is_group_byte(b: u8) -> bool
+    ensures { result ≡ spec.is_group_byte b }
+{
+    b.is_ascii_alphanumeric() || b == b'_' || b == b'-'
+}
+
+fn is_artifact_byte(b: u8) -> bool
+    ensures { result ≡ spec.is_artifact_byte b }
+{
+    is_group_byte(b) || b == b'.'
+}
+
+fn is_path_byte(b: u8) -> bool
+    ensures { result ≡ spec.is_path_byte b }
+{
+    is_artifact_byte(b) || b == b'+'
+}
+
+/// Whether a text may stand between two slashes of a path: 1 to 255 bytes of
+/// `A-Z a-z 0-9 . _ + -`, and neither `.` nor `..`.
+pub fn is_segment(text: &str) -> bool
+    ensures { result ≡ spec.is_segment text.now }
+{
+    if text.is_empty() || text.len() > 255 || text == "." || text == ".." {
+        return false;
+    }
+    are_path_bytes(text)
+}
+
+fn are_path_bytes(text: &str) -> bool
+    ensures { result ≡ list_all spec.is_path_byte text.now }
+{
+    text.bytes().all(|b| is_path_byte(b))
+}
+
+/// Whether a segment may be part of a group: letters, digits, `_` and `-`.
+pub fn is_group_segment(segment: &str) -> bool
+    ensures { result ≡ spec.is_group_segment segment.now }
+{
+    segment.bytes().all(|b| is_group_byte(b))
+}
+
+/// Whether a segment may be an artifact: letters, digits, `_`, `-` and `.`.
+pub fn is_artifact(segment: &str) -> bool
+    ensures { result ≡ spec.is_artifact segment.now }
+{
+    segment.bytes().all(|b| is_artifact_byte(b))
+}
+
+/// Whether a segment may be a version directory: at most 128 bytes, and neither `SNAPSHOT` nor
+/// `-SNAPSHOT`.
+pub fn is_version_directory(segment: &str) -> bool
+    ensures { result ≡ spec.is_version_directory segment.now }
+{
+    segment.len() <= 128 && segment != "SNAPSHOT" && segment != "-SNAPSHOT"
+}
