@@ -1,0 +1,5 @@
+mod HostedLemmas
+mod ListLemmas
+mod NumberLemmas
+mod RowLemmas
+mod TurnLemmas

@@ -1,0 +1,12 @@
+use Rattle.std.proofs.Common.{◌≡◌, ◌++◌, ◌∷◌, true, take, drop, get_or, insert, is_ge, sym, ap, ◌∙◌, rules, tests}
+use Rattle.std.specs.Ordering.{nat_cmp, match_ordering}
+use Rattle.std.specs.Cmp.Lexicographic.{slice_cmp}
+use Rattle.repo_model.specs.Data as plain
+use Rattle.repo_core.proofs.RowLemmas.{insert-place}
+use Rattle.repo_core.proofs.rows.place_of.Goals as goal
+
+pub returns-then-ge-clause-place : goal.returns-then-ge-clause-place
+returns-then-ge-clause-place g c = λ new at.
+    let row = c.index-rows-place.result in
+    let ge : true ≡ is_ge (slice_cmp nat_cmp row.path new.path) = rw (at, ← c.as_str.ensures) c.if-ge.ensures in
+    insert-place c.args.rows.now c.loop-place.place row new c.loop-place-test.true (rw (← c.index-rows-place.is) ge) (c.loop-place.invariant new at)

@@ -1,0 +1,46 @@
+-- Rows as the machine's plain data, and what putting a blob does to them.
+use Rattle.std.specs.Prelude.{◌≡◌, ◌⊎◌, ℕ, List, map}
+use Rattle.outside.specs.declared.stores.Held.{Ghosts}
+use Rattle.repo_model.specs.Data as plain
+use Rattle.repo_model.specs.State.{with_row, relisted as listed_again}
+use Rattle.repo_model.specs.Reply.{Reply, created, relisted, same, taken, no_memory}
+use Rattle.repo_model.specs.Step.{new_row}
+use Rattle.repo_core.specs.Shown.{shown_parcel}
+use Rattle.repo_core.specs.declared.rows.Phase.{Phase}
+use Rattle.repo_core.specs.declared.rows.Phase.TheVariants.{Listed, Fading}
+use Rattle.repo_core.specs.declared.rows.PutOutcome.{PutOutcome}
+use Rattle.repo_core.specs.declared.rows.PutOutcome.TheVariants.{Created, Same, Relisted, Taken, NoMemory}
+use Rattle.repo_core.specs.declared.rows.Row.{Row}
+
+abbrev pub shown_phase : Phase → plain.Phase
+shown_phase Listed = plain.listed
+shown_phase (Fading since) = plain.fading since
+
+abbrev pub shown_row : {X : Type 0} {G : Ghosts X} → Row X G → plain.Row
+shown_row row = record {
+  path = row.path;
+  blob = shown_parcel row.parcel;
+  accepted = row.accepted;
+  phase = shown_phase row.phase;
+}
+
+abbrev pub shown_rows : {X : Type 0} {G : Ghosts X} → List (Row X G) → List plain.Row
+shown_rows rows = map shown_row rows
+
+-- what a put did, as the reply that says so
+abbrev pub shown_outcome : PutOutcome → Reply
+shown_outcome Created = created
+shown_outcome Same = same
+shown_outcome Relisted = relisted
+shown_outcome (Taken kept sent) = taken kept sent
+shown_outcome NoMemory = no_memory
+
+-- the reply that is due, or want of memory
+abbrev pub IsReply : Reply → Reply → Type 0
+IsReply due reply = (reply ≡ due) ⊎ (reply ≡ no_memory)
+
+-- the rows once a blob was put at a path and that was the reply
+abbrev pub rows_after : List ℕ → plain.Blob → ℕ → Reply → List plain.Row → List plain.Row
+rows_after path blob moment created rows = with_row (new_row path blob moment) rows
+rows_after path blob moment relisted rows = listed_again path moment rows
+rows_after path blob moment _ rows = rows

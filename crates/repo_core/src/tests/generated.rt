@@ -1,0 +1,78 @@
+// Some thousand generated commands: the core answers as the plain machine does.
+ghost use Rattle.std.specs.Prelude.{◌<◌};
+
+use super::plain::{Plain, takes};
+use super::*;
+
+const REPOS: [&str; 3] = ["releases", "mixed", "snapshots"];
+
+const PATHS: [&str; 5] = [
+    "org/acme/lib/1.0/lib-1.0.jar",
+    "org/acme/lib/1.0/lib-1.0.pom",
+    "org/acme/lib/1.0/lib-1.0-sources.jar",
+    "org/acme/lib/1.0.1/lib-1.0.1.jar",
+    "com/acme/app/2/app-2.war",
+];
+
+const CONTENTS: [&[u8]; 3] = [b"", b"abc", b"abd"];
+
+/// Numbers that look random: a linear congruence with the multiplier and the increment of Knuth's MMIX.
+#[derive(Drop)]
+struct Numbers(u64);
+
+impl Numbers {
+    fn below(&mut self, end: u64) -> u64
+        requires { 0 < end }
+        ensures { result < end }
+    {
+        self.0 = self
+            .0
+            .wrapping_mul(6_364_136_223_846_793_005)
+            .wrapping_add(1_442_695_040_888_963_407);
+        (self.0 >> 33) % end
+    }
+
+    fn next_ask(&mut self, drafts: &[u64]) -> Ask {
+        let repo = REPOS[self.below(3) as usize];
+        let path = PATHS[self.below(5) as usize];
+        let content = CONTENTS[self.below(3) as usize];
+        let pick = self.below(4) as usize;
+        let draft = drafts.get(pick).copied().unwrap_or(self.below(40));
+        match self.below(8) {
+            0 | 1 => Ask::Look(repo, path),
+            2 => Ask::Done(self.below(200)),
+            3 => Ask::Drop(draft),
+            4 | 5 if takes(repo, path) => Ask::Put(repo, path, draft, content),
+            _ => Ask::MayPut(repo, path),
+        }
+    }
+}
+
+#[test]
+fn the_core_answers_as_the_plain_machine(rt: HostRuntime) -> Result<(), Fail> {
+    let mut bench = Bench::new(
+        rt.alloc(),
+        ScriptClock::stepping(rt.alloc(), 1_700_000_000, 3),
+    )?;
+    let mut plain = Plain::new(rt.alloc());
+    let mut numbers = Numbers(1);
+    let mut files = 0u64;
+    let mut refused = 0u64;
+    for n in 0..4_000u64 {
+        let ask = numbers.next_ask(&plain.drafts);
+        let answer = bench.answer(&rt, ask)?;
+        let want = plain.turn(ask)?;
+        assert!(rt; answer == want, "command {n}");
+        match answer {
+            Said::File(_, _, _) => files = files.saturating_add(1),
+            Said::Same | Said::Taken(_, _) | Said::NoDraft => refused = refused.saturating_add(1),
+            _ => {}
+        }
+    }
+    assert_eq!(rt; bench.core.calls(), 4_000);
+    assert!(rt;
+        files > 200 && refused > 200,
+        "{files} files, {refused} refused"
+    );
+    Ok(())
+}

@@ -1,0 +1,109 @@
+// A plain, slow machine, written apart from the core: lists, filtered anew at every reply.
+use super::{Ask, Said, print_of};
+use std::alloc::{AllocError, Global};
+
+#[derive(Drop)]
+struct Kept {
+    repo: &'static str,
+    path: &'static str,
+    blob: u64,
+    content: &'static [u8],
+}
+
+#[derive(Drop)]
+pub(super) struct Plain {
+    kept: Vec<Kept>,
+    pub(super) drafts: Vec<u64>,
+    leases: Vec<u64>,
+    next_draft: u64,
+    next_lease: u64,
+}
+
+/// Whether a repository takes a path.
+pub(super) fn takes(repo: &str, path: &str) -> bool {
+    let is_snapshot = path.contains("-SNAPSHOT/");
+    repo == "mixed" || (repo == "snapshots") == is_snapshot
+}
+
+impl Plain {
+    pub(super) fn new(alloc: Global) -> Plain {
+        Plain {
+            kept: Vec::new(alloc),
+            drafts: Vec::new(alloc),
+            leases: Vec::new(alloc),
+            next_draft: 1,
+            next_lease: 1,
+        }
+    }
+
+    pub(super) fn turn(&mut self, ask: Ask) -> Result<Said, AllocError> {
+        match ask {
+            Ask::Look(repo, path) => self.look(repo, path),
+            Ask::Done(lease) => {
+                self.leases.retain(|held| *held != lease);
+                Ok(Said::Done)
+            }
+            Ask::MayPut(repo, path) => self.may_put(repo, path),
+            Ask::Put(repo, path, draft, content) => self.put(repo, path, draft, content),
+            Ask::Drop(draft) => {
+                self.drafts.retain(|other| *other != draft);
+                Ok(Said::Dropped)
+            }
+        }
+    }
+
+    fn look(&mut self, repo: &str, path: &str) -> Result<Said, AllocError> {
+        let found = self
+            .kept
+            .iter()
+            .find(|kept| kept.repo == repo && kept.path == path);
+        let Some(kept) = found else {
+            return Ok(Said::Missed);
+        };
+        let lease = self.next_lease;
+        let file = Said::File(lease, kept.blob, print_of(kept.content));
+        self.leases.push(lease)?;
+        self.next_lease = lease.wrapping_add(1);
+        Ok(file)
+    }
+
+    fn may_put(&mut self, repo: &str, path: &str) -> Result<Said, AllocError> {
+        if !takes(repo, path) {
+            return Ok(Said::KindRefused);
+        }
+        let draft = self.next_draft;
+        self.drafts.push(draft)?;
+        self.next_draft = draft.wrapping_add(1);
+        Ok(Said::Draft(draft))
+    }
+
+    fn put(
+        &mut self,
+        repo: &'static str,
+        path: &'static str,
+        draft: u64,
+        content: &'static [u8],
+    ) -> Result<Said, AllocError> {
+        if !self.drafts.contains(&draft) {
+            return Ok(Said::NoDraft);
+        }
+        self.drafts.retain(|other| *other != draft);
+        let found = self
+            .kept
+            .iter()
+            .find(|kept| kept.repo == repo && kept.path == path);
+        if let Some(kept) = found {
+            if kept.content == content {
+                return Ok(Said::Same);
+            }
+            return Ok(Said::Taken(print_of(kept.content), print_of(content)));
+        }
+        self.kept.push(Kept {
+            repo,
+            path,
+            blob: draft,
+            content,
+        })?;
+        Ok(Said::Created)
+    }
+}
