@@ -1,0 +1,5 @@
+pub mod Blobs
+pub mod Faults
+pub mod Moments
+pub mod Parcel
+pub mod Told

@@ -1,0 +1,37 @@
+ghost use Rattle.std.specs.Prelude.{◌≡◌, ℕ, List, [], ◌∷◌, Option, None, option_to_list, IfOk, IfNone, OnErr};
+ghost use Rattle.outside.specs.Faults.{HasCause};
+ghost use Rattle.outside.specs.Told.{in_front, behind, IsAtEnd};
+
+use crate::faults::Failed;
+use crate::streams::Stream;
+
+/// A listener, which hands out connections and takes them back.
+pub trait Port {
+    /// One connection.
+    type Link: Stream;
+
+    // The connections that `next` will hand out.
+    ghost left: { Self → Option (List Self.Link) } = { λ _. None };
+
+    // The connections that came back, in their order.
+    ghost given_back: { Self → Option (List Self.Link) } = { λ _. None };
+
+    // How many calls have failed. It never falls.
+    ghost faults: { Self → ℕ };
+
+    /// Waits for the next connection. None comes exactly where none is left.
+    fn next(&mut self) -> Result<Option<Self::Link>, Failed>
+        ensures cause { HasCause (faults self.old) (faults self.new) result }
+
+        // The connection is the first of those that were left. A failed call takes none.
+        ensures given { IfOk result (λ link. left self.old ≡ in_front (option_to_list link) (left self.new)) }
+        ensures end { IfOk result (λ link. IfNone link (IsAtEnd (left self.new))) }
+        ensures failed { OnErr result (left self.new ≡ left self.old) }
+        ensures given_back { given_back self.new ≡ given_back self.old };
+
+    /// Takes a connection back, when it is over. A connection of the network is closed by it.
+    fn back(&mut self, link: Self::Link)
+        ensures given_back { given_back self.new ≡ behind (given_back self.old) (link ∷ []) }
+        ensures left { left self.new ≡ left self.old }
+        ensures faults { faults self.new ≡ faults self.old };
+}
