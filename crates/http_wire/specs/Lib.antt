@@ -1,0 +1,5 @@
+pub mod Answer
+pub mod Fields
+pub mod Front
+pub mod Head
+pub mod Stream

@@ -1,0 +1,21 @@
+//! Requests of a stream of bytes and the bytes of answers, in HTTP/1.1 (RFC 9110, RFC 9112).
+//!
+//! A [`Wire`] takes bytes from a source and gives one request head after the other, and the bodies. What
+//! `front` of `specs/Front.antt` says of the whole stream is what its calls give, however the bytes come.
+//! [`render`] makes the bytes of an [`Answer`].
+#![tactic(auto)]
+
+
+/// The most bytes that a head may have, blank lines before it and its empty line included.
+pub const HEAD_BYTES: usize = 8192;
+
+/// The most lines that a head may have between its first line and its empty line.
+pub const FIELD_LINES: usize = 64;
+
+mod answers;
+mod faults;
+mod requests;
+pub use answers::{Answer, Content, Status};
+pub use faults::{HeadFault, WireFault};
+pub use requests::{BodyLength, Field, Request};
+
