@@ -1,5 +1,5 @@
 -- The bytes of an answer on the wire (RFC 9112, sections 4 and 5; RFC 9110, sections 8.3, 8.6, 10.2.1 and 7.6.1).
-use Rattle.std.specs.Prelude.{ℕ, Bool, List, [], ◌∷◌, ◌++◌, Option, Some, None, codes, if◌then◌else◌}
+use Rattle.std.specs.Prelude.{ℕ, Bool, true, List, [], ◌∷◌, ◌++◌, Option, Some, None, codes, if◌then◌else◌}
 use Rattle.std.specs.Fmt.{decimal}
 use Rattle.httparse.specs.Ascii.{crlf_bytes}
 use Rattle.mvn_digest.specs.Hex.{hex_text}
@@ -56,10 +56,14 @@ allow_line (Some methods) = field_line (codes "Allow") methods
 abbrev pub close_line : Bool → List ℕ
 close_line close = if close then field_line (codes "Connection") (codes "close") else []
 
+-- HTTP-version SP status-code SP reason-phrase CRLF
+abbrev pub status_line : Status → List ℕ
+status_line s = codes "HTTP/1.1 " ++ status_text s ++ crlf_bytes
+
 -- the status line, the fields in this order, and the empty line
 unfoldable pub head_shown : Answer → List ℕ
 head_shown answer =
-    codes "HTTP/1.1 " ++ status_text answer.status ++ crlf_bytes
+    status_line answer.status
     ++ field_line (codes "Content-Type") (content_text answer.content)
     ++ field_line (codes "Content-Length") (decimal answer.length)
     ++ digest_lines answer.digests
@@ -70,3 +74,15 @@ head_shown answer =
 -- the head and the body
 abbrev pub shown : Answer → List ℕ
 shown answer = head_shown answer ++ answer.body
+
+-- the answer where there is no memory for another
+abbrev pub no_memory : Answer
+no_memory = record {
+  status = status.InsufficientStorage;
+  content = Plain;
+  length = 7;
+  digests = None;
+  allow = None;
+  close = true;
+  body = codes "memory" ++ 10 ∷ [];
+}

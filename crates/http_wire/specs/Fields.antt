@@ -18,17 +18,14 @@ is_named name f = str_eq_ignore_ascii_case f.name name
 abbrev pub values_of : List ℕ → List Field → List (List ℕ)
 values_of name fields = map (λ f. f.value) (filter (is_named name) fields)
 
--- the members of a value that is a list with commas, without the blanks around them
-abbrev pub members_of : List ℕ → List (List ℕ)
-members_of value = map trim_ows (slice_split (λ b. b == comma) value)
-
--- one option of the value is `close`; the case of letters doesn't count
+-- the value is a list with commas, and a member of it, without the blanks around it, is `close`
 abbrev pub has_close : List ℕ → Bool
-has_close value = list_any (λ member. str_eq_ignore_ascii_case member (codes "close")) (members_of value)
+has_close value =
+    list_any (λ member. str_eq_ignore_ascii_case (trim_ows member) (codes "close")) (slice_split (λ b. b == comma) value)
 
--- an option of a Connection field is `close`
-unfoldable pub asks_close : List Field → Bool
-asks_close fields = list_any has_close (values_of (codes "Connection") fields)
+-- an option of a Connection field is `close`; the case of letters doesn't count
+abbrev pub asks_close : List Field → Bool
+asks_close fields = list_any (λ f. is_named (codes "Connection") f && has_close f.value) fields
 
 -- the longest text of a length, in digits
 abbrev pub length_digits : ℕ

@@ -1,9 +1,9 @@
+ghost use Rattle.std.specs.Prelude.{◌≡◌, IfOk};
+ghost use Rattle.http_wire.specs.Answer.{no_memory, shown};
 
-
-
-
+use crate::lines::push_head;
 use mvn_digest::Digests;
-
+use std::alloc::{AllocError, Global};
 use texts::{Bytes, Text};
 
 /// The status of an answer (RFC 9110, section 15).
@@ -45,14 +45,34 @@ pub struct Answer {
     pub status: Status,
     pub content: Content,
     /// The length of the content in bytes. The content may be sent apart from the answer, or not at all, as
-    /// the answer to HEAD.
+    /// in the answer to HEAD.
     pub length: u64,
     /// The digests of the content, which a file and a document have.
     pub digests: Option<Digests>,
-    /// The methods of the target, which the status 405 has.
+    /// The methods of the target, which an answer with the status 405 tells.
     pub allow: Option<Text>,
     /// Whether the connection ends after the answer.
     pub close: bool,
-    /// The bytes that are sent with the head.
+    /// The bytes that are sent right behind the head.
     pub body: Bytes,
+}
+
+/// The bytes of the answer: its head and its body.
+pub fn render(alloc: Global, answer: &Answer) -> Result<Bytes, AllocError>
+    ensures ok { IfOk result (λ bytes. bytes ≡ shown answer.now) }
+{
+    let mut bytes = Vec::new(alloc);
+    push_head(&mut bytes, answer)?;
+    bytes.extend_from_slice(answer.body.as_slice())?;
+    Ok(Bytes::from_vec(bytes))
+}
+
+/// The answer where there is no memory for another: 507, the text `memory`, and the connection ends.
+pub const NO_MEMORY: &[u8; 108] = b"HTTP/1.1 507 Insufficient Storage\r\nContent-Type: text/plain\r\nContent-Length: 7\r\nConnection: close\r\n\r\nmemory\n";
+
+/// The bytes of the answer where there is no memory for another. They take none.
+pub fn no_memory_answer() -> &'static [u8]
+    ensures { result.now ≡ shown no_memory }
+{
+    NO_MEMORY.as_slice()
 }

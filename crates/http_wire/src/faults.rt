@@ -22,3 +22,25 @@ pub enum WireFault {
     /// The head is refused.
     Refused(HeadFault),
 }
+
+impl From<AllocError> for WireFault {
+    ghost use Rattle.std.specs.Prelude.{◌≡◌};
+    ghost use Rattle.http_wire.specs.declared.faults.WireFault.TheVariants.{NoMemory};
+
+    ghost from_gives = { λ _ fault. fault ≡ NoMemory };
+
+    fn from(_fault: AllocError) -> WireFault {
+        WireFault::NoMemory
+    }
+}
+
+impl From<Failed> for WireFault {
+    ghost use Rattle.std.specs.Prelude.{◌≡◌};
+    ghost use Rattle.http_wire.specs.declared.faults.WireFault.TheVariants.{SourceFault};
+
+    ghost from_gives = { λ _ fault. fault ≡ SourceFault };
+
+    fn from(_fault: Failed) -> WireFault {
+        WireFault::SourceFault
+    }
+}

@@ -13,9 +13,17 @@ pub const HEAD_BYTES: usize = 8192;
 pub const FIELD_LINES: usize = 64;
 
 mod answers;
+mod fields;
+mod laws;
+mod lines;
+mod parser;
+mod search;
+mod wires;
 mod faults;
 mod requests;
-pub use answers::{Answer, Content, Status};
+pub use answers::{Answer, Content, NO_MEMORY, Status, no_memory_answer, render};
 pub use faults::{HeadFault, WireFault};
+pub use laws::{body_follows_head, front_stays, head_is_of_the_grammar};
+pub use wires::Wire;
 pub use requests::{BodyLength, Field, Request};
 
