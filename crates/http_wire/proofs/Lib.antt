@@ -1,2 +1,4 @@
 pub mod Computed
 pub mod OnLiterals
+pub mod OpenLemmas
+pub mod PlaceLemmas
