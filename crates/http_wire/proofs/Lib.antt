@@ -1,7 +1,9 @@
 pub mod Computed
 pub mod CutLemmas
+pub mod FrontLemmas
 pub mod OnLiterals
 pub mod OpenLemmas
 pub mod PlaceLemmas
+pub mod StayLemmas
 pub mod TreeLemmas
 pub mod WireLemmas
