@@ -3,6 +3,7 @@ pub mod CutLemmas
 pub mod FrontLemmas
 pub mod OnLiterals
 pub mod OpenLemmas
+pub mod ParsedLemmas
 pub mod PlaceLemmas
 pub mod StayLemmas
 pub mod TreeLemmas

@@ -1,17 +1,19 @@
 -- The tree of a printed head, and what its tests mean.
-use Rattle.std.proofs.Common.{◌≡◌, ◌≢◌, ℕ, ◌+◌, ◌-◌, ◌<◌, ◌≤◌, Bool, true, false, eqb, ltb, leb, ◌&&◌, IsTrue, List, [], ◌∷◌, ◌++◌, length, get_or, Option, Some, None, refl, sym, ap, ◌∙◌, arith, lit<, cond, append-nil, append_assoc, length-append}
+use Rattle.std.proofs.Common.{◌≡◌, ◌≢◌, ℕ, ◌+◌, ◌-◌, ◌<◌, ◌≤◌, Bool, true, false, eqb, ltb, leb, ◌&&◌, IsTrue, List, [], ◌∷◌, ◌++◌, length, get_or, Option, Some, None, refl, sym, ap, ◌∙◌, subst, arith, lit<, cond, append-nil, append_assoc, length-append}
+use Rattle.std.specs.Prelude.{◌==◌, count_by}
 use Rattle.std.specs.List.{All, list_all}
 use Rattle.std.specs.Str.{bytes_eq, is_utf8}
 use Rattle.std.proofs.lemmas.Bool.{and_from, and_parts, le-leb, leb-true, lt-ltb, ltb-true, ne_eqb, cond-true, cond-false}
 use Rattle.std.proofs.lemmas.List.Elements.{All-head, All-tail, All-cons, All-nil}
-use Rattle.std.proofs.lemmas.List.Sums.{AllPass-from_list_all, list_all-from_AllPass}
+use Rattle.std.proofs.lemmas.List.Sums.{AllPass-from_list_all, list_all-from_AllPass, sum_by-cons}
 use Rattle.std.proofs.lemmas.Slice.Eq.{bytes_eq-Decides}
 use Rattle.std.proofs.lemmas.Str.{IsUtf8-from_is_utf8, is_utf8-from_IsUtf8}
 use Rattle.std.specs.List.{flat_map}
 use Rattle.httparse.specs.Grammar as grammar
 use Rattle.httparse.specs.Grammar.{AllPass, IsField, IsRequestHead, IsToken, LineEnd, crlf, lf, ReadsRequest, RequestHead, is_token, is_token_byte, is_uri_byte, is_value_byte, print_end, print_field, print_request, print_section, print_version}
 use Rattle.httparse.proofs.GrammarLemmas.{print_request-append}
-use Rattle.httparse.proofs.PieceLemmas.{colon_ends_token, print_field-append, space_ends_token}
+use Rattle.httparse.proofs.PieceLemmas.{Stops_token, colon_ends_token, print_field-append, space_ends_token}
+use Rattle.httparse.specs.Pieces.{Stops, is_newline}
 use Rattle.http_wire.specs.Head.{Head, after, before, end_of, field_tree, field_trees, head_of, head_said, head_tree, is_empty_line, is_field, is_request_head, last_end, lines_of, tree_of}
 use Rattle.http_wire.proofs.CutLemmas.{Lacks, Lacks-append, Lacks-from_pass, after-append, before-append, before-none, before-return, end_of-return, lines_of-append, print_end-return, return_of}
 
@@ -291,3 +293,39 @@ reads-head_of bytes head is = by_tests (is_request_head tree && bytes_eq (print_
         let given : cond (is_request_head tree && bytes_eq (print_request tree) bytes) (Some (head_said tree)) None ≡ None
             = cond-false _ (Some (head_said tree)) None other in
         absurd (none_some _ head given is)
+
+-- ---- how many line feeds a head has
+
+count_line : (line rest : List ℕ) → Lacks 10 line → count_by (λ b. b == 10) (line ++ 10 ∷ rest) ≡ 1 + count_by (λ b. b == 10) rest
+count_line [] rest none = sum_by-cons (λ b. cond (b == 10) 1 0) 10 rest
+count_line (b ∷ line) rest none =
+    let other : eqb b 10 ≡ false = ne_eqb b 10 none.0 in
+    sum_by-cons (λ x. cond (x == 10) 1 0) b (line ++ 10 ∷ rest) ∙ rw other (omega (arith, count_line line rest none.1))
+
+count_section : (fields : List grammar.Field) (last : LineEnd) → All IsField fields
+    → count_by (λ b. b == 10) (section_bytes fields last) ≡ length fields + 1
+count_section [] crlf valid = refl
+count_section [] lf valid = refl
+count_section (f ∷ fields) last valid =
+    let here = All-head IsField f fields valid in
+    ap (λ (l : List ℕ). count_by (λ b. b == 10) l) (append_assoc (print_field f) (flat_map print_field fields) (print_end last) ∙ print_field-line f (section_bytes fields last))
+    ∙ count_line (line_of f) (section_bytes fields last) (line_lacks f here)
+    ∙ omega (arith, count_section fields last (All-tail IsField f fields valid))
+
+pub count_feeds : (bytes : List ℕ) (h : RequestHead) → ReadsRequest bytes h [] → h.blank ≡ []
+    → count_by (λ b. b == 10) bytes ≡ length h.fields + 2
+count_feeds bytes h reads none =
+    ap (λ (l : List ℕ). count_by (λ b. b == 10) l) (reads.1 ∙ print_request-line h none)
+    ∙ count_line (first_line h) (section_bytes h.fields h.last) (first_line_lacks h reads.0)
+    ∙ omega (arith, count_section h.fields h.last reads.0.fields)
+
+-- ---- the first byte
+
+-- it is neither CR nor LF
+pub first_byte : (bytes : List ℕ) (h : RequestHead) → ReadsRequest bytes h [] → h.blank ≡ [] → Stops is_newline bytes
+first_byte bytes h reads none =
+    let target = h.target ++ 32 ∷ (print_version h.minor ++ return_of h.line_end) in
+    let section = section_bytes h.fields h.last in
+    let split : bytes ≡ h.method ++ ((32 ∷ target) ++ 10 ∷ section)
+        = reads.1 ∙ print_request-line h none ∙ append_assoc h.method (32 ∷ target) (10 ∷ section) in
+    subst (Stops is_newline) (sym split) (Stops_token h.method ((32 ∷ target) ++ 10 ∷ section) reads.0.method.0 reads.0.method.1)

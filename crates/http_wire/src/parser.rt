@@ -3,7 +3,7 @@ ghost use Rattle.std.specs.Str.{IsUtf8};
 ghost use Rattle.http_header.specs.Token.{IsToken};
 ghost use Rattle.httparse.specs.Spans.{IsHeaderWithin};
 ghost use Rattle.http_wire.specs.Head.{head_of};
-ghost use Rattle.http_wire.specs.Parsed.{IsJudged, field_at};
+ghost use Rattle.http_wire.specs.Parsed.{IsJudged, begins_line, field_at};
 
 use crate::FIELD_LINES;
 use crate::faults::HeadFault;
@@ -28,25 +28,39 @@ fn fields_at(alloc: Global, bytes: &[u8], spans: &[HeaderSpan]) -> Result<Vec<Fi
     Ok(fields)
 }
 
+/// Whether the first byte is CR or LF, at which no head begins.
+fn begins_line(bytes: &[u8]) -> bool
+    ensures { result ≡ begins_line bytes.now }
+{
+    match bytes.first() {
+        Some(b) => *b == b'\r' || *b == b'\n',
+        None => false,
+    }
+}
+
 /// The head that exactly these bytes spell, if they spell one.
 fn head_in(alloc: Global, bytes: &[u8]) -> Result<Option<Request>, AllocError>
     requires { count_by (λ b. b == 10) bytes.now ≤ FIELD_LINES + 2 }
     ensures read { IfOk result (λ head. head_of bytes.now ≡ head) }
     ensures memory { OnErr result (IsSome (head_of bytes.now)) }
 {
-    if let [b'\r' | b'\n', ..] = bytes {
+    if begins_line(bytes) {
         return Ok(None);
     }
     let mut spans = [EMPTY_HEADER_SPAN; FIELD_LINES];
     match parse_request(bytes, &mut spans) {
-        Ok(Status::Complete(head)) if head.len == bytes.len() => {
+        Ok(Status::Complete(head)) => {
+            if head.len != bytes.len() {
+                return Ok(None);
+            }
             let fields = fields_at(alloc, bytes, &spans[..head.headers])?;
             let method = head.method.of(bytes);
             let target = head.path.of(bytes);
             let request = Request::new(alloc, method, target, head.version == 0, fields)?;
             Ok(Some(request))
         }
-        _ => Ok(None),
+        Ok(Status::Partial) => Ok(None),
+        Err(_) => Ok(None),
     }
 }
 

@@ -70,8 +70,11 @@ fn read_behind<S: Source>(
 }
 
 impl Wire {
-    ghost use Rattle.http_wire.specs.Front.{Bad, Clean, Cut, Whole, front};
-    ghost use Rattle.http_wire.specs.Head.{head_of};
+    ghost use Rattle.std.specs.List.{list_all};
+    ghost use Rattle.http_wire.specs.Front.{Bad, Clean, Cut, Whole, front, is_line_byte};
+    ghost use Rattle.http_wire.specs.Head.{Head, head_of};
+    ghost use Rattle.http_wire.specs.Parsed.{IsTaken};
+    ghost use Rattle.http_wire.specs.Search.{IsHeadAt};
     ghost use Rattle.http_wire.specs.Stream.{BeginsWith, BeginsWithHead, CountsFaults, unread};
     ghost use Rattle.http_wire.specs.Held.{Grows, IsHeld};
 
@@ -148,6 +151,34 @@ impl Wire {
         }
     }
 
+    /// Takes the head that is held from `start` to `end`, and the blank lines before it.
+    fn take_head(
+        &mut self,
+        alloc: Global,
+        start: usize,
+        end: usize,
+    ) -> Result<Result<Request, HeadFault>, AllocError>
+        requires room { length self.old ≤ HEAD_BYTES }
+        requires head { IsHeadAt self.old start end }
+        ensures taken { IfOk result (IsTaken self.old self.new) }
+        ensures memory { OnErr result ((more : List ℕ) → (head : Head) × (rest : List ℕ)
+            × (front (self.old ++ more) ≡ Whole head rest)) }
+        ensures kept { OnErr result (self.new ≡ self.old) }
+    {
+        let read = read_head(alloc, &self.held()[start..end])?;
+        if read.is_ok() {
+            self.use_up(end);
+        }
+        Ok(read)
+    }
+
+    /// Whether nothing but CR and LF is held.
+    fn is_blank(&self) -> bool
+        ensures { result ≡ list_all is_line_byte self.now }
+    {
+        self.held().iter().all(|b| *b == b'\r' || *b == b'\n')
+    }
+
     /// Takes the next request head from the wire and the source; `None` is the end of the stream between
     /// requests. Blank lines before a head are skipped (RFC 9112, section 2.2).
     ///
@@ -185,15 +216,13 @@ impl Wire {
         ensures write_faults { S.write_faults source.new ≡ S.write_faults source.old }
     {
         match self.find_head(source)? {
-            Found::Head { start, end } => {
-                let read = read_head(alloc, &self.held()[start..end])?;
-                let request = read.map_err(WireFault::Refused)?;
-                self.use_up(end);
-                Ok(Some(request))
-            }
+            Found::Head { start, end } => match self.take_head(alloc, start, end)? {
+                Ok(request) => Ok(Some(request)),
+                Err(fault) => Err(WireFault::Refused(fault)),
+            },
             Found::Full => Err(WireFault::Refused(HeadFault::TooLong)),
             Found::End => {
-                if self.held().iter().all(|b| *b == b'\r' || *b == b'\n') {
+                if self.is_blank() {
                     Ok(None)
                 } else {
                     Err(WireFault::Torn)
