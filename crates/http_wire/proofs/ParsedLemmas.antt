@@ -16,7 +16,7 @@ use Rattle.httparse.specs.Spans.{FindsRequest, IsRequestAt, header_bytes, name_a
 use Rattle.httparse.specs.Pieces.{Stops, is_newline}
 use Rattle.httparse.proofs.GrammarLemmas.{print_request-append}
 use Rattle.http_wire.specs.declared.requests.Field.{Field}
-use Rattle.http_wire.specs.Front.{judged, whole_of, Bad, Front}
+use Rattle.http_wire.specs.Front.{judged, whole_of, Bad, Whole}
 use Rattle.http_wire.specs.declared.faults.HeadFault.TheVariants.{TooLong}
 use Rattle.http_wire.specs.Head.{Head, field_said, head_of, head_said}
 use Rattle.http_wire.specs.Parsed.{begins_line, field_at}
@@ -34,6 +34,10 @@ on_err (Err e) P p = p
 
 pub some_is : {A : Type 0} (o : Option A) (a : A) → o ≡ Some a → IsSome o
 some_is o a e = rw e refl
+
+pub none_some : {A : Type 0} (o : Option A) → o ≡ None → IsSome o → ⊥
+none_some None e some = cc
+none_some (Some a) e some = cc
 
 -- no blank line is before a head that begins with another byte
 no_blank : (ends : List LineEnd) (bytes rest : List ℕ) → bytes ≡ print_blank ends ++ rest → begins_line bytes ≡ false → ends ≡ []
@@ -125,3 +129,13 @@ judged_read bytes rest o few is = by_count (count_by (λ b. b == 10) bytes) few 
   where
     by_count : (n : ℕ) → n ≤ 66 → cond (ltb 66 n) (Bad TooLong) (whole_of (head_of bytes) rest) ≡ whole_of (head_of bytes) rest
     by_count n le = rw (le-ltb 66 n le) refl
+
+-- a head that is judged whole is spelled by its bytes
+pub judged_spelled : (bytes rest : List ℕ) (head : Head) → judged bytes rest ≡ Whole head rest → head_of bytes ≡ Some head
+unfolding judged
+judged_spelled bytes rest head = by_count (ltb 66 (count_by (λ b. b == 10) bytes)) (head_of bytes)
+  where
+    by_count : (t : Bool) (o : Option Head) → cond t (Bad TooLong) (whole_of o rest) ≡ Whole head rest → o ≡ Some head
+    by_count true o is = absurd (cc)
+    by_count false None is = absurd (cc)
+    by_count false (Some h) is = let same : h ≡ head = cc in ap Some same

@@ -1,8 +1,9 @@
-ghost use Rattle.std.specs.Prelude.{◌≡◌, ◌+◌, ◌≤◌, ◌==◌, All, IfOk, IsSome, OnErr, count_by, length, map};
+ghost use Rattle.std.specs.Prelude.{◌≡◌, List, ℕ, ◌+◌, ◌≤◌, ◌==◌, All, IfOk, IsSome, OnErr, count_by, length, map};
 ghost use Rattle.std.specs.Str.{IsUtf8};
 ghost use Rattle.http_header.specs.Token.{IsToken};
 ghost use Rattle.httparse.specs.Spans.{IsHeaderWithin};
-ghost use Rattle.http_wire.specs.Head.{head_of};
+ghost use Rattle.http_wire.specs.Front.{Whole, judged};
+ghost use Rattle.http_wire.specs.Head.{Head, head_of};
 ghost use Rattle.http_wire.specs.Parsed.{IsJudged, begins_line, field_at};
 
 use crate::FIELD_LINES;
@@ -70,7 +71,8 @@ pub(crate) fn read_head(
     bytes: &[u8],
 ) -> Result<Result<Request, HeadFault>, AllocError>
     ensures judged { IfOk result (IsJudged bytes.now) }
-    ensures memory { OnErr result (IsSome (head_of bytes.now)) }
+    ensures memory { OnErr result ((head : Head)
+        × ((rest : List ℕ) → judged bytes.now rest ≡ Whole head rest)) }
 {
     if bytes.iter().filter(|b| **b == b'\n').count() > FIELD_LINES + 2 {
         return Ok(Err(HeadFault::TooLong));

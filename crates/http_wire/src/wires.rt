@@ -1,4 +1,4 @@
-ghost use Rattle.std.specs.Prelude.{◌≡◌, ◌≢◌, ℕ, ◌+◌, ◌-◌, ◌<◌, ◌≤◌, ◌++◌, List, [], length, take, drop, slice_range, IfOk, IfNone, IfSome, OnErr, OnOk, vec_len, None};
+ghost use Rattle.std.specs.Prelude.{◌≡◌, ◌≢◌, ℕ, ◌+◌, ◌-◌, ◌<◌, ◌≤◌, ◌++◌, List, [], length, take, drop, slice_range, min, IfOk, IfNone, IfSome, OnErr, OnOk, vec_len, None};
 ghost use Rattle.std.specs.Option.{option_map};
 ghost use Rattle.outside.specs.Faults.{HasCause};
 ghost use Rattle.outside.specs.Told.{IsAtEnd, in_front};
@@ -67,6 +67,34 @@ fn read_behind<S: Source>(
     ensures write_faults { S.write_faults source.new ≡ S.write_faults source.old }
 {
     source.read(&mut buffer[held..])
+}
+
+/// Copies as much of `held` as `body` has room for into its front, and says how much that is.
+fn copy_front(body: &mut [u8], held: &[u8]) -> usize
+    ensures count { result ≡ min (length body.old) (length held.now) }
+    ensures len { length body.new ≡ length body.old }
+    ensures copied { take result body.new ≡ take result held.now }
+{
+    let count = body.len().min(held.len());
+    body[..count].copy_from_slice(&held[..count]);
+    count
+}
+
+/// Reads from the source until `body` is full, or to the source's end. The first `held` bytes stay.
+fn read_rest<S: Source>(source: &mut S, body: &mut [u8], held: usize) -> Result<usize, Failed>
+    requires { held ≤ length body.old }
+    ensures cause { HasCause (S.read_faults source.old) (S.read_faults source.new) result }
+    ensures kept { take held body.new ≡ take held body.old }
+    ensures count { IfOk result (λ n. held + n ≤ length body.new) }
+    ensures given { IfOk result (λ n. S.left source.old
+        ≡ in_front (slice_range body.new held (held + n)) (S.left source.new)) }
+    ensures end { IfOk result (λ n. held + n < length body.new → IsAtEnd (S.left source.new)) }
+    ensures failed { OnErr result ((gone : List ℕ) × (held + length gone ≤ length body.new)
+        × (S.left source.old ≡ in_front gone (S.left source.new))) }
+    ensures taken { S.taken source.new ≡ S.taken source.old }
+    ensures write_faults { S.write_faults source.new ≡ S.write_faults source.old }
+{
+    read_full(source, &mut body[held..])
 }
 
 impl Wire {
@@ -165,11 +193,13 @@ impl Wire {
             × (front (self.old ++ more) ≡ Whole head rest)) }
         ensures kept { OnErr result (self.new ≡ self.old) }
     {
-        let read = read_head(alloc, &self.held()[start..end])?;
-        if read.is_ok() {
-            self.use_up(end);
+        match read_head(alloc, &self.held()[start..end])? {
+            Ok(head) => {
+                self.use_up(end);
+                Ok(Ok(head))
+            }
+            Err(fault) => Ok(Err(fault)),
         }
-        Ok(read)
     }
 
     /// Whether nothing but CR and LF is held.
@@ -235,7 +265,7 @@ impl Wire {
     /// is used.
     ///
     /// After `NoMemory` nothing is used up. After `Torn` the stream is at its end. After `SourceFault` the wire
-    /// is empty, and fewer than `count` bytes are gone.
+    /// is empty, and at most `count` bytes are gone.
     pub fn body<S: Source>(
         &mut self,
         alloc: Global,
@@ -254,7 +284,7 @@ impl Wire {
         ensures memory_held { result ≡ Err WireFault.NoMemory → self.new ≡ self.old }
         ensures memory_left { result ≡ Err WireFault.NoMemory → S.left source.new ≡ S.left source.old }
         ensures fault_rest { result ≡ Err WireFault.SourceFault → (gone : List ℕ)
-            × (length gone < count) × (self.new ≡ [])
+            × (length gone ≤ count) × (self.new ≡ [])
             × (unread self.old (S.left source.old) ≡ in_front gone (S.left source.new)) }
         ensures not_refused { (fault : HeadFault) → result ≢ Err (WireFault.Refused fault) }
         ensures faults { CountsFaults (S.read_faults source.old) (S.read_faults source.new) result }
@@ -262,10 +292,9 @@ impl Wire {
         ensures write_faults { S.write_faults source.new ≡ S.write_faults source.old }
     {
         let mut body = vec![in alloc; 0; count as usize]?;
-        let held = body.len().min(self.held().len());
-        body[..held].copy_from_slice(&self.held()[..held]);
+        let held = copy_front(&mut body, self.held());
         self.use_up(held);
-        let given = read_full(source, &mut body[held..])?;
+        let given = read_rest(source, &mut body, held)?;
         if held + given < body.len() {
             return Err(WireFault::Torn);
         }
