@@ -1,5 +1,6 @@
 pub mod Computed
 pub mod CutLemmas
+pub mod FieldLemmas
 pub mod FrontLemmas
 pub mod OnLiterals
 pub mod OpenLemmas

@@ -154,3 +154,8 @@ body_gone held gone left left_after from = ap (unread held) from ∙ by_left lef
     by_left : (o : Option (List ℕ)) → unread held (in_front gone o) ≡ in_front (held ++ gone) o
     by_left None = refl
     by_left (Some more) = ap Some (sym (append_assoc held gone more))
+
+-- nothing in front
+pub in_front-none : (told : Option (List ℕ)) → told ≡ in_front [] told
+in_front-none None = refl
+in_front-none (Some bytes) = refl

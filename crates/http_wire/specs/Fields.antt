@@ -1,7 +1,8 @@
 -- Fields of a request by their names, and what some of them say (RFC 9110, sections 5.1, 7.6.1 and 8.6).
 use Rattle.std.specs.Prelude.{ℕ, Bool, ◌&&◌, ◌==◌, nat_le, nat_lt, List, [], ◌∷◌, length, map, filter, codes, if◌then◌else◌}
 use Rattle.std.specs.List.{list_all, list_any, slice_split}
-use Rattle.std.specs.Str.{all_ascii_digits, str_eq_ignore_ascii_case}
+use Rattle.std.specs.Str.{str_eq_ignore_ascii_case}
+use Rattle.std.specs.Char.{is_ascii_digit}
 use Rattle.std.specs.Str.Parse.{digits_value}
 use Rattle.httparse.specs.Ascii.{comma}
 use Rattle.httparse.specs.Grammar.{trim_ows}
@@ -33,7 +34,7 @@ length_digits = 18
 
 -- 1 to 18 digits
 abbrev pub is_length : List ℕ → Bool
-is_length value = nat_lt 0 (length value) && (nat_le (length value) length_digits && all_ascii_digits value)
+is_length value = nat_lt 0 (length value) && (nat_le (length value) length_digits && list_all is_ascii_digit value)
 
 -- the number that the digits give
 abbrev pub number_of : List ℕ → ℕ

@@ -1,10 +1,11 @@
-ghost use Rattle.std.specs.Prelude.{◌≡◌, ◌++◌, ◌∷◌, [], codes, count_by, find, if◌then◌else◌, Some, None};
+ghost use Rattle.std.specs.Prelude.{◌≡◌, ◌++◌, ◌∷◌, [], codes, count_by, find, reverse, if◌then◌else◌, Some, None};
 ghost use Rattle.std.specs.Option.{option_map};
-ghost use Rattle.httparse.specs.Grammar.{trim_ows};
+ghost use Rattle.httparse.specs.Grammar.{skip_ows, trim_ows};
 ghost use Rattle.http_wire.specs.Fields.{asks_close, body_length, has_close, is_length, is_named, number_of};
 ghost use Rattle.http_wire.specs.FieldSteps.{joined};
 
 use crate::requests::{BodyLength, Field};
+use httparse::is_space_or_tab;
 
 /// The most digits of a length.
 const LENGTH_DIGITS: usize = 18;
@@ -25,26 +26,41 @@ pub(crate) fn first<'a>(fields: &'a [Field], name: &[u8]) -> Option<&'a [u8]>
     ensures { option_map (λ v. v.now) result
         ≡ option_map (λ f. f.value) (find (is_named name.now) fields.now) }
 {
-    for f in fields {
-        if is_named(f, name) {
-            return Some(f.value.as_slice());
-        }
+    fields
+        .iter()
+        .find(|f| is_named(f, name))
+        .map(|f| f.value.as_slice())
+}
+
+/// The bytes from the first that is no space or tab.
+fn trimmed_front(mut bytes: &[u8]) -> &[u8]
+    ensures { result.now ≡ skip_ows bytes.now }
+{
+    while let [first, rest @ ..] = bytes
+        && is_space_or_tab(*first)
+    {
+        bytes = rest;
     }
-    None
+    bytes
+}
+
+/// The bytes up to the last that is no space or tab.
+fn trimmed_back(mut bytes: &[u8]) -> &[u8]
+    ensures { result.now ≡ reverse (skip_ows (reverse bytes.now)) }
+{
+    while let [rest @ .., last] = bytes
+        && is_space_or_tab(*last)
+    {
+        bytes = rest;
+    }
+    bytes
 }
 
 /// The bytes without the spaces and tabs at their ends.
 fn trimmed(bytes: &[u8]) -> &[u8]
     ensures { result.now ≡ trim_ows bytes.now }
 {
-    let mut rest = bytes;
-    while let [b' ' | b'\t', behind @ ..] = rest {
-        rest = behind;
-    }
-    while let [before @ .., b' ' | b'\t'] = rest {
-        rest = before;
-    }
-    rest
+    trimmed_back(trimmed_front(bytes))
 }
 
 fn has_close(value: &[u8]) -> bool
@@ -70,7 +86,7 @@ fn length_in(value: &[u8]) -> Option<u64>
     if value.is_empty() || value.len() > LENGTH_DIGITS {
         return None;
     }
-    let mut number = 0;
+    let mut number: u64 = 0;
     for b in value {
         if !b.is_ascii_digit() {
             return None;

@@ -294,6 +294,9 @@ impl Wire {
         let mut body = vec![in alloc; 0; count as usize]?;
         let held = copy_front(&mut body, self.held());
         self.use_up(held);
+        if held == body.len() {
+            return Ok(body);
+        }
         let given = read_rest(source, &mut body, held)?;
         if held + given < body.len() {
             return Err(WireFault::Torn);
