@@ -1,4 +1,4 @@
-ghost use Rattle.std.specs.Prelude.{◌≡◌, ℕ, List, [], ◌∷◌, Option, None, option_to_list, IfOk, IfNone, OnErr};
+ghost use Rattle.std.specs.Prelude.{◌≡◌, ℕ, List, [], ◌∷◌, Option, None, option_to_list, IfOk, IfNone, OnSome, OnErr};
 ghost use Rattle.outside.specs.Faults.{HasCause};
 ghost use Rattle.outside.specs.Told.{in_front, behind, IsAtEnd};
 
@@ -19,6 +19,9 @@ pub trait Port {
     // How many calls have failed. It never falls.
     ghost faults: { Self → ℕ };
 
+    // There is a place for a connection to come back to.
+    ghost has_place: { Self → Type 0 };
+
     /// Waits for the next connection. None comes exactly where none is left.
     fn next(&mut self) -> Result<Option<Self::Link>, Failed>
         ensures cause { HasCause (faults self.old) (faults self.new) result }
@@ -27,10 +30,13 @@ pub trait Port {
         ensures given { IfOk result (λ link. left self.old ≡ in_front (option_to_list link) (left self.new)) }
         ensures end { IfOk result (λ link. IfNone link (IsAtEnd (left self.new))) }
         ensures failed { OnErr result (left self.new ≡ left self.old) }
-        ensures given_back { given_back self.new ≡ given_back self.old };
+        ensures given_back { given_back self.new ≡ given_back self.old }
+        ensures place { IfOk result (λ link. OnSome link (has_place self.new)) };
 
-    /// Takes a connection back, when it is over. A connection of the network is closed by it.
+    /// Takes a connection back when it is over. A connection of the network is closed by it. There is a place
+    /// once `next` has handed a connection out.
     fn back(&mut self, link: Self::Link)
+        requires { has_place self.old }
         ensures given_back { given_back self.new ≡ behind (given_back self.old) (link ∷ []) }
         ensures left { left self.new ≡ left self.old }
         ensures faults { faults self.new ≡ faults self.old };

@@ -23,12 +23,15 @@ pub trait Source: Tells {
         ensures write_faults { Self.write_faults self.new ≡ Self.write_faults self.old };
 }
 
+/// Reads until `buffer` is full or the source ends, and says how many bytes it read: fewer than fit only at the
+/// end. On a failure some bytes, at most as many as fit, were taken and stand at the front of `buffer`.
 pub fn read_full<S: Source>(source: &mut S, buffer: &mut [u8]) -> Result<usize, Failed>
     ensures cause { HasCause (S.read_faults source.old) (S.read_faults source.new) result }
     ensures count { IfOk result (λ n. n ≤ length buffer.new) }
     ensures given { IfOk result (λ n. S.left source.old ≡ in_front (take n buffer.new) (S.left source.new)) }
     ensures end { IfOk result (λ n. n < length buffer.new → IsAtEnd (S.left source.new)) }
-    ensures failed { OnErr result ((n : ℕ) × (n ≤ length buffer.new) × (S.left source.old ≡ in_front (take n buffer.new) (S.left source.new))) }
+    ensures failed { OnErr result ((n : ℕ) × (n ≤ length buffer.new)
+        × (S.left source.old ≡ in_front (take n buffer.new) (S.left source.new))) }
     ensures taken { S.taken source.new ≡ S.taken source.old }
     ensures write_faults { S.write_faults source.new ≡ S.write_faults source.old }
 {

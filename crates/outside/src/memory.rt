@@ -1,0 +1,19 @@
+// The outside in memory: what tests and a replayed run stand on.
+
+mod fault_script;
+mod mem_blobs;
+mod mem_sink;
+mod mem_source;
+mod script_clock;
+mod script_port;
+
+use crate::duplex::Duplex;
+pub use fault_script::FaultScript;
+pub use mem_blobs::{MemBlobs, MemHeld};
+pub use mem_sink::MemSink;
+pub use mem_source::MemSource;
+pub use script_clock::ScriptClock;
+pub use script_port::ScriptPort;
+
+/// A connection in memory.
+pub type MemLink = Duplex<MemSource, MemSink>;
