@@ -5,14 +5,12 @@ use Rattle.std.specs.Char.{is_ascii_digit, digit_value}
 use Rattle.std.specs.List.{list_all}
 use Rattle.std.specs.Str.{all_ascii_digits}
 use Rattle.std.specs.Str.Parse.{digits_value}
-use Rattle.std.proofs.lemmas.Bool.{and_left, and_right, and_from, cond-false, lt-ltb, le-leb}
-use Rattle.std.proofs.lemmas.List.{length-take-le}
-use Rattle.std.proofs.lemmas.List.Folds.{list_all_at, list_all_more}
-use Rattle.std.proofs.lemmas.Int.Digits.{digits_value_more}
+use Rattle.std.proofs.lemmas.Bool.{and_right, cond-false, cond-true}
 use Rattle.std.proofs.lemmas.Str.Parse.{IsNumeralModel, digits_value_short, numerals_by_value, tells_all_ascii_digits}
 use Rattle.http_wire.specs.declared.requests.BodyLength.{BodyLength}
 use Rattle.http_wire.specs.declared.requests.BodyLength.TheVariants.{Known, Missing, Wrong}
-use Rattle.http_wire.specs.Fields.{is_length, number_of, said_length}
+use Rattle.http_wire.specs.Fields.{is_length, is_named, number_of, said_length, values_of}
+use Rattle.http_wire.specs.declared.requests.Field.{Field}
 use Rattle.http_wire.specs.FieldSteps.{joined}
 
 digits_same : (ds : List ℕ) → list_all is_ascii_digit ds ≡ all_ascii_digits ds
@@ -59,3 +57,14 @@ said_length-fold (value ∷ values) = by_test (is_length value) (list_all is_len
         → cond ((a && c) && d) (Known (number_of value)) Wrong ≡ fold joined (cond a (Known (number_of value)) Wrong) values
     by_test true c d later = sym later
     by_test false c d later = sym (stays values)
+
+-- one field more
+pub said-named : (said : BodyLength) (name : List ℕ) (f : Field) (fields : List Field) → is_named name f ≡ true
+    → fold joined said (values_of name (f ∷ fields)) ≡ fold joined (joined said f.value) (values_of name fields)
+said-named said name f fields named =
+    ap (λ (l : List Field). fold joined said (map (λ g. g.value) l)) (cond-true (is_named name f) (f ∷ filter (is_named name) fields) (filter (is_named name) fields) named)
+
+pub said-other : (said : BodyLength) (name : List ℕ) (f : Field) (fields : List Field) → is_named name f ≡ false
+    → fold joined said (values_of name (f ∷ fields)) ≡ fold joined said (values_of name fields)
+said-other said name f fields other =
+    ap (λ (l : List Field). fold joined said (map (λ g. g.value) l)) (cond-false (is_named name f) (f ∷ filter (is_named name) fields) (filter (is_named name) fields) other)

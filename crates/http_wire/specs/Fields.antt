@@ -19,12 +19,15 @@ is_named name f = str_eq_ignore_ascii_case f.name name
 abbrev pub values_of : List ℕ → List Field → List (List ℕ)
 values_of name fields = map (λ f. f.value) (filter (is_named name) fields)
 
--- the value is a list with commas, and a member of it, without the blanks around it, is `close`
-abbrev pub has_close : List ℕ → Bool
-has_close value =
-    list_any (λ member. str_eq_ignore_ascii_case (trim_ows member) (codes "close")) (slice_split (λ b. b == comma) value)
+-- the member of a list, without the blanks around it, is `close`; the case of letters doesn't count
+abbrev pub is_close : List ℕ → Bool
+is_close member = str_eq_ignore_ascii_case (trim_ows member) (codes "close")
 
--- an option of a Connection field is `close`; the case of letters doesn't count
+-- a member of the value, a list with commas, is `close`
+abbrev pub has_close : List ℕ → Bool
+has_close value = list_any is_close (slice_split (λ b. b == comma) value)
+
+-- an option of a Connection field is `close`
 abbrev pub asks_close : List Field → Bool
 asks_close fields = list_any (λ f. is_named (codes "Connection") f && has_close f.value) fields
 

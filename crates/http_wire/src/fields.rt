@@ -1,7 +1,7 @@
 ghost use Rattle.std.specs.Prelude.{◌≡◌, ◌++◌, ◌∷◌, [], codes, count_by, find, reverse, if◌then◌else◌, Some, None};
 ghost use Rattle.std.specs.Option.{option_map};
 ghost use Rattle.httparse.specs.Grammar.{skip_ows, trim_ows};
-ghost use Rattle.http_wire.specs.Fields.{asks_close, body_length, has_close, is_length, is_named, number_of};
+ghost use Rattle.http_wire.specs.Fields.{asks_close, body_length, has_close, is_close, is_length, is_named, number_of};
 ghost use Rattle.http_wire.specs.FieldSteps.{joined};
 
 use crate::requests::{BodyLength, Field};
@@ -63,12 +63,17 @@ fn trimmed(bytes: &[u8]) -> &[u8]
     trimmed_back(trimmed_front(bytes))
 }
 
+/// Whether the member of a list is `close`, blanks at its ends left out.
+fn is_close(member: &[u8]) -> bool
+    ensures { result ≡ is_close member.now }
+{
+    trimmed(member).eq_ignore_ascii_case(b"close")
+}
+
 fn has_close(value: &[u8]) -> bool
     ensures { result ≡ has_close value.now }
 {
-    value
-        .split(|b| *b == b',')
-        .any(|member| trimmed(member).eq_ignore_ascii_case(b"close"))
+    value.split(|b| *b == b',').any(|member| is_close(member))
 }
 
 pub(crate) fn asks_close(fields: &[Field]) -> bool
