@@ -1,0 +1,11 @@
+pub mod Computed
+pub mod CutLemmas
+pub mod FieldLemmas
+pub mod FrontLemmas
+pub mod OnLiterals
+pub mod OpenLemmas
+pub mod ParsedLemmas
+pub mod PlaceLemmas
+pub mod StayLemmas
+pub mod TreeLemmas
+pub mod WireLemmas

@@ -1,0 +1,161 @@
+-- Parts of a buffer, and what a stream begins with by what a wire holds of it.
+use Rattle.std.proofs.Common.{◌≡◌, ℕ, ◌+◌, ◌-◌, ◌≤◌, ◌<◌, ◌⊎◌, inl, inr, min, List, ◌++◌, length, take, drop, slice_range, [], Option, Some, None, Ok, Err, true, false, refl, sym, ap, ◌∙◌, subst, arith, append-nil, append_assoc, length-drop}
+use Rattle.std.proofs.lemmas.List.{drop-drop, drop-take, drop_all, take-append-drop, take_all, take_at}
+use Rattle.std.proofs.lemmas.Bool.{cases_lt}
+use Rattle.std.specs.Option.{option_map}
+use Rattle.std.specs.List.{list_all}
+use Rattle.httparse.proofs.RunLemmas.{length-slice_range}
+use Rattle.outside.specs.Told.{IsAtEnd, in_front}
+use Rattle.http_wire.specs.Front.{Clean, Cut, Front, Whole, front, is_line_byte, judged, unfinished}
+use Rattle.http_wire.specs.Head.{Head}
+use Rattle.http_wire.specs.Parsed.{IsJudged, IsTaken}
+use Rattle.http_wire.specs.Search.{IsHeadAt}
+use Rattle.http_wire.specs.declared.faults.HeadFault.{HeadFault}
+use Rattle.http_wire.proofs.FrontLemmas.{front_found}
+use Rattle.http_wire.proofs.ParsedLemmas.{judged_spelled}
+use Rattle.http_wire.specs.Stream.{BeginsWith, BeginsWithHead, unread}
+
+-- a slice from which the first n are dropped
+pub slice_range-add : (buffer : List ℕ) (start end n : ℕ) → start + n ≤ end
+    → slice_range buffer (start + n) end ≡ drop n (slice_range buffer start end)
+slice_range-add buffer start end n fits =
+    let rest : end - start ≡ n + (end - (start + n)) = omega arith in
+    rw (rest, drop-take n (end - (start + n)) (drop start buffer)) (ap (λ (l : List ℕ). take (end - (start + n)) l) (sym (drop-drop n start buffer)))
+
+-- a slice that was moved to the front
+pub take-moved : (buffer moved : List ℕ) (start end : ℕ) → start ≤ end → end ≤ length buffer
+    → moved ≡ drop start (take end buffer) ++ take start (take end buffer)
+    → take (end - start) (moved ++ drop end buffer) ≡ slice_range buffer start end
+take-moved buffer moved start end ordered within is =
+    let whole : end ≡ start + (end - start) = omega arith in
+    let part : drop start (take end buffer) ≡ slice_range buffer start end
+        = ap (λ (n : ℕ). drop start (take n buffer)) whole ∙ drop-take start (end - start) buffer in
+    let behind = take start (take end buffer) ++ drop end buffer in
+    let split : moved ++ drop end buffer ≡ slice_range buffer start end ++ behind
+        = ap (λ (l : List ℕ). l ++ drop end buffer) is ∙ append_assoc (drop start (take end buffer)) (take start (take end buffer)) (drop end buffer)
+          ∙ ap (λ (l : List ℕ). l ++ behind) part in
+    ap (λ (l : List ℕ). take (end - start) l) split
+    ∙ take_at (slice_range buffer start end) behind (end - start) (length-slice_range buffer start end ordered within)
+
+-- ---- a stream that tells its bytes
+
+-- a head was taken off what is held
+pub told_whole : (held held_after : List ℕ) (left before : Option (List ℕ)) (head : Head) → unread held left ≡ before
+    → ((more : List ℕ) → front (held ++ more) ≡ Whole head (held_after ++ more))
+    → option_map front before ≡ option_map (λ rest. Whole head rest) (unread held_after left)
+told_whole held held_after left before head kept is = ap (option_map front) (sym kept) ∙ by_left left
+  where
+    by_left : (o : Option (List ℕ)) → option_map front (unread held o) ≡ option_map (λ rest. Whole head rest) (unread held_after o)
+    by_left None = refl
+    by_left (Some more) = ap Some (is more)
+
+-- what is held decides what the stream begins with
+pub told_front : (held : List ℕ) (left before : Option (List ℕ)) (what : Front) → unread held left ≡ before
+    → ((more : List ℕ) → front (held ++ more) ≡ what) → BeginsWith before what
+told_front held left before what kept is = subst (λ (o : Option (List ℕ)). BeginsWith o what) kept (by_left left)
+  where
+    by_left : (o : Option (List ℕ)) → BeginsWith (unread held o) what
+    by_left None = tt
+    by_left (Some more) = is more
+
+pub told_head : (held : List ℕ) (left before : Option (List ℕ)) → unread held left ≡ before
+    → ((more : List ℕ) → (head : Head) × (rest : List ℕ) × (front (held ++ more) ≡ Whole head rest)) → BeginsWithHead before
+told_head held left before kept is = subst BeginsWithHead kept (by_left left)
+  where
+    by_left : (o : Option (List ℕ)) → BeginsWithHead (unread held o)
+    by_left None = tt
+    by_left (Some more) = is more
+
+-- the source is at its end
+pub told_end : (held : List ℕ) (left before : Option (List ℕ)) (what : Front) → unread held left ≡ before
+    → IsAtEnd left → front held ≡ what → BeginsWith before what
+told_end held left before what kept ended is = subst (λ (o : Option (List ℕ)). BeginsWith o what) kept (by_left left ended)
+  where
+    by_left : (o : Option (List ℕ)) → IsAtEnd o → BeginsWith (unread held o) what
+    by_left None end = tt
+    by_left (Some more) end = ap (λ (l : List ℕ). front (held ++ l)) end ∙ ap front (append-nil held) ∙ is
+
+-- the end of the stream between requests, or inside a head
+pub unfinished_clean : (held : List ℕ) → list_all is_line_byte held ≡ true → unfinished held ≡ Clean
+unfinished_clean held all = rw all refl
+
+pub unfinished_cut : (held : List ℕ) → list_all is_line_byte held ≡ false → unfinished held ≡ Cut
+unfinished_cut held all = rw all refl
+
+-- ---- a head that is held
+
+pub taken_whole : (held lent after : List ℕ) (start end : ℕ) (head : Head) → length held ≤ 8192 → IsHeadAt held start end
+    → lent ≡ held → IsJudged (slice_range lent start end) (Ok head) → after ≡ drop end held → IsTaken held after (Ok head)
+taken_whole held lent after start end head room at same whole rest =
+    let bytes : slice_range lent start end ≡ slice_range held start end = ap (λ (l : List ℕ). slice_range l start end) same in (
+      λ more. front_found held more start end room at
+          ∙ ap (λ (l : List ℕ). judged l (drop end held ++ more)) (sym bytes)
+          ∙ whole (drop end held ++ more)
+          ∙ ap (λ (l : List ℕ). Whole head (l ++ more)) (sym rest),
+      (slice_range lent start end, judged_spelled (slice_range lent start end) [] head (whole [])),
+    )
+
+pub taken_refused : (held lent after : List ℕ) (start end : ℕ) (fault : HeadFault) → length held ≤ 8192 → IsHeadAt held start end
+    → lent ≡ held → IsJudged (slice_range lent start end) (Err fault) → after ≡ held → IsTaken held after (Err fault)
+taken_refused held lent after start end fault room at same bad rest = (
+  λ more. front_found held more start end room at
+      ∙ ap (λ (l : List ℕ). judged (slice_range l start end) (drop end held ++ more)) (sym same)
+      ∙ bad (drop end held ++ more),
+  rest,
+)
+
+pub taken_none : (held lent : List ℕ) (start end : ℕ) → length held ≤ 8192 → IsHeadAt held start end → lent ≡ held
+    → (head : Head) × ((rest : List ℕ) → judged (slice_range lent start end) rest ≡ Whole head rest)
+    → (more : List ℕ) → (head : Head) × (rest : List ℕ) × (front (held ++ more) ≡ Whole head rest)
+taken_none held lent start end room at same whole more = (
+  whole.0,
+  drop end held ++ more,
+  front_found held more start end room at
+  ∙ ap (λ (l : List ℕ). judged (slice_range l start end) (drop end held ++ more)) (sym same)
+  ∙ whole.1 (drop end held ++ more),
+)
+
+-- ---- a body
+
+-- it is the front of what is held, and then what the source gave
+pub body_given : (held body given : List ℕ) (count : ℕ) (left left_after : Option (List ℕ)) → count ≡ min (length body) (length held)
+    → take count body ≡ take count held → drop count body ≡ given → left ≡ in_front given left_after
+    → unread held left ≡ in_front body (unread (drop count held) left_after)
+body_given held body given count left left_after is same rest from =
+    ap (unread held) from ∙ by_left left_after (cases_lt (length held) (length body))
+  where
+    whole : body ≡ take count held ++ given
+    whole = sym (take-append-drop count body) ∙ ap (λ (l : List ℕ). l ++ drop count body) same ∙ ap (λ (l : List ℕ). take count held ++ l) rest
+    swap_parts : (more : List ℕ) → (length held < length body) ⊎ (length body ≤ length held)
+        → held ++ (given ++ more) ≡ (take count held ++ given) ++ (drop count held ++ more)
+    swap_parts more (inl short) =
+        let all : take count held ≡ held = take_all count held (omega (arith, is)) in
+        let none : drop count held ≡ [] = drop_all count held (omega (arith, is)) in
+        rw (all, none) (sym (append_assoc held given more))
+    swap_parts more (inr long) =
+        let nothing : given ≡ [] = sym rest ∙ drop_all count body (omega (arith, is)) in
+        rw nothing (ap (λ (l : List ℕ). l ++ more) (sym (take-append-drop count held))
+            ∙ append_assoc (take count held) (drop count held) more
+            ∙ ap (λ (l : List ℕ). l ++ (drop count held ++ more)) (sym (append-nil (take count held))))
+    by_left : (o : Option (List ℕ)) → (length held < length body) ⊎ (length body ≤ length held)
+        → unread held (in_front given o) ≡ in_front body (unread (drop count held) o)
+    by_left None lengths = refl
+    by_left (Some more) lengths = ap Some (swap_parts more lengths ∙ ap (λ (l : List ℕ). l ++ (drop count held ++ more)) (sym whole))
+
+-- a slice to the end
+pub slice_range-rest : (bytes : List ℕ) (start end : ℕ) → length bytes ≤ end → slice_range bytes start end ≡ drop start bytes
+slice_range-rest bytes start end all = take_all (end - start) (drop start bytes) (omega (arith, length-drop start bytes))
+
+-- what is gone before the source failed: what was held, and what the source gave
+pub body_gone : (held gone : List ℕ) (left left_after : Option (List ℕ)) → left ≡ in_front gone left_after
+    → unread held left ≡ in_front (held ++ gone) left_after
+body_gone held gone left left_after from = ap (unread held) from ∙ by_left left_after
+  where
+    by_left : (o : Option (List ℕ)) → unread held (in_front gone o) ≡ in_front (held ++ gone) o
+    by_left None = refl
+    by_left (Some more) = ap Some (sym (append_assoc held gone more))
+
+-- nothing in front
+pub in_front-none : (told : Option (List ℕ)) → told ≡ in_front [] told
+in_front-none None = refl
+in_front-none (Some bytes) = refl

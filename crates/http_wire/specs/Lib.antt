@@ -1,0 +1,10 @@
+pub mod Answer
+pub mod FieldSteps
+pub mod Fields
+pub mod Found
+pub mod Front
+pub mod Head
+pub mod Held
+pub mod Parsed
+pub mod Search
+pub mod Stream

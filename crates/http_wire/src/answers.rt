@@ -1,0 +1,78 @@
+ghost use Rattle.std.specs.Prelude.{◌≡◌, IfOk};
+ghost use Rattle.http_wire.specs.Answer.{no_memory, shown};
+
+use crate::lines::push_head;
+use mvn_digest::Digests;
+use std::alloc::{AllocError, Global};
+use texts::{Bytes, Text};
+
+/// The status of an answer (RFC 9110, section 15).
+#[derive(Clone, Copy, Debug, PartialEq, Eq)]
+pub enum Status {
+    Ok,
+    Created,
+    BadRequest,
+    Forbidden,
+    NotFound,
+    MethodNotAllowed,
+    Conflict,
+    LengthRequired,
+    PayloadTooLarge,
+    UnprocessableEntity,
+    TooManyRequests,
+    RequestHeaderFieldsTooLarge,
+    InternalServerError,
+    BadGateway,
+    ServiceUnavailable,
+    GatewayTimeout,
+    InsufficientStorage,
+}
+
+/// What the content of an answer is, as its media type says (RFC 9110, section 8.3).
+#[derive(Clone, Copy, Debug, PartialEq, Eq)]
+pub enum Content {
+    /// A stored file, `application/octet-stream`.
+    File,
+    /// A metadata document, `text/xml`.
+    Document,
+    /// A line or a few lines of text, `text/plain`.
+    Plain,
+}
+
+/// An answer to a request (RFC 9112, sections 4 and 5).
+#[derive(Drop)]
+pub struct Answer {
+    pub status: Status,
+    pub content: Content,
+    /// The length of the content in bytes. The content may be sent apart from the answer, or not at all, as
+    /// in the answer to HEAD.
+    pub length: u64,
+    /// The digests of the content, which a file and a document have.
+    pub digests: Option<Digests>,
+    /// The methods of the target, which an answer with the status 405 tells.
+    pub allow: Option<Text>,
+    /// Whether the connection ends after the answer.
+    pub close: bool,
+    /// The bytes that are sent right behind the head.
+    pub body: Bytes,
+}
+
+/// The bytes of the answer: its head and its body.
+pub fn render(alloc: Global, answer: &Answer) -> Result<Bytes, AllocError>
+    ensures ok { IfOk result (λ bytes. bytes ≡ shown answer.now) }
+{
+    let mut bytes = Vec::new(alloc);
+    push_head(&mut bytes, answer)?;
+    bytes.extend_from_slice(answer.body.as_slice())?;
+    Ok(Bytes::from_vec(bytes))
+}
+
+/// The answer where there is no memory for another: 507, the text `memory`, and the connection ends.
+pub const NO_MEMORY: &[u8; 108] = b"HTTP/1.1 507 Insufficient Storage\r\nContent-Type: text/plain\r\nContent-Length: 7\r\nConnection: close\r\n\r\nmemory\n";
+
+/// The bytes of the answer where there is no memory for another. They take none.
+pub fn no_memory_answer() -> &'static [u8]
+    ensures { result.now ≡ shown no_memory }
+{
+    NO_MEMORY.as_slice()
+}
