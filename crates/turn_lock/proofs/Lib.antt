@@ -1,0 +1,5 @@
+mod Totals
+mod Histories
+mod WordSteps
+mod CallerSteps
+mod PartSteps
