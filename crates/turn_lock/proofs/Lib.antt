@@ -3,3 +3,4 @@ mod Histories
 mod WordSteps
 mod CallerSteps
 mod PartSteps
+mod Steps
