@@ -77,6 +77,11 @@ module _ {C R T : Type 0} where
           (λ on _. absurd (true≢false on));
     }
 
+    pub unused_silent : entries_by (unused views) log ≡ []
+    unused_silent =
+        let free : total (claims (unused views)) views ≡ 0 = unused_free views in
+        ⊎_elim (λ (one : total (claims (unused views)) views ≡ 1). absurd (omega arith)) (λ (none : (total (claims (unused views)) views ≡ 0) × (entries_by (unused views) log ≡ [])). none.1) (kept.counted (unused views))
+
     -- a seat's number is not the unused one
     pub number_used : 0 < v.parts → unused views ≢ v.number
     number_used live is =

@@ -28,6 +28,26 @@ module _ {C R T : Type 0} where
       (λ is. let b = eq-eqb y.by k is in rw b (ap (λ l. y ∷ l) (entries_by-other k ys e apart)))
       (λ no. let b = ne_eqb y.by k no in rw b (entries_by-other k ys e apart))
 
+  entries_by-append : (k : ℕ) (log more : List (Entry C R T)) → entries_by k (log ++ more) ≡ entries_by k log ++ entries_by k more
+  entries_by-append k [] more = refl
+  entries_by-append k (y ∷ ys) more =
+      dite (ℕ_discrete y.by k)
+      (λ is. let b = eq-eqb y.by k is in rw b (ap (λ l. y ∷ l) (entries_by-append k ys more)))
+      (λ no. let b = ne_eqb y.by k no in rw b (entries_by-append k ys more))
+
+  -- who has no entry in the history has none in a beginning of it
+  pub none_before : (k : ℕ) (log seen : List (Entry C R T)) → BeginsWith log seen → entries_by k log ≡ [] → entries_by k seen ≡ []
+  none_before k log seen begins none = front_empty (entries_by k seen) (entries_by k begins.0) (sym (entries_by-append k seen begins.0) ∙ sym (ap (entries_by k) begins.1) ∙ none)
+    where
+      front_empty : (xs ys : List (Entry C R T)) → xs ++ ys ≡ [] → xs ≡ []
+      front_empty [] ys e = refl
+      front_empty (x ∷ xs) ys e = absurd (cc)
+
+  -- the object's fixed part is that of the opening
+  pub fixed_end : {F : Type 0} (fixed : T → F) (turned : T → C → R → T → Type 0) (stays : (before after : T) (call : C) (reply : R) → turned before call reply after → fixed after ≡ fixed before) (x : T) (log : List (Entry C R T)) → Legal turned x log → fixed (end_of x log) ≡ fixed x
+  fixed_end fixed turned stays x [] legal = refl
+  fixed_end fixed turned stays x (e ∷ es) legal = fixed_end fixed turned stays e.after es legal.1 ∙ stays x e.after e.call e.reply legal.0
+
   pub begins_itself : (log : List (Entry C R T)) → BeginsWith log log
   begins_itself log = ([], sym (append-nil log))
 
