@@ -20,23 +20,23 @@ module _ {C R T : Type 0} (opening : T) (views : List (View C R T)) (id : ℕ) (
   parts_split amount some_parts fewer =
       let w = without amount v in let u = offshoot amount v in
       let from = kept.alive id v at (omega arith) in record {
-    whole = (let t = total_set parts_of views id v w at in let n = total_snoc parts_of (set views id w) u in let k = kept.whole in omega arith);
-    alive = each_snoc (λ u. 0 < u.parts → u.opening ≡ Some opening) (set views id w) u
-        (each_set (λ u. 0 < u.parts → u.opening ≡ Some opening) views id w (λ j u _ there. kept.alive j u there) (λ _. from))
-        (λ _. from);
-    spent = each_snoc (λ u. u.parts ≡ 0 → (u.turn ≡ 0) × (accounts u ≡ [])) (set views id w) u
-        (each_set (λ u. u.parts ≡ 0 → (u.turn ≡ 0) × (accounts u ≡ [])) views id w (λ j u _ there. kept.spent j u there) (λ none. absurd (omega arith)))
-        (λ none. absurd (omega arith));
-  }
+        whole = (let t = total_set parts_of views id v w at in let n = total_snoc parts_of (set views id w) u in let k = kept.whole in omega arith);
+        alive = each_snoc (λ u. 0 < u.parts → u.opening ≡ Some opening) (set views id w) u
+            (each_set (λ u. 0 < u.parts → u.opening ≡ Some opening) views id w (λ j u _ there. kept.alive j u there) (λ _. from))
+            (λ _. from);
+        spent = each_snoc (λ u. u.parts ≡ 0 → (u.turn ≡ 0) × (accounts u ≡ [])) (set views id w) u
+            (each_set (λ u. u.parts ≡ 0 → (u.turn ≡ 0) × (accounts u ≡ [])) views id w (λ j u _ there. kept.spent j u there) (λ none. absurd (omega arith)))
+            (λ none. absurd (omega arith));
+      }
 
   pub parts_join : (other : ℕ) (w : View C R T) → 0 < v.parts → get_elem? (set views id (both v w)) other ≡ some w → Parts opening (set (set views id (both v w)) other spent)
   parts_join other w live there =
       let x = both v w in record {
-    whole = (let t = total_set parts_of views id v x at in let n = total_set parts_of (set views id x) other w spent there in let k = kept.whole in omega arith);
-    alive = each_set (λ u. 0 < u.parts → u.opening ≡ Some opening) (set views id x) other spent
-        (λ j u _ e. each_set (λ u. 0 < u.parts → u.opening ≡ Some opening) views id x (λ j u _ there. kept.alive j u there) (λ _. kept.alive id v at live) j u e)
-        (λ none. absurd (omega arith));
-    spent = each_set (λ u. u.parts ≡ 0 → (u.turn ≡ 0) × (accounts u ≡ [])) (set views id x) other spent
-        (λ j u _ e. each_set (λ u. u.parts ≡ 0 → (u.turn ≡ 0) × (accounts u ≡ [])) views id x (λ j u _ there. kept.spent j u there) (λ none. absurd (omega arith)) j u e)
-        (λ _. (refl, refl));
-  }
+        whole = (let t = total_set parts_of views id v x at in let n = total_set parts_of (set views id x) other w spent there in let k = kept.whole in omega arith);
+        alive = each_set (λ u. 0 < u.parts → u.opening ≡ Some opening) (set views id x) other spent
+            (λ j u _ e. each_set (λ u. 0 < u.parts → u.opening ≡ Some opening) views id x (λ j u _ there. kept.alive j u there) (λ _. kept.alive id v at live) j u e)
+            (λ none. absurd (omega arith));
+        spent = each_set (λ u. u.parts ≡ 0 → (u.turn ≡ 0) × (accounts u ≡ [])) (set views id x) other spent
+            (λ j u _ e. each_set (λ u. u.parts ≡ 0 → (u.turn ≡ 0) × (accounts u ≡ [])) views id x (λ j u _ there. kept.spent j u there) (λ none. absurd (omega arith)) j u e)
+            (λ _. (refl, refl));
+      }

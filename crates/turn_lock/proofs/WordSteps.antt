@@ -34,12 +34,12 @@ module _ {C R T : Type 0} (turned : T → C → R → T → Type 0) (opening : T
     word_same w same sees =
         let t = total_set turn_of s.views id v w at in
         let e : total turn_of (set s.views id w) ≡ total turn_of s.views = omega arith in record {
-      legal = kept.legal;
-      one = (let k = kept.one in omega arith);
-      word = rw e (ap (λ (ws : List ℕ). set ws 0 (slice_index ws 0)) kept.word);
-      home = rw e kept.home;
-      seen = each_set (Sees log) s.views id w (λ j u _ there. kept.seen j u there) sees;
-    }
+          legal = kept.legal;
+          one = (let k = kept.one in omega arith);
+          word = rw e (ap (λ (ws : List ℕ). set ws 0 (slice_index ws 0)) kept.word);
+          home = rw e kept.home;
+          seen = each_set (Sees log) s.views id w (λ j u _ there. kept.seen j u there) sees;
+        }
 
     -- the turn is taken where nobody has it
     module _ (even : slice_index s.words 0 % 2 ≡ 0) where
@@ -61,12 +61,12 @@ module _ {C R T : Type 0} (turned : T → C → R → T → Type 0) (opening : T
           let one : total turn_of (set s.views id w) ≡ 1 = omega arith in
           let double = word_is_double in
           let now : slice_index s.words 0 + 1 ≡ 2 * length log + 1 = omega arith in record {
-        legal = kept.legal;
-        one = omega arith;
-        word = rw one (ap (λ (ws : List ℕ). set ws 0 (slice_index s.words 0 + 1)) kept.word ∙ ap (λ k. k ∷ []) now);
-        home = rw one (ap (λ hs. set hs 0 none) kept.home);
-        seen = each_set (Sees log) s.views id w (λ j u _ there. kept.seen j u there) (begins_itself log, (kept.seen id v at).1, λ _. refl);
-      }
+            legal = kept.legal;
+            one = omega arith;
+            word = rw one (ap (λ (ws : List ℕ). set ws 0 (slice_index s.words 0 + 1)) kept.word ∙ ap (λ k. k ∷ []) now);
+            home = rw one (ap (λ hs. set hs 0 none) kept.home);
+            seen = each_set (Sees log) s.views id w (λ j u _ there. kept.seen j u there) (begins_itself log, (kept.seen id v at).1, λ _. refl);
+          }
 
     -- the turn is given back, with an entry
     module _ (holds : v.turn ≡ 1) where
@@ -90,19 +90,20 @@ module _ {C R T : Type 0} (turned : T → C → R → T → Type 0) (opening : T
           let long = length-append log (e ∷ []) in
           let now : slice_index s.words 0 + 1 ≡ 2 * length (log ++ e ∷ []) + 0 = omega arith in
           let home : s.homes ≡ none ∷ [] = kept.home ∙ ap (λ n. place n (end_of opening log) ∷ []) one in record {
-        legal = legal_snoc turned opening log e kept.legal (subst (λ l. turned (end_of opening l) e.call e.reply e.after) all_seen turn);
-        one = omega arith;
-        word = rw none_has (ap (λ (ws : List ℕ). set ws 0 (slice_index s.words 0 + 1)) kept.word ∙ ap (λ k. k ∷ []) now);
-        home = rw (none_has, end_of-snoc opening log e) (ap (λ hs. set hs 0 (some (Home e.after))) home);
-        seen = each_set (Sees (log ++ e ∷ [])) s.views id w
-            (λ j u apart there.
+            legal = legal_snoc turned opening log e kept.legal (subst (λ l. turned (end_of opening l) e.call e.reply e.after) all_seen turn);
+            one = omega arith;
+            word = rw none_has (ap (λ (ws : List ℕ). set ws 0 (slice_index s.words 0 + 1)) kept.word ∙ ap (λ k. k ∷ []) now);
+            home = rw (none_has, end_of-snoc opening log e) (ap (λ hs. set hs 0 (some (Home e.after))) home);
+            seen = each_set (Sees (log ++ e ∷ [])) s.views id w
+                (λ j u apart there.
                 let old = kept.seen j u there in
                 let among = total_two turn_of s.views id j v u (λ is. apart (sym is)) at there in
-                (begins_more log (e ∷ []) u.seen old.0, begins_more log (e ∷ []) u.told old.1, λ has. absurd (omega arith)))
-            (subst (λ l. BeginsWith (log ++ e ∷ []) (l ++ e ∷ [])) (sym all_seen) (begins_itself (log ++ e ∷ [])),
-                begins_more log (e ∷ []) v.told (kept.seen id v at).1,
-                λ _. ap (λ l. l ++ e ∷ []) all_seen);
-      }
+                (begins_more log (e ∷ []) u.seen old.0, begins_more log (e ∷ []) u.told old.1, λ has. absurd (omega arith))) (
+                  subst (λ l. BeginsWith (log ++ e ∷ []) (l ++ e ∷ [])) (sym all_seen) (begins_itself (log ++ e ∷ [])),
+                  begins_more log (e ∷ []) v.told (kept.seen id v at).1,
+                  λ _. ap (λ l. l ++ e ∷ []) all_seen,
+                );
+          }
 
     pub word_split : (amount : ℕ) → Word turned opening log (record { words = s.words; homes = s.homes; views = set s.views id (without amount v) ++ offshoot amount v ∷ [] })
     word_split amount =
@@ -111,7 +112,7 @@ module _ {C R T : Type 0} (turned : T → C → R → T → Type 0) (opening : T
         let n = total_snoc turn_of (set s.views id w) u in
         let mine = kept.seen id v at in
         word_views (set s.views id w ++ u ∷ []) (omega arith)
-            (each_snoc (Sees log) (set s.views id w) u (each_set (Sees log) s.views id w (λ j u _ there. kept.seen j u there) mine) (mine.0, (log, refl), λ has. absurd (omega arith)))
+        (each_snoc (Sees log) (set s.views id w) u (each_set (Sees log) s.views id w (λ j u _ there. kept.seen j u there) mine) (mine.0, (log, refl), λ has. absurd (omega arith)))
 
     pub word_join : (other : ℕ) (w : View C R T) → w.turn ≡ 0 → other ≢ id → get_elem? (set s.views id (both v w)) other ≡ some w
         → Word turned opening log (record { words = s.words; homes = s.homes; views = set (set s.views id (both v w)) other spent })
@@ -122,6 +123,6 @@ module _ {C R T : Type 0} (turned : T → C → R → T → Type 0) (opening : T
         let mine = kept.seen id v at in
         let theirs = kept.seen other w (sym (set_else s.views id other x apart) ∙ there) in
         word_views (set (set s.views id x) other spent) (omega arith)
-            (each_set (Sees log) (set s.views id x) other spent
-                (λ j u _ e. each_set (Sees log) s.views id x (λ j u _ there. kept.seen j u there) (mine.0, theirs.0, mine.2) j u e)
-                ((log, refl), (log, refl), λ has. absurd (omega arith)))
+        (each_set (Sees log) (set s.views id x) other spent
+        (λ j u _ e. each_set (Sees log) s.views id x (λ j u _ there. kept.seen j u there) (mine.0, theirs.0, mine.2) j u e)
+        ((log, refl), (log, refl), λ has. absurd (omega arith)))

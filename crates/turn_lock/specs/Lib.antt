@@ -1,4 +1,5 @@
 pub mod History
 pub mod Plays
 pub mod Rule
+pub mod Seats
 pub mod Views

@@ -32,12 +32,12 @@ module _ {C R T : Type 0} where
   Takes turned st m n w =
       (n ≢ st.first → w ≡ m)
       × (n ≡ st.first → (n ≡ 2 * length w.0.seen) × BeginsWith w.0.seen m.0.seen
-          × IfSome m.0.opening (λ opening. Legal turned opening w.0.seen × (w.1 ≡ (0, Home (end_of opening w.0.seen)) ∷ []))
-          × (w.0 ≡ holding m.0 w.0.seen))
+      × IfSome m.0.opening (λ opening. Legal turned opening w.0.seen × (w.1 ≡ (0, Home (end_of opening w.0.seen)) ∷ []))
+      × (w.0 ≡ holding m.0 w.0.seen))
 
   -- the turn is given back, with an entry of what was told and the object that was left
   abbrev pub Gives : Step (Slot C R T) → Mine C R T → Mine C R T → Type 0
   Gives st m w =
       (call : Snapshot C) (reply : Snapshot R) (after : T) → st.said ≡ some (Told call reply) → m.1 ≡ (0, Home after) ∷ []
       → AllKept w.0.seen (accounts w.0)
-          × (w ≡ (gave m.0 (record { by = m.0.number; call = call.value; reply = reply.value; after = after }), []))
+      × (w ≡ (gave m.0 (record { by = m.0.number; call = call.value; reply = reply.value; after = after }), []))

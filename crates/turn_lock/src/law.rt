@@ -9,7 +9,8 @@ pub struct Law<T> {
     marker: PhantomData<T>,
 }
 
-impl<T: Thing> TableRule<Slot<T::Call, T::Reply, T>, View<T::Call, T::Reply, T>, Snapshot<T>> for Law<T> {
+impl<T: Thing> TableRule<Slot<T::Call, T::Reply, T>, View<T::Call, T::Reply, T>, Snapshot<T>>
+    for Law<T> {
     ghost use Rattle.turn_lock.specs.Rule.{Lawful};
     ghost use Rattle.turn_lock.specs.Views.{first_view};
 

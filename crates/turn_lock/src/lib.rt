@@ -4,8 +4,10 @@
 mod law;
 mod seat;
 mod thing;
+mod turns;
 mod view;
 
-pub use seat::{Note, Seat, Turns, close};
+pub use seat::{Note, Seat};
 pub use thing::Thing;
+pub use turns::Turns;
 pub use view::{Entry, View};

@@ -31,6 +31,7 @@ pub struct View<C, R, T> {
 }
 
 /// What lies in the place of the object.
+#[derive(Drop)]
 pub enum Slot<C, R, T> {
     Home(T),
     Away,
