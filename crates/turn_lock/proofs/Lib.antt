@@ -1,5 +1,6 @@
 mod Totals
 mod Histories
+mod Holdings
 mod WordSteps
 mod CallerSteps
 mod Ends

@@ -1,4 +1,5 @@
 pub mod History
+pub mod Holding
 pub mod Plays
 pub mod Rule
 pub mod Seats

@@ -1,6 +1,7 @@
 // A lock that hands one object round, call by call, and keeps one history of all calls.
 #![tactic(auto)]
 
+mod hold;
 mod law;
 mod seat;
 mod thing;
