@@ -4,6 +4,8 @@ ghost use Rattle.turn_lock.specs.History.{BeginsWith};
 ghost use Rattle.turn_lock.specs.Views.{without, offshoot};
 ghost use Rattle.turn_lock.specs.Seats.{opening, number, seen, mine, joined, parts_of, carried, IsSeatOf, IsNoteOf, Same, Gains, Closes};
 
+use crate::hold;
+use crate::hold::Token;
 use crate::law::{Amount, Both, Cut, Give, Law, Look, Name, Take};
 use crate::thing::Thing;
 use crate::turns::Turns;
@@ -50,4 +52,47 @@ impl<T: Thing> Turns<T> {
             }
         }
     }
+}
+
+impl<T: Thing> Seat<T> {
+    /// Waits for the turn, and asks the object. The history then ends with this call. Once it has 2^62 entries, a call waits for good.
+    pub fn call<R: Wait>(&mut self, rt: &R, turns: &Turns<T>, call: T::Call) -> T::Reply
+        requires seat { IsSeatOf T.turned turns.now self.old }
+        requires call { T.may_ask (T.fixed (opening turns.now)) call }
+        ensures seat { IsSeatOf T.turned turns.now self.new }
+        ensures entry { Gains self.old call result self.new }
+        ensures same { (number self.new ≡ number self.old) × (joined self.new ≡ joined self.old) × (parts_of self.new ≡ parts_of self.old) }
+        ensures room { length (seen self.new) ≤ 2 ^ 62 }
+    {
+        let word = hold::take(rt, turns, &mut self.token);
+        let (reply, told) = hold::turn(turns, &mut self.token, call);
+        let shared = &turns.table.shared;
+        shared.compare_exchange_with::<Give<T>>(&mut self.token, 0, word + 1, word + 2, &told);
+        let Slot::Told(_, _) = told else { unreachable!() };
+        shared.wake_one(0);
+        reply
+    }
+
+    /// Splits off a seat with a number of its own and the given parts. It has seen what this one has seen.
+    pub fn split(&mut self, turns: &Turns<T>, parts: u64) -> Seat<T>
+        requires seat { IsSeatOf T.turned turns.now self.old }
+        requires parts { (0 < parts) × (parts < parts_of self.old) }
+        ensures old { IsSeatOf T.turned turns.now self.new × Same self.old self.new × (parts_of self.new + parts ≡ parts_of self.old) }
+        ensures new { IsSeatOf T.turned turns.now result × (parts_of result ≡ parts) × (seen result ≡ seen self.old) × (mine result ≡ []) × (joined result ≡ []) }
+        ensures number { number result ≢ number self.old }
+    {
+        let mut token = split_off::<T, Brand>(turns, self, parts);
+        turns.table.shared.load::<Name<T>>(&mut token, 0);
+        Seat { token }
+    }
+}
+
+// A token with these parts, which has no number yet.
+fn split_off<T: Thing, A: Amount>(turns: &Turns<T>, seat: &mut Seat<T>, amount: u64) -> Token<T>
+    requires seat { IsSeatOf T.turned turns.now seat.old }
+    requires amount { (amount ≡ A.amount) × (0 < amount) × (amount < parts_of seat.old) }
+    ensures old { IsSeatOf T.turned turns.now seat.new × Same seat.old seat.new × (parts_of seat.new + amount ≡ parts_of seat.old) }
+    ensures new { (result.table_id ≡ turns.now.table.shared.table_id) × (result.me ≡ (offshoot amount seat.old.token.me.0, [])) }
+{
+    turns.table.shared.split_seat::<Cut<A>>(&mut seat.token)
 }
