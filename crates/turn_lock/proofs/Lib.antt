@@ -2,6 +2,7 @@ mod Totals
 mod Histories
 mod Holdings
 mod WordSteps
+mod Calls
 mod CallerSteps
 mod Ends
 mod PartSteps
