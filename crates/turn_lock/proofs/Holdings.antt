@@ -8,7 +8,7 @@ module _ {C R T : Type 0} where
   same_first : (p q : ℕ × Slot C R T) (xs ys : List (ℕ × Slot C R T)) → p ∷ xs ≡ q ∷ ys → p ≡ q
   same_first p q xs ys e = cc
 
-  same_home : (x y : T) → ◌≡◌ {A = Slot C R T} (Home x) (Home y) → x ≡ y
+  pub same_home : (x y : T) → ◌≡◌ {A = Slot C R T} (Home x) (Home y) → x ≡ y
   same_home x y e = cc
 
   -- what was found in the slot is what the token held there

@@ -4,6 +4,7 @@ mod Holdings
 mod WordSteps
 mod Calls
 mod CallerSteps
+mod Closing
 mod Ends
 mod PartSteps
 mod Steps

@@ -1,5 +1,5 @@
 -- What a token knows while its seat has the turn.
-use Rattle.std.specs.Prelude.{◌≡◌, ℕ, ◌+◌, ◌*◌, ◌<◌, ◌^◌, List, [], ◌∷◌, length, true, Option, Some}
+use Rattle.std.specs.Prelude.{◌≡◌, ℕ, ◌+◌, ◌*◌, ◌<◌, ◌^◌, List, [], ◌∷◌, ◌++◌, length, true, Option, Some}
 use Rattle.std.specs.declared.snapshot.Snapshot.{Snapshot}
 use Rattle.atomic_table.specs.declared.shared.Seat.{Seat as Token}
 use Rattle.turn_lock.specs.declared.view.Entry.{Entry}
@@ -8,7 +8,9 @@ use Rattle.turn_lock.specs.declared.view.Slot.{Slot}
 use Rattle.turn_lock.specs.declared.view.Slot.TheVariants.{Home, Told}
 use Rattle.turn_lock.specs.declared.turns.Turns.{Turns}
 use Rattle.turn_lock.specs.History.{Legal, end_of, BeginsWith}
-use Rattle.turn_lock.specs.Seats.{opening}
+use Rattle.turn_lock.specs.declared.seat.Seat.{Seat}
+use Rattle.turn_lock.specs.Rule.{accounts}
+use Rattle.turn_lock.specs.Seats.{opening, number, seen, mine, joined, parts_of, IsSeatOf}
 use Rattle.turn_lock.specs.Views.{holding}
 
 -- a token of a seat that does not have the turn
@@ -46,3 +48,13 @@ pub record TookTurn {T C R F : Type 0} (turned : T → C → R → T → Type 0)
   pub call_is : asked.value ≡ call
   pub reply_is : answered.value ≡ reply
   pub told_is : told ≡ Told asked answered
+
+-- the seat has taken the token in, and has seen the history as far as it goes
+pub record Merged {T C R F : Type 0} (turned : T → C → R → T → Type 0) (turns : Turns T C R F) (old : Seat T C R F) (token : Token (Slot C R T) (View C R T)) (new : Seat T C R F) : Type 0 where
+  pub seat : IsSeatOf turned turns new
+  pub saw : BeginsWith (seen new) (seen old)
+  pub saw_other : BeginsWith (seen new) token.me.0.seen
+  pub joined_is : joined new ≡ joined old ++ accounts token.me.0
+  pub parts_are : parts_of new ≡ parts_of old + token.me.0.parts
+  pub same_number : number new ≡ number old
+  pub same_mine : mine new ≡ mine old

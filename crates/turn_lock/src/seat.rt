@@ -2,7 +2,8 @@
 ghost use Rattle.std.specs.Prelude.{◌≡◌, ◌≢◌, ◌+◌, ◌-◌, ◌*◌, ◌^◌, ◌<◌, ◌≤◌, ◌∷◌, ◌++◌, [], length, IfOk, IfErr};
 ghost use Rattle.turn_lock.specs.History.{BeginsWith};
 ghost use Rattle.turn_lock.specs.Views.{without, offshoot};
-ghost use Rattle.turn_lock.specs.Seats.{opening, number, seen, mine, joined, parts_of, carried, IsSeatOf, IsNoteOf, Same, Gains, Closes};
+ghost use Rattle.turn_lock.specs.Seats.{opening, number, seen, mine, joined, parts_of, carried, callers, IsSeatOf, IsNoteOf, Same, Gains, Closes};
+ghost use Rattle.turn_lock.specs.Holding.{Merged};
 
 use crate::hold;
 use crate::hold::Token;
@@ -85,6 +86,73 @@ impl<T: Thing> Seat<T> {
         turns.table.shared.load::<Name<T>>(&mut token, 0);
         Seat { token }
     }
+
+    /// Takes in another seat, with its parts, its calls and what it has seen.
+    pub fn join(&mut self, turns: &Turns<T>, other: Seat<T>)
+        requires seat { IsSeatOf T.turned turns.now self.old }
+        requires other { IsSeatOf T.turned turns.now other }
+        ensures seat { IsSeatOf T.turned turns.now self.new }
+        ensures saw { BeginsWith (seen self.new) (seen self.old) × BeginsWith (seen self.new) (seen other) }
+        ensures joined { joined self.new ≡ joined self.old ++ callers other }
+        ensures parts { parts_of self.new ≡ parts_of self.old + parts_of other }
+        ensures same { (number self.new ≡ number self.old) × (mine self.new ≡ mine self.old) }
+    {
+        let Seat { token } = other;
+        merge(turns, self, token);
+    }
+
+    /// A note that carries what this seat has seen. It takes one part with it.
+    pub fn note(&mut self, turns: &Turns<T>) -> Note<T>
+        requires seat { IsSeatOf T.turned turns.now self.old }
+        requires parts { 1 < parts_of self.old }
+        ensures old { IsSeatOf T.turned turns.now self.new × Same self.old self.new × (parts_of self.new + 1 ≡ parts_of self.old) }
+        ensures note { IsNoteOf T.turned turns.now result × (carried result ≡ seen self.old) }
+    {
+        Note {
+            token: split_off::<T, Brand>(turns, self, 1),
+        }
+    }
+
+    /// Takes in a note, with its part and what it carries.
+    pub fn learn(&mut self, turns: &Turns<T>, note: Note<T>)
+        requires seat { IsSeatOf T.turned turns.now self.old }
+        requires note { IsNoteOf T.turned turns.now note }
+        ensures seat { IsSeatOf T.turned turns.now self.new }
+        ensures saw { BeginsWith (seen self.new) (seen self.old) × BeginsWith (seen self.new) (carried note) }
+        ensures parts { parts_of self.new ≡ parts_of self.old + 1 }
+        ensures same { (number self.new ≡ number self.old) × (mine self.new ≡ mine self.old) × (joined self.new ≡ joined self.old) }
+    {
+        let Note { token } = note;
+        merge(turns, self, token);
+    }
+}
+
+/// Ends the history, and gives the object and the number of its calls.
+pub fn close<T: Thing>(turns: Turns<T>, seat: Seat<T>) -> (T, u64)
+    requires seat { IsSeatOf T.turned turns seat }
+    requires parts { parts_of seat ≡ 2 ^ 64 }
+    ensures { Closes T.turned turns seat result.0 result.1 }
+{
+    let Turns { table } = turns;
+    let Seat { token } = seat;
+    let mut closed = table.close_with(token);
+    let calls = closed.word(0) / 2;
+    let Slot::Home(thing) = closed.take(0) else {
+        unreachable!()
+    };
+    closed.free();
+    (thing, calls)
+}
+
+// Joins a token to the seat's, and sees the history.
+fn merge<T: Thing>(turns: &Turns<T>, seat: &mut Seat<T>, token: Token<T>)
+    requires seat { IsSeatOf T.turned turns.now seat.old }
+    requires token { (token.table_id ≡ turns.now.table.shared.table_id) × (token.me.1 ≡ []) × (token.me.0.turn ≡ 0) }
+    ensures { Merged T.turned turns.now seat.old token seat.new }
+{
+    let shared = &turns.table.shared;
+    shared.join_seat::<Both>(&mut seat.token, token);
+    shared.load::<Look<T>>(&mut seat.token, 0);
 }
 
 // A token with these parts, which has no number yet.
