@@ -12,3 +12,6 @@ pub use seat::{Note, Seat, close};
 pub use thing::Thing;
 pub use turns::Turns;
 pub use view::{Entry, View};
+
+#[cfg(test)]
+mod tests;

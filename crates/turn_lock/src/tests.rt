@@ -1,0 +1,147 @@
+ghost use Rattle.std.specs.Prelude.{◌≡◌, ◌+◌, ◌-◌, ◌%◌, ◌^◌, ◌<◌, length, slice_index, slice_set, vec_len};
+ghost use Rattle.std.proofs.Common.{length-set};
+ghost use Rattle.turn_lock.specs.Seats.{opening, parts_of, IsSeatOf, IsNoteOf};
+
+use super::*;
+use std::alloc::{AllocError, Global};
+use std::sync::Wait;
+use std::test::*;
+use std::thread::{Threads, join};
+
+// A call adds, and is told the sum before it.
+#[derive(Drop)]
+struct Counter {
+    sum: u64,
+}
+
+impl Thing for Counter {
+    type Call = u64;
+    type Reply = u64;
+    type Fixed = ();
+
+    ghost fixed = { λ c. tt };
+
+    ghost may_ask = { λ f n. Unit {0} };
+
+    ghost turned = { λ a n reply b. (reply ≡ a.sum) × (b.sum ≡ (a.sum + n) % 2 ^ 64) };
+
+    ghost stays_fixed = { λ a b n reply t i. tt };
+
+    fn turn(&mut self, call: u64) -> u64 {
+        let before = self.sum;
+        self.sum = before.wrapping_add(call);
+        before
+    }
+}
+
+// A small map from places to numbers. A call stores a number at a place, and is told the one before.
+#[derive(Drop)]
+struct Shelf {
+    places: Vec<u64>,
+}
+
+impl Thing for Shelf {
+    type Call = (usize, u64);
+    type Reply = u64;
+    type Fixed = usize;
+
+    ghost fixed = { λ s. length s.places.items };
+
+    ghost may_ask = { λ n call. call.0 < n };
+
+    ghost turned = { λ a call reply b. (reply ≡ slice_index a.places.items call.0) × (b.places.items ≡ slice_set a.places.items call.0 call.1) };
+
+    ghost stays_fixed = { λ a b call reply t. Prim.simp (t.1, length-set) };
+
+    fn turn(&mut self, call: (usize, u64)) -> u64 {
+        let before = self.places[call.0];
+        self.places[call.0] = call.1;
+        before
+    }
+}
+
+// Makes the call so often, and adds up what was answered.
+fn repeat<C: Copy, T: Thing<Call = C, Reply = u64>, R: Wait>(
+    rt: &R,
+    turns: &Turns<T>,
+    mut seat: Seat<T>,
+    call: C,
+    times: u64,
+) -> (Seat<T>, u64)
+    requires seat { IsSeatOf T.turned turns.now seat }
+    requires call { T.may_ask (T.fixed (opening turns.now)) call }
+    ensures { IsSeatOf T.turned turns.now result.0 × (parts_of result.0 ≡ parts_of seat) }
+{
+    let mut sum: u64 = 0;
+    for _ in 0..times {
+        sum = sum.wrapping_add(seat.call(rt, turns, call));
+    }
+    (seat, sum)
+}
+
+#[test]
+fn one_seat_calls_a_hundred_times(rt: HostRuntime) -> Result<(), Fail> {
+    let Ok((turns, seat)) = Turns::begin(rt.alloc(), Counter { sum: 0 }) else {
+        return Err("memory".into());
+    };
+    let (seat, answered) = repeat(&rt, &turns, seat, 1, 100);
+    let (counter, calls) = close(turns, seat);
+    assert_eq!(rt; (answered, counter.sum, calls), (4950, 100, 100));
+    Ok(())
+}
+
+#[test]
+fn two_threads_count(rt: HostRuntime) -> Result<(), Fail> {
+    let Ok((turns, seat)) = Turns::begin(rt.alloc(), Counter { sum: 0 }) else {
+        return Err("memory".into());
+    };
+    let (counter, answered, calls) = in_two(&rt, turns, seat, 1, 1, 500);
+    assert_eq!(rt; (answered, counter.sum, calls), (499_500, 1000, 1000));
+    Ok(())
+}
+
+#[test]
+fn two_threads_store(rt: HostRuntime) -> Result<(), Fail> {
+    let shelf = Shelf {
+        places: vec![in rt.alloc(); 0; 4]?,
+    };
+    let Ok((turns, seat)) = Turns::begin(rt.alloc(), shelf) else {
+        return Err("memory".into());
+    };
+    let (shelf, answered, calls) = in_two(&rt, turns, seat, (0, 5), (3, 7), 300);
+    assert_eq!(rt; (answered, calls), (299 * 5 + 299 * 7, 600));
+    assert_eq!(rt; shelf.places.as_slice(), [5, 0, 0, 7].as_slice());
+    Ok(())
+}
+
+// Two threads make a call so often each, with a seat each; then the history ends. Gives the object, the sum of the answers and the number of calls.
+fn in_two<C: Copy + Send, T: Thing<Call = C, Reply = u64> + Send, R: Threads + Wait + Sync>(
+    rt: &R,
+    turns: Turns<T>,
+    mut seat: Seat<T>,
+    first: C,
+    second: C,
+    times: u64,
+) -> (T, u64, u64)
+    requires seat { IsSeatOf T.turned turns seat }
+    requires parts { parts_of seat ≡ 2 ^ 64 }
+    requires first { T.may_ask (T.fixed (opening turns)) first }
+    requires second { T.may_ask (T.fixed (opening turns)) second }
+{
+    let other = seat.split(&turns, 7);
+    let shared = &turns;
+    let ((mut seat, one), (other, two)) = join(
+        rt,
+        move || -> (Seat<T>, u64)
+            requires { IsSeatOf T.turned shared.now seat × (parts_of seat + 7 ≡ 2 ^ 64) × T.may_ask (T.fixed (opening shared.now)) first }
+            ensures { IsSeatOf T.turned shared.now result.0 × (parts_of result.0 + 7 ≡ 2 ^ 64) }
+        { repeat(rt, shared, seat, first, times) },
+        move || -> (Seat<T>, u64)
+            requires { IsSeatOf T.turned shared.now other × (parts_of other ≡ 7) × T.may_ask (T.fixed (opening shared.now)) second }
+            ensures { IsSeatOf T.turned shared.now result.0 × (parts_of result.0 ≡ 7) }
+        { repeat(rt, shared, other, second, times) },
+    );
+    seat.join(&turns, other);
+    let (thing, calls) = close(turns, seat);
+    (thing, one.wrapping_add(two), calls)
+}
