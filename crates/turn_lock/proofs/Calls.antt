@@ -8,7 +8,7 @@ use Rattle.turn_lock.specs.declared.view.Entry.{Entry}
 use Rattle.turn_lock.specs.declared.view.View.{View}
 use Rattle.turn_lock.specs.declared.view.Slot.{Slot}
 use Rattle.turn_lock.specs.declared.turns.Turns.{Turns}
-use Rattle.turn_lock.specs.declared.seat.Seat.{Seat}
+use Rattle.turn_lock.specs.declared.seat.SeatToken.{SeatToken as Seat}
 use Rattle.turn_lock.specs.History.{Legal, end_of, BeginsWith, AllKept}
 use Rattle.turn_lock.specs.declared.view.Slot.TheVariants.{Told}
 use Rattle.turn_lock.specs.Rule.{accounts, Lawful}
@@ -66,7 +66,7 @@ module _ {T C R F : Type 0} (turned : T → C → R → T → Type 0) (turns : T
     own = subst (AllKept t3.me.0.seen) (accounts_named t3.me.0 named) gives.0;
   }
 
-  pub gains : Gains {F = F} (record { token = t0 }) call reply (record { token = t3 })
+  pub gains : Gains (record { token = t0 }) call reply (record { token = t3 })
   unfolding made
   gains = (took.grows.0, turn.after, (ap (λ v. v.seen) whole ∙ ap (λ l. l ++ made ∷ []) took.grows.1, ap (λ v. v.mine) whole))
 

@@ -6,7 +6,7 @@ use Rattle.atomic_table.specs.Table.{Final, Seen}
 use Rattle.turn_lock.specs.declared.view.Slot.{Slot}
 use Rattle.turn_lock.specs.declared.view.Slot.TheVariants.{Home}
 use Rattle.turn_lock.specs.declared.turns.Turns.{Turns}
-use Rattle.turn_lock.specs.declared.seat.Seat.{Seat}
+use Rattle.turn_lock.specs.declared.seat.SeatToken.{SeatToken as Seat}
 use Rattle.turn_lock.specs.History.{end_of, entries_by, AllKept, times}
 use Rattle.turn_lock.specs.Rule.{Lawful}
 use Rattle.turn_lock.specs.Seats.{opening, callers, IsSeatOf, Closes}
@@ -14,7 +14,7 @@ use Rattle.turn_lock.proofs.CallerSteps.{accounts_named}
 use Rattle.turn_lock.proofs.Ends.{Ended, ends}
 use Rattle.turn_lock.proofs.Holdings.{same_home}
 
-module _ {T C R F : Type 0} (turned : T → C → R → T → Type 0) (turns : Turns T C R F) (seat : Seat T C R F) (words : List ℕ) (slots : List (Slot C R T))
+module _ {T C R F : Type 0} (turned : T → C → R → T → Type 0) (turns : Turns T C R F) (seat : Seat C R T) (words : List ℕ) (slots : List (Slot C R T))
     (of : IsSeatOf turned turns seat) (all : seat.token.me.0.parts ≡ 2 ^ 64) (final : Final (Seen (Lawful turned (opening turns)) seat.token.id seat.token.me.0) words slots) where
   pub ended : Ended turned (opening turns) seat.token.id seat.token.me.0 words slots
   ended = ends turned (opening turns) seat.token.id seat.token.me.0 words slots all of.idle final

@@ -4,6 +4,7 @@ mod Holdings
 mod WordSteps
 mod Calls
 mod CallerSteps
+pub mod Crosses
 mod Closing
 mod Ends
 mod PartSteps

@@ -8,7 +8,7 @@ use Rattle.turn_lock.specs.declared.view.Slot.{Slot}
 use Rattle.turn_lock.specs.declared.view.Slot.TheVariants.{Home, Told}
 use Rattle.turn_lock.specs.declared.turns.Turns.{Turns}
 use Rattle.turn_lock.specs.History.{Legal, end_of, BeginsWith}
-use Rattle.turn_lock.specs.declared.seat.Seat.{Seat}
+use Rattle.turn_lock.specs.declared.seat.SeatToken.{SeatToken as Seat}
 use Rattle.turn_lock.specs.Rule.{accounts}
 use Rattle.turn_lock.specs.Seats.{opening, number, seen, mine, joined, parts_of, IsSeatOf}
 use Rattle.turn_lock.specs.Views.{holding}
@@ -50,7 +50,7 @@ pub record TookTurn {T C R F : Type 0} (turned : T → C → R → T → Type 0)
   pub told_is : told ≡ Told asked answered
 
 -- the seat has taken the token in, and has seen the history as far as it goes
-pub record Merged {T C R F : Type 0} (turned : T → C → R → T → Type 0) (turns : Turns T C R F) (old : Seat T C R F) (token : Token (Slot C R T) (View C R T)) (new : Seat T C R F) : Type 0 where
+pub record Merged {T C R F : Type 0} (turned : T → C → R → T → Type 0) (turns : Turns T C R F) (old : Seat C R T) (token : Token (Slot C R T) (View C R T)) (new : Seat C R T) : Type 0 where
   pub seat : IsSeatOf turned turns new
   pub saw : BeginsWith (seen new) (seen old)
   pub saw_other : BeginsWith (seen new) token.me.0.seen

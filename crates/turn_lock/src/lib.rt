@@ -8,7 +8,7 @@ mod thing;
 mod turns;
 mod view;
 
-pub use seat::{Note, Seat, close};
+pub use seat::{Note, NoteToken, Seat, SeatToken, close};
 pub use thing::Thing;
 pub use turns::Turns;
 pub use view::{Entry, View};

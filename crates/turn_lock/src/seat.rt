@@ -19,15 +19,21 @@ use std::sync::Wait;
 
 /// The right to call the object. It takes no memory, and goes to another thread as it is.
 #[derive(Drop)]
-pub struct Seat<T: Thing> {
-    token: atomic_table::Seat<Slot<T::Call, T::Reply, T>, View<T::Call, T::Reply, T>>,
+pub struct SeatToken<C, R, T> {
+    pub(crate) token: atomic_table::Seat<Slot<C, R, T>, View<C, R, T>>,
 }
+
+/// A seat at the turns of an object of type `T`.
+pub type Seat<T> = SeatToken<<T as Thing>::Call, <T as Thing>::Reply, T>;
 
 /// What one seat has seen, on its way to another.
 #[derive(Drop)]
-pub struct Note<T: Thing> {
-    token: atomic_table::Seat<Slot<T::Call, T::Reply, T>, View<T::Call, T::Reply, T>>,
+pub struct NoteToken<C, R, T> {
+    pub(crate) token: atomic_table::Seat<Slot<C, R, T>, View<C, R, T>>,
 }
+
+/// A note of a seat at the turns of an object of type `T`.
+pub type Note<T> = NoteToken<<T as Thing>::Call, <T as Thing>::Reply, T>;
 
 impl<T: Thing> Turns<T> {
     /// Begins the history of an object, with the seat that has all parts. Where there is no memory the object comes back.
@@ -43,7 +49,7 @@ impl<T: Thing> Turns<T> {
         let first = Snapshot::of(&thing);
         slots.push_reserved(Slot::Home(thing));
         match Table::new(alloc, &[0], slots, &first) {
-            Ok((table, token)) => Ok((Turns { table }, Seat { token })),
+            Ok((table, token)) => Ok((Turns { table }, SeatToken { token })),
             Err(Refused { mut slots }) => {
                 let Some(Slot::Home(thing)) = slots.pop() else {
                     unreachable!()
@@ -55,7 +61,7 @@ impl<T: Thing> Turns<T> {
     }
 }
 
-impl<T: Thing> Seat<T> {
+impl<T: Thing> SeatToken<T::Call, T::Reply, T> {
     /// Waits for the turn, and asks the object. The history then ends with this call. Once it has 2^62 entries, a call waits for good.
     pub fn call<R: Wait>(&mut self, rt: &R, turns: &Turns<T>, call: T::Call) -> T::Reply
         requires seat { IsSeatOf T.turned turns.now self.old }
@@ -84,7 +90,7 @@ impl<T: Thing> Seat<T> {
     {
         let mut token = split_off::<T, Brand>(turns, self, parts);
         turns.table.shared.load::<Name<T>>(&mut token, 0);
-        Seat { token }
+        SeatToken { token }
     }
 
     /// Takes in another seat, with its parts, its calls and what it has seen.
@@ -97,7 +103,7 @@ impl<T: Thing> Seat<T> {
         ensures parts { parts_of self.new ≡ parts_of self.old + parts_of other }
         ensures same { (number self.new ≡ number self.old) × (mine self.new ≡ mine self.old) }
     {
-        let Seat { token } = other;
+        let SeatToken { token } = other;
         merge(turns, self, token);
     }
 
@@ -108,7 +114,7 @@ impl<T: Thing> Seat<T> {
         ensures old { IsSeatOf T.turned turns.now self.new × Same self.old self.new × (parts_of self.new + 1 ≡ parts_of self.old) }
         ensures note { IsNoteOf T.turned turns.now result × (carried result ≡ seen self.old) }
     {
-        Note {
+        NoteToken {
             token: split_off::<T, Brand>(turns, self, 1),
         }
     }
@@ -122,7 +128,7 @@ impl<T: Thing> Seat<T> {
         ensures parts { parts_of self.new ≡ parts_of self.old + 1 }
         ensures same { (number self.new ≡ number self.old) × (mine self.new ≡ mine self.old) × (joined self.new ≡ joined self.old) }
     {
-        let Note { token } = note;
+        let NoteToken { token } = note;
         merge(turns, self, token);
     }
 }
@@ -134,7 +140,7 @@ pub fn close<T: Thing>(turns: Turns<T>, seat: Seat<T>) -> (T, u64)
     ensures { Closes T.turned turns seat result.0 result.1 }
 {
     let Turns { table } = turns;
-    let Seat { token } = seat;
+    let SeatToken { token } = seat;
     let mut closed = table.close_with(token);
     let calls = closed.word(0) / 2;
     let Slot::Home(thing) = closed.take(0) else {

@@ -95,53 +95,35 @@ fn two_threads_count(rt: HostRuntime) -> Result<(), Fail> {
     let Ok((turns, seat)) = Turns::begin(rt.alloc(), Counter { sum: 0 }) else {
         return Err("memory".into());
     };
-    let (counter, answered, calls) = in_two(&rt, turns, seat, 1, 1, 500);
+    let (counter, answered, calls) = count_in_two(&rt, turns, seat, 500);
     assert_eq!(rt; (answered, counter.sum, calls), (499_500, 1000, 1000));
     Ok(())
 }
 
-#[test]
-fn two_threads_store(rt: HostRuntime) -> Result<(), Fail> {
-    let shelf = Shelf {
-        places: vec![in rt.alloc(); 0; 4]?,
-    };
-    let Ok((turns, seat)) = Turns::begin(rt.alloc(), shelf) else {
-        return Err("memory".into());
-    };
-    let (shelf, answered, calls) = in_two(&rt, turns, seat, (0, 5), (3, 7), 300);
-    assert_eq!(rt; (answered, calls), (299 * 5 + 299 * 7, 600));
-    assert_eq!(rt; shelf.places.as_slice(), [5, 0, 0, 7].as_slice());
-    Ok(())
-}
-
-// Two threads make a call so often each, with a seat each; then the history ends. Gives the object, the sum of the answers and the number of calls.
-fn in_two<C: Copy + Send, T: Thing<Call = C, Reply = u64> + Send, R: Threads + Wait + Sync>(
+// Two threads count up so often each, with a seat each; then the history ends. Gives the object, the sum of the answers and the number of calls.
+fn count_in_two<R: Threads + Wait + Sync>(
     rt: &R,
-    turns: Turns<T>,
-    mut seat: Seat<T>,
-    first: C,
-    second: C,
+    turns: Turns<Counter>,
+    mut seat: Seat<Counter>,
     times: u64,
-) -> (T, u64, u64)
-    requires seat { IsSeatOf T.turned turns seat }
+) -> (Counter, u64, u64)
+    requires seat { IsSeatOf ⟦<Counter as Thing>⟧.turned turns seat }
     requires parts { parts_of seat ≡ 2 ^ 64 }
-    requires first { T.may_ask (T.fixed (opening turns)) first }
-    requires second { T.may_ask (T.fixed (opening turns)) second }
 {
     let other = seat.split(&turns, 7);
     let shared = &turns;
     let ((mut seat, one), (other, two)) = join(
         rt,
-        move || -> (Seat<T>, u64)
-            requires { IsSeatOf T.turned shared.now seat × (parts_of seat + 7 ≡ 2 ^ 64) × T.may_ask (T.fixed (opening shared.now)) first }
-            ensures { IsSeatOf T.turned shared.now result.0 × (parts_of result.0 + 7 ≡ 2 ^ 64) }
-        { repeat(rt, shared, seat, first, times) },
-        move || -> (Seat<T>, u64)
-            requires { IsSeatOf T.turned shared.now other × (parts_of other ≡ 7) × T.may_ask (T.fixed (opening shared.now)) second }
-            ensures { IsSeatOf T.turned shared.now result.0 × (parts_of result.0 ≡ 7) }
-        { repeat(rt, shared, other, second, times) },
+        move || -> (Seat<Counter>, u64)
+            requires { IsSeatOf (λ a n reply b. (reply ≡ a.sum) × (b.sum ≡ (a.sum + n) % 2 ^ 64)) shared.now seat × (parts_of seat + 7 ≡ 2 ^ 64) }
+            ensures { IsSeatOf (λ a n reply b. (reply ≡ a.sum) × (b.sum ≡ (a.sum + n) % 2 ^ 64)) shared.entry.now result.0 × (parts_of result.0 + 7 ≡ 2 ^ 64) }
+        { repeat(rt, shared, seat, 1, times) },
+        move || -> (Seat<Counter>, u64)
+            requires { IsSeatOf (λ a n reply b. (reply ≡ a.sum) × (b.sum ≡ (a.sum + n) % 2 ^ 64)) shared.now other × (parts_of other ≡ 7) }
+            ensures { IsSeatOf (λ a n reply b. (reply ≡ a.sum) × (b.sum ≡ (a.sum + n) % 2 ^ 64)) shared.entry.now result.0 × (parts_of result.0 ≡ 7) }
+        { repeat(rt, shared, other, 1, times) },
     );
     seat.join(&turns, other);
-    let (thing, calls) = close(turns, seat);
-    (thing, one.wrapping_add(two), calls)
+    let (counter, calls) = close(turns, seat);
+    (counter, one.wrapping_add(two), calls)
 }

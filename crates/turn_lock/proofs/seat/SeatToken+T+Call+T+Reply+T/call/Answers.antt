@@ -3,7 +3,7 @@ use mathlib.Core.Option.{some}
 use Rattle.turn_lock.specs.History.{AllKept}
 use Rattle.turn_lock.specs.Rule.{accounts}
 use Rattle.turn_lock.proofs.Calls.{gives_back, still_seat, gains, same_number, same_joined, same_parts, room}
-use Rattle.turn_lock.proofs.seat.Seat.call.Goals as goal
+use Rattle.turn_lock.proofs.seat.SeatToken+T+Call+T+Reply+T.call.Goals as goal
 
 pub compare_exchange_with-requires : goal.compare_exchange_with-requires
 compare_exchange_with-requires g c = (

@@ -1,7 +1,7 @@
 use Rattle.std.proofs.Common.{◌≡◌, ◌+◌, ◌<◌, [], ap, sym, ◌∙◌, subst, arith}
 use Rattle.turn_lock.specs.Views.{offshoot}
 use Rattle.turn_lock.proofs.Steps.{names}
-use Rattle.turn_lock.proofs.seat.Seat.split.Goals as goal
+use Rattle.turn_lock.proofs.seat.SeatToken+T+Call+T+Reply+T.split.Goals as goal
 
 pub load-requires : goal.load-requires
 load-requires g c =
