@@ -92,38 +92,40 @@ fn one_seat_calls_a_hundred_times(rt: HostRuntime) -> Result<(), Fail> {
 
 #[test]
 fn two_threads_count(rt: HostRuntime) -> Result<(), Fail> {
-    let Ok((turns, seat)) = Turns::begin(rt.alloc(), Counter { sum: 0 }) else {
+    let Ok((turns, mut seat)) = Turns::begin(rt.alloc(), Counter { sum: 0 }) else {
         return Err("memory".into());
     };
-    let (counter, answered, calls) = count_in_two(&rt, turns, seat, 500);
+    let other = seat.split(&turns, 7);
+    let (mut seat, other, answered) = both_count(&rt, &turns, seat, other, 500);
+    seat.join(&turns, other);
+    let (counter, calls) = close(turns, seat);
     assert_eq!(rt; (answered, counter.sum, calls), (499_500, 1000, 1000));
     Ok(())
 }
 
-// Two threads count up so often each, with a seat each; then the history ends. Gives the object, the sum of the answers and the number of calls.
-fn count_in_two<R: Threads + Wait + Sync>(
+// Two threads count up so often each, with a seat each. Gives the sum of the answers.
+fn both_count<R: Threads + Wait + Sync>(
     rt: &R,
-    turns: Turns<Counter>,
-    mut seat: Seat<Counter>,
+    turns: &Turns<Counter>,
+    first: Seat<Counter>,
+    second: Seat<Counter>,
     times: u64,
-) -> (Counter, u64, u64)
-    requires seat { IsSeatOf ⟦<Counter as Thing>⟧.turned turns seat }
-    requires parts { parts_of seat ≡ 2 ^ 64 }
+) -> (Seat<Counter>, Seat<Counter>, u64)
+    requires first { IsSeatOf (λ a n reply b. (reply ≡ a.sum) × (b.sum ≡ (a.sum + n) % 2 ^ 64)) turns.now first }
+    requires second { IsSeatOf (λ a n reply b. (reply ≡ a.sum) × (b.sum ≡ (a.sum + n) % 2 ^ 64)) turns.now second }
+    ensures first { IsSeatOf (λ a n reply b. (reply ≡ a.sum) × (b.sum ≡ (a.sum + n) % 2 ^ 64)) turns.now result.0 × (parts_of result.0 ≡ parts_of first) }
+    ensures second { IsSeatOf (λ a n reply b. (reply ≡ a.sum) × (b.sum ≡ (a.sum + n) % 2 ^ 64)) turns.now result.1 × (parts_of result.1 ≡ parts_of second) }
 {
-    let other = seat.split(&turns, 7);
-    let shared = &turns;
-    let ((mut seat, one), (other, two)) = join(
+    let ((first, one), (second, two)) = join(
         rt,
         move || -> (Seat<Counter>, u64)
-            requires { IsSeatOf (λ a n reply b. (reply ≡ a.sum) × (b.sum ≡ (a.sum + n) % 2 ^ 64)) shared.now seat × (parts_of seat + 7 ≡ 2 ^ 64) }
-            ensures { IsSeatOf (λ a n reply b. (reply ≡ a.sum) × (b.sum ≡ (a.sum + n) % 2 ^ 64)) shared.entry.now result.0 × (parts_of result.0 + 7 ≡ 2 ^ 64) }
-        { repeat(rt, shared, seat, 1, times) },
+            requires { IsSeatOf (λ a n reply b. (reply ≡ a.sum) × (b.sum ≡ (a.sum + n) % 2 ^ 64)) turns.now first }
+            ensures { IsSeatOf (λ a n reply b. (reply ≡ a.sum) × (b.sum ≡ (a.sum + n) % 2 ^ 64)) turns.entry.now result.0 × (parts_of result.0 ≡ parts_of first) }
+        { repeat(rt, turns, first, 1, times) },
         move || -> (Seat<Counter>, u64)
-            requires { IsSeatOf (λ a n reply b. (reply ≡ a.sum) × (b.sum ≡ (a.sum + n) % 2 ^ 64)) shared.now other × (parts_of other ≡ 7) }
-            ensures { IsSeatOf (λ a n reply b. (reply ≡ a.sum) × (b.sum ≡ (a.sum + n) % 2 ^ 64)) shared.entry.now result.0 × (parts_of result.0 ≡ 7) }
-        { repeat(rt, shared, other, 1, times) },
+            requires { IsSeatOf (λ a n reply b. (reply ≡ a.sum) × (b.sum ≡ (a.sum + n) % 2 ^ 64)) turns.now second }
+            ensures { IsSeatOf (λ a n reply b. (reply ≡ a.sum) × (b.sum ≡ (a.sum + n) % 2 ^ 64)) turns.entry.now result.0 × (parts_of result.0 ≡ parts_of second) }
+        { repeat(rt, turns, second, 1, times) },
     );
-    seat.join(&turns, other);
-    let (counter, calls) = close(turns, seat);
-    (counter, one.wrapping_add(two), calls)
+    (first, second, one.wrapping_add(two))
 }
