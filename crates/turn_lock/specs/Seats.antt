@@ -1,0 +1,84 @@
+-- What contracts say of turns, seats and notes.
+use Rattle.std.specs.Prelude.{◌≡◌, ◌≢◌, ◌⊎◌, ℕ, ◌+◌, ◌*◌, ◌<◌, ◌≤◌, ◌^◌, List, [], ◌∷◌, ◌++◌, length, Bool, true, false, Option, Some}
+use Rattle.turn_lock.specs.declared.view.Entry.{Entry}
+use Rattle.turn_lock.specs.declared.turns.Turns.{Turns}
+use Rattle.turn_lock.specs.declared.seat.SeatToken.{SeatToken as Seat}
+use Rattle.turn_lock.specs.declared.seat.NoteToken.{NoteToken as Note}
+use Rattle.turn_lock.specs.History.{Legal, end_of, entries_by, BeginsWith, times, AllKept}
+
+-- the object as the history began
+abbrev pub opening : {T C R F : Type 0} → Turns T C R F → T
+opening turns = turns.table.shared.key.value
+
+module _ {C R T : Type 0} where
+  -- the seat's own number, which no other seat of these turns has
+  abbrev pub number : Seat C R T → ℕ
+  number seat = seat.token.me.0.number
+
+  -- the beginning of the history that the seat has seen
+  abbrev pub seen : Seat C R T → List (Entry C R T)
+  seen seat = seat.token.me.0.seen
+
+  -- the entries of the seat's own calls
+  abbrev pub mine : Seat C R T → List (Entry C R T)
+  mine seat = seat.token.me.0.mine
+
+  -- the numbers of the seats that were joined to it, each with its entries
+  abbrev pub joined : Seat C R T → List (ℕ × List (Entry C R T))
+  joined seat = seat.token.me.0.joined
+
+  -- its parts of the right to close
+  abbrev pub parts_of : Seat C R T → ℕ
+  parts_of seat = seat.token.me.0.parts
+
+  -- the numbers that the seat answers for, each with its entries: its own first
+  abbrev pub callers : Seat C R T → List (ℕ × List (Entry C R T))
+  callers seat = (number seat, mine seat) ∷ joined seat
+
+  -- the beginning of the history that a note carries
+  abbrev pub carried : Note C R T → List (Entry C R T)
+  carried note = note.token.me.0.seen
+
+-- The seat is one of these turns. What it has seen is legal, and holds of each of its callers just the entries that it says
+pub record IsSeatOf {T C R F : Type 0} (turned : T → C → R → T → Type 0) (turns : Turns T C R F) (seat : Seat C R T) : Type 0 where
+  pub place : seat.token.table_id ≡ turns.table.shared.table_id
+  pub alone : seat.token.me.1 ≡ []
+  pub named : seat.token.me.0.named ≡ true
+  pub idle : seat.token.me.0.turn ≡ 0
+  pub alive : 0 < parts_of seat
+  pub from : seat.token.me.0.opening ≡ Some (opening turns)
+  pub legal : Legal turned (opening turns) (seen seat)
+  pub own : AllKept (seen seat) (callers seat)
+
+-- The note is one of these turns, and what it carries is legal
+pub record IsNoteOf {T C R F : Type 0} (turned : T → C → R → T → Type 0) (turns : Turns T C R F) (note : Note C R T) : Type 0 where
+  pub place : note.token.table_id ≡ turns.table.shared.table_id
+  pub alone : note.token.me.1 ≡ []
+  pub unnamed : note.token.me.0.named ≡ false
+  pub idle : note.token.me.0.turn ≡ 0
+  pub one : note.token.me.0.parts ≡ 1
+  pub from : note.token.me.0.opening ≡ Some (opening turns)
+  pub empty : note.token.me.0.joined ≡ []
+  pub legal : Legal turned (opening turns) (carried note)
+
+module _ {C R T : Type 0} where
+  -- only the parts differ
+  abbrev pub Same : Seat C R T → Seat C R T → Type 0
+  Same old new = (number new ≡ number old) × (seen new ≡ seen old) × (mine new ≡ mine old) × (joined new ≡ joined old)
+
+  -- the history goes on, and ends with this call; the seat's own entries gain just that
+  abbrev pub Gains : Seat C R T → C → R → Seat C R T → Type 0
+  Gains old call reply new =
+      (between : List (Entry C R T)) × (after : T)
+      × (let e : Entry C R T = record { by = number old; call = call; reply = reply; after = after } in
+      (seen new ≡ (seen old ++ between) ++ e ∷ []) × (mine new ≡ mine old ++ e ∷ []))
+
+-- The whole history is legal and goes on from what the seat has seen, the object is its end, and each entry is of one of the callers, who each stand there once
+pub record Closes {T C R F : Type 0} (turned : T → C → R → T → Type 0) (turns : Turns T C R F) (seat : Seat C R T) (thing : T) (calls : ℕ) : Type 0 where
+  pub log : List (Entry C R T)
+  pub legal : Legal turned (opening turns) log
+  pub begins : BeginsWith log (seen seat)
+  pub end : thing ≡ end_of (opening turns) log
+  pub long : calls ≡ length log
+  pub own : AllKept log (callers seat)
+  pub others : (k : ℕ) → (times k (callers seat) ≡ 1) ⊎ ((times k (callers seat) ≡ 0) × (entries_by k log ≡ []))

@@ -1,0 +1,172 @@
+// Seats, with which threads call the object, and notes, which carry what one seat has seen to another.
+ghost use Rattle.std.specs.Prelude.{◌≡◌, ◌≢◌, ◌+◌, ◌-◌, ◌*◌, ◌^◌, ◌<◌, ◌≤◌, ◌∷◌, ◌++◌, [], length, IfOk, IfErr};
+ghost use Rattle.turn_lock.specs.History.{BeginsWith};
+ghost use Rattle.turn_lock.specs.Views.{without, offshoot};
+ghost use Rattle.turn_lock.specs.Seats.{opening, number, seen, mine, joined, parts_of, carried, callers, IsSeatOf, IsNoteOf, Same, Gains, Closes};
+ghost use Rattle.turn_lock.specs.Holding.{Merged};
+
+use crate::hold;
+use crate::hold::Token;
+use crate::law::{Amount, Both, Cut, Give, Law, Look, Name, Take};
+use crate::thing::Thing;
+use crate::turns::Turns;
+use crate::view::{Slot, View};
+use atomic_table::{Refused, Table};
+use std::alloc::{AllocError, Global};
+use std::marker::Brand;
+use std::snapshot::Snapshot;
+use std::sync::Wait;
+
+/// The right to call the object. It takes no memory, and goes to another thread as it is.
+#[derive(Drop)]
+pub struct SeatToken<C, R, T> {
+    pub(crate) token: atomic_table::Seat<Slot<C, R, T>, View<C, R, T>>,
+}
+
+/// A seat at the turns of an object of type `T`.
+pub type Seat<T> = SeatToken<<T as Thing>::Call, <T as Thing>::Reply, T>;
+
+/// What one seat has seen, on its way to another.
+#[derive(Drop)]
+pub struct NoteToken<C, R, T> {
+    pub(crate) token: atomic_table::Seat<Slot<C, R, T>, View<C, R, T>>,
+}
+
+/// A note of a seat at the turns of an object of type `T`.
+pub type Note<T> = NoteToken<<T as Thing>::Call, <T as Thing>::Reply, T>;
+
+impl<T: Thing> Turns<T> {
+    /// Begins the history of an object, with the seat that has all parts. Where there is no memory the object comes back.
+    pub fn begin(alloc: Global, thing: T) -> Result<(Turns<T>, Seat<T>), (T, AllocError)>
+        ensures turns { IfOk result (λ r. opening r.0 ≡ thing) }
+        ensures seat { IfOk result (λ r. IsSeatOf T.turned r.0 r.1) }
+        ensures first { IfOk result (λ r. (seen r.1 ≡ []) × (mine r.1 ≡ []) × (joined r.1 ≡ []) × (parts_of r.1 ≡ 2 ^ 64)) }
+        ensures err { IfErr result (λ e. e.0 ≡ thing) }
+    {
+        let Ok(mut slots) = Vec::with_capacity(alloc, 1) else {
+            return Err((thing, AllocError));
+        };
+        let first = Snapshot::of(&thing);
+        slots.push_reserved(Slot::Home(thing));
+        match Table::new(alloc, &[0], slots, &first) {
+            Ok((table, token)) => Ok((Turns { table }, SeatToken { token })),
+            Err(Refused { mut slots }) => {
+                let Some(Slot::Home(thing)) = slots.pop() else {
+                    unreachable!()
+                };
+                slots.destroy_empty();
+                Err((thing, AllocError))
+            }
+        }
+    }
+}
+
+impl<T: Thing> SeatToken<T::Call, T::Reply, T> {
+    /// Waits for the turn, and asks the object. The history then ends with this call. Once it has 2^62 entries, a call waits for good.
+    pub fn call<R: Wait>(&mut self, rt: &R, turns: &Turns<T>, call: T::Call) -> T::Reply
+        requires seat { IsSeatOf T.turned turns.now self.old }
+        requires call { T.may_ask (T.fixed (opening turns.now)) call }
+        ensures seat { IsSeatOf T.turned turns.now self.new }
+        ensures entry { Gains self.old call result self.new }
+        ensures same { (number self.new ≡ number self.old) × (joined self.new ≡ joined self.old) × (parts_of self.new ≡ parts_of self.old) }
+        ensures room { length (seen self.new) ≤ 2 ^ 62 }
+    {
+        let word = hold::take(rt, turns, &mut self.token);
+        let (reply, told) = hold::turn(turns, &mut self.token, call);
+        let shared = &turns.table.shared;
+        shared.compare_exchange_with::<Give<T>>(&mut self.token, 0, word + 1, word + 2, &told);
+        let Slot::Told(_, _) = told else { unreachable!() };
+        shared.wake_one(0);
+        reply
+    }
+
+    /// Splits off a seat with a number of its own and the given parts. It has seen what this one has seen.
+    pub fn split(&mut self, turns: &Turns<T>, parts: u64) -> Seat<T>
+        requires seat { IsSeatOf T.turned turns.now self.old }
+        requires parts { (0 < parts) × (parts < parts_of self.old) }
+        ensures old { IsSeatOf T.turned turns.now self.new × Same self.old self.new × (parts_of self.new + parts ≡ parts_of self.old) }
+        ensures new { IsSeatOf T.turned turns.now result × (parts_of result ≡ parts) × (seen result ≡ seen self.old) × (mine result ≡ []) × (joined result ≡ []) }
+        ensures number { number result ≢ number self.old }
+    {
+        let mut token = split_off::<T, Brand>(turns, self, parts);
+        turns.table.shared.load::<Name<T>>(&mut token, 0);
+        SeatToken { token }
+    }
+
+    /// Takes in another seat, with its parts, its calls and what it has seen.
+    pub fn join(&mut self, turns: &Turns<T>, other: Seat<T>)
+        requires seat { IsSeatOf T.turned turns.now self.old }
+        requires other { IsSeatOf T.turned turns.now other }
+        ensures seat { IsSeatOf T.turned turns.now self.new }
+        ensures saw { BeginsWith (seen self.new) (seen self.old) × BeginsWith (seen self.new) (seen other) }
+        ensures joined { joined self.new ≡ joined self.old ++ callers other }
+        ensures parts { parts_of self.new ≡ parts_of self.old + parts_of other }
+        ensures same { (number self.new ≡ number self.old) × (mine self.new ≡ mine self.old) }
+    {
+        let SeatToken { token } = other;
+        merge(turns, self, token);
+    }
+
+    /// A note that carries what this seat has seen. It takes one part with it.
+    pub fn note(&mut self, turns: &Turns<T>) -> Note<T>
+        requires seat { IsSeatOf T.turned turns.now self.old }
+        requires parts { 1 < parts_of self.old }
+        ensures old { IsSeatOf T.turned turns.now self.new × Same self.old self.new × (parts_of self.new + 1 ≡ parts_of self.old) }
+        ensures note { IsNoteOf T.turned turns.now result × (carried result ≡ seen self.old) }
+    {
+        NoteToken {
+            token: split_off::<T, Brand>(turns, self, 1),
+        }
+    }
+
+    /// Takes in a note, with its part and what it carries.
+    pub fn learn(&mut self, turns: &Turns<T>, note: Note<T>)
+        requires seat { IsSeatOf T.turned turns.now self.old }
+        requires note { IsNoteOf T.turned turns.now note }
+        ensures seat { IsSeatOf T.turned turns.now self.new }
+        ensures saw { BeginsWith (seen self.new) (seen self.old) × BeginsWith (seen self.new) (carried note) }
+        ensures parts { parts_of self.new ≡ parts_of self.old + 1 }
+        ensures same { (number self.new ≡ number self.old) × (mine self.new ≡ mine self.old) × (joined self.new ≡ joined self.old) }
+    {
+        let NoteToken { token } = note;
+        merge(turns, self, token);
+    }
+}
+
+/// Ends the history, and gives the object and the number of its calls.
+pub fn close<T: Thing>(turns: Turns<T>, seat: Seat<T>) -> (T, u64)
+    requires seat { IsSeatOf T.turned turns seat }
+    requires parts { parts_of seat ≡ 2 ^ 64 }
+    ensures { Closes T.turned turns seat result.0 result.1 }
+{
+    let Turns { table } = turns;
+    let SeatToken { token } = seat;
+    let mut closed = table.close_with(token);
+    let calls = closed.word(0) / 2;
+    let Slot::Home(thing) = closed.take(0) else {
+        unreachable!()
+    };
+    closed.free();
+    (thing, calls)
+}
+
+// Joins a token to the seat's, and sees the history.
+fn merge<T: Thing>(turns: &Turns<T>, seat: &mut Seat<T>, token: Token<T>)
+    requires seat { IsSeatOf T.turned turns.now seat.old }
+    requires token { (token.table_id ≡ turns.now.table.shared.table_id) × (token.me.1 ≡ []) × (token.me.0.turn ≡ 0) }
+    ensures { Merged T.turned turns.now seat.old token seat.new }
+{
+    let shared = &turns.table.shared;
+    shared.join_seat::<Both>(&mut seat.token, token);
+    shared.load::<Look<T>>(&mut seat.token, 0);
+}
+
+// A token with these parts, which has no number yet.
+fn split_off<T: Thing, A: Amount>(turns: &Turns<T>, seat: &mut Seat<T>, amount: u64) -> Token<T>
+    requires seat { IsSeatOf T.turned turns.now seat.old }
+    requires amount { (amount ≡ A.amount) × (0 < amount) × (amount < parts_of seat.old) }
+    ensures old { IsSeatOf T.turned turns.now seat.new × Same seat.old seat.new × (parts_of seat.new + amount ≡ parts_of seat.old) }
+    ensures new { (result.table_id ≡ turns.now.table.shared.table_id) × (result.me ≡ (offshoot amount seat.old.token.me.0, [])) }
+{
+    turns.table.shared.split_seat::<Cut<A>>(&mut seat.token)
+}

@@ -1,0 +1,22 @@
+// One object, its word and the history of its calls.
+ghost use Rattle.std.specs.Prelude.{◌≡◌};
+
+use crate::law::Law;
+use crate::thing::Thing;
+use crate::view::{Slot, View};
+use atomic_table::Table;
+use std::alloc::Global;
+use std::snapshot::Snapshot;
+
+/// An object that any number of threads call in turn, through their seats.
+#[derive(Drop)]
+pub struct Turns<T: Thing> {
+    pub(crate) table: Table<
+        Slot<T::Call, T::Reply, T>,
+        View<T::Call, T::Reply, T>,
+        Snapshot<T>,
+        Law<T>,
+        Global,
+    >,
+    pub(crate) ghost sized: { (table.shared.table_id.words ≡ 1) × (table.shared.table_id.slots ≡ 1) },
+}
