@@ -1,5 +1,5 @@
 -- What a file's name tells writes the name again.
-use Rattle.std.proofs.Common.{◌≡◌, ℕ, ◌+◌, ◌<◌, Bool, true, false, cond, List, [], ◌∷◌, ◌++◌, length, get_or, take, drop, Option, Some, None, option_and_then, Result, Ok, Err, refl, ap, sym, ◌∙◌, arith}
+use Rattle.std.proofs.Common.{◌≡◌, ℕ, ◌+◌, ◌<◌, Bool, true, false, cond, List, [], ◌∷◌, ◌++◌, length, get_or, take, drop, Option, Some, None, option_and_then, Result, Ok, Err, refl, ap, sym, ◌∙◌, arith, is_some}
 use Rattle.std.specs.Option.{ok_or, option_map}
 use Rattle.std.specs.List.{position_or_len, before_first, after_first}
 use Rattle.std.proofs.lemmas.Bool.{and_parts, ltb-true, eqb-true}
@@ -107,3 +107,17 @@ snapshot_written artifact directory base name e h =
 pub ending_written : (artifact directory name : List ℕ) (base : Option (List ℕ)) (e : Ending) → ending_in artifact directory name base ≡ Ok e → name ≡ NameFor artifact directory base e
 ending_written artifact directory name None e h = release_written artifact directory name e h
 ending_written artifact directory name (Some base) e h = snapshot_written artifact directory base name e h
+
+built : (build : Option BuildOf) (text : List ℕ) (e : Ending) → ending_of build text ≡ Ok e → is_some e.build ≡ is_some build
+built build text e h = ap is_some (ending_parts build text e h).1
+
+-- a file has a build exactly where its version directory has a base
+pub build_for_base : (artifact directory name : List ℕ) (base : Option (List ℕ)) (e : Ending) → ending_in artifact directory name base ≡ Ok e → is_some e.build ≡ is_some base
+build_for_base artifact directory name None e h =
+    let b = bound (ok_or (behind (artifact ++ 45 ∷ directory) name) fault.NotNamed) (ending_of None) e h in
+    built None b.value e b.next
+build_for_base artifact directory name (Some base) e h =
+    let b = bound (ok_or (behind (artifact ++ 45 ∷ base ++ 45 ∷ []) name) fault.NotNamed) _ e h in
+    let s = bound (cond (is_literal b.value) (Err fault.LiteralSnapshot) (ok_or (time_of (take 15 b.value)) fault.BadStamp)) _ e b.next in
+    let n = bound (ok_or (numbered (drop 15 b.value)) fault.BadBuild) (λ number. ending_of (Some (record { stamp = s.value; number = number.0 })) number.1) e s.next in
+    built (Some (record { stamp = s.value; number = n.value.0 })) n.value.1 e n.next

@@ -1,5 +1,5 @@
 -- What a path's segments name has the path that was cut.
-use Rattle.std.proofs.Common.{◌≡◌, ℕ, suc, ◌+◌, ◌<◌, ◌≤◌, true, false, cond, eqb, ltb, List, [], ◌∷◌, ◌++◌, length, get_or, None, Ok, Err, codes, refl, ap, sym, ◌∙◌, arith}
+use Rattle.std.proofs.Common.{◌≡◌, ℕ, suc, ◌+◌, ◌<◌, ◌≤◌, true, false, cond, eqb, ltb, List, [], ◌∷◌, ◌++◌, length, get_or, None, Ok, Err, codes, refl, ap, sym, ◌∙◌, arith, is_some}
 use Rattle.std.specs.List.{list_all, ends_with}
 use Rattle.std.specs.Str.{bytes_eq}
 use Rattle.std.proofs.lemmas.Bool.{and_from, or_parts, lt-ltb, not_from_false, false_from_ne_true, ne_eqb, le-ltb, le-leb}
@@ -11,7 +11,7 @@ use Rattle.mvn_coords.specs.FileName.{Ending, ◌>>=◌, base_of, ending_in}
 use Rattle.mvn_coords.specs.Layout.{Coordinates, Named, file, document, may_stand, coordinates_of, with_ending, file_in, file_of, version_with, tail_text, version_directory_of, name_of, directory_of, named, text_of}
 use Rattle.mvn_coords.specs.Path.{has_other_suffix, parts_of, IsFile, IsPlain, IsBelow}
 use Rattle.mvn_coords.proofs.Levels.{Filled, filled, below, path_of_levels-levels}
-use Rattle.mvn_coords.proofs.Endings.{ending_written}
+use Rattle.mvn_coords.proofs.Endings.{ending_written, build_for_base}
 use Rattle.mvn_coords.proofs.Results.{bound, chosen, ok_same}
 
 abbrev metadata : List ℕ
@@ -148,3 +148,9 @@ named_file path above name c place other h =
     ap named place.split
     ∙ ap (λ t. cond t (directory_of (levels above) >>= λ d. Ok (document d)) (file_of (name ∷ levels above) >>= λ k. Ok (file k))) other
     ∙ ap (λ r. r >>= λ k. Ok (file k)) (ap file_of (sym place.split) ∙ h)
+
+pub file_build : (ls : List Segment) (c : Coordinates) → file_of ls ≡ Ok c → is_some c.build ≡ is_some (base_of c.directory)
+file_build ls c h =
+    let p = file_parts ls c h in
+    let own : is_some p.ending.build ≡ is_some (base_of p.directory) = build_for_base p.artifact p.directory p.name (base_of p.directory) p.ending p.ended in
+    ap (λ (k : Coordinates). is_some k.build) (sym p.value) ∙ own ∙ ap (λ (k : Coordinates). is_some (base_of k.directory)) p.value

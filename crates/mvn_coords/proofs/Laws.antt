@@ -1,5 +1,5 @@
 -- A path that the rule takes is the one path of what it names.
-use Rattle.std.proofs.Common.{◌≡◌, ℕ, ◌≤◌, Bool, true, false, cond, not, eqb, ltb, leb, List, [], ◌∷◌, ◌++◌, length, Option, Some, None, Result, Ok, Err, IfOk, codes, refl, ap, sym, subst, ◌∙◌, arith}
+use Rattle.std.proofs.Common.{◌≡◌, ℕ, ◌≤◌, Bool, true, false, cond, not, eqb, ltb, leb, List, [], ◌∷◌, ◌++◌, length, Option, Some, None, Result, Ok, Err, IfOk, codes, refl, ap, sym, subst, ◌∙◌, arith, is_some}
 use Rattle.std.specs.List.{list_all}
 use Rattle.std.specs.Str.{bytes_eq}
 use Rattle.std.proofs.lemmas.Bool.{and_parts, or_from, ltb-false, leb-true}
@@ -13,13 +13,13 @@ use Rattle.mvn_coords.specs.declared.fault.Side.TheVariants.{Sha1, Md5}
 use Rattle.mvn_coords.specs.declared.kind.Kind.{Kind}
 use Rattle.mvn_coords.specs.declared.kind.Kind.TheVariants.{File, FileSide, Doc, DocSide}
 use Rattle.mvn_coords.specs.Segment.{Segment, levels, is_segment, is_path_byte}
-use Rattle.mvn_coords.specs.FileName.{◌>>=◌, before}
+use Rattle.mvn_coords.specs.FileName.{◌>>=◌, before, base_of}
 use Rattle.mvn_coords.specs.Layout.{Coordinates, Directory, Named, file, document, file_of, directory_of, named, text_of, text_of_document}
 use Rattle.mvn_coords.specs.Path.{Cut, cut_by, cut_side, has_suffix, has_other_suffix, suffix_of, Parts, parts_by, parts_of, IsPlain, IsBelow, IsFile, IsDirectory}
 use Rattle.mvn_coords.specs.Kind.{with_side, kind_of_parts, kind, text_of_kind, IsExact}
 use Rattle.mvn_coords.proofs.Cuts.{before_some, before_none}
 use Rattle.mvn_coords.proofs.Levels.{Whole, Filled, filled, levels_longer, below}
-use Rattle.mvn_coords.proofs.Files.{keeps_file}
+use Rattle.mvn_coords.proofs.Files.{keeps_file, file_build}
 use Rattle.mvn_coords.proofs.Documents.{keeps_directory}
 use Rattle.mvn_coords.proofs.Results.{bound, ok_same}
 
@@ -217,3 +217,24 @@ exact = record {
 pub path_kept : (path : List ℕ) (r : Result Kind PathFault) → r ≡ kind path → IfOk r (λ k. text_of_kind k ≡ path)
 path_kept path (Ok k) h = exact_path path k (sym h)
 path_kept path (Err e) h = tt
+
+-- what a path names is a file only by the steps for files
+named_is_file : (path : List ℕ) (c : Coordinates) → named (levels path) ≡ Ok (file c) → file_of (levels path) ≡ Ok c
+named_is_file path c h = by_last (filled path)
+  where
+    by_name : (f : Filled path) (t : Bool) → cond t (directory_of f.above >>= λ d. Ok (document d)) (file_of (f.last ∷ f.above) >>= λ k. Ok (file k)) ≡ Ok (file c) → file_of (levels path) ≡ Ok c
+    by_name f true g = let b = bound (directory_of f.above) (λ d. Ok (document d)) (file c) g in cc
+    by_name f false g =
+        let b = bound (file_of (f.last ∷ f.above)) (λ k. Ok (file k)) (file c) g in
+        let same : file b.value ≡ file c = ok_same _ _ b.next in
+        let value : b.value ≡ c = cc in
+        ap file_of f.split ∙ b.first ∙ ap (λ (k : Coordinates). Ok k) value
+
+    by_last : Filled path → file_of (levels path) ≡ Ok c
+    by_last f = by_name f (bytes_eq f.last (codes "maven-metadata.xml")) (sym (ap named f.split) ∙ h)
+
+pub build_in_snapshots : (c : Coordinates) → IsFile c → is_some c.build ≡ is_some (base_of c.directory)
+build_in_snapshots c h =
+    let q = passes (text_of c) (record { thing = file c; side = None }) h in
+    let thing : q.thing ≡ file c = ap (λ (p : Parts). p.thing) q.value in
+    file_build (levels q.cut.path) c (named_is_file q.cut.path c (q.named ∙ ap (λ (t : Named). Ok t) thing))
