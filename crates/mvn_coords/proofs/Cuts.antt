@@ -1,7 +1,7 @@
 -- Cuts of a text: at its front, at its end, and at its last slash.
-use Rattle.std.proofs.Common.{◌≡◌, ℕ, suc, ◌+◌, ◌-◌, ◌<◌, ◌≤◌, Bool, true, false, cond, not, eqb, List, [], ◌∷◌, ◌++◌, length, get_or, take, drop, reverse, Option, Some, None, MatchOption, option_and_then, is_some, ◌≢◌, refl, ap, sym, ◌∙◌, arith, Bor, lit<}
+use Rattle.std.proofs.Common.{◌≡◌, ℕ, ◌-◌, ◌<◌, Bool, true, false, cond, eqb, List, [], ◌∷◌, ◌++◌, length, take, drop, reverse, Option, Some, None, MatchOption, option_and_then, is_some, ◌≢◌, refl, ap, sym, ◌∙◌, arith, Bor, lit<}
 use Rattle.std.specs.Option.{option_copied}
-use Rattle.std.specs.List.{All, slice_split, onto_first, starts_with, ends_with, list_all, count_by}
+use Rattle.std.specs.List.{All, slice_split, onto_first, starts_with, ends_with}
 use Rattle.std.specs.Str.Pattern.{FindsTextPrefix, FindsTextSuffix, StripsPrefix, StripsSuffix, RFindsChar, SplitsAroundMatch}
 use Rattle.std.proofs.lemmas.Bool.{false_from_ne_true}
 use Rattle.std.proofs.lemmas.Bool.Decides.{Decides-eqb}
@@ -72,10 +72,10 @@ cut_last_is path (Some x) (i, j, found, front, back, le, front_len, back_len) =
 -- what `behind` and `before` say, as sums of lists
 pub behind_some : (front text rest : List ℕ) → behind front text ≡ Some rest → text ≡ front ++ rest
 behind_some front text rest h = some (starts_with eqb text front) refl h
- where
-  some : (t : Bool) → starts_with eqb text front ≡ t → cond t (Some (drop (length front) text)) None ≡ Some rest → text ≡ front ++ rest
-  some true e h = (starts_is Decides-eqb text front _ refl).0 e ∙ ap (λ r. front ++ r) cc
-  some false e h = cc
+  where
+    some : (t : Bool) → starts_with eqb text front ≡ t → cond t (Some (drop (length front) text)) None ≡ Some rest → text ≡ front ++ rest
+    some true e h = (starts_is Decides-eqb text front _ refl).0 e ∙ ap (λ r. front ++ r) cc
+    some false e h = cc
 
 pub some_behind : (front text rest : List ℕ) → text ≡ front ++ rest → behind front text ≡ Some rest
 some_behind front text rest h =
@@ -92,21 +92,22 @@ behind_none front text rest h e = let s = some_behind front text rest e in cc
 
 pub before_some : (end text rest : List ℕ) → before end text ≡ Some rest → text ≡ rest ++ end
 before_some end text rest h = some (ends_with eqb text end) refl h
- where
-  some : (t : Bool) → ends_with eqb text end ≡ t → cond t (Some (take (length text - length end) text)) None ≡ Some rest → text ≡ rest ++ end
-  some true e h = (ends_is Decides-eqb text end _ refl).0 e ∙ ap (λ r. r ++ end) cc
-  some false e h = cc
+  where
+    some : (t : Bool) → ends_with eqb text end ≡ t → cond t (Some (take (length text - length end) text)) None ≡ Some rest → text ≡ rest ++ end
+    some true e h = (ends_is Decides-eqb text end _ refl).0 e ∙ ap (λ r. r ++ end) cc
+    some false e h = cc
 
 -- one front behind another
 pub behind-append : (a b text : List ℕ) → behind (a ++ b) text ≡ option_and_then (behind b) (behind a text)
 behind-append a b text = by_first (behind a text) refl
- where
-  by_second : (r : List ℕ) (o : Option (List ℕ)) → text ≡ a ++ r → behind b r ≡ o → behind (a ++ b) text ≡ o
-  by_second r None e h = none_behind (a ++ b) text (λ rest w. behind_none b r rest h (append_cancel_left a r (b ++ rest) (sym e ∙ w ∙ append_assoc a b rest)))
-  by_second r (Some rest) e h = some_behind (a ++ b) text rest (e ∙ ap (λ v. a ++ v) (behind_some b r rest h) ∙ sym (append_assoc a b rest))
-  by_first : (o : Option (List ℕ)) → behind a text ≡ o → behind (a ++ b) text ≡ option_and_then (behind b) o
-  by_first None h = none_behind (a ++ b) text (λ rest w. behind_none a text (b ++ rest) h (w ∙ append_assoc a b rest))
-  by_first (Some r) h = by_second r (behind b r) (behind_some a text r h) refl
+  where
+    by_second : (r : List ℕ) (o : Option (List ℕ)) → text ≡ a ++ r → behind b r ≡ o → behind (a ++ b) text ≡ o
+    by_second r None e h = none_behind (a ++ b) text (λ rest w. behind_none b r rest h (append_cancel_left a r (b ++ rest) (sym e ∙ w ∙ append_assoc a b rest)))
+    by_second r (Some rest) e h = some_behind (a ++ b) text rest (e ∙ ap (λ v. a ++ v) (behind_some b r rest h) ∙ sym (append_assoc a b rest))
+
+    by_first : (o : Option (List ℕ)) → behind a text ≡ o → behind (a ++ b) text ≡ option_and_then (behind b) o
+    by_first None h = none_behind (a ++ b) text (λ rest w. behind_none a text (b ++ rest) h (w ∙ append_assoc a b rest))
+    by_first (Some r) h = by_second r (behind b r) (behind_some a text r h) refl
 
 -- an artifact, `-` and a version
 pub behind_version : (a v text : List ℕ) → behind (a ++ 45 ∷ v) text ≡ option_and_then (λ r. option_and_then (behind v) (behind (45 ∷ []) r)) (behind a text)
@@ -118,10 +119,10 @@ behind_base a b text = behind-append (a ++ 45 ∷ b) (45 ∷ []) text
 
 pub before_none : (end text : List ℕ) → before end text ≡ None → ends_with eqb text end ≡ false
 before_none end text h = none (ends_with eqb text end) h
- where
-  none : (t : Bool) → cond t (Some (take (length text - length end) text)) None ≡ None → t ≡ false
-  none true h = cc
-  none false h = refl
+  where
+    none : (t : Bool) → cond t (Some (take (length text - length end) text)) None ≡ None → t ≡ false
+    none true h = cc
+    none false h = refl
 
 pub is_some_copied : (r : Option (Bor (List ℕ))) → is_some (option_copied r) ≡ is_some r
 is_some_copied None = refl

@@ -1,13 +1,12 @@
 -- What the segments of a directory name has the path that was cut, and is read again from its document's path.
-use Rattle.std.proofs.Common.{◌≡◌, ℕ, zero, suc, ◌+◌, ◌<◌, ◌≤◌, Bool, true, false, cond, not, ◌&&◌, List, [], ◌∷◌, ◌++◌, length, Option, Some, None, is_some, Result, Ok, Err, codes, refl, ap, sym, ◌∙◌, arith}
+use Rattle.std.proofs.Common.{◌≡◌, ℕ, suc, Bool, true, false, cond, ◌&&◌, List, [], ◌∷◌, ◌++◌, length, Some, None, is_some, Ok, Err, codes, refl, ap, sym, ◌∙◌, arith}
 use Rattle.std.specs.List.{list_all}
 use Rattle.std.proofs.lemmas.Bool.{and_parts, and_from, false≢true, lt-ltb}
 use Rattle.std.proofs.lemmas.List.{append-nil}
-use Rattle.mvn_coords.specs.declared.fault.PathFault.{PathFault}
 use Rattle.mvn_coords.specs.declared.fault.PathFault.TheVariants as fault
 use Rattle.mvn_coords.specs.Segment.{Segment, levels, path_of_levels, is_segment, is_artifact}
 use Rattle.mvn_coords.specs.FileName.{base_of, is_filled}
-use Rattle.mvn_coords.specs.Layout.{Directory, directory, Named, document, may_stand, all_groups, artifact_directory, snapshot_directory, directory_of, named, text_of_directory, text_of_document, below_group, version_part}
+use Rattle.mvn_coords.specs.Layout.{Directory, directory, document, may_stand, all_groups, artifact_directory, snapshot_directory, directory_of, named, text_of_directory, text_of_document, below_group}
 use Rattle.mvn_coords.specs.Path.{parts_of, IsDirectory, IsPlain, IsBelow}
 use Rattle.mvn_coords.proofs.Levels.{Filled, filled, below, one_segment, path_of_levels-levels}
 use Rattle.mvn_coords.proofs.Files.{parts_of_plain, plain_segments, some_bytes}
@@ -32,10 +31,10 @@ artifact_text : (path : List ℕ) (artifact : Segment) (above : List Segment) (d
 artifact_text path artifact above d e ok h =
     let c = chosen (all_groups above && is_artifact artifact) (Ok (record { group = path_of_levels above; artifact = artifact; version = None })) fault.BadSegment d h in
     by_above above e ok ∙ sym (append-nil (below_group (path_of_levels above) artifact)) ∙ ap text_of_directory (ok_same _ _ c.value)
- where
-  by_above : (above : List Segment) → levels path ≡ artifact ∷ above → list_all is_segment above ≡ true → path ≡ below_group (path_of_levels above) artifact
-  by_above [] e ok = one_segment path artifact e
-  by_above (group ∷ above) e ok = under path artifact group above e (and_parts (is_segment group) (list_all is_segment above) ok).0
+  where
+    by_above : (above : List Segment) → levels path ≡ artifact ∷ above → list_all is_segment above ≡ true → path ≡ below_group (path_of_levels above) artifact
+    by_above [] e ok = one_segment path artifact e
+    by_above (group ∷ above) e ok = under path artifact group above e (and_parts (is_segment group) (list_all is_segment above) ok).0
 
 snapshot_text : (path : List ℕ) (version artifact group : Segment) (above : List Segment) (d : Directory) → levels path ≡ version ∷ artifact ∷ group ∷ above → list_all is_segment (group ∷ above) ≡ true → snapshot_directory version artifact (group ∷ above) ≡ Ok d → path ≡ text_of_directory d
 snapshot_text path version artifact group above d e ok h =
@@ -46,15 +45,16 @@ snapshot_text path version artifact group above d e ok h =
 
 pub directory_text : (path : List ℕ) (d : Directory) → list_all is_segment (levels path) ≡ true → directory_of (levels path) ≡ Ok d → path ≡ text_of_directory d
 directory_text path d ok h = by_levels (levels path) refl ok h
- where
-  pick : (t : Bool) (version artifact group : Segment) (above : List Segment) → levels path ≡ version ∷ artifact ∷ group ∷ above → list_all is_segment (artifact ∷ group ∷ above) ≡ true → cond t (snapshot_directory version artifact (group ∷ above)) (artifact_directory version (artifact ∷ group ∷ above)) ≡ Ok d → path ≡ text_of_directory d
-  pick true version artifact group above e ok h = snapshot_text path version artifact group above d e (and_parts (is_segment artifact) (list_all is_segment (group ∷ above)) ok).1 h
-  pick false version artifact group above e ok h = artifact_text path version (artifact ∷ group ∷ above) d e ok h
-  by_levels : (ls : List Segment) → levels path ≡ ls → list_all is_segment ls ≡ true → directory_of ls ≡ Ok d → path ≡ text_of_directory d
-  by_levels [] e ok h = cc
-  by_levels (a ∷ []) e ok h = artifact_text path a [] d e refl h
-  by_levels (a ∷ b ∷ []) e ok h = artifact_text path a (b ∷ []) d e (and_parts (is_segment a) (list_all is_segment (b ∷ [])) ok).1 h
-  by_levels (a ∷ b ∷ g ∷ above) e ok h = pick (is_some (base_of a)) a b g above e (and_parts (is_segment a) (list_all is_segment (b ∷ g ∷ above)) ok).1 h
+  where
+    pick : (t : Bool) (version artifact group : Segment) (above : List Segment) → levels path ≡ version ∷ artifact ∷ group ∷ above → list_all is_segment (artifact ∷ group ∷ above) ≡ true → cond t (snapshot_directory version artifact (group ∷ above)) (artifact_directory version (artifact ∷ group ∷ above)) ≡ Ok d → path ≡ text_of_directory d
+    pick true version artifact group above e ok h = snapshot_text path version artifact group above d e (and_parts (is_segment artifact) (list_all is_segment (group ∷ above)) ok).1 h
+    pick false version artifact group above e ok h = artifact_text path version (artifact ∷ group ∷ above) d e ok h
+
+    by_levels : (ls : List Segment) → levels path ≡ ls → list_all is_segment ls ≡ true → directory_of ls ≡ Ok d → path ≡ text_of_directory d
+    by_levels [] e ok h = cc
+    by_levels (a ∷ []) e ok h = artifact_text path a [] d e refl h
+    by_levels (a ∷ b ∷ []) e ok h = artifact_text path a (b ∷ []) d e (and_parts (is_segment a) (list_all is_segment (b ∷ [])) ok).1 h
+    by_levels (a ∷ b ∷ g ∷ above) e ok h = pick (is_some (base_of a)) a b g above e (and_parts (is_segment a) (list_all is_segment (b ∷ g ∷ above)) ok).1 h
 
 -- the directory whose document a path names: the path is its document's
 pub keeps_directory : (path above : List ℕ) (d : Directory) → IsPlain path → IsBelow path above (codes "maven-metadata.xml") → directory_of (levels above) ≡ Ok d → IsDirectory d × (above ≡ text_of_directory d)
@@ -78,11 +78,11 @@ artifact_judged ls artifact group e g a =
 
 three : (ls : List Segment) (version artifact : Segment) (group : List ℕ) → ls ≡ version ∷ artifact ∷ levels group → is_some (base_of version) ≡ true → directory_of ls ≡ snapshot_directory version artifact (levels group)
 three ls version artifact group e h = ap directory_of e ∙ by_group (filled group)
- where
-  by_group : Filled group → directory_of (version ∷ artifact ∷ levels group) ≡ snapshot_directory version artifact (levels group)
-  by_group f = ap (λ (g : List Segment). directory_of (version ∷ artifact ∷ g)) f.split
-    ∙ ap (λ t. cond t (snapshot_directory version artifact (f.last ∷ f.above)) (artifact_directory version (artifact ∷ f.last ∷ f.above))) h
-    ∙ ap (λ (g : List Segment). snapshot_directory version artifact g) (sym f.split)
+  where
+    by_group : Filled group → directory_of (version ∷ artifact ∷ levels group) ≡ snapshot_directory version artifact (levels group)
+    by_group f = ap (λ (g : List Segment). directory_of (version ∷ artifact ∷ g)) f.split
+        ∙ ap (λ t. cond t (snapshot_directory version artifact (f.last ∷ f.above)) (artifact_directory version (artifact ∷ f.last ∷ f.above))) h
+        ∙ ap (λ (g : List Segment). snapshot_directory version artifact g) (sym f.split)
 
 pub snapshot_refused : (ls : List Segment) (version artifact : Segment) (group : List ℕ) → ls ≡ version ∷ artifact ∷ levels group → is_some (base_of version) ≡ true → may_stand (levels group) artifact version ≡ false → directory_of ls ≡ Err fault.BadSegment
 snapshot_refused ls version artifact group e b h =

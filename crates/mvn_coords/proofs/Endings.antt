@@ -1,5 +1,5 @@
 -- What a file's name tells writes the name again.
-use Rattle.std.proofs.Common.{◌≡◌, ℕ, zero, suc, ◌+◌, ◌-◌, ◌*◌, ◌/◌, ◌%◌, ◌^◌, ◌<◌, ◌≤◌, Bool, true, false, cond, not, ◌&&◌, eqb, nat_lt, List, [], ◌∷◌, ◌++◌, length, get_or, take, drop, Option, Some, None, option_and_then, Result, Ok, Err, refl, ap, sym, ◌∙◌, arith, lit<}
+use Rattle.std.proofs.Common.{◌≡◌, ℕ, ◌+◌, ◌<◌, Bool, true, false, cond, List, [], ◌∷◌, ◌++◌, length, get_or, take, drop, Option, Some, None, option_and_then, Result, Ok, Err, refl, ap, sym, ◌∙◌, arith, is_some}
 use Rattle.std.specs.Option.{ok_or, option_map}
 use Rattle.std.specs.List.{position_or_len, before_first, after_first}
 use Rattle.std.proofs.lemmas.Bool.{and_parts, ltb-true, eqb-true}
@@ -8,8 +8,8 @@ use Rattle.std.proofs.lemmas.List.Sums.{passes_at_first}
 use Rattle.mvn_coords.specs.declared.fault.PathFault.{PathFault}
 use Rattle.mvn_coords.specs.declared.fault.PathFault.TheVariants as fault
 use Rattle.mvn_coords.specs.Civil.{CivilTime, time_of, text_of_time, digits}
-use Rattle.mvn_coords.specs.FileName.{BuildOf, Ending, ◌>>=◌, behind, before, base_of, is_dot, is_filled, tail_by, tail_of, ending_of, release_ending, number_of, digit_count, number_in, numbered, is_literal, snapshot_ending, ending_in}
-use Rattle.mvn_coords.specs.Layout.{without_zeros, text_of_build, tail_text, version_with}
+use Rattle.mvn_coords.specs.FileName.{BuildOf, Ending, ◌>>=◌, behind, is_dot, is_filled, tail_by, tail_of, ending_of, release_ending, number_of, digit_count, number_in, numbered, is_literal, snapshot_ending, ending_in}
+use Rattle.mvn_coords.specs.Layout.{without_zeros, tail_text, version_with}
 use Rattle.mvn_coords.proofs.Cuts.{behind_some}
 use Rattle.mvn_coords.proofs.Results.{bound, chosen_some, ok_or_some, some_same, ok_same}
 use Rattle.mvn_coords.proofs.Written.{text_of_time-time_of, number_written}
@@ -28,18 +28,18 @@ with_classifier classifier extension h = rw h refl
 
 pub tail_written : (text : List ℕ) (t : List ℕ × List ℕ) → tail_of text ≡ Some t → text ≡ tail_text t.0 t.1
 tail_written text t h = by_dot (behind (46 ∷ []) text) (behind (45 ∷ []) text) refl refl h
- where
-  by_dot : (o p : Option (List ℕ)) → behind (46 ∷ []) text ≡ o → behind (45 ∷ []) text ≡ p → tail_by o p ≡ Some t → text ≡ tail_text t.0 t.1
-  by_dot (Some e) p a b h =
-      let c = chosen_some (is_filled e) (Some ([], e)) t h in
-      let same : ([], e) ≡ t = some_same _ _ c.value in
-      behind_some (46 ∷ []) text e a ∙ ap (λ (v : List ℕ × List ℕ). tail_text v.0 v.1) same
-  by_dot None (Some r) a b h =
-      let c = chosen_some _ (Some (before_first is_dot r, after_first is_dot r)) t h in
-      let f = and_parts (is_filled (before_first is_dot r)) (is_filled (after_first is_dot r)) c.test in
-      let same : (before_first is_dot r, after_first is_dot r) ≡ t = some_same _ _ c.value in
-      behind_some (45 ∷ []) text r b ∙ ap (λ v. 45 ∷ v) (cut_at_dot r f.1) ∙ with_classifier (before_first is_dot r) (after_first is_dot r) f.0 ∙ ap (λ (v : List ℕ × List ℕ). tail_text v.0 v.1) same
-  by_dot None None a b h = cc
+  where
+    by_dot : (o p : Option (List ℕ)) → behind (46 ∷ []) text ≡ o → behind (45 ∷ []) text ≡ p → tail_by o p ≡ Some t → text ≡ tail_text t.0 t.1
+    by_dot (Some e) p a b h =
+        let c = chosen_some (is_filled e) (Some ([], e)) t h in
+        let same : ([], e) ≡ t = some_same _ _ c.value in
+        behind_some (46 ∷ []) text e a ∙ ap (λ (v : List ℕ × List ℕ). tail_text v.0 v.1) same
+    by_dot None (Some r) a b h =
+        let c = chosen_some _ (Some (before_first is_dot r, after_first is_dot r)) t h in
+        let f = and_parts (is_filled (before_first is_dot r)) (is_filled (after_first is_dot r)) c.test in
+        let same : (before_first is_dot r, after_first is_dot r) ≡ t = some_same _ _ c.value in
+        behind_some (45 ∷ []) text r b ∙ ap (λ v. 45 ∷ v) (cut_at_dot r f.1) ∙ with_classifier (before_first is_dot r) (after_first is_dot r) f.0 ∙ ap (λ (v : List ℕ × List ℕ). tail_text v.0 v.1) same
+    by_dot None None a b h = cc
 
 ending_parts : (build : Option BuildOf) (text : List ℕ) (e : Ending) → ending_of build text ≡ Ok e → (text ≡ tail_text e.classifier e.extension) × (e.build ≡ build)
 ending_parts build text e h =
@@ -62,16 +62,17 @@ release_written artifact directory name e h =
 
 run_written : (text rest : List ℕ) (n : ℕ) → numbered text ≡ Some (n, rest) → text ≡ 45 ∷ (without_zeros (digits 9 n) ++ rest)
 run_written text rest n h = by_dash (behind (45 ∷ []) text) refl h
- where
-  by_number : (run : List ℕ) (o : Option ℕ) → number_of (take (digit_count run) run) ≡ o → option_map {T = ℕ} {U = ℕ × List ℕ} (λ k. (k, drop (digit_count run) run)) o ≡ Some (n, rest) → run ≡ without_zeros (digits 9 n) ++ rest
-  by_number run None a h = cc
-  by_number run (Some k) a h =
-      let same : (k, drop (digit_count run) run) ≡ (n, rest) = some_same _ _ h in
-      sym (take-append-drop (digit_count run) run) ∙ ap (λ v. v ++ drop (digit_count run) run) (number_written (take (digit_count run) run) k a)
-      ∙ ap (λ (v : ℕ × List ℕ). without_zeros (digits 9 v.0) ++ v.1) same
-  by_dash : (o : Option (List ℕ)) → behind (45 ∷ []) text ≡ o → option_and_then number_in o ≡ Some (n, rest) → text ≡ 45 ∷ (without_zeros (digits 9 n) ++ rest)
-  by_dash None a h = cc
-  by_dash (Some run) a h = behind_some (45 ∷ []) text run a ∙ ap (λ v. 45 ∷ v) (by_number run (number_of (take (digit_count run) run)) refl h)
+  where
+    by_number : (run : List ℕ) (o : Option ℕ) → number_of (take (digit_count run) run) ≡ o → option_map {T = ℕ} {U = ℕ × List ℕ} (λ k. (k, drop (digit_count run) run)) o ≡ Some (n, rest) → run ≡ without_zeros (digits 9 n) ++ rest
+    by_number run None a h = cc
+    by_number run (Some k) a h =
+        let same : (k, drop (digit_count run) run) ≡ (n, rest) = some_same _ _ h in
+        sym (take-append-drop (digit_count run) run) ∙ ap (λ v. v ++ drop (digit_count run) run) (number_written (take (digit_count run) run) k a)
+        ∙ ap (λ (v : ℕ × List ℕ). without_zeros (digits 9 v.0) ++ v.1) same
+
+    by_dash : (o : Option (List ℕ)) → behind (45 ∷ []) text ≡ o → option_and_then number_in o ≡ Some (n, rest) → text ≡ 45 ∷ (without_zeros (digits 9 n) ++ rest)
+    by_dash None a h = cc
+    by_dash (Some run) a h = behind_some (45 ∷ []) text run a ∙ ap (λ v. 45 ∷ v) (by_number run (number_of (take (digit_count run) run)) refl h)
 
 regrouped : (a b t n r : List ℕ) → (a ++ 45 ∷ b ++ 45 ∷ []) ++ (t ++ 45 ∷ (n ++ r)) ≡ a ++ 45 ∷ (b ++ 45 ∷ (t ++ 45 ∷ n)) ++ r
 regrouped a b t n r = simp append_assoc
@@ -97,12 +98,26 @@ snapshot_written artifact directory base name e h =
     let front = behind_some (artifact ++ 45 ∷ base ++ 45 ∷ []) name text (ok_or_some _ fault.NotNamed text b.first) in
     let s = bound (cond (is_literal text) (Err fault.LiteralSnapshot) (ok_or (time_of (take 15 text)) fault.BadStamp)) _ e b.next in
     after_stamp artifact directory base name text s.value e front (ok_or_some _ fault.BadStamp s.value (not_literal (is_literal text) _ s.value s.first)) s.next
- where
-  not_literal : (t : Bool) (r : Result CivilTime PathFault) (v : CivilTime) → cond t (Err fault.LiteralSnapshot) r ≡ Ok v → r ≡ Ok v
-  not_literal true r v h = cc
-  not_literal false r v h = h
+  where
+    not_literal : (t : Bool) (r : Result CivilTime PathFault) (v : CivilTime) → cond t (Err fault.LiteralSnapshot) r ≡ Ok v → r ≡ Ok v
+    not_literal true r v h = cc
+    not_literal false r v h = h
 
 -- a file's name is the one of what it tells
 pub ending_written : (artifact directory name : List ℕ) (base : Option (List ℕ)) (e : Ending) → ending_in artifact directory name base ≡ Ok e → name ≡ NameFor artifact directory base e
 ending_written artifact directory name None e h = release_written artifact directory name e h
 ending_written artifact directory name (Some base) e h = snapshot_written artifact directory base name e h
+
+built : (build : Option BuildOf) (text : List ℕ) (e : Ending) → ending_of build text ≡ Ok e → is_some e.build ≡ is_some build
+built build text e h = ap is_some (ending_parts build text e h).1
+
+-- a file has a build exactly where its version directory has a base
+pub build_for_base : (artifact directory name : List ℕ) (base : Option (List ℕ)) (e : Ending) → ending_in artifact directory name base ≡ Ok e → is_some e.build ≡ is_some base
+build_for_base artifact directory name None e h =
+    let b = bound (ok_or (behind (artifact ++ 45 ∷ directory) name) fault.NotNamed) (ending_of None) e h in
+    built None b.value e b.next
+build_for_base artifact directory name (Some base) e h =
+    let b = bound (ok_or (behind (artifact ++ 45 ∷ base ++ 45 ∷ []) name) fault.NotNamed) _ e h in
+    let s = bound (cond (is_literal b.value) (Err fault.LiteralSnapshot) (ok_or (time_of (take 15 b.value)) fault.BadStamp)) _ e b.next in
+    let n = bound (ok_or (numbered (drop 15 b.value)) fault.BadBuild) (λ number. ending_of (Some (record { stamp = s.value; number = number.0 })) number.1) e s.next in
+    built (Some (record { stamp = s.value; number = n.value.0 })) n.value.1 e n.next

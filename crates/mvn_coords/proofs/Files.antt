@@ -1,22 +1,17 @@
 -- What a path's segments name has the path that was cut.
-use Rattle.std.proofs.Common.{◌≡◌, ℕ, zero, suc, ◌+◌, ◌-◌, ◌<◌, ◌≤◌, Bool, true, false, cond, not, ◌&&◌, ◌||◌, eqb, ltb, List, [], ◌∷◌, ◌++◌, length, get_or, Option, Some, None, is_some, Result, Ok, Err, codes, refl, ap, sym, ◌∙◌, arith}
+use Rattle.std.proofs.Common.{◌≡◌, ℕ, suc, ◌+◌, ◌<◌, ◌≤◌, true, false, cond, eqb, ltb, List, [], ◌∷◌, ◌++◌, length, get_or, None, Ok, Err, codes, refl, ap, sym, ◌∙◌, arith, is_some}
 use Rattle.std.specs.List.{list_all, ends_with}
 use Rattle.std.specs.Str.{bytes_eq}
-use Rattle.std.proofs.lemmas.Bool.{and_parts, and_from, or_parts, false≢true, lt-ltb, ltb-true, leb-true, ltb-false, not-true, not_from_false, false_from_ne_true, ne_eqb, le-ltb, le-leb}
-use Rattle.std.proofs.lemmas.List.{append_assoc, append-nil, length-append}
-use Rattle.std.proofs.lemmas.List.Folds.{list_all-append}
+use Rattle.std.proofs.lemmas.Bool.{and_from, or_parts, lt-ltb, not_from_false, false_from_ne_true, ne_eqb, le-ltb, le-leb}
+use Rattle.std.proofs.lemmas.List.{append_assoc, length-append}
 use Rattle.std.proofs.lemmas.Slice.Eq.{bytes_eq-Decides}
-use Rattle.mvn_coords.specs.declared.fault.PathFault.{PathFault}
 use Rattle.mvn_coords.specs.declared.fault.PathFault.TheVariants as fault
-use Rattle.mvn_coords.specs.declared.fault.Side.{Side}
-use Rattle.mvn_coords.specs.declared.fault.Side.TheVariants.{Sha1, Md5}
-use Rattle.mvn_coords.specs.Segment.{Segment, levels, path_of_levels, is_segment, is_path_byte, is_artifact}
-use Rattle.mvn_coords.specs.FileName.{Ending, ◌>>=◌, before, base_of, ending_in, is_filled}
-use Rattle.mvn_coords.specs.Layout.{Coordinates, Directory, Named, file, document, may_stand, all_groups, coordinates_of, with_ending, file_in, file_of, version_with, tail_text, version_directory_of, name_of, artifact_directory, snapshot_directory, directory_of, named, text_of, text_of_directory, text_of_document}
-use Rattle.mvn_coords.specs.Path.{Cut, cut_off, cut_by, cut_side, has_suffix, has_other_suffix, suffix_of, Parts, parts_by, parts_of, IsFile, IsDirectory, IsPlain, IsBelow}
-use Rattle.mvn_coords.proofs.Cuts.{before_some}
-use Rattle.mvn_coords.proofs.Levels.{Whole, Filled, filled, below, one_segment, levels_longer, path_of_levels-levels}
-use Rattle.mvn_coords.proofs.Endings.{NameFor, ending_written}
+use Rattle.mvn_coords.specs.Segment.{Segment, levels, path_of_levels, is_segment, is_path_byte}
+use Rattle.mvn_coords.specs.FileName.{Ending, ◌>>=◌, base_of, ending_in}
+use Rattle.mvn_coords.specs.Layout.{Coordinates, Named, file, document, may_stand, coordinates_of, with_ending, file_in, file_of, version_with, tail_text, version_directory_of, name_of, directory_of, named, text_of}
+use Rattle.mvn_coords.specs.Path.{has_other_suffix, parts_of, IsFile, IsPlain, IsBelow}
+use Rattle.mvn_coords.proofs.Levels.{Filled, filled, below, path_of_levels-levels}
+use Rattle.mvn_coords.proofs.Endings.{ending_written, build_for_base}
 use Rattle.mvn_coords.proofs.Results.{bound, chosen, ok_same}
 
 abbrev metadata : List ℕ
@@ -94,14 +89,15 @@ spelled_segment name a rest e bytes size =
     and_from _ _ (and_from _ _ (and_from _ _ (and_from _ _ (lt-ltb 0 (length name) (omega arith)) (le-leb (length name) 255 size))
     (not_from_false _ (false_from_ne_true _ (λ t. one_dot a rest (sym e ∙ (bytes_eq-Decides name (46 ∷ [])).0 t)))))
     (not_from_false _ (false_from_ne_true _ (λ t. two_dots a rest (sym e ∙ (bytes_eq-Decides name (46 ∷ 46 ∷ [])).0 t))))) bytes
- where
-  one_dot : (a rest : List ℕ) → a ++ 45 ∷ rest ≡ 46 ∷ [] → ⊥
-  one_dot [] rest e = let first : ◌≡◌ {A = ℕ} 45 46 = ap (λ (l : List ℕ). get_or l 0 0) e in omega arith
-  one_dot (x ∷ a) rest e = omega (arith, ap length e, length-append a (45 ∷ rest))
-  two_dots : (a rest : List ℕ) → a ++ 45 ∷ rest ≡ 46 ∷ 46 ∷ [] → ⊥
-  two_dots [] rest e = let first : ◌≡◌ {A = ℕ} 45 46 = ap (λ (l : List ℕ). get_or l 0 0) e in omega arith
-  two_dots (x ∷ []) rest e = let second : ◌≡◌ {A = ℕ} 45 46 = ap (λ (l : List ℕ). get_or l 1 0) e in omega arith
-  two_dots (x ∷ y ∷ a) rest e = omega (arith, ap length e, length-append a (45 ∷ rest))
+  where
+    one_dot : (a rest : List ℕ) → a ++ 45 ∷ rest ≡ 46 ∷ [] → ⊥
+    one_dot [] rest e = let first : ◌≡◌ {A = ℕ} 45 46 = ap (λ (l : List ℕ). get_or l 0 0) e in omega arith
+    one_dot (x ∷ a) rest e = omega (arith, ap length e, length-append a (45 ∷ rest))
+
+    two_dots : (a rest : List ℕ) → a ++ 45 ∷ rest ≡ 46 ∷ 46 ∷ [] → ⊥
+    two_dots [] rest e = let first : ◌≡◌ {A = ℕ} 45 46 = ap (λ (l : List ℕ). get_or l 0 0) e in omega arith
+    two_dots (x ∷ []) rest e = let second : ◌≡◌ {A = ℕ} 45 46 = ap (λ (l : List ℕ). get_or l 1 0) e in omega arith
+    two_dots (x ∷ y ∷ a) rest e = omega (arith, ap length e, length-append a (45 ∷ rest))
 
 -- a path without a side suffix, all of whose segments may stand, is judged by what they name
 pub parts_of_plain : (path : List ℕ) (thing : Named) → 0 < length path → IsPlain path → list_all is_segment (levels path) ≡ true → named (levels path) ≡ Ok thing → parts_of path ≡ Ok (record { thing = thing; side = None })
@@ -132,9 +128,9 @@ keeps_file path c plain name h =
 -- the steps by which a path is judged a file
 four : (ls : List Segment) (name version artifact : Segment) (group : List ℕ) → ls ≡ name ∷ version ∷ artifact ∷ levels group → file_of ls ≡ file_in name version artifact (levels group)
 four ls name version artifact group e = ap file_of e ∙ by_group (filled group)
- where
-  by_group : Filled group → file_of (name ∷ version ∷ artifact ∷ levels group) ≡ file_in name version artifact (levels group)
-  by_group f = rw f.split refl
+  where
+    by_group : Filled group → file_of (name ∷ version ∷ artifact ∷ levels group) ≡ file_in name version artifact (levels group)
+    by_group f = rw f.split refl
 
 pub file_refused : (ls : List Segment) (name version artifact : Segment) (group : List ℕ) → ls ≡ name ∷ version ∷ artifact ∷ levels group → may_stand (levels group) artifact version ≡ false → file_of ls ≡ Err fault.BadSegment
 file_refused ls name version artifact group e h =
@@ -152,3 +148,9 @@ named_file path above name c place other h =
     ap named place.split
     ∙ ap (λ t. cond t (directory_of (levels above) >>= λ d. Ok (document d)) (file_of (name ∷ levels above) >>= λ k. Ok (file k))) other
     ∙ ap (λ r. r >>= λ k. Ok (file k)) (ap file_of (sym place.split) ∙ h)
+
+pub file_build : (ls : List Segment) (c : Coordinates) → file_of ls ≡ Ok c → is_some c.build ≡ is_some (base_of c.directory)
+file_build ls c h =
+    let p = file_parts ls c h in
+    let own : is_some p.ending.build ≡ is_some (base_of p.directory) = build_for_base p.artifact p.directory p.name (base_of p.directory) p.ending p.ended in
+    ap (λ (k : Coordinates). is_some k.build) (sym p.value) ∙ own ∙ ap (λ (k : Coordinates). is_some (base_of k.directory)) p.value

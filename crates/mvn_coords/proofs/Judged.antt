@@ -1,15 +1,14 @@
 -- The steps by which a path gets its kind.
-use Rattle.std.proofs.Common.{◌≡◌, ℕ, Bool, true, false, cond, not, eqb, ltb, List, [], ◌∷◌, length, Option, Result, Ok, Err, codes, refl, ap, sym, ◌∙◌, arith, ◌≤◌}
+use Rattle.std.proofs.Common.{◌≡◌, ℕ, Bool, true, false, cond, eqb, ltb, List, [], ◌∷◌, length, Option, Result, Ok, Err, codes, refl, ap, sym, ◌∙◌}
 use Rattle.std.specs.List.{list_all}
 use Rattle.std.specs.Str.{bytes_eq}
 use Rattle.mvn_coords.specs.declared.fault.PathFault.{PathFault}
 use Rattle.mvn_coords.specs.declared.fault.PathFault.TheVariants as fault
 use Rattle.mvn_coords.specs.declared.fault.Side.{Side}
-use Rattle.mvn_coords.specs.declared.kind.Kind.{Kind}
 use Rattle.mvn_coords.specs.Segment.{Segment, levels, is_segment}
 use Rattle.mvn_coords.specs.FileName.{◌>>=◌}
-use Rattle.mvn_coords.specs.Layout.{Coordinates, Directory, Named, file, document, file_of, directory_of, named}
-use Rattle.mvn_coords.specs.Path.{Cut, Parts, parts_by, parts_of, cut_side}
+use Rattle.mvn_coords.specs.Layout.{Coordinates, Directory, file, document, file_of, directory_of, named}
+use Rattle.mvn_coords.specs.Path.{Cut, Parts, parts_of, cut_side}
 use Rattle.mvn_coords.specs.Kind.{with_side, kind_of_parts, kind, kind_by}
 
 -- what is named, as a kind
@@ -38,10 +37,10 @@ pub kind_short : (cut : Cut) (name : Segment) → levels cut.path ≡ name ∷ [
 kind_short cut name e =
     ap (λ ls. (named ls >>= λ thing. Ok (record { thing = thing; side = cut.side })) >>= λ (p : Parts). Ok (kind_of_parts p)) e
     ∙ by_name (bytes_eq name (codes "maven-metadata.xml"))
- where
-  by_name : (t : Bool) → ((cond t (directory_of [] >>= λ d. Ok (document d)) (file_of (name ∷ []) >>= λ c. Ok (file c)) >>= λ thing. Ok (record { thing = thing; side = cut.side })) >>= λ (p : Parts). Ok (kind_of_parts p)) ≡ Err fault.Short
-  by_name true = refl
-  by_name false = refl
+  where
+    by_name : (t : Bool) → ((cond t (directory_of [] >>= λ d. Ok (document d)) (file_of (name ∷ []) >>= λ c. Ok (file c)) >>= λ thing. Ok (record { thing = thing; side = cut.side })) >>= λ (p : Parts). Ok (kind_of_parts p)) ≡ Err fault.Short
+    by_name true = refl
+    by_name false = refl
 
 -- the steps before a path is cut
 pub kind_cut : (path : List ℕ) (cut : Cut) → eqb (length path) 0 ≡ false → ltb 1024 (length path) ≡ false → list_all is_segment (levels path) ≡ true → cut_side path ≡ Ok cut → kind path ≡ kind_by cut

@@ -1,8 +1,8 @@
 -- A path that the rule takes is the one path of what it names.
-use Rattle.std.proofs.Common.{◌≡◌, ℕ, zero, suc, ◌+◌, ◌<◌, ◌≤◌, Bool, true, false, cond, not, ◌&&◌, ◌||◌, eqb, ltb, leb, List, [], ◌∷◌, ◌++◌, length, Option, Some, None, Result, Ok, Err, IfOk, codes, refl, ap, sym, subst, ◌∙◌, arith}
-use Rattle.std.specs.List.{list_all, ends_with}
+use Rattle.std.proofs.Common.{◌≡◌, ℕ, ◌≤◌, Bool, true, false, cond, not, eqb, ltb, leb, List, [], ◌∷◌, ◌++◌, length, Option, Some, None, Result, Ok, Err, IfOk, codes, refl, ap, sym, subst, ◌∙◌, arith, is_some}
+use Rattle.std.specs.List.{list_all}
 use Rattle.std.specs.Str.{bytes_eq}
-use Rattle.std.proofs.lemmas.Bool.{and_parts, or_from, ltb-false, leb-true, not-false}
+use Rattle.std.proofs.lemmas.Bool.{and_parts, or_from, ltb-false, leb-true}
 use Rattle.std.proofs.lemmas.List.{append-nil, length-append}
 use Rattle.std.proofs.lemmas.List.Folds.{list_all-append}
 use Rattle.std.proofs.lemmas.Slice.Eq.{bytes_eq-Decides}
@@ -13,15 +13,15 @@ use Rattle.mvn_coords.specs.declared.fault.Side.TheVariants.{Sha1, Md5}
 use Rattle.mvn_coords.specs.declared.kind.Kind.{Kind}
 use Rattle.mvn_coords.specs.declared.kind.Kind.TheVariants.{File, FileSide, Doc, DocSide}
 use Rattle.mvn_coords.specs.Segment.{Segment, levels, is_segment, is_path_byte}
-use Rattle.mvn_coords.specs.FileName.{◌>>=◌, before}
+use Rattle.mvn_coords.specs.FileName.{◌>>=◌, before, base_of}
 use Rattle.mvn_coords.specs.Layout.{Coordinates, Directory, Named, file, document, file_of, directory_of, named, text_of, text_of_document}
-use Rattle.mvn_coords.specs.Path.{Cut, cut_off, cut_by, cut_side, has_suffix, has_other_suffix, suffix_of, Parts, parts_by, parts_of, IsPlain, IsBelow, IsFile, IsDirectory}
-use Rattle.mvn_coords.specs.Kind.{with_side, kind_of_parts, kind, kind_by, text_of_kind, IsExact}
+use Rattle.mvn_coords.specs.Path.{Cut, cut_by, cut_side, has_suffix, has_other_suffix, suffix_of, Parts, parts_by, parts_of, IsPlain, IsBelow, IsFile, IsDirectory}
+use Rattle.mvn_coords.specs.Kind.{with_side, kind_of_parts, kind, text_of_kind, IsExact}
 use Rattle.mvn_coords.proofs.Cuts.{before_some, before_none}
 use Rattle.mvn_coords.proofs.Levels.{Whole, Filled, filled, levels_longer, below}
-use Rattle.mvn_coords.proofs.Files.{keeps_file}
+use Rattle.mvn_coords.proofs.Files.{keeps_file, file_build}
 use Rattle.mvn_coords.proofs.Documents.{keeps_directory}
-use Rattle.mvn_coords.proofs.Results.{bound, chosen, ok_same}
+use Rattle.mvn_coords.proofs.Results.{bound, ok_same}
 
 -- the text that a side adds
 abbrev pub side_text : Option Side → List ℕ
@@ -40,22 +40,24 @@ pub record IsCut (path : List ℕ) (cut : Cut) : Type 0 where
 
 pub is_cut : (path : List ℕ) (cut : Cut) → cut_side path ≡ Ok cut → IsCut path cut
 is_cut path cut h = by_other (has_other_suffix path) refl h
- where
-  off : (side : Side) (rest : List ℕ) (t : Bool) → has_suffix rest ≡ t → path ≡ rest ++ suffix_of side → cond t (Err fault.BadSide) (Ok (record { path = rest; side = Some side })) ≡ Ok cut → IsCut path cut
-  off side rest true e j h = cc
-  off side rest false e j h =
-      let same : record { path = rest; side = Some side } ≡ cut = ok_same _ _ h in
-      subst (λ (c : Cut). IsCut path c) same (record { joined = j; plain = e })
-  by_ends : (o p : Option (List ℕ)) → has_other_suffix path ≡ false → before (codes ".sha1") path ≡ o → before (codes ".md5") path ≡ p → cut_by path o p ≡ Ok cut → IsCut path cut
-  by_ends (Some rest) p e a b h = off Sha1 rest (has_suffix rest) refl (before_some (codes ".sha1") path rest a) h
-  by_ends None (Some rest) e a b h = off Md5 rest (has_suffix rest) refl (before_some (codes ".md5") path rest b) h
-  by_ends None None e a b h =
-      let same : record { path = path; side = None } ≡ cut = ok_same _ _ h in
-      let plain : has_suffix path ≡ false = or_from _ _ (or_from _ _ e (before_none (codes ".sha1") path a)) (before_none (codes ".md5") path b) in
-      subst (λ (c : Cut). IsCut path c) same (record { joined = sym (append-nil path); plain = plain })
-  by_other : (t : Bool) → has_other_suffix path ≡ t → cond t (Err fault.BadSide) (cut_by path (before (codes ".sha1") path) (before (codes ".md5") path)) ≡ Ok cut → IsCut path cut
-  by_other true e h = cc
-  by_other false e h = by_ends (before (codes ".sha1") path) (before (codes ".md5") path) e refl refl h
+  where
+    off : (side : Side) (rest : List ℕ) (t : Bool) → has_suffix rest ≡ t → path ≡ rest ++ suffix_of side → cond t (Err fault.BadSide) (Ok (record { path = rest; side = Some side })) ≡ Ok cut → IsCut path cut
+    off side rest true e j h = cc
+    off side rest false e j h =
+        let same : record { path = rest; side = Some side } ≡ cut = ok_same _ _ h in
+        subst (λ (c : Cut). IsCut path c) same (record { joined = j; plain = e })
+
+    by_ends : (o p : Option (List ℕ)) → has_other_suffix path ≡ false → before (codes ".sha1") path ≡ o → before (codes ".md5") path ≡ p → cut_by path o p ≡ Ok cut → IsCut path cut
+    by_ends (Some rest) p e a b h = off Sha1 rest (has_suffix rest) refl (before_some (codes ".sha1") path rest a) h
+    by_ends None (Some rest) e a b h = off Md5 rest (has_suffix rest) refl (before_some (codes ".md5") path rest b) h
+    by_ends None None e a b h =
+        let same : record { path = path; side = None } ≡ cut = ok_same _ _ h in
+        let plain : has_suffix path ≡ false = or_from _ _ (or_from _ _ e (before_none (codes ".sha1") path a)) (before_none (codes ".md5") path b) in
+        subst (λ (c : Cut). IsCut path c) same (record { joined = sym (append-nil path); plain = plain })
+
+    by_other : (t : Bool) → has_other_suffix path ≡ t → cond t (Err fault.BadSide) (cut_by path (before (codes ".sha1") path) (before (codes ".md5") path)) ≡ Ok cut → IsCut path cut
+    by_other true e h = cc
+    by_other false e h = by_ends (before (codes ".sha1") path) (before (codes ".md5") path) e refl refl h
 
 -- what is left of a path without its suffix is plain
 plain_last : (last end : List ℕ) → is_segment (last ++ end) ≡ true → (list_all is_path_byte last ≡ true) × (length last ≤ 255)
@@ -76,11 +78,11 @@ plain_cut path cut short ok c = record {
   bytes = λ name above e. (plain_last name (side_text cut.side) (parts name above e).0).0;
   size = λ name above e. (plain_last name (side_text cut.side) (parts name above e).0).1;
 }
- where
-  parts : (name : Segment) (above : List Segment) → levels cut.path ≡ name ∷ above → (is_segment (name ++ side_text cut.side) ≡ true) × (list_all is_segment above ≡ true)
-  parts name above e =
-      let longer : levels path ≡ (name ++ side_text cut.side) ∷ above = ap levels c.joined ∙ levels_longer cut.path (side_text cut.side) name above (side_whole cut.side) e in
-      and_parts (is_segment (name ++ side_text cut.side)) (list_all is_segment above) (sym (ap (list_all is_segment) longer) ∙ ok)
+  where
+    parts : (name : Segment) (above : List Segment) → levels cut.path ≡ name ∷ above → (is_segment (name ++ side_text cut.side) ≡ true) × (list_all is_segment above ≡ true)
+    parts name above e =
+        let longer : levels path ≡ (name ++ side_text cut.side) ∷ above = ap levels c.joined ∙ levels_longer cut.path (side_text cut.side) name above (side_whole cut.side) e in
+        and_parts (is_segment (name ++ side_text cut.side)) (list_all is_segment above) (sym (ap (list_all is_segment) longer) ∙ ok)
 
 -- the steps that a path passes
 pub record Passes (path : List ℕ) (p : Parts) : Type 0 where
@@ -94,29 +96,32 @@ pub record Passes (path : List ℕ) (p : Parts) : Type 0 where
 pub passes : (path : List ℕ) (p : Parts) → parts_of path ≡ Ok p → Passes path p
 unfolding parts_of
 passes path p h = by_length (eqb (length path) 0) h
- where
-  by_cut : length path ≤ 1024 → list_all is_segment (levels path) ≡ true → (cut_side path >>= parts_by) ≡ Ok p → Passes path p
-  by_cut short ok h =
-      let c = bound (cut_side path) parts_by p h in
-      let n = bound (named (levels c.value.path)) (λ thing. Ok (record { thing = thing; side = c.value.side })) p c.next in
-      let cut = is_cut path c.value c.first in
-      record {
-        cut = c.value;
-        thing = n.value;
-        is_cut = cut;
-        plain = plain_cut path c.value short ok cut;
-        named = n.first;
-        value = ok_same _ _ n.next;
-      }
-  by_segments : (t : Bool) → list_all is_segment (levels path) ≡ t → length path ≤ 1024 → cond (not t) (Err fault.BadSegment) (cut_side path >>= parts_by) ≡ Ok p → Passes path p
-  by_segments true e short h = by_cut short e h
-  by_segments false e short h = cc
-  by_long : (t : Bool) → ltb 1024 (length path) ≡ t → cond t (Err fault.Long) (cond (not (list_all is_segment (levels path))) (Err fault.BadSegment) (cut_side path >>= parts_by)) ≡ Ok p → Passes path p
-  by_long true e h = cc
-  by_long false e h = by_segments (list_all is_segment (levels path)) refl (ltb-false 1024 _ e) h
-  by_length : (t : Bool) → cond t (Err fault.Empty) (cond (ltb 1024 (length path)) (Err fault.Long) (cond (not (list_all is_segment (levels path))) (Err fault.BadSegment) (cut_side path >>= parts_by))) ≡ Ok p → Passes path p
-  by_length true h = cc
-  by_length false h = by_long (ltb 1024 (length path)) refl h
+  where
+    by_cut : length path ≤ 1024 → list_all is_segment (levels path) ≡ true → (cut_side path >>= parts_by) ≡ Ok p → Passes path p
+    by_cut short ok h =
+        let c = bound (cut_side path) parts_by p h in
+        let n = bound (named (levels c.value.path)) (λ thing. Ok (record { thing = thing; side = c.value.side })) p c.next in
+        let cut = is_cut path c.value c.first in
+        record {
+          cut = c.value;
+          thing = n.value;
+          is_cut = cut;
+          plain = plain_cut path c.value short ok cut;
+          named = n.first;
+          value = ok_same _ _ n.next;
+        }
+
+    by_segments : (t : Bool) → list_all is_segment (levels path) ≡ t → length path ≤ 1024 → cond (not t) (Err fault.BadSegment) (cut_side path >>= parts_by) ≡ Ok p → Passes path p
+    by_segments true e short h = by_cut short e h
+    by_segments false e short h = cc
+
+    by_long : (t : Bool) → ltb 1024 (length path) ≡ t → cond t (Err fault.Long) (cond (not (list_all is_segment (levels path))) (Err fault.BadSegment) (cut_side path >>= parts_by)) ≡ Ok p → Passes path p
+    by_long true e h = cc
+    by_long false e h = by_segments (list_all is_segment (levels path)) refl (ltb-false 1024 _ e) h
+
+    by_length : (t : Bool) → cond t (Err fault.Empty) (cond (ltb 1024 (length path)) (Err fault.Long) (cond (not (list_all is_segment (levels path))) (Err fault.BadSegment) (cut_side path >>= parts_by))) ≡ Ok p → Passes path p
+    by_length true h = cc
+    by_length false h = by_long (ltb 1024 (length path)) refl h
 
 -- what a path without a suffix names has that path, and is named by it
 abbrev pub text_of_named : Named → List ℕ
@@ -151,12 +156,13 @@ kept_document path thing name (next ∷ more) plain split same h =
 
 pub kept : (path : List ℕ) (thing : Named) → IsPlain path → named (levels path) ≡ Ok thing → IsKept path thing
 kept path thing plain h = by_last (filled path)
- where
-  by_name : (f : Filled path) (t : Bool) → bytes_eq f.last (codes "maven-metadata.xml") ≡ t → cond t (directory_of f.above >>= λ d. Ok (document d)) (file_of (f.last ∷ f.above) >>= λ c. Ok (file c)) ≡ Ok thing → IsKept path thing
-  by_name f true e h = kept_document path thing f.last f.above plain f.split ((bytes_eq-Decides f.last (codes "maven-metadata.xml")).0 e) h
-  by_name f false e g = kept_file path thing plain h (ap (λ ls. file_of ls >>= λ c. Ok (file c)) f.split ∙ g)
-  by_last : Filled path → IsKept path thing
-  by_last f = by_name f (bytes_eq f.last (codes "maven-metadata.xml")) refl (sym (ap named f.split) ∙ h)
+  where
+    by_name : (f : Filled path) (t : Bool) → bytes_eq f.last (codes "maven-metadata.xml") ≡ t → cond t (directory_of f.above >>= λ d. Ok (document d)) (file_of (f.last ∷ f.above) >>= λ c. Ok (file c)) ≡ Ok thing → IsKept path thing
+    by_name f true e h = kept_document path thing f.last f.above plain f.split ((bytes_eq-Decides f.last (codes "maven-metadata.xml")).0 e) h
+    by_name f false e g = kept_file path thing plain h (ap (λ ls. file_of ls >>= λ c. Ok (file c)) f.split ∙ g)
+
+    by_last : Filled path → IsKept path thing
+    by_last f = by_name f (bytes_eq f.last (codes "maven-metadata.xml")) refl (sym (ap named f.split) ∙ h)
 
 text_of_side : (thing : Named) (side : Option Side) → text_of_kind (with_side thing side) ≡ text_of_named thing ++ side_text side
 text_of_side (file c) None = sym (append-nil (text_of c))
@@ -211,3 +217,24 @@ exact = record {
 pub path_kept : (path : List ℕ) (r : Result Kind PathFault) → r ≡ kind path → IfOk r (λ k. text_of_kind k ≡ path)
 path_kept path (Ok k) h = exact_path path k (sym h)
 path_kept path (Err e) h = tt
+
+-- what a path names is a file only by the steps for files
+named_is_file : (path : List ℕ) (c : Coordinates) → named (levels path) ≡ Ok (file c) → file_of (levels path) ≡ Ok c
+named_is_file path c h = by_last (filled path)
+  where
+    by_name : (f : Filled path) (t : Bool) → cond t (directory_of f.above >>= λ d. Ok (document d)) (file_of (f.last ∷ f.above) >>= λ k. Ok (file k)) ≡ Ok (file c) → file_of (levels path) ≡ Ok c
+    by_name f true g = let b = bound (directory_of f.above) (λ d. Ok (document d)) (file c) g in cc
+    by_name f false g =
+        let b = bound (file_of (f.last ∷ f.above)) (λ k. Ok (file k)) (file c) g in
+        let same : file b.value ≡ file c = ok_same _ _ b.next in
+        let value : b.value ≡ c = cc in
+        ap file_of f.split ∙ b.first ∙ ap (λ (k : Coordinates). Ok k) value
+
+    by_last : Filled path → file_of (levels path) ≡ Ok c
+    by_last f = by_name f (bytes_eq f.last (codes "maven-metadata.xml")) (sym (ap named f.split) ∙ h)
+
+pub build_in_snapshots : (c : Coordinates) → IsFile c → is_some c.build ≡ is_some (base_of c.directory)
+build_in_snapshots c h =
+    let q = passes (text_of c) (record { thing = file c; side = None }) h in
+    let thing : q.thing ≡ file c = ap (λ (p : Parts). p.thing) q.value in
+    file_build (levels q.cut.path) c (named_is_file q.cut.path c (q.named ∙ ap (λ (t : Named). Ok t) thing))

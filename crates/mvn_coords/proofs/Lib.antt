@@ -10,3 +10,4 @@ pub mod Names
 pub mod Results
 pub mod Times
 pub mod Written
+pub mod StampLaws

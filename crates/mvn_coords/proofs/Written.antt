@@ -1,15 +1,15 @@
 -- Times and numbers are written as they are read.
-use Rattle.std.proofs.Common.{◌≡◌, ℕ, zero, suc, ◌+◌, ◌-◌, ◌*◌, ◌/◌, ◌%◌, ◌^◌, ◌<◌, ◌≤◌, Bool, true, false, cond, not, ◌&&◌, eqb, nat_le, nat_lt, List, [], ◌∷◌, ◌++◌, length, get_or, take, drop, slice_range, Option, Some, None, refl, ap, sym, ◌∙◌, arith, lit<, add-one, add-zero, add-suc}
+use Rattle.std.proofs.Common.{◌≡◌, ℕ, zero, suc, ◌+◌, ◌-◌, ◌*◌, ◌/◌, ◌%◌, ◌^◌, ◌<◌, ◌≤◌, true, false, not, eqb, nat_le, nat_lt, List, [], ◌∷◌, ◌++◌, length, get_or, take, drop, Some, refl, ap, sym, ◌∙◌, arith, lit<, add-zero, add-suc}
 use Rattle.std.specs.Char.{is_ascii_digit}
-use Rattle.std.specs.List.{starts_with, list_all}
-use Rattle.std.proofs.lemmas.Bool.{and_parts, eqb-true, ltb-true, leb-true, not-true, false≢true, ne_eqb}
-use Rattle.std.proofs.lemmas.List.{take-append-drop, length-take-le, length-drop, drop_more, append_assoc, length_push, append-nil, drop-drop, nil_from_length, take_all}
+use Rattle.std.specs.List.{starts_with}
+use Rattle.std.proofs.lemmas.Bool.{and_parts, eqb-true, leb-true, not-true, false≢true, ne_eqb}
+use Rattle.std.proofs.lemmas.List.{take-append-drop, length-take-le, length-drop, drop_more, append_assoc, length_push, drop-drop, nil_from_length, take_all}
 use Rattle.std.proofs.lemmas.List.Folds.{list_all-append}
 use Rattle.std.proofs.Math.Nat.{pow-suc, pow-le-pow_right}
 use Rattle.mvn_coords.specs.Civil.{CivilTime, is_civil, time_of, is_time_form, fields_of, if_civil, text_of_time, digits, decimal, are_digits}
 use Rattle.mvn_coords.specs.FileName.{number_of}
 use Rattle.mvn_coords.specs.Layout.{without_zeros}
-use Rattle.mvn_coords.proofs.Digits.{decimal_push, digit_bounds, are_digits-take, are_digits-drop, decimal-digits, decimal_below}
+use Rattle.mvn_coords.proofs.Digits.{decimal_push, digit_bounds, are_digits-take, are_digits-drop, decimal_below}
 use Rattle.mvn_coords.proofs.Results.{chosen_some, some_same}
 
 -- a list is empty, or has a last element
@@ -20,10 +20,10 @@ data Ended : List ℕ → Type 0 where
 ended : (xs : List ℕ) → Ended xs
 ended [] = none
 ended (x ∷ xs) = onto x (ended xs)
- where
-  onto : (x : ℕ) {xs : List ℕ} → Ended xs → Ended (x ∷ xs)
-  onto x none = more [] x
-  onto x (more xs y) = more (x ∷ xs) y
+  where
+    onto : (x : ℕ) {xs : List ℕ} → Ended xs → Ended (x ∷ xs)
+    onto x none = more [] x
+    onto x (more xs y) = more (x ∷ xs) y
 
 -- one more digit at the end
 digits_ended : (n : ℕ) (ds : List ℕ) → ((xs : List ℕ) → length xs ≡ n → are_digits xs ≡ true → digits n (decimal xs) ≡ xs) → length ds ≡ suc n → are_digits ds ≡ true → Ended ds → digits (suc n) (decimal ds) ≡ ds

@@ -1,5 +1,5 @@
 -- A civil time: a day of the proleptic Gregorian calendar of ISO 8601 and a time of day to the second, and its text `yyyyMMdd.HHmmss`, the timestamp of a unique snapshot in the Maven 2 repository layout.
-use Rattle.std.specs.Prelude.{◌≡◌, ℕ, zero, suc, ◌+◌, ◌-◌, ◌*◌, ◌/◌, ◌%◌, Bool, ◌&&◌, ◌==◌, nat_le, if◌then◌else◌, List, [], ◌∷◌, ◌++◌, length, take, drop, fold, slice_index, slice_range, Option, Some, None, ℤ, pos, ◌+ℤ◌, ◌*ℤ◌, unsigned_abs}
+use Rattle.std.specs.Prelude.{◌≡◌, ◌↔◌, ℕ, zero, suc, ◌+◌, ◌-◌, ◌*◌, ◌/◌, ◌%◌, Bool, true, ◌&&◌, ◌==◌, nat_le, if◌then◌else◌, List, [], ◌∷◌, ◌++◌, length, take, drop, fold, slice_index, slice_range, Option, Some, None, ℤ, pos, ◌+ℤ◌, ◌*ℤ◌, unsigned_abs}
 use Rattle.jiff_core.specs.declared.civil.datetime.DateTime.{DateTime}
 use Rattle.std.specs.Char.{is_ascii_digit}
 use Rattle.std.specs.List.{list_all}
@@ -76,3 +76,7 @@ shown c = record {
   minute = c.time.minute;
   second = c.time.second;
 }
+
+-- a text writes a civil time exactly where it is that time's text
+abbrev pub IsExactText : Type 0
+IsExactText = (text : List ℕ) (t : CivilTime) → (time_of text ≡ Some t) ↔ ((is_civil t ≡ true) × (text ≡ text_of_time t))

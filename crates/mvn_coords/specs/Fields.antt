@@ -1,5 +1,5 @@
 -- What clauses see of the types that this crate keeps private: a file's coordinates, a directory, a build, a civil time and a file name's ending, without the texts that they are cut from.
-use Rattle.std.specs.Prelude.{◌≡◌, Bool, ◌&&◌, nat_le, IsTrue, List}
+use Rattle.std.specs.Prelude.{◌≡◌}
 use Rattle.std.specs.Option.{option_copied}
 use Rattle.mvn_coords.specs.declared.coord.Coord.TheInside.{Inside as CoordInside}
 use Rattle.mvn_coords.specs.declared.coord.Dir.TheInside.{Inside as DirInside}

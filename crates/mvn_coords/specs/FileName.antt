@@ -1,11 +1,11 @@
 -- The name of a file in its version directory (Maven 2 repository layout): `artifact-version` with an extension, or with a classifier and an extension; in a snapshot directory the version is that of a unique snapshot, `base-yyyyMMdd.HHmmss-number`.
-use Rattle.std.specs.Prelude.{◌≡◌, ℕ, ◌+◌, ◌-◌, Bool, true, false, not, cond, ◌&&◌, ◌||◌, ◌==◌, nat_eq, nat_le, nat_lt, if◌then◌else◌, List, [], ◌∷◌, ◌++◌, length, take, drop, Option, Some, None, option_and_then, unwrap_or, Result, Ok, Err, codes}
+use Rattle.std.specs.Prelude.{ℕ, ◌-◌, Bool, true, not, ◌&&◌, ◌||◌, ◌==◌, nat_eq, nat_le, nat_lt, if◌then◌else◌, List, [], ◌∷◌, ◌++◌, length, take, drop, Option, Some, None, option_and_then, unwrap_or, Result, Ok, Err, codes}
 use Rattle.std.specs.Char.{is_ascii_digit}
 use Rattle.std.specs.List.{list_all, starts_with, ends_with, before_first, after_first, position}
 use Rattle.std.specs.Option.{ok_or, option_map}
 use Rattle.mvn_coords.specs.declared.fault.PathFault.{PathFault}
 use Rattle.mvn_coords.specs.declared.fault.PathFault.TheVariants as fault
-use Rattle.mvn_coords.specs.Civil.{CivilTime, is_civil, time_of, decimal}
+use Rattle.mvn_coords.specs.Civil.{CivilTime, time_of, decimal}
 
 -- one step after another, up to the first that refuses
 infixl 10 ◌>>=◌
@@ -103,7 +103,7 @@ abbrev pub snapshot_ending : List ℕ → List ℕ → List ℕ → Result Endin
 snapshot_ending artifact base name = do
   text ← ok_or (behind (artifact ++ 45 ∷ base ++ 45 ∷ []) name) fault.NotNamed
   stamp ← (if is_literal text then Err fault.LiteralSnapshot
-    else ok_or (time_of (take 15 text)) fault.BadStamp)
+      else ok_or (time_of (take 15 text)) fault.BadStamp)
   number ← ok_or (numbered (drop 15 text)) fault.BadBuild
   ending_of (Some (record { stamp = stamp; number = number.0 })) number.1
 

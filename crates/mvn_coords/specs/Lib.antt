@@ -6,3 +6,4 @@ pub mod Kind
 pub mod Layout
 pub mod Path
 pub mod Segment
+pub mod Worked

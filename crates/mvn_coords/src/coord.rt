@@ -31,6 +31,7 @@ impl<'a> Model for Coord<'a> {
 }
 
 impl<'a> Coord<'a> {
+    ghost use Rattle.mvn_coords.specs.FileName.{base_of};
     ghost use Rattle.mvn_coords.specs.Layout.{coordinates_of, text_of};
     ghost use Rattle.mvn_coords.specs.Path.{IsFile};
 
@@ -96,9 +97,10 @@ impl<'a> Coord<'a> {
         self.build
     }
 
-    /// Whether the file lies in a snapshot directory.
+    /// Whether the file lies in a snapshot directory, `X-SNAPSHOT`; just then it has a build.
     pub fn is_snapshot(&self) -> bool
-        ensures { result ≡ is_some self.now.build }
+        ensures directory { result ≡ is_some (base_of self.now.directory) }
+        ensures build { result ≡ is_some self.now.build }
     {
         self.build.is_some()
     }

@@ -19,9 +19,9 @@ pub use build::{Build, build_number};
 pub use coord::{Coord, Dir};
 pub use fault::{PathFault, Side};
 pub use kind::Kind;
-pub use read::{exact_paths, kind_of, path_of};
+pub use read::{exact_paths, kind_of, path_of, worked_paths};
 pub use segment::{is_artifact, is_group_segment, is_segment, is_version_directory};
-pub use stamp::Stamp;
+pub use stamp::{Stamp, exact_stamps};
 use std::alloc::AllocError;
 
 /// Memory was wanting.

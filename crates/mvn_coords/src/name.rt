@@ -88,11 +88,7 @@ fn ending_with(build: Option<Build>, text: &str) -> Result<Ending<'_>, PathFault
 }
 
 /// The ending of a name in a version directory of a release.
-fn release<'a>(
-    artifact: &str,
-    directory: &str,
-    name: &'a str,
-) -> Result<Ending<'a>, PathFault>
+fn release<'a>(artifact: &str, directory: &str, name: &'a str) -> Result<Ending<'a>, PathFault>
     ensures { result ≡ spec.release_ending artifact.now directory.now name.now }
 {
     let text = behind_version(artifact, directory, name).ok_or(PathFault::NotNamed)?;
@@ -150,11 +146,7 @@ fn split_stamp(text: &str) -> Option<(&str, &str)>
 }
 
 /// The ending of a name in the version directory base-SNAPSHOT.
-fn snapshot<'a>(
-    artifact: &str,
-    base: &str,
-    name: &'a str,
-) -> Result<Ending<'a>, PathFault>
+fn snapshot<'a>(artifact: &str, base: &str, name: &'a str) -> Result<Ending<'a>, PathFault>
     ensures { result ≡ spec.snapshot_ending artifact.now base.now name.now }
 {
     let text = behind_base(artifact, base, name).ok_or(PathFault::NotNamed)?;

@@ -5,6 +5,7 @@ ghost use Rattle.std.specs.Str.{bytes_eq};
 ghost use Rattle.mvn_coords.specs.Segment as segment;
 ghost use Rattle.mvn_coords.specs.Layout as layout;
 ghost use Rattle.mvn_coords.specs.Path as path_rule;
+ghost use Rattle.mvn_coords.specs.Worked.{WorkedPaths};
 ghost use Rattle.mvn_coords.specs.Kind.{kind, kind_by, text_of_kind, with_side, IsExact};
 
 use crate::name::{base_of, ending_in};
@@ -53,6 +54,11 @@ pub fn path_of(alloc: Global, c: &Coord<'_>) -> Result<String, NoMemory>
 /// file or document that it stands beside.
 pub fn exact_paths()
     ensures { IsExact }
+{}
+
+/// Kinds of paths, written out.
+pub fn worked_paths()
+    ensures { WorkedPaths }
 {}
 
 /// Whether each part between slashes is a segment.

@@ -1,5 +1,6 @@
 ghost use Rattle.std.specs.Prelude.{◌≡◌, ◌≤◌, ◌+◌, ◌%◌, ◌^◌, ◌<◌, pos, ◌≤ℤ◌, length, IsTrue};
 ghost use Rattle.mvn_coords.specs.Civil as spec;
+ghost use Rattle.mvn_coords.specs.Civil.{IsExactText};
 
 use jiff::Timestamp;
 use jiff::civil::DateTime;
@@ -147,6 +148,11 @@ impl Stamp {
         }
     }
 }
+
+/// Reading and writing a stamp's text are each other's inverse.
+pub fn exact_stamps()
+    ensures { IsExactText }
+{}
 
 /// The last decimal digit of a number, in ASCII.
 fn digit(number: u16) -> u8

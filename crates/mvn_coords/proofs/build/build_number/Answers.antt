@@ -1,4 +1,4 @@
-use Rattle.std.proofs.Common.{◌∙◌, ◌≡◌, ◌∷◌, [], ◌<◌, ◌≤◌, length, sym, arith, false, true, nat_eq, rules}
+use Rattle.std.proofs.Common.{◌∙◌, ◌≡◌, ◌∷◌, [], ◌<◌, length, sym, arith, false, true, nat_eq}
 use Rattle.std.specs.List.{starts_with}
 use Rattle.std.proofs.lemmas.Str.Pattern.{starts_text}
 use Rattle.std.proofs.lemmas.Grind.{common_steps}

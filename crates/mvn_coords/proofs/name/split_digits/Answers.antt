@@ -1,4 +1,3 @@
-use Rattle.std.specs.Str.{IsCharBoundary}
 use Rattle.mvn_coords.proofs.Names.{digits_boundary}
 use Rattle.mvn_coords.proofs.name.split_digits.Goals as goal
 

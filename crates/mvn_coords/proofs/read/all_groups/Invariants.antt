@@ -1,4 +1,4 @@
-use Rattle.std.proofs.Common.{◌≡◌, ℕ, length}
+use Rattle.std.proofs.Common.{◌≡◌, length}
 use Rattle.mvn_coords.specs.Segment.{levels}
 use Rattle.mvn_coords.specs.Layout.{all_groups}
 use denote.Shadow.{shadow}

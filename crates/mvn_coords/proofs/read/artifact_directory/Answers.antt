@@ -1,6 +1,6 @@
-use Rattle.std.proofs.Common.{◌≡◌, ◌∙◌, sym, ap, Ok, None}
+use Rattle.std.proofs.Common.{◌∙◌, sym, ap, Ok, None}
 use Rattle.mvn_coords.specs.Segment.{levels}
-use Rattle.mvn_coords.specs.Layout.{directory, directory_of}
+use Rattle.mvn_coords.specs.Layout.{directory}
 use Rattle.mvn_coords.proofs.Documents.{artifact_judged, keeps_directory}
 use Rattle.mvn_coords.proofs.read.artifact_directory.Goals as goal
 

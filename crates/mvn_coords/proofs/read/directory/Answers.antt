@@ -1,7 +1,7 @@
-use Rattle.std.proofs.Common.{◌≡◌, ◌∷◌, [], ◌∙◌, sym, ap, Ok, None, Some, true, false, not, is_some}
+use Rattle.std.proofs.Common.{◌≡◌, ◌∷◌, [], ◌∙◌, sym, ap, Ok, None, Some, true, not, is_some}
 use Rattle.mvn_coords.specs.Segment.{levels}
 use Rattle.mvn_coords.specs.FileName.{base_of}
-use Rattle.mvn_coords.specs.Layout.{directory, directory_of, may_stand}
+use Rattle.mvn_coords.specs.Layout.{directory, directory_of}
 use Rattle.mvn_coords.proofs.Cuts.{is_some_copied}
 use Rattle.mvn_coords.proofs.Documents.{one_directory, snapshot_refused, snapshot_judged, keeps_directory}
 use Rattle.mvn_coords.proofs.read.directory.Goals.{In-Some-cut_last, After-may_stand}

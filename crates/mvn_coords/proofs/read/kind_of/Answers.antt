@@ -1,7 +1,5 @@
-use Rattle.std.proofs.Common.{◌≡◌, ◌∙◌, ◌<◌, ◌≤◌, sym, arith, eqb, ltb, length, true, false, Ok}
-use Rattle.std.specs.List.{list_all}
+use Rattle.std.proofs.Common.{◌∙◌, sym, arith, length}
 use Rattle.std.proofs.lemmas.Bool.{lt-ltb, le-ltb}
-use Rattle.mvn_coords.specs.Segment.{levels, is_segment}
 use Rattle.mvn_coords.proofs.Judged.{kind_empty, kind_long, kind_bad, kind_side, kind_cut}
 use Rattle.mvn_coords.proofs.Laws.{is_cut, plain_cut, path_kept}
 use Rattle.mvn_coords.proofs.read.kind_of.Goals as goal

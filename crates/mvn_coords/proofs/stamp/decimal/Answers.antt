@@ -1,4 +1,4 @@
-use Rattle.std.proofs.Common.{◌≡◌, ℕ, ◌<◌, ◌≤◌, ◌^◌, ◌*◌, ◌+◌, ◌-◌, length, get_or, refl, arith, lit<, Fits, w32}
+use Rattle.std.proofs.Common.{◌≤◌, ◌^◌, arith, lit<}
 use Rattle.std.proofs.Math.Nat.{pow-le-pow_right}
 use Rattle.mvn_coords.proofs.Digits.{digit_at}
 use Rattle.mvn_coords.proofs.stamp.decimal.Goals as goal

@@ -1,4 +1,4 @@
-use Rattle.std.proofs.Common.{◌≡◌, ℕ, ◌<◌, ◌^◌, take}
+use Rattle.std.proofs.Common.{◌≡◌, ◌<◌, ◌^◌, take}
 use Rattle.mvn_coords.specs.Civil.{decimal}
 use Rattle.mvn_coords.proofs.stamp.decimal.Given as goal
 

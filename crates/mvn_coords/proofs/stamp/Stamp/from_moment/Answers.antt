@@ -1,4 +1,4 @@
-use Rattle.std.proofs.Common.{◌≡◌, ◌∙◌, ◌*◌, ℕ, ap, arith, pos, ◌*ℤ◌, ◌+ℤ◌}
+use Rattle.std.proofs.Common.{◌≡◌, ◌∙◌, ◌*◌, ap, arith, pos}
 use Rattle.std.proofs.lemmas.Int.{ints}
 use Rattle.jiff_core.specs.DateTime.{civil_nanos}
 use Rattle.mvn_coords.specs.Civil.{seconds_of}
