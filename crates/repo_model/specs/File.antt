@@ -1,7 +1,6 @@
 -- Which paths name files, and of which kind (Maven 2 repository layout).
-use Rattle.std.specs.Prelude.{ℕ, Bool, List, Option, Some, None, Result, Ok, Err}
+use Rattle.std.specs.Prelude.{ℕ, Bool, List, Option, Some, None, Result, Ok}
 use Rattle.mvn_coords.specs.Kind.{kind}
-use Rattle.mvn_coords.specs.Layout.{Coordinates}
 use Rattle.mvn_coords.specs.declared.kind.Kind.{Kind}
 use Rattle.mvn_coords.specs.declared.kind.Kind.TheVariants.{File}
 use Rattle.mvn_coords.specs.declared.fault.PathFault.{PathFault}
