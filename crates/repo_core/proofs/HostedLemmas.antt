@@ -1,8 +1,8 @@
 -- Hosted repositories: the first of an id, its rows and what it takes.
-use Rattle.std.proofs.Common.{◌≡◌, ℕ, ◌+◌, ◌<◌, Bool, true, false, if◌then◌else◌, List, [], ◌∷◌, ◌++◌, map, take, drop, get_or, set, length, Option, Some, find, refl, ap, sym, ◌∙◌, add-one}
+use Rattle.std.proofs.Common.{◌≡◌, ℕ, ◌+◌, ◌<◌, Bool, true, false, if◌then◌else◌, List, [], ◌∷◌, ◌++◌, take, drop, get_or, set, length, Option, Some, find, refl, ap, sym, ◌∙◌, add-one}
 use Rattle.std.specs.Option.{option_map_or}
 use Rattle.std.specs.Str.{bytes_eq}
-use Rattle.std.proofs.lemmas.List.{drop_more, map-append, map-set, set-get_or, set_split, get_or_default}
+use Rattle.std.proofs.lemmas.List.{drop_more, map-append, map-set, set-get_or, set_split}
 use Rattle.outside.specs.declared.stores.Held.{Ghosts}
 use Rattle.repo_model.specs.Data as plain
 use Rattle.repo_model.specs.State.{rows_of, with_rows}

@@ -1,5 +1,5 @@
 -- The blob numbers of the program as the machine's plain data.
-use Rattle.std.specs.Prelude.{ℕ, ◌+◌, ◌≤◌, List, map, vec_len, vec_capacity}
+use Rattle.std.specs.Prelude.{◌+◌, ◌≤◌, map, vec_len, vec_capacity}
 use Rattle.repo_model.specs.Command.{number_end}
 use Rattle.repo_model.specs.State as state
 use Rattle.repo_core.specs.declared.yard.Lease.{Lease}

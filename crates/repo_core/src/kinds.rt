@@ -3,6 +3,8 @@ ghost use Rattle.std.specs.Option.{option_map};
 ghost use Rattle.repo_model.specs.File.{file_kind};
 ghost use Rattle.repo_core.specs.Kinds.{shown_kind};
 
+use mvn_coords::{Kind, kind_of};
+
 /// A file of a release, or of a unique snapshot.
 #[derive(Clone, Copy)]
 pub enum FileKind {
@@ -11,8 +13,15 @@ pub enum FileKind {
 }
 
 /// The kind of the file that a path names; none where it names no file (Maven 2 repository layout).
-pub fn kind_of_file(_path: &str) -> Option<FileKind>
-    ensures { option_map shown_kind result ≡ file_kind _path.now }
+pub fn kind_of_file(path: &str) -> Option<FileKind>
+    ensures { option_map shown_kind result ≡ file_kind path.now }
 {
-    Some(FileKind::Release)
+    let Ok(Kind::File(file)) = kind_of(path) else {
+        return None;
+    };
+    Some(if file.is_snapshot() {
+        FileKind::Snapshot
+    } else {
+        FileKind::Release
+    })
 }

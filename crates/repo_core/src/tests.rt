@@ -17,6 +17,8 @@ const JAR: &str = "org/acme/lib/1.0/lib-1.0.jar";
 
 const POM: &str = "org/acme/lib/1.0/lib-1.0.pom";
 
+const BUILD: &str = "org/acme/lib/1.1-SNAPSHOT/lib-1.1-20240102.030405-1.jar";
+
 /// A command in plain values.
 #[derive(Clone, Copy)]
 enum Ask {

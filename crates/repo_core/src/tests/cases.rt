@@ -81,6 +81,7 @@ fn a_draft_is_used_once(rt: HostRuntime) -> Result<(), Fail> {
             (Ask::Drop(77), Said::Dropped),
             (Ask::Put("releases", POM, 77, b"abc"), Said::NoDraft),
             (Ask::MayPut("snapshots", POM), Said::KindRefused),
+            (Ask::MayPut("releases", BUILD), Said::KindRefused),
             (Ask::MayPut("releases", POM), Said::Draft(3)),
         ],
     )?;
@@ -96,6 +97,18 @@ fn commands_that_do_not_fit(rt: HostRuntime) -> Result<(), Fail> {
         (Ask::Put("snapshots", JAR, 1, b"abc"), false),
         (Ask::Put("releases", JAR, 1, b"abc"), true),
         (Ask::Look("snapshots", JAR), true),
+        (Ask::Look("releases", BUILD), true),
+        (
+            Ask::Look("releases", "org/acme/lib/1.0/lib-1.0.jar.sha1"),
+            false,
+        ),
+        (
+            Ask::Look("releases", "org/acme/lib/maven-metadata.xml"),
+            false,
+        ),
+        (Ask::MayPut("releases", "lib-1.0.jar"), false),
+        (Ask::Put("releases", BUILD, 1, b"abc"), false),
+        (Ask::Put("snapshots", BUILD, 1, b"abc"), true),
     ] {
         let command = bench.command(ask)?;
         assert_eq!(rt; bench.core.fits(&command), want);

@@ -6,12 +6,13 @@ use super::*;
 
 const REPOS: [&str; 3] = ["releases", "mixed", "snapshots"];
 
-const PATHS: [&str; 5] = [
+const PATHS: [&str; 6] = [
     "org/acme/lib/1.0/lib-1.0.jar",
     "org/acme/lib/1.0/lib-1.0.pom",
     "org/acme/lib/1.0/lib-1.0-sources.jar",
     "org/acme/lib/1.0.1/lib-1.0.1.jar",
     "com/acme/app/2/app-2.war",
+    "org/acme/lib/1.1-SNAPSHOT/lib-1.1-20240102.030405-1.jar",
 ];
 
 const CONTENTS: [&[u8]; 3] = [b"", b"abc", b"abd"];
@@ -34,7 +35,7 @@ impl Numbers {
 
     fn next_ask(&mut self, drafts: &[u64]) -> Ask {
         let repo = REPOS[self.below(3) as usize];
-        let path = PATHS[self.below(5) as usize];
+        let path = PATHS[self.below(6) as usize];
         let content = CONTENTS[self.below(3) as usize];
         let pick = self.below(4) as usize;
         let draft = drafts.get(pick).copied().unwrap_or(self.below(40));

@@ -1,4 +1,4 @@
-use Rattle.std.proofs.Common.{◌≡◌, Bor, List, [], Option, map, find, rules, tests, sym, ap, ◌∙◌}
+use Rattle.std.proofs.Common.{[], rules, tests, sym, ap, ◌∙◌}
 use Rattle.std.specs.Option.{option_map, option_map_or}
 use Rattle.std.specs.Str.{bytes_eq}
 use Rattle.std.proofs.lemmas.Iterator.{YieldsList-from_slice}

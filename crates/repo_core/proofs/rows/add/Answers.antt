@@ -1,6 +1,5 @@
-use Rattle.std.proofs.Common.{◌≡◌, insert, sym, ◌∙◌}
-use Rattle.repo_model.specs.State.{with_row}
-use Rattle.repo_core.specs.Rows.{shown_row, shown_rows}
+use Rattle.std.proofs.Common.{sym, ◌∙◌}
+use Rattle.repo_core.specs.Rows.{shown_row}
 use Rattle.repo_core.proofs.RowLemmas.{shown_rows-insert}
 use Rattle.repo_core.proofs.rows.add.Goals as goal
 

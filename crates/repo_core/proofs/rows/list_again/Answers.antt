@@ -1,5 +1,4 @@
-use Rattle.std.proofs.Common.{◌≡◌, ◌+◌, ◌<◌, get_or, length, ap, sym, ◌∙◌, true, false, arith}
-use Rattle.std.specs.Str.{bytes_eq}
+use Rattle.std.proofs.Common.{arith}
 use Rattle.repo_core.proofs.RowLemmas.{again-listed, again-kept, again-all}
 use Rattle.repo_core.proofs.rows.list_again.Goals as goal
 use Rattle.repo_core.proofs.rows.list_again.Goals.{then-eq, else-eq}

@@ -1,7 +1,6 @@
-use Rattle.std.proofs.Common.{◌≡◌, ◌++◌, ◌∷◌, true, take, drop, get_or, insert, is_ge, sym, ap, ◌∙◌, rules, tests}
-use Rattle.std.specs.Ordering.{nat_cmp, match_ordering}
+use Rattle.std.proofs.Common.{◌≡◌, true, is_ge}
+use Rattle.std.specs.Ordering.{nat_cmp}
 use Rattle.std.specs.Cmp.Lexicographic.{slice_cmp}
-use Rattle.repo_model.specs.Data as plain
 use Rattle.repo_core.proofs.RowLemmas.{insert-place}
 use Rattle.repo_core.proofs.rows.place_of.Goals as goal
 

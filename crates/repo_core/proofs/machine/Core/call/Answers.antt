@@ -1,5 +1,4 @@
-use Rattle.std.proofs.Common.{◌≡◌, ◌≤◌, max, min, IfSome, refl}
-use Rattle.repo_model.specs.Step.{ticked, MomentFits, latest_moment}
+use Rattle.repo_model.specs.Step.{MomentFits}
 use Rattle.repo_core.specs.Shown.{shown_command, shown_reply}
 use Rattle.repo_core.proofs.TurnLemmas.{MomentFits-given, Fits-turned}
 use Rattle.repo_core.proofs.machine.Core.call.Goals as goal
