@@ -14,6 +14,7 @@ use std::alloc::{AllocError, Global};
 use std::marker::Model;
 
 /// The bytes that were taken from a source and not used yet, at most `HEAD_BYTES`. A contract sees their list.
+#[derive(Drop)]
 pub struct Wire {
     buffer: [u8; HEAD_BYTES],
     start: usize,
