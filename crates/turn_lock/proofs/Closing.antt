@@ -27,11 +27,11 @@ module _ {T C R F : Type 0} (turned : T → C → R → T → Type 0) (turns : T
       let e = ended in
       let own = accounts_named seat.token.me.0 of.named in
       let double : n ≡ 2 * length e.log = some-injective _ _ (sym word_at ∙ ap (λ (ws : List ℕ). get_elem? ws 0) e.word) in record {
-    log = e.log;
-    legal = e.legal;
-    begins = e.begins;
-    end = same_home x (end_of (opening turns) e.log) (is_home (Home x) home_at);
-    long = omega arith;
-    own = subst (AllKept e.log) own e.own;
-    others = λ k. subst (λ ps. (times k ps ≡ 1) ⊎ ((times k ps ≡ 0) × (entries_by k e.log ≡ []))) own (e.others k);
-  }
+        log = e.log;
+        legal = e.legal;
+        begins = e.begins;
+        end = same_home x (end_of (opening turns) e.log) (is_home (Home x) home_at);
+        long = omega arith;
+        own = subst (AllKept e.log) own e.own;
+        others = λ k. subst (λ ps. (times k ps ≡ 1) ⊎ ((times k ps ≡ 0) × (entries_by k e.log ≡ []))) own (e.others k);
+      }

@@ -65,11 +65,11 @@ module _ {C R T : Type 0} (turned : T → C → R → T → Type 0) (opening : T
       let whole : total parts_of s.views ≡ v.parts = k.parts.whole ∙ sym all in
       let nobody : total turn_of s.views ≡ 0 = total_alone turn_of s.views id v at whole (λ by u there none. (k.parts.spent by u there none).0) ∙ idle in
       let counts : (n : ℕ) → total (claims n) s.views ≡ claims n v = (λ n. total_alone (claims n) s.views id v at whole (λ by u there none. ap (times n) (k.parts.spent by u there none).1)) in record {
-    log = log;
-    legal = k.word.legal;
-    begins = (k.word.seen id v at).0;
-    word = sym same ∙ k.word.word ∙ ap (λ n. (2 * length log + n) ∷ []) nobody ∙ ap (λ n. n ∷ []) (omega arith);
-    home = values 0 (Home (end_of opening log)) (ap (λ hs. get_elem? hs 0) (k.word.home ∙ ap (λ n. place n (end_of opening log) ∷ []) nobody));
-    own = k.callers.kept id v at;
-    others = λ n. rw (← counts n) (k.callers.counted n);
-  }
+        log = log;
+        legal = k.word.legal;
+        begins = (k.word.seen id v at).0;
+        word = sym same ∙ k.word.word ∙ ap (λ n. (2 * length log + n) ∷ []) nobody ∙ ap (λ n. n ∷ []) (omega arith);
+        home = values 0 (Home (end_of opening log)) (ap (λ hs. get_elem? hs 0) (k.word.home ∙ ap (λ n. place n (end_of opening log) ∷ []) nobody));
+        own = k.callers.kept id v at;
+        others = λ n. rw (← counts n) (k.callers.counted n);
+      }
