@@ -1,5 +1,5 @@
 -- What a call leaves, from its three steps.
-use Rattle.std.proofs.Common.{◌≡◌, ℕ, ◌+◌, ◌*◌, ◌^◌, ◌<◌, ◌≤◌, List, [], ◌∷◌, ◌++◌, length, eqb, Some, true, sym, ap, ◌∙◌, subst, arith, length-append}
+use Rattle.std.proofs.Common.{◌≡◌, ℕ, ◌+◌, ◌^◌, ◌≤◌, [], ◌∷◌, ◌++◌, length, eqb, true, sym, ap, ◌∙◌, subst, arith, length-append}
 use mathlib.Core.Option.{some}
 use prog.Atomic.{either}
 use Rattle.atomic_table.specs.Table.{step, Allows}
@@ -8,14 +8,13 @@ use Rattle.turn_lock.specs.declared.view.Entry.{Entry}
 use Rattle.turn_lock.specs.declared.view.View.{View}
 use Rattle.turn_lock.specs.declared.view.Slot.{Slot}
 use Rattle.turn_lock.specs.declared.turns.Turns.{Turns}
-use Rattle.turn_lock.specs.declared.seat.SeatToken.{SeatToken as Seat}
-use Rattle.turn_lock.specs.History.{Legal, end_of, BeginsWith, AllKept}
+use Rattle.turn_lock.specs.History.{Legal, end_of, AllKept}
 use Rattle.turn_lock.specs.declared.view.Slot.TheVariants.{Told}
 use Rattle.turn_lock.specs.Rule.{accounts, Lawful}
 use Rattle.turn_lock.specs.Plays.{Gives}
 use Rattle.turn_lock.specs.Views.{gave, holding}
-use Rattle.turn_lock.specs.Seats.{opening, number, seen, mine, joined, parts_of, callers, IsSeatOf, Gains}
-use Rattle.turn_lock.specs.Holding.{HoldsEnd, HasTurn, TookTurn}
+use Rattle.turn_lock.specs.Seats.{opening, IsSeatOf, Gains}
+use Rattle.turn_lock.specs.Holding.{HasTurn, TookTurn}
 use Rattle.turn_lock.proofs.Histories.{legal_snoc}
 use Rattle.turn_lock.proofs.Steps.{gives_turn}
 use Rattle.turn_lock.proofs.CallerSteps.{accounts_named}

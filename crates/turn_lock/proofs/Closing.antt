@@ -1,5 +1,5 @@
 -- What the seat with all parts knows once the table is closed.
-use Rattle.std.proofs.Common.{◌≡◌, ℕ, ◌*◌, ◌/◌, ◌^◌, ◌<◌, ◌⊎◌, List, [], ◌∷◌, length, sym, ap, ◌∙◌, subst, arith}
+use Rattle.std.proofs.Common.{◌≡◌, ℕ, ◌*◌, ◌/◌, ◌^◌, ◌⊎◌, List, [], length, sym, ap, ◌∙◌, subst, arith}
 use mathlib.Core.Option.{some, some-injective}
 use lib.ListN.{get_elem?}
 use Rattle.atomic_table.specs.Table.{Final, Seen}
@@ -9,7 +9,7 @@ use Rattle.turn_lock.specs.declared.turns.Turns.{Turns}
 use Rattle.turn_lock.specs.declared.seat.SeatToken.{SeatToken as Seat}
 use Rattle.turn_lock.specs.History.{end_of, entries_by, AllKept, times}
 use Rattle.turn_lock.specs.Rule.{Lawful}
-use Rattle.turn_lock.specs.Seats.{opening, callers, IsSeatOf, Closes}
+use Rattle.turn_lock.specs.Seats.{opening, IsSeatOf, Closes}
 use Rattle.turn_lock.proofs.CallerSteps.{accounts_named}
 use Rattle.turn_lock.proofs.Ends.{Ended, ends}
 use Rattle.turn_lock.proofs.Holdings.{same_home}

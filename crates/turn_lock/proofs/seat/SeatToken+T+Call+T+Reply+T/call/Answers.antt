@@ -1,7 +1,5 @@
-use Rattle.std.proofs.Common.{◌≡◌, ◌<◌, ap, ◌∙◌, arith}
+use Rattle.std.proofs.Common.{ap, arith}
 use mathlib.Core.Option.{some}
-use Rattle.turn_lock.specs.History.{AllKept}
-use Rattle.turn_lock.specs.Rule.{accounts}
 use Rattle.turn_lock.proofs.Calls.{gives_back, still_seat, gains, same_number, same_joined, same_parts, room}
 use Rattle.turn_lock.proofs.seat.SeatToken+T+Call+T+Reply+T.call.Goals as goal
 
