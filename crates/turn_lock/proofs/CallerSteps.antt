@@ -1,6 +1,6 @@
 -- What each step does to the callers' numbers and entries.
-use Rattle.std.proofs.Common.{◌≡◌, ◌≢◌, ◌⊎◌, ℕ, zero, suc, ◌+◌, ◌-◌, ◌^◌, ◌<◌, ◌≤◌, List, [], ◌∷◌, ◌++◌, set, eqb, cond, Bool, Some, true, false, true≢false, refl, sym, ap, ◌∙◌, subst, inl, inr, ⊎_elim, arith, eq-eqb, ne_eqb}
-use mathlib.Core.Option.{some, some-ne-none}
+use Rattle.std.proofs.Common.{◌≡◌, ◌≢◌, ℕ, ◌+◌, ◌<◌, ◌≤◌, List, [], ◌∷◌, ◌++◌, set, cond, Bool, true, false, true≢false, refl, sym, ap, ◌∙◌, subst, inl, inr, ⊎_elim, arith}
+use mathlib.Core.Option.{some}
 use mathlib.Core.Logic.{dite}
 use native.Mathlib.Decide.{ℕ_discrete}
 use lib.ListN.{get_elem?}
@@ -8,7 +8,7 @@ use Rattle.atomic_table.proofs.Lists.{set_else}
 use Rattle.turn_lock.specs.declared.view.Entry.{Entry}
 use Rattle.turn_lock.specs.declared.view.View.{View}
 use Rattle.turn_lock.specs.History.{entries_by, times, AllKept}
-use Rattle.turn_lock.specs.Rule.{accounts, claims, total, Each, Callers}
+use Rattle.turn_lock.specs.Rule.{accounts, claims, total, Callers}
 use Rattle.turn_lock.specs.Views.{named_as, gave, without, offshoot, both, spent}
 use Rattle.turn_lock.proofs.Totals.{total_set, total_snoc, total_at, total_two, each_set, each_snoc}
 use Rattle.turn_lock.proofs.Histories.{entries_by-own, entries_by-other, times-append, times_here, times_else, all_kept-append, all_kept-other, numbers, times_above}

@@ -1,5 +1,5 @@
 -- What the seat with all parts knows once the table is closed.
-use Rattle.std.proofs.Common.{◌≡◌, ℕ, ◌*◌, ◌/◌, ◌^◌, ◌<◌, ◌⊎◌, List, [], ◌∷◌, length, sym, ap, ◌∙◌, subst, arith}
+use Rattle.std.proofs.Common.{◌≡◌, ℕ, ◌*◌, ◌/◌, ◌^◌, ◌⊎◌, List, [], length, sym, ap, ◌∙◌, subst, arith}
 use mathlib.Core.Option.{some, some-injective}
 use lib.ListN.{get_elem?}
 use Rattle.atomic_table.specs.Table.{Final, Seen}
@@ -9,7 +9,7 @@ use Rattle.turn_lock.specs.declared.turns.Turns.{Turns}
 use Rattle.turn_lock.specs.declared.seat.SeatToken.{SeatToken as Seat}
 use Rattle.turn_lock.specs.History.{end_of, entries_by, AllKept, times}
 use Rattle.turn_lock.specs.Rule.{Lawful}
-use Rattle.turn_lock.specs.Seats.{opening, callers, IsSeatOf, Closes}
+use Rattle.turn_lock.specs.Seats.{opening, IsSeatOf, Closes}
 use Rattle.turn_lock.proofs.CallerSteps.{accounts_named}
 use Rattle.turn_lock.proofs.Ends.{Ended, ends}
 use Rattle.turn_lock.proofs.Holdings.{same_home}
@@ -27,11 +27,11 @@ module _ {T C R F : Type 0} (turned : T → C → R → T → Type 0) (turns : T
       let e = ended in
       let own = accounts_named seat.token.me.0 of.named in
       let double : n ≡ 2 * length e.log = some-injective _ _ (sym word_at ∙ ap (λ (ws : List ℕ). get_elem? ws 0) e.word) in record {
-    log = e.log;
-    legal = e.legal;
-    begins = e.begins;
-    end = same_home x (end_of (opening turns) e.log) (is_home (Home x) home_at);
-    long = omega arith;
-    own = subst (AllKept e.log) own e.own;
-    others = λ k. subst (λ ps. (times k ps ≡ 1) ⊎ ((times k ps ≡ 0) × (entries_by k e.log ≡ []))) own (e.others k);
-  }
+        log = e.log;
+        legal = e.legal;
+        begins = e.begins;
+        end = same_home x (end_of (opening turns) e.log) (is_home (Home x) home_at);
+        long = omega arith;
+        own = subst (AllKept e.log) own e.own;
+        others = λ k. subst (λ ps. (times k ps ≡ 1) ⊎ ((times k ps ≡ 0) × (entries_by k e.log ≡ []))) own (e.others k);
+      }

@@ -1,19 +1,19 @@
 -- The rule at the beginning, and what it says at the end.
-use Rattle.std.proofs.Common.{◌≡◌, ◌≢◌, ◌⊎◌, ℕ, zero, suc, ◌+◌, ◌-◌, ◌*◌, ◌^◌, ◌<◌, ◌≤◌, List, [], ◌∷◌, ◌++◌, length, set, eqb, Option, Some, true, false, true≢false, refl, sym, ap, ◌∙◌, subst, inl, inr, ⊎_elim, arith}
-use mathlib.Core.Option.{some, none, some-injective, some-ne-none}
+use Rattle.std.proofs.Common.{◌≡◌, ◌⊎◌, ℕ, zero, suc, ◌+◌, ◌*◌, ◌^◌, ◌<◌, List, [], ◌∷◌, length, Some, false, true≢false, refl, sym, ap, ◌∙◌, subst, inl, inr, arith}
+use mathlib.Core.Option.{some, some-injective, some-ne-none}
 use mathlib.Core.Logic.{dite}
 use native.Mathlib.Decide.{ℕ_discrete}
 use lib.ListN.{get_elem?}
-use Rattle.atomic_table.specs.Table.{State, opening as at_first, Final, Seen}
+use Rattle.atomic_table.specs.Table.{opening as at_first, Final, Seen}
 use Rattle.turn_lock.specs.declared.view.Entry.{Entry}
 use Rattle.turn_lock.specs.declared.view.View.{View}
 use Rattle.turn_lock.specs.declared.view.Slot.{Slot}
 use Rattle.turn_lock.specs.declared.view.Slot.TheVariants.{Home}
 use Rattle.turn_lock.specs.History.{Legal, end_of, entries_by, BeginsWith, AllKept, times}
-use Rattle.turn_lock.specs.Rule.{accounts, claims, turn_of, parts_of, total, Each, place, Sees, Word, Callers, Parts, Kept, Lawful}
+use Rattle.turn_lock.specs.Rule.{accounts, claims, turn_of, parts_of, total, Each, place, Sees, Lawful}
 use Rattle.turn_lock.specs.Views.{first_view}
 use Rattle.turn_lock.proofs.Totals.{total_alone}
-use Rattle.turn_lock.proofs.Histories.{times_here, times_else}
+use Rattle.turn_lock.proofs.Histories.{times_else}
 
 module _ {C R T : Type 0} (turned : T → C → R → T → Type 0) (x : T) where
   alone : (P : View C R T → Type 0) → P (first_view x) → Each P (first_view x ∷ [])
@@ -65,11 +65,11 @@ module _ {C R T : Type 0} (turned : T → C → R → T → Type 0) (opening : T
       let whole : total parts_of s.views ≡ v.parts = k.parts.whole ∙ sym all in
       let nobody : total turn_of s.views ≡ 0 = total_alone turn_of s.views id v at whole (λ by u there none. (k.parts.spent by u there none).0) ∙ idle in
       let counts : (n : ℕ) → total (claims n) s.views ≡ claims n v = (λ n. total_alone (claims n) s.views id v at whole (λ by u there none. ap (times n) (k.parts.spent by u there none).1)) in record {
-    log = log;
-    legal = k.word.legal;
-    begins = (k.word.seen id v at).0;
-    word = sym same ∙ k.word.word ∙ ap (λ n. (2 * length log + n) ∷ []) nobody ∙ ap (λ n. n ∷ []) (omega arith);
-    home = values 0 (Home (end_of opening log)) (ap (λ hs. get_elem? hs 0) (k.word.home ∙ ap (λ n. place n (end_of opening log) ∷ []) nobody));
-    own = k.callers.kept id v at;
-    others = λ n. rw (← counts n) (k.callers.counted n);
-  }
+        log = log;
+        legal = k.word.legal;
+        begins = (k.word.seen id v at).0;
+        word = sym same ∙ k.word.word ∙ ap (λ n. (2 * length log + n) ∷ []) nobody ∙ ap (λ n. n ∷ []) (omega arith);
+        home = values 0 (Home (end_of opening log)) (ap (λ hs. get_elem? hs 0) (k.word.home ∙ ap (λ n. place n (end_of opening log) ∷ []) nobody));
+        own = k.callers.kept id v at;
+        others = λ n. rw (← counts n) (k.callers.counted n);
+      }

@@ -1,9 +1,9 @@
 -- What each step does to the parts.
-use Rattle.std.proofs.Common.{◌≡◌, ◌≢◌, ℕ, zero, suc, ◌+◌, ◌-◌, ◌^◌, ◌<◌, ◌≤◌, List, [], ◌∷◌, ◌++◌, set, Some, true, refl, sym, ap, ◌∙◌, subst, ⊎_elim, arith}
+use Rattle.std.proofs.Common.{◌≡◌, ℕ, ◌<◌, List, [], ◌∷◌, ◌++◌, set, Some, refl, ◌∙◌, arith}
 use mathlib.Core.Option.{some}
 use lib.ListN.{get_elem?}
 use Rattle.turn_lock.specs.declared.view.View.{View}
-use Rattle.turn_lock.specs.Rule.{accounts, total, parts_of, Each, Parts}
+use Rattle.turn_lock.specs.Rule.{accounts, parts_of, Parts}
 use Rattle.turn_lock.specs.Views.{without, offshoot, both, spent}
 use Rattle.turn_lock.proofs.Totals.{total_set, total_snoc, each_set, each_snoc}
 

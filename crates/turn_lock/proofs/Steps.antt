@@ -1,23 +1,23 @@
 -- Each step keeps the rule.
-use Rattle.std.proofs.Common.{◌≡◌, ◌≢◌, ℕ, zero, suc, ◌+◌, ◌-◌, ◌*◌, ◌%◌, ◌^◌, ◌<◌, ◌≤◌, List, [], ◌∷◌, ◌++◌, length, set, eqb, Option, Some, true, false, refl, sym, ap, ◌∙◌, subst, inl, inr, ⊎_elim, arith}
+use Rattle.std.proofs.Common.{◌≡◌, ℕ, zero, suc, ◌+◌, ◌*◌, ◌%◌, ◌<◌, List, [], ◌∷◌, ◌++◌, length, set, eqb, Option, Some, true, false, refl, sym, ap, ◌∙◌, subst, arith}
 use Rattle.std.specs.Prelude.{slice_index, IfSome}
 use Rattle.std.specs.declared.snapshot.Snapshot.{Snapshot}
 use mathlib.Core.Option.{some, none, some-injective, some-ne-none}
 use lib.ListN.{get_elem?}
 use prog.Atomic.{either}
-use Rattle.atomic_table.specs.Table.{State, Me, Act, keeps, takes, gives, step, stepped, carried_after, homes_after, Valid, Allows, Splits, Joins, opening as at_first, Final, Seen}
+use Rattle.atomic_table.specs.Table.{Me, Act, keeps, takes, gives, step, stepped, carried_after, Valid, Allows, Splits, Joins}
 use Rattle.atomic_table.proofs.Lists.{exchanged, set_here}
 use Rattle.turn_lock.specs.declared.view.Entry.{Entry}
 use Rattle.turn_lock.specs.declared.view.View.{View}
 use Rattle.turn_lock.specs.declared.view.Slot.{Slot}
-use Rattle.turn_lock.specs.declared.view.Slot.TheVariants.{Home, Away, Told}
-use Rattle.turn_lock.specs.History.{Legal, end_of, entries_by, BeginsWith, AllKept, times}
-use Rattle.turn_lock.specs.Rule.{accounts, claims, turn_of, total, Each, Sees, Word, Callers, Parts, Kept, Lawful}
-use Rattle.turn_lock.specs.Views.{first_view, looked, named_as, holding, gave, without, offshoot, both, spent}
+use Rattle.turn_lock.specs.declared.view.Slot.TheVariants.{Home, Told}
+use Rattle.turn_lock.specs.History.{Legal, end_of, AllKept}
+use Rattle.turn_lock.specs.Rule.{accounts, Word, Lawful}
+use Rattle.turn_lock.specs.Views.{looked, named_as, holding, gave, without, offshoot, both, spent}
 use Rattle.turn_lock.specs.Plays.{Looks, Names, Takes, Gives}
 use Rattle.turn_lock.proofs.Histories.{begins_itself, none_before}
 use Rattle.turn_lock.proofs.WordSteps.{word_same, word_take, word_give, word_split, word_join, at_home, word_is_double, word_is_odd, all_seen}
-use Rattle.turn_lock.proofs.CallerSteps.{unused, unused_silent, number_used, accounts_named, callers_same, callers_name, callers_give, callers_split, callers_join}
+use Rattle.turn_lock.proofs.CallerSteps.{unused, unused_silent, number_used, callers_same, callers_name, callers_give, callers_split, callers_join}
 use Rattle.turn_lock.proofs.PartSteps.{parts_same, parts_split, parts_join}
 
 within : {A : Type 0} (l : List A) (i : ℕ) (a : A) → get_elem? l i ≡ some a → i < length l

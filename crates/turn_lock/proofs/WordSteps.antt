@@ -1,5 +1,5 @@
 -- What each step does to the word, the place of the object, and what views have seen.
-use Rattle.std.proofs.Common.{◌≡◌, ◌≢◌, ℕ, zero, suc, ◌+◌, ◌-◌, ◌*◌, ◌%◌, ◌<◌, ◌≤◌, List, [], ◌∷◌, ◌++◌, length, set, Some, true, refl, sym, ap, ◌∙◌, subst, ⊎_elim, arith, length-append}
+use Rattle.std.proofs.Common.{◌≡◌, ◌≢◌, ℕ, ◌+◌, ◌*◌, ◌%◌, ◌≤◌, List, [], ◌∷◌, ◌++◌, length, set, refl, sym, ap, ◌∙◌, subst, arith, length-append}
 use Rattle.std.specs.Prelude.{slice_index}
 use mathlib.Core.Option.{some, none}
 use lib.ListN.{get_elem?}
@@ -9,7 +9,7 @@ use Rattle.turn_lock.specs.declared.view.Entry.{Entry}
 use Rattle.turn_lock.specs.declared.view.View.{View}
 use Rattle.turn_lock.specs.declared.view.Slot.{Slot}
 use Rattle.turn_lock.specs.declared.view.Slot.TheVariants.{Home}
-use Rattle.turn_lock.specs.History.{Legal, end_of, BeginsWith}
+use Rattle.turn_lock.specs.History.{end_of, BeginsWith}
 use Rattle.turn_lock.specs.Rule.{total, turn_of, Each, place, Sees, Word}
 use Rattle.turn_lock.specs.Views.{holding, gave, without, offshoot, both, spent}
 use Rattle.turn_lock.proofs.Totals.{total_set, total_snoc, total_at, total_two, each_set, each_snoc}

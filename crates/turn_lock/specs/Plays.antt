@@ -1,12 +1,11 @@
 -- What each step tells the seat that takes it.
-use Rattle.std.specs.Prelude.{◌≡◌, ◌≢◌, ℕ, ◌+◌, ◌*◌, List, [], ◌∷◌, ◌++◌, length, Option, Some, IfSome}
+use Rattle.std.specs.Prelude.{◌≡◌, ◌≢◌, ℕ, ◌*◌, [], ◌∷◌, length, IfSome}
 use mathlib.Core.Option.{some}
 use Rattle.std.specs.declared.snapshot.Snapshot.{Snapshot}
 use Rattle.atomic_table.specs.Table.{Me, Step}
-use Rattle.turn_lock.specs.declared.view.Entry.{Entry}
 use Rattle.turn_lock.specs.declared.view.View.{View}
 use Rattle.turn_lock.specs.declared.view.Slot.{Slot}
-use Rattle.turn_lock.specs.declared.view.Slot.TheVariants.{Home, Away, Told}
+use Rattle.turn_lock.specs.declared.view.Slot.TheVariants.{Home, Told}
 use Rattle.turn_lock.specs.History.{Legal, end_of, entries_by, BeginsWith, AllKept}
 use Rattle.turn_lock.specs.Rule.{accounts}
 use Rattle.turn_lock.specs.Views.{looked, named_as, holding, gave}

@@ -10,7 +10,10 @@ use crate::view::{Slot, View};
 use std::snapshot::Snapshot;
 use std::sync::Wait;
 
-pub type Token<T> = atomic_table::Seat<Slot<<T as Thing>::Call, <T as Thing>::Reply, T>, View<<T as Thing>::Call, <T as Thing>::Reply, T>>;
+pub type Token<T> = atomic_table::Seat<
+    Slot<<T as Thing>::Call, <T as Thing>::Reply, T>,
+    View<<T as Thing>::Call, <T as Thing>::Reply, T>,
+>;
 
 // The word at which no turn is taken any more.
 const LAST: u64 = 1 << 63;

@@ -1,4 +1,4 @@
-// A lock that hands one object round, call by call, and keeps one history of all calls.
+//! Any number of threads call one sequential object in turn. There is one legal history of their calls, which stands in the proofs alone.
 #![tactic(auto)]
 
 mod hold;
@@ -11,7 +11,7 @@ mod view;
 pub use seat::{Note, NoteToken, Seat, SeatToken, close};
 pub use thing::Thing;
 pub use turns::Turns;
-pub use view::{Entry, View};
+pub use view::Entry;
 
 #[cfg(test)]
 mod tests;

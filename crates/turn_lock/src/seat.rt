@@ -75,7 +75,9 @@ impl<T: Thing> SeatToken<T::Call, T::Reply, T> {
         let (reply, told) = hold::turn(turns, &mut self.token, call);
         let shared = &turns.table.shared;
         shared.compare_exchange_with::<Give<T>>(&mut self.token, 0, word + 1, word + 2, &told);
-        let Slot::Told(_, _) = told else { unreachable!() };
+        let Slot::Told(_, _) = told else {
+            unreachable!()
+        };
         shared.wake_one(0);
         reply
     }

@@ -1,4 +1,4 @@
-use Rattle.std.proofs.Common.{◌≡◌, ℕ, ◌+◌, ◌%◌, ◌<◌, true, sym, ap, ◌∙◌, subst, rules, arith, [], ◌∷◌}
+use Rattle.std.proofs.Common.{ap, ◌∙◌, arith}
 use Rattle.turn_lock.proofs.Steps.{takes_turn}
 use Rattle.turn_lock.proofs.hold.take.Goals as goal
 

@@ -1,4 +1,4 @@
-use Rattle.std.proofs.Common.{◌≡◌, ap, ◌∙◌}
+use Rattle.std.proofs.Common.{ap, ◌∙◌}
 use mathlib.Core.Option.{some}
 use Rattle.std.specs.Slots.{slots_items}
 use Rattle.turn_lock.proofs.Closing.{is_home, closes}

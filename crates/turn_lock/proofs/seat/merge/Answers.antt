@@ -1,4 +1,4 @@
-use Rattle.std.proofs.Common.{◌≡◌, ◌+◌, ◌<◌, true, ap, ◌∙◌, arith}
+use Rattle.std.proofs.Common.{ap, ◌∙◌, arith}
 use Rattle.turn_lock.proofs.Steps.{joins, looks}
 use Rattle.turn_lock.proofs.seat.merge.Goals as goal
 

@@ -1,4 +1,4 @@
-use Rattle.std.proofs.Common.{◌≡◌, ◌+◌, ◌<◌, ap, sym, ◌∙◌, subst, arith}
+use Rattle.std.proofs.Common.{subst, arith}
 use Rattle.turn_lock.specs.Rule.{Lawful}
 use Rattle.turn_lock.specs.Views.{without, offshoot}
 use Rattle.atomic_table.specs.Table.{Splits}

@@ -1,5 +1,4 @@
-use Rattle.std.proofs.Common.{◌≡◌, ◌+◌, ◌<◌, [], ap, sym, ◌∙◌, subst, arith}
-use Rattle.turn_lock.specs.Views.{offshoot}
+use Rattle.std.proofs.Common.{ap, arith}
 use Rattle.turn_lock.proofs.Steps.{names}
 use Rattle.turn_lock.proofs.seat.SeatToken+T+Call+T+Reply+T.split.Goals as goal
 
