@@ -34,8 +34,8 @@ pub front_found : (held more : List ℕ) (start end : ℕ) → length held ≤ 8
     → front (held ++ more) ≡ judged (slice_range held start end) (drop end held ++ more)
 front_found held more start end room h =
     let seen : take 8192 (held ++ more) ≡ take end held ++ (drop end held ++ take (8192 - length held) more)
-        = take-over 8192 held more room ∙ ap (λ (l : List ℕ). l ++ take (8192 - length held) more) (sym (take-append-drop end held))
-          ∙ append_assoc (take end held) (drop end held) (take (8192 - length held) more) in
+    = take-over 8192 held more room ∙ ap (λ (l : List ℕ). l ++ take (8192 - length held) more) (sym (take-append-drop end held))
+    ∙ append_assoc (take end held) (drop end held) (take (8192 - length held) more) in
     let place = ap head_place seen ∙ h.place (drop end held ++ take (8192 - length held) more) in
     front-at (held ++ more) (Some (start, end)) place
     ∙ ap (λ (l : List ℕ). judged l (drop end (held ++ more))) (slice_range-append held more start end (omega (arith, h.ordered)) h.within)
@@ -94,12 +94,16 @@ unfinished_stays bytes more later = by_end (unfinished_is bytes)
   where
     clean_whole : (head : Head) (r : List ℕ) → Clean ≡ Whole head r → ⊥
     clean_whole head r e = cc
+
     clean_bad : (fault : HeadFault) → Clean ≡ Bad fault → ⊥
     clean_bad fault e = cc
+
     cut_whole : (head : Head) (r : List ℕ) → Cut ≡ Whole head r → ⊥
     cut_whole head r e = cc
+
     cut_bad : (fault : HeadFault) → Cut ≡ Bad fault → ⊥
     cut_bad fault e = cc
+
     by_end : (unfinished bytes ≡ Clean) ⊎ (unfinished bytes ≡ Cut) → StaysWith more (unfinished bytes) later
     by_end (inl is) = record { whole = λ head r e. absurd (clean_whole head r (sym is ∙ e)); bad = λ fault e. absurd (clean_bad fault (sym is ∙ e)) }
     by_end (inr is) = record { whole = λ head r e. absurd (cut_whole head r (sym is ∙ e)); bad = λ fault e. absurd (cut_bad fault (sym is ∙ e)) }
@@ -129,15 +133,15 @@ front_stays_with bytes more = by_place (head_place (take 8192 bytes)) refl
     by_place : (o : Option (ℕ × ℕ)) → head_place (take 8192 bytes) ≡ o → StaysWith more (front bytes) (front (bytes ++ more))
     by_place (Some place) is =
         let later : head_place (take 8192 (bytes ++ more)) ≡ Some place
-            = ap head_place (seen_more bytes more) ∙ head_place_stays (take 8192 bytes) (take (8192 - length bytes) more) (λ e. some_none place (sym is ∙ e)) ∙ is in
+        = ap head_place (seen_more bytes more) ∙ head_place_stays (take 8192 bytes) (take (8192 - length bytes) more) (λ e. some_none place (sym is ∙ e)) ∙ is in
         let within : IsPlaceIn (take 8192 bytes) place
-            = subst (λ (o : Option (ℕ × ℕ)). IfSome o (IsPlaceIn (take 8192 bytes))) is (head_place_within (take 8192 bytes)) in
+        = subst (λ (o : Option (ℕ × ℕ)). IfSome o (IsPlaceIn (take 8192 bytes))) is (head_place_within (take 8192 bytes)) in
         let end_in : place.1 ≤ length bytes = omega (arith, within.1, length-take 8192 bytes) in
         let now : front bytes ≡ judged (slice_range bytes place.0 place.1) (drop place.1 bytes) = front-at bytes (Some place) is in
         let then : front (bytes ++ more) ≡ judged (slice_range bytes place.0 place.1) (drop place.1 bytes ++ more)
-            = front-at (bytes ++ more) (Some place) later
-              ∙ ap (λ (l : List ℕ). judged l (drop place.1 (bytes ++ more))) (slice_range-append bytes more place.0 place.1 within.0 end_in)
-              ∙ ap (judged (slice_range bytes place.0 place.1)) (drop-append-le place.1 bytes more end_in) in
+        = front-at (bytes ++ more) (Some place) later
+        ∙ ap (λ (l : List ℕ). judged l (drop place.1 (bytes ++ more))) (slice_range-append bytes more place.0 place.1 within.0 end_in)
+        ∙ ap (judged (slice_range bytes place.0 place.1)) (drop-append-le place.1 bytes more end_in) in
         along (sym now) (sym then) (judged_stays (slice_range bytes place.0 place.1) (drop place.1 bytes) more)
       where
         some_none : (p : ℕ × ℕ) → Some p ≡ None → ⊥
@@ -146,15 +150,17 @@ front_stays_with bytes more = by_place (head_place (take 8192 bytes)) refl
       where
         bad_whole : (head : Head) (r : List ℕ) → Bad TooLong ≡ Whole head r → ⊥
         bad_whole head r e = cc
+
         now : front bytes ≡ front_at bytes None
         now = front-at bytes None is
+
         by_length : (length bytes < 8192) ⊎ (8192 ≤ length bytes) → StaysWith more (front bytes) (front (bytes ++ more))
         by_length (inl short) =
             along (sym (now ∙ rw (lt-ltb (length bytes) 8192 short) refl)) refl (unfinished_stays bytes more (front (bytes ++ more)))
         by_length (inr long) =
             let seen : take 8192 (bytes ++ more) ≡ take 8192 bytes = take-append-le 8192 bytes more long in
             let later : front (bytes ++ more) ≡ Bad TooLong
-                = front-at (bytes ++ more) None (ap head_place seen ∙ is)
-                  ∙ rw (le-ltb (length (bytes ++ more)) 8192 (omega (arith, length-append bytes more))) refl in
+            = front-at (bytes ++ more) None (ap head_place seen ∙ is)
+            ∙ rw (le-ltb (length (bytes ++ more)) 8192 (omega (arith, length-append bytes more))) refl in
             let here : front bytes ≡ Bad TooLong = now ∙ rw (le-ltb (length bytes) 8192 long) refl in
             along (sym here) (sym later) (record { whole = λ head r e. absurd (bad_whole head r e); bad = λ fault e. e })

@@ -51,6 +51,7 @@ open_byte {bytes} {start} {line} {at} h inside other = record {
   where
     le_split : (k n : ℕ) → k ≤ n → (k < n) ⊎ (k ≡ n)
     le_split k n le = search (rules, arith)
+
     by_place : (k : ℕ) → line ≤ k → (k < at) ⊎ (k ≡ at) → get_or bytes k 0 ≢ 10
     by_place k low (inl below) = h.unended k low below
     by_place k low (inr e) = λ is. other (ap (λ (n : ℕ). get_or bytes n 0) (sym e) ∙ is)

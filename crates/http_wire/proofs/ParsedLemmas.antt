@@ -55,6 +55,7 @@ head_of_line bytes line = by_head (head_of bytes) refl
     stopped : (text : List ℕ) → Stops is_newline text → begins_line text ≡ true → ⊥
     stopped [] stops is = stops
     stopped (b ∷ text) stops is = cc
+
     by_head : (o : Option Head) → head_of bytes ≡ o → head_of bytes ≡ None
     by_head None is = is
     by_head (Some head) is =
@@ -67,9 +68,11 @@ fields_same bytes spans fields same = spanned spans ∙ ap (map both) same ∙ s
   where
     both : List ℕ × List ℕ → Field
     both p = record { name = p.0; value = p.1 }
+
     spanned : (xs : List HeaderSpan) → map (field_at bytes) xs ≡ map both (map (header_bytes bytes) xs)
     spanned [] = refl
     spanned (x ∷ xs) = ap (λ (l : List Field). field_at bytes x ∷ l) (spanned xs)
+
     said : (xs : List grammar.Field) → map both (map name_and_value xs) ≡ map field_said xs
     said [] = refl
     said (x ∷ xs) = ap (λ (l : List Field). field_said x ∷ l) (said xs)
@@ -106,6 +109,7 @@ head_of_none bytes spans r finds few other = by_head (head_of bytes) refl
     whole h reads (Ok (Complete found)) at = at.len ∙ ap length (sym (append-nil (print_request h))) ∙ ap length (sym reads.1)
     whole h reads (Ok Partial) at = at
     whole h reads (Err e) at = at
+
     by_head : (o : Option Head) → head_of bytes ≡ o → head_of bytes ≡ None
     by_head None is = is
     by_head (Some head) is =

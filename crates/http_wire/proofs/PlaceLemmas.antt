@@ -185,8 +185,10 @@ place_from_text line start at rest ordered none text = by_start (eqb_tells start
   where
     found : Option ℕ
     found = empty_line_end (10 ∷ rest)
+
     later : eqb start (at + length line + 1) ≡ false
     later = ne_eqb start (at + length line + 1) (λ e. omega arith)
+
     by_start : ((eqb start at ≡ true) × (start ≡ at)) ⊎ ((eqb start at ≡ false) × (start ≢ at))
         → place_from start at (line ++ 10 ∷ rest) ≡ place_from start (at + length line + 1) rest
     by_start (inl (same, e)) =

@@ -38,8 +38,8 @@ empty_line_end_stays (b ∷ c ∷ []) more some = by_two (eqb b 10 && eqb c 10) 
     by_two : (t : Bool) → (eqb b 10 && eqb c 10) ≡ t → empty_line_end (b ∷ c ∷ more) ≡ empty_line_end (b ∷ c ∷ [])
     by_two true two = rw two refl
     by_two false two = absurd (some (
-      ap (λ (later : Option ℕ). step (eqb b 10 && eqb c 10) (eqb b 10 && (eqb c 13 && false)) (later)) (one_byte c)
-      ∙ step_none (eqb b 10 && eqb c 10) (eqb b 10 && (eqb c 13 && false)) two (ap (λ (x : Bool). eqb b 10 && x) (and-no (eqb c 13)) ∙ and-no (eqb b 10))))
+        ap (λ (later : Option ℕ). step (eqb b 10 && eqb c 10) (eqb b 10 && (eqb c 13 && false)) (later)) (one_byte c)
+        ∙ step_none (eqb b 10 && eqb c 10) (eqb b 10 && (eqb c 13 && false)) two (ap (λ (x : Bool). eqb b 10 && x) (and-no (eqb c 13)) ∙ and-no (eqb b 10))))
 empty_line_end_stays (b ∷ c ∷ d ∷ bytes) more some =
     step_stays (eqb b 10 && eqb c 10) (eqb b 10 && (eqb c 13 && eqb d 10)) (empty_line_end (c ∷ d ∷ bytes))
     (empty_line_end (c ∷ d ∷ (bytes ++ more))) some (empty_line_end_stays (c ∷ d ∷ bytes) more)
@@ -92,7 +92,7 @@ blank_length_stays (b ∷ c ∷ bytes) more some =
         let here : blank_length (b ∷ c ∷ bytes) ≡ 1 + blank_length (c ∷ bytes) = rw is refl in
         let there : blank_length (b ∷ c ∷ (bytes ++ more)) ≡ 1 + blank_length (c ∷ (bytes ++ more)) = rw is refl in
         let behind : drop (blank_length (b ∷ c ∷ bytes)) (b ∷ c ∷ bytes) ≡ drop (blank_length (c ∷ bytes)) (c ∷ bytes)
-            = ap (λ (n : ℕ). drop n (b ∷ c ∷ bytes)) here ∙ drop-one (blank_length (c ∷ bytes)) b (c ∷ bytes) in
+        = ap (λ (n : ℕ). drop n (b ∷ c ∷ bytes)) here ∙ drop-one (blank_length (c ∷ bytes)) b (c ∷ bytes) in
         there ∙ ap (λ (n : ℕ). 1 + n) (next (λ e. some (ap empty_line_end behind ∙ e))) ∙ sym here
     by_blank next false is = rw is refl
 

@@ -68,19 +68,19 @@ line_text f = sym (append_assoc f.name (58 ∷ f.raw) (return_of f.end))
 field_tree-line : (f : grammar.Field) → IsField f → field_tree (line_of f) ≡ f
 field_tree-line f valid =
     let name : before 58 (line_of f) ≡ f.name
-        = before-append 58 f.name (f.raw ++ return_of f.end) (token_lacks 58 colon_ends_token f.name valid.name) in
+    = before-append 58 f.name (f.raw ++ return_of f.end) (token_lacks 58 colon_ends_token f.name valid.name) in
     let raw : before 13 (after 58 (line_of f)) ≡ f.raw
-        = ap (before 13) (after-append 58 f.name (f.raw ++ return_of f.end) (token_lacks 58 colon_ends_token f.name valid.name))
-          ∙ before-return f.raw f.end (Lacks-from_pass is_value_byte 13 refl f.raw valid.raw) in
+    = ap (before 13) (after-append 58 f.name (f.raw ++ return_of f.end) (token_lacks 58 colon_ends_token f.name valid.name))
+    ∙ before-return f.raw f.end (Lacks-from_pass is_value_byte 13 refl f.raw valid.raw) in
     let end : end_of (line_of f) ≡ f.end
-        = ap end_of (line_text f) ∙ end_of-return (f.name ++ 58 ∷ f.raw) f.end (text_lacks f valid) in
+    = ap end_of (line_text f) ∙ end_of-return (f.name ++ 58 ∷ f.raw) f.end (text_lacks f valid) in
     λ i. record { name = name i; raw = raw i; end = end i }
 
 -- the line is not empty
 pub line_is_text : (f : grammar.Field) → IsField f → is_empty_line (line_of f) ≡ false
 line_is_text f valid =
     let text : before 13 (line_of f) ≡ f.name ++ 58 ∷ f.raw
-        = ap (before 13) (line_text f) ∙ before-return (f.name ++ 58 ∷ f.raw) f.end (text_lacks f valid) in
+    = ap (before 13) (line_text f) ∙ before-return (f.name ++ 58 ∷ f.raw) f.end (text_lacks f valid) in
     ap (λ (l : List ℕ). eqb (length l) 0) text
     ∙ ne_eqb (length (f.name ++ 58 ∷ f.raw)) 0 (λ e. omega (arith, length-append f.name (58 ∷ f.raw)))
 
@@ -135,24 +135,44 @@ print_request-line h none =
 
 -- the version has neither CR nor LF
 version_lacks : (c minor : ℕ) → c < 47 → c ≢ 46 → Lacks c (print_version minor)
-version_lacks c minor low point =
-    (λ x. omega arith, (λ x. omega arith, (λ x. omega arith, (λ x. omega arith, (λ x. omega arith, (λ x. omega arith,
-    (λ x. point (sym x), (λ x. omega arith, tt))))))))
+version_lacks c minor low point = (
+  λ x. omega arith,
+  (
+    λ x. omega arith,
+    (
+      λ x. omega arith,
+      (
+        λ x. omega arith,
+        (
+          λ x. omega arith,
+          (
+            λ x. omega arith,
+            (λ x. point (sym x), (λ x. omega arith, tt)),
+          ),
+        ),
+      ),
+    ),
+  ),
+)
 
 first_line_lacks : (h : RequestHead) → IsRequestHead h → Lacks 10 (first_line h)
 first_line_lacks h valid =
-    Lacks-append 10 h.method (32 ∷ (h.target ++ 32 ∷ (print_version h.minor ++ return_of h.line_end))) (token_lacks 10 lf_ends_token h.method valid.method)
-    (λ e. cc, Lacks-append 10 h.target (32 ∷ (print_version h.minor ++ return_of h.line_end)) (Lacks-from_pass is_uri_byte 10 refl h.target valid.target.1)
-    (λ e. cc, Lacks-append 10 (print_version h.minor) (return_of h.line_end) (version_lacks 10 h.minor (lit< tt) (λ e. cc)) (return_lacks h.line_end)))
+    Lacks-append 10 h.method (32 ∷ (h.target ++ 32 ∷ (print_version h.minor ++ return_of h.line_end))) (token_lacks 10 lf_ends_token h.method valid.method) (
+      λ e. cc,
+      Lacks-append 10 h.target (32 ∷ (print_version h.minor ++ return_of h.line_end)) (Lacks-from_pass is_uri_byte 10 refl h.target valid.target.1)
+          (λ e. cc, Lacks-append 10 (print_version h.minor) (return_of h.line_end) (version_lacks 10 h.minor (lit< tt) (λ e. cc)) (return_lacks h.line_end)),
+    )
 
 abbrev first_text : RequestHead → List ℕ
 first_text h = h.method ++ 32 ∷ (h.target ++ 32 ∷ print_version h.minor)
 
 first_text_lacks : (h : RequestHead) → IsRequestHead h → Lacks 13 (first_text h)
 first_text_lacks h valid =
-    Lacks-append 13 h.method (32 ∷ (h.target ++ 32 ∷ print_version h.minor)) (token_lacks 13 cr_ends_token h.method valid.method)
-    (λ e. cc, Lacks-append 13 h.target (32 ∷ print_version h.minor) (Lacks-from_pass is_uri_byte 13 refl h.target valid.target.1)
-    (λ e. cc, version_lacks 13 h.minor (lit< tt) (λ e. cc)))
+    Lacks-append 13 h.method (32 ∷ (h.target ++ 32 ∷ print_version h.minor)) (token_lacks 13 cr_ends_token h.method valid.method) (
+      λ e. cc,
+      Lacks-append 13 h.target (32 ∷ print_version h.minor) (Lacks-from_pass is_uri_byte 13 refl h.target valid.target.1)
+          (λ e. cc, version_lacks 13 h.minor (lit< tt) (λ e. cc)),
+    )
 
 first_line-text : (h : RequestHead) → first_line h ≡ first_text h ++ return_of h.line_end
 first_line-text h = group h.method h.target (print_version h.minor) (return_of h.line_end)
@@ -167,18 +187,18 @@ head_tree-line : (h : RequestHead) → IsRequestHead h → h.blank ≡ []
 head_tree-line h valid none =
     let behind = print_version h.minor ++ return_of h.line_end in
     let method : before 32 (first_line h) ≡ h.method
-        = before-append 32 h.method (h.target ++ 32 ∷ behind) (token_lacks 32 space_ends_token h.method valid.method) in
+    = before-append 32 h.method (h.target ++ 32 ∷ behind) (token_lacks 32 space_ends_token h.method valid.method) in
     let second : after 32 (first_line h) ≡ h.target ++ 32 ∷ behind
-        = after-append 32 h.method (h.target ++ 32 ∷ behind) (token_lacks 32 space_ends_token h.method valid.method) in
+    = after-append 32 h.method (h.target ++ 32 ∷ behind) (token_lacks 32 space_ends_token h.method valid.method) in
     let spaceless : Lacks 32 h.target = Lacks-from_pass is_uri_byte 32 refl h.target valid.target.1 in
     let target : before 32 (after 32 (first_line h)) ≡ h.target
-        = ap (before 32) second ∙ before-append 32 h.target behind spaceless in
+    = ap (before 32) second ∙ before-append 32 h.target behind spaceless in
     let third : after 32 (after 32 (first_line h)) ≡ behind
-        = ap (after 32) second ∙ after-append 32 h.target behind spaceless in
+    = ap (after 32) second ∙ after-append 32 h.target behind spaceless in
     let minor : get_or (after 32 (after 32 (first_line h))) 7 0 - 48 ≡ h.minor
-        = ap (λ (l : List ℕ). get_or l 7 0 - 48) third ∙ last_digit h.minor (return_of h.line_end) in
+    = ap (λ (l : List ℕ). get_or l 7 0 - 48) third ∙ last_digit h.minor (return_of h.line_end) in
     let line_end : end_of (first_line h) ≡ h.line_end
-        = ap end_of (first_line-text h) ∙ end_of-return (first_text h) h.line_end (first_text_lacks h valid) in
+    = ap end_of (first_line-text h) ∙ end_of-return (first_text h) h.line_end (first_text_lacks h valid) in
     let fields = field_trees-section h.fields h.last valid.fields in
     let last = last_end-section h.fields h.last valid.fields in
     λ i. record {
@@ -261,9 +281,9 @@ unfolding head_of
 head_of-reads bytes h reads none =
     let same = tree_of-print bytes h reads none in
     let printed : bytes_eq (print_request h) bytes ≡ true
-        = (bytes_eq-Decides (print_request h) bytes).1 (sym (append-nil (print_request h)) ∙ sym reads.1) in
+    = (bytes_eq-Decides (print_request h) bytes).1 (sym (append-nil (print_request h)) ∙ sym reads.1) in
     let tests : (is_request_head h && bytes_eq (print_request h) bytes) ≡ true
-        = and_from _ _ (is_request_head_yes h reads.0) printed in
+    = and_from _ _ (is_request_head_yes h reads.0) printed in
     ap (λ (t : RequestHead). cond (is_request_head t && bytes_eq (print_request t) bytes) (Some (head_said t)) None) same
     ∙ cond-true _ (Some (head_said h)) None tests
 
@@ -275,14 +295,16 @@ reads-head_of bytes head is = by_tests (is_request_head tree && bytes_eq (print_
   where
     tree : RequestHead
     tree = tree_of bytes
+
     none_some : (o : Option Head) (h : Head) → o ≡ None → o ≡ Some h → ⊥
     none_some o h e f = cc
+
     by_tests : (t : Bool) → (is_request_head tree && bytes_eq (print_request tree) bytes) ≡ t
         → (h : RequestHead) × ReadsRequest bytes h [] × (h.blank ≡ []) × (head ≡ head_said h)
     by_tests true passes =
         let parts = and_parts _ _ passes in
         let given : cond (is_request_head tree && bytes_eq (print_request tree) bytes) (Some (head_said tree)) None ≡ Some (head_said tree)
-            = cond-true _ (Some (head_said tree)) None passes in
+        = cond-true _ (Some (head_said tree)) None passes in
         let said : Some (head_said tree) ≡ Some head = sym given ∙ is in (
           tree,
           (is_request_head_means tree parts.0, sym ((bytes_eq-Decides (print_request tree) bytes).0 parts.1) ∙ sym (append-nil (print_request tree))),
@@ -291,7 +313,7 @@ reads-head_of bytes head is = by_tests (is_request_head tree && bytes_eq (print_
         )
     by_tests false other =
         let given : cond (is_request_head tree && bytes_eq (print_request tree) bytes) (Some (head_said tree)) None ≡ None
-            = cond-false _ (Some (head_said tree)) None other in
+        = cond-false _ (Some (head_said tree)) None other in
         absurd (none_some _ head given is)
 
 -- ---- how many line feeds a head has
@@ -327,5 +349,5 @@ first_byte bytes h reads none =
     let target = h.target ++ 32 ∷ (print_version h.minor ++ return_of h.line_end) in
     let section = section_bytes h.fields h.last in
     let split : bytes ≡ h.method ++ ((32 ∷ target) ++ 10 ∷ section)
-        = reads.1 ∙ print_request-line h none ∙ append_assoc h.method (32 ∷ target) (10 ∷ section) in
+    = reads.1 ∙ print_request-line h none ∙ append_assoc h.method (32 ∷ target) (10 ∷ section) in
     subst (Stops is_newline) (sym split) (Stops_token h.method ((32 ∷ target) ++ 10 ∷ section) reads.0.method.0 reads.0.method.1)

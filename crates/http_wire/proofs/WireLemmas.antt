@@ -29,11 +29,11 @@ pub take-moved : (buffer moved : List ℕ) (start end : ℕ) → start ≤ end �
 take-moved buffer moved start end ordered within is =
     let whole : end ≡ start + (end - start) = omega arith in
     let part : drop start (take end buffer) ≡ slice_range buffer start end
-        = ap (λ (n : ℕ). drop start (take n buffer)) whole ∙ drop-take start (end - start) buffer in
+    = ap (λ (n : ℕ). drop start (take n buffer)) whole ∙ drop-take start (end - start) buffer in
     let behind = take start (take end buffer) ++ drop end buffer in
     let split : moved ++ drop end buffer ≡ slice_range buffer start end ++ behind
-        = ap (λ (l : List ℕ). l ++ drop end buffer) is ∙ append_assoc (drop start (take end buffer)) (take start (take end buffer)) (drop end buffer)
-          ∙ ap (λ (l : List ℕ). l ++ behind) part in
+    = ap (λ (l : List ℕ). l ++ drop end buffer) is ∙ append_assoc (drop start (take end buffer)) (take start (take end buffer)) (drop end buffer)
+    ∙ ap (λ (l : List ℕ). l ++ behind) part in
     ap (λ (l : List ℕ). take (end - start) l) split
     ∙ take_at (slice_range buffer start end) behind (end - start) (length-slice_range buffer start end ordered within)
 
@@ -111,8 +111,8 @@ taken_none held lent start end room at same whole more = (
   whole.0,
   drop end held ++ more,
   front_found held more start end room at
-  ∙ ap (λ (l : List ℕ). judged (slice_range l start end) (drop end held ++ more)) (sym same)
-  ∙ whole.1 (drop end held ++ more),
+      ∙ ap (λ (l : List ℕ). judged (slice_range l start end) (drop end held ++ more)) (sym same)
+      ∙ whole.1 (drop end held ++ more),
 )
 
 -- ---- a body
@@ -126,6 +126,7 @@ body_given held body given count left left_after is same rest from =
   where
     whole : body ≡ take count held ++ given
     whole = sym (take-append-drop count body) ∙ ap (λ (l : List ℕ). l ++ drop count body) same ∙ ap (λ (l : List ℕ). take count held ++ l) rest
+
     swap_parts : (more : List ℕ) → (length held < length body) ⊎ (length body ≤ length held)
         → held ++ (given ++ more) ≡ (take count held ++ given) ++ (drop count held ++ more)
     swap_parts more (inl short) =
@@ -135,8 +136,9 @@ body_given held body given count left left_after is same rest from =
     swap_parts more (inr long) =
         let nothing : given ≡ [] = sym rest ∙ drop_all count body (omega (arith, is)) in
         rw nothing (ap (λ (l : List ℕ). l ++ more) (sym (take-append-drop count held))
-            ∙ append_assoc (take count held) (drop count held) more
-            ∙ ap (λ (l : List ℕ). l ++ (drop count held ++ more)) (sym (append-nil (take count held))))
+        ∙ append_assoc (take count held) (drop count held) more
+        ∙ ap (λ (l : List ℕ). l ++ (drop count held ++ more)) (sym (append-nil (take count held))))
+
     by_left : (o : Option (List ℕ)) → (length held < length body) ⊎ (length body ≤ length held)
         → unread held (in_front given o) ≡ in_front body (unread (drop count held) o)
     by_left None lengths = refl

@@ -68,7 +68,8 @@ pub fn render(alloc: Global, answer: &Answer) -> Result<Bytes, AllocError>
 }
 
 /// The answer where there is no memory for another: 507, the text `memory`, and the connection ends.
-pub const NO_MEMORY: &[u8; 108] = b"HTTP/1.1 507 Insufficient Storage\r\nContent-Type: text/plain\r\nContent-Length: 7\r\nConnection: close\r\n\r\nmemory\n";
+pub const NO_MEMORY: &[u8; 108] =
+    b"HTTP/1.1 507 Insufficient Storage\r\nContent-Type: text/plain\r\nContent-Length: 7\r\nConnection: close\r\n\r\nmemory\n";
 
 /// The bytes of the answer where there is no memory for another. They take none.
 pub fn no_memory_answer() -> &'static [u8]

@@ -79,9 +79,7 @@ fn has_close(value: &[u8]) -> bool
 pub(crate) fn asks_close(fields: &[Field]) -> bool
     ensures { result ≡ asks_close fields.now }
 {
-    fields
-        .iter()
-        .any(|f| is_named(f, b"Connection") && has_close(f.value.as_slice()))
+    fields.iter().any(|f| is_named(f, b"Connection") && has_close(f.value.as_slice()))
 }
 
 /// The number, where the value is 1 to 18 digits.

@@ -14,8 +14,7 @@ pub fn head_is_of_the_grammar()
         → (tree : RequestHead) × ReadsRequest bytes tree [] × (tree.blank ≡ []) × (head ≡ head_said tree) }
     ensures complete { (bytes : List ℕ) (tree : RequestHead) → ReadsRequest bytes tree []
         → tree.blank ≡ [] → head_of bytes ≡ Some (head_said tree) }
-{
-}
+{}
 
 /// More bytes behind a stream don't change a whole or a refused head at its front.
 pub fn front_stays()
@@ -23,11 +22,9 @@ pub fn front_stays()
         → front (bytes ++ more) ≡ Whole head (rest ++ more) }
     ensures bad { (bytes more : List ℕ) (fault : HeadFault) → front bytes ≡ Bad fault
         → front (bytes ++ more) ≡ Bad fault }
-{
-}
+{}
 
 /// The body stands right behind the head, which doesn't depend on it.
 pub fn body_follows_head()
     ensures { (answer : Answer) → shown answer ≡ shown (record answer { body = [] }) ++ answer.body }
-{
-}
+{}

@@ -99,7 +99,11 @@ pub(crate) fn push_head(bytes: &mut Vec<u8>, answer: &Answer) -> Result<(), Allo
     push_status(bytes, answer.status)?;
     push_field(bytes, b"Content-Type", media_type(answer.content))?;
     let mut digits = itoa::Buffer::new();
-    push_field(bytes, b"Content-Length", digits.format(answer.length).as_bytes())?;
+    push_field(
+        bytes,
+        b"Content-Length",
+        digits.format(answer.length).as_bytes(),
+    )?;
     push_digests(bytes, &answer.digests)?;
     push_allow(bytes, &answer.allow)?;
     push_close(bytes, answer.close)?;

@@ -1,5 +1,4 @@
 ghost use Rattle.std.specs.Prelude.{◌≡◌, ◌⊎◌, [], ◌∷◌, ◌↔◌, IsTrue};
-
 ghost use Rattle.http_wire.specs.Found.{IsFoundIn};
 ghost use Rattle.http_wire.specs.Search.{IsOpen};
 

@@ -12,10 +12,7 @@ fn source_of(alloc: Global, bytes: &[u8], most: usize) -> Result<MemSource, Allo
 }
 
 // What one call of `next_request` gave, as a line.
-fn line_of(
-    alloc: Global,
-    given: Result<Option<Request>, WireFault>,
-) -> Result<String, AllocError> {
+fn line_of(alloc: Global, given: Result<Option<Request>, WireFault>) -> Result<String, AllocError> {
     match given {
         Ok(Some(request)) => {
             let mut line = String::from_str(alloc, request.method())?;
@@ -59,7 +56,8 @@ fn long_head(alloc: Global, target: usize, fields: usize) -> Result<Vec<u8>, All
     Ok(head)
 }
 
-const TWO: &[u8; 83] = b"\r\n\nPUT /a/b HTTP/1.1\r\nHost: x\r\nX:\t a b \r\n\r\n\r\nGET http://h/c?d HTTP/1.0\nHost: x\n\n\n\r\n";
+const TWO: &[u8; 83] =
+    b"\r\n\nPUT /a/b HTTP/1.1\r\nHost: x\r\nX:\t a b \r\n\r\n\r\nGET http://h/c?d HTTP/1.0\nHost: x\n\n\n\r\n";
 
 #[test]
 fn requests_come_in_any_pieces(rt: HostRuntime) -> Result<(), Fail> {
@@ -88,7 +86,11 @@ fn a_cut_head_is_torn(rt: HostRuntime) -> Result<(), Fail> {
 fn a_head_has_its_most_bytes(rt: HostRuntime) -> Result<(), Fail> {
     let head = long_head(rt.alloc(), 8175, 0)?;
     assert_eq!(rt; head.len(), 8192);
-    assert!(rt; !lines_of(rt.alloc(), head.as_slice(), 100, 2)?.as_str().starts_with("TooLong"));
+    assert!(rt;
+        !lines_of(rt.alloc(), head.as_slice(), 100, 2)?
+            .as_str()
+            .starts_with("TooLong")
+    );
     let longer = long_head(rt.alloc(), 8176, 0)?;
     let lines = lines_of(rt.alloc(), longer.as_slice(), 100, 2)?;
     assert_eq!(rt; lines.as_str(), "TooLong;TooLong;");
@@ -104,9 +106,15 @@ fn a_head_has_its_most_bytes(rt: HostRuntime) -> Result<(), Fail> {
 #[test]
 fn a_head_has_its_most_lines(rt: HostRuntime) -> Result<(), Fail> {
     let head = long_head(rt.alloc(), 1, 64)?;
-    assert_eq!(rt; lines_of(rt.alloc(), head.as_slice(), 1, 2)?.as_str(), "GET /;Clean;");
+    assert_eq!(rt;
+        lines_of(rt.alloc(), head.as_slice(), 1, 2)?.as_str(),
+        "GET /;Clean;"
+    );
     let head = long_head(rt.alloc(), 1, 65)?;
-    assert_eq!(rt; lines_of(rt.alloc(), head.as_slice(), 1, 1)?.as_str(), "TooLong;");
+    assert_eq!(rt;
+        lines_of(rt.alloc(), head.as_slice(), 1, 1)?.as_str(),
+        "TooLong;"
+    );
     Ok(())
 }
 
@@ -124,7 +132,10 @@ fn a_head_that_is_none_is_broken(rt: HostRuntime) -> Result<(), Fail> {
         b"\x00\r\n\r\n".as_slice(),
     ];
     for head in heads {
-        assert_eq!(rt; lines_of(rt.alloc(), head, 4, 2)?.as_str(), "Broken;Broken;");
+        assert_eq!(rt;
+            lines_of(rt.alloc(), head, 4, 2)?.as_str(),
+            "Broken;Broken;"
+        );
     }
     Ok(())
 }
@@ -135,14 +146,20 @@ fn a_body_follows_its_head(rt: HostRuntime) -> Result<(), Fail> {
     for most in [1, 5, 9000] {
         let mut source = source_of(alloc, b"PUT /a HTTP/1.1\n\nabcdeGET /b HTTP/1.1\n\n", most)?;
         let mut wire = Wire::new();
-        assert_eq!(rt; line_of(alloc, wire.next_request(alloc, &mut source))?.as_str(), "PUT /a");
+        assert_eq!(rt;
+            line_of(alloc, wire.next_request(alloc, &mut source))?.as_str(),
+            "PUT /a"
+        );
         let body = wire.body(alloc, &mut source, 3).map_err(|_| "no body")?;
         assert_eq!(rt; body.as_slice(), b"abc".as_slice());
         let body = wire.body(alloc, &mut source, 0).map_err(|_| "no body")?;
         assert!(rt; body.is_empty());
         let body = wire.body(alloc, &mut source, 2).map_err(|_| "no body")?;
         assert_eq!(rt; body.as_slice(), b"de".as_slice());
-        assert_eq!(rt; line_of(alloc, wire.next_request(alloc, &mut source))?.as_str(), "GET /b");
+        assert_eq!(rt;
+            line_of(alloc, wire.next_request(alloc, &mut source))?.as_str(),
+            "GET /b"
+        );
         assert!(rt; matches!(wire.body(alloc, &mut source, 1), Err(WireFault::Torn)));
     }
     Ok(())
@@ -153,9 +170,15 @@ fn a_body_may_be_torn(rt: HostRuntime) -> Result<(), Fail> {
     let alloc = rt.alloc();
     let mut source = source_of(alloc, b"PUT /a HTTP/1.1\n\nabc", 18)?;
     let mut wire = Wire::new();
-    assert_eq!(rt; line_of(alloc, wire.next_request(alloc, &mut source))?.as_str(), "PUT /a");
+    assert_eq!(rt;
+        line_of(alloc, wire.next_request(alloc, &mut source))?.as_str(),
+        "PUT /a"
+    );
     assert!(rt; matches!(wire.body(alloc, &mut source, 5), Err(WireFault::Torn)));
-    assert_eq!(rt; line_of(alloc, wire.next_request(alloc, &mut source))?.as_str(), "Clean");
+    assert_eq!(rt;
+        line_of(alloc, wire.next_request(alloc, &mut source))?.as_str(),
+        "Clean"
+    );
     Ok(())
 }
 
@@ -169,7 +192,10 @@ fn a_fault_loses_no_head(rt: HostRuntime) -> Result<(), Fail> {
     let mut wire = Wire::new();
     let first = line_of(alloc, wire.next_request(alloc, &mut source))?;
     assert_eq!(rt; first.as_str(), "SourceFault");
-    assert_eq!(rt; line_of(alloc, wire.next_request(alloc, &mut source))?.as_str(), "GET /a");
+    assert_eq!(rt;
+        line_of(alloc, wire.next_request(alloc, &mut source))?.as_str(),
+        "GET /a"
+    );
     assert_eq!(rt; source.faults(), 1);
     Ok(())
 }
@@ -183,8 +209,11 @@ fn head_of(alloc: Global, bytes: &[u8]) -> Result<Option<Request>, WireFault> {
 
 #[test]
 fn fields_are_found_by_name(rt: HostRuntime) -> Result<(), Fail> {
-    let bytes = b"PUT /a HTTP/1.0\nHost: \t x \nhost:y\nConnection: keep-alive , Close\ncontent-length: 007\nContent-Length:7\n\n";
-    let head = head_of(rt.alloc(), bytes).map_err(|_| "no head")?.ok_or("no head")?;
+    let bytes =
+        b"PUT /a HTTP/1.0\nHost: \t x \nhost:y\nConnection: keep-alive , Close\ncontent-length: 007\nContent-Length:7\n\n";
+    let head = head_of(rt.alloc(), bytes)
+        .map_err(|_| "no head")?
+        .ok_or("no head")?;
     assert!(rt; head.is_old());
     assert_eq!(rt; head.fields().len(), 5);
     assert_eq!(rt; head.count(b"HOST"), 2);
@@ -192,8 +221,11 @@ fn fields_are_found_by_name(rt: HostRuntime) -> Result<(), Fail> {
     assert!(rt; head.first(b"Hos").is_none());
     assert!(rt; head.asks_close());
     assert_eq!(rt; head.body_length(), BodyLength::Known(7));
-    let bytes = b"PUT /a HTTP/1.1\nConnection: closed\nConnection: a,b\nContent-Length: 1\nContent-Length: 2\n\n";
-    let head = head_of(rt.alloc(), bytes).map_err(|_| "no head")?.ok_or("no head")?;
+    let bytes =
+        b"PUT /a HTTP/1.1\nConnection: closed\nConnection: a,b\nContent-Length: 1\nContent-Length: 2\n\n";
+    let head = head_of(rt.alloc(), bytes)
+        .map_err(|_| "no head")?
+        .ok_or("no head")?;
     assert!(rt; !head.is_old());
     assert!(rt; !head.asks_close());
     assert_eq!(rt; head.body_length(), BodyLength::Wrong);
@@ -212,9 +244,15 @@ fn length_by(alloc: Global, value: &[u8]) -> Result<BodyLength, WireFault> {
 #[test]
 fn a_length_is_1_to_18_digits(rt: HostRuntime) -> Result<(), Fail> {
     let alloc = rt.alloc();
-    assert_eq!(rt; length_by(alloc, b"999999999999999999"), Ok(BodyLength::Known(999_999_999_999_999_999)));
+    assert_eq!(rt;
+        length_by(alloc, b"999999999999999999"),
+        Ok(BodyLength::Known(999_999_999_999_999_999))
+    );
     assert_eq!(rt; length_by(alloc, b" 0 "), Ok(BodyLength::Known(0)));
-    assert_eq!(rt; length_by(alloc, b"0000000000000000000"), Ok(BodyLength::Wrong));
+    assert_eq!(rt;
+        length_by(alloc, b"0000000000000000000"),
+        Ok(BodyLength::Wrong)
+    );
     assert_eq!(rt; length_by(alloc, b""), Ok(BodyLength::Wrong));
     assert_eq!(rt; length_by(alloc, b"+5"), Ok(BodyLength::Wrong));
     assert_eq!(rt; length_by(alloc, b"5, 5"), Ok(BodyLength::Wrong));
@@ -238,7 +276,8 @@ fn plain(alloc: Global, status: Status, text: &[u8]) -> Result<Answer, AllocErro
 fn a_text_is_rendered(rt: HostRuntime) -> Result<(), Fail> {
     let answer = plain(rt.alloc(), Status::Created, b"created\n")?;
     let bytes = render(rt.alloc(), &answer)?;
-    let wanted = b"HTTP/1.1 201 Created\r\nContent-Type: text/plain\r\nContent-Length: 8\r\n\r\ncreated\n";
+    let wanted =
+        b"HTTP/1.1 201 Created\r\nContent-Type: text/plain\r\nContent-Length: 8\r\n\r\ncreated\n";
     assert_eq!(rt; bytes.as_slice(), wanted.as_slice());
     Ok(())
 }
@@ -252,7 +291,8 @@ fn a_file_is_rendered(rt: HostRuntime) -> Result<(), Fail> {
     answer.digests = Some(hashes.finish());
     answer.close = true;
     let bytes = render(rt.alloc(), &answer)?;
-    let wanted = b"HTTP/1.1 200 OK\r\nContent-Type: application/octet-stream\r\nContent-Length: 3\r\nX-Checksum-SHA1: a9993e364706816aba3e25717850c26c9cd0d89d\r\nX-Checksum-MD5: 900150983cd24fb0d6963f7d28e17f72\r\nConnection: close\r\n\r\nabc";
+    let wanted =
+        b"HTTP/1.1 200 OK\r\nContent-Type: application/octet-stream\r\nContent-Length: 3\r\nX-Checksum-SHA1: a9993e364706816aba3e25717850c26c9cd0d89d\r\nX-Checksum-MD5: 900150983cd24fb0d6963f7d28e17f72\r\nConnection: close\r\n\r\nabc";
     assert_eq!(rt; bytes.as_slice(), wanted.as_slice());
     Ok(())
 }
@@ -262,7 +302,8 @@ fn the_methods_are_told(rt: HostRuntime) -> Result<(), Fail> {
     let mut answer = plain(rt.alloc(), Status::MethodNotAllowed, b"method\n")?;
     answer.allow = Some(Text::new(rt.alloc(), "GET, HEAD, PUT")?);
     let bytes = render(rt.alloc(), &answer)?;
-    let wanted = b"HTTP/1.1 405 Method Not Allowed\r\nContent-Type: text/plain\r\nContent-Length: 7\r\nAllow: GET, HEAD, PUT\r\n\r\nmethod\n";
+    let wanted =
+        b"HTTP/1.1 405 Method Not Allowed\r\nContent-Type: text/plain\r\nContent-Length: 7\r\nAllow: GET, HEAD, PUT\r\n\r\nmethod\n";
     assert_eq!(rt; bytes.as_slice(), wanted.as_slice());
     Ok(())
 }
@@ -273,7 +314,8 @@ fn a_head_may_go_alone(rt: HostRuntime) -> Result<(), Fail> {
     answer.content = Content::Document;
     answer.length = 18_446_744_073_709_551_615;
     let bytes = render(rt.alloc(), &answer)?;
-    let wanted = b"HTTP/1.1 200 OK\r\nContent-Type: text/xml\r\nContent-Length: 18446744073709551615\r\n\r\n";
+    let wanted =
+        b"HTTP/1.1 200 OK\r\nContent-Type: text/xml\r\nContent-Length: 18446744073709551615\r\n\r\n";
     assert_eq!(rt; bytes.as_slice(), wanted.as_slice());
     Ok(())
 }

@@ -51,11 +51,7 @@ fn move_to_front(buffer: &mut [u8], start: usize, end: usize)
 }
 
 /// Reads once into the part behind the first `held` bytes.
-fn read_behind<S: Source>(
-    source: &mut S,
-    buffer: &mut [u8],
-    held: usize,
-) -> Result<usize, Failed>
+fn read_behind<S: Source>(source: &mut S, buffer: &mut [u8], held: usize) -> Result<usize, Failed>
     requires { held < length buffer.old }
     ensures cause { HasCause (S.read_faults source.old) (S.read_faults source.new) result }
     ensures kept { take held buffer.new ≡ take held buffer.old }

@@ -21,7 +21,7 @@ loop-b-preserved c =
     let digit : digit_value (get_or value i 0) ≡ c.from.result = grind (arith, nat_tests) in
     let next = digits_value_more 10 value i c.loop-b-test.true in
     let digits : list_all is_ascii_digit (take (i + 1) value) ≡ true
-        = list_all_more is_ascii_digit value i 0 c.loop-b-test.true ∙ and_from _ _ c.loop-b.invariant.digits (sym c.if-not-is_ascii_digit.ensures.value) in
+    = list_all_more is_ascii_digit value i 0 c.loop-b-test.true ∙ and_from _ _ c.loop-b.invariant.digits (sym c.if-not-is_ascii_digit.ensures.value) in
     let short : length (take (i + 1) value) ≤ 18 = omega (arith, length-take-le (i + 1) value) in
     let small = number_small (take (i + 1) value) digits short in record {
       value = omega (arith, next, digit, c.loop-b.invariant.value);

@@ -23,13 +23,13 @@ returns c =
     let answer = c.args.answer.now in
     let start = c.args.bytes.now.items in
     chain start _ _ _ _ _ _ _ (status_line answer.status) (field_line (codes "Content-Type") (content_text answer.content))
-        (field_line (codes "Content-Length") (decimal answer.length)) (digest_lines answer.digests) (allow_line answer.allow)
-        (close_line answer.close) crlf_bytes
-        c.in_ok-push_status.ensures
-        (c.in_ok-push_field.ensures ∙ ap (λ (v : List ℕ). c.push_status.new.bytes.items ++ field_line (codes "Content-Type") v) c.media_type.ensures)
-        (c.in_ok-push_field-2.ensures ∙ ap (λ (v : List ℕ). c.push_field.new.bytes.items ++ field_line (codes "Content-Length") v) (c.as_bytes.ensures.value ∙ c.format.ensures.text))
-        c.in_ok-push_digests.ensures
-        c.in_ok-push_allow.ensures
-        c.in_ok-push_close.ensures
-        c.in_ok-extend_from_slice.ensures.items
+    (field_line (codes "Content-Length") (decimal answer.length)) (digest_lines answer.digests) (allow_line answer.allow)
+    (close_line answer.close) crlf_bytes
+    c.in_ok-push_status.ensures
+    (c.in_ok-push_field.ensures ∙ ap (λ (v : List ℕ). c.push_status.new.bytes.items ++ field_line (codes "Content-Type") v) c.media_type.ensures)
+    (c.in_ok-push_field-2.ensures ∙ ap (λ (v : List ℕ). c.push_field.new.bytes.items ++ field_line (codes "Content-Length") v) (c.as_bytes.ensures.value ∙ c.format.ensures.text))
+    c.in_ok-push_digests.ensures
+    c.in_ok-push_allow.ensures
+    c.in_ok-push_close.ensures
+    c.in_ok-extend_from_slice.ensures.items
     ∙ ap (λ (head : List ℕ). start ++ head) (sym (head_parts answer))

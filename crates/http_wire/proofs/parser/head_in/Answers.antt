@@ -14,26 +14,26 @@ use Rattle.http_wire.proofs.parser.head_in.Goals as goal
 pub returns-in_err-fields-in-Ok-Complete-clause-memory : goal.returns-in_err-fields-in-Ok-Complete-clause-memory
 returns-in_err-fields-in-Ok-Complete-clause-memory c =
     let found : IsRequestOf c.args.bytes.now c.parse_request.new.headers c.in-Ok-Complete.head
-        = rw c.in-Ok-Complete.field-0-is at c.in-Ok-Complete.ensures.complete in
+    = rw c.in-Ok-Complete.field-0-is at c.in-Ok-Complete.ensures.complete in
     on_err _ _ (some_is _ _ (head_of_spans c.args.bytes.now c.parse_request.new.headers c.in-Ok-Complete.head found.0 found.1 (search rules) (search rules)))
 
 pub new-requires-clause-token : goal.new-requires-clause-token
 new-requires-clause-token c =
     let found : IsRequestOf c.args.bytes.now c.parse_request.new.headers c.in-Ok-Complete.head
-        = rw c.in-Ok-Complete.field-0-is at c.in-Ok-Complete.ensures.complete in
+    = rw c.in-Ok-Complete.field-0-is at c.in-Ok-Complete.ensures.complete in
     let same : c.of-method.result.now ≡ found.0.method = c.of-method.ensures ∙ found.1.method in
     subst IsToken (sym same) (token_same found.0.method found.1.reads.0.method)
 
 pub returns-in_err-request-in-Ok-Complete-clause-memory : goal.returns-in_err-request-in-Ok-Complete-clause-memory
 returns-in_err-request-in-Ok-Complete-clause-memory c =
     let found : IsRequestOf c.args.bytes.now c.parse_request.new.headers c.in-Ok-Complete.head
-        = rw c.in-Ok-Complete.field-0-is at c.in-Ok-Complete.ensures.complete in
+    = rw c.in-Ok-Complete.field-0-is at c.in-Ok-Complete.ensures.complete in
     on_err _ _ (some_is _ _ (head_of_spans c.args.bytes.now c.parse_request.new.headers c.in-Ok-Complete.head found.0 found.1 (search rules) (search rules)))
 
 pub returns-in_ok-request-in-Ok-Complete-clause-read : goal.returns-in_ok-request-in-Ok-Complete-clause-read
 returns-in_ok-request-in-Ok-Complete-clause-read c =
     let found : IsRequestOf c.args.bytes.now c.parse_request.new.headers c.in-Ok-Complete.head
-        = rw c.in-Ok-Complete.field-0-is at c.in-Ok-Complete.ensures.complete in
+    = rw c.in-Ok-Complete.field-0-is at c.in-Ok-Complete.ensures.complete in
     let spelled = head_of_spans c.args.bytes.now c.parse_request.new.headers c.in-Ok-Complete.head found.0 found.1 (search rules) (search rules) in
     let given : c.in_ok-request-in-Ok-Complete.request ≡ record {
       method = span_bytes c.args.bytes.now c.in-Ok-Complete.head.method;
@@ -55,13 +55,13 @@ pub returns-then-head-bytes-clause-read : goal.returns-then-head-bytes-clause-re
 returns-then-head-bytes-clause-read c =
     head_of_none c.args.bytes.now c.parse_request.new.headers c.parse_request.result c.parse_request.ensures.found c.requires
     (λ at. c.if-head-bytes.true (subst (λ (r : Result (Status RequestSpans) Error). IsCompleteAnd r (λ found. found.len ≡ length c.args.bytes.now))
-        (c.in-Ok-Complete.is ∙ ap Ok c.in-Ok-Complete.field-0-is) at))
+    (c.in-Ok-Complete.is ∙ ap Ok c.in-Ok-Complete.field-0-is) at))
 
 pub returns-in-Ok-Partial-clause-read : goal.returns-in-Ok-Partial-clause-read
 returns-in-Ok-Partial-clause-read c =
     head_of_none c.args.bytes.now c.parse_request.new.headers c.parse_request.result c.parse_request.ensures.found c.requires
     (λ at. subst (λ (r : Result (Status RequestSpans) Error). IsCompleteAnd r (λ found. found.len ≡ length c.args.bytes.now))
-        (c.in-Ok-Partial.is ∙ ap Ok c.in-Ok-Partial.field-0-is) at)
+    (c.in-Ok-Partial.is ∙ ap Ok c.in-Ok-Partial.field-0-is) at)
 
 pub returns-in-Err-clause-read : goal.returns-in-Err-clause-read
 returns-in-Err-clause-read c =

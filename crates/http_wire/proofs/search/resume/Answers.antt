@@ -13,11 +13,11 @@ returns-then-start-line c =
 pub loop-i-preserved : goal.loop-i-preserved
 loop-i-preserved c =
     elim c.if-bytes-i-eq10.branch [
-      then-bytes-i-eq10+then-not-is_empty_line w ↦
-        rw (w.start-is, w.line-is) (open_text c.loop-i.invariant (search rules) (search rules) (λ e. absurd (false≢true (w.if-not-is_empty_line.ensures.1 e))))
-    | then-bytes-i-eq10+else-not-is_empty_line+else-start-line w ↦
-        rw (w.start-is, w.line-is) (open_blank c.loop-i.invariant (search rules) (search rules) (w.if-not-is_empty_line.ensures.0 refl) (search rules))
-    | else-bytes-i-eq10 w ↦ rw (w.start-is, w.line-is) (open_byte c.loop-i.invariant (search rules) (search rules))
+      | then-bytes-i-eq10+then-not-is_empty_line w ↦
+          rw (w.start-is, w.line-is) (open_text c.loop-i.invariant (search rules) (search rules) (λ e. absurd (false≢true (w.if-not-is_empty_line.ensures.1 e))))
+      | then-bytes-i-eq10+else-not-is_empty_line+else-start-line w ↦
+          rw (w.start-is, w.line-is) (open_blank c.loop-i.invariant (search rules) (search rules) (w.if-not-is_empty_line.ensures.0 refl) (search rules))
+      | else-bytes-i-eq10 w ↦ rw (w.start-is, w.line-is) (open_byte c.loop-i.invariant (search rules) (search rules))
     ]
 
 pub returns : goal.returns

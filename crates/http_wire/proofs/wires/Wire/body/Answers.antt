@@ -13,10 +13,10 @@ returns-then-held-len-clause-given g c =
     let room : length copied ≡ c.in_ok-body.body.len = search rules in
     let whole : length copied ≤ c.copy_front-held.result = search rules in
     body_given c.args.self.now copied [] c.copy_front-held.result left left
-        (search rules)
-        (c.copy_front-held.ensures.copied ∙ ap (λ (l : List ℕ). take c.copy_front-held.result l) c.held.ensures.value)
-        (drop_all c.copy_front-held.result copied whole)
-        (in_front-none left)
+    (search rules)
+    (c.copy_front-held.ensures.copied ∙ ap (λ (l : List ℕ). take c.copy_front-held.result l) c.held.ensures.value)
+    (drop_all c.copy_front-held.result copied whole)
+    (in_front-none left)
     ∙ ap (λ (l : List ℕ). in_front l (unread (drop c.copy_front-held.result c.args.self.now) left)) (sym (take_at copied behind c.in_ok-body.body.len room))
     ∙ ap (λ (l : List ℕ). in_front (take c.in_ok-body.body.len (copied ++ behind)) (unread l left)) (sym c.use_up.ensures)
 
@@ -45,18 +45,18 @@ returns-clause-given g c =
     let behind = drop (length filled) first in
     let room : length copied ≡ len = search rules in
     let lent : c.deref_mut-2.result.now ≡ copied
-        = c.deref_mut-2.ensures.value ∙ take_at copied (drop (length copied) c.in_ok-body.body.items) len room in
+    = c.deref_mut-2.ensures.value ∙ take_at copied (drop (length copied) c.in_ok-body.body.items) len room in
     let room_after : length filled ≡ len = search rules in
     let full : length filled ≤ count + c.in_ok-given.given = omega (arith, room_after) in
     let counted : count ≡ min (length filled) (length c.args.self.now)
-        = c.copy_front-held.ensures.count
-          ∙ ap (λ (n : ℕ). min n (length c.held.result.now)) (c.deref_mut.ensures.len ∙ sym room_after)
-          ∙ ap (λ (l : List ℕ). min (length filled) (length l)) c.held.ensures.value in
+    = c.copy_front-held.ensures.count
+    ∙ ap (λ (n : ℕ). min n (length c.held.result.now)) (c.deref_mut.ensures.len ∙ sym room_after)
+    ∙ ap (λ (l : List ℕ). min (length filled) (length l)) c.held.ensures.value in
     body_given c.args.self.now filled (drop count filled) count (g.S.Tells.left c.args.source.now) left_after
-        counted
-        (c.in_ok-given.ensures.kept ∙ ap (λ (l : List ℕ). take count l) lent ∙ c.copy_front-held.ensures.copied
-            ∙ ap (λ (l : List ℕ). take count l) c.held.ensures.value)
-        refl
-        (c.in_ok-given.ensures.given ∙ ap (λ (l : List ℕ). in_front l left_after) (slice_range-rest filled count (count + c.in_ok-given.given) full))
+    counted
+    (c.in_ok-given.ensures.kept ∙ ap (λ (l : List ℕ). take count l) lent ∙ c.copy_front-held.ensures.copied
+    ∙ ap (λ (l : List ℕ). take count l) c.held.ensures.value)
+    refl
+    (c.in_ok-given.ensures.given ∙ ap (λ (l : List ℕ). in_front l left_after) (slice_range-rest filled count (count + c.in_ok-given.given) full))
     ∙ ap (λ (l : List ℕ). in_front l (unread (drop count c.args.self.now) left_after)) (sym (take_at filled behind len room_after))
     ∙ ap (λ (l : List ℕ). in_front (take len (filled ++ behind)) (unread l left_after)) (sym c.use_up.ensures)

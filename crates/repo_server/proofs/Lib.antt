@@ -1,0 +1,4 @@
+pub mod Says
+pub mod Sends
+pub mod Worlds
+pub mod Meets

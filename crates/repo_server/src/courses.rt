@@ -1,0 +1,248 @@
+ghost use Rattle.std.specs.Prelude.{◌≡◌, ◌≤◌, ◌||◌, ℕ, List, Option, None};
+ghost use Rattle.http_wire.specs.Answer.{shown};
+ghost use Rattle.http_wire.specs.Stream.{unread};
+ghost use Rattle.repo_core.specs.Shown.{shown_parcel, shown_reply};
+ghost use Rattle.repo_server.specs.Answers.{file_answer, text_answer};
+ghost use Rattle.repo_server.specs.Course.{after_drop, after_put, after_send, course, end_of};
+ghost use Rattle.repo_server.specs.Held.{AllTell, IsReleasePath, ServesReleases};
+ghost use Rattle.repo_server.specs.Plain.{longest_body, repository};
+ghost use Rattle.repo_server.specs.Serving.{Follows, Says, Sends};
+ghost use Rattle.repo_server.specs.World.{nobody, sink_world, world};
+
+use crate::answers::{file_head, say, say_no_memory, taken_text, text_answer};
+use crate::files::{send_file, take_body};
+use crate::outcomes::{End, Sent, Took};
+use http_wire::{Status, Wire};
+use outside::{Blobs, Clock, Held, Parcel, Sink, Stream};
+use repo_core::{Command, Core, Reply};
+use std::alloc::Global;
+use texts::Text;
+
+/// What ends a connection behind a request: the client wants it, or it is the last request that it may make.
+#[derive(Clone, Copy, Debug)]
+pub struct Closing {
+    pub close: bool,
+    pub last: bool,
+}
+
+impl Closing {
+    /// Whether the answer ends the connection.
+    fn is_end(self) -> bool
+        ensures { result ≡ (self.close || self.last) }
+    {
+        self.close || self.last
+    }
+}
+
+/// The repository and the path that a command names.
+#[derive(Drop)]
+pub struct Place {
+    pub repo: Text,
+    pub path: Text,
+}
+
+fn end_of(close: bool) -> Option<End>
+    ensures { result ≡ end_of close }
+{
+    if close { Some(End::Closed) } else { None }
+}
+
+/// Answers with a line of text.
+fn answered<O: Sink>(
+    alloc: Global,
+    closing: Closing,
+    status: Status,
+    text: &[u8],
+    sink: &mut O,
+) -> Option<End>
+    ensures said { Says (text_answer status text.now (closing.close || closing.last)) (end_of closing.close)
+        (sink_world (O.taken sink.old) (O.write_faults sink.old))
+        (sink_world (O.taken sink.new) (O.write_faults sink.new)) result }
+    ensures left { O.left sink.new ≡ O.left sink.old }
+    ensures read_faults { O.read_faults sink.new ≡ O.read_faults sink.old }
+{
+    let answer = text_answer(alloc, status, text, closing.is_end());
+    say(answer, end_of(closing.close), sink)
+}
+
+/// Sends a file behind the head of its answer.
+fn send<B: Blobs, O: Sink>(
+    alloc: Global,
+    blobs: &mut B,
+    sink: &mut O,
+    parcel: &Parcel<B::Held>,
+    closing: Closing,
+) -> Sent
+    ensures sends { Sends (shown_parcel parcel.now)
+        (shown (file_answer (shown_parcel parcel.now) (closing.close || closing.last))) result
+        (world nobody None (O.taken sink.old) 0 (O.write_faults sink.old) (B.faults blobs.old))
+        (world nobody None (O.taken sink.new) 0 (O.write_faults sink.new) (B.faults blobs.new)) }
+    ensures left { O.left sink.new ≡ O.left sink.old }
+    ensures read_faults { O.read_faults sink.new ≡ O.read_faults sink.old }
+{
+    match file_head(alloc, parcel, closing.is_end()) {
+        Ok(head) => send_file(blobs, parcel, head.as_slice(), sink),
+        Err(_) => Sent::NoMemory,
+    }
+}
+
+/// The course of a GET of a release file.
+pub fn get<C: Clock, B: Blobs, O: Sink>(
+    alloc: Global,
+    core: &mut Core<C, B::Held>,
+    blobs: &mut B,
+    sink: &mut O,
+    place: Place,
+    closing: Closing,
+) -> Option<End>
+    requires releases { ServesReleases core.old.settings }
+    requires repo { place.repo ≡ repository }
+    requires path { IsReleasePath place.path }
+    ensures settings { core.new.settings ≡ core.old.settings }
+    ensures left { O.left sink.new ≡ O.left sink.old }
+    ensures read_faults { O.read_faults sink.new ≡ O.read_faults sink.old }
+{
+    let look = Command::Look {
+        repo: place.repo,
+        path: place.path,
+    };
+    match core.call(look) {
+        Reply::File { lease, parcel } => {
+            let sent = send(alloc, blobs, sink, &parcel, closing);
+            let _done = core.call(Command::Done { lease });
+            match sent {
+                Sent::Whole => end_of(closing.close),
+                Sent::BlobFault => {
+                    answered(
+                        alloc,
+                        closing,
+                        Status::ServiceUnavailable,
+                        b"blob-fault",
+                        sink,
+                    )
+                }
+                Sent::SinkFault => Some(End::SinkFault),
+                Sent::NoMemory => say_no_memory(sink),
+            }
+        }
+        Reply::Missed => answered(alloc, closing, Status::NotFound, b"not-there", sink),
+        Reply::Spent => answered(alloc, closing, Status::InternalServerError, b"spent", sink),
+        _ => say_no_memory(sink),
+    }
+}
+
+/// The course of a PUT from the reply to `Put` on.
+fn after_put<C: Clock, H: Held, O: Sink>(
+    alloc: Global,
+    core: &mut Core<C, H>,
+    sink: &mut O,
+    draft: u64,
+    reply: Reply<H>,
+    closing: Closing,
+) -> Option<End>
+    ensures settings { core.new.settings ≡ core.old.settings }
+    ensures left { O.left sink.new ≡ O.left sink.old }
+    ensures read_faults { O.read_faults sink.new ≡ O.read_faults sink.old }
+{
+    match reply {
+        Reply::Created => answered(alloc, closing, Status::Created, b"created", sink),
+        Reply::Same => answered(alloc, closing, Status::Ok, b"same", sink),
+        Reply::Relisted => answered(alloc, closing, Status::Ok, b"relisted", sink),
+        Reply::Taken { kept, sent } => match taken_text(alloc, &kept, &sent) {
+            Ok(text) => answered(alloc, closing, Status::Conflict, text.as_slice(), sink),
+            Err(_) => say_no_memory(sink),
+        },
+        Reply::NoDraft => {
+            let _dropped = core.call(Command::Drop { draft });
+            answered(
+                alloc,
+                closing,
+                Status::InternalServerError,
+                b"no-draft",
+                sink,
+            )
+        }
+        _ => {
+            let _dropped = core.call(Command::Drop { draft });
+            say_no_memory(sink)
+        }
+    }
+}
+
+/// The course of a PUT from its body on, which is not stored; its draft is given up.
+fn after_fault<C: Clock, H: Held, O: Sink>(
+    alloc: Global,
+    core: &mut Core<C, H>,
+    sink: &mut O,
+    draft: u64,
+    fault: Took,
+    closing: Closing,
+) -> Option<End>
+    ensures settings { core.new.settings ≡ core.old.settings }
+    ensures left { O.left sink.new ≡ O.left sink.old }
+    ensures read_faults { O.read_faults sink.new ≡ O.read_faults sink.old }
+{
+    let _dropped = core.call(Command::Drop { draft });
+    match fault {
+        Took::Torn => Some(End::TornRequest),
+        Took::SourceFault => Some(End::SourceFault),
+        Took::BlobFault => {
+            answered(
+                alloc,
+                closing,
+                Status::ServiceUnavailable,
+                b"blob-fault",
+                sink,
+            )
+        }
+        Took::NoMemory => say_no_memory(sink),
+    }
+}
+
+/// The course of a PUT of a release file with a body of `length` bytes: `MayPut` at the first place, then `Put` at the
+/// second, which is the same.
+pub fn put<C: Clock, B: Blobs, T: Stream>(
+    alloc: Global,
+    core: &mut Core<C, B::Held>,
+    blobs: &mut B,
+    wire: &mut Wire,
+    stream: &mut T,
+    places: (Place, Place),
+    length: u64,
+    closing: Closing,
+) -> Option<End>
+    requires releases { ServesReleases core.old.settings }
+    requires first_repo { places.0.repo ≡ repository }
+    requires second_repo { places.1.repo ≡ repository }
+    requires first_path { IsReleasePath places.0.path }
+    requires second_path { places.1.path ≡ places.0.path }
+    requires length { length ≤ longest_body }
+    ensures settings { core.new.settings ≡ core.old.settings }
+{
+    let unread = Closing {
+        close: closing.close || length > 0,
+        last: closing.last,
+    };
+    let (first, second) = places;
+    let may_put = Command::MayPut {
+        repo: first.repo,
+        path: first.path,
+    };
+    match core.call(may_put) {
+        Reply::Draft(draft) => match take_body(alloc, blobs, draft, length, wire, stream) {
+            Ok(parcel) => {
+                let reply = core.call(Command::Put {
+                    repo: second.repo,
+                    path: second.path,
+                    draft,
+                    parcel,
+                });
+                after_put(alloc, core, stream, draft, reply, closing)
+            }
+            Err(fault) => after_fault(alloc, core, stream, draft, fault, closing),
+        },
+        Reply::KindRefused => answered(alloc, unread, Status::Forbidden, b"kind-refused", stream),
+        Reply::Spent => answered(alloc, unread, Status::InternalServerError, b"spent", stream),
+        _ => say_no_memory(stream),
+    }
+}

@@ -1,0 +1,81 @@
+ghost use Rattle.std.specs.Prelude.{◌≡◌, ◌++◌, [], None};
+ghost use Rattle.http_wire.specs.Stream.{unread};
+ghost use Rattle.repo_core.specs.Shown.{shown_parcel};
+ghost use Rattle.repo_server.specs.Held.{AllTell, shown_took};
+ghost use Rattle.repo_server.specs.Serving.{Sends, Takes};
+ghost use Rattle.repo_server.specs.World.{nobody, world};
+
+use crate::outcomes::{Sent, Took};
+use http_wire::{Wire, WireFault};
+use mvn_digest::Hashes;
+use outside::{BlobFault, Blobs, Parcel, Sink, Source, write_all};
+use std::alloc::Global;
+
+/// Takes a body of `length` bytes from the stream and stores it under a draft, with its digests.
+///
+/// `Torn` comes where the stream ends before, `SourceFault` and `BlobFault` where the count of the source or of the
+/// blobs rose.
+pub fn take_body<B: Blobs, S: Source>(
+    alloc: Global,
+    blobs: &mut B,
+    draft: u64,
+    length: u64,
+    wire: &mut Wire,
+    source: &mut S,
+) -> Result<Parcel<B::Held>, Took>
+    ensures takes { Takes (AllTell B.Held.bytes) draft length (shown_took result)
+        (world nobody (unread wire.old (S.left source.old)) None (S.read_faults source.old) 0 (B.faults blobs.old))
+        (world nobody (unread wire.new (S.left source.new)) None (S.read_faults source.new) 0 (B.faults blobs.new)) }
+    ensures taken { S.taken source.new ≡ S.taken source.old }
+    ensures write_faults { S.write_faults source.new ≡ S.write_faults source.old }
+{
+    let body = match wire.body(alloc, source, length) {
+        Ok(body) => body,
+        Err(WireFault::Torn) => return Err(Took::Torn),
+        Err(WireFault::SourceFault) => return Err(Took::SourceFault),
+        Err(_) => return Err(Took::NoMemory),
+    };
+    let mut hashes = Hashes::new();
+    hashes.update(body.as_slice());
+    let digests = hashes.finish();
+    match blobs.store(draft, body.as_slice()) {
+        Ok(held) => Ok(Parcel {
+            blob: draft,
+            held,
+            length,
+            digests,
+        }),
+        Err(BlobFault::Failed) => Err(Took::BlobFault),
+        Err(BlobFault::NoMemory) => Err(Took::NoMemory),
+    }
+}
+
+/// Reads a blob and writes `head` and its bytes.
+///
+/// Nothing is written where the blob is not read. `BlobFault` and `SinkFault` come where the count of the blobs or of
+/// the sink rose.
+pub fn send_file<B: Blobs, O: Sink>(
+    blobs: &mut B,
+    parcel: &Parcel<B::Held>,
+    head: &[u8],
+    sink: &mut O,
+) -> Sent
+    ensures sends { Sends (shown_parcel parcel.now) head.now result
+        (world nobody None (O.taken sink.old) 0 (O.write_faults sink.old) (B.faults blobs.old))
+        (world nobody None (O.taken sink.new) 0 (O.write_faults sink.new) (B.faults blobs.new)) }
+    ensures left { O.left sink.new ≡ O.left sink.old }
+    ensures read_faults { O.read_faults sink.new ≡ O.read_faults sink.old }
+{
+    let bytes = match blobs.read(&parcel.held) {
+        Ok(bytes) => bytes,
+        Err(BlobFault::Failed) => return Sent::BlobFault,
+        Err(BlobFault::NoMemory) => return Sent::NoMemory,
+    };
+    match write_all(sink, head) {
+        Ok(()) => match write_all(sink, bytes.as_slice()) {
+            Ok(()) => Sent::Whole,
+            Err(_) => Sent::SinkFault,
+        },
+        Err(_) => Sent::SinkFault,
+    }
+}
