@@ -1,6 +1,7 @@
 use crate::run::{Desk, run};
 use outside::{Duplex, FaultScript, MemBlobs, MemSink, MemSource, ScriptClock, ScriptPort};
 use std::alloc::{AllocError, Global};
+use std::process::Abort;
 use std::test::Fail;
 
 const PUT_ABC: &str =
@@ -42,6 +43,7 @@ const BLOB_FAULT: &str =
     "HTTP/1.1 503 Service Unavailable\r\nContent-Type: text/plain\r\nContent-Length: 11\r\n\r\nblob-fault\n";
 
 /// What is to fail, and how the bytes come.
+#[derive(Drop)]
 struct Script {
     reads: FaultScript,
     blobs: FaultScript,
@@ -59,7 +61,8 @@ fn plain(alloc: Global, most: usize) -> Script {
 }
 
 /// What a run wrote on its stream and on `out`, and its status.
-struct Replayed {
+#[derive(Drop)]
+struct Outcome {
     answers: String,
     line: String,
     status: u8,
@@ -70,7 +73,7 @@ fn text_of(alloc: Global, bytes: &[u8]) -> Result<String, AllocError> {
 }
 
 /// Runs `replay` on an input.
-fn replayed(alloc: Global, input: &str, script: Script) -> Result<Replayed, Fail> {
+fn replayed(alloc: Global, input: &str, script: Script) -> Result<Outcome, Fail> {
     let Script {
         reads,
         blobs,
@@ -101,7 +104,7 @@ fn replayed(alloc: Global, input: &str, script: Script) -> Result<Replayed, Fail
         None => String::new(alloc),
     };
     let line = text_of(alloc, out.bytes())?;
-    Ok(Replayed {
+    Ok(Outcome {
         answers,
         line,
         status: ran.status,
@@ -109,7 +112,12 @@ fn replayed(alloc: Global, input: &str, script: Script) -> Result<Replayed, Fail
 }
 
 /// The input, and what it has to be answered, whole and in pieces of one byte.
-fn expect_answers(rt: &HostRuntime, input: &str, answers: &str, line: &str) -> Result<(), Fail> {
+fn expect_answers<R: Abort + AllocGlobal>(
+    rt: &R,
+    input: &str,
+    answers: &str,
+    line: &str,
+) -> Result<(), Fail> {
     for most in [1_000_000, 1] {
         let replayed = replayed(rt.alloc(), input, plain(rt.alloc(), most))?;
         assert_eq!(rt; replayed.answers.as_str(), answers);
@@ -221,8 +229,9 @@ fn a_sink_that_fails_has_a_part(rt: HostRuntime) -> Result<(), Fail> {
 fn a_source_that_fails_ends_the_run(rt: HostRuntime) -> Result<(), Fail> {
     let mut script = plain(rt.alloc(), 1);
     script.reads = FaultScript::failing_at(vec![in rt.alloc(); 100]?);
-    let replayed = replayed(rt.alloc(), PUT_ABC, script)?;
-    assert_eq!(rt; replayed.answers.as_str(), "");
+    let input = joined(rt.alloc(), &[PUT_ABC, GET_LAST])?;
+    let replayed = replayed(rt.alloc(), input.as_str(), script)?;
+    assert_eq!(rt; replayed.answers.as_str(), CREATED);
     assert_eq!(rt; replayed.line.as_str(), "mvnrepod: input\n");
     assert_eq!(rt; replayed.status, 6);
     Ok(())
