@@ -113,7 +113,8 @@ impl Stamp {
 
     /// The stamp's text, `yyyyMMdd.HHmmss`.
     pub fn text(&self) -> [u8; 15]
-        ensures { result ≡ text_of_time self.now }
+        ensures text { result ≡ text_of_time self.now }
+        ensures civil { IsTrue (spec.is_civil self.now) }
     {
         let (month, day) = (u16::from(self.month), u16::from(self.day));
         let (hour, minute) = (u16::from(self.hour), u16::from(self.minute));

@@ -1,0 +1,5 @@
+pub mod Order
+pub mod Merge
+pub mod Document
+pub mod Form
+pub mod Written

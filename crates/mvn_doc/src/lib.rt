@@ -1,0 +1,30 @@
+//! The document `maven-metadata.xml` of a directory (Maven repository metadata 1.1.0): what it holds, its one written
+//! form, and how documents of one directory are merged.
+#![tactic(auto)]
+
+mod doc;
+mod entries;
+mod form;
+pub mod laws;
+mod listing;
+mod merging;
+mod pair;
+mod settling;
+#[cfg(test)]
+mod tests;
+mod versions;
+mod writing;
+
+pub use doc::Doc;
+pub use entries::Entries;
+pub use form::{is_base_version, is_classifier, is_entry, is_extension, is_version};
+pub use listing::Listing;
+pub use merging::merge;
+pub use pair::{Held, Pair};
+pub use settling::{empty, settle};
+use std::alloc::AllocError;
+pub use versions::Versions;
+pub use writing::write;
+
+/// There was no memory left.
+pub type NoMemory = AllocError;

@@ -1,0 +1,9 @@
+pub mod Numbers
+pub mod Shorter
+pub mod TagSteps
+pub mod Completed
+pub mod TreeSteps
+pub mod Reading
+pub mod ContentLemmas
+pub mod Parsing
+pub mod Spelled

@@ -1,0 +1,10 @@
+pub mod Cut
+pub mod Name
+pub mod Reference
+pub mod Tag
+pub mod Token
+pub mod Element
+pub mod Document
+pub mod Tree
+pub mod Content
+pub mod Spelling
