@@ -8,9 +8,9 @@ use Rattle.turn_lock.specs.declared.view.Entry.{Entry}
 use Rattle.turn_lock.specs.declared.view.View.{View}
 use Rattle.turn_lock.specs.declared.view.Slot.{Slot}
 use Rattle.turn_lock.specs.declared.turns.Turns.{Turns}
-use Rattle.turn_lock.specs.History.{Legal, end_of, AllKept}
+use Rattle.turn_lock.specs.History.{Legal, end_of, AllKept, AllOnce, AllBelow}
 use Rattle.turn_lock.specs.declared.view.Slot.TheVariants.{Told}
-use Rattle.turn_lock.specs.Rule.{accounts, Lawful}
+use Rattle.turn_lock.specs.Rule.{Sound, Lawful}
 use Rattle.turn_lock.specs.Plays.{Gives}
 use Rattle.turn_lock.specs.Views.{gave, holding}
 use Rattle.turn_lock.specs.Seats.{opening, IsSeatOf, Gains}
@@ -41,7 +41,7 @@ gives_back {T} {C} {R} {F} turned turns slots t0 t1 t2 word call reply told free
 module _ {T C R F : Type 0} (turned : T → C → R → T → Type 0) (turns : Turns T C R F) (t0 t1 t2 t3 : Token (Slot C R T) (View C R T))
     (word : ℕ) (call : C) (reply : R) (told : Slot C R T) (free : IsSeatOf turned turns (record { token = t0 })) (took : HasTurn turned turns t0 t1 word) (turn : TookTurn turned turns t1 t2 call reply told)
     (place : t3.table_id ≡ t2.table_id)
-    (gives : AllKept t3.me.0.seen (accounts t3.me.0) × (t3.me ≡ (gave t2.me.0 (record { by = t2.me.0.number; call = turn.asked.value; reply = turn.answered.value; after = turn.after }), []))) where
+    (gives : Sound t3.me.0 × (t3.me ≡ (gave t2.me.0 (record { by = t2.me.0.number; call = turn.asked.value; reply = turn.answered.value; after = turn.after }), []))) where
   made : Entry C R T
   made = record { by = t0.me.0.number; call = call; reply = reply; after = turn.after }
 
@@ -62,7 +62,9 @@ module _ {T C R F : Type 0} (turned : T → C → R → T → Type 0) (turns : T
         alive = (let e = ap (λ (v : View C R T). v.parts) whole in let a = free.alive in omega arith);
         from = ap (λ v. v.opening) whole ∙ free.from;
         legal = subst (Legal turned (opening turns)) (sym (ap (λ (v : View C R T). v.seen) whole)) (legal_snoc turned (opening turns) t1.me.0.seen made took.holds.legal turn.turn);
-        own = subst (AllKept t3.me.0.seen) (accounts_named t3.me.0 named) gives.0;
+        own = subst (AllKept t3.me.0.seen) (accounts_named t3.me.0 named) gives.0.own;
+        once = subst AllOnce (accounts_named t3.me.0 named) gives.0.once;
+        below = subst (AllBelow t3.me.0.given) (accounts_named t3.me.0 named) gives.0.below;
       }
 
   pub gains : Gains (record { token = t0 }) call reply (record { token = t3 })
@@ -74,6 +76,9 @@ module _ {T C R F : Type 0} (turned : T → C → R → T → Type 0) (turns : T
 
   pub same_joined : t3.me.0.joined ≡ t0.me.0.joined
   same_joined = ap (λ v. v.joined) whole
+
+  pub same_given : t3.me.0.given ≡ t0.me.0.given
+  same_given = ap (λ v. v.given) whole
 
   pub same_parts : t3.me.0.parts ≡ t0.me.0.parts
   same_parts = ap (λ v. v.parts) whole

@@ -1,5 +1,5 @@
 -- The rule at the beginning, and what it says at the end.
-use Rattle.std.proofs.Common.{◌≡◌, ◌⊎◌, ℕ, zero, suc, ◌+◌, ◌*◌, ◌^◌, ◌<◌, List, [], ◌∷◌, length, Some, false, true≢false, refl, sym, ap, ◌∙◌, subst, inl, inr, arith}
+use Rattle.std.proofs.Common.{◌≡◌, ◌⊎◌, ℕ, zero, suc, ◌+◌, ◌*◌, ◌^◌, ◌<◌, ◌≤◌, List, [], ◌∷◌, length, Some, refl, sym, ap, ◌∙◌, subst, inl, inr, ⊎_elim, arith}
 use mathlib.Core.Option.{some, some-injective, some-ne-none}
 use mathlib.Core.Logic.{dite}
 use native.Mathlib.Decide.{ℕ_discrete}
@@ -9,7 +9,7 @@ use Rattle.turn_lock.specs.declared.view.Entry.{Entry}
 use Rattle.turn_lock.specs.declared.view.View.{View}
 use Rattle.turn_lock.specs.declared.view.Slot.{Slot}
 use Rattle.turn_lock.specs.declared.view.Slot.TheVariants.{Home}
-use Rattle.turn_lock.specs.History.{Legal, end_of, entries_by, BeginsWith, AllKept, times}
+use Rattle.turn_lock.specs.History.{Legal, end_of, entries_by, BeginsWith, AllKept, AllBelow, times}
 use Rattle.turn_lock.specs.Rule.{accounts, claims, turn_of, parts_of, total, Each, place, Sees, Lawful}
 use Rattle.turn_lock.specs.Views.{first_view}
 use Rattle.turn_lock.proofs.Totals.{total_alone}
@@ -32,11 +32,13 @@ module _ {C R T : Type 0} (turned : T → C → R → T → Type 0) (x : T) wher
         seen = alone (Sees []) (([], refl), ([], refl), λ _. refl);
       };
       callers = record {
+        given = 1;
         counted = λ k. dite (ℕ_discrete 0 k)
-            (λ is. inl (let h : times {C = C} {R = R} {T = T} k ((0, []) ∷ []) ≡ 1 = subst (λ (n : ℕ). times {C = C} {R = R} {T = T} n ((0, []) ∷ []) ≡ 1) is refl in omega arith))
-            (λ no. inr ((let h : times {C = C} {R = R} {T = T} k ((0, []) ∷ []) ≡ 0 = times_else {C = C} {R = R} {T = T} k (0, []) [] no in omega arith), refl));
+            (λ is. inl ((omega arith), let h : times {C = C} {R = R} {T = T} k ((0, []) ∷ []) ≡ 1 = subst (λ (n : ℕ). times {C = C} {R = R} {T = T} n ((0, []) ∷ []) ≡ 1) is refl in omega arith))
+            (λ no. inr ((omega arith), (let h : times {C = C} {R = R} {T = T} k ((0, []) ∷ []) ≡ 0 = times_else {C = C} {R = R} {T = T} k (0, []) [] no in omega arith), refl));
         kept = alone (λ v. AllKept [] (accounts v)) (refl, tt);
-        unnamed = alone (λ v. v.named ≡ false → 0 < v.parts → total {C = C} {R = R} {T = T} (claims v.number) (first_view x ∷ []) ≡ 1) (λ off _. let f : ⊥ = true≢false off in absurd f);
+        known = alone (λ v. (v.given ≤ 1) × AllBelow v.given (accounts v))
+            ((omega arith), λ k above. let h : times {C = C} {R = R} {T = T} k ((0, []) ∷ []) ≡ 0 = times_else {C = C} {R = R} {T = T} k (0, []) [] (λ is. omega arith) in h);
       };
       parts = record {
         whole = refl;
@@ -71,5 +73,8 @@ module _ {C R T : Type 0} (turned : T → C → R → T → Type 0) (opening : T
         word = sym same ∙ k.word.word ∙ ap (λ n. (2 * length log + n) ∷ []) nobody ∙ ap (λ n. n ∷ []) (omega arith);
         home = values 0 (Home (end_of opening log)) (ap (λ hs. get_elem? hs 0) (k.word.home ∙ ap (λ n. place n (end_of opening log) ∷ []) nobody));
         own = k.callers.kept id v at;
-        others = λ n. rw (← counts n) (k.callers.counted n);
+        others = λ n. rw (← counts n) (⊎_elim
+            (λ (one : (n < k.callers.given) × (total (claims n) s.views ≡ 1)). inl one.1)
+            (λ (none : (k.callers.given ≤ n) × (total (claims n) s.views ≡ 0) × (entries_by n log ≡ [])). inr (none.1, none.2))
+            (k.callers.counted n));
       }

@@ -1,9 +1,9 @@
 -- Histories with one more entry, and accounts of callers.
-use Rattle.std.proofs.Common.{◌≡◌, ◌≢◌, ℕ, ◌+◌, ◌<◌, List, [], ◌∷◌, ◌++◌, cond, refl, sym, ap, ◌∙◌, arith, eq-eqb, ne_eqb, append_assoc, append-nil}
+use Rattle.std.proofs.Common.{◌≡◌, ◌≢◌, ℕ, ◌+◌, List, [], ◌∷◌, ◌++◌, cond, refl, sym, ap, ◌∙◌, subst, arith, eq-eqb, ne_eqb, append_assoc, append-nil}
 use mathlib.Core.Logic.{dite}
 use native.Mathlib.Decide.{ℕ_discrete}
 use Rattle.turn_lock.specs.declared.view.Entry.{Entry}
-use Rattle.turn_lock.specs.History.{Legal, end_of, entries_by, BeginsWith, times, AllKept}
+use Rattle.turn_lock.specs.History.{IsStep, Legal, EachCall, end_of, entries_by, BeginsWith, times, AllKept}
 
 module _ {C R T : Type 0} where
   pub legal_snoc : (turned : T → C → R → T → Type 0) (x : T) (log : List (Entry C R T)) (e : Entry C R T) → Legal turned x log → turned (end_of x log) e.call e.reply e.after → Legal turned x (log ++ e ∷ [])
@@ -44,9 +44,14 @@ module _ {C R T : Type 0} where
       front_empty (x ∷ xs) ys e = absurd (cc)
 
   -- the object's fixed part is that of the opening
-  pub fixed_end : {F : Type 0} (fixed : T → F) (turned : T → C → R → T → Type 0) (stays : (before after : T) (call : C) (reply : R) → turned before call reply after → fixed after ≡ fixed before) (x : T) (log : List (Entry C R T)) → Legal turned x log → fixed (end_of x log) ≡ fixed x
-  fixed_end fixed turned stays x [] legal = refl
-  fixed_end fixed turned stays x (e ∷ es) legal = fixed_end fixed turned stays e.after es legal.1 ∙ stays x e.after e.call e.reply legal.0
+  pub fixed_end : {F : Type 0} (fixed : T → F) (may_ask : F → C → Type 0) (turned : T → C → R → T → Type 0) (stays : (before after : T) (call : C) (reply : R) → turned before call reply after → fixed after ≡ fixed before) (x : T) (log : List (Entry C R T)) → Legal (IsStep fixed may_ask turned) x log → fixed (end_of x log) ≡ fixed x
+  fixed_end fixed may_ask turned stays x [] legal = refl
+  fixed_end fixed may_ask turned stays x (e ∷ es) legal = fixed_end fixed may_ask turned stays e.after es legal.1 ∙ stays x e.after e.call e.reply legal.0.1
+
+  -- each call may be asked of the opening's fixed part
+  pub calls_asked : {F : Type 0} (fixed : T → F) (may_ask : F → C → Type 0) (turned : T → C → R → T → Type 0) (stays : (before after : T) (call : C) (reply : R) → turned before call reply after → fixed after ≡ fixed before) (x : T) (log : List (Entry C R T)) → Legal (IsStep fixed may_ask turned) x log → EachCall (may_ask (fixed x)) log
+  calls_asked fixed may_ask turned stays x [] legal = tt
+  calls_asked fixed may_ask turned stays x (e ∷ es) legal = (legal.0.0, subst (λ f. EachCall (may_ask f) es) (stays x e.after e.call e.reply legal.0.1) (calls_asked fixed may_ask turned stays e.after es legal.1))
 
   pub begins_itself : (log : List (Entry C R T)) → BeginsWith log log
   begins_itself log = ([], sym (append-nil log))
@@ -64,6 +69,9 @@ module _ {C R T : Type 0} where
   pub times_else : (k : ℕ) (p : ℕ × List (Entry C R T)) (ps : List (ℕ × List (Entry C R T))) → p.0 ≢ k → times k (p ∷ ps) ≡ times k ps
   times_else k p ps apart = ap (λ b. cond b 1 0 + times k ps) (ne_eqb p.0 k apart) ∙ (omega arith)
 
+  pub times_cut : (k : ℕ) (p q : ℕ × List (Entry C R T)) (ps : List (ℕ × List (Entry C R T))) → times k (p ∷ ps) + times k (q ∷ []) ≡ times k (p ∷ q ∷ ps)
+  times_cut k p q ps = omega arith
+
   pub all_kept-append : (log : List (Entry C R T)) (ps qs : List (ℕ × List (Entry C R T))) → AllKept log ps → AllKept log qs → AllKept log (ps ++ qs)
   all_kept-append log [] qs here there = there
   all_kept-append log (p ∷ ps) qs here there = (here.0, all_kept-append log ps qs here.1 there)
@@ -75,13 +83,3 @@ module _ {C R T : Type 0} where
       dite (ℕ_discrete p.0 e.by)
       (λ is. let b = eq-eqb p.0 e.by is in let n : 1 + times e.by ps ≡ 0 = ap (λ c. cond c 1 0 + times e.by ps) (sym b) ∙ none in absurd (omega arith))
       (λ no. let n : times e.by ps ≡ 0 = sym (times_else e.by p ps no) ∙ none in (kept.0 ∙ sym (entries_by-other p.0 log e (λ is. no (sym is))), all_kept-other log e ps n kept.1))
-
-  -- the numbers of accounts, added up
-  pub numbers : List (ℕ × List (Entry C R T)) → ℕ
-  numbers [] = 0
-  numbers (p ∷ ps) = p.0 + numbers ps
-
-  pub times_above : (k : ℕ) (ps : List (ℕ × List (Entry C R T))) → numbers ps < k → times k ps ≡ 0
-  unfolding numbers
-  times_above k [] above = refl
-  times_above k (p ∷ ps) above = let apart : p.0 ≢ k = (λ is. omega arith) in times_else k p ps apart ∙ times_above k ps (omega arith)

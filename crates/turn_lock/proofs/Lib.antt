@@ -9,3 +9,4 @@ mod Closing
 mod Ends
 mod PartSteps
 mod Steps
+mod Seating

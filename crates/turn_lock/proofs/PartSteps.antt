@@ -1,10 +1,10 @@
 -- What each step does to the parts.
-use Rattle.std.proofs.Common.{◌≡◌, ℕ, ◌<◌, List, [], ◌∷◌, ◌++◌, set, Some, refl, ◌∙◌, arith}
+use Rattle.std.proofs.Common.{◌≡◌, ℕ, ◌+◌, ◌<◌, List, [], ◌∷◌, ◌++◌, set, Some, refl, ◌∙◌, arith}
 use mathlib.Core.Option.{some}
 use lib.ListN.{get_elem?}
 use Rattle.turn_lock.specs.declared.view.View.{View}
 use Rattle.turn_lock.specs.Rule.{accounts, parts_of, Parts}
-use Rattle.turn_lock.specs.Views.{without, offshoot, both, spent}
+use Rattle.turn_lock.specs.Views.{both, spent}
 use Rattle.turn_lock.proofs.Totals.{total_set, total_snoc, each_set, each_snoc}
 
 module _ {C R T : Type 0} (opening : T) (views : List (View C R T)) (id : ℕ) (v : View C R T) (kept : Parts opening views) (at : get_elem? views id ≡ some v) where
@@ -16,14 +16,14 @@ module _ {C R T : Type 0} (opening : T) (views : List (View C R T)) (id : ℕ) (
     spent = each_set (λ u. u.parts ≡ 0 → (u.turn ≡ 0) × (accounts u ≡ [])) views id w (λ j u _ there. kept.spent j u there) (λ none. absurd (omega arith));
   }
 
-  pub parts_split : (amount : ℕ) → 0 < amount → amount < v.parts → Parts opening (set views id (without amount v) ++ offshoot amount v ∷ [])
-  parts_split amount some_parts fewer =
-      let w = without amount v in let u = offshoot amount v in
+  -- a view is cut in two, and both have parts
+  pub parts_split : (w u : View C R T) → w.parts + u.parts ≡ v.parts → 0 < w.parts → 0 < u.parts → w.opening ≡ v.opening → u.opening ≡ v.opening → Parts opening (set views id w ++ u ∷ [])
+  parts_split w u sum left right same also =
       let from = kept.alive id v at (omega arith) in record {
         whole = (let t = total_set parts_of views id v w at in let n = total_snoc parts_of (set views id w) u in let k = kept.whole in omega arith);
         alive = each_snoc (λ u. 0 < u.parts → u.opening ≡ Some opening) (set views id w) u
-            (each_set (λ u. 0 < u.parts → u.opening ≡ Some opening) views id w (λ j u _ there. kept.alive j u there) (λ _. from))
-            (λ _. from);
+            (each_set (λ u. 0 < u.parts → u.opening ≡ Some opening) views id w (λ j u _ there. kept.alive j u there) (λ _. same ∙ from))
+            (λ _. also ∙ from);
         spent = each_snoc (λ u. u.parts ≡ 0 → (u.turn ≡ 0) × (accounts u ≡ [])) (set views id w) u
             (each_set (λ u. u.parts ≡ 0 → (u.turn ≡ 0) × (accounts u ≡ [])) views id w (λ j u _ there. kept.spent j u there) (λ none. absurd (omega arith)))
             (λ none. absurd (omega arith));

@@ -1,5 +1,5 @@
 -- Each step keeps the rule.
-use Rattle.std.proofs.Common.{◌≡◌, ℕ, zero, suc, ◌+◌, ◌*◌, ◌%◌, ◌<◌, List, [], ◌∷◌, ◌++◌, length, set, eqb, Option, Some, true, false, refl, sym, ap, ◌∙◌, subst, arith}
+use Rattle.std.proofs.Common.{◌≡◌, ℕ, zero, suc, ◌+◌, ◌*◌, ◌%◌, ◌<◌, List, [], ◌∷◌, ◌++◌, length, set, eqb, Option, Some, true, refl, sym, ap, ◌∙◌, subst, arith}
 use Rattle.std.specs.Prelude.{slice_index, IfSome}
 use Rattle.std.specs.declared.snapshot.Snapshot.{Snapshot}
 use mathlib.Core.Option.{some, none, some-injective, some-ne-none}
@@ -12,12 +12,12 @@ use Rattle.turn_lock.specs.declared.view.View.{View}
 use Rattle.turn_lock.specs.declared.view.Slot.{Slot}
 use Rattle.turn_lock.specs.declared.view.Slot.TheVariants.{Home, Told}
 use Rattle.turn_lock.specs.History.{Legal, end_of, AllKept}
-use Rattle.turn_lock.specs.Rule.{accounts, Word, Lawful}
-use Rattle.turn_lock.specs.Views.{looked, named_as, holding, gave, without, offshoot, both, spent}
-use Rattle.turn_lock.specs.Plays.{Looks, Names, Takes, Gives}
+use Rattle.turn_lock.specs.Rule.{accounts, Sound, Word, Lawful}
+use Rattle.turn_lock.specs.Views.{looked, drawn, holding, gave, without, offshoot, noted, slip, both, spent}
+use Rattle.turn_lock.specs.Plays.{Looks, Draws, Takes, Gives}
 use Rattle.turn_lock.proofs.Histories.{begins_itself, none_before}
 use Rattle.turn_lock.proofs.WordSteps.{word_same, word_take, word_give, word_split, word_join, at_home, word_is_double, word_is_odd, all_seen}
-use Rattle.turn_lock.proofs.CallerSteps.{unused, unused_silent, number_used, callers_same, callers_name, callers_give, callers_split, callers_join}
+use Rattle.turn_lock.proofs.CallerSteps.{next_free, claims_once, callers_same, callers_draw, callers_give, callers_split, callers_note, callers_join}
 use Rattle.turn_lock.proofs.PartSteps.{parts_same, parts_split, parts_join}
 
 within : {A : Type 0} (l : List A) (i : ℕ) (a : A) → get_elem? l i ≡ some a → i < length l
@@ -33,7 +33,8 @@ module _ {C R T : Type 0} (turned : T → C → R → T → Type 0) (opening : T
       → Allows (Lawful turned opening) slots id m 0 (λ n. n) (λ n w. Looks turned m w)
   looks slots id m live on s (log, k) wide at _ =
       let v = m.0 in let w = looked v log in
-      let mine = k.word.seen id v at in (
+      let mine = k.word.seen id v at in
+      let sound_here : Sound w = record { own = k.callers.kept id v at; once = claims_once log s.views k.callers id v at; below = (k.callers.known id v at).1 } in (
         w,
         keeps,
         tt,
@@ -41,17 +42,17 @@ module _ {C R T : Type 0} (turned : T → C → R → T → Type 0) (opening : T
           log,
           record {
             word = word_same turned opening log s k.word id v at w refl (begins_itself log, mine.1, λ _. refl);
-            callers = callers_same log s.views k.callers id v at w refl (λ off live. k.callers.unnamed id v at off live);
+            callers = callers_same log s.views k.callers id v at w refl refl;
             parts = parts_same opening s.views id v k.parts at w live refl refl;
           },
         ),
-        (mine.0, mine.1, if_some v.opening (λ o. Legal turned o log) (k.parts.alive id v at live) k.word.legal, k.callers.kept id v at, refl),
+        (mine.0, mine.1, if_some v.opening (λ o. Legal turned o log) (k.parts.alive id v at live) k.word.legal, sound_here, refl),
       )
 
-  pub names : (slots id : ℕ) (m : Me (Slot C R T) (View C R T)) → 0 < m.0.parts → m.0.named ≡ false → m.0.mine ≡ []
-      → Allows (Lawful turned opening) slots id m 0 (λ n. n) (λ n w. Names m w)
-  names slots id m live off idle s (log, k) wide at _ =
-      let v = m.0 in let n = unused s.views in let w = named_as v n in (
+  pub draws : (slots id : ℕ) (m : Me (Slot C R T) (View C R T)) → 0 < m.0.parts → m.0.named ≡ true
+      → Allows (Lawful turned opening) slots id m 0 (λ n. n) (λ n w. Draws m w)
+  draws slots id m live on s (log, k) wide at _ =
+      let v = m.0 in let n = k.callers.given in let w = drawn v n in (
         w,
         keeps,
         tt,
@@ -59,11 +60,11 @@ module _ {C R T : Type 0} (turned : T → C → R → T → Type 0) (opening : T
           log,
           record {
             word = word_same turned opening log s k.word id v at w refl (k.word.seen id v at);
-            callers = callers_name log s.views k.callers id v at off idle;
+            callers = callers_draw log s.views k.callers id v at on;
             parts = parts_same opening s.views id v k.parts at w live refl refl;
           },
         ),
-        (n, number_used log s.views k.callers id v at live, none_before n log v.seen (k.word.seen id v at).0 (unused_silent log s.views k.callers id v at), refl),
+        (n, (k.callers.known id v at).0, none_before n log v.seen (k.word.seen id v at).0 (next_free log s.views k.callers).1, refl),
       )
 
   pub takes_turn : (slots id : ℕ) (m : Me (Slot C R T) (View C R T)) (old : ℕ) → m.1 ≡ [] → 0 < m.0.parts → m.0.named ≡ true → old % 2 ≡ 0
@@ -86,7 +87,7 @@ module _ {C R T : Type 0} (turned : T → C → R → T → Type 0) (opening : T
           log,
           record {
             word = subst (λ (x : ℕ). Word turned opening log (record { words = set s.words 0 x; homes = set s.homes 0 none; views = set s.views id w })) bumped (word_take turned opening log s k.word id v at e);
-            callers = callers_same log s.views k.callers id v at w refl (λ off live. k.callers.unnamed id v at off live);
+            callers = callers_same log s.views k.callers id v at w refl refl;
             parts = parts_same opening s.views id v k.parts at w live refl refl;
           },
         ),
@@ -108,23 +109,35 @@ module _ {C R T : Type 0} (turned : T → C → R → T → Type 0) (opening : T
           log,
           record {
             word = word_same turned opening log s k.word id v at v refl (k.word.seen id v at);
-            callers = callers_same log s.views k.callers id v at v refl (λ off live. k.callers.unnamed id v at off live);
+            callers = callers_same log s.views k.callers id v at v refl refl;
             parts = parts_same opening s.views id v k.parts at v live refl refl;
           },
         ),
         ((λ _. refl), (λ hit. absurd (miss hit))),
       ))
 
-  pub splits : (id : ℕ) (v : View C R T) (amount : ℕ) → v.named ≡ true → 0 < amount → amount < v.parts
+  pub splits : (id : ℕ) (v : View C R T) (amount n : ℕ) (ps : List (ℕ × List (Entry C R T))) → v.named ≡ true → v.joined ≡ (n, []) ∷ ps → 0 < amount → amount < v.parts
       → Splits (Lawful {C = C} {R = R} turned opening) id v (without amount v) (offshoot amount v)
-  splits id v amount on some_parts fewer s (log, k) at = (
-    log,
-    record {
-      word = word_split turned opening log s k.word id v at amount;
-      callers = callers_split log s.views k.callers id v at amount on;
-      parts = parts_split opening s.views id v k.parts at amount some_parts fewer;
-    },
-  )
+  splits id v amount n ps on first some_parts fewer s (log, k) at =
+      let mine = k.word.seen id v at in (
+        log,
+        record {
+          word = word_split turned opening log s k.word id v at (without amount v) (offshoot amount v) refl refl mine (mine.0, (log, refl), λ has. absurd (omega arith));
+          callers = callers_split log s.views k.callers id v at amount n ps on first;
+          parts = parts_split opening s.views id v k.parts at (without amount v) (offshoot amount v) (omega arith) (omega arith) some_parts refl refl;
+        },
+      )
+
+  pub notes : (id : ℕ) (v : View C R T) → v.named ≡ true → 1 < v.parts → Splits (Lawful {C = C} {R = R} turned opening) id v (noted v) (slip v)
+  notes id v on more s (log, k) at =
+      let mine = k.word.seen id v at in (
+        log,
+        record {
+          word = word_split turned opening log s k.word id v at (noted v) (slip v) refl refl mine (mine.0, (log, refl), λ has. absurd (omega arith));
+          callers = callers_note log s.views k.callers id v at on;
+          parts = parts_split opening s.views id v k.parts at (noted v) (slip v) (omega arith) (omega arith) (omega arith) refl refl;
+        },
+      )
 
   pub joins : (id : ℕ) (v : View C R T) (other : ℕ) (w : View C R T) → v.named ≡ true → 0 < v.parts → w.turn ≡ 0
       → Joins (Lawful {C = C} {R = R} turned opening) id v other w (both v w) spent
@@ -169,7 +182,11 @@ module _ {C R T : Type 0} (turned : T → C → R → T → Type 0) (opening : T
             let c : call ≡ call' = told_call call reply call' reply' (some-injective _ _ told) in
             let r : reply ≡ reply' = told_reply call reply call' reply' (some-injective _ _ told) in
             let a : after ≡ after' = held_same after after' held in (
-              subst (λ l. AllKept (l ++ e ∷ []) (accounts w)) (sym same) (callers.kept id w there),
+              record {
+                own = subst (λ l. AllKept (l ++ e ∷ []) (accounts w)) (sym same) (callers.kept id w there);
+                once = claims_once (log ++ e ∷ []) (set s.views id w) callers id w there;
+                below = (callers.known id w there).1;
+              },
               λ i. (gave v (record { by = v.number; call = (c i).value; reply = (r i).value; after = a i }), []),
             )),
       ))

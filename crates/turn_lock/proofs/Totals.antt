@@ -28,6 +28,10 @@ module _ {C R T : Type 0} where
   total_two f (x ∷ xs) (suc i) zero v u apart at there = let e : f x ≡ f u = ap f (some-injective x u there) in let h = total_at f xs i v at in omega arith
   total_two f (x ∷ xs) (suc i) (suc j) v u apart at there = let h = total_two f xs i j v u (λ e. apart (ap suc e)) at there in omega arith
 
+  -- a view is cut in two
+  pub total_cut : (f : View C R T → ℕ) (vs : List (View C R T)) (i : ℕ) (v w u : View C R T) → get_elem? vs i ≡ some v → f w + f u ≡ f v → total f (set vs i w ++ u ∷ []) ≡ total f vs
+  total_cut f vs i v w u at sum = let t = total_set f vs i v w at in let s = total_snoc f (set vs i w) u in omega arith
+
   total_none : (f : View C R T → ℕ) (vs : List (View C R T)) → total parts_of vs ≡ 0 → Each (λ v. v.parts ≡ 0 → f v ≡ 0) vs → total f vs ≡ 0
   total_none f [] none each = refl
   total_none f (x ∷ xs) none each = let here : f x ≡ 0 = each 0 x refl (omega arith) in let rest = total_none f xs (omega arith) (λ by v at. each (suc by) v at) in omega arith

@@ -11,7 +11,7 @@ use Rattle.turn_lock.specs.declared.view.Slot.{Slot}
 use Rattle.turn_lock.specs.declared.view.Slot.TheVariants.{Home}
 use Rattle.turn_lock.specs.History.{end_of, BeginsWith}
 use Rattle.turn_lock.specs.Rule.{total, turn_of, Each, place, Sees, Word}
-use Rattle.turn_lock.specs.Views.{holding, gave, without, offshoot, both, spent}
+use Rattle.turn_lock.specs.Views.{holding, gave, both, spent}
 use Rattle.turn_lock.proofs.Totals.{total_set, total_snoc, total_at, total_two, each_set, each_snoc}
 use Rattle.turn_lock.proofs.Histories.{legal_snoc, end_of-snoc, begins_itself, begins_more}
 
@@ -105,14 +105,13 @@ module _ {C R T : Type 0} (turned : T → C → R → T → Type 0) (opening : T
                 );
           }
 
-    pub word_split : (amount : ℕ) → Word turned opening log (record { words = s.words; homes = s.homes; views = set s.views id (without amount v) ++ offshoot amount v ∷ [] })
-    word_split amount =
-        let w = without amount v in let u = offshoot amount v in
+    -- a view is cut in two, and the second has not got the turn
+    pub word_split : (w u : View C R T) → w.turn ≡ v.turn → u.turn ≡ 0 → Sees log w → Sees log u → Word turned opening log (record { words = s.words; homes = s.homes; views = set s.views id w ++ u ∷ [] })
+    word_split w u same idle mine theirs =
         let t = total_set turn_of s.views id v w at in
         let n = total_snoc turn_of (set s.views id w) u in
-        let mine = kept.seen id v at in
         word_views (set s.views id w ++ u ∷ []) (omega arith)
-        (each_snoc (Sees log) (set s.views id w) u (each_set (Sees log) s.views id w (λ j u _ there. kept.seen j u there) mine) (mine.0, (log, refl), λ has. absurd (omega arith)))
+        (each_snoc (Sees log) (set s.views id w) u (each_set (Sees log) s.views id w (λ j u _ there. kept.seen j u there) mine) theirs)
 
     pub word_join : (other : ℕ) (w : View C R T) → w.turn ≡ 0 → other ≢ id → get_elem? (set s.views id (both v w)) other ≡ some w
         → Word turned opening log (record { words = s.words; homes = s.homes; views = set (set s.views id (both v w)) other spent })

@@ -4,7 +4,7 @@ use Rattle.turn_lock.specs.declared.view.Entry.{Entry}
 use Rattle.turn_lock.specs.declared.turns.Turns.{Turns}
 use Rattle.turn_lock.specs.declared.seat.SeatToken.{SeatToken as Seat}
 use Rattle.turn_lock.specs.declared.seat.NoteToken.{NoteToken as Note}
-use Rattle.turn_lock.specs.History.{Legal, end_of, entries_by, BeginsWith, times, AllKept}
+use Rattle.turn_lock.specs.History.{Legal, end_of, entries_by, BeginsWith, times, AllKept, AllOnce, AllBelow}
 
 -- the object as the history began
 abbrev pub opening : {T C R F : Type 0} → Turns T C R F → T
@@ -27,6 +27,10 @@ module _ {C R T : Type 0} where
   abbrev pub joined : Seat C R T → List (ℕ × List (Entry C R T))
   joined seat = seat.token.me.0.joined
 
+  -- how many numbers were given, as far as the seat knows: they are those below this one
+  abbrev pub given : Seat C R T → ℕ
+  given seat = seat.token.me.0.given
+
   -- its parts of the right to close
   abbrev pub parts_of : Seat C R T → ℕ
   parts_of seat = seat.token.me.0.parts
@@ -39,19 +43,25 @@ module _ {C R T : Type 0} where
   abbrev pub carried : Note C R T → List (Entry C R T)
   carried note = note.token.me.0.seen
 
--- The seat is one of these turns. What it has seen is legal, and holds of each of its callers just the entries that it says
-pub record IsSeatOf {T C R F : Type 0} (turned : T → C → R → T → Type 0) (turns : Turns T C R F) (seat : Seat C R T) : Type 0 where
+  -- how many numbers were given, as far as the note's seat knew
+  abbrev pub given_before : Note C R T → ℕ
+  given_before note = note.token.me.0.given
+
+-- The seat is one of these turns. What it has seen is legal. Each of its callers stands there once, with a number below those that it knows to be given, and has just these entries in what it has seen
+pub record IsSeatOf {T C R F : Type 0} (steps : T → C → R → T → Type 0) (turns : Turns T C R F) (seat : Seat C R T) : Type 0 where
   pub place : seat.token.table_id ≡ turns.table.shared.table_id
   pub alone : seat.token.me.1 ≡ []
   pub named : seat.token.me.0.named ≡ true
   pub idle : seat.token.me.0.turn ≡ 0
   pub alive : 0 < parts_of seat
   pub from : seat.token.me.0.opening ≡ Some (opening turns)
-  pub legal : Legal turned (opening turns) (seen seat)
+  pub legal : Legal steps (opening turns) (seen seat)
   pub own : AllKept (seen seat) (callers seat)
+  pub once : AllOnce (callers seat)
+  pub below : AllBelow (given seat) (callers seat)
 
 -- The note is one of these turns, and what it carries is legal
-pub record IsNoteOf {T C R F : Type 0} (turned : T → C → R → T → Type 0) (turns : Turns T C R F) (note : Note C R T) : Type 0 where
+pub record IsNoteOf {T C R F : Type 0} (steps : T → C → R → T → Type 0) (turns : Turns T C R F) (note : Note C R T) : Type 0 where
   pub place : note.token.table_id ≡ turns.table.shared.table_id
   pub alone : note.token.me.1 ≡ []
   pub unnamed : note.token.me.0.named ≡ false
@@ -59,10 +69,10 @@ pub record IsNoteOf {T C R F : Type 0} (turned : T → C → R → T → Type 0)
   pub one : note.token.me.0.parts ≡ 1
   pub from : note.token.me.0.opening ≡ Some (opening turns)
   pub empty : note.token.me.0.joined ≡ []
-  pub legal : Legal turned (opening turns) (carried note)
+  pub legal : Legal steps (opening turns) (carried note)
 
 module _ {C R T : Type 0} where
-  -- only the parts differ
+  -- the same number, history and entries: only the parts, and what is known of the numbers given, may differ
   abbrev pub Same : Seat C R T → Seat C R T → Type 0
   Same old new = (number new ≡ number old) × (seen new ≡ seen old) × (mine new ≡ mine old) × (joined new ≡ joined old)
 
@@ -74,9 +84,9 @@ module _ {C R T : Type 0} where
       (seen new ≡ (seen old ++ between) ++ e ∷ []) × (mine new ≡ mine old ++ e ∷ []))
 
 -- The whole history is legal and goes on from what the seat has seen, the object is its end, and each entry is of one of the callers, who each stand there once
-pub record Closes {T C R F : Type 0} (turned : T → C → R → T → Type 0) (turns : Turns T C R F) (seat : Seat C R T) (thing : T) (calls : ℕ) : Type 0 where
+pub record Closes {T C R F : Type 0} (steps : T → C → R → T → Type 0) (turns : Turns T C R F) (seat : Seat C R T) (thing : T) (calls : ℕ) : Type 0 where
   pub log : List (Entry C R T)
-  pub legal : Legal turned (opening turns) log
+  pub legal : Legal steps (opening turns) log
   pub begins : BeginsWith log (seen seat)
   pub end : thing ≡ end_of (opening turns) log
   pub long : calls ≡ length log

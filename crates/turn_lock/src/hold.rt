@@ -1,5 +1,6 @@
 // The turn: taking it and giving it back.
 ghost use Rattle.std.specs.Prelude.{◌≡◌, ◌+◌, ◌*◌, ◌^◌, ◌<◌, ◌≤◌, ◌∷◌, ◌++◌, [], length};
+ghost use Rattle.turn_lock.specs.History.{IsStep};
 ghost use Rattle.turn_lock.specs.Holding.{IsFree, HasTurn, HoldsEnd, TookTurn};
 ghost use Rattle.turn_lock.specs.Seats.{opening};
 
@@ -15,13 +16,13 @@ pub type Token<T> = atomic_table::Seat<
     View<<T as Thing>::Call, <T as Thing>::Reply, T>,
 >;
 
-// The word at which no turn is taken any more.
+// The word at which no turn is taken any more: it stands for 2^62 entries.
 const LAST: u64 = 1 << 63;
 
-// Waits for the turn and takes it, and returns the word at which it was taken.
+// Waits for the turn and takes it. Returns the word that stood there, which is even and below LAST.
 pub fn take<T: Thing, R: Wait>(rt: &R, turns: &Turns<T>, token: &mut Token<T>) -> u64
     requires { IsFree turns.now token.old }
-    ensures { HasTurn T.turned turns.now token.old token.new result }
+    ensures { HasTurn (IsStep T.fixed T.may_ask T.turned) turns.now token.old token.new result }
 {
     let shared = &turns.table.shared;
     for _ in rt.forever() {
@@ -38,15 +39,15 @@ pub fn take<T: Thing, R: Wait>(rt: &R, turns: &Turns<T>, token: &mut Token<T>) -
     unreachable!()
 }
 
-// Takes the object out, lets it take a turn, and puts it back. What was asked and answered comes back for `give`.
+// With the turn taken: takes the object out of the slot, asks it, and puts it back. Returns its reply, and what the step that gives the turn back is to tell.
 pub fn turn<T: Thing>(
     turns: &Turns<T>,
     token: &mut Token<T>,
     call: T::Call,
 ) -> (T::Reply, Slot<T::Call, T::Reply, T>)
-    requires token { HoldsEnd T.turned turns.now token.old }
+    requires token { HoldsEnd (IsStep T.fixed T.may_ask T.turned) turns.now token.old }
     requires call { T.may_ask (T.fixed (opening turns.now)) call }
-    ensures { TookTurn T.turned turns.now token.old token.new call result.0 result.1 }
+    ensures { TookTurn (IsStep T.fixed T.may_ask T.turned) turns.now token.old token.new call result.0 result.1 }
 {
     let shared = &turns.table.shared;
     let Slot::Home(mut thing) = shared.exchange(token, 0, Slot::Away) else {

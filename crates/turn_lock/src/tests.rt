@@ -1,12 +1,17 @@
 ghost use Rattle.std.specs.Prelude.{◌≡◌, ◌+◌, ◌-◌, ◌%◌, ◌^◌, ◌<◌, length, slice_index, slice_set, vec_len};
 ghost use Rattle.std.proofs.Common.{length-set};
+ghost use Rattle.turn_lock.specs.History.{IsStep};
 ghost use Rattle.turn_lock.specs.Seats.{opening, parts_of, IsSeatOf, IsNoteOf};
 
 use super::*;
 use std::alloc::Global;
 use std::sync::Wait;
 use std::test::*;
-use std::thread::{Threads, join};
+use std::thread::Threads;
+
+mod jobs;
+
+use jobs::{Job, run_all, run_both, run_four};
 
 // A call adds, and is told the sum before it.
 #[derive(Drop)]
@@ -64,7 +69,38 @@ impl Thing for Shelf {
     }
 }
 
-// Makes the call so often, and adds up what was answered.
+// A seat that takes a note in, makes the same call so often, and makes a note. Gives the seat and that note, and the sum of what was answered.
+#[derive(Drop)]
+struct Caller<'a, C: Copy, T: Thing<Call = C, Reply = u64>> {
+    turns: &'a Turns<T>,
+    seat: Seat<T>,
+    heard: Note<T>,
+    call: C,
+    times: u64,
+}
+
+impl<C: Copy, T: Thing<Call = C, Reply = u64>> Job for Caller<'_, C, T> {
+    type Out = (Seat<T>, Note<T>, u64);
+
+    ghost ready = { λ d. IsSeatOf (IsStep T.fixed T.may_ask T.turned) d.turns.now d.seat × IsNoteOf (IsStep T.fixed T.may_ask T.turned) d.turns.now d.heard × T.may_ask (T.fixed (opening d.turns.now)) d.call };
+
+    ghost gives = { λ d out. IsSeatOf (IsStep T.fixed T.may_ask T.turned) d.turns.now out.0 × IsNoteOf (IsStep T.fixed T.may_ask T.turned) d.turns.now out.1 × (parts_of out.0 ≡ parts_of d.seat) };
+
+    fn run<R: Wait>(self, rt: &R) -> (Seat<T>, Note<T>, u64) {
+        let Caller {
+            turns,
+            mut seat,
+            heard,
+            call,
+            times,
+        } = self;
+        seat.learn(turns, heard);
+        let (mut seat, sum) = repeat(rt, turns, seat, call, times);
+        let note = seat.note(turns);
+        (seat, note, sum)
+    }
+}
+
 fn repeat<C: Copy, T: Thing<Call = C, Reply = u64>, R: Wait>(
     rt: &R,
     turns: &Turns<T>,
@@ -72,15 +108,81 @@ fn repeat<C: Copy, T: Thing<Call = C, Reply = u64>, R: Wait>(
     call: C,
     times: u64,
 ) -> (Seat<T>, u64)
-    requires seat { IsSeatOf T.turned turns.now seat }
+    requires seat { IsSeatOf (IsStep T.fixed T.may_ask T.turned) turns.now seat }
     requires call { T.may_ask (T.fixed (opening turns.now)) call }
-    ensures { IsSeatOf T.turned turns.now result.0 × (parts_of result.0 ≡ parts_of seat) }
+    ensures { IsSeatOf (IsStep T.fixed T.may_ask T.turned) turns.now result.0 × (parts_of result.0 ≡ parts_of seat) }
 {
     let mut sum: u64 = 0;
     for _ in 0..times {
         sum = sum.wrapping_add(seat.call(rt, turns, call));
     }
     (seat, sum)
+}
+
+// Two seats call in threads of their own, each so often as it is told. Gives the seats, their notes and the sums of their answers.
+fn both_call<C: Copy + Send, T: Thing<Call = C, Reply = u64> + Send, R: Threads + Wait + Sync>(
+    rt: &R,
+    turns: &Turns<T>,
+    first: (Seat<T>, Note<T>),
+    second: (Seat<T>, Note<T>),
+    calls: (C, C),
+    times: (u64, u64),
+) -> ((Seat<T>, Note<T>, u64), (Seat<T>, Note<T>, u64))
+    requires seats { IsSeatOf (IsStep T.fixed T.may_ask T.turned) turns.now first.0 × IsSeatOf (IsStep T.fixed T.may_ask T.turned) turns.now second.0 }
+    requires notes { IsNoteOf (IsStep T.fixed T.may_ask T.turned) turns.now first.1 × IsNoteOf (IsStep T.fixed T.may_ask T.turned) turns.now second.1 }
+    requires calls { T.may_ask (T.fixed (opening turns.now)) calls.0 × T.may_ask (T.fixed (opening turns.now)) calls.1 }
+    ensures seats { IsSeatOf (IsStep T.fixed T.may_ask T.turned) turns.now result.0.0 × IsSeatOf (IsStep T.fixed T.may_ask T.turned) turns.now result.1.0 }
+    ensures notes { IsNoteOf (IsStep T.fixed T.may_ask T.turned) turns.now result.0.1 × IsNoteOf (IsStep T.fixed T.may_ask T.turned) turns.now result.1.1 }
+    ensures parts { (parts_of result.0.0 ≡ parts_of first.0) × (parts_of result.1.0 ≡ parts_of second.0) }
+{
+    let (seat, heard) = first;
+    let one = Caller {
+        turns,
+        seat,
+        heard,
+        call: calls.0,
+        times: times.0,
+    };
+    let (seat, heard) = second;
+    let two = Caller {
+        turns,
+        seat,
+        heard,
+        call: calls.1,
+        times: times.1,
+    };
+    run_both(rt, one, two)
+}
+
+// Two seats and a note of each, which have all parts.
+fn two_seats<T: Thing>(
+    turns: &Turns<T>,
+    mut seat: Seat<T>,
+) -> ((Seat<T>, Note<T>), (Seat<T>, Note<T>))
+    requires seat { IsSeatOf (IsStep T.fixed T.may_ask T.turned) turns.now seat }
+    requires parts { parts_of seat ≡ 2 ^ 64 }
+    ensures seats { IsSeatOf (IsStep T.fixed T.may_ask T.turned) turns.now result.0.0 × IsSeatOf (IsStep T.fixed T.may_ask T.turned) turns.now result.1.0 }
+    ensures notes { IsNoteOf (IsStep T.fixed T.may_ask T.turned) turns.now result.0.1 × IsNoteOf (IsStep T.fixed T.may_ask T.turned) turns.now result.1.1 }
+    ensures parts { (parts_of result.0.0 + 8 ≡ 2 ^ 64) × (parts_of result.1.0 ≡ 6) }
+{
+    let mut other = seat.split(turns, 7);
+    let note = seat.note(turns);
+    let other_note = other.note(turns);
+    ((seat, note), (other, other_note))
+}
+
+// Joins the seats, learns the notes and ends the history.
+fn end<T: Thing>(turns: Turns<T>, first: (Seat<T>, Note<T>), second: (Seat<T>, Note<T>)) -> (T, u64)
+    requires seats { IsSeatOf (IsStep T.fixed T.may_ask T.turned) turns first.0 × IsSeatOf (IsStep T.fixed T.may_ask T.turned) turns second.0 }
+    requires notes { IsNoteOf (IsStep T.fixed T.may_ask T.turned) turns first.1 × IsNoteOf (IsStep T.fixed T.may_ask T.turned) turns second.1 }
+    requires parts { parts_of first.0 + parts_of second.0 + 2 ≡ 2 ^ 64 }
+{
+    let (mut seat, note) = first;
+    let (other, other_note) = second;
+    seat.join(&turns, other);
+    seat.learn(&turns, note);
+    seat.learn(&turns, other_note);
+    close(turns, seat)
 }
 
 #[test]
@@ -96,177 +198,56 @@ fn one_seat_calls_a_hundred_times(rt: HostRuntime) -> Result<(), Fail> {
 
 #[test]
 fn two_threads_count(rt: HostRuntime) -> Result<(), Fail> {
-    let Ok((turns, mut seat)) = Turns::begin(rt.alloc(), Counter { sum: 0 }) else {
+    let Ok((turns, seat)) = Turns::begin(rt.alloc(), Counter { sum: 0 }) else {
         return Err("memory".into());
     };
-    let other = seat.split(&turns, 7);
-    let (mut seat, other, answered) = both_count(&rt, &turns, seat, other, 500);
-    seat.join(&turns, other);
-    let (counter, calls) = close(turns, seat);
-    assert_eq!(rt; (answered, counter.sum, calls), (499_500, 1000, 1000));
+    let (one, two) = two_seats(&turns, seat);
+    let (one, two) = both_call(&rt, &turns, one, two, (1, 1), (500, 500));
+    let (counter, calls) = end(turns, (one.0, one.1), (two.0, two.1));
+    assert_eq!(rt; one.2.wrapping_add(two.2), 499_500);
+    assert_eq!(rt; (counter.sum, calls), (1000, 1000));
     Ok(())
 }
 
-// Two threads count up so often each, with a seat each. Gives the sum of the answers.
-fn both_count<R: Threads + Wait + Sync>(
-    rt: &R,
-    turns: &Turns<Counter>,
-    first: Seat<Counter>,
-    second: Seat<Counter>,
-    times: u64,
-) -> (Seat<Counter>, Seat<Counter>, u64)
-    requires first { IsSeatOf (λ a n reply b. (reply ≡ a.sum) × (b.sum ≡ (a.sum + n) % 2 ^ 64)) turns.now first }
-    requires second { IsSeatOf (λ a n reply b. (reply ≡ a.sum) × (b.sum ≡ (a.sum + n) % 2 ^ 64)) turns.now second }
-    ensures first { IsSeatOf (λ a n reply b. (reply ≡ a.sum) × (b.sum ≡ (a.sum + n) % 2 ^ 64)) turns.now result.0 × (parts_of result.0 ≡ parts_of first) }
-    ensures second { IsSeatOf (λ a n reply b. (reply ≡ a.sum) × (b.sum ≡ (a.sum + n) % 2 ^ 64)) turns.now result.1 × (parts_of result.1 ≡ parts_of second) }
-{
-    let ((first, one), (second, two)) = join(
-        rt,
-        move || -> (Seat<Counter>, u64)
-            requires { IsSeatOf (λ a n reply b. (reply ≡ a.sum) × (b.sum ≡ (a.sum + n) % 2 ^ 64)) turns.now first }
-            ensures { IsSeatOf (λ a n reply b. (reply ≡ a.sum) × (b.sum ≡ (a.sum + n) % 2 ^ 64)) turns.entry.now result.0 × (parts_of result.0 ≡ parts_of first) }
-        { repeat(rt, turns, first, 1, times) },
-        move || -> (Seat<Counter>, u64)
-            requires { IsSeatOf (λ a n reply b. (reply ≡ a.sum) × (b.sum ≡ (a.sum + n) % 2 ^ 64)) turns.now second }
-            ensures { IsSeatOf (λ a n reply b. (reply ≡ a.sum) × (b.sum ≡ (a.sum + n) % 2 ^ 64)) turns.entry.now result.0 × (parts_of result.0 ≡ parts_of second) }
-        { repeat(rt, turns, second, 1, times) },
-    );
-    (first, second, one.wrapping_add(two))
-}
-
+// Two threads store first in places of their own, and then both in one place: each number that was stored there was told once, or stands there at the end.
 #[test]
 fn two_threads_store(rt: HostRuntime) -> Result<(), Fail> {
     let shelf = Shelf {
         places: vec![in rt.alloc(); 0; 4]?,
     };
-    let Ok((turns, mut seat)) = Turns::begin(rt.alloc(), shelf) else {
+    let Ok((turns, seat)) = Turns::begin(rt.alloc(), shelf) else {
         return Err("memory".into());
     };
-    let other = seat.split(&turns, 7);
-    let (mut seat, other, answered) = both_store(&rt, &turns, seat, other, 300);
-    seat.join(&turns, other);
-    let (shelf, calls) = close(turns, seat);
-    assert_eq!(rt; (answered, calls), (299 * 5 + 299 * 7, 600));
-    assert_eq!(rt; shelf.places.as_slice(), [5, 0, 0, 7].as_slice());
+    let (one, two) = two_seats(&turns, seat);
+    let (one, two) = both_call(&rt, &turns, one, two, ((0, 5), (3, 7)), (300, 300));
+    assert_eq!(rt; (one.2, two.2), (299 * 5, 299 * 7));
+    let (one, two) = ((one.0, one.1), (two.0, two.1));
+    let (one, two) = both_call(&rt, &turns, one, two, ((1, 5), (1, 7)), (300, 300));
+    let (shelf, calls) = end(turns, (one.0, one.1), (two.0, two.1));
+    assert_eq!(rt; (shelf.places.len(), calls), (4, 1200));
+    let left = shelf.places[1];
+    assert!(rt; left == 5 || left == 7);
+    assert_eq!(rt;
+        one.2.wrapping_add(two.2).wrapping_add(left),
+        300 * 5 + 300 * 7
+    );
+    assert_eq!(rt; shelf.places.as_slice(), [5, left, 0, 7].as_slice());
     Ok(())
 }
 
-// Two threads store so often each, one 5 in the first place and one 7 in the last. Gives the sum of the answers.
-fn both_store<R: Threads + Wait + Sync>(
-    rt: &R,
-    turns: &Turns<Shelf>,
-    first: Seat<Shelf>,
-    second: Seat<Shelf>,
-    times: u64,
-) -> (Seat<Shelf>, Seat<Shelf>, u64)
-    requires first { IsSeatOf (λ a call reply b. (reply ≡ slice_index a.places.items call.0) × (b.places.items ≡ slice_set a.places.items call.0 call.1)) turns.now first }
-    requires second { IsSeatOf (λ a call reply b. (reply ≡ slice_index a.places.items call.0) × (b.places.items ≡ slice_set a.places.items call.0 call.1)) turns.now second }
-    requires places { 3 < length (opening turns.now).places.items }
-    ensures first { IsSeatOf (λ a call reply b. (reply ≡ slice_index a.places.items call.0) × (b.places.items ≡ slice_set a.places.items call.0 call.1)) turns.now result.0 × (parts_of result.0 ≡ parts_of first) }
-    ensures second { IsSeatOf (λ a call reply b. (reply ≡ slice_index a.places.items call.0) × (b.places.items ≡ slice_set a.places.items call.0 call.1)) turns.now result.1 × (parts_of result.1 ≡ parts_of second) }
-{
-    let ((first, one), (second, two)) = join(
-        rt,
-        move || -> (Seat<Shelf>, u64)
-            requires { IsSeatOf (λ a call reply b. (reply ≡ slice_index a.places.items call.0) × (b.places.items ≡ slice_set a.places.items call.0 call.1)) turns.now first × (3 < length (opening turns.now).places.items) }
-            ensures { IsSeatOf (λ a call reply b. (reply ≡ slice_index a.places.items call.0) × (b.places.items ≡ slice_set a.places.items call.0 call.1)) turns.entry.now result.0 × (parts_of result.0 ≡ parts_of first) }
-        { repeat(rt, turns, first, (0, 5), times) },
-        move || -> (Seat<Shelf>, u64)
-            requires { IsSeatOf (λ a call reply b. (reply ≡ slice_index a.places.items call.0) × (b.places.items ≡ slice_set a.places.items call.0 call.1)) turns.now second × (3 < length (opening turns.now).places.items) }
-            ensures { IsSeatOf (λ a call reply b. (reply ≡ slice_index a.places.items call.0) × (b.places.items ≡ slice_set a.places.items call.0 call.1)) turns.entry.now result.0 × (parts_of result.0 ≡ parts_of second) }
-        { repeat(rt, turns, second, (3, 7), times) },
-    );
-    (first, second, one.wrapping_add(two))
-}
-
+// One thread adds 5. Another, which takes in its note, then adds 1 to that.
 #[test]
 fn a_note_goes_from_one_thread_to_another(rt: HostRuntime) -> Result<(), Fail> {
-    let Ok((turns, mut seat)) = Turns::begin(rt.alloc(), Counter { sum: 0 }) else {
+    let Ok((turns, seat)) = Turns::begin(rt.alloc(), Counter { sum: 0 }) else {
         return Err("memory".into());
     };
-    let other = seat.split(&turns, 7);
-    let (seat, note) = told(&rt, &turns, seat);
-    let (mut seat, answered) = heard(&rt, &turns, seat, other, note);
-    let (counter, calls) = close(turns, seat);
-    assert_eq!(rt; (answered, counter.sum, calls), (5, 6, 2));
+    let (one, two) = two_seats(&turns, seat);
+    let (one, two) = both_call(&rt, &turns, one, two, (5, 5), (1, 0));
+    let (one, two) = ((one.0, two.1), (two.0, one.1));
+    let (one, two) = both_call(&rt, &turns, one, two, (1, 1), (0, 1));
+    let (counter, calls) = end(turns, (one.0, one.1), (two.0, two.1));
+    assert_eq!(rt; (one.2, two.2, counter.sum, calls), (0, 5, 6, 2));
     Ok(())
-}
-
-// One thread adds 5, and makes a note.
-fn told<R: Threads + Wait + Sync>(
-    rt: &R,
-    turns: &Turns<Counter>,
-    seat: Seat<Counter>,
-) -> (Seat<Counter>, Note<Counter>)
-    requires seat { IsSeatOf (λ a n reply b. (reply ≡ a.sum) × (b.sum ≡ (a.sum + n) % 2 ^ 64)) turns.now seat }
-    requires parts { 1 < parts_of seat }
-    ensures seat { IsSeatOf (λ a n reply b. (reply ≡ a.sum) × (b.sum ≡ (a.sum + n) % 2 ^ 64)) turns.now result.0 × (parts_of result.0 + 1 ≡ parts_of seat) }
-    ensures note { IsNoteOf (λ a n reply b. (reply ≡ a.sum) × (b.sum ≡ (a.sum + n) % 2 ^ 64)) turns.now result.1 }
-{
-    let (out, _) = join(
-        rt,
-        move || -> (Seat<Counter>, Note<Counter>)
-            requires { IsSeatOf (λ a n reply b. (reply ≡ a.sum) × (b.sum ≡ (a.sum + n) % 2 ^ 64)) turns.now seat × (1 < parts_of seat) }
-            ensures { IsSeatOf (λ a n reply b. (reply ≡ a.sum) × (b.sum ≡ (a.sum + n) % 2 ^ 64)) turns.entry.now result.0 × (parts_of result.0 + 1 ≡ parts_of seat) × IsNoteOf (λ a n reply b. (reply ≡ a.sum) × (b.sum ≡ (a.sum + n) % 2 ^ 64)) turns.entry.now result.1 }
-        { tell(rt, turns, seat) },
-        || (),
-    );
-    out
-}
-
-fn tell<R: Wait>(
-    rt: &R,
-    turns: &Turns<Counter>,
-    mut seat: Seat<Counter>,
-) -> (Seat<Counter>, Note<Counter>)
-    requires seat { IsSeatOf (λ a n reply b. (reply ≡ a.sum) × (b.sum ≡ (a.sum + n) % 2 ^ 64)) turns.now seat }
-    requires parts { 1 < parts_of seat }
-    ensures seat { IsSeatOf (λ a n reply b. (reply ≡ a.sum) × (b.sum ≡ (a.sum + n) % 2 ^ 64)) turns.now result.0 × (parts_of result.0 + 1 ≡ parts_of seat) }
-    ensures note { IsNoteOf (λ a n reply b. (reply ≡ a.sum) × (b.sum ≡ (a.sum + n) % 2 ^ 64)) turns.now result.1 }
-{
-    seat.call(rt, turns, 5);
-    let note = seat.note(turns);
-    (seat, note)
-}
-
-// Another thread learns the note, adds 1, and is told what it adds to. Then the seats are joined.
-fn heard<R: Threads + Wait + Sync>(
-    rt: &R,
-    turns: &Turns<Counter>,
-    mut seat: Seat<Counter>,
-    other: Seat<Counter>,
-    note: Note<Counter>,
-) -> (Seat<Counter>, u64)
-    requires seat { IsSeatOf (λ a n reply b. (reply ≡ a.sum) × (b.sum ≡ (a.sum + n) % 2 ^ 64)) turns.now seat }
-    requires other { IsSeatOf (λ a n reply b. (reply ≡ a.sum) × (b.sum ≡ (a.sum + n) % 2 ^ 64)) turns.now other }
-    requires note { IsNoteOf (λ a n reply b. (reply ≡ a.sum) × (b.sum ≡ (a.sum + n) % 2 ^ 64)) turns.now note }
-    ensures seat { IsSeatOf (λ a n reply b. (reply ≡ a.sum) × (b.sum ≡ (a.sum + n) % 2 ^ 64)) turns.now result.0 × (parts_of result.0 ≡ parts_of seat + parts_of other + 1) }
-{
-    let ((other, answered), _) = join(
-        rt,
-        move || -> (Seat<Counter>, u64)
-            requires { IsSeatOf (λ a n reply b. (reply ≡ a.sum) × (b.sum ≡ (a.sum + n) % 2 ^ 64)) turns.now other × IsNoteOf (λ a n reply b. (reply ≡ a.sum) × (b.sum ≡ (a.sum + n) % 2 ^ 64)) turns.now note }
-            ensures { IsSeatOf (λ a n reply b. (reply ≡ a.sum) × (b.sum ≡ (a.sum + n) % 2 ^ 64)) turns.entry.now result.0 × (parts_of result.0 ≡ parts_of other + 1) }
-        { hear(rt, turns, other, note) },
-        || (),
-    );
-    seat.join(turns, other);
-    (seat, answered)
-}
-
-fn hear<R: Wait>(
-    rt: &R,
-    turns: &Turns<Counter>,
-    mut seat: Seat<Counter>,
-    note: Note<Counter>,
-) -> (Seat<Counter>, u64)
-    requires seat { IsSeatOf (λ a n reply b. (reply ≡ a.sum) × (b.sum ≡ (a.sum + n) % 2 ^ 64)) turns.now seat }
-    requires note { IsNoteOf (λ a n reply b. (reply ≡ a.sum) × (b.sum ≡ (a.sum + n) % 2 ^ 64)) turns.now note }
-    ensures seat { IsSeatOf (λ a n reply b. (reply ≡ a.sum) × (b.sum ≡ (a.sum + n) % 2 ^ 64)) turns.now result.0 × (parts_of result.0 ≡ parts_of seat + 1) }
-{
-    seat.learn(turns, note);
-    let answered = seat.call(rt, turns, 1);
-    (seat, answered)
 }
 
 #[test]
@@ -276,47 +257,65 @@ fn four_threads_count_a_thousand_times(rt: HostRuntime) {
     }
 }
 
-// Four threads count up three times each. Gives the sum of the answers, the count and the number of calls.
+// Four threads count up three times each, with seats that were split off from one another. Gives the sum of the answers, the count and the number of calls.
 fn one_run<R: Threads + Wait + Sync>(rt: &R, alloc: Global) -> Option<(u64, u64, u64)> {
-    let Ok((turns, mut a)) = Turns::begin(alloc, Counter { sum: 0 }) else {
+    let Ok((turns, seat)) = Turns::begin(alloc, Counter { sum: 0 }) else {
         return None;
     };
-    let b = a.split(&turns, 1);
-    let c = a.split(&turns, 2);
-    let d = a.split(&turns, 3);
-    let ((mut a, b, one), (c, d, two)) = four_count(rt, &turns, (a, b), (c, d));
-    a.join(&turns, b);
-    a.join(&turns, c);
-    a.join(&turns, d);
-    let (counter, calls) = close(turns, a);
-    Some((one.wrapping_add(two), counter.sum, calls))
+    let ((mut a, note_a), (mut b, note_b)) = two_seats(&turns, seat);
+    let (mut c, mut d) = (a.split(&turns, 5), b.split(&turns, 3));
+    let (note_c, note_d) = (c.note(&turns), d.note(&turns));
+    let ((a, b), (c, d)) = run_four(
+        rt,
+        (thrice(&turns, a, note_a), thrice(&turns, b, note_b)),
+        (thrice(&turns, c, note_c), thrice(&turns, d, note_d)),
+    );
+    let answered = a.2.wrapping_add(b.2).wrapping_add(c.2).wrapping_add(d.2);
+    let (mut seat, mut other) = (a.0, b.0);
+    seat.join(&turns, c.0);
+    seat.learn(&turns, c.1);
+    other.join(&turns, d.0);
+    other.learn(&turns, d.1);
+    let (counter, calls) = end(turns, (seat, a.1), (other, b.1));
+    Some((answered, counter.sum, calls))
 }
 
-fn four_count<R: Threads + Wait + Sync>(
-    rt: &R,
-    turns: &Turns<Counter>,
-    low: (Seat<Counter>, Seat<Counter>),
-    high: (Seat<Counter>, Seat<Counter>),
-) -> (
-    (Seat<Counter>, Seat<Counter>, u64),
-    (Seat<Counter>, Seat<Counter>, u64),
-)
-    requires low { IsSeatOf (λ a n reply b. (reply ≡ a.sum) × (b.sum ≡ (a.sum + n) % 2 ^ 64)) turns.now low.0 × IsSeatOf (λ a n reply b. (reply ≡ a.sum) × (b.sum ≡ (a.sum + n) % 2 ^ 64)) turns.now low.1 }
-    requires high { IsSeatOf (λ a n reply b. (reply ≡ a.sum) × (b.sum ≡ (a.sum + n) % 2 ^ 64)) turns.now high.0 × IsSeatOf (λ a n reply b. (reply ≡ a.sum) × (b.sum ≡ (a.sum + n) % 2 ^ 64)) turns.now high.1 }
-    ensures low { IsSeatOf (λ a n reply b. (reply ≡ a.sum) × (b.sum ≡ (a.sum + n) % 2 ^ 64)) turns.now result.0.0 × IsSeatOf (λ a n reply b. (reply ≡ a.sum) × (b.sum ≡ (a.sum + n) % 2 ^ 64)) turns.now result.0.1 × (parts_of result.0.0 ≡ parts_of low.0) × (parts_of result.0.1 ≡ parts_of low.1) }
-    ensures high { IsSeatOf (λ a n reply b. (reply ≡ a.sum) × (b.sum ≡ (a.sum + n) % 2 ^ 64)) turns.now result.1.0 × IsSeatOf (λ a n reply b. (reply ≡ a.sum) × (b.sum ≡ (a.sum + n) % 2 ^ 64)) turns.now result.1.1 × (parts_of result.1.0 ≡ parts_of high.0) × (parts_of result.1.1 ≡ parts_of high.1) }
+fn thrice<T: Thing<Call = u64, Reply = u64>>(
+    turns: &Turns<T>,
+    seat: Seat<T>,
+    heard: Note<T>,
+) -> Caller<'_, u64, T>
+    ensures { (result.turns.now ≡ turns.now) × (result.seat ≡ seat) × (result.heard ≡ heard) × (result.call ≡ 1) }
 {
-    let (a, b) = low;
-    let (c, d) = high;
-    join(
-        rt,
-        move || -> (Seat<Counter>, Seat<Counter>, u64)
-            requires { IsSeatOf (λ a n reply b. (reply ≡ a.sum) × (b.sum ≡ (a.sum + n) % 2 ^ 64)) turns.now a × IsSeatOf (λ a n reply b. (reply ≡ a.sum) × (b.sum ≡ (a.sum + n) % 2 ^ 64)) turns.now b }
-            ensures { IsSeatOf (λ a n reply b. (reply ≡ a.sum) × (b.sum ≡ (a.sum + n) % 2 ^ 64)) turns.entry.now result.0 × IsSeatOf (λ a n reply b. (reply ≡ a.sum) × (b.sum ≡ (a.sum + n) % 2 ^ 64)) turns.entry.now result.1 × (parts_of result.0 ≡ parts_of a) × (parts_of result.1 ≡ parts_of b) }
-        { both_count(rt, turns, a, b, 3) },
-        move || -> (Seat<Counter>, Seat<Counter>, u64)
-            requires { IsSeatOf (λ a n reply b. (reply ≡ a.sum) × (b.sum ≡ (a.sum + n) % 2 ^ 64)) turns.now c × IsSeatOf (λ a n reply b. (reply ≡ a.sum) × (b.sum ≡ (a.sum + n) % 2 ^ 64)) turns.now d }
-            ensures { IsSeatOf (λ a n reply b. (reply ≡ a.sum) × (b.sum ≡ (a.sum + n) % 2 ^ 64)) turns.entry.now result.0 × IsSeatOf (λ a n reply b. (reply ≡ a.sum) × (b.sum ≡ (a.sum + n) % 2 ^ 64)) turns.entry.now result.1 × (parts_of result.0 ≡ parts_of c) × (parts_of result.1 ≡ parts_of d) }
-        { both_count(rt, turns, c, d, 3) },
-    )
+    Caller {
+        turns,
+        seat,
+        heard,
+        call: 1,
+        times: 3,
+    }
+}
+
+#[test]
+fn a_list_of_seats_calls_at_once(rt: HostRuntime) {
+    assert!(rt; answered_by_all(&rt, rt.alloc()) == Some(15));
+}
+
+// Two threads count up three times each. Gives the sum of the answers.
+fn answered_by_all<R: Threads + Wait + Sync>(rt: &R, alloc: Global) -> Option<u64> {
+    let Ok((turns, seat)) = Turns::begin(alloc, Counter { sum: 0 }) else {
+        return None;
+    };
+    let (one, two) = two_seats(&turns, seat);
+    let one = thrice(&turns, one.0, one.1);
+    let two = thrice(&turns, two.0, two.1);
+    let Ok(jobs) = vec![in alloc; one, two] else {
+        return None;
+    };
+    let gave = run_all(rt, jobs).ok()?;
+    let mut answered: u64 = 0;
+    for each in &gave {
+        answered = answered.wrapping_add(each.2);
+    }
+    Some(answered)
 }

@@ -18,7 +18,7 @@ pub trait Thing {
     /// One turn: the object before, the call, the reply and the object after.
     ghost turned: { Self → Self.Call → Self.Reply → Self → Type 0 };
 
-    /// Takes one turn.
+    /// Takes one turn. While it runs no other call does.
     fn turn(&mut self, call: Self::Call) -> Self::Reply
         requires { may_ask (fixed self.old) call }
         ensures { turned self.old call result self.new };

@@ -8,7 +8,7 @@ use atomic_table::Table;
 use std::alloc::Global;
 use std::snapshot::Snapshot;
 
-/// An object that any number of threads call in turn, through their seats.
+/// An object that any number of threads call in turn, each through a seat of its own. It may be shared where the object may go to another thread. `close` gives the object back.
 #[derive(Drop)]
 pub struct Turns<T: Thing> {
     pub(crate) table: Table<

@@ -18,7 +18,7 @@ turn-reply-requires g c =
     let x = opening c.args.turns.now in
     let log = c.args.token.now.me.0.seen in
     let same : end_of x log ≡ c.in-Home.thing = found c.args.token.now.me.1 (end_of x log) c.in-Home.thing (rest c.args.token.now.me.1) c.requires.token.thing c.in-Home.ensures.2 in
-    let fixed : thing.fixed (end_of x log) ≡ thing.fixed x = fixed_end thing.fixed thing.turned g.met.T.Thing.stays_fixed x log c.requires.token.legal in
+    let fixed : thing.fixed (end_of x log) ≡ thing.fixed x = fixed_end thing.fixed thing.may_ask thing.turned g.met.T.Thing.stays_fixed x log c.requires.token.legal in
     subst (λ f. thing.may_ask f c.args.call) (sym fixed ∙ ap thing.fixed same) c.requires.call
 
 pub returns : goal.returns
@@ -27,12 +27,16 @@ returns g c =
     let x = opening c.args.turns.now in
     let log = c.args.token.now.me.0.seen in
     let same : end_of x log ≡ c.in-Home.thing = found c.args.token.now.me.1 (end_of x log) c.in-Home.thing (rest c.args.token.now.me.1) c.requires.token.thing c.in-Home.ensures.2 in
+    let fixed : thing.fixed (end_of x log) ≡ thing.fixed x = fixed_end thing.fixed thing.may_ask thing.turned g.met.T.Thing.stays_fixed x log c.requires.token.legal in
     let out = c.exchange.ensures in
     let back = c.exchange-vacated.ensures in record {
       place = back.0 ∙ out.0 ∙ c.requires.token.place;
       view = ap (λ m. m.0) back.3 ∙ ap (λ m. m.0) out.3;
       after = c.turn-reply.new.self;
-      turn = subst (λ y. thing.turned y c.args.call c.turn-reply.result c.turn-reply.new.self) (sym same) c.turn-reply.ensures;
+      turn = (
+        subst (λ f. thing.may_ask f c.args.call) (sym fixed) c.requires.call,
+        subst (λ y. thing.turned y c.args.call c.turn-reply.result c.turn-reply.new.self) (sym same) c.turn-reply.ensures,
+      );
       thing = left_there _ _ _ _ _ _ c.requires.token.thing (ap (λ m. m.1) out.3) (ap (λ m. m.1) back.3);
       asked = c.of-asked.result;
       answered = c.of-answered.result;

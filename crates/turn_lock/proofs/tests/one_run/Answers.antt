@@ -1,0 +1,32 @@
+use denote.RattleType.{RattleType}
+use denote.Ref.{NamedLft}
+use denote.Struct.Field as Field
+use denote.Struct.Declared.{shape}
+use denote.Param.Send.{IsSend, struct_send, recorded_send, shr_send, sendable}
+use Rattle.atomic_table.proofs.shared.Seat.TheSendSync.{the_send as seat_send}
+use Rattle.turn_lock.specs.declared.thing.Thing.{Ghosts}
+use Rattle.turn_lock.proofs.Crosses.{slot_crosses, token_crosses, note_crosses, turns_shared}
+use Rattle.turn_lock.specs.contracts.turns.Turns as Turns
+use Rattle.turn_lock.specs.contracts.tests.Caller as Caller
+use Rattle.turn_lock.specs.contracts.tests.Counter as Counter
+use Rattle.turn_lock.proofs.tests.one_run.Goals as goal
+
+-- a caller may go to another thread where its call and the object may
+caller_crosses : (κ : NamedLft) (C T F : RattleType) (g : Ghosts T.Denot C.Denot (Field.u64-field).Value F.Denot) → IsSend C → IsSend T → IsSend (Caller.the_row κ C T F g)
+caller_crosses κ C T F g call thing =
+    let turns : IsSend (denote.Ref.ShrRef κ.mir κ.lft (Turns.the_row T C (Field.u64-field).row F g)) = shr_send _ _ _ (turns_shared T C (Field.u64-field).row F g thing) in
+    let fields : IsSend (Caller.the_field κ C T F g).row =
+    struct_send (shape (Caller.the_type κ C T F g)) (turns, (search (sendable, seat_send, slot_crosses) depth 30, (search (sendable, seat_send, slot_crosses) depth 30, (call, (search sendable, tt))))) in
+    recorded_send (Caller.the_field κ C T F g).row _ _ (Caller.the_type κ C T F g).to_one fields
+
+counter_crosses : IsSend Counter.the_row
+counter_crosses = search sendable depth 20
+
+number_crosses : IsSend (Field.u64-field).row
+number_crosses = search sendable depth 20
+
+pub run_four-a-requires-send-A : goal.run_four-a-requires-send-A
+run_four-a-requires-send-A g c κs within = search (sendable, caller_crosses, counter_crosses, number_crosses) depth 40
+
+pub run_four-a-requires-send-A-Out : goal.run_four-a-requires-send-A-Out
+run_four-a-requires-send-A-Out g c κs within = search (sendable, token_crosses, note_crosses, counter_crosses) depth 40
