@@ -11,6 +11,8 @@ mod fields;
 mod laws;
 mod lines;
 mod parser;
+#[cfg(test)]
+mod plain;
 mod requests;
 mod search;
 #[cfg(test)]

@@ -5,6 +5,8 @@ use std::alloc::{AllocError, Global};
 use std::test::Fail;
 use texts::{Bytes, Text};
 
+mod generated;
+
 // A source of these bytes, at most so many a read.
 fn source_of(alloc: Global, bytes: &[u8], most: usize) -> Result<MemSource, AllocError> {
     let script = FaultScript::none(alloc);

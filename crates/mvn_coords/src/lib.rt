@@ -8,6 +8,8 @@ mod coord;
 mod fault;
 mod kind;
 mod name;
+#[cfg(test)]
+mod plain;
 mod read;
 mod segment;
 mod stamp;

@@ -1,6 +1,8 @@
 use super::*;
 use std::test::Fail;
 
+mod generated;
+
 /// The fault of a path, or the name of its kind.
 fn said(path: &str) -> &'static str {
     match kind_of(path) {
