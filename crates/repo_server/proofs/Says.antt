@@ -8,7 +8,7 @@ use Rattle.repo_server.specs.declared.outcomes.End.{End}
 use Rattle.repo_server.specs.declared.outcomes.End.TheVariants as stream
 use Rattle.repo_server.specs.Answers.{memory_answer}
 use Rattle.repo_server.specs.Serving.{IsFrontOf, Says, whole, memory, cut}
-use Rattle.repo_server.specs.World.{sink_world}
+use Rattle.repo_server.specs.World.{world}
 
 -- what becomes of bytes that are written
 abbrev pub Written : List ℕ → Option End → Option (List ℕ) → ℕ → Option (List ℕ) → ℕ → Option End → Type 0
@@ -17,19 +17,19 @@ Written bytes next taken faults taken' faults' end =
     ⊎ (Rose faults faults' × ((part : List ℕ) × IsFrontOf part bytes × (taken' ≡ behind taken part)) × (end ≡ Some stream.SinkFault))
 
 -- the bytes of an answer were written
-pub says_answer : (answer : Answer) (next : Option End) (bytes : List ℕ) (taken : Option (List ℕ)) (faults : ℕ) (taken' : Option (List ℕ)) (faults' : ℕ) (end : Option End)
+pub says_answer : {A : Type 0} (m : A) (input : Option (List ℕ)) (reads blobs : ℕ) (answer : Answer) (next : Option End) (bytes : List ℕ) (taken : Option (List ℕ)) (faults : ℕ) (taken' : Option (List ℕ)) (faults' : ℕ) (end : Option End)
     → bytes ≡ shown answer → Written bytes next taken faults taken' faults' end
-    → Says answer next (sink_world taken faults) (sink_world taken' faults') end
-says_answer answer next bytes taken faults taken' faults' end same (inl w) =
-    whole (ap (λ p. sink_world p faults') (w.0 ∙ ap (behind taken) same) ∙ ap (λ n. sink_world (behind taken (shown answer)) n) w.1) w.2
-says_answer answer next bytes taken faults taken' faults' end same (inr w) =
-    cut faults' bytes w.1.0 w.0 (inl same) w.1.1 (ap (λ p. sink_world p faults') w.1.2) w.2
+    → Says answer next (world m input taken reads faults blobs) (world m input taken' reads faults' blobs) end
+says_answer m input reads blobs answer next bytes taken faults taken' faults' end same (inl w) =
+    whole (ap (λ p. world m input p reads faults' blobs) (w.0 ∙ ap (behind taken) same) ∙ ap (λ n. world m input (behind taken (shown answer)) reads n blobs) w.1) w.2
+says_answer m input reads blobs answer next bytes taken faults taken' faults' end same (inr w) =
+    cut faults' bytes w.1.0 w.0 (inl same) w.1.1 (ap (λ p. world m input p reads faults' blobs) w.1.2) w.2
 
 -- the answer of want of memory was written in the place of any other
-pub says_memory : (answer : Answer) (next : Option End) (bytes : List ℕ) (taken : Option (List ℕ)) (faults : ℕ) (taken' : Option (List ℕ)) (faults' : ℕ) (end : Option End)
+pub says_memory : {A : Type 0} (m : A) (input : Option (List ℕ)) (reads blobs : ℕ) (answer : Answer) (next : Option End) (bytes : List ℕ) (taken : Option (List ℕ)) (faults : ℕ) (taken' : Option (List ℕ)) (faults' : ℕ) (end : Option End)
     → bytes ≡ shown memory_answer → Written bytes (Some stream.Closed) taken faults taken' faults' end
-    → Says answer next (sink_world taken faults) (sink_world taken' faults') end
-says_memory answer next bytes taken faults taken' faults' end same (inl w) =
-    memory (ap (λ p. sink_world p faults') (w.0 ∙ ap (behind taken) same) ∙ ap (λ n. sink_world (behind taken (shown memory_answer)) n) w.1) w.2
-says_memory answer next bytes taken faults taken' faults' end same (inr w) =
-    cut faults' bytes w.1.0 w.0 (inr same) w.1.1 (ap (λ p. sink_world p faults') w.1.2) w.2
+    → Says answer next (world m input taken reads faults blobs) (world m input taken' reads faults' blobs) end
+says_memory m input reads blobs answer next bytes taken faults taken' faults' end same (inl w) =
+    memory (ap (λ p. world m input p reads faults' blobs) (w.0 ∙ ap (behind taken) same) ∙ ap (λ n. world m input (behind taken (shown memory_answer)) reads n blobs) w.1) w.2
+says_memory m input reads blobs answer next bytes taken faults taken' faults' end same (inr w) =
+    cut faults' bytes w.1.0 w.0 (inr same) w.1.1 (ap (λ p. world m input p reads faults' blobs) w.1.2) w.2

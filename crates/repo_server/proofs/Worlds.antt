@@ -1,25 +1,11 @@
 -- What a call does to the part of the world that it sees, it does to the whole.
 use Rattle.std.proofs.Common.{ℕ, List, Option, ap}
-use Rattle.http_wire.specs.declared.answers.Answer.{Answer}
 use Rattle.repo_model.specs.Data.{Blob}
-use Rattle.repo_server.specs.declared.outcomes.End.{End}
 use Rattle.repo_server.specs.declared.outcomes.Sent.{Sent}
 use Rattle.repo_server.specs.declared.outcomes.Sent.TheVariants as sent
-use Rattle.repo_server.specs.Serving.{Says, whole, memory, cut, Sends}
-use Rattle.repo_server.specs.World.{World, Nobody, world, sink_world}
+use Rattle.repo_server.specs.Serving.{Sends}
+use Rattle.repo_server.specs.World.{World, Nobody, world}
 use Rattle.repo_server.proofs.Sends.{sees}
-
--- an answer that a sink was given
-pub says_in : {A : Type 0} (m : A) (input : Option (List ℕ)) (reads blobs : ℕ) (answer : Answer) (next : Option End) (taken : Option (List ℕ)) (faults : ℕ) (taken' : Option (List ℕ)) (faults' : ℕ) (end : Option End)
-    → Says answer next (sink_world taken faults) (sink_world taken' faults') end
-    → Says answer next (world m input taken reads faults blobs) (world m input taken' reads faults' blobs) end
-says_in {A} m input reads blobs answer next taken faults taken' faults' end said =
-    let lift = λ (w : World Nobody). world m input w.output reads w.write_faults blobs in
-    elim said [
-      | whole same ends ↦ whole (ap lift same) ends
-      | memory same ends ↦ memory (ap lift same) ends
-      | cut n all part rose is_shown front same ends ↦ cut n all part rose is_shown front (ap lift same) ends
-    ]
 
 -- a file that a sink was sent
 pub sends_in : {A : Type 0} (m : A) (input : Option (List ℕ)) (reads : ℕ) (blob : Blob) (head : List ℕ) (result : Sent) (taken : Option (List ℕ)) (faults blobs : ℕ) (taken' : Option (List ℕ)) (faults' blobs' : ℕ)

@@ -6,3 +6,9 @@ pub mod Serving
 pub mod Held
 pub mod Faultless
 pub mod CoreTurn
+pub mod Machine
+pub mod Laws
+pub mod LeftBehind
+pub mod Recorded
+pub mod Worked
+pub mod Endings

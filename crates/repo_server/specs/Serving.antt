@@ -1,5 +1,5 @@
 -- How a stream is served: for each request the steps of its course, one after another, each with the causes of its result.
-use Rattle.std.specs.Prelude.{◌≡◌, ℕ, zero, suc, ◌<◌, ◌⊎◌, ◌==◌, Bool, List, ◌++◌, length, Option, Some, None, IfSome, Result, Ok, Err}
+use Rattle.std.specs.Prelude.{◌≡◌, ℕ, zero, suc, ◌<◌, ◌⊎◌, ◌==◌, Bool, List, ◌++◌, length, Option, Some, None, IfSome, IsSome, MatchOption, Result, Ok, Err}
 use Rattle.outside.specs.Faults.{Rose}
 use Rattle.outside.specs.Told.{in_front, behind, IsWhereTold}
 use Rattle.mvn_digest.specs.Digests.{digests_of}
@@ -40,7 +40,7 @@ ReadsBody {A} count body old new =
 abbrev pub Takes : {A : Type 0} → Type 0 → ℕ → ℕ → Result Blob Took → World A → World A → Type 0
 Takes tells draft count (Ok blob) old new =
     (body : List ℕ) × ReadsBody count body old new
-    × (blob.number ≡ draft) × (blob.print ≡ print_of body) × (tells → blob.bytes ≡ Some body)
+    × (blob.number ≡ draft) × (blob.print ≡ print_of body) × IsWhereTold blob.bytes body × (tells → IsSome blob.bytes)
 Takes tells draft count (Err took.Torn) old new = IfSome old.input (λ bytes. length bytes < count) × ReadsOn old new
 Takes tells draft count (Err took.SourceFault) old new =
     (faults : ℕ) × Rose old.read_faults faults × ReadsOn (record old { read_faults = faults }) new
@@ -84,6 +84,11 @@ Follows Asks tells (stops next) old new end = (new ≡ old) × (end ≡ next)
 abbrev pub Begins : Option (List ℕ) → (Front → Type 0) → Type 0
 Begins input P = IfSome input (λ bytes. P (front bytes))
 
+-- a whole head comes
+abbrev pub IsHead : Front → Type 0
+IsHead (Whole head rest) = Unit {0}
+IsHead _ = ⊥
+
 -- no plain request comes
 abbrev pub IsRefused : Front → Type 0
 IsRefused (Whole head rest) = plain head ≡ None
@@ -95,13 +100,19 @@ abbrev pub IsRequest : Plain → Option (List ℕ) → Front → Type 0
 IsRequest request rest (Whole head behind) = (plain head ≡ Some request) × (rest ≡ Some behind)
 IsRequest request rest _ = ⊥
 
+-- A head was read: its request is served by its course, or refused where it is not plain, or there was no memory to begin.
+abbrev pub IsServed : {A : Type 0} → (A → Entry → A → Type 0) → Type 0 → Option Plain → Bool → World A → World A → Option End → Type 0
+IsServed Asks tells judged last old new end =
+    MatchOption judged (Says bad_head_answer (Some stream.Closed) old new end) (λ request. Follows Asks tells (course request last) old new end)
+    ⊎ Says memory_answer (Some stream.Closed) old new end
+
 -- One turn of a stream: nothing more comes, or one request is served. It says how the stream ends, or that it goes on.
 pub data Turn {A : Type 0} (Asks : A → Entry → A → Type 0) (tells : Type 0) (last : Bool) (old new : World A) (end : Option End) : Type 0 where
   clean : Begins old.input (λ what. what ≡ Clean) → ReadsOn old new → end ≡ Some stream.Closed → Turn Asks tells last old new end
   torn : Begins old.input (λ what. what ≡ Cut) → ReadsOn old new → end ≡ Some stream.TornRequest → Turn Asks tells last old new end
   failed : (faults : ℕ) → Rose old.read_faults faults → ReadsOn (record old { read_faults = faults }) new
       → end ≡ Some stream.SourceFault → Turn Asks tells last old new end
-  starved : (mid : World A) → ReadsOn old mid → Says memory_answer (Some stream.Closed) mid new end → Turn Asks tells last old new end
+  starved : (mid : World A) → Begins old.input IsHead → ReadsOn old mid → Says memory_answer (Some stream.Closed) mid new end → Turn Asks tells last old new end
   refused : (mid : World A) → Begins old.input IsRefused → ReadsOn old mid → Says bad_head_answer (Some stream.Closed) mid new end
       → Turn Asks tells last old new end
   served : (request : Plain) (rest : Option (List ℕ)) → Begins old.input (IsRequest request rest)

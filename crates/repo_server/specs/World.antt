@@ -1,5 +1,5 @@
 -- What a server sees of its surroundings while it serves a stream: the machine behind its commands, the bytes not yet used and those written, where told, and the counts of faults.
-use Rattle.std.specs.Prelude.{ℕ, List, Option, None}
+use Rattle.std.specs.Prelude.{ℕ, List, Option}
 use Rattle.outside.specs.Told.{behind}
 
 pub record World (A : Type 0) : Type 0 where
@@ -34,7 +34,3 @@ Nobody = Unit {0}
 
 abbrev pub nobody : Nobody
 nobody = tt
-
--- what a call sees that writes alone
-abbrev pub sink_world : Option (List ℕ) → ℕ → World Nobody
-sink_world output write_faults = world nobody None output 0 write_faults 0

@@ -5,8 +5,8 @@ ghost use Rattle.http_wire.specs.Answer.{shown};
 ghost use Rattle.http_wire.specs.declared.answers.Answer.{Answer};
 ghost use Rattle.repo_core.specs.Shown.{shown_parcel};
 ghost use Rattle.repo_server.specs.Answers.{file_answer, print_text, taken_text, text_answer};
-ghost use Rattle.repo_server.specs.Serving.{IsFrontOf, Says};
-ghost use Rattle.repo_server.specs.World.{sink_world};
+ghost use Rattle.repo_server.specs.CoreTurn.{IsSaid};
+ghost use Rattle.repo_server.specs.Serving.{IsFrontOf};
 
 use crate::outcomes::End;
 use http_wire::{Answer, Content, Status, no_memory_answer, render};
@@ -105,8 +105,7 @@ pub fn say<O: Sink>(
     sink: &mut O,
 ) -> Option<End>
     ensures said { (said : Answer) → IfOk answer (λ bytes. bytes ≡ shown said)
-        → Says said next (sink_world (O.taken sink.old) (O.write_faults sink.old))
-        (sink_world (O.taken sink.new) (O.write_faults sink.new)) result }
+        → IsSaid said next (O.taken sink.old) (O.write_faults sink.old) (O.taken sink.new) (O.write_faults sink.new) result }
     ensures left { O.left sink.new ≡ O.left sink.old }
     ensures read_faults { O.read_faults sink.new ≡ O.read_faults sink.old }
 {
@@ -119,8 +118,7 @@ pub fn say<O: Sink>(
 /// Writes the answer of want of memory, which takes none, in the place of any other.
 pub fn say_no_memory<O: Sink>(sink: &mut O) -> Option<End>
     ensures said { (said : Answer) (next : Option End)
-        → Says said next (sink_world (O.taken sink.old) (O.write_faults sink.old))
-        (sink_world (O.taken sink.new) (O.write_faults sink.new)) result }
+        → IsSaid said next (O.taken sink.old) (O.write_faults sink.old) (O.taken sink.new) (O.write_faults sink.new) result }
     ensures left { O.left sink.new ≡ O.left sink.old }
     ensures read_faults { O.read_faults sink.new ≡ O.read_faults sink.old }
 {

@@ -1,13 +1,17 @@
-ghost use Rattle.std.specs.Prelude.{◌≡◌, ◌≤◌, ◌||◌, ℕ, List, Option, None};
+ghost use Rattle.std.specs.Prelude.{◌≡◌, ◌≤◌, ◌||◌, nat_lt, ℕ, List, Option, None, Ok};
 ghost use Rattle.http_wire.specs.Answer.{shown};
 ghost use Rattle.http_wire.specs.Stream.{unread};
 ghost use Rattle.repo_core.specs.Shown.{shown_parcel, shown_reply};
-ghost use Rattle.repo_server.specs.Answers.{file_answer, text_answer};
-ghost use Rattle.repo_server.specs.Course.{after_drop, after_put, after_send, course, end_of};
+ghost use Rattle.repo_model.specs.Command.{drop_draft};
+ghost use Rattle.repo_model.specs.Data.{Settings};
+ghost use Rattle.repo_model.specs.History.{Entry};
+ghost use Rattle.repo_server.specs.Answers.{file_answer, taken_text, text_answer};
+ghost use Rattle.repo_server.specs.CoreTurn.{CoreTurn, IsSaid};
+ghost use Rattle.repo_server.specs.Course.{after_body, after_drop, asks, course, end_of, takes};
 ghost use Rattle.repo_server.specs.Held.{AllTell, IsReleasePath, ServesReleases};
-ghost use Rattle.repo_server.specs.Plain.{longest_body, repository};
-ghost use Rattle.repo_server.specs.Serving.{Follows, Says, Sends};
-ghost use Rattle.repo_server.specs.World.{nobody, sink_world, world};
+ghost use Rattle.repo_server.specs.Plain.{get, longest_body, put as put_request, repository};
+ghost use Rattle.repo_server.specs.Serving.{Follows, Sends};
+ghost use Rattle.repo_server.specs.World.{nobody, world};
 
 use crate::answers::{file_head, say, say_no_memory, taken_text, text_answer};
 use crate::files::{send_file, take_body};
@@ -15,6 +19,7 @@ use crate::outcomes::{End, Sent, Took};
 use http_wire::{Status, Wire};
 use outside::{Blobs, Clock, Held, Parcel, Sink, Stream};
 use repo_core::{Command, Core, Reply};
+use repo_model::Print;
 use std::alloc::Global;
 use texts::Text;
 
@@ -31,6 +36,16 @@ impl Closing {
         ensures { result ≡ (self.close || self.last) }
     {
         self.close || self.last
+    }
+
+    /// The same before a body of `length` bytes that stays unread, which ends the connection too.
+    fn with_unread(self, length: u64) -> Closing
+        ensures { result ≡ record { close = self.close || nat_lt 0 length; last = self.last } }
+    {
+        Closing {
+            close: self.close || length > 0,
+            last: self.last,
+        }
     }
 }
 
@@ -55,9 +70,8 @@ fn answered<O: Sink>(
     text: &[u8],
     sink: &mut O,
 ) -> Option<End>
-    ensures said { Says (text_answer status text.now (closing.close || closing.last)) (end_of closing.close)
-        (sink_world (O.taken sink.old) (O.write_faults sink.old))
-        (sink_world (O.taken sink.new) (O.write_faults sink.new)) result }
+    ensures said { IsSaid (text_answer status text.now (closing.close || closing.last)) (end_of closing.close)
+        (O.taken sink.old) (O.write_faults sink.old) (O.taken sink.new) (O.write_faults sink.new) result }
     ensures left { O.left sink.new ≡ O.left sink.old }
     ensures read_faults { O.read_faults sink.new ≡ O.read_faults sink.old }
 {
@@ -98,6 +112,10 @@ pub fn get<C: Clock, B: Blobs, O: Sink>(
     requires releases { ServesReleases core.old.settings }
     requires repo { place.repo ≡ repository }
     requires path { IsReleasePath place.path }
+    ensures follows { (input : Option (List ℕ)) (reads : ℕ)
+        → Follows (CoreTurn core.old.settings) (AllTell B.Held.bytes) (course (get place.path closing.close) closing.last)
+        (world core.old input (O.taken sink.old) reads (O.write_faults sink.old) (B.faults blobs.old))
+        (world core.new input (O.taken sink.new) reads (O.write_faults sink.new) (B.faults blobs.new)) result }
     ensures settings { core.new.settings ≡ core.old.settings }
     ensures left { O.left sink.new ≡ O.left sink.old }
     ensures read_faults { O.read_faults sink.new ≡ O.read_faults sink.old }
@@ -131,29 +149,72 @@ pub fn get<C: Clock, B: Blobs, O: Sink>(
     }
 }
 
-/// The course of a PUT from the reply to `Put` on.
-fn after_put<C: Clock, H: Held, O: Sink>(
+/// Gives a draft up.
+fn give_up<C: Clock, H: Held>(core: &mut Core<C, H>, draft: u64)
+    ensures turn { (settings : Settings) → core.old.settings ≡ settings
+        → (entry : Entry) × (entry.command ≡ drop_draft draft) × CoreTurn settings core.old entry core.new }
+    ensures settings { core.new.settings ≡ core.old.settings }
+{
+    let _dropped = core.call(Command::Drop { draft });
+}
+
+/// Answers that a path has a file of another content.
+fn say_taken<O: Sink>(
+    alloc: Global,
+    closing: Closing,
+    kept: &Print,
+    sent: &Print,
+    sink: &mut O,
+) -> Option<End>
+    ensures said { IsSaid (text_answer Status.Conflict (taken_text kept.now sent.now) (closing.close || closing.last))
+        (end_of closing.close)
+        (O.taken sink.old) (O.write_faults sink.old) (O.taken sink.new) (O.write_faults sink.new) result }
+    ensures left { O.left sink.new ≡ O.left sink.old }
+    ensures read_faults { O.read_faults sink.new ≡ O.read_faults sink.old }
+{
+    match taken_text(alloc, kept, sent) {
+        Ok(text) => answered(alloc, closing, Status::Conflict, text.as_slice(), sink),
+        Err(_) => say_no_memory(sink),
+    }
+}
+
+/// The course of a PUT whose body was stored: `Put`, and its answer.
+fn put_parcel<C: Clock, H: Held, O: Sink>(
     alloc: Global,
     core: &mut Core<C, H>,
     sink: &mut O,
+    place: Place,
     draft: u64,
-    reply: Reply<H>,
+    parcel: Parcel<H>,
     closing: Closing,
 ) -> Option<End>
+    requires releases { ServesReleases core.old.settings }
+    requires repo { place.repo ≡ repository }
+    requires path { IsReleasePath place.path }
+    requires number { parcel.blob ≡ draft }
+    requires length { parcel.length ≤ longest_body }
+    ensures follows { (settings : Settings) (input : Option (List ℕ)) (reads blobs : ℕ) → core.old.settings ≡ settings
+        → Follows (CoreTurn settings) (AllTell H.bytes)
+        (after_body place.path draft closing.close closing.last (Ok (shown_parcel parcel)))
+        (world core.old input (O.taken sink.old) reads (O.write_faults sink.old) blobs)
+        (world core.new input (O.taken sink.new) reads (O.write_faults sink.new) blobs) result }
     ensures settings { core.new.settings ≡ core.old.settings }
     ensures left { O.left sink.new ≡ O.left sink.old }
     ensures read_faults { O.read_faults sink.new ≡ O.read_faults sink.old }
 {
-    match reply {
+    let put = Command::Put {
+        repo: place.repo,
+        path: place.path,
+        draft,
+        parcel,
+    };
+    match core.call(put) {
         Reply::Created => answered(alloc, closing, Status::Created, b"created", sink),
         Reply::Same => answered(alloc, closing, Status::Ok, b"same", sink),
         Reply::Relisted => answered(alloc, closing, Status::Ok, b"relisted", sink),
-        Reply::Taken { kept, sent } => match taken_text(alloc, &kept, &sent) {
-            Ok(text) => answered(alloc, closing, Status::Conflict, text.as_slice(), sink),
-            Err(_) => say_no_memory(sink),
-        },
+        Reply::Taken { kept, sent } => say_taken(alloc, closing, &kept, &sent, sink),
         Reply::NoDraft => {
-            let _dropped = core.call(Command::Drop { draft });
+            give_up(core, draft);
             answered(
                 alloc,
                 closing,
@@ -163,7 +224,7 @@ fn after_put<C: Clock, H: Held, O: Sink>(
             )
         }
         _ => {
-            let _dropped = core.call(Command::Drop { draft });
+            give_up(core, draft);
             say_no_memory(sink)
         }
     }
@@ -178,11 +239,15 @@ fn after_fault<C: Clock, H: Held, O: Sink>(
     fault: Took,
     closing: Closing,
 ) -> Option<End>
+    ensures follows { (settings : Settings) (input : Option (List ℕ)) (reads blobs : ℕ) → core.old.settings ≡ settings
+        → Follows (CoreTurn settings) (AllTell H.bytes) (asks (drop_draft draft) (λ reply. after_drop closing.close closing.last fault))
+        (world core.old input (O.taken sink.old) reads (O.write_faults sink.old) blobs)
+        (world core.new input (O.taken sink.new) reads (O.write_faults sink.new) blobs) result }
     ensures settings { core.new.settings ≡ core.old.settings }
     ensures left { O.left sink.new ≡ O.left sink.old }
     ensures read_faults { O.read_faults sink.new ≡ O.read_faults sink.old }
 {
-    let _dropped = core.call(Command::Drop { draft });
+    give_up(core, draft);
     match fault {
         Took::Torn => Some(End::TornRequest),
         Took::SourceFault => Some(End::SourceFault),
@@ -196,6 +261,34 @@ fn after_fault<C: Clock, H: Held, O: Sink>(
             )
         }
         Took::NoMemory => say_no_memory(sink),
+    }
+}
+
+/// The course of a PUT that has a draft: the body, and then `Put`.
+fn put_body<C: Clock, B: Blobs, T: Stream>(
+    alloc: Global,
+    core: &mut Core<C, B::Held>,
+    blobs: &mut B,
+    wire: &mut Wire,
+    stream: &mut T,
+    place: Place,
+    draft: u64,
+    length: u64,
+    closing: Closing,
+) -> Option<End>
+    requires releases { ServesReleases core.old.settings }
+    requires repo { place.repo ≡ repository }
+    requires path { IsReleasePath place.path }
+    requires length { length ≤ longest_body }
+    ensures follows { (settings : Settings) → core.old.settings ≡ settings → Follows (CoreTurn settings) (AllTell B.Held.bytes)
+        (takes draft length (after_body place.path draft closing.close closing.last))
+        (world core.old (unread wire.old (T.left stream.old)) (T.taken stream.old) (T.read_faults stream.old) (T.write_faults stream.old) (B.faults blobs.old))
+        (world core.new (unread wire.new (T.left stream.new)) (T.taken stream.new) (T.read_faults stream.new) (T.write_faults stream.new) (B.faults blobs.new)) result }
+    ensures settings { core.new.settings ≡ core.old.settings }
+{
+    match take_body(alloc, blobs, draft, length, wire, stream) {
+        Ok(parcel) => put_parcel(alloc, core, stream, place, draft, parcel, closing),
+        Err(fault) => after_fault(alloc, core, stream, draft, fault, closing),
     }
 }
 
@@ -217,30 +310,23 @@ pub fn put<C: Clock, B: Blobs, T: Stream>(
     requires first_path { IsReleasePath places.0.path }
     requires second_path { places.1.path ≡ places.0.path }
     requires length { length ≤ longest_body }
+    ensures follows { Follows (CoreTurn core.old.settings) (AllTell B.Held.bytes) (course (put_request places.0.path length closing.close) closing.last)
+        (world core.old (unread wire.old (T.left stream.old)) (T.taken stream.old) (T.read_faults stream.old) (T.write_faults stream.old) (B.faults blobs.old))
+        (world core.new (unread wire.new (T.left stream.new)) (T.taken stream.new) (T.read_faults stream.new) (T.write_faults stream.new) (B.faults blobs.new)) result }
     ensures settings { core.new.settings ≡ core.old.settings }
 {
-    let unread = Closing {
-        close: closing.close || length > 0,
-        last: closing.last,
-    };
+    let unread = closing.with_unread(length);
     let (first, second) = places;
     let may_put = Command::MayPut {
         repo: first.repo,
         path: first.path,
     };
     match core.call(may_put) {
-        Reply::Draft(draft) => match take_body(alloc, blobs, draft, length, wire, stream) {
-            Ok(parcel) => {
-                let reply = core.call(Command::Put {
-                    repo: second.repo,
-                    path: second.path,
-                    draft,
-                    parcel,
-                });
-                after_put(alloc, core, stream, draft, reply, closing)
-            }
-            Err(fault) => after_fault(alloc, core, stream, draft, fault, closing),
-        },
+        Reply::Draft(draft) => {
+            put_body(
+                alloc, core, blobs, wire, stream, second, draft, length, closing,
+            )
+        }
         Reply::KindRefused => answered(alloc, unread, Status::Forbidden, b"kind-refused", stream),
         Reply::Spent => answered(alloc, unread, Status::InternalServerError, b"spent", stream),
         _ => say_no_memory(stream),

@@ -1,6 +1,14 @@
-ghost use Rattle.std.specs.Prelude.{◌≡◌, IfOk};
-ghost use Rattle.repo_server.specs.Held.{IsReleasePath, ServesReleases};
-ghost use Rattle.repo_server.specs.Plain.{repository};
+ghost use Rattle.std.specs.Prelude.{◌≡◌, ℕ, IfOk, List, Option, Some};
+ghost use Rattle.http_wire.specs.Stream.{unread};
+ghost use Rattle.repo_model.specs.History.{Entry};
+ghost use Rattle.repo_server.specs.Answers.{bad_head_answer};
+ghost use Rattle.repo_server.specs.CoreTurn.{CoreTurn, IsSaid};
+ghost use Rattle.repo_server.specs.Held.{AllTell, IsReleasePath, ServesReleases};
+ghost use Rattle.repo_server.specs.LeftBehind.{IsDrawn, LeavesNothing};
+ghost use Rattle.repo_server.specs.Plain.{plain, repository};
+ghost use Rattle.repo_server.specs.Recorded.{IsRecorded};
+ghost use Rattle.repo_server.specs.Serving.{IsServed, Serves, Turn};
+ghost use Rattle.repo_server.specs.World.{world};
 
 use crate::answers::{say, say_no_memory, text_answer};
 use crate::courses::{Closing, Place, get, put};
@@ -38,7 +46,12 @@ fn places_of(alloc: Global, path: &str) -> Result<(Place, Place), AllocError>
 }
 
 /// Answers a head that is not plain.
-fn say_bad_head<O: Sink>(alloc: Global, sink: &mut O) -> Option<End> {
+fn say_bad_head<O: Sink>(alloc: Global, sink: &mut O) -> Option<End>
+    ensures said { IsSaid bad_head_answer (Some End.Closed)
+        (O.taken sink.old) (O.write_faults sink.old) (O.taken sink.new) (O.write_faults sink.new) result }
+    ensures left { O.left sink.new ≡ O.left sink.old }
+    ensures read_faults { O.read_faults sink.new ≡ O.read_faults sink.old }
+{
     let answer = text_answer(alloc, Status::BadRequest, b"bad-head", true);
     say(answer, Some(End::Closed), sink)
 }
@@ -54,7 +67,10 @@ fn serve_request<C: Clock, B: Blobs, T: Stream>(
     last: bool,
 ) -> Option<End>
     requires { ServesReleases core.old.settings }
-    ensures { core.new.settings ≡ core.old.settings }
+    ensures served { IsServed (CoreTurn core.old.settings) (AllTell B.Held.bytes) (plain request.now) last
+        (world core.old (unread wire.old (T.left stream.old)) (T.taken stream.old) (T.read_faults stream.old) (T.write_faults stream.old) (B.faults blobs.old))
+        (world core.new (unread wire.new (T.left stream.new)) (T.taken stream.new) (T.read_faults stream.new) (T.write_faults stream.new) (B.faults blobs.new)) result }
+    ensures settings { core.new.settings ≡ core.old.settings }
 {
     match judged(request) {
         None => say_bad_head(alloc, stream),
@@ -88,7 +104,10 @@ fn serve_turn<C: Clock, B: Blobs, T: Stream>(
     last: bool,
 ) -> Option<End>
     requires { ServesReleases core.old.settings }
-    ensures { core.new.settings ≡ core.old.settings }
+    ensures turn { Turn (CoreTurn core.old.settings) (AllTell B.Held.bytes) last
+        (world core.old (unread wire.old (T.left stream.old)) (T.taken stream.old) (T.read_faults stream.old) (T.write_faults stream.old) (B.faults blobs.old))
+        (world core.new (unread wire.new (T.left stream.new)) (T.taken stream.new) (T.read_faults stream.new) (T.write_faults stream.new) (B.faults blobs.new)) result }
+    ensures settings { core.new.settings ≡ core.old.settings }
 {
     match wire.next_request(alloc, stream) {
         Ok(Some(request)) => serve_request(alloc, core, blobs, wire, stream, &request, last),
@@ -100,15 +119,18 @@ fn serve_turn<C: Clock, B: Blobs, T: Stream>(
     }
 }
 
-/// Serves the requests of a stream, at most `TURNS` of them, each with its course and its answer, one after another.
-pub fn serve_stream<C: Clock, B: Blobs, T: Stream>(
+/// Serves the requests of a stream through a wire that holds nothing, one after another.
+fn serve_turns<C: Clock, B: Blobs, T: Stream>(
     alloc: Global,
     core: &mut Core<C, B::Held>,
     blobs: &mut B,
     stream: &mut T,
 ) -> End
     requires { ServesReleases core.old.settings }
-    ensures { core.new.settings ≡ core.old.settings }
+    ensures serves { (rest : Option (List ℕ)) × Serves (CoreTurn core.old.settings) (AllTell B.Held.bytes) TURNS
+        (world core.old (T.left stream.old) (T.taken stream.old) (T.read_faults stream.old) (T.write_faults stream.old) (B.faults blobs.old))
+        (world core.new rest (T.taken stream.new) (T.read_faults stream.new) (T.write_faults stream.new) (B.faults blobs.new)) result }
+    ensures settings { core.new.settings ≡ core.old.settings }
 {
     let mut wire = Wire::new();
     for served in 0..TURNS {
@@ -118,4 +140,31 @@ pub fn serve_stream<C: Clock, B: Blobs, T: Stream>(
         }
     }
     End::TurnLimit
+}
+
+/// Serves the requests of a stream, at most `TURNS` of them: for each the commands of its course, then its answer.
+///
+/// Where the stream tells its bytes, its requests are those that the bytes spell, however they come (RFC 9112). The
+/// answers are written in order, each when its course ends; a sink that fails has taken a front of the bytes. `Closed`
+/// comes where the stream ended between requests or an answer closed it, `TornRequest` where it ended within one,
+/// `TurnLimit` behind the last request, `SourceFault` and `SinkFault` where the count of that side rose. Each call of
+/// the core is one entry of one legal history, which leads to the state that the core is left in. Every draft that a
+/// request was given is put or given up, and every lease given back.
+pub fn serve_stream<C: Clock, B: Blobs, T: Stream>(
+    alloc: Global,
+    core: &mut Core<C, B::Held>,
+    blobs: &mut B,
+    stream: &mut T,
+) -> End
+    requires { ServesReleases core.old.settings }
+    ensures serves { (rest : Option (List ℕ)) × Serves (CoreTurn core.old.settings) (AllTell B.Held.bytes) TURNS
+        (world core.old (T.left stream.old) (T.taken stream.old) (T.read_faults stream.old) (T.write_faults stream.old) (B.faults blobs.old))
+        (world core.new rest (T.taken stream.new) (T.read_faults stream.new) (T.write_faults stream.new) (B.faults blobs.new)) result }
+    ensures history { (rest : Option (List ℕ)) × (entries : List Entry) × IsRecorded (AllTell B.Held.bytes) TURNS
+        (world core.old (T.left stream.old) (T.taken stream.old) (T.read_faults stream.old) (T.write_faults stream.old) (B.faults blobs.old))
+        (world core.new rest (T.taken stream.new) (T.read_faults stream.new) (T.write_faults stream.new) (B.faults blobs.new)) result entries }
+    ensures left_behind { IsDrawn core.old.state.yard → LeavesNothing core.old.state.yard core.new.state.yard }
+    ensures settings { core.new.settings ≡ core.old.settings }
+{
+    serve_turns(alloc, core, blobs, stream)
 }
