@@ -1,2 +1,6 @@
 pub mod Words
 pub mod Status
+pub mod Surroundings
+pub mod Lines
+pub mod FirstConnection
+pub mod Replay

@@ -1,8 +1,12 @@
-ghost use Rattle.std.specs.Prelude.{◌≡◌, ◌<◌, ◌⊎◌, map, vec_len, IfOk, if◌then◌else◌, OnOk, OnErr, MatchResult};
+ghost use Rattle.std.specs.Prelude.{◌≡◌, ◌<◌, map, vec_len, IfOk, IfErr, MatchBool};
 ghost use Rattle.std.specs.String.{string_bytes};
-ghost use Rattle.repo_server.specs.Held.{ServesReleases};
+ghost use Rattle.repo_server.specs.Held.{AllTell, ServesReleases};
+ghost use Rattle.mvnrepod.specs.FirstConnection.{ServesFirst};
+ghost use Rattle.mvnrepod.specs.Lines.{end_name, ending_line};
+ghost use Rattle.mvnrepod.specs.Replay.{Finishes, Replays, Reports, Runs, Tells, opened};
+ghost use Rattle.mvnrepod.specs.Status.{MatchAction};
+ghost use Rattle.mvnrepod.specs.Surroundings.{FirstOnly, Prints, PrintsPart, PrintsWhole, connection, desk_state, output};
 ghost use Rattle.mvnrepod.specs.Words.{action_of};
-ghost use Rattle.mvnrepod.specs.Status.{IsStatusOfReplay, MatchAction};
 
 use crate::actions::Action;
 use crate::words::wanted;
@@ -42,18 +46,27 @@ pub const OUTPUT: u8 = 7;
 /// Want of memory.
 pub const NO_MEMORY: u8 = 8;
 
-/// Writes a line and ends with a status, or with that of a failed output.
-fn ended<O: Sink>(out: &mut O, line: &[u8], status: u8) -> u8
-    ensures { (result ≡ status) ⊎ ((status ≡ DONE) × (result ≡ OUTPUT)) }
+/// Prints a line. It says whether all of it was printed.
+fn print<O: Sink>(out: &mut O, line: &[u8]) -> bool
+    ensures { MatchBool result
+        (PrintsWhole line.now (output (O.taken out.old) (O.write_faults out.old)) (output (O.taken out.new) (O.write_faults out.new)))
+        (PrintsPart line.now (output (O.taken out.old) (O.write_faults out.old)) (output (O.taken out.new) (O.write_faults out.new))) }
 {
-    match write_all(out, line) {
-        Ok(()) => status,
-        Err(_) if status == DONE => OUTPUT,
-        Err(_) => status,
-    }
+    write_all(out, line).is_ok()
 }
 
-fn end_name(end: End) -> &'static str {
+/// Prints the line of a failure, as far as that can be printed, and gives its status.
+fn fault<O: Sink>(out: &mut O, line: &[u8], status: u8) -> u8
+    ensures prints { Prints line.now (output (O.taken out.old) (O.write_faults out.old)) (output (O.taken out.new) (O.write_faults out.new)) }
+    ensures status { result ≡ status }
+{
+    print(out, line);
+    status
+}
+
+fn end_name(end: End) -> &'static str
+    ensures { result.now ≡ end_name end }
+{
     match end {
         End::Closed => "Closed",
         End::TornRequest => "TornRequest",
@@ -63,7 +76,9 @@ fn end_name(end: End) -> &'static str {
     }
 }
 
-fn ending_line(alloc: Global, calls: u64, end: End) -> Result<Vec<u8>, AllocError> {
+fn ending_line(alloc: Global, calls: u64, end: End) -> Result<Vec<u8>, AllocError>
+    ensures { IfOk result (λ line. line.items ≡ ending_line calls end) }
+{
     let mut line = Vec::from_slice(alloc, b"calls ")?;
     line.extend_from_slice(calls.to_string(alloc)?.as_bytes())?;
     line.extend_from_slice(b" end ")?;
@@ -72,17 +87,38 @@ fn ending_line(alloc: Global, calls: u64, end: End) -> Result<Vec<u8>, AllocErro
     Ok(line)
 }
 
+/// Prints how many calls a stream made and how it ended.
+fn finish<O: Sink>(alloc: Global, out: &mut O, calls: u64, end: End) -> u8
+    ensures { Finishes calls end (output (O.taken out.old) (O.write_faults out.old)) (output (O.taken out.new) (O.write_faults out.new)) result }
+{
+    let Ok(line) = ending_line(alloc, calls, end) else {
+        return fault(out, b"mvnrepod: memory\n", NO_MEMORY);
+    };
+    if print(out, line.as_slice()) {
+        DONE
+    } else {
+        OUTPUT
+    }
+}
+
 /// The status of a stream that was served, and its line.
 fn told<O: Sink>(alloc: Global, out: &mut O, calls: u64, end: End) -> u8
-    ensures { IsStatusOfReplay result }
+    ensures { Reports end calls (output (O.taken out.old) (O.write_faults out.old)) (output (O.taken out.new) (O.write_faults out.new)) result }
 {
     match end {
-        End::SourceFault => ended(out, b"mvnrepod: input\n", INPUT),
+        End::SourceFault => fault(out, b"mvnrepod: input\n", INPUT),
         End::SinkFault => OUTPUT,
-        _ => match ending_line(alloc, calls, end) {
-            Ok(line) => ended(out, line.as_slice(), DONE),
-            Err(_) => ended(out, b"mvnrepod: memory\n", NO_MEMORY),
-        },
+        End::Closed | End::TornRequest | End::TurnLimit => finish(alloc, out, calls, end),
+    }
+}
+
+/// The status of a replay and its line. `None` is that the port failed.
+fn tell<O: Sink>(alloc: Global, out: &mut O, calls: u64, ended: Option<End>) -> u8
+    ensures { Tells ended calls (output (O.taken out.old) (O.write_faults out.old)) (output (O.taken out.new) (O.write_faults out.new)) result }
+{
+    match ended {
+        Some(end) => told(alloc, out, calls, end),
+        None => fault(out, b"mvnrepod: input\n", INPUT),
     }
 }
 
@@ -93,6 +129,11 @@ fn serve_first<P: Port, B: Blobs, C: Clock>(
     core: &mut Core<C, B::Held>,
 ) -> Option<End>
     requires { ServesReleases core.old.settings }
+    ensures { ServesFirst (AllTell B.Held.bytes)
+        (λ link. connection (P.Link.left link) (P.Link.taken link) (P.Link.read_faults link) (P.Link.write_faults link))
+        (desk_state (P.left desk.old.port) (P.given_back desk.old.port) (P.faults desk.old.port) (B.faults desk.old.blobs))
+        (desk_state (P.left desk.new.port) (P.given_back desk.new.port) (P.faults desk.new.port) (B.faults desk.new.blobs))
+        core.old core.new result }
 {
     match desk.port.next() {
         Ok(Some(mut link)) => {
@@ -107,7 +148,8 @@ fn serve_first<P: Port, B: Blobs, C: Clock>(
 
 /// The core of `replay`, with the one hosted repository.
 fn core_of<C: Clock, H: Held>(alloc: Global, clock: C) -> Result<Core<C, H>, (NoMemory, C)>
-    ensures { IfOk result (λ core. ServesReleases core.settings) }
+    ensures ok { IfOk result (λ core. core ≡ opened (C.moments clock)) }
+    ensures err { IfErr result (λ error. error.1 ≡ clock) }
 {
     let id = match Text::new(alloc, REPOSITORY) {
         Ok(id) => id,
@@ -131,12 +173,18 @@ fn replay<P: Port, B: Blobs, C: Clock, O: Sink>(
     out: &mut O,
 ) -> Ran<P, B, C>
     requires { 0 < vec_len desks }
-    ensures { IsStatusOfReplay result.status }
+    ensures { FirstOnly (λ old new. Replays (AllTell B.Held.bytes)
+        (λ link. connection (P.Link.left link) (P.Link.taken link) (P.Link.read_faults link) (P.Link.write_faults link))
+        (C.moments clock) (C.moments result.clock)
+        (desk_state (P.left old.port) (P.given_back old.port) (P.faults old.port) (B.faults old.blobs))
+        (desk_state (P.left new.port) (P.given_back new.port) (P.faults new.port) (B.faults new.blobs))
+        (output (O.taken out.old) (O.write_faults out.old)) (output (O.taken out.new) (O.write_faults out.new)) result.status)
+        desks.items result.desks.items }
 {
     let mut core: Core<C, B::Held> = match core_of(alloc, clock) {
         Ok(core) => core,
         Err((_, clock)) => {
-            let status = ended(out, b"mvnrepod: memory\n", NO_MEMORY);
+            let status = fault(out, b"mvnrepod: memory\n", NO_MEMORY);
             return Ran {
                 status,
                 desks,
@@ -144,10 +192,8 @@ fn replay<P: Port, B: Blobs, C: Clock, O: Sink>(
             };
         }
     };
-    let status = match serve_first(alloc, &mut desks[0], &mut core) {
-        Some(end) => told(alloc, out, core.calls(), end),
-        None => ended(out, b"mvnrepod: input\n", INPUT),
-    };
+    let ended = serve_first(alloc, &mut desks[0], &mut core);
+    let status = tell(alloc, out, core.calls(), ended);
     let clock = core.end();
     Ran {
         status,
@@ -156,9 +202,21 @@ fn replay<P: Port, B: Blobs, C: Clock, O: Sink>(
     }
 }
 
-/// Does what the words ask for, with at least one desk.
+/// Does what the words ask for. There is at least one desk, and all come back: the others as they were.
 ///
-/// The status is 2 exactly where the words are refused, unless memory was wanting.
+/// `replay` takes the first connection from the first desk's port, serves it from an empty repository, at most 1,000
+/// requests, and gives it back. Other words are refused. `out` takes one line, or a front of it where `out` fails.
+///
+/// | status | where | line |
+/// |---|---|---|
+/// | 0 | the connection ended, or there was none, and nothing below applies | `calls N end END` |
+/// | 2 | the words are refused | `mvnrepod: words` |
+/// | 6 | the port failed, or the connection's source | `mvnrepod: input` |
+/// | 7 | the connection's sink failed, or `out` while the line of status 0 was printed | none, or a front of that line |
+/// | 8 | memory was wanting | `mvnrepod: memory` |
+///
+/// Each failure is one that its object counted. N is the number of calls of the repository; END is `Closed`,
+/// `TornRequest` or `TurnLimit`.
 pub fn run<P: Port, B: Blobs, C: Clock, O: Sink>(
     alloc: Global,
     words: &[String],
@@ -168,12 +226,19 @@ pub fn run<P: Port, B: Blobs, C: Clock, O: Sink>(
 ) -> Ran<P, B, C>
     requires { 0 < vec_len desks }
     ensures status { MatchAction (action_of (map string_bytes words.now)) result.status }
+    ensures run { FirstOnly (λ old new. Runs (action_of (map string_bytes words.now)) (AllTell B.Held.bytes)
+        (λ link. connection (P.Link.left link) (P.Link.taken link) (P.Link.read_faults link) (P.Link.write_faults link))
+        (C.moments clock) (C.moments result.clock)
+        (desk_state (P.left old.port) (P.given_back old.port) (P.faults old.port) (B.faults old.blobs))
+        (desk_state (P.left new.port) (P.given_back new.port) (P.faults new.port) (B.faults new.blobs))
+        (output (O.taken out.old) (O.write_faults out.old)) (output (O.taken out.new) (O.write_faults out.new)) result.status)
+        desks.items result.desks.items }
 {
     match wanted(words) {
         Ok(wanted) => match wanted.command {
             Action::Replay => replay(alloc, desks, clock, out),
             Action::Nothing => {
-                let status = ended(out, b"mvnrepod: words\n", REFUSED);
+                let status = fault(out, b"mvnrepod: words\n", REFUSED);
                 Ran {
                     status,
                     desks,
@@ -182,7 +247,7 @@ pub fn run<P: Port, B: Blobs, C: Clock, O: Sink>(
             }
         },
         Err(_) => {
-            let status = ended(out, b"mvnrepod: memory\n", NO_MEMORY);
+            let status = fault(out, b"mvnrepod: memory\n", NO_MEMORY);
             Ran {
                 status,
                 desks,

@@ -10,6 +10,9 @@ const PUT_ABC: &str =
 const PUT_NOTHING: &str =
     "PUT /repository/releases/org/acme/lib/1.0/lib-1.0.jar HTTP/1.1\r\nHost: x\r\nContent-Length: 0\r\n\r\n";
 
+const PUT_LONG: &str =
+    "PUT /repository/releases/org/acme/lib/1.0/lib-1.0.jar HTTP/1.1\r\nHost: x\r\nContent-Length: 70000\r\n\r\n";
+
 const GET: &str =
     "GET /repository/releases/org/acme/lib/1.0/lib-1.0.jar HTTP/1.1\r\nHost: x\r\n\r\n";
 
@@ -24,6 +27,9 @@ const ABC: &str =
 
 const ABC_LAST: &str =
     "HTTP/1.1 200 OK\r\nContent-Type: application/octet-stream\r\nContent-Length: 3\r\nX-Checksum-SHA1: a9993e364706816aba3e25717850c26c9cd0d89d\r\nX-Checksum-MD5: 900150983cd24fb0d6963f7d28e17f72\r\nConnection: close\r\n\r\nabc";
+
+const LONG_HEAD: &str =
+    "HTTP/1.1 200 OK\r\nContent-Type: application/octet-stream\r\nContent-Length: 70000\r\nX-Checksum-SHA1: 49dc0e9304ca87f2151de32f6c5291bf09c5e652\r\nX-Checksum-MD5: 0b21388e04a856f824a29c58d71c8d40\r\n\r\n";
 
 const NOTHING: &str =
     "HTTP/1.1 200 OK\r\nContent-Type: application/octet-stream\r\nContent-Length: 0\r\nX-Checksum-SHA1: da39a3ee5e6b4b0d3255bfef95601890afd80709\r\nX-Checksum-MD5: d41d8cd98f00b204e9800998ecf8427e\r\n\r\n";
@@ -45,18 +51,22 @@ const BLOB_FAULT: &str =
 /// What is to fail, and how the bytes come.
 #[derive(Drop)]
 struct Script {
+    port: FaultScript,
     reads: FaultScript,
     blobs: FaultScript,
     most: usize,
     room: usize,
+    line_room: usize,
 }
 
 fn plain(alloc: Global, most: usize) -> Script {
     Script {
+        port: FaultScript::none(alloc),
         reads: FaultScript::none(alloc),
         blobs: FaultScript::none(alloc),
         most,
         room: 500_000,
+        line_room: 100,
     }
 }
 
@@ -75,10 +85,12 @@ fn text_of(alloc: Global, bytes: &[u8]) -> Result<String, AllocError> {
 /// Runs `replay` on an input.
 fn replayed(alloc: Global, input: &str, script: Script) -> Result<Outcome, Fail> {
     let Script {
+        port,
         reads,
         blobs,
         most,
         room,
+        line_room,
     } = script;
     let link = Duplex {
         source: MemSource::new(
@@ -88,11 +100,11 @@ fn replayed(alloc: Global, input: &str, script: Script) -> Result<Outcome, Fail>
         ),
         sink: MemSink::new(alloc, room, FaultScript::none(alloc))?,
     };
-    let port = ScriptPort::new(alloc, vec![in alloc; link]?, FaultScript::none(alloc))?;
+    let port = ScriptPort::new(alloc, vec![in alloc; link]?, port)?;
     let blobs = MemBlobs::new(alloc, blobs);
     let desks = vec![in alloc; Desk { port, blobs }]?;
     let words = vec![in alloc; String::from_str(alloc, "replay")?]?;
-    let mut out = MemSink::new(alloc, 100, FaultScript::none(alloc))?;
+    let mut out = MemSink::new(alloc, line_room, FaultScript::none(alloc))?;
     let clock = ScriptClock::stepping(alloc, 0, 0);
     let ran = run(alloc, words.as_slice(), desks, clock, &mut out);
     let given_back = ran
@@ -171,6 +183,44 @@ fn an_empty_file_is_a_file(rt: HostRuntime) -> Result<(), Fail> {
     )
 }
 
+/// Adds 70,000 times the letter a.
+fn push_long_body(all: &mut String) -> Result<(), AllocError> {
+    for _ in 0..7000 {
+        all.push_str("aaaaaaaaaa")?;
+    }
+    Ok(())
+}
+
+fn long_input(alloc: Global) -> Result<String, AllocError> {
+    let mut all = String::from_str(alloc, PUT_LONG)?;
+    push_long_body(&mut all)?;
+    all.push_str(GET)?;
+    all.push_str(GET)?;
+    Ok(all)
+}
+
+fn long_answers(alloc: Global) -> Result<String, AllocError> {
+    let mut all = String::from_str(alloc, CREATED)?;
+    all.push_str(LONG_HEAD)?;
+    push_long_body(&mut all)?;
+    all.push_str(LONG_HEAD)?;
+    push_long_body(&mut all)?;
+    Ok(all)
+}
+
+// Want of memory may be answered anywhere by proof, so this says that it is not.
+#[test]
+fn a_long_file_is_put_and_got_twice(rt: HostRuntime) -> Result<(), Fail> {
+    let input = long_input(rt.alloc())?;
+    let answers = long_answers(rt.alloc())?;
+    expect_answers(
+        &rt,
+        input.as_str(),
+        answers.as_str(),
+        "calls 6 end Closed\n",
+    )
+}
+
 #[test]
 fn a_torn_body_is_not_stored(rt: HostRuntime) -> Result<(), Fail> {
     let input =
@@ -246,6 +296,27 @@ fn a_blob_that_is_not_stored_is_told(rt: HostRuntime) -> Result<(), Fail> {
     let answers = joined(rt.alloc(), &[BLOB_FAULT, CREATED, ABC])?;
     assert_eq!(rt; replayed.answers.as_str(), answers.as_str());
     assert_eq!(rt; replayed.line.as_str(), "calls 6 end Closed\n");
+    Ok(())
+}
+
+#[test]
+fn a_port_that_fails_ends_the_run(rt: HostRuntime) -> Result<(), Fail> {
+    let mut script = plain(rt.alloc(), 4096);
+    script.port = FaultScript::failing_at(vec![in rt.alloc(); 0]?);
+    let replayed = replayed(rt.alloc(), GET_LAST, script)?;
+    assert_eq!(rt; replayed.answers.as_str(), "");
+    assert_eq!(rt; replayed.line.as_str(), "mvnrepod: input\n");
+    assert_eq!(rt; replayed.status, 6);
+    Ok(())
+}
+
+#[test]
+fn a_line_that_is_cut_is_told(rt: HostRuntime) -> Result<(), Fail> {
+    let mut script = plain(rt.alloc(), 4096);
+    script.line_room = 7;
+    let replayed = replayed(rt.alloc(), "", script)?;
+    assert_eq!(rt; replayed.line.as_str(), "calls 0");
+    assert_eq!(rt; replayed.status, 7);
     Ok(())
 }
 

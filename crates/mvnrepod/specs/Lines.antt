@@ -1,0 +1,26 @@
+-- The lines that a run prints (the project's own texts).
+use Rattle.std.specs.Prelude.{ℕ, List, ◌++◌, codes}
+use Rattle.std.specs.Fmt.{decimal}
+use Rattle.repo_server.specs.declared.outcomes.End.{End}
+use Rattle.repo_server.specs.declared.outcomes.End.TheVariants.{Closed, TornRequest, TurnLimit, SourceFault, SinkFault}
+use Rattle.repo_server.specs.Answers.{line}
+
+abbrev pub words_line : List ℕ
+words_line = line (codes "mvnrepod: words")
+
+abbrev pub input_line : List ℕ
+input_line = line (codes "mvnrepod: input")
+
+abbrev pub memory_line : List ℕ
+memory_line = line (codes "mvnrepod: memory")
+
+abbrev pub end_name : End → List ℕ
+end_name Closed = codes "Closed"
+end_name TornRequest = codes "TornRequest"
+end_name TurnLimit = codes "TurnLimit"
+end_name SourceFault = codes "SourceFault"
+end_name SinkFault = codes "SinkFault"
+
+-- how many calls a stream made, and how it ended
+abbrev pub ending_line : ℕ → End → List ℕ
+ending_line calls ending = line (codes "calls " ++ decimal calls ++ codes " end " ++ end_name ending)
