@@ -123,7 +123,7 @@ fn tell<O: Sink>(alloc: Global, out: &mut O, calls: u64, ended: Option<End>) -> 
 }
 
 /// Serves the first stream of the desk's port, if there is one. `None` where the port failed.
-fn serve_first<P: Port, B: Blobs, C: Clock>(
+pub(crate) fn serve_first<P: Port, B: Blobs, C: Clock>(
     alloc: Global,
     desk: &mut Desk<P, B>,
     core: &mut Core<C, B::Held>,
@@ -147,7 +147,10 @@ fn serve_first<P: Port, B: Blobs, C: Clock>(
 }
 
 /// The core of `replay`, with the one hosted repository.
-fn core_of<C: Clock, H: Held>(alloc: Global, clock: C) -> Result<Core<C, H>, (NoMemory, C)>
+pub(crate) fn core_of<C: Clock, H: Held>(
+    alloc: Global,
+    clock: C,
+) -> Result<Core<C, H>, (NoMemory, C)>
     ensures ok { IfOk result (λ core. core ≡ opened (C.moments clock)) }
     ensures err { IfErr result (λ error. error.1 ≡ clock) }
 {

@@ -1,8 +1,13 @@
-use crate::run::{Desk, run};
-use outside::{Duplex, FaultScript, MemBlobs, MemSink, MemSource, ScriptClock, ScriptPort};
+use crate::run::{Desk, core_of, run, serve_first};
+use outside::{
+    Duplex, FaultScript, MemBlobs, MemHeld, MemSink, MemSource, ScriptClock, ScriptPort,
+};
+use repo_core::{Command, Core, Reply};
+use repo_server::End;
 use std::alloc::{AllocError, Global};
 use std::process::Abort;
 use std::test::Fail;
+use texts::Text;
 
 const PUT_ABC: &str =
     "PUT /repository/releases/org/acme/lib/1.0/lib-1.0.jar HTTP/1.1\r\nHost: x\r\nContent-Length: 3\r\n\r\nabc";
@@ -272,6 +277,68 @@ fn a_sink_that_fails_has_a_part(rt: HostRuntime) -> Result<(), Fail> {
     assert_eq!(rt; replayed.answers.len(), 100);
     assert_eq!(rt; replayed.line.as_str(), "");
     assert_eq!(rt; replayed.status, 7);
+    Ok(())
+}
+
+type MemDesk = Desk<ScriptPort<Duplex<MemSource, MemSink>>, MemBlobs>;
+
+/// A desk whose connection gives this input and has room for so many bytes.
+fn desk_of(alloc: Global, input: &str, room: usize, blobs: FaultScript) -> Result<MemDesk, Fail> {
+    let none = FaultScript::none(alloc);
+    let link = Duplex {
+        source: MemSource::new(Vec::from_slice(alloc, input.as_bytes())?, 4096, none),
+        sink: MemSink::new(alloc, room, FaultScript::none(alloc))?,
+    };
+    let port = ScriptPort::new(alloc, vec![in alloc; link]?, FaultScript::none(alloc))?;
+    let blobs = MemBlobs::new(alloc, blobs);
+    Ok(Desk { port, blobs })
+}
+
+#[test]
+fn a_lease_is_given_back_where_the_sink_fails(rt: HostRuntime) -> Result<(), Fail> {
+    let alloc = rt.alloc();
+    let input = joined(alloc, &[PUT_ABC, GET_LAST])?;
+    let mut desk = desk_of(alloc, input.as_str(), 100, FaultScript::none(alloc))?;
+    let opened: Result<Core<ScriptClock, MemHeld>, _> = core_of(
+        alloc,
+        ScriptClock::stepping(alloc, 0, 0),
+    );
+    let mut core = match opened {
+        Ok(core) => core,
+        Err((error, _)) => return Err(Fail::from(error)),
+    };
+    let end = serve_first(alloc, &mut desk, &mut core);
+    assert_eq!(rt; end, Some(End::SinkFault));
+    assert_eq!(rt; core.calls(), 4);
+    Ok(())
+}
+
+#[test]
+fn a_blob_that_is_not_stored_has_used_its_draft(rt: HostRuntime) -> Result<(), Fail> {
+    let alloc = rt.alloc();
+    let input = joined(alloc, &[PUT_ABC, PUT_ABC])?;
+    let failing = FaultScript::failing_at(vec![in alloc; 0]?);
+    let mut desk = desk_of(alloc, input.as_str(), 1000, failing)?;
+    let opened: Result<Core<ScriptClock, MemHeld>, _> = core_of(
+        alloc,
+        ScriptClock::stepping(alloc, 0, 0),
+    );
+    let mut core = match opened {
+        Ok(core) => core,
+        Err((error, _)) => return Err(Fail::from(error)),
+    };
+    let end = serve_first(alloc, &mut desk, &mut core);
+    assert_eq!(rt; end, Some(End::Closed));
+    let look = Command::Look {
+        repo: Text::new(alloc, "releases")?,
+        path: Text::new(alloc, "org/acme/lib/1.0/lib-1.0.jar")?,
+    };
+    assert!(rt; core.fits(&look));
+    let blob = match core.call(look) {
+        Reply::File { lease: _, parcel } => parcel.blob,
+        _ => 0,
+    };
+    assert_eq!(rt; blob, 2);
     Ok(())
 }
 
