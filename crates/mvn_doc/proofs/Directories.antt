@@ -1,18 +1,17 @@
 -- What the directory of a path that names a document is made of.
-use Rattle.std.proofs.Common.{◌≡◌, ℕ, Bool, true, false, cond, ◌&&◌, ◌||◌, List, [], ◌∷◌, ◌++◌, length, refl, sym, subst, ap, ◌∙◌, Option, Some, None, Result, Ok, Err, map, reverse, nat_lt, ◌==◌}
+use Rattle.std.proofs.Common.{◌≡◌, ℕ, Bool, true, false, cond, ◌&&◌, List, [], ◌∷◌, ◌++◌, length, refl, sym, subst, ap, ◌∙◌, Some, None, Ok, map, reverse, nat_lt, ◌==◌}
 use Rattle.std.specs.Prelude.{if◌then◌else◌, codes, is_some}
 use Rattle.std.specs.List.{list_all, slice_split, onto_first, join_with_byte}
 use Rattle.std.specs.Str.{bytes_eq}
 use mathlib.Core.List.{reverse_aux}
 use borrow.Author.Tests.{eqb-true}
 use Rattle.mvn_coords.specs.FileName.{base_of, ◌>>=◌}
-use Rattle.mvn_coords.specs.Layout.{Directory, Named, file, document, all_groups, artifact_directory, directory, directory_of, file_of, named, snapshot_directory, text_of_document}
+use Rattle.mvn_coords.specs.Layout.{Directory, file, document, all_groups, artifact_directory, directory, directory_of, file_of, named, snapshot_directory, text_of_document}
 use Rattle.mvn_coords.specs.Path.{IsDirectory}
-use Rattle.mvn_coords.specs.Segment.{Segment, is_artifact, is_group_byte, is_group_segment, is_segment, is_version_directory, levels, path_of_levels}
+use Rattle.mvn_coords.specs.Segment.{Segment, is_artifact, is_group_byte, is_group_segment, is_segment, is_version_directory, path_of_levels}
 use Rattle.mvn_coords.proofs.Laws.{passes}
 use Rattle.mvn_coords.proofs.Levels.{filled}
 use Rattle.mvn_coords.proofs.Results.{bound, chosen, ok_same}
-use Rattle.mvn_coords.specs.declared.fault.PathFault.{PathFault}
 use Rattle.mvn_coords.specs.declared.fault.PathFault.TheVariants as fault
 use Rattle.mvn_doc.specs.Document.{dotted}
 use Rattle.mvn_doc.specs.Form.{is_artifact_name, is_base_version, is_fit, is_group, is_version}

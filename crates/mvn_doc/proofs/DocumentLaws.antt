@@ -1,7 +1,5 @@
 -- Merging documents of one kind is associative, and changes nothing of one document.
-use Rattle.std.proofs.Common.{◌≡◌, ℕ, true, false, List, [], ◌∷◌, refl, sym, ap, ◌∙◌, Some, None}
-use Rattle.mvn_coords.specs.Civil.{CivilTime}
-use Rattle.mvn_coords.specs.FileName.{BuildOf}
+use Rattle.std.proofs.Common.{◌≡◌, true, [], ◌∷◌, Some}
 use Rattle.mvn_doc.specs.declared.listing.Listing.{Listing}
 use Rattle.mvn_doc.specs.declared.listing.Listing.TheVariants.{Artifact, Snapshot}
 use Rattle.mvn_doc.specs.Document.{Document, is_artifact, joined, merge, merged, nothing}

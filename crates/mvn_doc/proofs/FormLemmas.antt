@@ -16,7 +16,7 @@ use Rattle.mvn_coords.specs.FileName.{BuildOf}
 use Rattle.mvn_version.specs.Order.{list_cmp}
 use Rattle.mvn_doc.specs.declared.listing.Listing.{Listing}
 use Rattle.mvn_doc.specs.declared.listing.Listing.TheVariants.{Artifact, Snapshot}
-use Rattle.mvn_doc.specs.Document.{Document, dotted, greatest, is_of, joined, latest_time, merged, newest_build, nothing, of_kind, settled, with_build, with_update, with_version}
+use Rattle.mvn_doc.specs.Document.{Document, dotted, greatest, is_of, joined, latest_time, newest_build, nothing, of_kind, settled, with_build, with_update, with_version}
 use Rattle.mvn_doc.specs.Form.{is_artifact_name, is_base_version, is_build, is_document, is_classifier, is_extension, is_entry, is_fit, is_group, is_listing, is_reached, is_rising, is_version}
 use Rattle.mvn_doc.specs.Merge.{Entry, with_versions, with_entries}
 use Rattle.mvn_doc.specs.Order.{build_cmp, build_cmp_total, pair_cmp, time_cmp}

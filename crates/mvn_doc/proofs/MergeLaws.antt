@@ -1,5 +1,5 @@
 -- Merging is associative, and changes nothing of one document.
-use Rattle.std.proofs.Common.{◌≡◌, ℕ, Bool, true, false, cond, ◌&&◌, not, List, [], ◌∷◌, map, refl, sym, subst, ap, ◌∙◌, Option, Some, None, T}
+use Rattle.std.proofs.Common.{◌≡◌, ℕ, Bool, true, false, cond, ◌&&◌, List, [], ◌∷◌, map, refl, sym, ap, ◌∙◌, Option, Some, None}
 use Rattle.std.specs.Prelude.{if◌then◌else◌}
 use Rattle.std.specs.BTreeMap.{insert_entry, is_at}
 use Rattle.std.specs.BTreeSet.{insert_key}
@@ -19,7 +19,7 @@ use Rattle.mvn_doc.specs.Document.{greatest}
 use Rattle.mvn_doc.specs.Form.{is_rising}
 use Rattle.mvn_doc.specs.Merge.{Entry, is_newer, with_versions, with_entry, with_entries}
 use Rattle.mvn_doc.specs.Order.{build_cmp, build_cmp_total, pair_cmp, pair_cmp_total}
-use Rattle.mvn_doc.proofs.Bools.{both, first, second}
+use Rattle.mvn_doc.proofs.Bools.{first, second}
 use Rattle.mvn_doc.proofs.MergeLemmas.{holds, insert_entry_is_put, is_sorted-with_entries, is_rising-with_versions, pair_cmp_ties}
 
 -- ---- the greatest of optional values

@@ -8,6 +8,7 @@ use Rattle.mvn_coords.specs.Civil.{CivilTime}
 use Rattle.mvn_coords.specs.FileName.{BuildOf}
 use Rattle.mvn_coords.specs.Layout.{Directory}
 use Rattle.mvn_doc.specs.declared.listing.Listing.{Listing}
+use Rattle.mvn_doc.specs.declared.pair.Held.{Held}
 use Rattle.mvn_doc.specs.declared.listing.Listing.TheVariants.{Artifact, Snapshot}
 use Rattle.mvn_doc.specs.Merge.{Entry, with_versions, with_entry, with_entries}
 use Rattle.mvn_doc.specs.Order.{build_cmp, time_cmp}
@@ -29,6 +30,9 @@ latest_time t u = greatest time_cmp t u
 
 abbrev pub newest_build : Option BuildOf → Option BuildOf → Option BuildOf
 newest_build b c = greatest build_cmp b c
+
+abbrev pub newest_held : Option Held → Option Held → Option Held
+newest_held u v = greatest (λ u v. build_cmp u.build v.build) u v
 
 -- what one document lists with what another one does; one of the other kind adds nothing
 abbrev pub joined : Listing → Listing → Listing

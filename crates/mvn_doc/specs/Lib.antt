@@ -3,3 +3,8 @@ pub mod Merge
 pub mod Document
 pub mod Form
 pub mod Written
+pub mod Place
+pub mod Picked
+pub mod Reading
+pub mod Worked
+pub mod Tree

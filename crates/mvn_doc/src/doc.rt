@@ -141,6 +141,7 @@ impl Doc {
         }
     }
 
+    /// The artifact.
     pub fn artifact(&self) -> Option<&str>
         ensures { option_copied result ≡ self.now.artifact }
     {

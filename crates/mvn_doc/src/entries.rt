@@ -95,7 +95,7 @@ impl Entries {
         self.map.iter()
     }
 
-    // At most how many bytes the lines of the entries have, where a base has so many bytes.
+    // About how many bytes the lines of the entries have, where a base has so many bytes.
     pub(crate) fn text_size(&self, base: usize) -> usize {
         let mut size: usize = 0;
         for (pair, _) in self.map.iter() {

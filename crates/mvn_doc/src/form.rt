@@ -1,5 +1,5 @@
 //! Tests of the values that a document may have.
-ghost use Rattle.std.specs.Prelude.{◌≡◌, IfOk, is_some};
+ghost use Rattle.std.specs.Prelude.{◌≡◌, ◌++◌, IfOk, codes, is_some};
 ghost use Rattle.std.specs.List.{list_all};
 ghost use Rattle.mvn_coords.specs.FileName.{base_of};
 ghost use Rattle.mvn_coords.specs.Segment as segment;
@@ -74,12 +74,19 @@ pub fn is_extension(text: &str) -> bool
 pub fn is_entry(alloc: Global, pair: &Pair, held: &Held) -> Result<bool, NoMemory>
     ensures { IfOk result (λ b. b ≡ spec.is_entry (pair.now, held.now)) }
 {
-    let mut version = String::from_str(alloc, held.base.as_str())?;
-    version.push_str("-SNAPSHOT")?;
-    let is_based = is_base_version(version.as_str());
+    let is_based = is_base(alloc, held.base.as_str())?;
     let is_built = is_build(held);
     let is_named = is_classifier(pair.classifier.as_str()) && is_extension(pair.extension.as_str());
     Ok(is_named && is_based && is_built)
+}
+
+/// Whether X-SNAPSHOT is a version directory for this X.
+pub(crate) fn is_base(alloc: Global, base: &str) -> Result<bool, NoMemory>
+    ensures { IfOk result (λ b. b ≡ spec.is_base_version (base.now ++ codes "-SNAPSHOT")) }
+{
+    let mut version = String::from_str(alloc, base)?;
+    version.push_str("-SNAPSHOT")?;
+    Ok(is_base_version(version.as_str()))
 }
 
 // A build of the program always is one.

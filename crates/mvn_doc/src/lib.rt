@@ -1,5 +1,5 @@
-//! The document `maven-metadata.xml` of a directory (Maven repository metadata 1.1.0): what it holds, its one written
-//! form, and how documents of one directory are merged.
+//! The document `maven-metadata.xml` of a directory (Maven repository metadata 1.1.0): what it holds, how it is read and
+//! settled for its directory, its one written form, and how documents of one directory are merged.
 #![tactic(auto)]
 
 mod doc;
@@ -9,9 +9,11 @@ pub mod laws;
 mod listing;
 mod merging;
 mod pair;
+mod picked;
+mod place;
+mod reading;
 mod settling;
-#[cfg(test)]
-mod tests;
+mod value;
 mod versions;
 mod writing;
 
@@ -21,6 +23,7 @@ pub use form::{is_base_version, is_classifier, is_entry, is_extension, is_versio
 pub use listing::Listing;
 pub use merging::merge;
 pub use pair::{Held, Pair};
+pub use reading::{DocFault, read};
 pub use settling::{empty, settle};
 use std::alloc::AllocError;
 pub use versions::Versions;

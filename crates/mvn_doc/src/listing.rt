@@ -1,3 +1,4 @@
+//! What a document lists.
 use crate::{Entries, Versions};
 use mvn_coords::{Build, Stamp};
 use texts::Text;

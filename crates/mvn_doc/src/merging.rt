@@ -5,7 +5,7 @@ ghost use Rattle.mvn_doc.specs.Document.{merge};
 use crate::{Doc, NoMemory};
 use std::alloc::Global;
 
-/// Documents of one directory as one: the coordinates of the first, all versions, for each classifier and extension
+/// Documents of one directory, at least one, as one: the coordinates of the first, all versions, for each classifier and extension
 /// the newest build, of equal ones the first, and the greatest `lastUpdated` and newest build. A document of another
 /// kind than the first adds nothing.
 pub fn merge(alloc: Global, docs: &[Doc]) -> Result<Doc, NoMemory>

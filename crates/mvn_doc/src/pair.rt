@@ -19,7 +19,7 @@ pub struct Pair {
     pub extension: Text,
 }
 
-/// The newest build of a pair: X of its version directory X-SNAPSHOT, and the build.
+/// A build of a pair: X of its version directory X-SNAPSHOT, and the build.
 #[derive(Drop)]
 pub struct Held {
     pub base: Text,
@@ -51,7 +51,7 @@ impl Held {
 }
 
 /// The order of two builds: by timestamp, and at one timestamp by number.
-pub fn compare_builds(left: Build, right: Build) -> Ordering
+pub(crate) fn compare_builds(left: Build, right: Build) -> Ordering
     ensures { result ≡ build_cmp left right }
 {
     left.cmp(&right)

@@ -95,7 +95,7 @@ impl Versions {
         last
     }
 
-    // At most how many bytes the lines of the versions have.
+    // About how many bytes the lines of the versions have.
     pub(crate) fn text_size(&self) -> usize {
         let mut size: usize = 0;
         for version in self.set.iter() {

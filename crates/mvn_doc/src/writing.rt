@@ -28,7 +28,7 @@ pub fn write(alloc: Global, doc: &Doc) -> Result<Vec<u8>, NoMemory>
     Ok(out)
 }
 
-// At most how many bytes the text has: a guess that spares growing, and no promise.
+// About how many bytes the text has: a guess that spares growing.
 fn size(doc: &Doc) -> usize {
     let lines = match doc.listing() {
         Listing::Artifact(versions, _) => versions.text_size(),

@@ -30,8 +30,9 @@ pub struct Element<'a> {
 #[derive(Clone, Copy, Debug, PartialEq, Eq)]
 pub enum XmlFault {
     /// It is no document of the subset: the token that starts `at` this byte cannot be cut or may not stand there, or
-    /// the text ends here too early.
+    /// the text ends here too early. Bytes are counted from 0, a byte order mark included.
     Malformed { at: usize },
+    /// There was no memory; it may come at any text.
     NoMemory,
 }
 

@@ -8,8 +8,6 @@ mod document;
 pub mod laws;
 mod reference;
 mod tag;
-#[cfg(test)]
-mod tests;
 mod token;
 mod tree;
 

@@ -1,7 +1,5 @@
 use Rattle.std.proofs.Common.{◌≡◌, ap, ◌∙◌, Some, true, sym}
-use Rattle.std.specs.Option.{option_copied}
 use Rattle.mvn_coords.specs.Layout.{Directory}
-use Rattle.mvn_doc.specs.declared.listing.Listing.{Listing}
 use Rattle.mvn_doc.specs.Document.{Document, dotted, of_kind, settled}
 use Rattle.mvn_doc.specs.Form.{is_document, is_listing}
 use Rattle.mvn_doc.proofs.FormLemmas.{is_document-settled}

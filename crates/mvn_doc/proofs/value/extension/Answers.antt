@@ -1,0 +1,9 @@
+use Rattle.std.proofs.Common.{ap, sym, ◌∙◌}
+use Rattle.std.specs.Option.{option_copied}
+use Rattle.mvn_doc.specs.Form.{is_extension}
+use Rattle.mvn_doc.proofs.Utf8Lemmas.{fails, extension_utf8}
+use Rattle.mvn_doc.proofs.value.extension.Goals as goal
+
+pub returns-in_err-text : goal.returns-in_err-text
+returns-in_err-text c =
+    ap option_copied c.from_residual.ensures ∙ sym (fails is_extension c.args.bytes.now (extension_utf8 c.args.bytes.now) c.in_err-text.ensures)
