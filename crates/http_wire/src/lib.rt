@@ -11,12 +11,8 @@ mod fields;
 mod laws;
 mod lines;
 mod parser;
-#[cfg(test)]
-mod plain;
 mod requests;
 mod search;
-#[cfg(test)]
-mod tests;
 mod wires;
 
 pub use answers::{Answer, Content, NO_MEMORY, Status, no_memory_answer, render};

@@ -1,4 +1,4 @@
-ghost use Rattle.std.specs.Prelude.{◌≡◌, ◌≢◌, ℕ, ◌+◌, ◌-◌, ◌<◌, ◌≤◌, ◌++◌, List, [], length, take, drop, slice_range, min, IfOk, IfNone, IfSome, OnErr, OnOk, vec_len, None};
+ghost use Rattle.std.specs.Prelude.{◌≡◌, ◌≢◌, ℕ, ◌+◌, ◌-◌, ◌<◌, ◌≤◌, ◌++◌, List, [], length, take, drop, slice_range, min, IfOk, IfNone, IfSome, IsSome, OnErr, OnOk, vec_len, None};
 ghost use Rattle.std.specs.Option.{option_map};
 ghost use Rattle.outside.specs.Faults.{HasCause};
 ghost use Rattle.outside.specs.Told.{IsAtEnd, in_front};
@@ -86,7 +86,7 @@ fn read_rest<S: Source>(source: &mut S, body: &mut [u8], held: usize) -> Result<
     ensures given { IfOk result (λ n. S.left source.old
         ≡ in_front (slice_range body.new held (held + n)) (S.left source.new)) }
     ensures end { IfOk result (λ n. held + n < length body.new → IsAtEnd (S.left source.new)) }
-    ensures failed { OnErr result ((gone : List ℕ) × (held + length gone ≤ length body.new)
+    ensures failed { OnErr result ((gone : List ℕ) × (held + length gone < length body.new)
         × (S.left source.old ≡ in_front gone (S.left source.new))) }
     ensures taken { S.taken source.new ≡ S.taken source.old }
     ensures write_faults { S.write_faults source.new ≡ S.write_faults source.old }
@@ -96,7 +96,7 @@ fn read_rest<S: Source>(source: &mut S, body: &mut [u8], held: usize) -> Result<
 
 impl Wire {
     ghost use Rattle.std.specs.List.{list_all};
-    ghost use Rattle.http_wire.specs.Front.{Bad, Clean, Cut, Whole, front, is_line_byte};
+    ghost use Rattle.http_wire.specs.Front.{Bad, Clean, Cut, Whole, front, head_place, is_line_byte};
     ghost use Rattle.http_wire.specs.Head.{Head, head_of};
     ghost use Rattle.http_wire.specs.Parsed.{IsTaken};
     ghost use Rattle.http_wire.specs.Search.{IsHeadAt};
@@ -154,6 +154,7 @@ impl Wire {
         ensures cause { HasCause (S.read_faults source.old) (S.read_faults source.new) result }
         ensures unread { unread self.new (S.left source.new) ≡ unread self.old (S.left source.old) }
         ensures found { IfOk result (IsHeld self.new (S.left source.new)) }
+        ensures unasked { IsSome (head_place self.old) → source.new ≡ source.old }
         ensures taken { S.taken source.new ≡ S.taken source.old }
         ensures write_faults { S.write_faults source.new ≡ S.write_faults source.old }
     {
@@ -234,6 +235,9 @@ impl Wire {
             → BeginsWithHead (unread self.old (S.left source.old)) }
         ensures faults { CountsFaults (S.read_faults source.old) (S.read_faults source.new) result }
 
+        // Where the wire holds a whole head the source isn't read.
+        ensures unasked { IsSome (head_place self.old) → source.new ≡ source.old }
+
         // Without a request nothing is used up.
         ensures kept_at_end { IfOk result (λ given. IfNone given
             (unread self.new (S.left source.new) ≡ unread self.old (S.left source.old))) }
@@ -262,7 +266,7 @@ impl Wire {
     /// is used.
     ///
     /// After `NoMemory` nothing is used up. After `Torn` the stream is at its end. After `SourceFault` the wire
-    /// is empty, and at most `count` bytes are gone.
+    /// is empty, and fewer than `count` bytes are gone. Where the wire holds the whole body the source isn't read.
     pub fn body<S: Source>(
         &mut self,
         alloc: Global,
@@ -281,8 +285,9 @@ impl Wire {
         ensures memory_held { result ≡ Err WireFault.NoMemory → self.new ≡ self.old }
         ensures memory_left { result ≡ Err WireFault.NoMemory → S.left source.new ≡ S.left source.old }
         ensures fault_rest { result ≡ Err WireFault.SourceFault → (gone : List ℕ)
-            × (length gone ≤ count) × (self.new ≡ [])
+            × (length gone < count) × (self.new ≡ [])
             × (unread self.old (S.left source.old) ≡ in_front gone (S.left source.new)) }
+        ensures unasked { count ≤ length self.old → source.new ≡ source.old }
         ensures not_refused { (fault : HeadFault) → result ≢ Err (WireFault.Refused fault) }
         ensures faults { CountsFaults (S.read_faults source.old) (S.read_faults source.new) result }
         ensures taken { S.taken source.new ≡ S.taken source.old }

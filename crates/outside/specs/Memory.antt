@@ -1,5 +1,5 @@
 -- The states of the outside in memory.
-use Rattle.std.specs.Prelude.{ℕ, List}
+use Rattle.std.specs.Prelude.{ℕ, List, Option}
 use Rattle.outside.specs.Script.{Script}
 
 -- a source: the bytes left, the most that a read gives, and its script
@@ -20,3 +20,9 @@ pub record PortState (Link : Type 0) : Type 0 where
   pub given_back : List Link
   pub room : ℕ
   pub script : Script
+
+-- a source over a reader, or a sink over a writer: the bytes that the reader has left or the writer holds, where known,
+-- and how many calls have failed
+pub record KnownState : Type 0 where
+  pub known : Option (List ℕ)
+  pub faults : ℕ

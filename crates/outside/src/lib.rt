@@ -21,8 +21,6 @@ mod standard;
 mod stores;
 mod streams;
 mod tells;
-#[cfg(test)]
-mod tests;
 
 pub use clocks::Clock;
 pub use duplex::Duplex;

@@ -1,4 +1,4 @@
-use Rattle.std.proofs.Common.{◌≡◌, ◌∙◌, ℕ, ◌+◌, ◌≤◌, List, [], ◌++◌, length, min, take, drop, refl, ap, sym, rules, arith, length-append}
+use Rattle.std.proofs.Common.{◌≡◌, ◌∙◌, ℕ, ◌+◌, ◌<◌, ◌≤◌, List, [], ◌++◌, length, min, take, drop, refl, ap, sym, rules, arith, length-append}
 use Rattle.std.proofs.lemmas.List.{drop_all, take_at}
 use Rattle.outside.specs.Told.{in_front}
 use Rattle.http_wire.specs.Stream.{unread}
@@ -27,7 +27,7 @@ returns-in_err-given-clause-fault_rest g c = λ e.
     let all : length c.args.self.now ≤ count = search rules in
     let room : length c.read_rest.new.body ≡ c.in_ok-body.body.len = search rules in
     let size : c.in_ok-body.body.len ≡ c.args.count = search rules in
-    let bound : length (c.args.self.now ++ gone.0) ≤ c.args.count = omega (arith, length-append c.args.self.now gone.0, gone.1, room, size, all) in (
+    let bound : length (c.args.self.now ++ gone.0) < c.args.count = omega (arith, length-append c.args.self.now gone.0, gone.1, room, size, all) in (
       c.args.self.now ++ gone.0,
       bound,
       c.use_up.ensures ∙ drop_all count c.args.self.now all,

@@ -9,4 +9,5 @@ loop-start-init g c = record {
   read_faults = refl;
   taken = refl;
   write_faults = refl;
+  unasked = λ _. (refl, refl);
 }

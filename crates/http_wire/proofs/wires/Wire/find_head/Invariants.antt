@@ -1,4 +1,6 @@
 use Rattle.std.proofs.Common.{◌≡◌, ℕ, ◌-◌, List, length, Option}
+use Rattle.std.specs.Prelude.{IsSome}
+use Rattle.http_wire.specs.Front.{head_place}
 use Rattle.http_wire.specs.Search.{IsOpen}
 use Rattle.http_wire.specs.Stream.{unread}
 use Rattle.http_wire.proofs.wires.Wire.find_head.Given as goal
@@ -13,6 +15,7 @@ invariant-loop-start g l =
       read_faults : t.read_faults l.source ≡ t.read_faults l.fn.source;
       taken : t.taken l.source ≡ t.taken l.fn.source;
       write_faults : t.write_faults l.source ≡ t.write_faults l.fn.source;
+      unasked : IsSome (head_place l.fn.self) → (l.source ≡ l.fn.source) × (l.self ≡ l.fn.self);
     }
 
 abbrev pub decreases-loop-start : goal.decreases-loop-start
