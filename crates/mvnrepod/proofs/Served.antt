@@ -9,10 +9,10 @@ use Rattle.repo_server.specs.declared.outcomes.End.{End}
 use Rattle.repo_server.specs.declared.outcomes.End.TheVariants.{Closed, TornRequest, TurnLimit, SourceFault, SinkFault}
 use Rattle.repo_server.specs.CoreTurn.{CoreTurn}
 use Rattle.repo_server.specs.Endings.{EndsByCause}
-use Rattle.repo_server.specs.Held.{ServesReleases}
+use Rattle.repo_server.specs.Releases.{ServesReleases, releases_alone}
 use Rattle.repo_server.specs.Plain.{repository}
 use Rattle.repo_server.specs.Serving.{Serves}
-use Rattle.repo_server.specs.Worked.{releases_alone}
+use Rattle.repo_server.specs.declared.streams.TheConstants.{TURNS}
 use Rattle.repo_server.specs.Machine.{with_entries}
 use Rattle.repo_server.proofs.Bound.{serves-most}
 use Rattle.repo_server.proofs.CoreTurns.{state_of, calls_of, core-is_machine, core-counts}
@@ -20,8 +20,8 @@ use Rattle.repo_server.proofs.Endings.{serves-shows}
 use Rattle.repo_server.proofs.PlayedFrom.{as-played, played-up-to}
 use Rattle.repo_server.proofs.Recorded.{leads-counted, leads-legal, serves-recorded}
 use Rattle.repo_server.proofs.Told.{opening-told}
-use Rattle.mvnrepod.specs.FirstConnection.{ServesFirst, port_failed, none_left, one_served, most_requests}
-use Rattle.mvnrepod.specs.Replay.{AllTold, Finishes, IsServed, Replays, Reports, Tells, counts, opened}
+use Rattle.mvnrepod.specs.FirstConnection.{ServesFirst, port_failed, none_left, one_served}
+use Rattle.mvnrepod.specs.Replay.{AllTold, Finishes, IsServed, Replays, Reports, ReportsFirst, counts, opened}
 use Rattle.mvnrepod.specs.Replay as replay
 use Rattle.mvnrepod.specs.Status.{Counts, HasStatus, done, source_failed, sink_failed, out_failed, memory_wanted}
 use Rattle.mvnrepod.specs.Surroundings.{Connection, DeskState, Output, world_at}
@@ -55,18 +55,18 @@ has-status calls TornRequest old new out out' status ends told = finished calls 
 has-status calls TurnLimit old new out out' status ends told = finished calls TurnLimit old new out out' status ends.0 ends.1 told
 
 -- so few calls are all counted
-all-counted : (calls made : ℕ) → calls ≡ min (0 + made) last_count → made ≤ 0 + 3 * most_requests → calls ≡ made
+all-counted : (calls made : ℕ) → calls ≡ min (0 + made) last_count → made ≤ 0 + 3 * TURNS → calls ≡ made
 all-counted calls made counted few = omega arith
 
 module _ (tells : Type 0) where
   pub is-served : (clock clock' : Option Moments) (old new : Connection) (faults faults' : ℕ) (core : Whole) (rest : Option (List ℕ)) (ending : End)
-      → Serves (CoreTurn releases_alone) tells most_requests (world_at (opened clock) old.left old faults) (world_at core rest new faults') ending
+      → Serves (CoreTurn releases_alone) tells TURNS (world_at (opened clock) old.left old faults) (world_at core rest new faults') ending
       → clock' ≡ core.state.clock → IsServed tells clock clock' old new faults faults' ending core.calls
   is-served clock clock' old new faults faults' core rest ending served clock-is =
       let turns = CoreTurn releases_alone in
       let before = world_at (opened clock) old.left old faults in
       let after = world_at core rest new faults' in
-      let all = serves-recorded turns tells most_requests before after ending served in
+      let all = serves-recorded turns tells TURNS before after ending served in
       let led = leads-legal turns releases_alone state_of (core-is_machine releases_alone) all.0 (opened clock) core all.1 in
       record {
         entries = all.0;
@@ -78,36 +78,36 @@ module _ (tells : Type 0) where
         clock_is = clock-is;
         counted = all-counted core.calls (length all.0)
             (leads-counted turns calls_of (core-counts releases_alone) all.0 (opened clock) core (omega arith) all.1)
-            (serves-most turns tells most_requests (with_entries [] before) (with_entries all.0 after) ending (all.2 []));
-        ends = serves-shows turns tells most_requests before after ending served;
+            (serves-most turns tells TURNS (with_entries [] before) (with_entries all.0 after) ending (all.2 []));
+        ends = serves-shows turns tells TURNS before after ending served;
         played = λ moments input taken told calm.
-            played-up-to releases_alone tells told.blobs_tell most_requests (opening releases_alone (Some moments)) input taken
+            played-up-to releases_alone tells told.blobs_tell TURNS (opening releases_alone (Some moments)) input taken
             (opening-told releases_alone (Some moments)) refl before after ending
             (record { state = ap (opening releases_alone) told.clock_is; input_is = told.left_is; output_is = told.taken_is }) calm served;
         faultless = λ moments input taken told calm.
-            as-played releases_alone tells told.blobs_tell most_requests (opening releases_alone (Some moments)) input taken
+            as-played releases_alone tells told.blobs_tell TURNS (opening releases_alone (Some moments)) input taken
             (opening-told releases_alone (Some moments)) refl before after ending
             (record { state = ap (opening releases_alone) told.clock_is; input_is = told.left_is; output_is = told.taken_is }) calm served;
       }
 
-  module _ {X : Type 0} (tell : X → Connection) (clock clock' : Option Moments) (old new : DeskState X) (out out' : Output) (status : ℕ) where
+  module _ {X : Type 0} (connection_of : X → Connection) (clock clock' : Option Moments) (old new : DeskState X) (out out' : Output) (status : ℕ) where
     abbrev Replayed : Type 0
-    Replayed = Replays tells tell clock clock' old new out out' status
+    Replayed = Replays tells connection_of clock clock' old new out out' status
 
     -- what was served, with the line that tells it
-    pub replays : (core core' : Whole) (ended : Option End) → core ≡ opened clock → ServesFirst tells tell old new core core' ended
-        → clock' ≡ core'.state.clock → Tells ended core'.calls out out' status → Replayed
+    pub replays : (core core' : Whole) (ended : Option End) → core ≡ opened clock → ServesFirst tells connection_of old new core core' ended
+        → clock' ≡ core'.state.clock → ReportsFirst ended core'.calls out out' status → Replayed
     replays core core' ended is (port_failed faults rose desk same ends) clock-is told =
-        let last = subst (λ (e : Option End). Tells e core'.calls out out' status) ends told in
+        let last = subst (λ (e : Option End). ReportsFirst e core'.calls out out' status) ends told in
         replay.port_failed faults rose desk (clock-is ∙ ap (λ (w : Whole). w.state.clock) same ∙ ap (λ (w : Whole). w.state.clock) is) last.0 last.1
     replays core core' ended is (none_left at-end desk same ends) clock-is told =
-        let last = subst (λ (e : Option End). Tells e core'.calls out out' status) ends told in
+        let last = subst (λ (e : Option End). ReportsFirst e core'.calls out out' status) ends told in
         replay.none_left at-end desk (clock-is ∙ ap (λ (w : Whole). w.state.clock) same ∙ ap (λ (w : Whole). w.state.clock) is)
         (subst (λ (n : ℕ). Reports Closed n out out' status) (ap (λ (w : Whole). w.calls) same ∙ ap (λ (w : Whole). w.calls) is) last)
     replays core core' ended is (one_served link link' left rest faults ending took desk served ends) clock-is told =
-        let last = subst (λ (e : Option End). Tells e core'.calls out out' status) ends told in
-        let opens = subst (λ (w : Whole). Serves (CoreTurn w.settings) tells most_requests
-        (world_at w (tell link).left (tell link) old.blob_faults) (world_at core' rest (tell link') faults) ending) is served in
-        let all = is-served clock clock' (tell link) (tell link') old.blob_faults faults core' rest ending opens clock-is in
+        let last = subst (λ (e : Option End). ReportsFirst e core'.calls out out' status) ends told in
+        let opens = subst (λ (w : Whole). Serves (CoreTurn w.settings) tells TURNS
+        (world_at w (connection_of link).left (connection_of link) old.blob_faults) (world_at core' rest (connection_of link') faults) ending) is served in
+        let all = is-served clock clock' (connection_of link) (connection_of link') old.blob_faults faults core' rest ending opens clock-is in
         replay.one_served link link' left faults ending core'.calls took desk all last
-        (has-status core'.calls ending (tell link) (tell link') out out' status all.ends last)
+        (has-status core'.calls ending (connection_of link) (connection_of link') out out' status all.ends last)

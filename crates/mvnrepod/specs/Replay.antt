@@ -11,13 +11,13 @@ use Rattle.repo_server.specs.declared.outcomes.End.TheVariants.{Closed, SourceFa
 use Rattle.repo_server.specs.CoreTurn.{CoreTurn}
 use Rattle.repo_server.specs.Endings.{EndsByCause}
 use Rattle.repo_server.specs.Faultless.{Played, first_scene, play_stream}
-use Rattle.repo_server.specs.Laws.{IsAsPlayed, IsPlayedUpTo, NoFaults, StoodStill}
+use Rattle.repo_server.specs.AsPlayed.{IsAsPlayed, IsPlayedUpTo, NoFaults, StoodStill}
 use Rattle.repo_server.specs.Machine.{with_entries, with_history}
 use Rattle.repo_server.specs.Serving.{Serves}
-use Rattle.repo_server.specs.Worked.{releases_alone}
+use Rattle.repo_server.specs.Releases.{releases_alone}
 use Rattle.mvnrepod.specs.declared.actions.Action.{Action}
 use Rattle.mvnrepod.specs.declared.actions.Action.TheVariants.{Replay, Nothing}
-use Rattle.mvnrepod.specs.FirstConnection.{most_requests}
+use Rattle.repo_server.specs.declared.streams.TheConstants.{TURNS}
 use Rattle.mvnrepod.specs.Lines.{words_line, input_line, memory_line, ending_line}
 use Rattle.mvnrepod.specs.Status.{HasStatus, Counts}
 use Rattle.mvnrepod.specs.Surroundings.{Connection, DeskState, Output, PrintsWhole, PrintsPart, Prints, world_at}
@@ -28,7 +28,7 @@ opened clock = record { settings = releases_alone; state = opening releases_alon
 
 -- what a connection is answered that gives these bytes, if nothing fails: a function of the moments and the bytes
 abbrev pub answers : Moments → List ℕ → Played End
-answers moments input = play_stream releases_alone most_requests (first_scene releases_alone (Some moments) input)
+answers moments input = play_stream releases_alone TURNS (first_scene releases_alone (Some moments) input)
 
 -- all is told: the blobs' bytes, the clock's moments, the bytes that the connection gives, and those that it has taken
 pub record AllTold (tells : Type 0) (clock : Option Moments) (old : Connection) (moments : Moments) (input before : List ℕ) : Type 0 where
@@ -43,7 +43,7 @@ pub record IsServed (tells : Type 0) (clock clock' : Option Moments) (old new : 
   -- the repository, and the bytes that are not used, in the end
   pub core : Whole
   pub rest : Option (List ℕ)
-  pub serves : Serves (with_history (CoreTurn releases_alone)) tells most_requests
+  pub serves : Serves (with_history (CoreTurn releases_alone)) tells TURNS
       (with_entries [] (world_at (opened clock) old.left old faults)) (with_entries entries (world_at core rest new faults')) ending
   pub legal : Legal releases_alone (opening releases_alone clock) entries
   pub state : core.state ≡ end (opening releases_alone clock) entries
@@ -72,31 +72,31 @@ Reports SinkFault calls old new status = (new ≡ old) × (status ≡ 7)
 Reports ending calls old new status = Finishes calls ending old new status
 
 -- the same of the port's first connection; none, where the port failed
-abbrev pub Tells : Option End → ℕ → Output → Output → ℕ → Type 0
-Tells (Some ending) calls old new status = Reports ending calls old new status
-Tells None calls old new status = Prints input_line old new × (status ≡ 6)
+abbrev pub ReportsFirst : Option End → ℕ → Output → Output → ℕ → Type 0
+ReportsFirst (Some ending) calls old new status = Reports ending calls old new status
+ReportsFirst None calls old new status = Prints input_line old new × (status ≡ 6)
 
 abbrev pub counts : Connection → Output → Counts
 counts c out = record { source = c.read_faults; sink = c.write_faults; out = out.faults }
 
--- A replay over a desk and a clock, and its line. `tell` is what a connection tells of itself.
-pub data Replays {X : Type 0} (tells : Type 0) (tell : X → Connection) (clock clock' : Option Moments) (old new : DeskState X) (out out' : Output) (status : ℕ) : Type 0 where
+-- A replay over a desk and a clock, and its line. `connection_of` is what a connection tells of itself.
+pub data Replays {X : Type 0} (tells : Type 0) (connection_of : X → Connection) (clock clock' : Option Moments) (old new : DeskState X) (out out' : Output) (status : ℕ) : Type 0 where
   -- memory was wanted before the port was asked
-  starved : new ≡ old → clock' ≡ clock → Prints memory_line out out' → status ≡ 8 → Replays tells tell clock clock' old new out out' status
+  starved : new ≡ old → clock' ≡ clock → Prints memory_line out out' → status ≡ 8 → Replays tells connection_of clock clock' old new out out' status
   port_failed : (faults : ℕ) → Rose old.port_faults faults → new ≡ record old { port_faults = faults } → clock' ≡ clock
-      → Prints input_line out out' → status ≡ 6 → Replays tells tell clock clock' old new out out' status
+      → Prints input_line out out' → status ≡ 6 → Replays tells connection_of clock clock' old new out out' status
   none_left : IsAtEnd old.left → new ≡ old → clock' ≡ clock → Reports Closed 0 out out' status
-      → Replays tells tell clock clock' old new out out' status
+      → Replays tells connection_of clock clock' old new out out' status
   -- the first connection was served, and given back in this state
   one_served : (link link' : X) (left : Option (List X)) (faults : ℕ) (ending : End) (calls : ℕ) → old.left ≡ in_front (link ∷ []) left
       → new ≡ record old { left = left; given_back = behind old.given_back (link' ∷ []); blob_faults = faults }
-      → IsServed tells clock clock' (tell link) (tell link') old.blob_faults faults ending calls
-      → Reports ending calls out out' status → HasStatus (counts (tell link) out) (counts (tell link') out') status
-      → Replays tells tell clock clock' old new out out' status
+      → IsServed tells clock clock' (connection_of link) (connection_of link') old.blob_faults faults ending calls
+      → Reports ending calls out out' status → HasStatus (counts (connection_of link) out) (counts (connection_of link') out') status
+      → Replays tells connection_of clock clock' old new out out' status
 
 -- what a run does, by what its words ask for
 abbrev pub Runs : {X : Type 0} → Action → Type 0 → (X → Connection) → Option Moments → Option Moments → DeskState X → DeskState X → Output → Output → ℕ → Type 0
-Runs Replay tells tell clock clock' old new out out' status = Replays tells tell clock clock' old new out out' status
-Runs Nothing tells tell clock clock' old new out out' status =
+Runs Replay tells connection_of clock clock' old new out out' status = Replays tells connection_of clock clock' old new out out' status
+Runs Nothing tells connection_of clock clock' old new out out' status =
     (new ≡ old) × (clock' ≡ clock)
     × ((Prints words_line out out' × (status ≡ 2)) ⊎ (Prints memory_line out out' × (status ≡ 8)))

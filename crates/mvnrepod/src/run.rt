@@ -1,12 +1,13 @@
 ghost use Rattle.std.specs.Prelude.{◌≡◌, ◌<◌, map, vec_len, IfOk, IfErr, MatchBool};
 ghost use Rattle.std.specs.String.{string_bytes};
-ghost use Rattle.repo_server.specs.Held.{AllTell, ServesReleases};
+ghost use Rattle.repo_server.specs.Held.{AllTell};
 ghost use Rattle.mvnrepod.specs.FirstConnection.{ServesFirst};
 ghost use Rattle.mvnrepod.specs.Lines.{end_name, ending_line};
-ghost use Rattle.mvnrepod.specs.Replay.{Finishes, Replays, Reports, Runs, Tells, opened};
+ghost use Rattle.mvnrepod.specs.Replay.{Finishes, Replays, Reports, Runs, ReportsFirst, opened};
 ghost use Rattle.mvnrepod.specs.Status.{MatchAction};
 ghost use Rattle.mvnrepod.specs.Surroundings.{FirstOnly, Prints, PrintsPart, PrintsWhole, connection, desk_state, output};
 ghost use Rattle.mvnrepod.specs.Words.{action_of};
+ghost use Rattle.repo_server.specs.Releases.{ServesReleases};
 
 use crate::actions::Action;
 use crate::words::wanted;
@@ -102,7 +103,7 @@ fn finish<O: Sink>(alloc: Global, out: &mut O, calls: u64, end: End) -> u8
 }
 
 /// The status of a stream that was served, and its line.
-fn told<O: Sink>(alloc: Global, out: &mut O, calls: u64, end: End) -> u8
+fn report<O: Sink>(alloc: Global, out: &mut O, calls: u64, end: End) -> u8
     ensures { Reports end calls (output (O.taken out.old) (O.write_faults out.old)) (output (O.taken out.new) (O.write_faults out.new)) result }
 {
     match end {
@@ -113,11 +114,11 @@ fn told<O: Sink>(alloc: Global, out: &mut O, calls: u64, end: End) -> u8
 }
 
 /// The status of a replay and its line. `None` is that the port failed.
-fn tell<O: Sink>(alloc: Global, out: &mut O, calls: u64, ended: Option<End>) -> u8
-    ensures { Tells ended calls (output (O.taken out.old) (O.write_faults out.old)) (output (O.taken out.new) (O.write_faults out.new)) result }
+fn report_first<O: Sink>(alloc: Global, out: &mut O, calls: u64, ended: Option<End>) -> u8
+    ensures { ReportsFirst ended calls (output (O.taken out.old) (O.write_faults out.old)) (output (O.taken out.new) (O.write_faults out.new)) result }
 {
     match ended {
-        Some(end) => told(alloc, out, calls, end),
+        Some(end) => report(alloc, out, calls, end),
         None => fault(out, b"mvnrepod: input\n", INPUT),
     }
 }
@@ -196,7 +197,7 @@ fn replay<P: Port, B: Blobs, C: Clock, O: Sink>(
         }
     };
     let ended = serve_first(alloc, &mut desks[0], &mut core);
-    let status = tell(alloc, out, core.calls(), ended);
+    let status = report_first(alloc, out, core.calls(), ended);
     let clock = core.end();
     Ran {
         status,

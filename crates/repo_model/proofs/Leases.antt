@@ -1,13 +1,15 @@
--- A lease lasts until it is given back.
-use Rattle.std.proofs.Common.{◌≡◌, ◌≢◌, ℕ, zero, suc, Bool, true, false, not, cond, List, [], ◌∷◌, refl, sym, ◌∙◌, ap, subst, arith, eqb-true}
+-- A lease lasts until it is given back, and giving back is never refused.
+use Rattle.std.proofs.Common.{◌≡◌, ◌≢◌, ℕ, zero, suc, Bool, true, false, not, cond, List, [], ◌∷◌, inl, inr, refl, sym, ◌∙◌, ap, subst, arith, eqb-true}
 use Rattle.std.specs.Prelude.{◌==◌, filter, Contains, count_by}
 use Rattle.std.proofs.lemmas.Bool.{false_from_ne_true}
 use Rattle.std.proofs.lemmas.List.Elements.{Contains-append_left}
 use Rattle.std.proofs.lemmas.List.Sums.{sum_by-cons}
 use Rattle.repo_model.specs.State.{State, Lease, is_among, condemned_draft}
-use Rattle.repo_model.specs.Command.{Command, look, done, may_put, put, drop_draft}
-use Rattle.repo_model.specs.Reply.{Reply, file, draft, created, relisted, same, taken}
-use Rattle.repo_model.specs.Step.{changed, with_yard}
+use Rattle.repo_model.specs.Data.{Settings}
+use Rattle.repo_model.specs.Command.{Command, look, done, may_put, put, drop_draft, takes_memory}
+use Rattle.repo_model.specs.Reply.{Reply, file, given_back, draft, created, relisted, same, taken, dropped}
+use Rattle.repo_model.specs.Step.{changed, reply_of, with_yard}
+use Rattle.repo_model.specs.History.{Entry, Fits}
 use Rattle.repo_model.proofs.Counts.{one_if}
 
 -- a filter keeps what passes
@@ -60,3 +62,20 @@ pub leases-given_back : (s : State) (command : Command) (moment : ℕ) (reply : 
 leases-given_back s command moment reply lease is =
     subst (λ (c : Command). count_by (λ l. l.number == lease) (changed s c moment reply).yard.leases ≡ 0) (sym is)
     (none_left (λ (l : Lease). l.number == lease) s.yard.leases)
+
+-- a command that takes no memory gets its reply
+answered : (settings : Settings) (old : State) (e : Entry) (command : Command) → Fits settings old e → e.command ≡ command →
+    takes_memory command ≡ false → e.reply ≡ reply_of settings old command
+answered settings old e command fits is none =
+    elim fits.reply as (λ _. e.reply ≡ reply_of settings old command) [
+      | inl said ↦ said ∙ ap (λ (c : Command). reply_of settings old c) is
+      | inr wanted ↦ let no : false ≡ true = sym none ∙ ap takes_memory (sym is) ∙ wanted.1 in absurd (cc)
+    ]
+
+pub lease-given_back : (settings : Settings) (old : State) (e : Entry) (lease : ℕ) → Fits settings old e → e.command ≡ done lease →
+    e.reply ≡ given_back
+lease-given_back settings old e lease fits is = answered settings old e (done lease) fits is refl
+
+pub draft-dropped : (settings : Settings) (old : State) (e : Entry) (n : ℕ) → Fits settings old e → e.command ≡ drop_draft n →
+    e.reply ≡ dropped
+draft-dropped settings old e n fits is = answered settings old e (drop_draft n) fits is refl

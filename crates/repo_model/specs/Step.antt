@@ -1,5 +1,5 @@
 -- One turn of the machine: the reply to a command, the state that it leaves, and the entries that fit.
-use Rattle.std.specs.Prelude.{◌≡◌, ℕ, ◌≤◌, min, max, Bool, ◌==◌, if◌then◌else◌, List, Option, Some, None, MatchOption}
+use Rattle.std.specs.Prelude.{◌≡◌, ℕ, ◌≤◌, min, max, Bool, ◌==◌, if◌then◌else◌, List, Option, Some, None, MatchOption, unwrap_or}
 use Rattle.std.specs.Option.{option_map}
 use Rattle.outside.specs.Moments.{moments_after}
 use Rattle.repo_model.specs.declared.print.Print.{Print}
@@ -17,6 +17,10 @@ latest_moment = 253402207200
 abbrev pub MomentFits : State → ℕ → Type 0
 MomentFits old moment =
     MatchOption old.clock ((old.last ≤ moment) × (moment ≤ latest_moment)) (λ clock. moment ≡ max old.last (min latest_moment (clock.next)))
+
+-- the moment of the next turn where the clock tells it, else that of the last turn
+abbrev pub moment_now : State → ℕ
+moment_now state = unwrap_or (option_map (λ clock. max state.last (min latest_moment clock.next)) state.clock) state.last
 
 -- the state once the clock was read
 abbrev pub ticked : State → ℕ → State

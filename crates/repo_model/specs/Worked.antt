@@ -17,6 +17,13 @@ jar = codes "g/a/1.0/a-1.0.jar"
 abbrev pub pom : List ℕ
 pom = codes "g/a/1.0/a-1.0.pom"
 
+-- a document, and a side file of the jar
+abbrev pub document : List ℕ
+document = codes "g/a/maven-metadata.xml"
+
+abbrev pub side_file : List ℕ
+side_file = codes "g/a/1.0/a-1.0.jar.sha1"
+
 -- a unique snapshot
 abbrev pub build : List ℕ
 build = codes "g/a/2.0-SNAPSHOT/a-2.0-20240102.030405-1.jar"
@@ -49,6 +56,10 @@ abc n = record { number = n; bytes = Some (codes "abc"); print = print_of_abc }
 
 abbrev pub nothing : ℕ → Blob
 nothing n = record { number = n; bytes = Some []; print = print_of_nothing }
+
+-- a blob whose length is 2 ^ 63
+abbrev pub long : ℕ → Blob
+long n = record { number = n; bytes = None; print = record print_of_abc { length = 9223372036854775808 } }
 
 -- a clock that goes back once, and then runs past the latest moment
 abbrev pub clock : Moments

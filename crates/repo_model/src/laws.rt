@@ -10,7 +10,7 @@ ghost use Rattle.repo_model.specs.State.{State, Lease, opening, row_at, rows_of,
 ghost use Rattle.repo_model.specs.Yard.{IsOrderly, DrawnStand, leases_of, places_of, count_of, IsStored};
 ghost use Rattle.repo_model.specs.Command.{look, done, may_put, put, drop_draft, number_end, fits_repo};
 ghost use Rattle.repo_model.specs.File.{is_taken};
-ghost use Rattle.repo_model.specs.Reply.{file, created, relisted, taken, spent, no_memory};
+ghost use Rattle.repo_model.specs.Reply.{file, given_back, dropped, created, relisted, taken, spent, no_memory};
 ghost use Rattle.repo_model.specs.Step.{latest_moment, ticked, with_yard, reply_of, state_after};
 ghost use Rattle.repo_model.specs.History.{Entry, Fits, Legal, after, end};
 ghost use Rattle.repo_model.specs.Laws.{FadingAreSnapshots, KeepsReleases, IsArranged, IsSound, is_refusal, AsksAlike, moments_of};
@@ -95,6 +95,14 @@ pub fn leases_last()
         Contains old.yard.leases lease → e.command ≢ done lease.number → Contains (after old e).yard.leases lease }
     ensures given_back { (settings : Settings) (old : State) (e : Entry) (lease : ℕ) →
         e.command ≡ done lease → leases_of (after old e) lease ≡ 0 }
+{}
+
+/// Giving a lease back and giving a draft up are never refused, not for want of memory either.
+pub fn giving_up_is_never_refused()
+    ensures lease { (settings : Settings) (old : State) (e : Entry) (lease : ℕ) →
+        Fits settings old e → e.command ≡ done lease → e.reply ≡ given_back }
+    ensures draft { (settings : Settings) (old : State) (e : Entry) (draft : ℕ) →
+        Fits settings old e → e.command ≡ drop_draft draft → e.reply ≡ dropped }
 {}
 
 /// A command that is refused changes nothing but the moment. `taken` condemns the draft besides.

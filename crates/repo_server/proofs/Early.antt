@@ -14,7 +14,7 @@ use Rattle.repo_server.specs.Course.{Course, asks, without_memory}
 use Rattle.repo_server.specs.World.{World, writes}
 use Rattle.repo_server.specs.Serving.{IsFrontOf, Says, whole, memory, cut, Follows}
 use Rattle.repo_server.specs.Faultless.{Played, wrote}
-use Rattle.repo_server.specs.Laws.{RowsTold}
+use Rattle.repo_server.specs.AsPlayed.{RowsTold}
 use Rattle.repo_server.proofs.Counts.{Grew, rose-before}
 use Rattle.repo_server.proofs.Fair.{Closes}
 

@@ -3,8 +3,8 @@ use Rattle.std.proofs.Common.{◌≡◌, ℕ, ◌<◌, true, List, Option, Some,
 use Rattle.repo_model.specs.Data.{Blob, Policy, Settings}
 use Rattle.repo_model.specs.File.{FileKind, release, snapshot, file_kind, is_taken}
 use Rattle.repo_model.specs.Command.{both, fits_repo, look, may_put, meets, number_end, policy_of, put}
-use Rattle.repo_server.specs.Held.{IsReleasePath, ServesReleases}
-use Rattle.repo_server.specs.Plain.{is_release, repository}
+use Rattle.repo_server.specs.Releases.{ServesReleases}
+use Rattle.repo_server.specs.Plain.{is_release, IsReleasePath, repository}
 
 -- the repository is there and the path names a file
 both_there : (policies : Option Policy) (policy : Policy) (kind : Option FileKind) → policies ≡ Some policy → IsTrue (is_release kind)

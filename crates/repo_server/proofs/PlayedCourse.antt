@@ -11,7 +11,7 @@ use Rattle.repo_model.specs.Data.{Blob, Settings}
 use Rattle.repo_model.specs.State.{State}
 use Rattle.repo_model.specs.Command.{Command, takes_memory}
 use Rattle.repo_model.specs.Reply.{Reply, no_memory}
-use Rattle.repo_model.specs.Step.{ticked, reply_of, state_after}
+use Rattle.repo_model.specs.Step.{moment_now, reply_of, state_after, ticked}
 use Rattle.repo_model.specs.History.{Entry}
 use Rattle.repo_server.specs.declared.outcomes.End.{End}
 use Rattle.repo_server.specs.declared.outcomes.End.TheVariants as stream
@@ -22,9 +22,9 @@ use Rattle.repo_server.specs.declared.outcomes.Took.TheVariants as took
 use Rattle.repo_server.specs.Course.{Course, asks, takes, sends, says, stops}
 use Rattle.repo_server.specs.World.{World, writes}
 use Rattle.repo_server.specs.Serving.{Takes, Sends, Says, Follows}
-use Rattle.repo_server.specs.Faultless.{Scene, moment_now, taken_body, play}
+use Rattle.repo_server.specs.Faultless.{Scene, taken_body, play}
 use Rattle.repo_server.specs.Machine.{IsMachine}
-use Rattle.repo_server.specs.Laws.{RowsTold}
+use Rattle.repo_server.specs.AsPlayed.{RowsTold}
 use Rattle.repo_server.proofs.Counts.{Grew, Quiet, not-risen, grew, quiet-then, takes-grew, sends-grew, follows-grew}
 use Rattle.repo_server.proofs.Told.{changed-keeps}
 use Rattle.repo_server.proofs.Fair.{Fair, ended}

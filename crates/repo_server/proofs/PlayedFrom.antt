@@ -9,7 +9,7 @@ use Rattle.repo_server.specs.World.{World}
 use Rattle.repo_server.specs.Serving.{Serves}
 use Rattle.repo_server.specs.Faultless.{play_stream}
 use Rattle.repo_server.specs.CoreTurn.{CoreTurn}
-use Rattle.repo_server.specs.Laws.{BeginsAt, IsAsPlayed, IsPlayedUpTo, NoFaults, RowsTold, StoodStill}
+use Rattle.repo_server.specs.AsPlayed.{BeginsAt, IsAsPlayed, IsPlayedUpTo, NoFaults, RowsTold, StoodStill}
 use Rattle.repo_server.proofs.CoreTurns.{core-is_machine, state_of}
 use Rattle.repo_server.proofs.PlayedStream.{faultless-play, stream-upto}
 

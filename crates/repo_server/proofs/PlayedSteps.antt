@@ -19,7 +19,7 @@ use Rattle.repo_server.specs.declared.outcomes.Took.TheVariants as took
 use Rattle.repo_server.specs.Course.{Course, asks, stops}
 use Rattle.repo_server.specs.Serving.{print_of}
 use Rattle.repo_server.specs.Faultless.{Scene, taken_body, play}
-use Rattle.repo_server.specs.Laws.{RowsTold}
+use Rattle.repo_server.specs.AsPlayed.{RowsTold}
 use Rattle.repo_server.proofs.Told.{ReplyTold}
 use Rattle.repo_server.proofs.Fair.{Closes}
 

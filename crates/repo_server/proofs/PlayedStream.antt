@@ -18,7 +18,7 @@ use Rattle.repo_server.specs.World.{World}
 use Rattle.repo_server.specs.Serving.{IsFrontOf, Says, Follows, Turn, clean, torn, failed, starved, refused, served, Serves, Begins, IsRefused, IsRequest, ReadsOn}
 use Rattle.repo_server.specs.Faultless.{Played, Scene, wrote, play_request, play_turn, then_play, play_stream}
 use Rattle.repo_server.specs.Machine.{IsMachine}
-use Rattle.repo_server.specs.Laws.{IsAsPlayed, in_full, wants_memory, IsPlayedUpTo, unbroken, broken, NoFaults, StoodStill}
+use Rattle.repo_server.specs.AsPlayed.{IsAsPlayed, in_full, wants_memory, IsPlayedUpTo, unbroken, broken, NoFaults, StoodStill}
 use Rattle.repo_server.proofs.Counts.{Grew, Quiet, not-risen, rose-before, grew, quiet-first, quiet-then, reads-grew, follows-grew, turn-grew, serves-grew}
 use Rattle.repo_server.proofs.Fair.{course-fair}
 use Rattle.repo_server.proofs.Early.{Ready, Outcome, early-before, no-more, source-failed, says-early, says-memory}

@@ -13,7 +13,7 @@ use Rattle.repo_model.specs.State.{State, Hosted, opening, empty_hosted, row_at,
 use Rattle.repo_model.specs.Command.{Command, look, done, may_put, put, drop_draft}
 use Rattle.repo_model.specs.Reply.{Reply, file, draft, created, relisted}
 use Rattle.repo_model.specs.Step.{changed, new_row, with_yard}
-use Rattle.repo_server.specs.Laws.{RowsTold}
+use Rattle.repo_server.specs.AsPlayed.{RowsTold}
 
 -- the blob that the command puts tells its bytes
 abbrev pub CommandTold : Command → Type 0

@@ -1,12 +1,11 @@
 -- What a stream of bytes is answered where nothing fails and memory never wants: a function of the bytes and of the clock's moments.
-use Rattle.std.specs.Prelude.{ℕ, zero, suc, ◌==◌, min, max, Bool, nat_lt, if◌then◌else◌, List, [], ◌++◌, length, take, drop, Option, Some, None, Result, Ok, Err, unwrap_or}
-use Rattle.std.specs.Option.{option_map}
+use Rattle.std.specs.Prelude.{ℕ, zero, suc, ◌==◌, Bool, nat_lt, if◌then◌else◌, List, [], ◌++◌, length, take, drop, Option, Some, None, Result, Ok, Err, unwrap_or}
 use Rattle.outside.specs.Moments.{Moments}
 use Rattle.http_wire.specs.Answer.{shown}
 use Rattle.http_wire.specs.Front.{Front, Clean, Cut, Bad, Whole, front}
 use Rattle.repo_model.specs.Data.{Blob, Settings}
 use Rattle.repo_model.specs.State.{State, opening}
-use Rattle.repo_model.specs.Step.{latest_moment, reply_of, state_after}
+use Rattle.repo_model.specs.Step.{moment_now, reply_of, state_after}
 use Rattle.repo_server.specs.declared.outcomes.End.{End}
 use Rattle.repo_server.specs.declared.outcomes.End.TheVariants as stream
 use Rattle.repo_server.specs.declared.outcomes.Sent.TheVariants as sent
@@ -30,10 +29,6 @@ pub record Played (E : Type 0) : Type 0 where
 
 abbrev pub wrote : {E : Type 0} → List ℕ → Played E → Played E
 wrote bytes played = record played { written = bytes ++ played.written }
-
--- the moment of the next turn, where the clock tells it
-abbrev pub moment_now : State → ℕ
-moment_now state = unwrap_or (option_map (λ clock. max state.last (min latest_moment clock.next)) state.clock) state.last
 
 -- the body as a blob, or that it is torn
 abbrev pub taken_body : ℕ → ℕ → List ℕ → Result Blob Took

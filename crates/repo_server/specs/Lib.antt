@@ -1,4 +1,5 @@
 pub mod Plain
+pub mod Releases
 pub mod Answers
 pub mod Course
 pub mod World
@@ -7,7 +8,7 @@ pub mod Held
 pub mod Faultless
 pub mod CoreTurn
 pub mod Machine
-pub mod Laws
+pub mod AsPlayed
 pub mod LeftBehind
 pub mod Recorded
 pub mod Worked

@@ -1,5 +1,5 @@
 -- Which request heads are served: the plain ones, a GET or a PUT of a release file of the repository `releases` (RFC 9112, sections 3.2 and 6).
-use Rattle.std.specs.Prelude.{ℕ, Bool, true, false, not, ◌&&◌, ◌==◌, nat_eq, nat_le, if◌then◌else◌, List, length, drop, Option, Some, None, option_and_then, codes}
+use Rattle.std.specs.Prelude.{ℕ, ◌≤◌, Bool, IsTrue, true, false, not, ◌&&◌, ◌==◌, nat_eq, nat_le, if◌then◌else◌, List, length, drop, Option, Some, None, option_and_then, codes}
 use Rattle.std.specs.List.{starts_with}
 use Rattle.std.specs.Str.{bytes_eq}
 use Rattle.http_wire.specs.declared.requests.BodyLength.{BodyLength}
@@ -60,3 +60,12 @@ plain_at head path =
 -- the plain request that a head makes; none where it is not plain
 abbrev pub plain : Head → Option Plain
 plain head = if is_framed head then option_and_then (plain_at head) (path_of head.target) else None
+
+-- the path is that of a release file
+abbrev pub IsReleasePath : List ℕ → Type 0
+IsReleasePath path = IsTrue (is_release (file_kind path))
+
+-- what every plain request keeps: its path is that of a release file, and its body is not too long
+abbrev pub IsPlain : Plain → Type 0
+IsPlain (get path close) = IsReleasePath path
+IsPlain (put path length close) = IsReleasePath path × (length ≤ longest_body)

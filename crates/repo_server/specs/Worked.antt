@@ -1,24 +1,17 @@
 -- Worked exchanges with an empty repository (RFC 9112, sections 3 and 4; the digests of `abc` and of nothing are those of FIPS 180 and RFC 1321).
-use Rattle.std.specs.Prelude.{◌≡◌, ℕ, true, false, List, [], ◌∷◌, ◌++◌, Option, codes}
+use Rattle.std.specs.Prelude.{◌≡◌, ℕ, List, [], ◌∷◌, ◌++◌, Option, codes}
 use Rattle.outside.specs.Moments.{Moments}
-use Rattle.repo_model.specs.Data.{Settings}
 use Rattle.repo_server.specs.declared.outcomes.End.TheVariants.{Closed}
-use Rattle.repo_server.specs.Plain.{repository, longest_body}
+use Rattle.repo_server.specs.declared.streams.TheConstants.{TURNS}
+use Rattle.repo_server.specs.Releases.{releases_alone}
 use Rattle.repo_server.specs.Answers.{line}
 use Rattle.repo_server.specs.Faultless.{first_scene, play_stream}
-
--- one hosted repository, which takes releases
-abbrev pub releases_alone : Settings
-releases_alone = record {
-  hosted = record { id = repository; releases = true; snapshots = false } ∷ [];
-  max_file = longest_body;
-}
 
 -- from an empty repository the stream is answered so, and closed, whatever the clock tells
 abbrev pub IsAnswered : List ℕ → List ℕ → Type 0
 IsAnswered input output =
     (clock : Option Moments) →
-    let played = play_stream releases_alone 1000 (first_scene releases_alone clock input) in
+    let played = play_stream releases_alone TURNS (first_scene releases_alone clock input) in
     (played.written ≡ output) × (played.end ≡ Closed)
 
 -- lines that end in CR LF, and an empty one

@@ -8,10 +8,11 @@ ghost use Rattle.repo_model.specs.History.{Entry};
 ghost use Rattle.repo_server.specs.Answers.{file_answer, taken_text, text_answer};
 ghost use Rattle.repo_server.specs.CoreTurn.{CoreTurn, IsSaid};
 ghost use Rattle.repo_server.specs.Course.{after_body, after_drop, asks, course, end_of, takes};
-ghost use Rattle.repo_server.specs.Held.{AllTell, IsReleasePath, ServesReleases};
-ghost use Rattle.repo_server.specs.Plain.{get, longest_body, put as put_request, repository};
+ghost use Rattle.repo_server.specs.Held.{AllTell};
+ghost use Rattle.repo_server.specs.Plain.{get, IsReleasePath, longest_body, put as put_request, repository};
 ghost use Rattle.repo_server.specs.Serving.{Follows, Sends};
 ghost use Rattle.repo_server.specs.World.{nobody, world};
+ghost use Rattle.repo_server.specs.Releases.{ServesReleases};
 
 use crate::answers::{file_head, say, say_no_memory, taken_text, text_answer};
 use crate::files::{send_file, take_body};

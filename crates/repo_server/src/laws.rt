@@ -12,7 +12,7 @@ ghost use Rattle.repo_server.specs.CoreTurn.{CoreTurn};
 ghost use Rattle.repo_server.specs.Endings.{EndsByCause};
 ghost use Rattle.repo_server.specs.Faultless.{first_scene, play_stream};
 ghost use Rattle.repo_server.specs.Held.{AllTell};
-ghost use Rattle.repo_server.specs.Laws.{BeginsAt, IsAsPlayed, IsPlayedUpTo, NoFaults, RowsTold, StoodStill, WantedMemory};
+ghost use Rattle.repo_server.specs.AsPlayed.{BeginsAt, IsAsPlayed, IsPlayedUpTo, NoFaults, RowsTold, StoodStill, WantedMemory};
 ghost use Rattle.repo_server.specs.LeftBehind.{IsDrawn, LeavesNothing};
 ghost use Rattle.repo_server.specs.Machine.{LeadsTo, with_entries, with_history};
 ghost use Rattle.repo_server.specs.Serving.{Serves};

@@ -3,8 +3,8 @@ ghost use Rattle.std.specs.Option.{option_map};
 ghost use Rattle.std.specs.Str.{bytes_eq};
 ghost use Rattle.http_wire.specs.Fields.{body_length};
 ghost use Rattle.repo_model.specs.File.{file_kind};
-ghost use Rattle.repo_server.specs.Held.{IsPlain, IsReleasePath, shown_plain};
-ghost use Rattle.repo_server.specs.Plain.{field_count, is_framed, is_release, path_of, plain, plain_at, put_of_length};
+ghost use Rattle.repo_server.specs.Held.{shown_plain};
+ghost use Rattle.repo_server.specs.Plain.{field_count, is_framed, is_release, IsPlain, IsReleasePath, path_of, plain, plain_at, put_of_length};
 
 use http_wire::{BodyLength, Request};
 use mvn_coords::{Kind, kind_of};

@@ -3,12 +3,13 @@ ghost use Rattle.http_wire.specs.Stream.{unread};
 ghost use Rattle.repo_model.specs.History.{Entry};
 ghost use Rattle.repo_server.specs.Answers.{bad_head_answer};
 ghost use Rattle.repo_server.specs.CoreTurn.{CoreTurn, IsSaid};
-ghost use Rattle.repo_server.specs.Held.{AllTell, IsReleasePath, ServesReleases};
+ghost use Rattle.repo_server.specs.Held.{AllTell};
 ghost use Rattle.repo_server.specs.LeftBehind.{IsDrawn, LeavesNothing};
-ghost use Rattle.repo_server.specs.Plain.{plain, repository};
+ghost use Rattle.repo_server.specs.Plain.{IsReleasePath, plain, repository};
 ghost use Rattle.repo_server.specs.Recorded.{IsRecorded};
 ghost use Rattle.repo_server.specs.Serving.{IsServed, Serves, Turn};
 ghost use Rattle.repo_server.specs.World.{world};
+ghost use Rattle.repo_server.specs.Releases.{ServesReleases};
 
 use crate::answers::{say, say_no_memory, text_answer};
 use crate::courses::{Closing, Place, get, put};

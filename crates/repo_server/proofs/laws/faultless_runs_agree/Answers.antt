@@ -3,7 +3,7 @@ use Rattle.std.specs.Prelude.{◌⊎◌, ℕ}
 use Rattle.repo_server.specs.declared.outcomes.End.{End}
 use Rattle.repo_server.specs.Faultless.{Played, play_stream}
 use Rattle.repo_server.specs.Held.{AllTell}
-use Rattle.repo_server.specs.Laws.{IsAsPlayed, in_full, wants_memory, WantedMemory}
+use Rattle.repo_server.specs.AsPlayed.{IsAsPlayed, in_full, wants_memory, WantedMemory}
 use Rattle.repo_server.proofs.PlayedFrom.{as-played}
 use Rattle.repo_server.proofs.laws.faultless_runs_agree.Goals as goal
 

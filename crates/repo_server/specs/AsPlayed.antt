@@ -1,4 +1,4 @@
--- The words of the laws of a served stream: runs without faults, told bytes, and what a run as played has written.
+-- What a stream has written beside what is played where nothing fails: all of it, or up to where the source, the sink or memory failed.
 use Rattle.std.specs.Prelude.{◌≡◌, ◌⊎◌, ℕ, ◌<◌, List, ◌++◌, Option, Some, IsSome}
 use Rattle.outside.specs.Faults.{Rose, last_count}
 use Rattle.http_wire.specs.Answer.{shown}
