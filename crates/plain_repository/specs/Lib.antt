@@ -1,0 +1,4 @@
+pub mod Requests
+pub mod Scenes
+pub mod Streams
+pub mod Bodies
