@@ -8,13 +8,9 @@ mod coord;
 mod fault;
 mod kind;
 mod name;
-#[cfg(test)]
-mod plain;
 mod read;
 mod segment;
 mod stamp;
-#[cfg(test)]
-mod tests;
 mod text;
 
 pub use build::{Build, build_number};

@@ -7,8 +7,6 @@
 mod digests;
 mod hashes;
 mod message;
-#[cfg(test)]
-mod tests;
 
 pub use digests::{Digests, MD5_BYTES, MD5_DIGITS, SHA1_BYTES, SHA1_DIGITS};
 pub use hashes::Hashes;

@@ -5,10 +5,6 @@
 
 mod element;
 pub mod laws;
-#[cfg(test)]
-mod plain;
-#[cfg(test)]
-mod tests;
 mod token;
 mod version;
 

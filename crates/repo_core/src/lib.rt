@@ -14,6 +14,3 @@ pub use command::Command;
 pub use hosted::Policy;
 pub use machine::Core;
 pub use reply::Reply;
-
-#[cfg(test)]
-mod tests;

@@ -92,27 +92,3 @@ impl Bytes {
         self.inner.as_slice()
     }
 }
-
-#[cfg(test)]
-mod tests {
-    use super::*;
-    use std::test::Fail;
-
-    #[test]
-    fn text_is_kept(rt: HostRuntime) -> Result<(), Fail> {
-        let text = Text::new(rt.alloc(), "lib-1.0.jar")?;
-        assert_eq!(rt; text.copied(rt.alloc())?.as_str(), "lib-1.0.jar");
-        let made = Text::from_string(String::from_str(rt.alloc(), "abc")?);
-        assert_eq!(rt; made.as_str(), "abc");
-        Ok(())
-    }
-
-    #[test]
-    fn bytes_are_kept(rt: HostRuntime) -> Result<(), Fail> {
-        let bytes = Bytes::new(rt.alloc(), b"abc")?;
-        assert_eq!(rt; bytes.as_slice(), b"abc".as_slice());
-        let again = Bytes::from_vec(bytes.into_vec());
-        assert_eq!(rt; again.as_slice(), b"abc".as_slice());
-        Ok(())
-    }
-}

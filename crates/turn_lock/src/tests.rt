@@ -11,7 +11,7 @@ use std::thread::Threads;
 
 mod jobs;
 
-use jobs::{Job, run_all, run_both, run_four};
+use jobs::{Job, run_both, run_four};
 
 // A call adds, and is told the sum before it.
 #[derive(Drop)]
@@ -196,19 +196,6 @@ fn one_seat_calls_a_hundred_times(rt: HostRuntime) -> Result<(), Fail> {
     Ok(())
 }
 
-#[test]
-fn two_threads_count(rt: HostRuntime) -> Result<(), Fail> {
-    let Ok((turns, seat)) = Turns::begin(rt.alloc(), Counter { sum: 0 }) else {
-        return Err("memory".into());
-    };
-    let (one, two) = two_seats(&turns, seat);
-    let (one, two) = both_call(&rt, &turns, one, two, (1, 1), (500, 500));
-    let (counter, calls) = end(turns, (one.0, one.1), (two.0, two.1));
-    assert_eq!(rt; one.2.wrapping_add(two.2), 499_500);
-    assert_eq!(rt; (counter.sum, calls), (1000, 1000));
-    Ok(())
-}
-
 // Two threads store first in places of their own, and then both in one place: each number that was stored there was told once, or stands there at the end.
 #[test]
 fn two_threads_store(rt: HostRuntime) -> Result<(), Fail> {
@@ -294,28 +281,4 @@ fn thrice<T: Thing<Call = u64, Reply = u64>>(
         call: 1,
         times: 3,
     }
-}
-
-#[test]
-fn a_list_of_seats_calls_at_once(rt: HostRuntime) {
-    assert!(rt; answered_by_all(&rt, rt.alloc()) == Some(15));
-}
-
-// Two threads count up three times each. Gives the sum of the answers.
-fn answered_by_all<R: Threads + Wait + Sync>(rt: &R, alloc: Global) -> Option<u64> {
-    let Ok((turns, seat)) = Turns::begin(alloc, Counter { sum: 0 }) else {
-        return None;
-    };
-    let (one, two) = two_seats(&turns, seat);
-    let one = thrice(&turns, one.0, one.1);
-    let two = thrice(&turns, two.0, two.1);
-    let Ok(jobs) = vec![in alloc; one, two] else {
-        return None;
-    };
-    let gave = run_all(rt, jobs).ok()?;
-    let mut answered: u64 = 0;
-    for each in &gave {
-        answered = answered.wrapping_add(each.2);
-    }
-    Some(answered)
 }

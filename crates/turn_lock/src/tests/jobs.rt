@@ -1,10 +1,8 @@
 // Work that a thread may do, as a trait. `join` gets no proof of a closure that captures the turns of an object of any type, and does of one that captures a job of any type.
-ghost use Rattle.std.specs.Prelude.{◌≡◌, ℕ, All, IfOk, Some, slice_get};
 ghost use Rattle.std.specs.Thread.{IsSend, IsSync};
 
-use std::alloc::{AllocError, Global};
 use std::sync::Wait;
-use std::thread::{Threads, join, map_vec};
+use std::thread::{Threads, join};
 
 pub trait Job: Drop {
     // What it gives.
@@ -73,25 +71,5 @@ where
             requires { A.ready c × A.ready d × IsSync R.row × IsSend A.row × IsSend A.Out.row }
             ensures { A.gives c result.0 × A.gives d result.1 }
         { run_both(rt, c, d) },
-    )
-}
-
-// Any number of jobs of one kind at once, and what they gave, in order.
-pub fn run_all<J: Job + Send, R: Threads + Wait + Sync>(
-    rt: &R,
-    jobs: Vec<J, Global>,
-) -> Result<Vec<J::Out, Global>, AllocError>
-where
-    J::Out: Send + Drop,
-    requires { All J.ready jobs.items }
-    ensures { IfOk result (λ v. (i : ℕ) (job : J) (out : J.Out) → slice_get jobs.items i ≡ Some job → slice_get v.items i ≡ Some out → J.gives job out) }
-{
-    map_vec(
-        rt,
-        jobs,
-        &|job: J| -> J::Out
-            requires { J.ready job }
-            ensures { J.gives job result }
-        { job.run(rt) },
     )
 }

@@ -1,4 +1,4 @@
-//! The plain, slow program for the order: a list for each step. The tests compare the real one with it.
+// The plain, slow program for the version order: a list for each step.
 
 use std::alloc::{AllocError, Global};
 use std::cmp::Ordering;
@@ -62,11 +62,21 @@ fn full<'a>(text: &'a [u8], next: Option<&Piece>) -> &'a [u8] {
 }
 
 fn is_number(text: &[u8]) -> bool {
-    text.iter().all(|c| c.is_ascii_digit())
+    for c in text {
+        if !c.is_ascii_digit() {
+            return false;
+        }
+    }
+    true
 }
 
 fn is_zero(text: &[u8]) -> bool {
-    text.iter().all(|c| *c == b'0')
+    for c in text {
+        if *c != b'0' {
+            return false;
+        }
+    }
+    true
 }
 
 // Whether the first token is in a run of zeros that stands before the end, a word or a `-`.

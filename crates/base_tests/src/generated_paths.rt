@@ -1,7 +1,8 @@
 // Some hundred generated paths: the real program says of each what the plain one says.
-use super::*;
-use crate::plain::{self, Said, add};
+use crate::coords::real;
+use crate::plain_coords;
 use std::alloc::{AllocError, Global};
+use std::test::Fail;
 
 const GROUPS: [&str; 8] = [
     "org/acme", "g", "a/b/c", "x-1/y_2", "g", "org", "o.p/q", "../q",
@@ -111,76 +112,29 @@ impl Choices {
     }
 }
 
-fn file_line(alloc: Global, c: &Coord<'_>, side: &str) -> Result<String, Fail> {
-    let build = match c.build() {
-        Some(build) => {
-            let stamp = build.stamp().text();
-            let stamp = str::from_utf8(&stamp).map_err(|_| "no text")?;
-            format!(in alloc; "{stamp}-{}", build.number())?
-        }
-        None => String::new(alloc),
-    };
-    let mut line = String::from_str(alloc, "file ")?;
-    line.push_str(c.group())?;
-    line.push_str("/")?;
-    add(&mut line, c.artifact())?;
-    add(&mut line, c.dir())?;
-    add(&mut line, build.as_str())?;
-    add(&mut line, c.classifier())?;
-    add(&mut line, c.extension())?;
-    add(&mut line, side)?;
-    Ok(line)
-}
-
-fn document_line(alloc: Global, d: &Dir<'_>, side: &str) -> Result<String, AllocError> {
-    let mut line = String::from_str(alloc, "document ")?;
-    if !d.group().is_empty() {
-        line.push_str(d.group())?;
-        line.push_str("/")?;
-    }
-    add(&mut line, d.artifact())?;
-    add(&mut line, d.version().unwrap_or(""))?;
-    add(&mut line, side)?;
-    Ok(line)
-}
-
-fn side_text(side: Side) -> &'static str {
-    match side {
-        Side::Sha1 => " sha1",
-        Side::Md5 => " md5",
-    }
-}
-
-fn real(alloc: Global, path: &str) -> Result<Said, Fail> {
-    let line = match kind_of(path) {
-        Ok(Kind::File(c)) => file_line(alloc, &c, "")?,
-        Ok(Kind::FileSide(c, side)) => file_line(alloc, &c, side_text(side))?,
-        Ok(Kind::Doc(d)) => document_line(alloc, &d, "")?,
-        Ok(Kind::DocSide(d, side)) => document_line(alloc, &d, side_text(side))?,
-        Err(fault) => return Ok(Err(fault)),
-    };
-    Ok(Ok(line))
-}
-
-#[test]
-fn agrees_with_the_plain_program(rt: HostRuntime) -> Result<(), Fail> {
-    let alloc = rt.alloc();
+// How many paths are of files and how many have a fault, or the first seed of whose path the two programs say
+// something else.
+fn compared(alloc: Global) -> Result<Result<(u32, u32), u64>, AllocError> {
     let mut files = 0u32;
     let mut faults = 0u32;
     for seed in 1..800 {
         let path = Choices(seed).path(alloc)?;
-        let want = plain::said(alloc, path.as_str())?;
         let said = real(alloc, path.as_str())?;
-        assert!(rt; said == want, "at {path}");
+        if said != plain_coords::said(alloc, path.as_str())? {
+            return Ok(Err(seed));
+        }
         match said {
             Ok(line) if line.starts_with("file") => files = files.saturating_add(1),
             Ok(_) => {}
             Err(_) => faults = faults.saturating_add(1),
         }
     }
-    assert!(rt;
-        files > 50 && faults > 100,
-        "{files} files, {faults} faults"
-    );
+    Ok(Ok((files, faults)))
+}
+
+#[test]
+fn agrees_with_the_plain_program(rt: HostRuntime) -> Result<(), Fail> {
+    let counts = compared(rt.alloc())?;
+    assert!(rt; matches!(counts, Ok((50.., 100..))), "{counts:?}");
     Ok(())
 }

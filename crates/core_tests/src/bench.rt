@@ -1,27 +1,15 @@
 // What the tests share: a core over memory, and commands and replies as plain values.
-
-mod cases;
-mod generated;
-mod plain;
-
-use crate::{Command, Core, Policy, Reply};
 use mvn_digest::Hashes;
 use outside::{Blobs, FaultScript, MemBlobs, MemHeld, Parcel, ScriptClock};
+use repo_core::{Command, Core, Policy, Reply};
 use repo_model::Print;
 use std::alloc::{AllocError, Global};
-use std::process::Abort;
 use std::test::Fail;
 use texts::Text;
 
-const JAR: &str = "org/acme/lib/1.0/lib-1.0.jar";
-
-const POM: &str = "org/acme/lib/1.0/lib-1.0.pom";
-
-const BUILD: &str = "org/acme/lib/1.1-SNAPSHOT/lib-1.1-20240102.030405-1.jar";
-
 /// A command in plain values.
 #[derive(Clone, Copy)]
-enum Ask {
+pub enum Ask {
     Look(&'static str, &'static str),
     Done(u64),
     MayPut(&'static str, &'static str),
@@ -29,28 +17,42 @@ enum Ask {
     Drop(u64),
 }
 
+/// A print's length and SHA-1, in hexadecimal.
+#[derive(Clone, Copy, PartialEq, Eq)]
+pub struct Seen {
+    pub length: u64,
+    pub sha1: [u8; 40],
+}
+
 /// A reply in plain values.
 #[derive(Clone, Copy, PartialEq, Eq)]
-enum Said {
-    File(u64, u64, Print),
+pub enum Said {
+    File(u64, u64, Seen),
     Missed,
     Done,
     KindRefused,
     Draft(u64),
     NoDraft,
-    Taken(Print, Print),
+    Taken(Seen, Seen),
     Same,
     Created,
     Dropped,
     Other,
 }
 
-fn print_of(bytes: &[u8]) -> Print {
+pub fn seen_of(bytes: &[u8]) -> Seen {
     let mut hashes = Hashes::new();
     hashes.update(bytes);
-    Print {
+    Seen {
         length: bytes.len() as u64,
-        digests: hashes.finish(),
+        sha1: hashes.finish().sha1_text(),
+    }
+}
+
+fn seen_print(print: &Print) -> Seen {
+    Seen {
+        length: print.length,
+        sha1: print.digests.sha1_text(),
     }
 }
 
@@ -59,14 +61,17 @@ fn value_of(reply: Reply<MemHeld>) -> Said {
         Reply::File { lease, parcel } => Said::File(
             lease,
             parcel.blob,
-            crate::rows::print_of(&parcel),
+            Seen {
+                length: parcel.length,
+                sha1: parcel.digests.sha1_text(),
+            },
         ),
         Reply::Missed => Said::Missed,
         Reply::Done => Said::Done,
         Reply::KindRefused => Said::KindRefused,
         Reply::Draft(draft) => Said::Draft(draft),
         Reply::NoDraft => Said::NoDraft,
-        Reply::Taken { kept, sent } => Said::Taken(kept, sent),
+        Reply::Taken { kept, sent } => Said::Taken(seen_print(&kept), seen_print(&sent)),
         Reply::Same => Said::Same,
         Reply::Created => Said::Created,
         Reply::Dropped => Said::Dropped,
@@ -76,9 +81,9 @@ fn value_of(reply: Reply<MemHeld>) -> Said {
 
 /// A core and its blobs.
 #[derive(Drop)]
-struct Bench {
+pub struct Bench {
     alloc: Global,
-    core: Core<ScriptClock, MemHeld>,
+    pub core: Core<ScriptClock, MemHeld>,
     blobs: MemBlobs,
 }
 
@@ -91,13 +96,15 @@ fn policy(alloc: Global, id: &str, releases: bool, snapshots: bool) -> Result<Po
 }
 
 impl Bench {
-    /// The repositories `releases`, `mixed` and `snapshots`, which take what their ids say.
-    fn new(alloc: Global, clock: ScriptClock) -> Result<Bench, Fail> {
+    /// The repositories `releases`, `mixed` and `snapshots`, which take what their ids say. The clock goes on by a
+    /// second each time that it is read.
+    pub fn new(alloc: Global) -> Result<Bench, Fail> {
         let hosted = vec![in alloc;
             policy(alloc, "releases", true, false)?,
             policy(alloc, "mixed", true, true)?,
             policy(alloc, "snapshots", false, true)?,
         ]?;
+        let clock = ScriptClock::stepping(alloc, 1_700_000_000, 1);
         let core = match Core::plain(alloc, &hosted, 1_000, clock) {
             Ok(core) => core,
             Err((error, _)) => return Err(error.into()),
@@ -118,36 +125,34 @@ impl Bench {
         })
     }
 
-    fn command(&mut self, ask: Ask) -> Result<Command<MemHeld>, Fail> {
-        let (repo, path) = match ask {
-            Ask::Done(lease) => return Ok(Command::Done { lease }),
-            Ask::Drop(draft) => return Ok(Command::Drop { draft }),
-            Ask::Look(repo, path) | Ask::MayPut(repo, path) | Ask::Put(repo, path, _, _) => (
-                repo, path,
-            ),
-        };
-        let repo = Text::new(self.alloc, repo)?;
-        let path = Text::new(self.alloc, path)?;
+    pub fn command(&mut self, ask: Ask) -> Result<Command<MemHeld>, Fail> {
+        let alloc = self.alloc;
         Ok(match ask {
-            Ask::MayPut(_, _) => Command::MayPut { repo, path },
-            Ask::Put(_, _, draft, bytes) => {
-                let parcel = self.parcel(draft, bytes)?;
-                Command::Put {
-                    repo,
-                    path,
-                    draft,
-                    parcel,
-                }
-            }
-            _ => Command::Look { repo, path },
+            Ask::Done(lease) => Command::Done { lease },
+            Ask::Drop(draft) => Command::Drop { draft },
+            Ask::Look(repo, path) => Command::Look {
+                repo: Text::new(alloc, repo)?,
+                path: Text::new(alloc, path)?,
+            },
+            Ask::MayPut(repo, path) => Command::MayPut {
+                repo: Text::new(alloc, repo)?,
+                path: Text::new(alloc, path)?,
+            },
+            Ask::Put(repo, path, draft, bytes) => Command::Put {
+                repo: Text::new(alloc, repo)?,
+                path: Text::new(alloc, path)?,
+                draft,
+                parcel: self.parcel(draft, bytes)?,
+            },
         })
     }
 
-    /// One call, of a command that meets its condition.
-    fn answer(&mut self, rt: &impl Abort, ask: Ask) -> Result<Said, Fail> {
+    /// One call, or `Other` where the command does not meet its condition.
+    pub fn answer(&mut self, ask: Ask) -> Result<Said, Fail> {
         let command = self.command(ask)?;
-        let fits = self.core.fits(&command);
-        assert!(rt; fits);
+        if !self.core.fits(&command) {
+            return Ok(Said::Other);
+        }
         Ok(value_of(self.core.call(command)))
     }
 }

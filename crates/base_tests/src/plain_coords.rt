@@ -1,7 +1,6 @@
-//! The plain, slow program for the path rule: a list of segments, judged step by step. The tests compare the
-//! real one with it.
+// The plain, slow program for the path rule: a list of segments, judged step by step.
 
-use crate::PathFault;
+use mvn_coords::PathFault;
 use std::alloc::{AllocError, Global};
 
 /// What a path names in one line, or its fault.
@@ -31,8 +30,10 @@ pub fn said(alloc: Global, path: &str) -> Result<Said, AllocError> {
         return Ok(Err(PathFault::Long));
     }
     let mut segments: Vec<&str> = path.split('/').collect(alloc)?;
-    if segments.iter().any(|s| !is_segment(s)) {
-        return Ok(Err(PathFault::BadSegment));
+    for segment in &segments {
+        if !is_segment(segment) {
+            return Ok(Err(PathFault::BadSegment));
+        }
     }
     let (name, side) = match side_of(segments.pop().unwrap_or("")) {
         Ok(cut) => cut,
@@ -51,7 +52,31 @@ fn is_segment(s: &str) -> bool {
 
 // Letters, digits and these marks.
 fn has_only(s: &str, marks: &str) -> bool {
-    s.bytes().all(|b| b.is_ascii_alphanumeric() || marks.as_bytes().contains(&b))
+    for b in s.as_bytes() {
+        if !b.is_ascii_alphanumeric() && !marks.as_bytes().contains(b) {
+            return false;
+        }
+    }
+    true
+}
+
+// Whether the segments are a group and an artifact.
+fn fits(group: &[&str], artifact: &str) -> bool {
+    for segment in group {
+        if !has_only(segment, "_-") {
+            return false;
+        }
+    }
+    has_only(artifact, "_-.")
+}
+
+fn are_digits(s: &str) -> bool {
+    for b in s.as_bytes() {
+        if !b.is_ascii_digit() {
+            return false;
+        }
+    }
+    true
 }
 
 // The last segment without its side suffix, and the side.
@@ -83,8 +108,7 @@ fn document(alloc: Global, directory: &[&str], side: &str) -> Result<Said, Alloc
         ),
         _ => (above, last, ""),
     };
-    let fits = group.iter().all(|s| has_only(s, "_-")) && has_only(artifact, "_-.");
-    if !fits || !is_version(version) {
+    if !fits(group, artifact) || !is_version(version) {
         return Ok(Err(PathFault::BadSegment));
     }
     let mut line = String::from_str(alloc, "document ")?;
@@ -104,8 +128,7 @@ fn file(alloc: Global, directory: &[&str], name: &str, side: &str) -> Result<Sai
         directory[directory.len() - 1],
     );
     let (group, artifact) = (&above[..above.len() - 1], above[above.len() - 1]);
-    let fits = group.iter().all(|s| has_only(s, "_-")) && has_only(artifact, "_-.");
-    if !fits || !is_version(version) {
+    if !fits(group, artifact) || !is_version(version) {
         return Ok(Err(PathFault::BadSegment));
     }
     let (build, tail) = match ending(alloc, artifact, version, name)? {
@@ -175,16 +198,26 @@ fn build(rest: &str) -> Result<(&str, &str), PathFault> {
         return Err(PathFault::BadStamp);
     }
     let run = after.strip_prefix("-").ok_or(PathFault::BadBuild)?;
-    let digits = run.bytes().take_while(|b| b.is_ascii_digit()).count();
+    let digits = leading_digits(run);
     if digits == 0 || digits > 9 || run.starts_with('0') {
         return Err(PathFault::BadBuild);
     }
     Ok(rest.split_at_checked(16 + digits).unwrap_or((rest, "")))
 }
 
+// How many digits a text begins with.
+fn leading_digits(s: &str) -> usize {
+    for (n, b) in s.as_bytes().iter().enumerate() {
+        if !b.is_ascii_digit() {
+            return n;
+        }
+    }
+    s.len()
+}
+
 // The number that the digits write, or 99 where they are none.
 fn number(text: &str) -> u32 {
-    if text.bytes().all(|b| b.is_ascii_digit()) {
+    if are_digits(text) {
         text.parse().unwrap_or(99)
     } else {
         99
@@ -215,7 +248,7 @@ fn is_stamp(text: &str) -> bool {
         2 => 28,
         _ => 0,
     };
-    year.bytes().all(|b| b.is_ascii_digit())
+    are_digits(year)
         && day.len() == 2
         && second.len() == 2
         && (1..=days).contains(&number(day))

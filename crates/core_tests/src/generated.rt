@@ -1,8 +1,10 @@
 // Some thousand generated commands: the core answers as the plain machine does.
 ghost use Rattle.std.specs.Prelude.{◌<◌};
 
-use super::plain::{Plain, takes};
-use super::*;
+use crate::bench::{Ask, Bench, Said};
+use crate::plain::{Plain, takes};
+use std::alloc::Global;
+use std::test::Fail;
 
 const REPOS: [&str; 3] = ["releases", "mixed", "snapshots"];
 
@@ -49,31 +51,32 @@ impl Numbers {
     }
 }
 
-#[test]
-fn the_core_answers_as_the_plain_machine(rt: HostRuntime) -> Result<(), Fail> {
-    let mut bench = Bench::new(
-        rt.alloc(),
-        ScriptClock::stepping(rt.alloc(), 1_700_000_000, 3),
-    )?;
-    let mut plain = Plain::new(rt.alloc());
+// How often a file was given and how often a command was refused, or the first command that the plain machine
+// answers otherwise.
+fn compared(alloc: Global) -> Result<Result<(u64, u64), u64>, Fail> {
+    let mut bench = Bench::new(alloc)?;
+    let mut plain = Plain::new(alloc);
     let mut numbers = Numbers(1);
     let mut files = 0u64;
     let mut refused = 0u64;
     for n in 0..4_000u64 {
         let ask = numbers.next_ask(&plain.drafts);
-        let answer = bench.answer(&rt, ask)?;
-        let want = plain.turn(ask)?;
-        assert!(rt; answer == want, "command {n}");
+        let answer = bench.answer(ask)?;
+        if answer != plain.turn(ask)? {
+            return Ok(Err(n));
+        }
         match answer {
             Said::File(_, _, _) => files = files.saturating_add(1),
             Said::Same | Said::Taken(_, _) | Said::NoDraft => refused = refused.saturating_add(1),
             _ => {}
         }
     }
-    assert_eq!(rt; bench.core.calls(), 4_000);
-    assert!(rt;
-        files > 200 && refused > 200,
-        "{files} files, {refused} refused"
-    );
+    Ok(Ok((files, refused)))
+}
+
+#[test]
+fn the_core_answers_as_the_plain_machine(rt: HostRuntime) -> Result<(), Fail> {
+    let counts = compared(rt.alloc())?;
+    assert!(rt; matches!(counts, Ok((200.., 200..))), "{counts:?}");
     Ok(())
 }

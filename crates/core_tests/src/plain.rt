@@ -1,5 +1,5 @@
 // A plain, slow machine, written apart from the core: lists, filtered anew at every reply.
-use super::{Ask, Said, print_of};
+use crate::bench::{Ask, Said, seen_of};
 use std::alloc::{AllocError, Global};
 
 #[derive(Drop)]
@@ -11,22 +11,35 @@ struct Kept {
 }
 
 #[derive(Drop)]
-pub(super) struct Plain {
+pub struct Plain {
     kept: Vec<Kept>,
-    pub(super) drafts: Vec<u64>,
+    pub drafts: Vec<u64>,
     leases: Vec<u64>,
     next_draft: u64,
     next_lease: u64,
 }
 
 /// Whether a repository takes a path.
-pub(super) fn takes(repo: &str, path: &str) -> bool {
+pub fn takes(repo: &str, path: &str) -> bool {
     let is_snapshot = path.contains("-SNAPSHOT/");
     repo == "mixed" || (repo == "snapshots") == is_snapshot
 }
 
+fn give_up(numbers: &mut Vec<u64>, number: u64) {
+    numbers.retain(|other| *other != number);
+}
+
+fn kept_at<'a>(all: &'a [Kept], repo: &str, path: &str) -> Option<&'a Kept> {
+    for kept in all {
+        if kept.repo == repo && kept.path == path {
+            return Some(kept);
+        }
+    }
+    None
+}
+
 impl Plain {
-    pub(super) fn new(alloc: Global) -> Plain {
+    pub fn new(alloc: Global) -> Plain {
         Plain {
             kept: Vec::new(alloc),
             drafts: Vec::new(alloc),
@@ -36,32 +49,28 @@ impl Plain {
         }
     }
 
-    pub(super) fn turn(&mut self, ask: Ask) -> Result<Said, AllocError> {
+    pub fn turn(&mut self, ask: Ask) -> Result<Said, AllocError> {
         match ask {
             Ask::Look(repo, path) => self.look(repo, path),
             Ask::Done(lease) => {
-                self.leases.retain(|held| *held != lease);
+                give_up(&mut self.leases, lease);
                 Ok(Said::Done)
             }
             Ask::MayPut(repo, path) => self.may_put(repo, path),
             Ask::Put(repo, path, draft, content) => self.put(repo, path, draft, content),
             Ask::Drop(draft) => {
-                self.drafts.retain(|other| *other != draft);
+                give_up(&mut self.drafts, draft);
                 Ok(Said::Dropped)
             }
         }
     }
 
     fn look(&mut self, repo: &str, path: &str) -> Result<Said, AllocError> {
-        let found = self
-            .kept
-            .iter()
-            .find(|kept| kept.repo == repo && kept.path == path);
-        let Some(kept) = found else {
+        let Some(kept) = kept_at(self.kept.as_slice(), repo, path) else {
             return Ok(Said::Missed);
         };
         let lease = self.next_lease;
-        let file = Said::File(lease, kept.blob, print_of(kept.content));
+        let file = Said::File(lease, kept.blob, seen_of(kept.content));
         self.leases.push(lease)?;
         self.next_lease = lease.wrapping_add(1);
         Ok(file)
@@ -87,16 +96,12 @@ impl Plain {
         if !self.drafts.contains(&draft) {
             return Ok(Said::NoDraft);
         }
-        self.drafts.retain(|other| *other != draft);
-        let found = self
-            .kept
-            .iter()
-            .find(|kept| kept.repo == repo && kept.path == path);
-        if let Some(kept) = found {
+        give_up(&mut self.drafts, draft);
+        if let Some(kept) = kept_at(self.kept.as_slice(), repo, path) {
             if kept.content == content {
                 return Ok(Said::Same);
             }
-            return Ok(Said::Taken(print_of(kept.content), print_of(content)));
+            return Ok(Said::Taken(seen_of(kept.content), seen_of(content)));
         }
         self.kept.push(Kept {
             repo,

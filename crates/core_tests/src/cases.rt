@@ -1,0 +1,110 @@
+// Worked cases of the five commands.
+use crate::bench::{Ask, Bench, Said, Seen};
+use outside::Clock;
+use std::test::Fail;
+
+const JAR: &str = "org/acme/lib/1.0/lib-1.0.jar";
+
+const POM: &str = "org/acme/lib/1.0/lib-1.0.pom";
+
+const BUILD: &str = "org/acme/lib/1.1-SNAPSHOT/lib-1.1-20240102.030405-1.jar";
+
+const ABC: Seen = Seen {
+    length: 3,
+    sha1: *b"a9993e364706816aba3e25717850c26c9cd0d89d",
+};
+
+const NOTHING: Seen = Seen {
+    length: 0,
+    sha1: *b"da39a3ee5e6b4b0d3255bfef95601890afd80709",
+};
+
+// Commands and their replies, one after the other.
+const STEPS: [(Ask, Said); 29] = [
+    // a file is put once and stays
+    (Ask::Look("releases", JAR), Said::Missed),
+    (Ask::MayPut("releases", JAR), Said::Draft(1)),
+    (Ask::Put("releases", JAR, 1, b"abc"), Said::Created),
+    (Ask::Look("releases", JAR), Said::File(1, 1, ABC)),
+    (Ask::MayPut("releases", JAR), Said::Draft(2)),
+    (Ask::Put("releases", JAR, 2, b"abc"), Said::Same),
+    (Ask::MayPut("releases", JAR), Said::Draft(3)),
+    (Ask::Put("releases", JAR, 3, b""), Said::Taken(ABC, NOTHING)),
+    (Ask::Look("releases", JAR), Said::File(2, 1, ABC)),
+    (Ask::Look("releases", POM), Said::Missed),
+    (Ask::Look("mixed", JAR), Said::Missed),
+    // the empty file and its leases
+    (Ask::Done(9), Said::Done),
+    (Ask::MayPut("mixed", POM), Said::Draft(4)),
+    (Ask::Put("mixed", POM, 4, b""), Said::Created),
+    (Ask::Look("mixed", POM), Said::File(3, 4, NOTHING)),
+    (Ask::Done(3), Said::Done),
+    (Ask::Done(3), Said::Done),
+    (Ask::Look("mixed", POM), Said::File(4, 4, NOTHING)),
+    (Ask::Look("mixed", POM), Said::File(5, 4, NOTHING)),
+    // a draft is used once
+    (Ask::Put("releases", POM, 1, b"abc"), Said::NoDraft),
+    (Ask::Look("releases", POM), Said::Missed),
+    (Ask::MayPut("releases", POM), Said::Draft(5)),
+    (Ask::Drop(5), Said::Dropped),
+    (Ask::Put("releases", POM, 5, b"abc"), Said::NoDraft),
+    (Ask::Drop(77), Said::Dropped),
+    (Ask::Put("releases", POM, 77, b"abc"), Said::NoDraft),
+    (Ask::MayPut("snapshots", POM), Said::KindRefused),
+    (Ask::MayPut("releases", BUILD), Said::KindRefused),
+    (Ask::MayPut("releases", POM), Said::Draft(6)),
+];
+
+// Commands, and whether each meets its condition.
+const FIT: [(Ask, bool); 11] = [
+    (Ask::Look("central", JAR), false),
+    (Ask::MayPut("", JAR), false),
+    (Ask::Put("snapshots", JAR, 1, b"abc"), false),
+    (Ask::Put("releases", JAR, 1, b"abc"), true),
+    (Ask::Look("snapshots", JAR), true),
+    (Ask::Look("releases", BUILD), true),
+    (
+        Ask::Look("releases", "org/acme/lib/1.0/lib-1.0.jar.sha1"),
+        false,
+    ),
+    (
+        Ask::Look("releases", "org/acme/lib/maven-metadata.xml"),
+        false,
+    ),
+    (Ask::MayPut("releases", "lib-1.0.jar"), false),
+    (Ask::Put("releases", BUILD, 1, b"abc"), false),
+    (Ask::Put("snapshots", BUILD, 1, b"abc"), true),
+];
+
+// The first step with another reply.
+fn first_wrong(bench: &mut Bench) -> Result<Option<usize>, Fail> {
+    for (n, (ask, want)) in STEPS.iter().enumerate() {
+        if bench.answer(*ask)? != *want {
+            return Ok(Some(n));
+        }
+    }
+    Ok(None)
+}
+
+// The first command that fits and is not to, or the other way round.
+fn first_unfit(bench: &mut Bench) -> Result<Option<usize>, Fail> {
+    for (n, (ask, want)) in FIT.iter().enumerate() {
+        let command = bench.command(*ask)?;
+        if bench.core.fits(&command) != *want {
+            return Ok(Some(n));
+        }
+    }
+    Ok(None)
+}
+
+#[test]
+fn commands_are_answered_as_written(rt: HostRuntime) -> Result<(), Fail> {
+    let mut bench = Bench::new(rt.alloc())?;
+    assert_eq!(rt; first_unfit(&mut bench)?, None);
+    assert_eq!(rt; first_wrong(&mut bench)?, None);
+    assert_eq!(rt; bench.core.calls(), 29);
+    // each turn reads the clock once
+    let mut clock = bench.core.end();
+    assert_eq!(rt; clock.now(), 1_700_000_029);
+    Ok(())
+}

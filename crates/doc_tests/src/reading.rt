@@ -1,0 +1,330 @@
+// Documents read.
+use crate::documents::{
+    ARTIFACT, OF_ARTIFACT, OF_RELEASES, OF_SNAPSHOT, SNAPSHOT, expect, settled,
+};
+use mvn_doc::{DocFault, NoMemory, read};
+use std::alloc::Global;
+use std::process::Abort;
+use std::test::Fail;
+
+/// Where the text is refused.
+fn refused_at(alloc: Global, text: &[u8]) -> Option<usize> {
+    match read(alloc, text) {
+        Err(DocFault::BadDocument { at }) => Some(at),
+        Ok(_) | Err(DocFault::NoMemory) => None,
+    }
+}
+
+/// The text is read, and written so.
+fn reads_as(rt: &impl Abort, alloc: Global, text: &[u8], want: &str) -> Result<(), Fail> {
+    let doc = read(alloc, text)?;
+    expect(rt, alloc, &doc, want)?;
+    Ok(())
+}
+
+/// A document with this inside its root, read and written: what stands inside the root then.
+fn inside(rt: &impl Abort, alloc: Global, inner: &str, want: &str) -> Result<(), Fail> {
+    let mut text = String::from_str(alloc, "<metadata>")?;
+    text.push_str(inner)?;
+    text.push_str("</metadata>")?;
+    let mut written = String::from_str(alloc, START)?;
+    written.push_str(want)?;
+    written.push_str("</metadata>\n")?;
+    reads_as(rt, alloc, text.as_bytes(), written.as_str())
+}
+
+fn are_inside(rt: &impl Abort, alloc: Global, rows: &[(&str, &str)]) -> Result<(), Fail> {
+    for (inner, want) in rows {
+        inside(rt, alloc, inner, want)?;
+    }
+    Ok(())
+}
+
+const START: &str =
+    "<?xml version=\"1.0\" encoding=\"UTF-8\"?>\n<metadata modelVersion=\"1.1.0\">\n";
+
+const NOTHING: &str = "  <versioning>\n  </versioning>\n";
+
+// Texts, and where they are refused.
+const REFUSED: [(&[u8], usize); 12] = [
+    (b"<metadata>", 10),
+    (b"<metadata></metadatb>", 10),
+    (b"<metadata/>x", 11),
+    (b"<!DOCTYPE x><metadata/>", 0),
+    (b"", 0),
+    (b"\xEF\xBB\xBF<metadat/>", 3),
+    (b"<metadata><![CDATA[x]]></metadata>", 10),
+    (b"<metadata><?php ?></metadata>", 10),
+    (b"<metadata>&#xD800;</metadata>", 10),
+    (b"<metadata>&nbsp;</metadata>", 10),
+    (b"<metadata><groupId>x</groupId", 20),
+    (b"<metadata/><!-- x", 11),
+];
+
+#[test]
+fn faults_have_their_places(rt: HostRuntime) {
+    for (text, at) in REFUSED {
+        assert_eq!(rt; refused_at(rt.alloc(), text), Some(at));
+    }
+}
+
+#[test]
+fn depth_is_limited(rt: HostRuntime) -> Result<(), Fail> {
+    let mut text = Vec::from_slice(rt.alloc(), b"<metadata>")?;
+    for _ in 0..31 {
+        text.extend_from_slice(b"<a>")?;
+    }
+    let mut deeper = Vec::from_slice(rt.alloc(), text.as_slice())?;
+    deeper.extend_from_slice(b"<a/>")?;
+    for _ in 0..31 {
+        text.extend_from_slice(b"</a>")?;
+    }
+    text.extend_from_slice(b"</metadata>")?;
+    assert_eq!(rt; refused_at(rt.alloc(), text.as_slice()), None);
+    assert_eq!(rt; refused_at(rt.alloc(), deeper.as_slice()), Some(103));
+    Ok(())
+}
+
+#[test]
+fn written_documents_are_read(rt: HostRuntime) -> Result<(), Fail> {
+    for text in [OF_SNAPSHOT, OF_ARTIFACT, OF_RELEASES] {
+        reads_as(&rt, rt.alloc(), text.as_bytes(), text)?;
+    }
+    Ok(())
+}
+
+const THREE_VERSIONS: &[u8] =
+    b"<metadata><groupId> x </groupId><versioning><versions><version>1.0</version><version>1</version><version>1.0</version></versions></versioning></metadata>";
+
+const OF_GROUP_X: &str = "<?xml version=\"1.0\" encoding=\"UTF-8\"?>
+<metadata modelVersion=\"1.1.0\">
+  <groupId>x</groupId>
+  <versioning>
+    <latest>1.0</latest>
+    <release>1.0</release>
+    <versions>
+      <version>1</version>
+      <version>1.0</version>
+    </versions>
+  </versioning>
+</metadata>
+";
+
+#[test]
+fn read_documents_are_settled(rt: HostRuntime) -> Result<(), Fail> {
+    let doc = read(rt.alloc(), THREE_VERSIONS)?;
+    expect(&rt, rt.alloc(), &doc, OF_GROUP_X)?;
+    let doc = settled(rt.alloc(), doc, ARTIFACT)?;
+    expect(&rt, rt.alloc(), &doc, OF_RELEASES)?;
+    Ok(())
+}
+
+// What Apache Maven 3.8.7 sends for a snapshot directory: the version stands behind the versioning.
+const BY_MAVEN: &[u8] = b"<?xml version=\"1.0\" encoding=\"UTF-8\"?>
+<metadata modelVersion=\"1.1.0\">
+  <groupId>org.acme</groupId>
+  <artifactId>lib</artifactId>
+  <versioning>
+    <lastUpdated>20261126180708</lastUpdated>
+    <snapshot>
+      <timestamp>20261126.180708</timestamp>
+      <buildNumber>1</buildNumber>
+    </snapshot>
+    <snapshotVersions>
+      <snapshotVersion>
+        <extension>jar</extension>
+        <value>1.1-20261126.180708-1</value>
+        <updated>20261126180708</updated>
+      </snapshotVersion>
+      <snapshotVersion>
+        <classifier>sources</classifier>
+        <extension>jar</extension>
+        <value>1.1-20261126.180708-1</value>
+        <updated>20261126180708</updated>
+      </snapshotVersion>
+    </snapshotVersions>
+  </versioning>
+  <version>1.1-SNAPSHOT</version>
+</metadata>
+";
+
+const AS_WRITTEN: &str = "<?xml version=\"1.0\" encoding=\"UTF-8\"?>
+<metadata modelVersion=\"1.1.0\">
+  <groupId>org.acme</groupId>
+  <artifactId>lib</artifactId>
+  <version>1.1-SNAPSHOT</version>
+  <versioning>
+    <snapshot>
+      <timestamp>20261126.180708</timestamp>
+      <buildNumber>1</buildNumber>
+    </snapshot>
+    <lastUpdated>20261126180708</lastUpdated>
+    <snapshotVersions>
+      <snapshotVersion>
+        <extension>jar</extension>
+        <value>1.1-20261126.180708-1</value>
+        <updated>20261126180708</updated>
+      </snapshotVersion>
+      <snapshotVersion>
+        <classifier>sources</classifier>
+        <extension>jar</extension>
+        <value>1.1-20261126.180708-1</value>
+        <updated>20261126180708</updated>
+      </snapshotVersion>
+    </snapshotVersions>
+  </versioning>
+</metadata>
+";
+
+#[test]
+fn documents_of_maven_are_read(rt: HostRuntime) -> Result<(), Fail> {
+    let doc = settled(rt.alloc(), read(rt.alloc(), BY_MAVEN)?, SNAPSHOT)?;
+    expect(&rt, rt.alloc(), &doc, AS_WRITTEN)?;
+    Ok(())
+}
+
+// A mark, a comment, both quotes, references, an attribute twice, an empty tag, other elements, bytes from 0x80.
+const ODD: &[u8] = b"\xEF\xBB\xBF<?xml version='1.0'?><!-- -- --> <metadata a='\"' a=\"'\">
+<groupId xml:space='\xE9'>org&#46;ac<!-- c -->me&#x0a;</groupId><\xC3\xA9>&lt;&gt;&amp;&quot;&apos;&#x10FFFF;</\xC3\xA9>
+<artifactId><groupId>no</groupId>li<b/>b</artifactId><version/></metadata> ";
+
+const ODD_WRITTEN: &str = "  <groupId>org.acme</groupId>\n  <artifactId>lib</artifactId>\n";
+
+#[test]
+fn texts_may_be_odd(rt: HostRuntime) -> Result<(), Fail> {
+    let mut want = String::from_str(rt.alloc(), START)?;
+    want.push_str(ODD_WRITTEN)?;
+    want.push_str(NOTHING)?;
+    want.push_str("</metadata>\n")?;
+    reads_as(&rt, rt.alloc(), ODD, want.as_str())
+}
+
+// Containers that come twice are read as one; of a single element the first counts, also where it does not fit.
+const TWICE: [(&str, &str); 4] = [
+    (
+        "<groupId>a</groupId><groupId>b</groupId>",
+        "  <groupId>a</groupId>\n  <versioning>\n  </versioning>\n",
+    ),
+    ("<groupId>a+</groupId><groupId>b</groupId>", NOTHING),
+    (
+        "<versioning><versions><version>2</version></versions><versions><version>1</version></versions></versioning><versioning><versions><version>3-SNAPSHOT</version></versions></versioning>",
+        "  <versioning>\n    <latest>3-SNAPSHOT</latest>\n    <release>2</release>\n    <versions>\n      <version>1</version>\n      <version>2</version>\n      <version>3-SNAPSHOT</version>\n    </versions>\n  </versioning>\n",
+    ),
+    (
+        "<version>1-SNAPSHOT</version><versioning><snapshot><timestamp>20240301.080000</timestamp></snapshot><snapshot><buildNumber>7</buildNumber><timestamp>x</timestamp></snapshot></versioning>",
+        "  <version>1-SNAPSHOT</version>\n  <versioning>\n    <snapshot>\n      <timestamp>20240301.080000</timestamp>\n      <buildNumber>7</buildNumber>\n    </snapshot>\n    <lastUpdated>20240301080000</lastUpdated>\n  </versioning>\n",
+    ),
+];
+
+// Values that do not fit are passed over.
+const MISFITS: [(&str, &str); 9] = [
+    (
+        "<groupId>a..b</groupId><artifactId>l+b</artifactId>",
+        NOTHING,
+    ),
+    (
+        "<groupId>\u{e9}</groupId><artifactId></artifactId>",
+        NOTHING,
+    ),
+    ("<version>1.0</version>", NOTHING),
+    ("<version>SNAPSHOT</version>", NOTHING),
+    (
+        "<versioning><versions><version>a/b</version><version/></versions></versioning>",
+        NOTHING,
+    ),
+    (
+        "<versioning><lastUpdated>20240230080000</lastUpdated></versioning>",
+        NOTHING,
+    ),
+    (
+        "<versioning><lastUpdated>2024030108000</lastUpdated></versioning>",
+        NOTHING,
+    ),
+    (
+        "<versioning><lastUpdated>20240301.080000</lastUpdated></versioning>",
+        NOTHING,
+    ),
+    (
+        "<versioning><lastUpdated>20240301080000</lastUpdated></versioning>",
+        "  <versioning>\n    <lastUpdated>20240301080000</lastUpdated>\n  </versioning>\n",
+    ),
+];
+
+#[test]
+fn elements_may_come_twice(rt: HostRuntime) -> Result<(), Fail> {
+    are_inside(&rt, rt.alloc(), &TWICE)
+}
+
+#[test]
+fn values_may_not_fit(rt: HostRuntime) -> Result<(), Fail> {
+    are_inside(&rt, rt.alloc(), &MISFITS)
+}
+
+const NO_ENTRIES: &str = "  <version>1-SNAPSHOT</version>\n  <versioning>\n  </versioning>\n";
+
+// What may stand in a `snapshotVersion` that is passed over.
+const ENTRIES: [&str; 12] = [
+    "<extension>jar</extension>",
+    "<value>1-20240301.080000-1</value>",
+    "<extension>j/r</extension><value>1-20240301.080000-1</value>",
+    "<classifier>a.b</classifier><extension>jar</extension><value>1-20240301.080000-1</value>",
+    "<extension>jar</extension><value>1-SNAPSHOT</value>",
+    "<extension>jar</extension><value>1-20240301.080000-0</value>",
+    "<extension>jar</extension><value>1-20240301.080000-01</value>",
+    "<extension>jar</extension><value>1-20240301.080000-1000000000</value>",
+    "<extension>jar</extension><value>1-20240301.086000-1</value>",
+    "<extension>jar</extension><value>-20240301.080000-1</value>",
+    "<extension>jar</extension><value>20240301.080000-1</value>",
+    "<extension>jar</extension><value>\u{e9}-20240301.080000-1</value>",
+];
+
+// A snapshot directory's document with this in a `snapshotVersion`, and a snapshot whose number does not fit.
+fn with_entry(alloc: Global, entry: &str) -> Result<String, NoMemory> {
+    let mut text = String::from_str(alloc, BEFORE_ENTRY)?;
+    text.push_str(entry)?;
+    text.push_str("</snapshotVersion></snapshotVersions></versioning>")?;
+    Ok(text)
+}
+
+const BEFORE_ENTRY: &str =
+    "<version>1-SNAPSHOT</version><versioning><snapshot><timestamp>20240301.080000</timestamp><buildNumber>1x</buildNumber></snapshot><snapshotVersions><snapshotVersion>";
+
+#[test]
+fn entries_may_not_fit(rt: HostRuntime) -> Result<(), Fail> {
+    for entry in ENTRIES {
+        let text = with_entry(rt.alloc(), entry)?;
+        inside(&rt, rt.alloc(), text.as_str(), NO_ENTRIES)?;
+    }
+    Ok(())
+}
+
+// The last `-` stands before the number; an empty classifier is none; what the kind of document does not hold is dropped;
+// of two builds of one pair the newest counts, which also becomes the newest build.
+#[test]
+fn entries_are_read(rt: HostRuntime) -> Result<(), Fail> {
+    inside(&rt, rt.alloc(), PAIR_TWICE, NEWEST_OF_IT)
+}
+
+const PAIR_TWICE: &str =
+    "<version>1-a-SNAPSHOT</version><versioning><versions><version>1</version></versions><lastUpdated>20200101000000</lastUpdated><snapshotVersions>
+<snapshotVersion><classifier> </classifier><extension>tar.gz</extension><value>1-a-20240301.080000-9</value></snapshotVersion>
+<snapshotVersion><extension>tar.gz</extension><value>1-a-20240301.080000-10</value><value>1-a-20240301.080000-11</value></snapshotVersion>
+<snapshotVersion><extension>tar.gz</extension><value>1-a-20240229.235959-12</value></snapshotVersion>
+</snapshotVersions></versioning>";
+
+const NEWEST_OF_IT: &str = "  <version>1-a-SNAPSHOT</version>
+  <versioning>
+    <snapshot>
+      <timestamp>20240301.080000</timestamp>
+      <buildNumber>10</buildNumber>
+    </snapshot>
+    <lastUpdated>20240301080000</lastUpdated>
+    <snapshotVersions>
+      <snapshotVersion>
+        <extension>tar.gz</extension>
+        <value>1-a-20240301.080000-10</value>
+        <updated>20240301080000</updated>
+      </snapshotVersion>
+    </snapshotVersions>
+  </versioning>
+";

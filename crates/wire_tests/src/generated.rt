@@ -1,0 +1,120 @@
+// Some hundred generated streams: a wire gives what the plain program says, in whatever pieces they come.
+use crate::plain;
+use crate::streams::{said, source_of};
+use http_wire::Wire;
+use std::alloc::{AllocError, Global};
+use std::test::Fail;
+
+const FIRST: [&[u8]; 12] = [
+    b"GET /a HTTP/1.1",
+    b"PUT /b/c HTTP/1.0",
+    b"X-y! http://h/?q HTTP/1.1",
+    b"GET /\xc3\xa9 HTTP/1.1",
+    b"GET / HTTP/1.1",
+    b"HEAD * HTTP/1.1",
+    b"GET /\xc3 HTTP/1.1",
+    b"GET  /a HTTP/1.1",
+    b"GET /a HTTP/1.2",
+    b"GET /a",
+    b"G T /a HTTP/1.1",
+    b" GET /a HTTP/1.1",
+];
+
+const FIELDS: [&[u8]; 12] = [
+    b"Host: x",
+    b"A:",
+    b"b:\t c d \t",
+    b"E: \xff",
+    b"Host:y",
+    b"a-b: c:d",
+    b"F: g\rh",
+    b"I : j",
+    b" folded",
+    b"K",
+    b": l",
+    b"M: \x01",
+];
+
+const ENDS: [&[u8]; 10] = [
+    b"\n", b"\r\n", b"\n", b"\r\n", b"\n", b"\r\n", b"\n", b"\r\n", b"\r\r\n", b"",
+];
+
+const EMPTY: [&[u8]; 4] = [b"\n", b"\r\n", b"", b"\r"];
+
+/// Choices that look random: a scrambled seed, used up digit by digit.
+#[derive(Drop)]
+struct Choices(u64);
+
+impl Choices {
+    fn below(&mut self, count: u64) -> usize {
+        self.0 = self.0.wrapping_mul(0x9e37_79b9_7f4a_7c15) ^ (self.0 >> 29);
+        (self.0 % count.max(1)) as usize
+    }
+
+    // One of the options, mostly of the first half.
+    fn pick(&mut self, options: &[&'static [u8]]) -> &'static [u8] {
+        let count = options.len() as u64;
+        let count = if self.below(12) == 0 {
+            count
+        } else {
+            count / 2
+        };
+        options.get(self.below(count)).copied().unwrap_or(b"")
+    }
+
+    fn stream(&mut self, alloc: Global) -> Result<Vec<u8>, AllocError> {
+        let mut bytes = Vec::new(alloc);
+        for _ in 0..self.below(4) {
+            for _ in 0..self.below(3) {
+                bytes.extend_from_slice(self.pick(&EMPTY))?;
+            }
+            bytes.extend_from_slice(self.pick(&FIRST))?;
+            bytes.extend_from_slice(self.pick(&ENDS))?;
+            for _ in 0..self.below(4) {
+                bytes.extend_from_slice(self.pick(&FIELDS))?;
+                bytes.extend_from_slice(self.pick(&ENDS))?;
+            }
+            bytes.extend_from_slice(self.pick(&EMPTY))?;
+        }
+        Ok(bytes)
+    }
+}
+
+// How many of the first four calls over a stream give a head, or none where the plain program says something else.
+fn heads_of(alloc: Global, stream: &[u8], most: usize) -> Result<Option<u32>, AllocError> {
+    let mut wire = Wire::new();
+    let mut source = source_of(alloc, stream, most, u64::MAX)?;
+    let mut rest = stream;
+    let mut heads = 0u32;
+    for _ in 0..4 {
+        let (want, left) = plain::front(alloc, rest)?;
+        if said(alloc, wire.next_request(alloc, &mut source))? != want {
+            return Ok(None);
+        }
+        if left.len() < rest.len() {
+            heads = heads.saturating_add(1);
+        }
+        rest = left;
+    }
+    Ok(Some(heads))
+}
+
+// How many heads there are in all, or the first seed whose stream the two programs read otherwise.
+fn compared(alloc: Global) -> Result<Result<u32, u64>, AllocError> {
+    let mut heads = 0u32;
+    for seed in 1..500u64 {
+        let stream = Choices(seed).stream(alloc)?;
+        match heads_of(alloc, stream.as_slice(), (seed % 40) as usize)? {
+            Some(found) => heads = heads.saturating_add(found),
+            None => return Ok(Err(seed)),
+        }
+    }
+    Ok(Ok(heads))
+}
+
+#[test]
+fn agrees_with_the_plain_program(rt: HostRuntime) -> Result<(), Fail> {
+    let heads = compared(rt.alloc())?;
+    assert!(rt; matches!(heads, Ok(200..1500)), "{heads:?}");
+    Ok(())
+}
