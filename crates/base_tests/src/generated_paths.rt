@@ -65,7 +65,7 @@ const BUILDS: [&str; 20] = [
 
 const SIDES: [&str; 8] = ["", "", "", "", ".sha1", ".md5", ".sha256", ".md5.sha1"];
 
-/// Choices that look random: a scrambled seed, used up digit by digit.
+/// Choices that look random: a seed that is scrambled at each choice.
 #[derive(Drop)]
 struct Choices(u64);
 

@@ -3,7 +3,7 @@ use outside::{Failed, ReaderSource, Sink, WriterSink, read_full, write_all};
 use std::io;
 use std::io::{ErrorKind, Read, Write};
 
-/// A reader that a signal interrupts at first, and that then has one byte.
+/// A reader that a signal interrupts at first, and that then gives `x` at each read.
 #[derive(Drop)]
 struct Interrupted {
     times: u8,

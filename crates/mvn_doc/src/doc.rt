@@ -91,7 +91,7 @@ fn nothing(alloc: Global, listing: &Listing) -> Result<Listing, NoMemory>
     }
 }
 
-/// What a document lists with what another one of the same kind does.
+/// What a document lists with what another one of the same kind does; one of the other kind adds nothing.
 fn joined(alloc: Global, listing: Listing, other: &Listing) -> Result<Listing, NoMemory>
     ensures { IfOk result (λ l. l ≡ joined listing other.now) }
 {
@@ -159,7 +159,7 @@ impl Doc {
         &self.listing
     }
 
-    /// The documents' coordinates, and nothing listed.
+    /// The document's coordinates, and nothing listed.
     pub(crate) fn blank(&self, alloc: Global) -> Result<Doc, NoMemory>
         ensures { IfOk result (λ d. d ≡ record self.now { listing = nothing self.now.listing }) }
     {

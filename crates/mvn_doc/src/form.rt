@@ -89,7 +89,7 @@ pub(crate) fn is_base(alloc: Global, base: &str) -> Result<bool, NoMemory>
     Ok(is_base_version(version.as_str()))
 }
 
-// A build of the program always is one.
+// A build of the program always is one: what its stamp and its number say brings the facts.
 fn is_build(held: &Held) -> bool
     ensures { result ≡ spec.is_build held.now.build }
 {

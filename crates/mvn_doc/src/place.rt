@@ -149,7 +149,7 @@ impl<'a> Placed<'a> {
     }
 }
 
-/// The innermost of the elements that are open.
+/// The place of the innermost open element; `Outside` where none is open.
 fn innermost(around: &[Place]) -> Place
     ensures { result ≡ spec.innermost around.now }
 {

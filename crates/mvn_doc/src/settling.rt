@@ -10,7 +10,8 @@ use std::alloc::Global;
 use texts::{Bytes, Text};
 
 /// The document as that of a directory (Maven repository metadata 1.1.0): group, artifact and base version are the
-/// directory's. In a snapshot directory the entries of its version stay, else the versions and when they changed.
+/// directory's. In a snapshot directory the newest build and the entries of its version stay, else the versions and when
+/// they changed.
 pub fn settle(alloc: Global, doc: Doc, dir: &Dir<'_>) -> Result<Doc, NoMemory>
     ensures { IfOk result (λ d. d ≡ settled doc dir.now) }
 {

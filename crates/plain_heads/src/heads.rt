@@ -160,6 +160,7 @@ impl Parts {
         Ok(Parts {
             method: Bytes::new(alloc, before(b' ', line))?,
             target: Bytes::new(alloc, before(b' ', target))?,
+            // `HTTP/1.` has 7 bytes.
             minor: byte_at(after(b' ', target), 7).saturating_sub(b'0'),
             line_end: end_of(line),
             fields: field_lines(alloc, &lines)?,

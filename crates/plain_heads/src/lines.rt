@@ -118,7 +118,7 @@ pub fn after(byte: u8, bytes: &[u8]) -> &[u8]
     }
 }
 
-/// How a line ends: a CR before its LF belongs to the end.
+/// How a line ends: with CR LF where a CR stands anywhere in it. A CR elsewhere makes the printed head differ.
 pub fn end_of(line: &[u8]) -> LineEnd
     ensures { shown_end result ≡ end_of line.now }
 {

@@ -76,7 +76,7 @@ pub fn empty_hosted(alloc: Global, policies: &[Policy]) -> Result<Vec<Hosted>, A
     Ok(hosted)
 }
 
-/// The place of the repository of an id, and what stands there.
+/// The place of the repository of an id.
 fn place_of(hosted: &[Hosted], id: &str) -> Option<usize>
     ensures bound { IfSome result (λ place. place < length hosted.now) }
     ensures rows { IfSome result (λ place. (here : state.Hosted) →

@@ -125,7 +125,7 @@ impl Row {
         &self.blob
     }
 
-    /// Whether it is visible.
+    /// Its phase: visible, or unlisted since a moment.
     pub fn phase(&self) -> Phase
         ensures { shown_phase result ≡ self.now.phase }
     {

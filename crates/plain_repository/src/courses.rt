@@ -37,7 +37,7 @@ fn repository(alloc: Global) -> Result<Text, AllocError>
     Text::new(alloc, REPOSITORY)
 }
 
-/// The last request of a connection closes it.
+/// Where the request or a body that was not read asks for it, the stream ends as `Closed`.
 fn end_of(close: bool) -> Option<End>
     ensures { result ≡ end_of close }
 {

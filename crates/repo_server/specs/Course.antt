@@ -28,7 +28,7 @@ pub data Course : Type 0 where
   -- nothing more is written; then the stream ends so, or goes on
   stops : Option End → Course
 
--- the last request of a connection closes it
+-- where the request or a body that was not read asks for it, the stream ends as `Closed`
 abbrev pub end_of : Bool → Option End
 end_of close = if close then Some stream.Closed else None
 

@@ -41,7 +41,7 @@ const ENDS: [&[u8]; 10] = [
 
 const EMPTY: [&[u8]; 4] = [b"\n", b"\r\n", b"", b"\r"];
 
-/// Choices that look random: a scrambled seed, used up digit by digit.
+/// Choices that look random: a seed that is scrambled at each choice.
 #[derive(Drop)]
 struct Choices(u64);
 

@@ -123,7 +123,7 @@ fn has_only(text: &[u8], bytes: &[u8]) -> bool {
     true
 }
 
-// Whether each byte is this mark, or is no control character and not below another byte.
+// Whether each byte is `mark`, or neither below `from` nor 127.
 fn is_visible(text: &[u8], mark: u8, from: u8) -> bool {
     for b in text {
         if *b != mark && (*b < from || *b == 127) {
