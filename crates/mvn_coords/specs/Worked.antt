@@ -1,9 +1,9 @@
 -- Paths with their kinds, written out (Maven 2 repository layout).
-use Rattle.std.specs.Prelude.{◌≡◌, ℕ, Bool, true, false, List, Option, Some, None, Result, Ok, Err, codes}
+use Rattle.std.specs.Prelude.{◌≡◌, Some, None, Ok, Err, codes}
 use Rattle.mvn_coords.specs.declared.fault.PathFault.TheVariants.{Empty, BadSegment, BadSide, Short, NotNamed, LiteralSnapshot, BadStamp, BadBuild}
 use Rattle.mvn_coords.specs.declared.fault.Side.TheVariants.{Sha1}
 use Rattle.mvn_coords.specs.declared.kind.Kind.TheVariants.{File, FileSide, Doc}
-use Rattle.mvn_coords.specs.Layout.{Coordinates, Directory, directory}
+use Rattle.mvn_coords.specs.Layout.{Coordinates, directory}
 use Rattle.mvn_coords.specs.Kind.{kind}
 
 -- the jar of org.acme:lib:1.0, and one of a snapshot

@@ -1,3 +1,4 @@
+//! Builds of a snapshot: a timestamp and a number.
 ghost use Rattle.std.specs.Prelude.{◌≡◌, Some, None, if◌then◌else◌, IsTrue, IfSome};
 ghost use Rattle.mvn_coords.specs.FileName.{number_of, is_build_number};
 

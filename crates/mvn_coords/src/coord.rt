@@ -1,3 +1,4 @@
+//! The coordinates of a file, and the directory of a document.
 ghost use Rattle.std.specs.Prelude.{◌≡◌, is_some};
 ghost use Rattle.std.specs.Option.{option_copied};
 

@@ -18,7 +18,9 @@ pub use coord::{Coord, Dir};
 pub use fault::{PathFault, Side};
 pub use kind::Kind;
 pub use read::{exact_paths, kind_of, path_of, worked_paths};
-pub use segment::{is_artifact, is_group_segment, is_segment, is_version_directory};
+pub use segment::{
+    are_path_bytes, is_artifact, is_group_segment, is_path_byte, is_segment, is_version_directory,
+};
 pub use stamp::{Stamp, exact_stamps};
 use std::alloc::AllocError;
 

@@ -1,3 +1,4 @@
+//! Which segments may stand in a path, and where.
 ghost use Rattle.std.specs.Prelude.{◌≡◌};
 ghost use Rattle.std.specs.List.{list_all};
 ghost use Rattle.mvn_coords.specs.Segment as spec;
@@ -14,7 +15,8 @@ fn is_artifact_byte(b: u8) -> bool
     is_group_byte(b) || b == b'.'
 }
 
-fn is_path_byte(b: u8) -> bool
+/// Whether a byte may stand in a segment of a path: one of `A-Z a-z 0-9 . _ + -`.
+pub fn is_path_byte(b: u8) -> bool
     ensures { result ≡ spec.is_path_byte b }
 {
     is_artifact_byte(b) || b == b'+'
@@ -31,7 +33,8 @@ pub fn is_segment(text: &str) -> bool
     are_path_bytes(text)
 }
 
-fn are_path_bytes(text: &str) -> bool
+/// Whether each byte may stand in a segment of a path.
+pub fn are_path_bytes(text: &str) -> bool
     ensures { result ≡ list_all spec.is_path_byte text.now }
 {
     text.bytes().all(|b| is_path_byte(b))

@@ -1,3 +1,4 @@
+//! Timestamps: civil times and their text.
 ghost use Rattle.std.specs.Prelude.{◌≡◌, ◌≤◌, ◌+◌, ◌%◌, ◌^◌, ◌<◌, pos, ◌≤ℤ◌, length, IsTrue};
 ghost use Rattle.mvn_coords.specs.Civil as spec;
 ghost use Rattle.mvn_coords.specs.Civil.{IsExactText};

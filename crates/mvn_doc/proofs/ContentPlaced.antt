@@ -10,7 +10,7 @@ use Rattle.xml_subset.specs.Element.{Element}
 use Rattle.xml_subset.proofs.Parsing.{read_is_written, written_is_read}
 use Rattle.mvn_doc.specs.declared.place.Place.{Place}
 use Rattle.mvn_doc.specs.declared.place.Place.TheVariants.{Outside}
-use Rattle.mvn_doc.specs.Document.{Document}
+use Rattle.mvn_metadata.specs.Document.{Document}
 use Rattle.mvn_doc.specs.Picked.{document_in}
 use Rattle.mvn_doc.specs.Place.{Placed, below, innermost, placed}
 use Rattle.mvn_doc.specs.Reading.{picked, reading}

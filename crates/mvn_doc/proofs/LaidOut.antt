@@ -3,14 +3,14 @@ use Rattle.std.specs.Prelude.{ℕ, List, [], ◌∷◌, ◌++◌, Option, Some, 
 use Rattle.std.specs.Option.{option_map}
 use Rattle.mvn_coords.specs.Civil.{CivilTime, text_of_time}
 use Rattle.mvn_coords.specs.FileName.{BuildOf}
-use Rattle.mvn_doc.specs.declared.listing.Listing.{Listing}
-use Rattle.mvn_doc.specs.declared.listing.Listing.TheVariants.{Artifact, Snapshot}
+use Rattle.mvn_metadata.specs.declared.listing.Listing.{Listing}
+use Rattle.mvn_metadata.specs.declared.listing.Listing.TheVariants.{Artifact, Snapshot}
 use Rattle.mvn_doc.specs.declared.place.Place.{Place}
 use Rattle.mvn_doc.specs.declared.place.Place.TheVariants.{Metadata}
-use Rattle.mvn_doc.specs.Document.{Document}
-use Rattle.mvn_doc.specs.Merge.{Entry}
+use Rattle.mvn_metadata.specs.Document.{Document, latest, release}
+use Rattle.mvn_metadata.specs.Merge.{Entry}
 use Rattle.mvn_doc.specs.Place.{Placed, below}
-use Rattle.mvn_doc.specs.Written.{block, build_version, element, latest, moment_text, number_text, release}
+use Rattle.mvn_doc.specs.Written.{block, build_version, element, moment_text, number_text}
 
 pub data Lines : Type 0 where
   NoLines : Lines

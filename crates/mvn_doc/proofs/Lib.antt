@@ -1,10 +1,4 @@
-pub mod Bools
-pub mod FormLemmas
-pub mod MergeLemmas
 pub mod TextLemmas
-pub mod Directories
-pub mod MergeLaws
-pub mod DocumentLaws
 pub mod Utf8Lemmas
 pub mod LaidOut
 pub mod PickedForm

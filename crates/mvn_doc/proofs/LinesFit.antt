@@ -6,14 +6,14 @@ use Rattle.std.specs.Option.{option_map}
 use Rattle.mvn_coords.specs.Civil.{CivilTime, is_civil, text_of_time}
 use Rattle.mvn_coords.specs.FileName.{BuildOf, is_build_number}
 use Rattle.xml_subset.specs.Spelling.{is_name}
-use Rattle.mvn_doc.specs.declared.listing.Listing.{Listing}
-use Rattle.mvn_doc.specs.declared.listing.Listing.TheVariants.{Artifact, Snapshot}
-use Rattle.mvn_doc.specs.Document.{Document}
-use Rattle.mvn_doc.specs.Form.{is_artifact_name, is_base_version, is_build, is_classifier, is_document, is_entry, is_extension, is_fit, is_group, is_listing, is_version}
-use Rattle.mvn_doc.specs.Merge.{Entry}
-use Rattle.mvn_doc.specs.Written.{build_version, latest, moment_text, number_text, release}
-use Rattle.mvn_doc.proofs.Bools.{both, first, second, list_all_weaker}
-use Rattle.mvn_doc.proofs.FormLemmas.{builds_parts, listing_of, versions_parts}
+use Rattle.mvn_metadata.specs.declared.listing.Listing.{Listing}
+use Rattle.mvn_metadata.specs.declared.listing.Listing.TheVariants.{Artifact, Snapshot}
+use Rattle.mvn_metadata.specs.Document.{Document, latest, release}
+use Rattle.mvn_metadata.specs.Form.{is_artifact_name, is_base_version, is_build, is_classifier, is_document, is_entry, is_extension, is_fit, is_group, is_listing, is_version}
+use Rattle.mvn_metadata.specs.Merge.{Entry}
+use Rattle.mvn_doc.specs.Written.{build_version, moment_text, number_text}
+use Rattle.mvn_metadata.proofs.Bools.{both, first, second, list_all_weaker}
+use Rattle.mvn_metadata.proofs.FormLemmas.{builds_parts, listing_of, versions_parts}
 use Rattle.mvn_doc.proofs.LaidOut.{Lines, NoLines, Line, Block, artifact_inside, classifier_if, each_entry, each_version, entries_block, entry_inside, line_if, lines_of, listing_inside, newest_block, snapshot_inside, versions_block}
 use Rattle.mvn_doc.proofs.LinesOutlined.{are_lines, is_line_value}
 use Rattle.mvn_doc.proofs.LineValues.{artifact_value, base_value, build_value, classifier_value, extension_value, group_value, latest_fits, moment_value, number_value, release_fits, time_value, version_value}

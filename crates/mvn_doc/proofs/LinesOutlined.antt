@@ -12,7 +12,7 @@ use Rattle.xml_subset.specs.Cut.{begins, is_white, trimmed, without_white}
 use Rattle.xml_subset.specs.Element.{Element}
 use Rattle.xml_subset.specs.Spelling.{is_name, is_plain}
 use Rattle.xml_subset.specs.Token.{is_text_byte}
-use Rattle.mvn_doc.proofs.Bools.{both, first, second, list_all_weaker}
+use Rattle.mvn_metadata.proofs.Bools.{both, first, second, list_all_weaker}
 use Rattle.mvn_doc.proofs.LaidOut.{Lines, NoLines, Line, Block}
 use Rattle.mvn_doc.proofs.LinesContent.{content}
 

@@ -8,15 +8,15 @@ use Rattle.mvn_coords.specs.Civil.{CivilTime, decimal, fields_of, if_civil, is_c
 use Rattle.mvn_coords.specs.FileName.{BuildOf, is_build_number, number_of}
 use Rattle.mvn_coords.proofs.Digits.{decimal_below}
 use Rattle.mvn_coords.proofs.Names.{number_range}
-use Rattle.mvn_doc.specs.declared.listing.Listing.TheVariants.{Artifact, Snapshot}
-use Rattle.mvn_doc.specs.declared.pair.Held.{Held}
+use Rattle.mvn_metadata.specs.declared.listing.Listing.TheVariants.{Artifact, Snapshot}
+use Rattle.mvn_metadata.specs.declared.pair.SnapshotBuild.{SnapshotBuild}
 use Rattle.mvn_doc.specs.declared.place.Place.TheVariants.{ArtifactId, BaseVersion, BuildNumber, Classifier, Extension, GroupId, LastUpdated, Timestamp, Value}
-use Rattle.mvn_doc.specs.Form.{is_artifact_name, is_base_version, is_build, is_classifier, is_document, is_entry, is_extension, is_fit, is_group, is_listing}
-use Rattle.mvn_doc.specs.Merge.{Entry}
-use Rattle.mvn_doc.specs.Picked.{artifact_in, base_in, build_by, build_in, build_value, entry_by, entry_in, first_at, fitting, group_in, held_behind, held_by, held_of, last_cut, moment_in, moment_of}
+use Rattle.mvn_metadata.specs.Form.{is_artifact_name, is_base_version, is_build, is_classifier, is_document, is_entry, is_extension, is_fit, is_group, is_listing}
+use Rattle.mvn_metadata.specs.Merge.{Entry}
+use Rattle.mvn_doc.specs.Picked.{artifact_in, base_in, build_by, build_in, build_value, entry_by, entry_in, first_at, fitting, group_in, snapshot_build_behind, snapshot_build_by, snapshot_build_of, last_cut, moment_in, moment_of}
 use Rattle.mvn_doc.specs.Place.{Placed}
-use Rattle.mvn_doc.proofs.Bools.{both, first, second}
-use Rattle.mvn_doc.proofs.FormLemmas.{builds_whole, versions_whole}
+use Rattle.mvn_metadata.proofs.Bools.{both, first, second}
+use Rattle.mvn_metadata.proofs.FormLemmas.{builds_whole, versions_whole}
 
 -- what passes the test passes it
 pub fitting_fits : (test : List ℕ → Bool) (bs : List ℕ) → is_fit test (fitting test bs) ≡ true
@@ -95,26 +95,26 @@ build_in_fits ps =
     (fits_behind is_build_number number_of number_fits (first_at BuildNumber ps))
 
 -- ---- entries
-abbrev pub is_held : Held → Bool
-is_held h = is_base_version (h.base ++ codes "-SNAPSHOT") && is_build h.build
+abbrev pub is_snapshot_build : SnapshotBuild → Bool
+is_snapshot_build h = is_base_version (h.base ++ codes "-SNAPSHOT") && is_build h.build
 
-held_of_fits : (base : List ℕ) (b : Option BuildOf) → is_fit is_build b ≡ true → is_fit is_held (held_of base b) ≡ true
-held_of_fits base None h = refl
-held_of_fits base (Some b) h =
+snapshot_build_of_fits : (base : List ℕ) (b : Option BuildOf) → is_fit is_build b ≡ true → is_fit is_snapshot_build (snapshot_build_of base b) ≡ true
+snapshot_build_of_fits base None h = refl
+snapshot_build_of_fits base (Some b) h =
     elim (is_base_version (base ++ codes "-SNAPSHOT")) as
-    (λ t. is_base_version (base ++ codes "-SNAPSHOT") ≡ t → is_fit is_held (if t then Some (record { base = base; build = b }) else None) ≡ true) [
+    (λ t. is_base_version (base ++ codes "-SNAPSHOT") ≡ t → is_fit is_snapshot_build (if t then Some (record { base = base; build = b }) else None) ≡ true) [
       | true ↦ λ e. both (is_base_version (base ++ codes "-SNAPSHOT")) (is_build b) e h
       | false ↦ λ _. refl
     ] refl
 
-value_fits : (text : List ℕ) → is_fit is_held (build_value text) ≡ true
+value_fits : (text : List ℕ) → is_fit is_snapshot_build (build_value text) ≡ true
 value_fits text =
-    fits_behind is_held held_behind (λ cut. fits_behind is_held (held_by (number_of cut.1))
-    (λ inner. held_of_fits inner.0 (build_by (time_of inner.1) (number_of cut.1))
+    fits_behind is_snapshot_build snapshot_build_behind (λ cut. fits_behind is_snapshot_build (snapshot_build_by (number_of cut.1))
+    (λ inner. snapshot_build_of_fits inner.0 (build_by (time_of inner.1) (number_of cut.1))
     (build_fits (time_of inner.1) (number_of cut.1) (time_fits inner.1) (number_fits cut.1)))
     (last_cut cut.0)) (last_cut text)
 
-entry_fits : (c e : Option (List ℕ)) (h : Option Held) → is_fit is_classifier c ≡ true → is_fit is_extension e ≡ true → is_fit is_held h ≡ true → is_fit is_entry (entry_by c e h) ≡ true
+entry_fits : (c e : Option (List ℕ)) (h : Option SnapshotBuild) → is_fit is_classifier c ≡ true → is_fit is_extension e ≡ true → is_fit is_snapshot_build h ≡ true → is_fit is_entry (entry_by c e h) ≡ true
 entry_fits (Some c) (Some e) (Some h) p q r =
     let based = is_base_version (h.base ++ codes "-SNAPSHOT") in
     both (is_classifier c && is_extension e && based) (is_build h.build)
@@ -129,7 +129,7 @@ entry_in_fits ps =
     entry_fits (fitting is_classifier (unwrap_or (first_at Classifier ps) [])) (option_and_then (fitting is_extension) (first_at Extension ps)) (option_and_then build_value (first_at Value ps))
     (fitting_fits is_classifier (unwrap_or (first_at Classifier ps) []))
     (fits_behind is_extension (fitting is_extension) (fitting_fits is_extension) (first_at Extension ps))
-    (fits_behind is_held build_value value_fits (first_at Value ps))
+    (fits_behind is_snapshot_build build_value value_fits (first_at Value ps))
 
 -- ---- the whole before anything is listed
 pub snapshot_form : (ps : List Placed) (g a : Option (List ℕ)) (b : List ℕ) (n : Option BuildOf) (es : List Entry)
@@ -153,6 +153,13 @@ artifact_form ps g a vs t eg ea ev et =
     both (is_fit is_group g && is_fit is_artifact_name a) (is_listing (Artifact vs t))
     (both (is_fit is_group g) (is_fit is_artifact_name a) (ap (is_fit is_group) eg ∙ group_fits ps) (ap (is_fit is_artifact_name) ea ∙ artifact_fits ps))
     (ap (λ ws. is_listing (Artifact ws t)) ev ∙ versions_whole [] t (record { each = refl; rising = refl; updated = ap (is_fit is_civil) et ∙ moment_fits ps }))
+
+pub fitting_none : (test : List ℕ → Bool) (bs : List ℕ) → None ≡ fitting test bs → test bs ≡ false
+fitting_none test bs =
+    elim (test bs) as (λ b. None ≡ (if b then Some bs else None) → b ≡ false) [
+      | true ↦ λ e. absurd cc
+      | false ↦ λ e. refl
+    ]
 
 -- the value that was passed on fits, and is the one that was looked at
 pub fitting_some : (test : List ℕ → Bool) (bs v : List ℕ) → Some v ≡ fitting test bs → (test bs ≡ true) × (v ≡ bs)

@@ -8,22 +8,22 @@ use Rattle.std.proofs.lemmas.Bool.{not-true}
 use Rattle.mvn_coords.specs.Civil.{CivilTime, is_civil, time_of}
 use Rattle.mvn_coords.specs.FileName.{BuildOf, is_build_number, number_of}
 use Rattle.mvn_version.specs.Order.{list_cmp}
-use Rattle.mvn_doc.specs.declared.listing.Listing.{Listing}
-use Rattle.mvn_doc.specs.declared.listing.Listing.TheVariants.{Artifact, Snapshot}
-use Rattle.mvn_doc.specs.declared.pair.Held.{Held}
+use Rattle.mvn_metadata.specs.declared.listing.Listing.{Listing}
+use Rattle.mvn_metadata.specs.declared.listing.Listing.TheVariants.{Artifact, Snapshot}
+use Rattle.mvn_metadata.specs.declared.pair.SnapshotBuild.{SnapshotBuild}
 use Rattle.mvn_doc.specs.declared.place.Place.{Place}
 use Rattle.mvn_doc.specs.declared.place.Place.TheVariants as place
-use Rattle.mvn_doc.specs.Document.{Document, newest_build, with_build, with_version}
-use Rattle.mvn_doc.specs.Form.{is_artifact_name, is_base_version, is_build, is_classifier, is_document, is_entry, is_extension, is_fit, is_group, is_listing, is_reached, is_version}
-use Rattle.mvn_doc.specs.Merge.{Entry, with_entries, with_entry, with_versions}
-use Rattle.mvn_doc.specs.Order.{build_cmp}
+use Rattle.mvn_metadata.specs.Document.{Document, newest_build, with_build, with_version, latest, release}
+use Rattle.mvn_metadata.specs.Form.{is_artifact_name, is_base_version, is_build, is_classifier, is_document, is_entry, is_extension, is_fit, is_group, is_listing, is_reached, is_version}
+use Rattle.mvn_metadata.specs.Merge.{Entry, with_entries, with_entry, with_versions}
+use Rattle.mvn_metadata.specs.Order.{build_cmp}
 use Rattle.mvn_doc.specs.Picked.{artifact_in, base_in, build_by, build_in, build_value, document_in, entries_in, entry_by, entry_in, first_at, fitting, group_in, listing_in, moment_in, moment_of, onto, section, versions_in}
 use Rattle.mvn_doc.specs.Place.{Placed, is_at, place_number}
-use Rattle.mvn_doc.specs.Written.{build_version, latest, moment_text, release}
-use Rattle.mvn_doc.proofs.Bools.{first, second}
-use Rattle.mvn_doc.proofs.FormLemmas.{builds_parts, listing_of, versions_parts}
+use Rattle.mvn_doc.specs.Written.{build_version, moment_text}
+use Rattle.mvn_metadata.proofs.Bools.{first, second}
+use Rattle.mvn_metadata.proofs.FormLemmas.{builds_parts, listing_of, versions_parts}
 use Rattle.mvn_doc.proofs.LaidOut.{Lines, NoLines, Line, Block, artifact_inside, classifier_if, each_entry, each_version, entries_block, entry_inside, line_if, listing_inside, newest_block, placed_lines, placed_of, snapshot_inside, versions_block}
-use Rattle.mvn_doc.proofs.MergeLaws.{with_entries_none, with_versions_none}
+use Rattle.mvn_metadata.proofs.MergeLaws.{with_entries_none, with_versions_none}
 use Rattle.mvn_doc.proofs.PlacedLemmas.{apart, entries_skips, first_skips, found_if, lacks, past_all, past_block, past_front, past_if, section_ends, versions_skips}
 use Rattle.mvn_doc.proofs.ValueLemmas.{build_value_again, entry_parts, moments_again, number_again, time_again}
 
@@ -140,7 +140,7 @@ entry_values : (c x v u : List ℕ) → entry_in (entry_placed c x v u) ≡ entr
 entry_values [] x v u = refl
 entry_values (b ∷ bs) x v u = refl
 
-entry_read : (c x v u : List ℕ) (h : Held) → is_classifier c ≡ true → is_extension x ≡ true → build_value v ≡ Some h → entry_in (entry_placed c x v u) ≡ Some (record { classifier = c; extension = x }, h)
+entry_read : (c x v u : List ℕ) (h : SnapshotBuild) → is_classifier c ≡ true → is_extension x ≡ true → build_value v ≡ Some h → entry_in (entry_placed c x v u) ≡ Some (record { classifier = c; extension = x }, h)
 entry_read c x v u h g k e =
     let classifier = fits is_classifier (Some c) g in
     let extension = fits is_extension (Some x) k in

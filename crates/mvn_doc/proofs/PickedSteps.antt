@@ -3,12 +3,12 @@ use Rattle.std.proofs.Common.{◌≡◌, ℕ, zero, suc, ◌+◌, ◌-◌, ◌<�
 use Rattle.std.specs.Prelude.{if◌then◌else◌}
 use Rattle.std.proofs.Math.Seq.{drop-cons, take-length}
 use Rattle.std.proofs.lemmas.List.{drop_more, length-drop}
-use Rattle.mvn_doc.specs.declared.listing.Listing.{Listing}
+use Rattle.mvn_metadata.specs.declared.listing.Listing.{Listing}
 use Rattle.mvn_doc.specs.declared.place.Place.{Place}
 use Rattle.mvn_doc.specs.declared.place.Place.TheVariants.{SnapshotVersion, Version}
-use Rattle.mvn_doc.specs.Document.{Document, with_build, with_version}
-use Rattle.mvn_doc.specs.Form.{is_version}
-use Rattle.mvn_doc.specs.Merge.{Entry}
+use Rattle.mvn_metadata.specs.Document.{Document, with_build, with_version}
+use Rattle.mvn_metadata.specs.Form.{is_version}
+use Rattle.mvn_metadata.specs.Merge.{Entry}
 use Rattle.mvn_doc.specs.Picked.{cut_onto, entries_in, entry_in, first_at, last_cut, onto, section, versions_in}
 use Rattle.mvn_doc.specs.Place.{Placed, is_at}
 
@@ -33,6 +33,20 @@ versions_onto l p ps =
 pub one_version : (l : Listing) (p : Placed) (v : List ℕ) → is_at p.place Version ≡ true → is_version p.text ≡ true → v ≡ p.text
     → with_version l v ≡ fold with_version l (versions_in (p ∷ []))
 one_version l p v here fits e = ap (with_version l) e ∙ sym (rw (here, fits) refl)
+
+-- the version of one element, and then those of the ones that follow
+pub version_step : (d e : Document) (p : Placed) (ps : List Placed)
+    → e ≡ record d { listing = fold with_version d.listing (versions_in (p ∷ [])) }
+    → record e { listing = fold with_version e.listing (versions_in ps) } ≡ record d { listing = fold with_version d.listing (versions_in (p ∷ ps)) }
+version_step d e p ps made =
+    ap (λ (f : Document). record f { listing = fold with_version f.listing (versions_in ps) }) made
+    ∙ ap (λ l. record d { listing = l }) (versions_onto d.listing p ps)
+
+pub no_version : (p : Placed) → is_at p.place Version ≡ false → versions_in (p ∷ []) ≡ []
+no_version p there = rw there refl
+
+pub misfit : (p : Placed) → is_at p.place Version ≡ true → is_version p.text ≡ false → versions_in (p ∷ []) ≡ []
+misfit p here fits = rw (here, fits) refl
 
 -- ---- entries
 pub entries_onto : (l : Listing) (e : Option Entry) (es : List Entry)

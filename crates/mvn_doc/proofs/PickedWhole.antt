@@ -4,17 +4,17 @@ use Rattle.std.specs.Prelude.{codes, if◌then◌else◌}
 use Rattle.std.specs.List.{list_all}
 use Rattle.xml_subset.specs.Document.{outline}
 use Rattle.xml_subset.specs.Element.{Element}
-use Rattle.mvn_doc.specs.declared.listing.Listing.{Listing}
-use Rattle.mvn_doc.specs.declared.listing.Listing.TheVariants.{Artifact, Snapshot}
+use Rattle.mvn_metadata.specs.declared.listing.Listing.{Listing}
+use Rattle.mvn_metadata.specs.declared.listing.Listing.TheVariants.{Artifact, Snapshot}
 use Rattle.mvn_doc.specs.declared.place.Place.TheVariants.{SnapshotVersion, Version}
-use Rattle.mvn_doc.specs.Document.{Document, with_build, with_version}
-use Rattle.mvn_doc.specs.Form.{is_document, is_entry, is_fit, is_listing, is_version}
-use Rattle.mvn_doc.specs.Merge.{Entry}
+use Rattle.mvn_metadata.specs.Document.{Document, with_build, with_version}
+use Rattle.mvn_metadata.specs.Form.{is_document, is_entry, is_fit, is_listing, is_version}
+use Rattle.mvn_metadata.specs.Merge.{Entry}
 use Rattle.mvn_doc.specs.Picked.{artifact_in, base_in, build_in, document_in, entries_in, entry_in, group_in, listing_in, moment_in, onto, section, versions_in}
 use Rattle.mvn_doc.specs.Place.{Placed, is_at, placed}
 use Rattle.mvn_doc.specs.Reading.{picked, reading}
-use Rattle.mvn_doc.proofs.Bools.{both, first, second}
-use Rattle.mvn_doc.proofs.FormLemmas.{is_document-listing, is_listing-with_build, is_listing-with_version, listing_of}
+use Rattle.mvn_metadata.proofs.Bools.{both, first, second}
+use Rattle.mvn_metadata.proofs.FormLemmas.{is_document-listing, is_listing-with_build, is_listing-with_version, listing_of}
 use Rattle.mvn_doc.proofs.PickedForm.{artifact_form, entry_in_fits, snapshot_form}
 
 -- ---- what is listed one after another keeps the form

@@ -7,11 +7,11 @@ use Rattle.std.proofs.lemmas.List.Folds.{list_all-append}
 use Rattle.std.proofs.lemmas.List.Sums.{take_while-cons}
 use Rattle.mvn_doc.specs.declared.place.Place.{Place}
 use Rattle.mvn_doc.specs.declared.place.Place.TheVariants.{Outside, Metadata, GroupId, ArtifactId, BaseVersion, Versioning, LastUpdated, Versions, Version, Snapshot, Timestamp, BuildNumber, SnapshotVersions, SnapshotVersion, Classifier, Extension, Value, Other}
-use Rattle.mvn_doc.specs.Document.{Document}
-use Rattle.mvn_doc.specs.Form.{is_version}
+use Rattle.mvn_metadata.specs.Document.{Document}
+use Rattle.mvn_metadata.specs.Form.{is_version}
 use Rattle.mvn_doc.specs.Picked.{entries_in, entry_in, first_at, onto, section, versions_in}
 use Rattle.mvn_doc.specs.Place.{Placed, below, is_at, place_number}
-use Rattle.mvn_doc.proofs.Bools.{both, first, second}
+use Rattle.mvn_metadata.proofs.Bools.{both, first, second}
 use Rattle.mvn_doc.proofs.LaidOut.{Lines, NoLines, Line, Block, line_if, lines_of, listing_inside, placed_lines, placed_of}
 
 -- ---- places get greater from the outside to the inside

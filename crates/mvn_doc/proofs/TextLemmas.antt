@@ -1,7 +1,7 @@
 -- A text that is written piece by piece.
 use Rattle.std.proofs.Common.{◌≡◌, ℕ, Bool, true, false, List, [], ◌∷◌, ◌++◌, refl, sym, ap, ◌∙◌, append_assoc}
 use Rattle.std.specs.List.{flat_map}
-use Rattle.mvn_doc.specs.Merge.{Entry}
+use Rattle.mvn_metadata.specs.Merge.{Entry}
 use Rattle.mvn_doc.specs.Written.{block, close_tag, entries_lines, entry_lines, open_tag, version_line, version_lines}
 use Rattle.std.specs.Prelude.{codes}
 

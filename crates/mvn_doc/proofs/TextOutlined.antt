@@ -9,8 +9,8 @@ use Rattle.xml_subset.specs.Element.{Element}
 use Rattle.xml_subset.specs.Spelling.{is_name, is_plain, is_value, spelled_document}
 use Rattle.xml_subset.proofs.Spelled.{outline-spelled}
 use Rattle.mvn_doc.specs.declared.place.Place.TheVariants.{Metadata}
-use Rattle.mvn_doc.specs.Document.{Document}
-use Rattle.mvn_doc.specs.Form.{is_document}
+use Rattle.mvn_metadata.specs.Document.{Document}
+use Rattle.mvn_metadata.specs.Form.{is_document}
 use Rattle.mvn_doc.specs.Place.{placed}
 use Rattle.mvn_doc.specs.Written.{text}
 use Rattle.mvn_doc.proofs.LaidOut.{Lines, lines_of, placed_lines, placed_of}

@@ -10,12 +10,12 @@ use Rattle.std.proofs.lemmas.Str.{IsUtf8-from_ascii}
 use Rattle.std.proofs.lemmas.Bool.Decides.{nat_tests}
 use Rattle.mvn_coords.specs.FileName.{base_of, number_of}
 use Rattle.mvn_coords.specs.Segment.{is_artifact, is_group_segment, is_path_byte, is_segment, is_version_directory}
-use Rattle.mvn_doc.specs.Form.{is_artifact_name, is_base_version, is_classifier, is_classifier_byte, is_extension, is_version}
+use Rattle.mvn_metadata.specs.Form.{is_artifact_name, is_base_version, is_classifier, is_classifier_byte, is_extension, is_version}
 use Rattle.std.specs.Prelude.{zero, suc, slice_index, nat_eq, nat_lt, nat_le, not, bytes_eq, codes, Some, None, if◌then◌else◌, is_some, ◌==◌}
 use Rattle.std.proofs.Common.{lit<}
 use Rattle.std.specs.Char.{is_ascii_digit}
 use Rattle.mvn_doc.specs.Picked.{fitting}
-use Rattle.mvn_doc.proofs.Bools.{first, second, list_all_weaker}
+use Rattle.mvn_metadata.proofs.Bools.{first, second, list_all_weaker}
 
 path_byte_small : (b : ℕ) → is_path_byte b ≡ true → b < 128
 path_byte_small b h = grind (arith, nat_tests)

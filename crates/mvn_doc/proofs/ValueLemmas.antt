@@ -10,12 +10,12 @@ use Rattle.mvn_coords.specs.FileName.{is_build_number, number_of}
 use Rattle.mvn_coords.specs.Layout.{without_zeros}
 use Rattle.mvn_coords.proofs.Digits.{decimal-digits, length-digits}
 use Rattle.mvn_coords.proofs.StampLaws.{exact_text}
-use Rattle.mvn_doc.specs.declared.pair.Held.{Held}
-use Rattle.mvn_doc.specs.Form.{is_base_version, is_build, is_entry, is_classifier, is_extension, is_fit}
-use Rattle.mvn_doc.specs.Merge.{Entry}
-use Rattle.mvn_doc.specs.Picked.{build_by, build_value, cut_onto, held_behind, held_by, held_of, last_cut, moment_of}
+use Rattle.mvn_metadata.specs.declared.pair.SnapshotBuild.{SnapshotBuild}
+use Rattle.mvn_metadata.specs.Form.{is_base_version, is_build, is_entry, is_classifier, is_extension, is_fit}
+use Rattle.mvn_metadata.specs.Merge.{Entry}
+use Rattle.mvn_doc.specs.Picked.{build_by, build_value, cut_onto, snapshot_build_behind, snapshot_build_by, snapshot_build_of, last_cut, moment_of}
 use Rattle.mvn_doc.specs.Written.{build_version, moment_text, number_text}
-use Rattle.mvn_doc.proofs.Bools.{both, first, second}
+use Rattle.mvn_metadata.proofs.Bools.{both, first, second}
 
 -- ---- digits
 each_digit : (p : ℕ → Bool) → ((x : ℕ) → p (48 + x % 10) ≡ true) → (n x : ℕ) → list_all p (digits n x) ≡ true
@@ -139,12 +139,12 @@ number_no_dash n = all_without_zeros no_dash (digits 9 n) (each_digit no_dash di
 value_from : (base time number : List ℕ) (stamp : CivilTime) (n : ℕ) → list_all no_dash time ≡ true → list_all no_dash number ≡ true → time_of time ≡ Some stamp → number_of number ≡ Some n → is_base_version (base ++ codes "-SNAPSHOT") ≡ true
     → build_value (base ++ 45 ∷ (time ++ 45 ∷ number)) ≡ Some (record { base = base; build = record { stamp = stamp; number = n } })
 value_from base time number stamp n plain_time plain_number stamped numbered fits =
-    let held : Held = record { base = base; build = record { stamp = stamp; number = n } } in
+    let snapshot : SnapshotBuild = record { base = base; build = record { stamp = stamp; number = n } } in
     ap build_value (sym (append_assoc base (45 ∷ time) (45 ∷ number)))
-    ∙ ap (option_and_then held_behind) (cut_there (base ++ 45 ∷ time) number plain_number)
-    ∙ ap (option_and_then (held_by (number_of number))) (cut_there base time plain_time)
-    ∙ (λ i. held_of base (build_by (stamped i) (numbered i)))
-    ∙ ap (λ b. cond b (Some held) None) fits
+    ∙ ap (option_and_then snapshot_build_behind) (cut_there (base ++ 45 ∷ time) number plain_number)
+    ∙ ap (option_and_then (snapshot_build_by (number_of number))) (cut_there base time plain_time)
+    ∙ (λ i. snapshot_build_of base (build_by (stamped i) (numbered i)))
+    ∙ ap (λ b. cond b (Some snapshot) None) fits
 
 -- the parts of the form of an entry
 pub record IsOfEntry (e : Entry) : Type 0 where

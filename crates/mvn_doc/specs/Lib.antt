@@ -1,10 +1,6 @@
-pub mod Order
-pub mod Merge
-pub mod Document
-pub mod Form
-pub mod Written
 pub mod Place
+pub mod Written
 pub mod Picked
 pub mod Reading
-pub mod Worked
 pub mod Tree
+pub mod Worked

@@ -3,14 +3,14 @@ use Rattle.std.specs.Prelude.{ℕ, Bool, not, ◌&&◌, ◌==◌, List, [], ◌�
 use Rattle.std.specs.Option.{option_map}
 use Rattle.mvn_coords.specs.Civil.{CivilTime, time_of}
 use Rattle.mvn_coords.specs.FileName.{BuildOf, number_of}
-use Rattle.mvn_doc.specs.declared.listing.Listing.{Listing}
-use Rattle.mvn_doc.specs.declared.listing.Listing.TheVariants as listing
-use Rattle.mvn_doc.specs.declared.pair.Held.{Held}
+use Rattle.mvn_metadata.specs.declared.listing.Listing.{Listing}
+use Rattle.mvn_metadata.specs.declared.listing.Listing.TheVariants as listing
+use Rattle.mvn_metadata.specs.declared.pair.SnapshotBuild.{SnapshotBuild}
 use Rattle.mvn_doc.specs.declared.place.Place.{Place}
 use Rattle.mvn_doc.specs.declared.place.Place.TheVariants.{GroupId, ArtifactId, BaseVersion, LastUpdated, Version, Timestamp, BuildNumber, SnapshotVersion, Classifier, Extension, Value}
-use Rattle.mvn_doc.specs.Document.{Document, with_version, with_build}
-use Rattle.mvn_doc.specs.Form.{is_group, is_artifact_name, is_version, is_base_version, is_classifier, is_extension}
-use Rattle.mvn_doc.specs.Merge.{Entry}
+use Rattle.mvn_metadata.specs.Document.{Document, with_version, with_build}
+use Rattle.mvn_metadata.specs.Form.{is_group, is_artifact_name, is_version, is_base_version, is_classifier, is_extension}
+use Rattle.mvn_metadata.specs.Merge.{Entry}
 use Rattle.mvn_doc.specs.Place.{Placed, is_at}
 
 abbrev pub fitting : (List ℕ → Bool) → List ℕ → Option (List ℕ)
@@ -59,31 +59,31 @@ last_cut [] = None
 last_cut (b ∷ bs) = cut_onto b bs (last_cut bs)
 
 -- the version of a build, X-timestamp-number: X, where X-SNAPSHOT is a version directory, and the build
-abbrev pub held_of : List ℕ → Option BuildOf → Option Held
-held_of base None = None
-held_of base (Some build) =
+abbrev pub snapshot_build_of : List ℕ → Option BuildOf → Option SnapshotBuild
+snapshot_build_of base None = None
+snapshot_build_of base (Some build) =
     if is_base_version (base ++ codes "-SNAPSHOT") then Some (record { base = base; build = build }) else None
 
-abbrev pub held_by : Option ℕ → List ℕ × List ℕ → Option Held
-held_by number cut = held_of cut.0 (build_by (time_of cut.1) number)
+abbrev pub snapshot_build_by : Option ℕ → List ℕ × List ℕ → Option SnapshotBuild
+snapshot_build_by number cut = snapshot_build_of cut.0 (build_by (time_of cut.1) number)
 
-abbrev pub held_behind : List ℕ × List ℕ → Option Held
-held_behind cut = option_and_then (held_by (number_of cut.1)) (last_cut cut.0)
+abbrev pub snapshot_build_behind : List ℕ × List ℕ → Option SnapshotBuild
+snapshot_build_behind cut = option_and_then (snapshot_build_by (number_of cut.1)) (last_cut cut.0)
 
-abbrev pub build_value : List ℕ → Option Held
-build_value text = option_and_then held_behind (last_cut text)
+abbrev pub build_value : List ℕ → Option SnapshotBuild
+build_value text = option_and_then snapshot_build_behind (last_cut text)
 
 -- what stands behind a `snapshotVersion`, up to the next one: of these, what has a place in a `snapshotVersion` stands inside this one
 abbrev pub section : List Placed → List Placed
 section ps = take_while (λ p. not (is_at p.place SnapshotVersion)) ps
 
 -- an entry, where classifier, extension and value fit; without an element the classifier is empty
-abbrev pub entry_by : Option (List ℕ) → Option (List ℕ) → Option Held → Option Entry
-entry_by (Some classifier) (Some extension) (Some held) =
-    Some (record { classifier = classifier; extension = extension }, held)
+abbrev pub entry_by : Option (List ℕ) → Option (List ℕ) → Option SnapshotBuild → Option Entry
+entry_by (Some classifier) (Some extension) (Some snapshot) =
+    Some (record { classifier = classifier; extension = extension }, snapshot)
 entry_by (Some classifier) (Some extension) None = None
-entry_by (Some classifier) None held = None
-entry_by None extension held = None
+entry_by (Some classifier) None snapshot = None
+entry_by None extension snapshot = None
 
 abbrev pub entry_in : List Placed → Option Entry
 entry_in ps =

@@ -6,7 +6,7 @@ use Rattle.xml_subset.specs.declared.document.XmlFault.{XmlFault}
 use Rattle.xml_subset.specs.declared.document.XmlFault.TheVariants as xml
 use Rattle.mvn_doc.specs.declared.reading.DocFault.{DocFault}
 use Rattle.mvn_doc.specs.declared.reading.DocFault.TheVariants.{BadDocument, NoMemory}
-use Rattle.mvn_doc.specs.Document.{Document}
+use Rattle.mvn_metadata.specs.Document.{Document}
 use Rattle.mvn_doc.specs.Picked.{document_in}
 use Rattle.mvn_doc.specs.Place.{placed}
 

@@ -2,8 +2,8 @@
 use Rattle.std.specs.Prelude.{ℕ, List, [], ◌∷◌, ◌++◌, Some, None, codes}
 use Rattle.mvn_coords.specs.Civil.{CivilTime}
 use Rattle.mvn_coords.specs.Layout.{Directory}
-use Rattle.mvn_doc.specs.declared.listing.Listing.TheVariants.{Artifact, Snapshot}
-use Rattle.mvn_doc.specs.Document.{Document}
+use Rattle.mvn_metadata.specs.declared.listing.Listing.TheVariants.{Artifact, Snapshot}
+use Rattle.mvn_metadata.specs.Document.{Document}
 
 -- a line of text in front of others
 infixr 5 ◌↵◌

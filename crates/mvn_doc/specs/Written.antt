@@ -1,14 +1,14 @@
 -- The one written form of a metadata document (Maven repository metadata 1.1.0; XML 1.0).
-use Rattle.std.specs.Prelude.{ℕ, Bool, List, [], ◌∷◌, ◌++◌, take, drop, fold, Option, Some, None, if◌then◌else◌, nat_eq, codes}
-use Rattle.std.specs.List.{ends_with, flat_map}
+use Rattle.std.specs.Prelude.{ℕ, List, [], ◌∷◌, ◌++◌, take, drop, Option, Some, None, codes}
+use Rattle.std.specs.List.{flat_map}
 use Rattle.std.specs.Option.{option_map}
 use Rattle.mvn_coords.specs.Civil.{CivilTime, text_of_time, digits}
 use Rattle.mvn_coords.specs.FileName.{BuildOf}
 use Rattle.mvn_coords.specs.Layout.{text_of_build, without_zeros}
-use Rattle.mvn_doc.specs.declared.listing.Listing.{Listing}
-use Rattle.mvn_doc.specs.declared.listing.Listing.TheVariants.{Artifact, Snapshot}
-use Rattle.mvn_doc.specs.Document.{Document}
-use Rattle.mvn_doc.specs.Merge.{Entry}
+use Rattle.mvn_metadata.specs.declared.listing.Listing.{Listing}
+use Rattle.mvn_metadata.specs.declared.listing.Listing.TheVariants.{Artifact, Snapshot}
+use Rattle.mvn_metadata.specs.Document.{Document, latest, release}
+use Rattle.mvn_metadata.specs.Merge.{Entry}
 
 -- the tags of an element
 abbrev pub open_tag : List ℕ → List ℕ
@@ -35,16 +35,6 @@ moment_text t = take 8 (text_of_time t) ++ drop 9 (text_of_time t)
 
 abbrev pub number_text : ℕ → List ℕ
 number_text n = without_zeros (digits 9 n)
-
--- the last version, and the last that is no snapshot
-abbrev pub latest : List (List ℕ) → Option (List ℕ)
-latest versions = fold (λ _ v. Some v) None versions
-
-abbrev pub is_snapshot : List ℕ → Bool
-is_snapshot version = ends_with nat_eq version (codes "-SNAPSHOT")
-
-abbrev pub release : List (List ℕ) → Option (List ℕ)
-release versions = fold (λ last v. if is_snapshot v then last else Some v) None versions
 
 abbrev pub version_line : List ℕ → List ℕ
 version_line version = element (codes "      ") (codes "version") version

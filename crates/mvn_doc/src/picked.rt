@@ -1,13 +1,14 @@
 //! The values that elements with their places tell.
 ghost use Rattle.std.specs.Prelude.{◌≡◌, ◌∷◌, [], IfOk, fold, option_and_then};
 ghost use Rattle.std.specs.Option.{option_copied};
-ghost use Rattle.mvn_doc.specs.Document.{with_build, with_version};
+ghost use Rattle.mvn_metadata.specs.Document.{with_build, with_version};
 ghost use Rattle.mvn_doc.specs.Picked as spec;
 ghost use Rattle.mvn_doc.specs.declared.place.Place.TheVariants as place;
 
 use crate::place::{Place, Placed};
-use crate::{Doc, Entries, Held, Listing, NoMemory, Pair, Versions, value};
+use crate::value;
 use mvn_coords::{Build, Stamp};
+use mvn_metadata::{Doc, Entries, Listing, NoMemory, Pair, SnapshotBuild, Versions};
 use mvn_version::Version;
 use std::alloc::Global;
 use texts::{Bytes, Text};
@@ -102,27 +103,36 @@ fn section<'p, 'a>(placed: &'p [Placed<'a>]) -> &'p [Placed<'a>]
 }
 
 /// The entry of a `snapshotVersion`, inside which these elements stand.
-fn entry(alloc: Global, placed: &[Placed<'_>]) -> Result<Option<(Pair, Held)>, NoMemory>
+fn entry(alloc: Global, placed: &[Placed<'_>]) -> Result<Option<(Pair, SnapshotBuild)>, NoMemory>
     ensures { IfOk result (λ e. e ≡ spec.entry_in placed.now) }
 {
     let classifier = value::classifier(first_at(placed, Place::Classifier).unwrap_or(b""));
     let extension = first_at(placed, Place::Extension).and_then(|text| value::extension(text));
-    let held = held(alloc, placed)?;
-    let (Some(classifier), Some(extension), Some(held)) = (classifier, extension, held) else {
+    let (Some(classifier), Some(extension)) = (classifier, extension) else {
         return Ok(None);
     };
-    let pair = Pair {
-        classifier: Text::new(alloc, classifier)?,
-        extension: Text::new(alloc, extension)?,
-    };
-    Ok(Some((pair, held)))
+    match snapshot_build(alloc, placed)? {
+        Some(snapshot) => Ok(Some((pair(alloc, classifier, extension)?, snapshot))),
+        None => Ok(None),
+    }
 }
 
-fn held(alloc: Global, placed: &[Placed<'_>]) -> Result<Option<Held>, NoMemory>
+fn pair(alloc: Global, classifier: &str, extension: &str) -> Result<Pair, NoMemory>
+    ensures { IfOk result (λ p. p ≡ record { classifier = classifier.now; extension = extension.now }) }
+{
+    let classifier = Text::new(alloc, classifier)?;
+    let extension = Text::new(alloc, extension)?;
+    Ok(Pair {
+        classifier,
+        extension,
+    })
+}
+
+fn snapshot_build(alloc: Global, placed: &[Placed<'_>]) -> Result<Option<SnapshotBuild>, NoMemory>
     ensures { IfOk result (λ h. h ≡ option_and_then spec.build_value (spec.first_at place.Value placed.now)) }
 {
     match first_at(placed, Place::Value) {
-        Some(text) => value::held(alloc, text),
+        Some(text) => value::snapshot_build(alloc, text),
         None => Ok(None),
     }
 }
@@ -145,7 +155,7 @@ fn with_entry_in(alloc: Global, doc: Doc, placed: &[Placed<'_>]) -> Result<Doc, 
     ensures { IfOk result (λ d. d ≡ record doc { listing = fold with_build doc.listing (spec.onto (spec.entry_in placed.now) []) }) }
 {
     match entry(alloc, placed)? {
-        Some((pair, held)) => doc.with_build(pair, held),
+        Some((pair, snapshot)) => doc.with_build(pair, snapshot),
         None => Ok(doc),
     }
 }

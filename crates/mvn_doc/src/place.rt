@@ -1,9 +1,9 @@
 //! Where an element stands in a document.
-ghost use Rattle.std.specs.Prelude.{◌≡◌, IfOk, [], map, bytes_eq};
+ghost use Rattle.std.specs.Prelude.{◌≡◌, ◌-◌, ◌++◌, ◌∷◌, IfOk, OnOk, [], map, take, bytes_eq};
 ghost use Rattle.xml_subset.specs.Element.{shown};
 ghost use Rattle.mvn_doc.specs.Place as spec;
 
-use crate::NoMemory;
+use mvn_metadata::NoMemory;
 use std::alloc::Global;
 use std::marker::Model;
 use xml_subset::Element;
@@ -156,6 +156,18 @@ fn innermost(around: &[Place]) -> Place
     around.last().copied().unwrap_or(Place::Outside)
 }
 
+/// The place of an element, which is from here on the innermost open one.
+fn enter(opened: &mut Vec<Place>, depth: usize, name: &[u8]) -> Result<Place, NoMemory>
+    ensures place { IfOk result (λ p. p ≡ spec.below (spec.innermost (take (depth - 1) opened.old.items)) name.now) }
+    ensures opened { OnOk result (opened.new.items ≡ take (depth - 1) opened.old.items
+        ++ spec.below (spec.innermost (take (depth - 1) opened.old.items)) name.now ∷ []) }
+{
+    opened.truncate(depth.saturating_sub(1));
+    let place = innermost(opened.as_slice()).below(name);
+    opened.push(place)?;
+    Ok(place)
+}
+
 /// Elements in document order with their places.
 pub(crate) fn with_places<'a>(
     alloc: Global,
@@ -166,9 +178,7 @@ pub(crate) fn with_places<'a>(
     let mut placed = Vec::new(alloc);
     let mut opened = Vec::new(alloc);
     for element in elements {
-        opened.truncate(element.depth.saturating_sub(1));
-        let place = innermost(opened.as_slice()).below(element.name);
-        opened.push(place)?;
+        let place = enter(&mut opened, element.depth, element.name)?;
         placed.push(Placed {
             place,
             text: element.text.as_slice(),

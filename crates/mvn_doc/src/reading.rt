@@ -1,12 +1,15 @@
 //! Reading a document.
-ghost use Rattle.std.specs.Prelude.{◌≡◌, IfOk, IfErr, Ok};
+ghost use Rattle.std.specs.Prelude.{◌≡◌, IfOk, IfErr, Ok, [], map};
+ghost use Rattle.xml_subset.specs.Element.{shown};
+ghost use Rattle.mvn_doc.specs.Picked.{document_in};
+ghost use Rattle.mvn_doc.specs.Place.{placed};
 ghost use Rattle.mvn_doc.specs.Reading.{IsFaultOf, fault_of, reading};
 
-use crate::Doc;
 use crate::picked::document;
 use crate::place::with_places;
+use mvn_metadata::{Doc, NoMemory};
 use std::alloc::{AllocError, Global};
-use xml_subset::{XmlFault, outline};
+use xml_subset::{Element, XmlFault, outline};
 
 /// Why a document was not read.
 #[derive(Clone, Copy, Debug, PartialEq, Eq)]
@@ -50,6 +53,13 @@ pub fn read(alloc: Global, text: &[u8]) -> Result<Doc, DocFault>
         Ok(elements) => elements,
         Err(fault) => return Err(doc_fault(fault)),
     };
-    let placed = with_places(alloc, elements.as_slice())?;
-    Ok(document(alloc, placed.as_slice())?)
+    Ok(picked(alloc, elements.as_slice())?)
+}
+
+/// The document that elements in document order tell.
+fn picked<'a>(alloc: Global, elements: &'a [Element<'a>]) -> Result<Doc, NoMemory>
+    ensures { IfOk result (λ d. d ≡ document_in (placed [] (map shown elements.now))) }
+{
+    let placed = with_places(alloc, elements)?;
+    document(alloc, placed.as_slice())
 }

@@ -1,16 +1,17 @@
 //! The values of a document: which text fits where.
-ghost use Rattle.std.specs.Prelude.{◌≡◌, ◌&&◌, ◌++◌, ◌∷◌, ◌==◌, MatchOption, IfOk, IfSome, IsTrue, take, drop};
+ghost use Rattle.std.specs.Prelude.{◌≡◌, ◌&&◌, MatchOption, IfOk, IfSome, IsTrue};
 ghost use Rattle.std.specs.Option.{option_copied, option_map};
 ghost use Rattle.std.specs.Str.{IsUtf8};
 ghost use Rattle.mvn_coords.specs.Civil.{time_of};
 ghost use Rattle.mvn_coords.specs.FileName.{is_build_number, number_of};
 ghost use Rattle.mvn_coords.specs.Segment as segment;
-ghost use Rattle.mvn_doc.specs.Form as form;
+ghost use Rattle.mvn_metadata.specs.Form as form;
 ghost use Rattle.mvn_doc.specs.Picked as picked;
 
-use crate::form::{is_base, is_base_version, is_classifier, is_extension, is_version};
-use crate::{Held, NoMemory};
 use mvn_coords::{Build, Stamp, build_number, is_artifact, is_group_segment, is_segment};
+use mvn_metadata::{
+    NoMemory, SnapshotBuild, is_base, is_base_version, is_classifier, is_extension, is_version,
+};
 use std::alloc::Global;
 use std::str;
 use texts::Text;
@@ -153,7 +154,7 @@ fn last_cut(bytes: &[u8]) -> Option<(&[u8], &[u8])>
 }
 
 /// X and the build that the bytes write as `X-timestamp-number`, where X-SNAPSHOT is a version directory.
-pub(crate) fn held(alloc: Global, bytes: &[u8]) -> Result<Option<Held>, NoMemory>
+pub(crate) fn snapshot_build(alloc: Global, bytes: &[u8]) -> Result<Option<SnapshotBuild>, NoMemory>
     ensures { IfOk result (λ h. h ≡ picked.build_value bytes.now) }
 {
     let Some((front, end)) = last_cut(bytes) else {
@@ -169,13 +170,13 @@ pub(crate) fn held(alloc: Global, bytes: &[u8]) -> Result<Option<Held>, NoMemory
 }
 
 /// The build with its base X, where X-SNAPSHOT is a version directory.
-fn based(alloc: Global, base: &[u8], build: Build) -> Result<Option<Held>, NoMemory>
-    ensures { IfOk result (λ h. h ≡ picked.held_of base.now (Some build)) }
+fn based(alloc: Global, base: &[u8], build: Build) -> Result<Option<SnapshotBuild>, NoMemory>
+    ensures { IfOk result (λ h. h ≡ picked.snapshot_build_of base.now (Some build)) }
 {
     match text_of(base) {
         Some(base) if is_base(alloc, base)? => {
             let base = Text::new(alloc, base)?;
-            Ok(Some(Held { base, build }))
+            Ok(Some(SnapshotBuild { base, build }))
         }
         _ => Ok(None),
     }

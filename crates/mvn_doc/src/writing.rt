@@ -6,8 +6,9 @@ ghost use Rattle.mvn_coords.specs.Civil.{digits, text_of_time};
 ghost use Rattle.mvn_coords.specs.Layout.{text_of_build, without_zeros};
 ghost use Rattle.mvn_doc.specs.Written as written;
 
-use crate::{Doc, Entries, Held, Listing, NoMemory, Pair, Versions};
+use crate::sizes::text_size;
 use mvn_coords::{Build, Stamp};
+use mvn_metadata::{Doc, Entries, Listing, NoMemory, Pair, SnapshotBuild, Versions};
 use mvn_version::Version;
 use std::alloc::Global;
 use texts::Text;
@@ -19,22 +20,13 @@ const HEAD: &str =
 pub fn write(alloc: Global, doc: &Doc) -> Result<Vec<u8>, NoMemory>
     ensures { IfOk result (λ v. v.items ≡ written.text doc.now) }
 {
-    let mut out = Vec::with_capacity(alloc, size(doc))?;
+    let mut out = Vec::with_capacity(alloc, text_size(doc))?;
     put(&mut out, HEAD)?;
     bytes_if(&mut out, "  ", "groupId", doc.group())?;
     element_if(&mut out, "  ", "artifactId", doc.artifact())?;
     listing(&mut out, doc.listing())?;
     put(&mut out, "</metadata>\n")?;
     Ok(out)
-}
-
-// About how many bytes the text has: a guess that spares growing.
-fn size(doc: &Doc) -> usize {
-    let lines = match doc.listing() {
-        Listing::Artifact(versions, _) => versions.text_size(),
-        Listing::Snapshot(base, _, entries) => entries.text_size(base.as_str().len()),
-    };
-    lines.saturating_add(1024)
 }
 
 fn put(out: &mut Vec<u8>, text: &str) -> Result<(), NoMemory>
@@ -189,8 +181,7 @@ fn build(out: &mut Vec<u8>, build: Build) -> Result<(), NoMemory>
 {
     timestamp(out, build.stamp())?;
     put(out, "-")?;
-    number(out, build.number())?;
-    Ok(())
+    number(out, build.number())
 }
 
 fn updated(out: &mut Vec<u8>, stamp: Option<Stamp>) -> Result<(), NoMemory>
@@ -224,8 +215,7 @@ fn artifact(out: &mut Vec<u8>, versions: &Versions, last: Option<Stamp>) -> Resu
     element_if(out, "    ", "release", versions.release())?;
     version_lines(out, versions)?;
     updated(out, last)?;
-    close_line(out, "  ", "versioning")?;
-    Ok(())
+    close_line(out, "  ", "versioning")
 }
 
 fn version_lines(out: &mut Vec<u8>, versions: &Versions) -> Result<(), NoMemory>
@@ -236,8 +226,7 @@ fn version_lines(out: &mut Vec<u8>, versions: &Versions) -> Result<(), NoMemory>
     }
     open_line(out, "    ", "versions")?;
     each_version(out, versions)?;
-    close_line(out, "    ", "versions")?;
-    Ok(())
+    close_line(out, "    ", "versions")
 }
 
 fn each_version(out: &mut Vec<u8>, versions: &Versions) -> Result<(), NoMemory>
@@ -263,8 +252,7 @@ fn snapshot(out: &mut Vec<u8>, newest: &Option<Build>, entries: &Entries) -> Res
     newest_lines(out, newest)?;
     updated(out, stamp_of(newest))?;
     entries_lines(out, entries)?;
-    close_line(out, "  ", "versioning")?;
-    Ok(())
+    close_line(out, "  ", "versioning")
 }
 
 fn stamp_of(build: &Option<Build>) -> Option<Stamp>
@@ -285,8 +273,7 @@ fn newest_lines(out: &mut Vec<u8>, newest: &Option<Build>) -> Result<(), NoMemor
     open_line(out, "    ", "snapshot")?;
     stamp_line(out, "      ", "timestamp", build.stamp())?;
     number_line(out, "      ", "buildNumber", build.number())?;
-    close_line(out, "    ", "snapshot")?;
-    Ok(())
+    close_line(out, "    ", "snapshot")
 }
 
 fn timestamp(out: &mut Vec<u8>, stamp: Stamp) -> Result<(), NoMemory>
@@ -323,48 +310,50 @@ fn entries_lines(out: &mut Vec<u8>, entries: &Entries) -> Result<(), NoMemory>
     }
     open_line(out, "    ", "snapshotVersions")?;
     each_entry(out, entries)?;
-    close_line(out, "    ", "snapshotVersions")?;
-    Ok(())
+    close_line(out, "    ", "snapshotVersions")
 }
 
 fn each_entry(out: &mut Vec<u8>, entries: &Entries) -> Result<(), NoMemory>
     ensures { OnOk result (out.new.items ≡ out.old.items ++ flat_map written.entry_lines entries.now) }
 {
-    for (pair, held) in entries.iter() {
-        entry_lines(out, pair, held)?;
+    for (pair, snapshot) in entries.iter() {
+        entry_lines(out, pair, snapshot)?;
     }
     Ok(())
 }
 
-fn entry_lines(out: &mut Vec<u8>, pair: &Pair, held: &Held) -> Result<(), NoMemory>
-    ensures { OnOk result (out.new.items ≡ out.old.items ++ written.entry_lines (pair.now, held.now)) }
+fn entry_lines(out: &mut Vec<u8>, pair: &Pair, snapshot: &SnapshotBuild) -> Result<(), NoMemory>
+    ensures { OnOk result (out.new.items ≡ out.old.items ++ written.entry_lines (pair.now, snapshot.now)) }
 {
     open_line(out, "      ", "snapshotVersion")?;
     classifier(out, &pair.classifier)?;
     element(out, "        ", "extension", pair.extension.as_str())?;
-    value_line(out, "        ", "value", held)?;
-    moment_line(out, "        ", "updated", held.build.stamp())?;
-    close_line(out, "      ", "snapshotVersion")?;
-    Ok(())
+    value_line(out, "        ", "value", snapshot)?;
+    moment_line(out, "        ", "updated", snapshot.build.stamp())?;
+    close_line(out, "      ", "snapshotVersion")
 }
 
 /// The version of a build, on a line of its own.
-fn value_line(out: &mut Vec<u8>, margin: &str, name: &str, held: &Held) -> Result<(), NoMemory>
+fn value_line(
+    out: &mut Vec<u8>,
+    margin: &str,
+    name: &str,
+    snapshot: &SnapshotBuild,
+) -> Result<(), NoMemory>
     ensures { OnOk result (out.new.items ≡ out.old.items
-        ++ written.element margin.now name.now (held.now.base ++ 45 ∷ text_of_build held.now.build)) }
+        ++ written.element margin.now name.now (snapshot.now.base ++ 45 ∷ text_of_build snapshot.now.build)) }
 {
     open_tag(out, margin, name)?;
-    value(out, held)?;
+    value(out, snapshot)?;
     close_tag(out, name)
 }
 
-fn value(out: &mut Vec<u8>, held: &Held) -> Result<(), NoMemory>
-    ensures { OnOk result (out.new.items ≡ out.old.items ++ (held.now.base ++ 45 ∷ text_of_build held.now.build)) }
+fn value(out: &mut Vec<u8>, snapshot: &SnapshotBuild) -> Result<(), NoMemory>
+    ensures { OnOk result (out.new.items ≡ out.old.items ++ (snapshot.now.base ++ 45 ∷ text_of_build snapshot.now.build)) }
 {
-    put(out, held.base.as_str())?;
+    put(out, snapshot.base.as_str())?;
     put(out, "-")?;
-    build(out, held.build)?;
-    Ok(())
+    build(out, snapshot.build)
 }
 
 fn classifier(out: &mut Vec<u8>, classifier: &Text) -> Result<(), NoMemory>

@@ -35,7 +35,7 @@ pub struct Tree<'a> {
 impl<'a> Tree<'a> {
     pub(crate) fn new(alloc: Global) -> Tree<'a>
         ensures elements { result.elements.items ≡ [] }
-        ensures open { result.open.items ≡ [] }
+        ensures none_open { result.open.items ≡ [] }
     {
         Tree {
             alloc,

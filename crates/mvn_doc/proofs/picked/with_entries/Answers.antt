@@ -1,5 +1,5 @@
 use Rattle.std.proofs.Common.{◌+◌, [], List, drop, fold, sym, ap, ◌∙◌, arith}
-use Rattle.mvn_doc.specs.Document.{with_build}
+use Rattle.mvn_metadata.specs.Document.{with_build}
 use Rattle.mvn_doc.specs.Picked.{entries_in, entry_in, onto, section}
 use Rattle.mvn_doc.specs.Place.{Placed}
 use Rattle.mvn_doc.proofs.PickedSteps.{cut_off, entry_step, other_step, taken_rest}

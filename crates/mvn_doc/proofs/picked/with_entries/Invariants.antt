@@ -1,5 +1,5 @@
 use Rattle.std.proofs.Common.{◌≡◌, drop, fold}
-use Rattle.mvn_doc.specs.Document.{with_build}
+use Rattle.mvn_metadata.specs.Document.{with_build}
 use Rattle.mvn_doc.specs.Picked.{entries_in}
 use Rattle.mvn_doc.proofs.picked.with_entries.Given as goal
 

@@ -1,6 +1,6 @@
 use Rattle.std.proofs.Common.{◌≡◌, Option, true, subst, sym, ◌∙◌}
-use Rattle.mvn_doc.specs.Form.{is_entry, is_fit}
-use Rattle.mvn_doc.specs.Merge.{Entry}
+use Rattle.mvn_metadata.specs.Form.{is_entry, is_fit}
+use Rattle.mvn_metadata.specs.Merge.{Entry}
 use Rattle.mvn_doc.proofs.PickedForm.{entry_in_fits}
 use Rattle.mvn_doc.proofs.picked.with_entry_in.Goals as goal
 

@@ -1,5 +1,5 @@
 use Rattle.std.proofs.Common.{◌≡◌, drop, fold}
-use Rattle.mvn_doc.specs.Document.{with_version}
+use Rattle.mvn_metadata.specs.Document.{with_version}
 use Rattle.mvn_doc.specs.Picked.{versions_in}
 use Rattle.mvn_doc.proofs.picked.with_versions.Given as goal
 

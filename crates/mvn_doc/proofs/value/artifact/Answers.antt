@@ -1,6 +1,6 @@
 use Rattle.std.proofs.Common.{ap, sym, ◌∙◌}
 use Rattle.std.specs.Option.{option_copied}
-use Rattle.mvn_doc.specs.Form.{is_artifact_name}
+use Rattle.mvn_metadata.specs.Form.{is_artifact_name}
 use Rattle.mvn_doc.proofs.Utf8Lemmas.{fails, artifact_utf8}
 use Rattle.mvn_doc.proofs.value.artifact.Goals as goal
 

@@ -1,6 +1,6 @@
 use Rattle.std.proofs.Common.{◌≡◌, ◌++◌, false, sym, ap, ◌∙◌, refl}
 use Rattle.std.specs.Prelude.{codes}
-use Rattle.mvn_doc.specs.Form.{is_base_version}
+use Rattle.mvn_metadata.specs.Form.{is_base_version}
 use Rattle.mvn_doc.proofs.Utf8Lemmas.{no_base}
 use Rattle.mvn_doc.proofs.value.based.Goals.{in_default-via-in-Some+in_ok-is_base+else-branch, in_default-via-in_default}
 use Rattle.mvn_doc.proofs.value.based.Goals as goal

@@ -1,5 +1,6 @@
 use Rattle.std.proofs.Common.{◌≡◌, ◌++◌, sym, ap, ◌∙◌}
 use Rattle.std.specs.Prelude.{codes}
+use Rattle.std.proofs.lemmas.Result.{on_ok_weaker}
 use Rattle.mvn_coords.specs.Civil.{text_of_time}
 use Rattle.mvn_doc.specs.Written.{element, newest_lines, number_text}
 use Rattle.mvn_doc.proofs.TextLemmas.{put_two, put_block}
@@ -16,6 +17,8 @@ returns c =
     c.in_ok-stamp_line.ensures ∙ ap (λ t. first ++ element (codes "      ") (codes "timestamp") (text_of_time t)) c.stamp.ensures in
     let numbered : c.number_line.new.out.items ≡ second ++ number =
     c.in_ok-number_line.ensures ∙ ap (λ n. second ++ element (codes "      ") (codes "buildNumber") (number_text n)) c.number.ensures.value in
-    put_block (codes "    ") (codes "snapshot") (stamp ++ number) out first c.number_line.new.out.items c.close_line.new.out.items
-    c.in_ok-open_line.ensures (put_two first second c.number_line.new.out.items stamp number stamped numbered) c.in_ok-close_line.ensures
-    ∙ ap (λ n. out ++ newest_lines n) (sym c.in-Some.is)
+    on_ok_weaker c.close_line.result
+    (λ closed. put_block (codes "    ") (codes "snapshot") (stamp ++ number) out first c.number_line.new.out.items c.close_line.new.out.items
+    c.in_ok-open_line.ensures (put_two first second c.number_line.new.out.items stamp number stamped numbered) closed
+    ∙ ap (λ n. out ++ newest_lines n) (sym c.in-Some.is))
+    c.close_line.ensures

@@ -1,6 +1,0 @@
-use Rattle.std.proofs.Common.{◌≡◌}
-use Rattle.mvn_doc.specs.Merge.{with_entries}
-use Rattle.mvn_doc.proofs.entries.Entries.add_all.Given as goal
-
-abbrev pub invariant-loop-pair : goal.invariant-loop-pair
-invariant-loop-pair l = with_entries l.self l.pair-iterator ≡ with_entries l.fn.self l.fn.entries

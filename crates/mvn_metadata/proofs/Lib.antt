@@ -1,0 +1,6 @@
+pub mod Bools
+pub mod MergeLemmas
+pub mod Directories
+pub mod FormLemmas
+pub mod MergeLaws
+pub mod DocumentLaws

@@ -1,0 +1,282 @@
+//! The document of a directory.
+ghost use Rattle.std.specs.Prelude.{◌≡◌, IfOk, IsTrue};
+ghost use Rattle.std.specs.Option.{option_copied};
+ghost use Rattle.mvn_metadata.specs.Document.{joined, latest_time, merged, newest_build, nothing, with_build, with_update, with_version};
+
+use crate::pair::compare_builds;
+use crate::{Entries, Listing, NoMemory, Pair, SnapshotBuild, Versions};
+use mvn_coords::{Build, Stamp};
+use mvn_version::Version;
+use std::alloc::Global;
+use std::cmp::Ordering;
+use std::marker::Model;
+use texts::{Bytes, Text};
+
+/// The document of a directory, which always keeps its form: versions are distinct and in order, entries have distinct
+/// pairs in order, and no entry is newer than the newest build.
+#[derive(Drop)]
+pub struct Doc {
+    group: Option<Bytes>,
+    artifact: Option<Text>,
+    listing: Listing,
+}
+
+impl Model for Doc {
+    ghost use Rattle.std.specs.Prelude.{IsTrue};
+    ghost use Rattle.mvn_metadata.specs.Document.{Document};
+    ghost use Rattle.mvn_metadata.specs.Form.{is_document};
+
+    ghost Value = { Document };
+
+    ghost view = { λ d. record { group = d.group; artifact = d.artifact; listing = d.listing } };
+
+    ghost invariant = { λ d. IsTrue (is_document (record { group = d.group; artifact = d.artifact; listing = d.listing })) };
+}
+
+fn latest_time(left: Option<Stamp>, right: Option<Stamp>) -> Option<Stamp>
+    ensures { result ≡ latest_time left right }
+{
+    let (Some(time), Some(other)) = (left, right) else {
+        return left.or(right);
+    };
+    Some(if time.cmp(&other) == Ordering::Less {
+        other
+    } else {
+        time
+    })
+}
+
+fn newest_build(left: Option<Build>, right: Option<Build>) -> Option<Build>
+    ensures { result ≡ newest_build left right }
+{
+    let (Some(build), Some(other)) = (left, right) else {
+        return left.or(right);
+    };
+    Some(if compare_builds(build, other) == Ordering::Less {
+        other
+    } else {
+        build
+    })
+}
+
+/// Another copy of a text, if there is one.
+fn copied(alloc: Global, text: &Option<Text>) -> Result<Option<Text>, NoMemory>
+    ensures { IfOk result (λ t. t ≡ text.now) }
+{
+    match text {
+        Some(text) => Ok(Some(text.copied(alloc)?)),
+        None => Ok(None),
+    }
+}
+
+fn copied_bytes(alloc: Global, bytes: &Option<Bytes>) -> Result<Option<Bytes>, NoMemory>
+    ensures { IfOk result (λ t. t ≡ bytes.now) }
+{
+    match bytes {
+        Some(bytes) => Ok(Some(Bytes::new(alloc, bytes.as_slice())?)),
+        None => Ok(None),
+    }
+}
+
+/// Nothing of the same kind.
+fn nothing(alloc: Global, listing: &Listing) -> Result<Listing, NoMemory>
+    ensures { IfOk result (λ l. l ≡ nothing listing.now) }
+{
+    match listing {
+        Listing::Artifact(_, _) => Ok(Listing::Artifact(Versions::new(alloc), None)),
+        Listing::Snapshot(base, _, _) => {
+            let base = base.copied(alloc)?;
+            Ok(Listing::Snapshot(base, None, Entries::new(alloc)))
+        }
+    }
+}
+
+/// What a document lists with what another one of the same kind does; one of the other kind adds nothing.
+fn joined(alloc: Global, listing: Listing, other: &Listing) -> Result<Listing, NoMemory>
+    ensures { IfOk result (λ l. l ≡ joined listing other.now) }
+{
+    match (listing, other) {
+        (Listing::Artifact(mut versions, updated), Listing::Artifact(others, later)) => {
+            versions.add_all(alloc, others)?;
+            Ok(Listing::Artifact(versions, latest_time(updated, *later)))
+        }
+        (Listing::Snapshot(base, newest, mut entries), Listing::Snapshot(_, newer, others)) => {
+            entries.add_all(alloc, others)?;
+            Ok(Listing::Snapshot(base, newest_build(newest, *newer), entries))
+        }
+        (listing, _) => Ok(listing),
+    }
+}
+
+impl Doc {
+    ghost use Rattle.mvn_metadata.specs.Form.{is_document, is_entry, is_listing, is_version};
+
+    /// The document with these parts: the group with `.` between its segments, in ASCII, the artifact, and what is listed.
+    pub fn new(group: Option<Bytes>, artifact: Option<Text>, listing: Listing) -> Doc
+        requires { IsTrue (is_document (record { group = group; artifact = artifact; listing = listing })) }
+        ensures { result ≡ record { group = group; artifact = artifact; listing = listing } }
+    {
+        Doc {
+            group,
+            artifact,
+            listing,
+        }
+    }
+
+    /// What the document lists.
+    pub(crate) fn into_listing(self) -> Listing
+        ensures listing { result ≡ self.listing }
+        ensures form { IsTrue (is_listing result) }
+    {
+        self.listing
+    }
+
+    /// The group with `.` between its segments, in ASCII.
+    pub fn group(&self) -> Option<&[u8]>
+        ensures { option_copied result ≡ self.now.group }
+    {
+        match &self.group {
+            Some(group) => Some(group.as_slice()),
+            None => None,
+        }
+    }
+
+    /// The artifact.
+    pub fn artifact(&self) -> Option<&str>
+        ensures { option_copied result ≡ self.now.artifact }
+    {
+        match &self.artifact {
+            Some(artifact) => Some(artifact.as_str()),
+            None => None,
+        }
+    }
+
+    /// What the document lists.
+    pub fn listing(&self) -> &Listing
+        ensures listing { result.now ≡ self.now.listing }
+        ensures form { IsTrue (is_document self.now) }
+    {
+        &self.listing
+    }
+
+    /// The document's coordinates, and nothing listed.
+    pub(crate) fn blank(&self, alloc: Global) -> Result<Doc, NoMemory>
+        ensures { IfOk result (λ d. d ≡ record self.now { listing = nothing self.now.listing }) }
+    {
+        Ok(Doc {
+            group: copied_bytes(alloc, &self.group)?,
+            artifact: copied(alloc, &self.artifact)?,
+            listing: nothing(alloc, &self.listing)?,
+        })
+    }
+
+    /// The document with what another one lists.
+    pub(crate) fn with(self, alloc: Global, other: &Doc) -> Result<Doc, NoMemory>
+        ensures { IfOk result (λ d. d ≡ merged self other.now) }
+    {
+        let Doc {
+            group,
+            artifact,
+            listing,
+        } = self;
+        let listing = joined(alloc, listing, &other.listing)?;
+        Ok(Doc {
+            group,
+            artifact,
+            listing,
+        })
+    }
+
+    /// The document with one more version (a version directory of the layout). A snapshot directory's document lists
+    /// none and stays as it is.
+    pub fn with_version(self, version: Version) -> Result<Doc, NoMemory>
+        requires { IsTrue (is_version version) }
+        ensures { IfOk result (λ d. d ≡ record self { listing = with_version self.listing version }) }
+    {
+        let Doc {
+            group,
+            artifact,
+            listing,
+        } = self;
+        let listing = with_version(listing, version)?;
+        Ok(Doc {
+            group,
+            artifact,
+            listing,
+        })
+    }
+
+    /// The document of an artifact that also changed at this moment; another one stays as it is.
+    pub fn with_update(self, moment: Stamp) -> Doc
+        ensures { result ≡ record self { listing = with_update self.listing moment } }
+    {
+        let Doc {
+            group,
+            artifact,
+            listing,
+        } = self;
+        // A stamp's text says of it that it is a civil time.
+        let _text = moment.text();
+        let listing = with_update(listing, moment);
+        Doc {
+            group,
+            artifact,
+            listing,
+        }
+    }
+
+    /// The document of a snapshot directory with one more file of a build, which counts where it is the newest of its
+    /// pair. An artifact's document lists none and stays as it is.
+    pub fn with_build(self, pair: Pair, snapshot: SnapshotBuild) -> Result<Doc, NoMemory>
+        requires { IsTrue (is_entry (pair, snapshot)) }
+        ensures { IfOk result (λ d. d ≡ record self { listing = with_build self.listing (pair, snapshot) }) }
+    {
+        let Doc {
+            group,
+            artifact,
+            listing,
+        } = self;
+        let listing = with_build(listing, pair, snapshot)?;
+        Ok(Doc {
+            group,
+            artifact,
+            listing,
+        })
+    }
+}
+
+fn with_version(listing: Listing, version: Version) -> Result<Listing, NoMemory>
+    ensures { IfOk result (λ l. l ≡ with_version listing version) }
+{
+    match listing {
+        Listing::Artifact(mut versions, updated) => {
+            versions.add(version)?;
+            Ok(Listing::Artifact(versions, updated))
+        }
+        Listing::Snapshot(base, newest, entries) => Ok(Listing::Snapshot(base, newest, entries)),
+    }
+}
+
+fn with_update(listing: Listing, moment: Stamp) -> Listing
+    ensures { result ≡ with_update listing moment }
+{
+    match listing {
+        Listing::Artifact(versions, updated) => {
+            Listing::Artifact(versions, latest_time(updated, Some(moment)))
+        }
+        Listing::Snapshot(base, newest, entries) => Listing::Snapshot(base, newest, entries),
+    }
+}
+
+fn with_build(listing: Listing, pair: Pair, snapshot: SnapshotBuild) -> Result<Listing, NoMemory>
+    ensures { IfOk result (λ l. l ≡ with_build listing (pair, snapshot)) }
+{
+    match listing {
+        Listing::Artifact(versions, updated) => Ok(Listing::Artifact(versions, updated)),
+        Listing::Snapshot(base, newest, mut entries) => {
+            let newest = newest_build(newest, Some(snapshot.build));
+            entries.add(pair, snapshot)?;
+            Ok(Listing::Snapshot(base, newest, entries))
+        }
+    }
+}
