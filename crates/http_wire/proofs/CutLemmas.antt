@@ -1,5 +1,5 @@
 -- Bytes cut at a byte that they do not have.
-use Rattle.std.proofs.Common.{◌≡◌, ◌≢◌, ℕ, suc, ◌+◌, ◌<◌, Bool, true, false, eqb, cond, IsTrue, List, [], ◌∷◌, ◌++◌, length, take, drop, refl, sym, ap, ◌∙◌, arith, append-nil, append_assoc, length-append}
+use Rattle.std.proofs.Common.{◌≡◌, ◌≢◌, ℕ, ◌+◌, Bool, true, false, eqb, IsTrue, List, [], ◌∷◌, ◌++◌, length, take, drop, refl, ap, ◌∙◌, arith, append-nil}
 use Rattle.std.specs.Prelude.{◌==◌}
 use Rattle.std.specs.List.{AllByRecursion, list_any, position_or_len}
 use Rattle.std.proofs.Math.Seq.{drop-append-add, take-append_seam}
@@ -8,7 +8,7 @@ use Rattle.std.proofs.lemmas.List.{take_all}
 use Rattle.std.proofs.lemmas.List.Elements.{All-from_recursion, All-head, All-tail}
 use Rattle.std.proofs.lemmas.List.Splits.{slice_split_at}
 use Rattle.httparse.specs.Grammar.{AllPass, LineEnd, crlf, lf, print_end}
-use Rattle.http_wire.specs.Head.{after, before, end_of, is_empty_line, lines_of}
+use Rattle.http_wire.specs.Head.{after, before, end_of, lines_of}
 
 -- the byte c is not among the bytes
 abbrev pub Lacks : ℕ → List ℕ → Type 0

@@ -1,7 +1,5 @@
 -- How a search for a head goes on, byte by byte.
-use Rattle.std.proofs.Common.{◌≡◌, ◌≢◌, ℕ, ◌+◌, ◌-◌, ◌<◌, ◌≤◌, ◌⊎◌, inl, inr, Option, rules, List, [], ◌∷◌, ◌++◌, length, take, drop, get_or, slice_range, Some, None, refl, sym, ap, ◌∙◌, subst, arith, append_assoc, append-nil, length-append, length-take, get_or-take, get_or-drop, take-append-drop}
-use Rattle.std.specs.List.{AllByRecursion}
-use Rattle.std.proofs.lemmas.Bool.{eq-eqb}
+use Rattle.std.proofs.Common.{◌≡◌, ◌≢◌, ℕ, ◌+◌, ◌-◌, ◌<◌, ◌≤◌, ◌⊎◌, inl, inr, Option, rules, List, [], ◌∷◌, ◌++◌, length, take, get_or, slice_range, Some, None, refl, sym, ap, ◌∙◌, arith, append_assoc, length-append, get_or-take, get_or-drop}
 use Rattle.std.proofs.lemmas.List.{take_all, take_more, take-append-le, get_or_append_left}
 use Rattle.std.proofs.lemmas.List.Elements.{All-from_get_or, recursion_from_All}
 use Rattle.httparse.proofs.RunLemmas.{length-slice_range}

@@ -1,7 +1,7 @@
 -- What httparse answers of a cut head, as the head that the bytes spell.
-use Rattle.std.proofs.Common.{◌≡◌, ◌≢◌, ℕ, ◌+◌, ◌<◌, ◌≤◌, Bool, true, false, eqb, ltb, cond, List, [], ◌∷◌, ◌++◌, length, take, drop, map, Option, Some, None, Result, Ok, Err, refl, sym, ap, ◌∙◌, subst, arith, append-nil, append_assoc, length-append}
+use Rattle.std.proofs.Common.{◌≡◌, ℕ, ◌<◌, ◌≤◌, Bool, true, false, ltb, cond, List, [], ◌∷◌, ◌++◌, length, take, drop, map, Option, Some, None, Result, Ok, Err, refl, sym, ap, ◌∙◌, subst, arith, append-nil}
 use Rattle.std.specs.Prelude.{IsSome, OnErr, count_by, ◌==◌}
-use Rattle.std.proofs.lemmas.Bool.{le-ltb, lt-ltb, ne_eqb}
+use Rattle.std.proofs.lemmas.Bool.{le-ltb, lt-ltb}
 use Rattle.std.proofs.lemmas.List.{drop_all}
 use Rattle.http_header.specs.Token as http
 use Rattle.httparse.specs.declared.Error.{Error}
@@ -18,9 +18,8 @@ use Rattle.httparse.proofs.GrammarLemmas.{print_request-append}
 use Rattle.http_wire.specs.declared.requests.Field.{Field}
 use Rattle.http_wire.specs.Front.{judged, whole_of, Bad, Whole}
 use Rattle.http_wire.specs.declared.faults.HeadFault.TheVariants.{TooLong}
-use Rattle.http_wire.specs.Head.{Head, field_said, head_of, head_said}
+use Rattle.http_wire.specs.Head.{Head, field_said, head_of}
 use Rattle.http_wire.specs.Parsed.{begins_line, field_at}
-use Rattle.http_wire.proofs.CutLemmas.{Lacks}
 use Rattle.http_wire.proofs.TreeLemmas.{count_feeds, first_byte, head_of-reads, reads-head_of}
 
 -- one class of bytes under two names

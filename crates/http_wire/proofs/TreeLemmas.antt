@@ -1,8 +1,8 @@
 -- The tree of a printed head, and what its tests mean.
-use Rattle.std.proofs.Common.{◌≡◌, ◌≢◌, ℕ, ◌+◌, ◌-◌, ◌<◌, ◌≤◌, Bool, true, false, eqb, ltb, leb, ◌&&◌, IsTrue, List, [], ◌∷◌, ◌++◌, length, get_or, Option, Some, None, refl, sym, ap, ◌∙◌, subst, arith, lit<, cond, append-nil, append_assoc, length-append}
+use Rattle.std.proofs.Common.{◌≡◌, ◌≢◌, ℕ, ◌+◌, ◌-◌, ◌<◌, Bool, true, false, eqb, ◌&&◌, List, [], ◌∷◌, ◌++◌, length, get_or, Option, Some, None, refl, sym, ap, ◌∙◌, subst, arith, lit<, cond, append-nil, append_assoc, length-append}
 use Rattle.std.specs.Prelude.{◌==◌, count_by}
 use Rattle.std.specs.List.{All, list_all}
-use Rattle.std.specs.Str.{bytes_eq, is_utf8}
+use Rattle.std.specs.Str.{bytes_eq}
 use Rattle.std.proofs.lemmas.Bool.{and_from, and_parts, le-leb, leb-true, lt-ltb, ltb-true, ne_eqb, cond-true, cond-false}
 use Rattle.std.proofs.lemmas.List.Elements.{All-head, All-tail, All-cons, All-nil}
 use Rattle.std.proofs.lemmas.List.Sums.{AllPass-from_list_all, list_all-from_AllPass, sum_by-cons}
@@ -15,7 +15,7 @@ use Rattle.httparse.proofs.GrammarLemmas.{print_request-append}
 use Rattle.httparse.proofs.PieceLemmas.{Stops_token, colon_ends_token, print_field-append, space_ends_token}
 use Rattle.httparse.specs.Pieces.{Stops, is_newline}
 use Rattle.http_wire.specs.Head.{Head, after, before, end_of, field_tree, field_trees, head_of, head_said, head_tree, is_empty_line, is_field, is_request_head, last_end, lines_of, tree_of}
-use Rattle.http_wire.proofs.CutLemmas.{Lacks, Lacks-append, Lacks-from_pass, after-append, before-append, before-none, before-return, end_of-return, lines_of-append, print_end-return, return_of}
+use Rattle.http_wire.proofs.CutLemmas.{Lacks, Lacks-append, Lacks-from_pass, after-append, before-append, before-return, end_of-return, lines_of-append, print_end-return, return_of}
 
 cr_ends_token : is_token_byte 13 ≡ false
 unfolding is_token_byte

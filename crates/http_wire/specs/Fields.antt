@@ -9,7 +9,6 @@ use Rattle.httparse.specs.Grammar.{trim_ows}
 use Rattle.http_wire.specs.declared.requests.BodyLength.{BodyLength}
 use Rattle.http_wire.specs.declared.requests.BodyLength.TheVariants.{Known, Missing, Wrong}
 use Rattle.http_wire.specs.declared.requests.Field.{Field}
-use Rattle.http_wire.specs.Head.{Head}
 
 -- the field has this name; the case of letters doesn't count
 abbrev pub is_named : List ℕ → Field → Bool

@@ -1,3 +1,4 @@
+//! An answer, and its bytes (RFC 9112, section 4).
 ghost use Rattle.std.specs.Prelude.{◌≡◌, IfOk};
 ghost use Rattle.http_wire.specs.Answer.{no_memory, shown};
 

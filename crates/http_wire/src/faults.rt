@@ -1,3 +1,4 @@
+//! Why a head or a body is not given.
 use outside::Failed;
 use std::alloc::AllocError;
 

@@ -1,3 +1,4 @@
+//! What the fields of a head say (RFC 9110, section 5).
 ghost use Rattle.std.specs.Prelude.{◌≡◌, ◌++◌, ◌∷◌, [], codes, count_by, find, reverse, if◌then◌else◌, Some, None};
 ghost use Rattle.std.specs.Option.{option_map};
 ghost use Rattle.httparse.specs.Grammar.{skip_ows, trim_ows};
@@ -16,7 +17,8 @@ fn is_named(field: &Field, name: &[u8]) -> bool
     field.name.as_slice().eq_ignore_ascii_case(name)
 }
 
-pub(crate) fn count(fields: &[Field], name: &[u8]) -> usize
+/// How many fields have the name. The case of letters does not count (RFC 9110, section 5.1).
+pub fn count(fields: &[Field], name: &[u8]) -> usize
     ensures { result ≡ count_by (is_named name.now) fields.now }
 {
     fields.iter().filter(|f| is_named(f, name)).count()
@@ -56,8 +58,8 @@ fn trimmed_back(mut bytes: &[u8]) -> &[u8]
     bytes
 }
 
-/// The bytes without the spaces and tabs at their ends.
-fn trimmed(bytes: &[u8]) -> &[u8]
+/// The bytes without the spaces and tabs at their ends (RFC 9110, section 5.6.3).
+pub fn trimmed(bytes: &[u8]) -> &[u8]
     ensures { result.now ≡ trim_ows bytes.now }
 {
     trimmed_back(trimmed_front(bytes))
@@ -76,7 +78,8 @@ fn has_close(value: &[u8]) -> bool
     value.split(|b| *b == b',').any(|member| is_close(member))
 }
 
-pub(crate) fn asks_close(fields: &[Field]) -> bool
+/// Whether an option of a `Connection` field is `close`, in either case (RFC 9110, section 7.6.1).
+pub fn asks_close(fields: &[Field]) -> bool
     ensures { result ≡ asks_close fields.now }
 {
     fields.iter().any(|f| is_named(f, b"Connection") && has_close(f.value.as_slice()))
@@ -110,7 +113,9 @@ fn joined(said: BodyLength, value: &[u8]) -> BodyLength
     }
 }
 
-pub(crate) fn body_length(fields: &[Field]) -> BodyLength
+/// The length of the body by the `Content-Length` fields (RFC 9110, section 8.6): each has 1 to 18 digits, and all have
+/// the same number.
+pub fn body_length(fields: &[Field]) -> BodyLength
     ensures { result ≡ body_length fields.now }
 {
     let mut said = BodyLength::Missing;

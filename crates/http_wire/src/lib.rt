@@ -7,7 +7,7 @@
 
 mod answers;
 mod faults;
-mod fields;
+pub mod fields;
 mod laws;
 mod lines;
 mod parser;

@@ -1,3 +1,4 @@
+//! The lines of an answer's head (RFC 9112, sections 4 and 5).
 ghost use Rattle.std.specs.Prelude.{◌≡◌, ◌++◌, OnOk};
 ghost use Rattle.http_wire.specs.Answer.{allow_line, close_line, content_text, digest_lines, field_line, head_shown, status_line, status_text};
 

@@ -1,3 +1,4 @@
+//! The request that the bytes of a head spell (RFC 9112, sections 3 and 5).
 ghost use Rattle.std.specs.Prelude.{◌≡◌, List, ℕ, ◌+◌, ◌≤◌, ◌==◌, All, IfOk, IsSome, OnErr, count_by, length, map};
 ghost use Rattle.std.specs.Str.{IsUtf8};
 ghost use Rattle.http_header.specs.Token.{IsToken};

@@ -1,3 +1,4 @@
+//! A request head, and the length of its body (RFC 9112, sections 3 and 6).
 ghost use Rattle.std.specs.Prelude.{◌≡◌, IfOk, IsUtf8, codes, count_by, find, map};
 ghost use Rattle.std.specs.Option.{option_map};
 ghost use Rattle.http_header.specs.Token.{IsToken};

@@ -1,3 +1,4 @@
+//! The search for a head in bytes that come in pieces: up to its first empty line (RFC 9112, section 2.1).
 ghost use Rattle.std.specs.Prelude.{◌≡◌, ◌⊎◌, [], ◌∷◌, ◌↔◌, IsTrue};
 ghost use Rattle.http_wire.specs.Found.{IsFoundIn};
 ghost use Rattle.http_wire.specs.Search.{IsOpen};

@@ -1,3 +1,4 @@
+//! Heads and bodies cut off a stream, however its bytes come.
 ghost use Rattle.std.specs.Prelude.{◌≡◌, ◌≢◌, ℕ, ◌+◌, ◌-◌, ◌<◌, ◌≤◌, ◌++◌, List, [], length, take, drop, slice_range, min, IfOk, IfNone, IfSome, IsSome, OnErr, OnOk, vec_len, None};
 ghost use Rattle.std.specs.Option.{option_map};
 ghost use Rattle.outside.specs.Faults.{HasCause};

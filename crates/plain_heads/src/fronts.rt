@@ -1,3 +1,4 @@
+//! What the bytes of a stream begin with.
 ghost use Rattle.std.specs.Prelude.{◌≡◌, ◌+◌, ◌==◌, ◌≤◌, ◌&&◌, nat_lt, take, drop, length, count_by, IfOk, IfSome, IsTrue, None};
 ghost use Rattle.std.specs.List.{list_all};
 ghost use Rattle.http_wire.specs.Front.{begins_with, blank_length, empty_line_end, front, front_at, head_place, is_line_byte, judged};

@@ -1,3 +1,4 @@
+//! The head that bytes spell: they are what its parts print.
 ghost use Rattle.std.specs.Prelude.{◌≡◌, ◌≤◌, ◌&&◌, ◌++◌, nat_lt, length, map, slice_index, IfOk, IsTrue, OnOk};
 ghost use Rattle.std.specs.List.{flat_map, list_all};
 ghost use Rattle.std.specs.Str.{IsUtf8, bytes_eq, is_utf8};

@@ -1,11 +1,12 @@
+//! Lines and their ends, and the fields that they spell.
 ghost use Rattle.std.specs.Prelude.{◌≡◌, ◌≤◌, ◌<◌, ◌==◌, ◌++◌, length, map, slice_index, IfOk, OnOk};
 ghost use Rattle.std.specs.List.{list_all, position_or_len};
 ghost use Rattle.httparse.specs.Grammar.{print_end, print_field};
 ghost use Rattle.http_wire.specs.Head.{after, before, end_of, field_said, field_tree, field_trees, is_empty_line, is_field, last_end, lines_of};
 ghost use Rattle.plain_heads.specs.Lines.{shown_end};
 
-use crate::blanks::trimmed;
 use http_wire::Field;
+use http_wire::fields::trimmed;
 use httparse::{is_header_value, is_token};
 use std::alloc::{AllocError, Global};
 use std::marker::Model;

@@ -1,3 +1,4 @@
+//! Commands and replies.
 use crate::rows::Blob;
 use repo_model::Print;
 use texts::Text;

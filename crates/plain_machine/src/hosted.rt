@@ -1,3 +1,4 @@
+//! The hosted repositories and their rows.
 ghost use Rattle.std.specs.Prelude.{◌≡◌, ◌<◌, [], List, length, map, slice_index_or, slice_set, IfOk, IfNone, IfSome, OnOk};
 ghost use Rattle.std.specs.Option.{option_map};
 ghost use Rattle.repo_model.specs.Data as plain;

@@ -1,3 +1,4 @@
+//! The state of the machine, and one turn.
 ghost use Rattle.std.specs.Prelude.{◌≡◌, max, min, unwrap_or, if◌then◌else◌, IfOk};
 ghost use Rattle.std.specs.Option.{option_map};
 ghost use Rattle.outside.specs.Moments.{moments_after};
@@ -14,14 +15,12 @@ use crate::hosted::{Hosted, add_row, empty_hosted, file_at, list_row_again};
 use crate::rows::{Blob, Phase, Row};
 use crate::settings::Settings;
 use crate::yard::Yard;
+use mvn_coords::Stamp;
 use outside::{Clock, ScriptClock};
 use repo_model::Print;
 use std::alloc::{AllocError, Global};
 use std::marker::Model;
 use texts::Text;
-
-/// The last moment that a clock may give.
-const LATEST_MOMENT: u64 = 253_402_207_200;
 
 /// The state of the machine: hosted repositories, blob numbers, the moment of the last turn, and the moments that the
 /// clock has left, where told.
@@ -371,7 +370,7 @@ fn read_clock(last: u64, clock: Option<ScriptClock>) -> (u64, Option<ScriptClock
     match clock {
         None => (last, None),
         Some(mut clock) => {
-            let moment = clock.now().min(LATEST_MOMENT).max(last);
+            let moment = clock.now().min(Stamp::LAST_MOMENT).max(last);
             (moment, Some(clock))
         }
     }

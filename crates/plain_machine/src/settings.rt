@@ -1,3 +1,4 @@
+//! The settings of the repositories.
 ghost use Rattle.std.specs.Prelude.{◌≡◌, Some};
 ghost use Rattle.std.specs.Option.{option_map};
 ghost use Rattle.repo_model.specs.Command.{both, fits_repo, policy_of};

@@ -1,12 +1,11 @@
+//! The numbers of blobs: drawn, lent, and given up.
 ghost use Rattle.std.specs.Prelude.{◌≡◌, ◌≤◌, ◌==◌, false, [], length, insert, IfOk};
 ghost use Rattle.repo_model.specs.Command.{number_end};
 ghost use Rattle.repo_model.specs.State.{is_among, with_number, without_number, condemned_draft, kept_draft, drawn_draft, leased, given_back};
 
+use repo_model::NUMBER_END;
 use std::alloc::{AllocError, Global};
 use std::marker::Model;
-
-/// Numbers that are drawn are below it: 2^63.
-const NUMBER_END: u64 = 9_223_372_036_854_775_808;
 
 /// A blob that a reader has borrowed.
 #[derive(Drop)]

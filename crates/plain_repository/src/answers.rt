@@ -1,3 +1,4 @@
+//! The bytes of an answer.
 ghost use Rattle.std.specs.Prelude.{◌≡◌, ◌++◌, IfOk, OnOk, codes};
 ghost use Rattle.std.specs.Fmt.{decimal};
 ghost use Rattle.http_wire.specs.Answer.{allow_line, close_line, content_text, digest_lines, field_line, head_shown, shown, status_line, status_text};

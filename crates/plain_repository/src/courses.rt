@@ -1,14 +1,15 @@
-ghost use Rattle.std.specs.Prelude.{◌≡◌, ◌||◌, nat_lt, ℕ, Bool, List, IfOk, Some, None};
+//! The courses of GET and PUT.
+ghost use Rattle.std.specs.Prelude.{◌≡◌, ◌||◌, ◌++◌, [], unwrap_or, nat_lt, ℕ, Bool, List, IfOk, Some, None};
 ghost use Rattle.http_wire.specs.Answer.{shown};
-ghost use Rattle.repo_model.specs.Command.{drop_draft};
+ghost use Rattle.repo_model.specs.Command.{drop_draft, may_put};
 ghost use Rattle.repo_model.specs.Reply.{file, no_draft};
 ghost use Rattle.repo_model.specs.Step.{moment_now, state_after};
-ghost use Rattle.repo_server.specs.Answers.{bad_head_answer, memory_answer, taken_text, text_answer};
+ghost use Rattle.repo_server.specs.Answers.{bad_head_answer, file_answer, memory_answer, taken_text, text_answer};
 ghost use Rattle.repo_server.specs.Course.{after_body, after_look, after_may_put, after_put, asks, course, end_of, takes, without_memory};
 ghost use Rattle.repo_server.specs.Faultless.{play};
 ghost use Rattle.repo_server.specs.Plain.{get as get_request, put as put_request, repository};
 ghost use Rattle.plain_repository.specs.Bodies.{shown_body};
-ghost use Rattle.plain_machine.specs.Commands.{shown_reply};
+ghost use Rattle.plain_machine.specs.Commands.{shown_command, shown_reply};
 ghost use Rattle.plain_repository.specs.Scenes.{shown_played, shown_scene};
 
 use crate::answers::{answer_bytes, file_answer, taken_text, text_answer};
@@ -16,12 +17,9 @@ use crate::scenes::{Asked, BodyTaken, Played, Scene, ask, body_taken, said, stop
 use http_wire::Status;
 use plain_machine::{Blob, Command, Reply, Settings};
 use repo_model::Print;
-use repo_server::End;
+use repo_server::{End, REPOSITORY};
 use std::alloc::{AllocError, Global};
 use texts::Text;
-
-/// The id of the one repository.
-const REPOSITORY: &str = "releases";
 
 /// What ends a connection behind a request: the client wants it, or it is the last request that it may make.
 #[derive(Clone, Copy)]
@@ -136,11 +134,19 @@ fn sent(
     ensures { IfOk result (λ played. shown_played played
         ≡ play settings.now (after_look closing.close closing.last (file lease blob.now)) (shown_scene scene)) }
 {
-    let answer = file_answer(alloc, blob, closing.close || closing.last);
-    let mut bytes = answer_bytes(alloc, &answer)?;
-    bytes.extend_from_slice(blob.bytes())?;
+    let bytes = file_bytes(alloc, blob, closing.close || closing.last)?;
     let turn = ask(alloc, settings, scene, Command::Done { lease })?;
     wrote(bytes, stopped(alloc, turn.scene, end_of(closing.close)))
+}
+
+/// The head of the answer with a file, and the file's bytes.
+fn file_bytes(alloc: Global, blob: &Blob, close: bool) -> Result<Vec<u8>, AllocError>
+    ensures { IfOk result (λ bytes. bytes.items ≡ shown (file_answer blob.now close) ++ unwrap_or blob.now.bytes []) }
+{
+    let answer = file_answer(alloc, blob, close);
+    let mut bytes = answer_bytes(alloc, &answer)?;
+    bytes.extend_from_slice(blob.bytes())?;
+    Ok(bytes)
 }
 
 /// The course of a PUT of a body of `length` bytes, followed to its end: a draft is asked for, the body taken, and put.
@@ -155,12 +161,18 @@ pub fn put(
     ensures { IfOk result (λ played. shown_played played
         ≡ play settings.now (course (put_request path length closing.close) closing.last) (shown_scene scene)) }
 {
-    let may_put = Command::MayPut {
+    let command = may_put_command(alloc, &path)?;
+    let turn = ask(alloc, settings, scene, command)?;
+    after_may_put(alloc, settings, turn, path, length, closing)
+}
+
+fn may_put_command(alloc: Global, path: &Text) -> Result<Command, AllocError>
+    ensures { IfOk result (λ command. shown_command command ≡ may_put repository path.now) }
+{
+    Ok(Command::MayPut {
         repo: repository(alloc)?,
         path: path.copied(alloc)?,
-    };
-    let turn = ask(alloc, settings, scene, may_put)?;
-    after_may_put(alloc, settings, turn, path, length, closing)
+    })
 }
 
 fn after_may_put(

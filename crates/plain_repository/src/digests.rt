@@ -1,3 +1,4 @@
+//! The digests of a message.
 ghost use Rattle.std.specs.Prelude.{◌≡◌};
 ghost use Rattle.mvn_digest.specs.Digests.{digests_of};
 

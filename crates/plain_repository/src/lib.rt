@@ -10,8 +10,6 @@ mod digests;
 mod requests;
 mod scenes;
 mod streams;
-#[cfg(test)]
-mod tests;
 
 pub use answers::{answer_bytes, file_answer, text_answer};
 pub use courses::{Closing, get, put};

@@ -1,3 +1,4 @@
+//! Which requests are plain.
 ghost use Rattle.std.specs.Prelude.{◌≡◌, ◌&&◌, ◌==◌, codes, not};
 ghost use Rattle.std.specs.Option.{option_map};
 ghost use Rattle.std.specs.Str.{bytes_eq};
@@ -6,15 +7,10 @@ ghost use Rattle.repo_model.specs.File.{file_kind};
 ghost use Rattle.repo_server.specs.Plain.{field_count, is_framed, is_release, path_of, plain, plain_at, put_of_length};
 ghost use Rattle.plain_repository.specs.Requests.{shown_plain};
 
-use http_wire::BodyLength;
+use http_wire::{BodyLength, fields};
 use mvn_coords::{Kind, kind_of};
-use plain_heads::{Head, fields};
-
-/// The path of the repository on the server.
-const TARGET_FRONT: &str = "/repository/releases/";
-
-/// The longest body of a file, in bytes.
-const LONGEST_BODY: u64 = 16_777_216;
+use plain_heads::Head;
+use repo_server::{LONGEST_BODY, TARGET_FRONT};
 
 /// A plain request: a GET or a PUT of a release file, with its path, and whether the client ends the connection.
 #[derive(Drop)]

@@ -1,3 +1,4 @@
+//! The machine and what is left of the input, as a course goes on.
 ghost use Rattle.std.specs.Prelude.{◌≡◌, [], drop, IfOk};
 ghost use Rattle.http_wire.specs.Answer.{shown};
 ghost use Rattle.repo_model.specs.Step.{moment_now, reply_of, state_after};
@@ -78,6 +79,28 @@ fn print_of(body: &[u8]) -> Print
     }
 }
 
+/// The body of a length, stored under a draft, where all of it is there.
+fn blob_of(alloc: Global, draft: u64, length: u64, bytes: &[u8]) -> Result<Option<Blob>, AllocError>
+    ensures { IfOk result (λ body. shown_body body ≡ taken_body draft length bytes.now) }
+{
+    if (bytes.len() as u64) < length {
+        return Ok(None);
+    }
+    let body = &bytes[..length as usize];
+    let blob = Blob::new(draft, Bytes::new(alloc, body)?, print_of(body));
+    Ok(Some(blob))
+}
+
+/// The bytes behind a body of a length.
+fn rest_of(alloc: Global, length: u64, bytes: &[u8]) -> Result<Bytes, AllocError>
+    ensures { IfOk result (λ rest. rest ≡ drop length bytes.now) }
+{
+    if (bytes.len() as u64) < length {
+        return Ok(Bytes::from_vec(Vec::new(alloc)));
+    }
+    Bytes::new(alloc, &bytes[length as usize..])
+}
+
 /// Takes the body of a length under a draft.
 pub fn body_taken(
     alloc: Global,
@@ -89,21 +112,10 @@ pub fn body_taken(
     ensures scene { IfOk result (λ taken. shown_scene taken.scene ≡ record (shown_scene scene) { input = drop length scene.input }) }
 {
     let Scene { machine, input } = scene;
-    let bytes = input.as_slice();
-    if (bytes.len() as u64) < length {
-        let input = Bytes::from_vec(Vec::new(alloc));
-        return Ok(BodyTaken {
-            body: None,
-            scene: Scene { machine, input },
-        });
-    }
-    let (body, rest) = bytes.split_at(length as usize);
-    let blob = Blob::new(draft, Bytes::new(alloc, body)?, print_of(body));
-    let input = Bytes::new(alloc, rest)?;
-    Ok(BodyTaken {
-        body: Some(blob),
-        scene: Scene { machine, input },
-    })
+    let body = blob_of(alloc, draft, length, input.as_slice())?;
+    let input = rest_of(alloc, length, input.as_slice())?;
+    let scene = Scene { machine, input };
+    Ok(BodyTaken { body, scene })
 }
 
 /// An answer, written.

@@ -1,3 +1,4 @@
+//! The answers to a whole stream.
 ghost use Rattle.std.specs.Prelude.{◌≡◌, IfOk};
 ghost use Rattle.http_wire.specs.Front.{front};
 ghost use Rattle.repo_server.specs.Faultless.{first_scene, play_request, play_stream, play_turn, wrote};
@@ -11,12 +12,9 @@ use crate::scenes::{Played, Scene, stopped};
 use outside::ScriptClock;
 use plain_heads::{Beginning, Head, front};
 use plain_machine::{Machine, Settings};
-use repo_server::End;
+use repo_server::{End, TURNS};
 use std::alloc::{AllocError, Global};
 use texts::{Bytes, Text};
-
-/// The most requests that one connection may make.
-const TURNS: u64 = 1000;
 
 /// What a stream was answered, the scene then, and how it ended.
 #[derive(Drop)]
@@ -41,12 +39,23 @@ pub fn stream(
     ensures end { IfOk result (λ answers. answers.1
         ≡ (play_stream settings.now 1000 (first_scene settings.now moments bytes.now)).end) }
 {
-    let scene = Scene {
-        machine: Machine::opening(alloc, settings, moments)?,
-        input: Bytes::new(alloc, bytes)?,
-    };
-    let streamed = play_stream(alloc, settings, TURNS, scene)?;
+    let scene = first_scene(alloc, settings, moments, bytes)?;
+    let streamed = play_stream(alloc, settings, TURNS as u64, scene)?;
     Ok((streamed.written, streamed.end))
+}
+
+/// The scene before a stream of these bytes.
+fn first_scene(
+    alloc: Global,
+    settings: &Settings,
+    moments: Option<ScriptClock>,
+    bytes: &[u8],
+) -> Result<Scene, AllocError>
+    ensures { IfOk result (λ scene. shown_scene scene ≡ first_scene settings.now moments bytes.now) }
+{
+    let input = Bytes::new(alloc, bytes)?;
+    let machine = Machine::opening(alloc, settings, moments)?;
+    Ok(Scene { machine, input })
 }
 
 /// A stream of at most so many requests.

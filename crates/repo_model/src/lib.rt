@@ -4,7 +4,9 @@
 #![tactic(auto)]
 
 mod laws;
+mod numbers;
 mod print;
 mod worked;
 
+pub use numbers::NUMBER_END;
 pub use print::Print;

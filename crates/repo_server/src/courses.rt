@@ -1,3 +1,4 @@
+//! The courses of GET and PUT: commands and acts, one after another as their results come.
 ghost use Rattle.std.specs.Prelude.{◌≡◌, ◌≤◌, ◌||◌, nat_lt, ℕ, List, Option, None, Ok};
 ghost use Rattle.http_wire.specs.Answer.{shown};
 ghost use Rattle.http_wire.specs.Stream.{unread};

@@ -1,3 +1,4 @@
+//! Bodies taken into a store, and files sent from it.
 ghost use Rattle.std.specs.Prelude.{◌≡◌, ◌++◌, [], None};
 ghost use Rattle.http_wire.specs.Stream.{unread};
 ghost use Rattle.repo_core.specs.Shown.{shown_parcel};

@@ -16,5 +16,5 @@ pub use laws::{
     worked_exchanges,
 };
 pub use outcomes::{End, Sent, Took};
-pub use plain::{LONGEST_BODY, REPOSITORY};
+pub use plain::{LONGEST_BODY, REPOSITORY, TARGET_FRONT};
 pub use streams::{TURNS, serve_stream};

@@ -1,3 +1,4 @@
+//! Which requests are plain: a GET or a PUT of a release file.
 ghost use Rattle.std.specs.Prelude.{◌≡◌, ◌&&◌, ◌==◌, IfSome, codes, not};
 ghost use Rattle.std.specs.Option.{option_map};
 ghost use Rattle.std.specs.Str.{bytes_eq};
@@ -13,7 +14,7 @@ use mvn_coords::{Kind, kind_of};
 pub const REPOSITORY: &str = "releases";
 
 /// The path of the repository on the server.
-const TARGET_FRONT: &str = "/repository/releases/";
+pub const TARGET_FRONT: &str = "/repository/releases/";
 
 /// The longest body of a file, in bytes.
 pub const LONGEST_BODY: u64 = 16_777_216;

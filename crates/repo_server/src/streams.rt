@@ -1,3 +1,4 @@
+//! A stream served, one request after another.
 ghost use Rattle.std.specs.Prelude.{◌≡◌, ℕ, IfOk, List, Option, Some};
 ghost use Rattle.http_wire.specs.Stream.{unread};
 ghost use Rattle.repo_model.specs.History.{Entry};

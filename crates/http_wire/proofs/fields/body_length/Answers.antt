@@ -1,4 +1,4 @@
-use Rattle.std.proofs.Common.{◌≡◌, ◌∙◌, ◌+◌, List, ℕ, ◌∷◌, true, false, ap, sym, drop, fold}
+use Rattle.std.proofs.Common.{◌≡◌, ◌∙◌, ◌+◌, List, ◌∷◌, true, false, ap, sym, drop, fold}
 use Rattle.std.specs.Prelude.{codes}
 use Rattle.std.proofs.lemmas.List.{at_drop_more}
 use Rattle.http_wire.specs.declared.requests.BodyLength.{BodyLength}

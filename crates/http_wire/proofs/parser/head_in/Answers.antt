@@ -1,5 +1,5 @@
-use Rattle.std.proofs.Common.{◌≡◌, ◌∙◌, ℕ, List, ap, sym, subst, rules, Some, Ok, Result, length}
-use Rattle.std.specs.Prelude.{IsSome, ◌==◌, map, take}
+use Rattle.std.proofs.Common.{◌≡◌, ◌∙◌, ap, sym, subst, rules, Some, Ok, Result, length}
+use Rattle.std.specs.Prelude.{◌==◌, map, take}
 use Rattle.http_header.specs.Token.{IsToken}
 use Rattle.httparse.specs.declared.Error.{Error}
 use Rattle.httparse.specs.declared.Status.{Status}
@@ -7,7 +7,6 @@ use Rattle.httparse.specs.declared.spans.RequestSpans.{RequestSpans}
 use Rattle.httparse.specs.Outcome.{IsCompleteAnd}
 use Rattle.httparse.specs.Spans.{IsRequestOf, span_bytes}
 use Rattle.http_wire.specs.Parsed.{field_at}
-use Rattle.http_wire.specs.Head.{head_of}
 use Rattle.http_wire.proofs.ParsedLemmas.{head_of_line, head_of_none, head_of_spans, on_err, some_is, token_same}
 use Rattle.http_wire.proofs.parser.head_in.Goals as goal
 

@@ -1,4 +1,4 @@
-use Rattle.std.proofs.Common.{◌≡◌, ◌∙◌, ℕ, ◌<◌, ◌≤◌, rules, refl, List, Option, Some, None}
+use Rattle.std.proofs.Common.{◌≡◌, ℕ, ◌≤◌, rules, refl, List, Option, Some, None}
 use Rattle.std.specs.Prelude.{IsSome, ◌==◌, count_by}
 use Rattle.http_wire.specs.Front.{Whole, judged}
 use Rattle.http_wire.specs.Head.{Head, head_of}

@@ -1,8 +1,7 @@
-use Rattle.std.proofs.Common.{◌≡◌, ◌<◌, ℕ, length, get_or, slice_range, refl, arith, rules, subst}
+use Rattle.std.proofs.Common.{◌≡◌, ℕ, length, refl, arith, rules, subst}
 use Rattle.std.proofs.lemmas.Bool.{false≢true}
 use Rattle.http_wire.specs.Search.{IsOpen}
 use Rattle.http_wire.proofs.OpenLemmas.{head_at, none_open, open_blank, open_byte, open_text}
-use Rattle.http_wire.proofs.PlaceLemmas.{IsEmptyLine}
 use Rattle.http_wire.proofs.search.resume.Goals as goal
 use Rattle.http_wire.proofs.search.resume.Goals.{then-bytes-i-eq10+then-not-is_empty_line, then-bytes-i-eq10+else-not-is_empty_line+else-start-line, else-bytes-i-eq10}
 

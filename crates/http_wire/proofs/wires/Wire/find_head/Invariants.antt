@@ -1,4 +1,4 @@
-use Rattle.std.proofs.Common.{◌≡◌, ℕ, ◌-◌, List, length, Option}
+use Rattle.std.proofs.Common.{◌≡◌, ◌-◌, length}
 use Rattle.std.specs.Prelude.{IsSome}
 use Rattle.http_wire.specs.Front.{head_place}
 use Rattle.http_wire.specs.Search.{IsOpen}

@@ -1,5 +1,4 @@
-use Rattle.std.proofs.Common.{◌≡◌, ◌∙◌, ℕ, List, ◌++◌, length, None, ap, sym, subst, rules}
-use Rattle.http_wire.specs.declared.faults.HeadFault.{HeadFault}
+use Rattle.std.proofs.Common.{◌≡◌, ◌∙◌, ap, sym, subst}
 use Rattle.http_wire.specs.declared.faults.HeadFault.TheVariants.{TooLong}
 use Rattle.http_wire.specs.Front.{Bad, Clean, Cut}
 use Rattle.http_wire.specs.Held.{IsHeld}

@@ -1,4 +1,4 @@
-use Rattle.std.proofs.Common.{ℕ, ◌≤◌, List, length, drop, slice_range, sym, ap, ◌∙◌, ◌≡◌, ◌+◌, ◌-◌, arith}
+use Rattle.std.proofs.Common.{ℕ, List, length, drop, sym, ap, ◌∙◌, ◌≡◌, ◌-◌, arith}
 use Rattle.httparse.proofs.RunLemmas.{length-slice_range}
 use Rattle.http_wire.proofs.WireLemmas.{slice_range-add}
 use Rattle.http_wire.proofs.wires.Wire.use_up.Goals as goal

@@ -2,9 +2,9 @@
 ghost use Rattle.std.specs.Prelude.{◌≡◌, ◌<◌, IfOk};
 ghost use Rattle.repo_server.specs.Releases.{releases_alone};
 
-use crate::{digests_of, stream};
-use outside::{Duplex, FaultScript, MemBlobs, MemHeld, MemSink, MemSource, ScriptClock};
+use outside::{Duplex, FaultScript, MemBlobs, MemHeld, MemLink, MemSink, MemSource, ScriptClock};
 use plain_machine::{Policy, Settings};
+use plain_repository::{digests_of, stream};
 use repo_core::Core;
 use repo_server::{End, LONGEST_BODY, REPOSITORY, serve_stream};
 use std::alloc::{AllocError, Global};
@@ -94,17 +94,27 @@ fn opened(alloc: Global) -> Result<Core<ScriptClock, MemHeld>, AllocError>
     }
 }
 
-/// What the server writes on an input that comes in pieces of seven bytes.
-fn served(alloc: Global, input: &str) -> Result<(Vec<u8>, End), AllocError> {
+/// A connection whose input comes in pieces of seven bytes.
+fn link_of(alloc: Global, input: &str) -> Result<MemLink, AllocError> {
+    let bytes = Vec::from_slice(alloc, input.as_bytes())?;
+    let source = MemSource::new(bytes, 7, FaultScript::none(alloc));
+    let sink = MemSink::new(alloc, 500_000, FaultScript::none(alloc))?;
+    Ok(Duplex { source, sink })
+}
+
+/// How the server ends a connection.
+fn ended(alloc: Global, link: &mut MemLink) -> Result<End, AllocError> {
     let mut core = opened(alloc)?;
     let mut blobs = MemBlobs::new(alloc, FaultScript::none(alloc));
-    let bytes = Vec::from_slice(alloc, input.as_bytes())?;
-    let mut link = Duplex {
-        source: MemSource::new(bytes, 7, FaultScript::none(alloc)),
-        sink: MemSink::new(alloc, 500_000, FaultScript::none(alloc))?,
-    };
-    let end = serve_stream(alloc, &mut core, &mut blobs, &mut link);
-    Ok((Vec::from_slice(alloc, link.sink.bytes())?, end))
+    Ok(serve_stream(alloc, &mut core, &mut blobs, link))
+}
+
+/// What the server writes on an input.
+fn served(alloc: Global, input: &str) -> Result<(Vec<u8>, End), AllocError> {
+    let mut link = link_of(alloc, input)?;
+    let end = ended(alloc, &mut link)?;
+    let written = Vec::from_slice(alloc, link.sink.bytes())?;
+    Ok((written, end))
 }
 
 fn expect<R: Abort + AllocGlobal>(
