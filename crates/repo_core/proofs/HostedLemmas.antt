@@ -1,11 +1,12 @@
 -- Hosted repositories: the first of an id, its rows and what it takes.
-use Rattle.std.proofs.Common.{◌≡◌, ℕ, ◌+◌, ◌<◌, Bool, true, false, if◌then◌else◌, List, [], ◌∷◌, ◌++◌, take, drop, get_or, set, length, Option, Some, find, refl, ap, sym, ◌∙◌, add-one}
+use Rattle.std.proofs.Common.{◌≡◌, ℕ, ◌+◌, ◌<◌, Bool, true, false, if◌then◌else◌, List, [], ◌∷◌, ◌++◌, take, drop, get_or, set, length, map, Option, Some, find, refl, ap, sym, ◌∙◌, add-one}
 use Rattle.std.specs.Option.{option_map_or}
 use Rattle.std.specs.Str.{bytes_eq}
-use Rattle.std.proofs.lemmas.List.{drop_more, map-append, map-set, set-get_or, set_split}
+use Rattle.std.proofs.lemmas.List.{drop_more, take_more, map-append, map-set, set-get_or, set_split}
 use Rattle.outside.specs.declared.stores.Held.{Ghosts}
 use Rattle.repo_model.specs.Data as plain
-use Rattle.repo_model.specs.State.{rows_of, with_rows}
+use Rattle.repo_model.specs.State.{rows_of, with_rows, empty_hosted}
+use Rattle.repo_core.specs.declared.hosted.Policy.{Policy}
 use Rattle.repo_core.specs.declared.hosted.Repo.{Repo}
 use Rattle.repo_core.specs.Hosted.{shown_policies, shown_repo, shown_repos}
 use Rattle.repo_core.specs.Rows.{shown_rows}
@@ -49,3 +50,15 @@ pub shown_policies-set : {X : Type 0} {G : Ghosts X} (repos : List (Repo X G)) (
 shown_policies-set repos i new same =
     map-set (λ r. shown_policy r.policy) repos i new ∙ ap (λ p. set (shown_policies repos) i (shown_policy p)) same
     ∙ sym (map-set (λ r. shown_policy r.policy) repos i (get_or repos i new)) ∙ ap shown_policies (set-get_or repos i new)
+
+-- one more repository without rows
+pub policies-more : {X : Type 0} {G : Ghosts X} (hosted : List Policy) (repos : List (Repo X G)) (i : ℕ) (p : Policy) (repo : Repo X G) → i < length hosted → p ≡ get_or hosted i p → shown_policy repo.policy ≡ shown_policy p → shown_policies repos ≡ map shown_policy (take i hosted) → shown_policies (repos ++ repo ∷ []) ≡ map shown_policy (take (i + 1) hosted)
+policies-more hosted repos i p repo h at same before =
+    let more : take (i + 1) hosted ≡ take i hosted ++ get_or hosted i p ∷ [] = take_more hosted i p h in
+    rw (more, ← at, map-append (λ r. shown_policy r.policy) repos (repo ∷ []), map-append shown_policy (take i hosted) (p ∷ []), before, same)
+
+pub repos-more : {X : Type 0} {G : Ghosts X} (hosted : List Policy) (repos : List (Repo X G)) (i : ℕ) (p : Policy) (repo : Repo X G) → i < length hosted → p ≡ get_or hosted i p → shown_policy repo.policy ≡ shown_policy p → repo.rows.items ≡ [] → shown_repos repos ≡ map empty_hosted (map shown_policy (take i hosted)) → shown_repos (repos ++ repo ∷ []) ≡ map empty_hosted (map shown_policy (take (i + 1) hosted))
+repos-more hosted repos i p repo h at same none before =
+    let more : take (i + 1) hosted ≡ take i hosted ++ get_or hosted i p ∷ [] = take_more hosted i p h in
+    let here : shown_repo repo ≡ empty_hosted (shown_policy p) = ap (λ q. record { id = q.id; rows = shown_rows repo.rows.items }) same ∙ ap (λ rows. record { id = p.id; rows = shown_rows rows }) none in
+    rw (more, ← at, map-append shown_repo repos (repo ∷ []), map-append shown_policy (take i hosted) (p ∷ []), map-append empty_hosted (map shown_policy (take i hosted)) (shown_policy p ∷ []), before, here)

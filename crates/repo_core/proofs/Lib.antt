@@ -1,5 +1,7 @@
 mod HostedLemmas
 mod ListLemmas
+mod LookLemmas
 mod NumberLemmas
+mod PutLemmas
 mod RowLemmas
 mod TurnLemmas

@@ -1,10 +1,10 @@
 -- Rows in byte order of path: where a new one stands.
-use Rattle.std.proofs.Common.{◌≡◌, ℕ, ◌+◌, ◌<◌, Bool, true, false, if◌then◌else◌, List, [], ◌∷◌, ◌++◌, map, take, drop, get_or, set, insert, length, refl, ap, ◌∙◌, arith, ◌≤◌, is_ge, Ordering}
+use Rattle.std.proofs.Common.{◌≡◌, ℕ, ◌+◌, ◌<◌, Bool, true, false, if◌then◌else◌, List, [], ◌∷◌, ◌++◌, map, take, drop, get_or, set, insert, length, refl, ap, append_assoc, ◌∙◌, arith, ◌≤◌, is_ge, Ordering}
 use Rattle.std.specs.Str.{bytes_eq}
 use Rattle.std.specs.Ordering.{nat_cmp, match_ordering}
 use Rattle.std.specs.declared.cmp.Ordering.TheVariants.{Less, Equal, Greater}
 use Rattle.std.specs.Cmp.Lexicographic.{slice_cmp}
-use Rattle.std.proofs.lemmas.List.{drop_more, take-map, drop-map, map-append, append-nil, take_all, drop_all, get_or_default}
+use Rattle.std.proofs.lemmas.List.{drop_more, take_more, take-map, drop-map, map-append, append-nil, take_all, drop_all, get_or_default}
 use Rattle.std.proofs.lemmas.List.Edits.{map_over_more}
 use Rattle.outside.specs.declared.stores.Held.{Ghosts}
 use Rattle.repo_model.specs.Data as plain
@@ -22,12 +22,36 @@ match_ordering-ge Greater below here h = refl
 with_row-ge : (new row : plain.Row) (rows : List plain.Row) → true ≡ is_ge (slice_cmp nat_cmp row.path new.path) → with_row new (row ∷ rows) ≡ new ∷ row ∷ rows
 with_row-ge new row rows h = match_ordering-ge (slice_cmp nat_cmp row.path new.path) (row ∷ with_row new rows) (new ∷ row ∷ rows) h
 
+match_ordering-below : {X : Type 0} (o : Ordering) (below here : X) → false ≡ is_ge o → match_ordering o below here here ≡ below
+match_ordering-below Less below here h = refl
+match_ordering-below Equal below here h = cc
+match_ordering-below Greater below here h = cc
+
+-- after a row that is below it
+with_row-below : (new row : plain.Row) (rows : List plain.Row) → false ≡ is_ge (slice_cmp nat_cmp row.path new.path) → with_row new (row ∷ rows) ≡ row ∷ with_row new rows
+with_row-below new row rows h = match_ordering-below (slice_cmp nat_cmp row.path new.path) (row ∷ with_row new rows) (new ∷ row ∷ rows) h
+
 -- the place that was found, the rows before it being below
 pub insert-place : {X : Type 0} {G : Ghosts X} (rows : List (Row X G)) (i : ℕ) (d : Row X G) (new : plain.Row) → i < length rows → true ≡ is_ge (slice_cmp nat_cmp (get_or rows i d).path new.path) → shown_rows (take i rows) ++ with_row new (shown_rows (drop i rows)) ≡ with_row new (shown_rows rows) → insert (shown_rows rows) i new ≡ with_row new (shown_rows rows)
 insert-place rows i d new h ge front =
     let rest : drop i rows ≡ get_or rows i d ∷ drop (i + 1) rows = drop_more rows i d h in
     let here : with_row new (shown_rows (drop i rows)) ≡ new ∷ shown_rows (drop i rows) = rw rest (with_row-ge new (shown_row (get_or rows i d)) (shown_rows (drop (i + 1) rows)) ge) in
     rw (take-map shown_row i rows, drop-map shown_row i rows, ← here) front
+
+-- past a row that is below it
+pub front-more : {X : Type 0} {G : Ghosts X} (rows : List (Row X G)) (i : ℕ) (d : Row X G) (new : plain.Row) → i < length rows → false ≡ is_ge (slice_cmp nat_cmp (get_or rows i d).path new.path) → shown_rows (take i rows) ++ with_row new (shown_rows (drop i rows)) ≡ with_row new (shown_rows rows) → shown_rows (take (i + 1) rows) ++ with_row new (shown_rows (drop (i + 1) rows)) ≡ with_row new (shown_rows rows)
+front-more rows i d new h below front =
+    let x = get_or rows i d in
+    let rest : drop i rows ≡ x ∷ drop (i + 1) rows = drop_more rows i d h in
+    let more : take (i + 1) rows ≡ take i rows ++ x ∷ [] = take_more rows i d h in
+    let here : with_row new (shown_rows (drop i rows)) ≡ shown_row x ∷ with_row new (shown_rows (drop (i + 1) rows)) = rw rest (with_row-below new (shown_row x) (shown_rows (drop (i + 1) rows)) below) in
+    rw (more, map-append shown_row (take i rows) (x ∷ []), append_assoc, ← here) front
+
+-- after the rows, all of them being below it
+pub insert-last : {X : Type 0} {G : Ghosts X} (rows : List (Row X G)) (i : ℕ) (new : plain.Row) → length rows ≤ i → shown_rows (take i rows) ++ with_row new (shown_rows (drop i rows)) ≡ with_row new (shown_rows rows) → insert (shown_rows rows) (length rows) new ≡ with_row new (shown_rows rows)
+insert-last rows i new h front =
+    let last : shown_rows rows ++ new ∷ [] ≡ with_row new (shown_rows rows) = rw (take_all i rows h, drop_all i rows h) at front in
+    rw (take-map shown_row (length rows) rows, drop-map shown_row (length rows) rows, take_all (length rows) rows (omega arith), drop_all (length rows) rows (omega arith)) last
 
 -- a row that is shown where it was added
 pub shown_rows-insert : {X : Type 0} {G : Ghosts X} (rows : List (Row X G)) (i : ℕ) (row : Row X G) → shown_rows (insert rows i row) ≡ insert (shown_rows rows) i (shown_row row)

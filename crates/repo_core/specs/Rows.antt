@@ -2,8 +2,8 @@
 use Rattle.std.specs.Prelude.{◌≡◌, ◌⊎◌, ℕ, List, map}
 use Rattle.outside.specs.declared.stores.Held.{Ghosts}
 use Rattle.repo_model.specs.Data as plain
-use Rattle.repo_model.specs.State.{with_row, relisted as listed_again}
-use Rattle.repo_model.specs.Reply.{Reply, created, relisted, same, taken, no_memory}
+use Rattle.repo_model.specs.State.{Yard, with_row, leased, kept_draft, condemned_draft, relisted as listed_again}
+use Rattle.repo_model.specs.Reply.{Reply, file, created, relisted, same, taken, no_memory}
 use Rattle.repo_model.specs.Step.{new_row}
 use Rattle.repo_core.specs.Shown.{shown_parcel}
 use Rattle.repo_core.specs.declared.rows.Phase.{Phase}
@@ -44,3 +44,14 @@ abbrev pub rows_after : List ℕ → plain.Blob → ℕ → Reply → List plain
 rows_after path blob moment created rows = with_row (new_row path blob moment) rows
 rows_after path blob moment relisted rows = listed_again path moment rows
 rows_after path blob moment _ rows = rows
+
+-- the numbers of blobs once a file was looked at and that was the reply
+abbrev pub lent : Reply → Yard → Yard
+lent (file lease blob) yard = leased blob.number yard
+lent _ yard = yard
+
+-- the numbers of blobs once a put was over: its draft is a row's blob, or garbage, or still a draft
+abbrev pub settled : ℕ → PutOutcome → Yard → Yard
+settled draft Created yard = kept_draft draft yard
+settled draft NoMemory yard = yard
+settled draft _ yard = condemned_draft draft yard

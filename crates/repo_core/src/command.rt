@@ -1,3 +1,4 @@
+//! What may be asked of the repository.
 use outside::{Held, Parcel};
 use texts::Text;
 

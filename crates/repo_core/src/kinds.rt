@@ -1,3 +1,4 @@
+//! The kind of a file, as repositories take it.
 ghost use Rattle.std.specs.Prelude.{◌≡◌};
 ghost use Rattle.std.specs.Option.{option_map};
 ghost use Rattle.repo_model.specs.File.{file_kind};

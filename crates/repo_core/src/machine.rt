@@ -1,10 +1,18 @@
+//! The repository: each call is one turn.
+ghost use Rattle.std.specs.Prelude.{◌≡◌, Some, IsTrue};
+ghost use Rattle.repo_model.specs.State.{is_among};
+ghost use Rattle.repo_model.specs.Step.{look_reply};
+ghost use Rattle.repo_core.specs.Rows.{shown_row, shown_outcome, IsReply, lent, settled};
+ghost use Rattle.repo_core.specs.Shown.{shown_reply};
+
 use crate::command::Command;
-use crate::hosted::{Policy, Repo, empty_repos, knows, place_of, repo_at, takes};
+use crate::hosted::{self, Policy, Repo, empty_repos, knows, row_of, takes};
 use crate::reply::Reply;
-use crate::rows::{self, PutOutcome, row_at};
+use crate::rows::{PutOutcome, Row};
 use crate::turn::next_moment;
-use crate::yard::{NUMBER_END, Yard};
+use crate::yard::Yard;
 use outside::{Clock, Held, NoMemory, Parcel};
+use repo_model::NUMBER_END;
 use std::alloc::Global;
 use std::marker::Model;
 use texts::Text;
@@ -169,22 +177,10 @@ impl<C: Clock, H: Held> Core<C, H> {
     fn look(&mut self, repo: &str, path: &str) -> Reply<H>
         ensures { Turned self.old self.new (look repo.now path.now) (shown_reply result) }
     {
-        let Some(repo) = repo_at(&self.repos, repo) else {
+        let Some(row) = row_of(&self.repos, repo, path) else {
             return Reply::Missed;
         };
-        let Some(row) = row_at(&repo.rows, path) else {
-            return Reply::Missed;
-        };
-        if self.yard.is_out_of_leases() {
-            return Reply::Spent;
-        }
-        let Ok(parcel) = row.parcel.share() else {
-            return Reply::NoMemory;
-        };
-        match self.yard.lease(parcel.blob) {
-            Ok(lease) => Reply::File { lease, parcel },
-            Err(_) => Reply::NoMemory,
-        }
+        lend(&mut self.yard, row)
     }
 
     fn may_put(&mut self, repo: &str, path: &str) -> Reply<H>
@@ -209,27 +205,9 @@ impl<C: Clock, H: Held> Core<C, H> {
         if !self.yard.is_draft(draft) {
             return Reply::NoDraft;
         }
-        let place = place_of(&self.repos, repo);
-        let repo = &mut self.repos[place];
-        match rows::put(&mut repo.rows, path, parcel, self.last) {
-            PutOutcome::Created => {
-                self.yard.keep(draft);
-                Reply::Created
-            }
-            PutOutcome::Same => {
-                self.yard.condemn(draft);
-                Reply::Same
-            }
-            PutOutcome::Relisted => {
-                self.yard.condemn(draft);
-                Reply::Relisted
-            }
-            PutOutcome::Taken { kept, sent } => {
-                self.yard.condemn(draft);
-                Reply::Taken { kept, sent }
-            }
-            PutOutcome::NoMemory => Reply::NoMemory,
-        }
+        let outcome = hosted::put(&mut self.repos, repo, path, parcel, self.last);
+        settle(&mut self.yard, draft, &outcome);
+        reply_of(outcome)
     }
 
     fn drop_draft(&mut self, draft: u64) -> Reply<H>
@@ -239,5 +217,47 @@ impl<C: Clock, H: Held> Core<C, H> {
             self.yard.condemn(draft);
         }
         Reply::Dropped
+    }
+}
+
+// The answer where the file is there: its blob, lent.
+fn lend<H: Held>(yard: &mut Yard, row: &Row<H>) -> Reply<H>
+    ensures reply { IsReply (look_reply yard.old.next_lease (Some (shown_row row.now))) (shown_reply result) }
+    ensures yard { yard.new ≡ lent (shown_reply result) yard.old }
+{
+    if yard.is_out_of_leases() {
+        return Reply::Spent;
+    }
+    let Ok(parcel) = row.parcel.share() else {
+        return Reply::NoMemory;
+    };
+    match yard.lease(parcel.blob) {
+        Ok(lease) => Reply::File { lease, parcel },
+        Err(_) => Reply::NoMemory,
+    }
+}
+
+// A put is over: what becomes of its draft.
+fn settle(yard: &mut Yard, draft: u64, outcome: &PutOutcome)
+    requires { IsTrue (is_among draft yard.old.drafts) }
+    ensures { yard.new ≡ settled draft outcome.now yard.old }
+{
+    match outcome {
+        PutOutcome::Created => yard.keep(draft),
+        PutOutcome::NoMemory => {}
+        PutOutcome::Same | PutOutcome::Relisted | PutOutcome::Taken { .. } => yard.condemn(draft),
+    }
+}
+
+// What a put replies.
+fn reply_of<H: Held>(outcome: PutOutcome) -> Reply<H>
+    ensures { shown_reply result ≡ shown_outcome outcome }
+{
+    match outcome {
+        PutOutcome::Created => Reply::Created,
+        PutOutcome::Same => Reply::Same,
+        PutOutcome::Relisted => Reply::Relisted,
+        PutOutcome::Taken { kept, sent } => Reply::Taken { kept, sent },
+        PutOutcome::NoMemory => Reply::NoMemory,
     }
 }

@@ -1,3 +1,4 @@
+//! What the repository replies.
 use outside::{Held, Parcel};
 use repo_model::Print;
 

@@ -1,3 +1,4 @@
+//! The rows of a repository, one a path, in byte order.
 ghost use Rattle.std.specs.Prelude.{◌≡◌, ◌≤◌, length, insert, OnOk, OnErr};
 ghost use Rattle.std.specs.Option.{option_map};
 ghost use Rattle.repo_model.specs.Data as plain;
@@ -27,7 +28,7 @@ pub struct Row<H: Held> {
 }
 
 /// What putting a blob at a path did.
-#[derive(Drop)]
+#[derive(Clone, Copy)]
 pub enum PutOutcome {
     /// It is a new row.
     Created,
@@ -104,18 +105,34 @@ pub fn put<H: Held>(
     ensures rows { shown_rows rows.new.items
         ≡ rows_after path (shown_parcel parcel) moment (shown_outcome result) (shown_rows rows.old.items) }
 {
-    let sent = print_of(&parcel);
-    let Some(row) = row_at(rows, path.as_str()) else {
-        let row = Row {
-            path,
-            parcel,
-            accepted: moment,
-            phase: Phase::Listed,
-        };
-        return match add(rows, row) {
-            Ok(()) => PutOutcome::Created,
-            Err(_) => PutOutcome::NoMemory,
-        };
+    let outcome = outcome_of(rows, path.as_str(), print_of(&parcel));
+    match outcome {
+        PutOutcome::Created => {
+            let row = Row {
+                path,
+                parcel,
+                accepted: moment,
+                phase: Phase::Listed,
+            };
+            match add(rows, row) {
+                Ok(()) => PutOutcome::Created,
+                Err(_) => PutOutcome::NoMemory,
+            }
+        }
+        PutOutcome::Relisted => {
+            list_again(rows, path.as_str(), moment);
+            outcome
+        }
+        _ => outcome,
+    }
+}
+
+// What putting a blob of a fingerprint at a path does where memory is not wanting.
+fn outcome_of<H: Held>(rows: &[Row<H>], path: &str, sent: Print) -> PutOutcome
+    ensures { shown_outcome result ≡ put_reply sent (row_at path.now (shown_rows rows.now)) }
+{
+    let Some(row) = row_at(rows, path) else {
+        return PutOutcome::Created;
     };
     let kept = print_of(&row.parcel);
     if kept != sent {
@@ -123,9 +140,6 @@ pub fn put<H: Held>(
     }
     match row.phase {
         Phase::Listed => PutOutcome::Same,
-        Phase::Fading(_) => {
-            list_again(rows, path.as_str(), moment);
-            PutOutcome::Relisted
-        }
+        Phase::Fading(_) => PutOutcome::Relisted,
     }
 }

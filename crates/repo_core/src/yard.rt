@@ -1,13 +1,12 @@
+//! The numbers of blobs: drawn, lent, and given up.
 ghost use Rattle.std.specs.Prelude.{◌≡◌, ◌==◌, ◌≤◌, false, [], length, vec_len, insert, IsTrue, IfOk, OnErr};
 ghost use Rattle.repo_model.specs.Command.{number_end};
 ghost use Rattle.repo_model.specs.State.{is_among, with_number, without_number, condemned_draft, kept_draft, drawn_draft, leased, given_back};
 
 use outside::NoMemory;
+use repo_model::NUMBER_END;
 use std::alloc::{AllocError, Global};
 use std::marker::Model;
-
-/// Numbers that are drawn and lengths of blobs are below it: 2^63.
-pub const NUMBER_END: u64 = 9_223_372_036_854_775_808;
 
 /// A blob that a reader has borrowed.
 #[derive(Drop)]
