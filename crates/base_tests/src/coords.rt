@@ -1,11 +1,11 @@
 // Paths written out, with what is said of each, and the moments of stamps.
-use crate::plain_coords::{Said, add};
-use mvn_coords::{Coord, Dir, Kind, Side, Stamp, kind_of, path_of};
+use crate::plain_coords::{Said, line};
+use mvn_coords::{Build, Coord, Dir, Kind, Side, Stamp, kind_of, path_of};
 use std::alloc::{AllocError, Global};
 use std::test::Fail;
 
 // A path, and its fault or what its line begins with.
-const PATHS: [(&str, &str); 80] = [
+static PATHS: [(&str, &str); 80] = [
     ("", "Empty"),
     ("a/b.jar", "Short"),
     ("acme/lib/lib-1.0.jar", "Short"),
@@ -172,8 +172,16 @@ const PATHS: [(&str, &str); 80] = [
     ("acme/maven-metadata.xml.md5", "document acme   md5 "),
 ];
 
-// A path's front, what is repeated behind it and how often, its end, and its fault or kind.
-const LONG: [(&str, &str, usize, &str, &str); 5] = [
+/// A path's front, what is repeated behind it and how often, its end, and its fault or kind.
+type Long = (
+    &'static str,
+    &'static str,
+    usize,
+    &'static str,
+    &'static str,
+);
+
+static LONG: [Long; 5] = [
     ("a", "/a", 503, "/b/1/b-1.extension", "Long"),
     ("a", "/a", 503, "/b/1/b-1.extensio", "file"),
     ("a/b/1/b-1.", "x", 252, "", "BadSegment"),
@@ -181,53 +189,43 @@ const LONG: [(&str, &str, usize, &str, &str); 5] = [
     ("a/b/", "1", 129, "/b-1.jar", "BadSegment"),
 ];
 
-const MOMENTS: [(u64, &str); 3] = [
+static MOMENTS: [(u64, &str); 3] = [
     (0, "19700101.000000"),
     (1_709_208_000, "20240229.120000"),
     (253_402_207_200, "99991230.220000"),
 ];
 
-fn build_text(alloc: Global, c: &Coord<'_>) -> Result<String, AllocError> {
-    let Some(build) = c.build() else {
-        return Ok(String::new(alloc));
-    };
-    let mut text = String::new(alloc);
-    for byte in build.stamp().text() {
-        text.push(char::from(byte))?;
+fn build_text(alloc: Global, build: Option<Build>) -> Result<String, AllocError> {
+    match build {
+        Some(build) => {
+            let stamp = build.stamp().text();
+            let stamp = str::from_utf8(&stamp).unwrap_or("");
+            format!(in alloc; "{stamp}-{}", build.number())
+        }
+        None => Ok(String::new(alloc)),
     }
-    text.push_str("-")?;
-    text.push_str(build.number().to_string(alloc)?.as_str())?;
-    Ok(text)
 }
 
 fn file_line(alloc: Global, c: &Coord<'_>, side: &str) -> Result<String, AllocError> {
-    let build = build_text(alloc, c)?;
-    let mut line = String::from_str(alloc, "file ")?;
-    line.push_str(c.group())?;
-    line.push_str("/")?;
-    for part in [
+    let build = build_text(alloc, c.build())?;
+    let parts = [
         c.artifact(),
         c.dir(),
         build.as_str(),
         c.classifier(),
         c.extension(),
         side,
-    ] {
-        add(&mut line, part)?;
-    }
-    Ok(line)
+    ];
+    line(alloc, "file", &[c.group()], &parts)
 }
 
 fn document_line(alloc: Global, d: &Dir<'_>, side: &str) -> Result<String, AllocError> {
-    let mut line = String::from_str(alloc, "document ")?;
-    if !d.group().is_empty() {
-        line.push_str(d.group())?;
-        line.push_str("/")?;
+    let parts = [d.artifact(), d.version().unwrap_or(""), side];
+    if d.group().is_empty() {
+        line(alloc, "document", &[], &parts)
+    } else {
+        line(alloc, "document", &[d.group()], &parts)
     }
-    for part in [d.artifact(), d.version().unwrap_or(""), side] {
-        add(&mut line, part)?;
-    }
-    Ok(line)
 }
 
 fn side_text(side: Side) -> &'static str {
@@ -237,18 +235,32 @@ fn side_text(side: Side) -> &'static str {
     }
 }
 
+fn has_path(alloc: Global, c: &Coord<'_>, path: &str) -> Result<bool, AllocError> {
+    Ok(path_of(alloc, c)?.as_str() == path)
+}
+
+fn kind_line(alloc: Global, kind: &Kind<'_>) -> Result<String, AllocError> {
+    match kind {
+        Kind::File(c) => file_line(alloc, c, ""),
+        Kind::FileSide(c, side) => file_line(alloc, c, side_text(*side)),
+        Kind::Doc(d) => document_line(alloc, d, ""),
+        Kind::DocSide(d, side) => document_line(alloc, d, side_text(*side)),
+    }
+}
+
+fn real_line(alloc: Global, path: &str, kind: &Kind<'_>) -> Result<String, AllocError> {
+    match kind {
+        Kind::File(c) if !has_path(alloc, c, path)? => String::from_str(alloc, "another path"),
+        kind => kind_line(alloc, kind),
+    }
+}
+
 /// What the program says of a path, in one line.
 pub fn real(alloc: Global, path: &str) -> Result<Said, AllocError> {
-    Ok(match kind_of(path) {
-        Ok(Kind::File(c)) if path_of(alloc, &c)?.as_str() == path => {
-            Ok(file_line(alloc, &c, "")?)
-        }
-        Ok(Kind::File(_)) => Ok(String::from_str(alloc, "another path")?),
-        Ok(Kind::FileSide(c, side)) => Ok(file_line(alloc, &c, side_text(side))?),
-        Ok(Kind::Doc(d)) => Ok(document_line(alloc, &d, "")?),
-        Ok(Kind::DocSide(d, side)) => Ok(document_line(alloc, &d, side_text(side))?),
-        Err(fault) => Err(fault),
-    })
+    match kind_of(path) {
+        Ok(kind) => Ok(Ok(real_line(alloc, path, &kind)?)),
+        Err(fault) => Ok(Err(fault)),
+    }
 }
 
 // Whether a path has this fault, or a line that begins so.
@@ -260,8 +272,8 @@ fn is_said(alloc: Global, path: &str, want: &str) -> Result<bool, AllocError> {
 }
 
 // The first path of which something else is said.
-fn first_wrong_path(alloc: Global) -> Result<Option<usize>, AllocError> {
-    for (n, (path, want)) in PATHS.iter().enumerate() {
+fn first_wrong(alloc: Global, paths: &[(&str, &str)]) -> Result<Option<usize>, AllocError> {
+    for (n, (path, want)) in paths.iter().enumerate() {
         if !is_said(alloc, path, want)? {
             return Ok(Some(n));
         }
@@ -269,15 +281,25 @@ fn first_wrong_path(alloc: Global) -> Result<Option<usize>, AllocError> {
     Ok(None)
 }
 
+fn long_path(alloc: Global, long: &Long) -> Result<String, AllocError> {
+    let (front, unit, count, end, _) = long;
+    let mut path = String::from_str(alloc, front)?;
+    for _ in 0..*count {
+        path.push_str(unit)?;
+    }
+    path.push_str(end)?;
+    Ok(path)
+}
+
+fn first_wrong_path(alloc: Global) -> Result<Option<usize>, AllocError> {
+    first_wrong(alloc, &PATHS)
+}
+
 // The first long path of which something else is said.
 fn first_wrong_length(alloc: Global) -> Result<Option<usize>, AllocError> {
-    for (n, (front, unit, count, end, want)) in LONG.iter().enumerate() {
-        let mut path = String::from_str(alloc, front)?;
-        for _ in 0..*count {
-            path.push_str(unit)?;
-        }
-        path.push_str(end)?;
-        if !is_said(alloc, path.as_str(), want)? {
+    for (n, long) in LONG.iter().enumerate() {
+        let path = long_path(alloc, long)?;
+        if !is_said(alloc, path.as_str(), long.4)? {
             return Ok(Some(n));
         }
     }
@@ -286,8 +308,9 @@ fn first_wrong_length(alloc: Global) -> Result<Option<usize>, AllocError> {
 
 #[test]
 fn paths_are_read_as_written(rt: HostRuntime) -> Result<(), Fail> {
-    assert_eq!(rt; first_wrong_path(rt.alloc())?, None);
-    assert_eq!(rt; first_wrong_length(rt.alloc())?, None);
+    let path = first_wrong_path(rt.alloc())?;
+    let length = first_wrong_length(rt.alloc())?;
+    assert_eq!(rt; (path, length), (None, None));
     Ok(())
 }
 
@@ -303,12 +326,13 @@ fn first_wrong_moment() -> Option<usize> {
     None
 }
 
+fn stamps_are_ordered() -> bool {
+    let early = Stamp::parse("20240229.120000");
+    early.is_some() && early < Stamp::parse("20240301.080000")
+}
+
 #[test]
 fn stamps_of_moments(rt: HostRuntime) {
     assert_eq!(rt; first_wrong_moment(), None);
-    let (early, late) = (
-        Stamp::parse("20240229.120000"),
-        Stamp::parse("20240301.080000"),
-    );
-    assert!(rt; early.is_some() && early < late && Stamp::parse("20230229.120000").is_none());
+    assert!(rt; stamps_are_ordered() && Stamp::parse("20230229.120000").is_none());
 }

@@ -1,10 +1,10 @@
 // The digests of the first messages of FIPS 180-4's examples and of RFC 1321, section A.5.
-use mvn_digest::Hashes;
+use mvn_digest::{Digests, Hashes};
 
 /// Pieces of a message, and its SHA-1 and MD5.
 type Row = ([&'static [u8]; 3], &'static [u8], &'static [u8]);
 
-const ROWS: [Row; 2] = [
+static ROWS: [Row; 2] = [
     (
         [b"", b"", b""],
         b"da39a3ee5e6b4b0d3255bfef95601890afd80709",
@@ -17,15 +17,24 @@ const ROWS: [Row; 2] = [
     ),
 ];
 
+fn digests_of(pieces: &[&[u8]]) -> Digests {
+    let mut hashes = Hashes::new();
+    for piece in pieces {
+        hashes.update(piece);
+    }
+    hashes.finish()
+}
+
+fn is_right(row: &Row) -> bool {
+    let (pieces, sha1, md5) = row;
+    let digests = digests_of(pieces);
+    digests.sha1_text().as_slice() == *sha1 && digests.md5_text().as_slice() == *md5
+}
+
 // The first row with other digests.
 fn first_wrong() -> Option<usize> {
-    for (n, (pieces, sha1, md5)) in ROWS.iter().enumerate() {
-        let mut hashes = Hashes::new();
-        for piece in pieces {
-            hashes.update(piece);
-        }
-        let digests = hashes.finish();
-        if digests.sha1_text().as_slice() != *sha1 || digests.md5_text().as_slice() != *md5 {
+    for (n, row) in ROWS.iter().enumerate() {
+        if !is_right(row) {
             return Some(n);
         }
     }

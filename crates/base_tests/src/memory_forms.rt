@@ -28,16 +28,36 @@ fn greet_all<P: Port>(port: &mut P) -> Result<(), Failed> {
     Ok(())
 }
 
+// A port of connections with these rooms.
+fn port_of(alloc: Global, rooms: &[usize]) -> Result<ScriptPort<MemLink>, AllocError> {
+    let mut links = Vec::new(alloc);
+    for room in rooms {
+        links.push(link_of(alloc, *room)?)?;
+    }
+    ScriptPort::new(alloc, links, FaultScript::none(alloc))
+}
+
+// Whether these are the bytes written on the connections, one after the other.
+fn were_sent(links: &[MemLink], bytes: &[u8]) -> bool {
+    let mut rest = bytes;
+    for link in links {
+        match rest.strip_prefix(link.sink.bytes()) {
+            Some(behind) => rest = behind,
+            None => return false,
+        }
+    }
+    rest.is_empty()
+}
+
+fn greeted(port: &mut ScriptPort<MemLink>) -> bool {
+    greet_all(port).is_err() && greet_all(port).is_ok() && were_sent(port.given_back(), b"hhi")
+}
+
 #[test]
 fn a_port_takes_back_what_it_handed_out(rt: HostRuntime) -> Result<(), Fail> {
-    let links = vec![in rt.alloc(); link_of(rt.alloc(), 1)?, link_of(rt.alloc(), 3)?]?;
-    let mut port = ScriptPort::new(rt.alloc(), links, FaultScript::none(rt.alloc()))?;
-    assert!(rt; greet_all(&mut port).is_err() && greet_all(&mut port).is_ok());
-    let mut sent = Vec::new(rt.alloc());
-    for link in port.given_back() {
-        sent.extend_from_slice(link.sink.bytes())?;
-    }
-    assert!(rt; sent.as_slice() == b"hhi".as_slice());
+    let mut port = port_of(rt.alloc(), &[1, 3])?;
+    let greeted = greeted(&mut port);
+    assert!(rt; greeted);
     Ok(())
 }
 
@@ -54,11 +74,21 @@ fn keep<B: Blobs>(blobs: &mut B, body: &[u8]) -> Result<Parcel<B::Held>, BlobFau
     })
 }
 
+// Stores a body, and reads it through a shared parcel.
+fn read_shared<B: Blobs>(blobs: &mut B, body: &[u8]) -> Result<Vec<u8>, BlobFault> {
+    let shared = keep(blobs, body)?.share()?;
+    blobs.read(&shared.held)
+}
+
+fn reads_the_same(alloc: Global, body: &[u8]) -> Result<bool, BlobFault> {
+    let mut blobs = MemBlobs::new(alloc, FaultScript::none(alloc));
+    let bytes = read_shared(&mut blobs, body)?;
+    Ok(bytes.as_slice() == body)
+}
+
 #[test]
 fn a_shared_parcel_reads_the_same(rt: HostRuntime) -> Result<(), Fail> {
-    let mut blobs = MemBlobs::new(rt.alloc(), FaultScript::none(rt.alloc()));
-    let shared = keep(&mut blobs, b"abc")?.share()?;
-    let bytes = blobs.read(&shared.held)?;
-    assert!(rt; bytes.as_slice() == b"abc".as_slice());
+    let same = reads_the_same(rt.alloc(), b"abc")?;
+    assert!(rt; same);
     Ok(())
 }

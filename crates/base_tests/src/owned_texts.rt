@@ -3,15 +3,28 @@ use std::alloc::{AllocError, Global};
 use std::test::Fail;
 use texts::{Bytes, Text};
 
-fn is_kept(alloc: Global) -> Result<bool, AllocError> {
-    let text = Text::new(alloc, "lib-1.0.jar")?.copied(alloc)?;
-    let made = Text::from_string(String::from_str(alloc, "abc")?);
-    let bytes = Bytes::from_vec(Bytes::new(alloc, b"abc")?.into_vec());
-    Ok(text.as_str() == "lib-1.0.jar" && made.as_str().as_bytes() == bytes.as_slice())
+fn is_copied(alloc: Global, text: &str) -> Result<bool, AllocError> {
+    let copy = Text::new(alloc, text)?.copied(alloc)?;
+    Ok(copy.as_str() == text)
+}
+
+fn is_made(alloc: Global, text: &str) -> Result<bool, AllocError> {
+    let made = Text::from_string(String::from_str(alloc, text)?);
+    Ok(made.as_str() == text)
+}
+
+fn is_held(alloc: Global, bytes: &[u8]) -> Result<bool, AllocError> {
+    let held = Bytes::from_vec(Bytes::new(alloc, bytes)?.into_vec());
+    Ok(held.as_slice() == bytes)
+}
+
+fn are_kept(alloc: Global) -> Result<bool, AllocError> {
+    Ok(is_copied(alloc, "lib-1.0.jar")? && is_made(alloc, "abc")? && is_held(alloc, b"abc")?)
 }
 
 #[test]
 fn texts_are_kept(rt: HostRuntime) -> Result<(), Fail> {
-    assert!(rt; is_kept(rt.alloc())?);
+    let kept = are_kept(rt.alloc())?;
+    assert!(rt; kept);
     Ok(())
 }

@@ -6,20 +6,27 @@ use std::alloc::{AllocError, Global};
 /// What a path names in one line, or its fault.
 pub type Said = Result<String, PathFault>;
 
-/// Puts a part and a blank behind the line.
-pub fn add(line: &mut String, part: &str) -> Result<(), AllocError> {
-    line.push_str(part)?;
-    line.push_str(" ")?;
+// Puts the parts behind the line, and the mark behind each.
+fn add_all(line: &mut String, parts: &[&str], mark: &str) -> Result<(), AllocError> {
+    for part in parts {
+        line.push_str(part)?;
+        line.push_str(mark)?;
+    }
     Ok(())
 }
 
-// The segments, each with a slash behind it.
-fn add_all(line: &mut String, segments: &[&str]) -> Result<(), AllocError> {
-    for segment in segments {
-        line.push_str(segment)?;
-        line.push_str("/")?;
-    }
-    Ok(())
+/// A word, the segments of a group, and what else there is.
+pub fn line(
+    alloc: Global,
+    word: &str,
+    group: &[&str],
+    parts: &[&str],
+) -> Result<String, AllocError> {
+    let mut line = String::new(alloc);
+    add_all(&mut line, &[word], " ")?;
+    add_all(&mut line, group, "/")?;
+    add_all(&mut line, parts, " ")?;
+    Ok(line)
 }
 
 pub fn said(alloc: Global, path: &str) -> Result<Said, AllocError> {
@@ -29,21 +36,31 @@ pub fn said(alloc: Global, path: &str) -> Result<Said, AllocError> {
     if path.len() > 1024 {
         return Ok(Err(PathFault::Long));
     }
-    let mut segments: Vec<&str> = path.split('/').collect(alloc)?;
-    for segment in &segments {
+    let segments: Vec<&str> = path.split('/').collect(alloc)?;
+    said_of(alloc, segments.as_slice())
+}
+
+fn said_of(alloc: Global, segments: &[&str]) -> Result<Said, AllocError> {
+    let Some((last, directory)) = segments.split_last() else {
+        return Ok(Err(PathFault::Empty));
+    };
+    if !are_segments(segments) {
+        return Ok(Err(PathFault::BadSegment));
+    }
+    match side_of(last) {
+        Ok(("maven-metadata.xml", side)) => document(alloc, directory, side),
+        Ok((name, side)) => file(alloc, directory, name, side),
+        Err(fault) => Ok(Err(fault)),
+    }
+}
+
+fn are_segments(segments: &[&str]) -> bool {
+    for segment in segments {
         if !is_segment(segment) {
-            return Ok(Err(PathFault::BadSegment));
+            return false;
         }
     }
-    let (name, side) = match side_of(segments.pop().unwrap_or("")) {
-        Ok(cut) => cut,
-        Err(fault) => return Ok(Err(fault)),
-    };
-    if name == "maven-metadata.xml" {
-        document(alloc, segments.as_slice(), side)
-    } else {
-        file(alloc, segments.as_slice(), name, side)
-    }
+    true
 }
 
 fn is_segment(s: &str) -> bool {
@@ -79,17 +96,28 @@ fn are_digits(s: &str) -> bool {
     true
 }
 
+fn is_side(name: &str) -> bool {
+    match name.rsplit_once('.') {
+        Some((_, word)) => matches!(word, "sha1" | "md5" | "sha256" | "sha512"),
+        None => false,
+    }
+}
+
 // The last segment without its side suffix, and the side.
 fn side_of(last: &str) -> Result<(&str, &'static str), PathFault> {
-    let (rest, side) = match last.rsplit_once('.') {
-        Some((_, "sha256" | "sha512")) => return Err(PathFault::BadSide),
-        Some((rest, "sha1")) => (rest, " sha1"),
-        Some((rest, "md5")) => (rest, " md5"),
+    let Some((rest, word)) = last.rsplit_once('.') else {
+        return Ok((last, ""));
+    };
+    let side = match word {
+        "sha1" => " sha1",
+        "md5" => " md5",
+        "sha256" | "sha512" => return Err(PathFault::BadSide),
         _ => return Ok((last, "")),
     };
-    match rest.rsplit_once('.') {
-        Some((_, "sha1" | "md5" | "sha256" | "sha512")) => Err(PathFault::BadSide),
-        _ => Ok((rest, side)),
+    if is_side(rest) {
+        Err(PathFault::BadSide)
+    } else {
+        Ok((rest, side))
     }
 }
 
@@ -97,57 +125,56 @@ fn is_version(s: &str) -> bool {
     s.len() <= 128 && s != "SNAPSHOT" && s != "-SNAPSHOT"
 }
 
+fn is_snapshot(segment: &str) -> bool {
+    segment.ends_with("-SNAPSHOT") && segment != "-SNAPSHOT"
+}
+
 fn document(alloc: Global, directory: &[&str], side: &str) -> Result<Said, AllocError> {
     let Some((last, above)) = directory.split_last() else {
         return Ok(Err(PathFault::Short));
     };
-    let base = last.strip_suffix("-SNAPSHOT").unwrap_or("");
     let (group, artifact, version) = match above.split_last() {
-        Some((artifact, group)) if !base.is_empty() && !group.is_empty() => (
-            group, artifact, *last,
+        Some((artifact, group)) if is_snapshot(last) && !group.is_empty() => (
+            group, *artifact, *last,
         ),
-        _ => (above, last, ""),
+        _ => (above, *last, ""),
     };
     if !fits(group, artifact) || !is_version(version) {
         return Ok(Err(PathFault::BadSegment));
     }
-    let mut line = String::from_str(alloc, "document ")?;
-    add_all(&mut line, group)?;
-    add(&mut line, artifact)?;
-    add(&mut line, version)?;
-    add(&mut line, side)?;
-    Ok(Ok(line))
+    Ok(Ok(line(alloc, "document", group, &[artifact, version, side])?))
 }
 
-fn file(alloc: Global, directory: &[&str], name: &str, side: &str) -> Result<Said, AllocError> {
-    if directory.len() < 3 {
-        return Ok(Err(PathFault::Short));
+fn file<'a>(
+    alloc: Global,
+    directory: &[&'a str],
+    name: &'a str,
+    side: &'a str,
+) -> Result<Said, AllocError> {
+    match directory {
+        [group @ .., artifact, version] if !group.is_empty() => {
+            if !fits(group, artifact) || !is_version(version) {
+                return Ok(Err(PathFault::BadSegment));
+            }
+            file_in(alloc, group, [*artifact, *version, name, side])
+        }
+        _ => Ok(Err(PathFault::Short)),
     }
-    let (above, version) = (
-        &directory[..directory.len() - 1],
-        directory[directory.len() - 1],
-    );
-    let (group, artifact) = (&above[..above.len() - 1], above[above.len() - 1]);
-    if !fits(group, artifact) || !is_version(version) {
-        return Ok(Err(PathFault::BadSegment));
+}
+
+// What is said of a file by its group, artifact, version, name and side.
+fn file_in(
+    alloc: Global,
+    group: &[&str],
+    [artifact, version, name, side]: [&str; 4],
+) -> Result<Said, AllocError> {
+    match parts_of_name(artifact, version, name) {
+        Ok((build, classifier, extension)) => {
+            let parts = [artifact, version, build, classifier, extension, side];
+            Ok(Ok(line(alloc, "file", group, &parts)?))
+        }
+        Err(fault) => Ok(Err(fault)),
     }
-    let (build, tail) = match ending(alloc, artifact, version, name)? {
-        Ok(ending) => ending,
-        Err(fault) => return Ok(Err(fault)),
-    };
-    let Some((classifier, extension)) = tail_of(tail) else {
-        return Ok(Err(PathFault::NotNamed));
-    };
-    let mut line = String::from_str(alloc, "file ")?;
-    add_all(&mut line, group)?;
-    for part in [artifact, version] {
-        add(&mut line, part)?;
-    }
-    for part in [build, classifier, extension] {
-        add(&mut line, part)?;
-    }
-    add(&mut line, side)?;
-    Ok(Ok(line))
 }
 
 // The classifier, which may be missing, and the extension.
@@ -164,45 +191,73 @@ fn tail_of(tail: &str) -> Option<(&str, &str)> {
     Some((classifier, extension))
 }
 
+// What stands in a name behind these parts of its front.
+fn behind<'a>(name: &'a str, front: &[&str]) -> Result<&'a str, PathFault> {
+    let mut rest = name;
+    for part in front {
+        match rest.strip_prefix(*part) {
+            Some(more) => rest = more,
+            None => return Err(PathFault::NotNamed),
+        }
+    }
+    Ok(rest)
+}
+
 // The build of a name, `yyyyMMdd.HHmmss-number` or nothing, and its tail.
 fn ending<'a>(
-    alloc: Global,
     artifact: &str,
     version: &str,
     name: &'a str,
-) -> Result<Result<(&'a str, &'a str), PathFault>, AllocError> {
-    let Some(base) = version.strip_suffix("-SNAPSHOT") else {
-        let front = format!(in alloc; "{artifact}-{version}")?;
-        return Ok(match name.strip_prefix(front.as_str()) {
-            Some(tail) => Ok(("", tail)),
-            None => Err(PathFault::NotNamed),
-        });
-    };
-    let front = format!(in alloc; "{artifact}-{base}-")?;
-    Ok(match name.strip_prefix(front.as_str()) {
-        Some(rest) => build(rest),
+) -> Result<(&'a str, &'a str), PathFault> {
+    match version.strip_suffix("-SNAPSHOT") {
+        Some(base) => build(behind(name, &[artifact, "-", base, "-"])?),
+        None => Ok(("", behind(name, &[artifact, "-", version])?)),
+    }
+}
+
+// The build of a name, its classifier and its extension.
+fn parts_of_name<'a>(
+    artifact: &str,
+    version: &str,
+    name: &'a str,
+) -> Result<(&'a str, &'a str, &'a str), PathFault> {
+    let (build, tail) = ending(artifact, version, name)?;
+    match tail_of(tail) {
+        Some((classifier, extension)) => Ok((build, classifier, extension)),
         None => Err(PathFault::NotNamed),
-    })
+    }
+}
+
+// Whether a name goes on with `SNAPSHOT` in place of a build.
+fn is_literal(rest: &str) -> bool {
+    match rest.strip_prefix("SNAPSHOT") {
+        Some(after) => after.is_empty() || after.starts_with('.') || after.starts_with('-'),
+        None => false,
+    }
+}
+
+// What stands behind a dash and the number of a build.
+fn behind_number(after: &str) -> Option<&str> {
+    let run = after.strip_prefix("-")?;
+    let digits = leading_digits(run);
+    if digits == 0 || digits > 9 || run.starts_with('0') {
+        return None;
+    }
+    let (_, tail) = run.split_at_checked(digits)?;
+    Some(tail)
 }
 
 fn build(rest: &str) -> Result<(&str, &str), PathFault> {
-    if let Some(after) = rest.strip_prefix("SNAPSHOT")
-        && (after.is_empty() || after.starts_with('.') || after.starts_with('-'))
-    {
+    if is_literal(rest) {
         return Err(PathFault::LiteralSnapshot);
     }
-    let Some((stamp, after)) = rest.split_at_checked(15) else {
-        return Err(PathFault::BadStamp);
-    };
-    if !is_stamp(stamp) {
-        return Err(PathFault::BadStamp);
+    match rest.split_at_checked(15) {
+        Some((stamp, after)) if is_stamp(stamp) => {
+            let tail = behind_number(after).ok_or(PathFault::BadBuild)?;
+            Ok((rest.strip_suffix(tail).unwrap_or(rest), tail))
+        }
+        _ => Err(PathFault::BadStamp),
     }
-    let run = after.strip_prefix("-").ok_or(PathFault::BadBuild)?;
-    let digits = leading_digits(run);
-    if digits == 0 || digits > 9 || run.starts_with('0') {
-        return Err(PathFault::BadBuild);
-    }
-    Ok(rest.split_at_checked(16 + digits).unwrap_or((rest, "")))
 }
 
 // How many digits a text begins with.
@@ -224,35 +279,46 @@ fn number(text: &str) -> u32 {
     }
 }
 
-fn is_stamp(text: &str) -> bool {
-    let Some((date, time)) = text.split_once('.') else {
-        return false;
-    };
-    let (Some((year, day)), Some((hour, second))) = (
-        date.split_at_checked(4),
-        time.split_at_checked(2),
-    ) else {
-        return false;
-    };
-    let (Some((month, day)), Some((minute, second))) = (
-        day.split_at_checked(2),
-        second.split_at_checked(2),
-    ) else {
-        return false;
-    };
-    let leap = number(year) % 4 == 0 && (number(year) % 100 != 0 || number(year) % 400 == 0);
-    let days = match number(month) {
+fn days_of(year: u32, month: u32) -> u32 {
+    let leap = year % 4 == 0 && (year % 100 != 0 || year % 400 == 0);
+    match month {
         1 | 3 | 5 | 7 | 8 | 10 | 12 => 31,
         4 | 6 | 9 | 11 => 30,
         2 if leap => 29,
         2 => 28,
         _ => 0,
-    };
-    are_digits(year)
-        && day.len() == 2
-        && second.len() == 2
-        && (1..=days).contains(&number(day))
-        && number(hour) < 24
-        && number(minute) < 60
-        && number(second) < 60
+    }
+}
+
+// A text in three parts, of this length, of two bytes and of two bytes.
+fn parts_of(text: &str, first: usize) -> Option<(&str, &str, &str)> {
+    let (front, rest) = text.split_at_checked(first)?;
+    let (middle, end) = rest.split_at_checked(2)?;
+    (end.len() == 2).then_some((front, middle, end))
+}
+
+fn is_date(text: &str) -> bool {
+    match parts_of(text, 4) {
+        Some((year, month, day)) => {
+            let days = days_of(number(year), number(month));
+            are_digits(year) && (1..=days).contains(&number(day))
+        }
+        None => false,
+    }
+}
+
+fn is_time(text: &str) -> bool {
+    match parts_of(text, 2) {
+        Some((hour, minute, second)) => {
+            number(hour) < 24 && number(minute) < 60 && number(second) < 60
+        }
+        None => false,
+    }
+}
+
+fn is_stamp(text: &str) -> bool {
+    match text.split_once('.') {
+        Some((date, time)) => is_date(date) && is_time(time),
+        None => false,
+    }
 }

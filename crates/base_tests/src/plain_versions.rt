@@ -15,31 +15,43 @@ struct Piece {
     text: Vec<u8>,
 }
 
+fn empty(alloc: Global, mark: u8) -> Piece {
+    Piece {
+        mark,
+        text: Vec::new(alloc),
+    }
+}
+
+fn lowered(byte: u8) -> u8 {
+    match byte {
+        b'_' => b'-',
+        b'A'..=b'Z' => byte | 0x20,
+        other => other,
+    }
+}
+
+fn is_separator(byte: u8) -> bool {
+    byte == b'.' || byte == b'-'
+}
+
+// The mark of the piece that a byte begins behind a text, or none where it begins none.
+fn mark_at(text: &[u8], byte: u8) -> Option<u8> {
+    if is_separator(byte) {
+        return Some(byte);
+    }
+    let last = text.last()?;
+    (last.is_ascii_digit() != byte.is_ascii_digit()).then_some(SEAM)
+}
+
 fn pieces(alloc: Global, text: &str) -> Result<Vec<Piece>, AllocError> {
     let mut pieces = Vec::new(alloc);
-    let mut piece = Piece {
-        mark: b'.',
-        text: Vec::new(alloc),
-    };
+    let mut piece = empty(alloc, b'.');
     for byte in text.as_bytes() {
-        let byte = match *byte {
-            b'_' => b'-',
-            b'A'..=b'Z' => *byte | 0x20,
-            other => other,
-        };
-        let separator = byte == b'.' || byte == b'-';
-        let seam = match piece.text.as_slice().last() {
-            None => false,
-            Some(last) => !separator && last.is_ascii_digit() != byte.is_ascii_digit(),
-        };
-        if separator || seam {
-            let next = Piece {
-                mark: if separator { byte } else { SEAM },
-                text: Vec::new(alloc),
-            };
-            pieces.push(mem::replace(&mut piece, next))?;
+        let byte = lowered(*byte);
+        if let Some(mark) = mark_at(piece.text.as_slice(), byte) {
+            pieces.push(mem::replace(&mut piece, empty(alloc, mark)))?;
         }
-        if !separator {
+        if !is_separator(byte) {
             piece.text.push(byte)?;
         }
     }
@@ -97,45 +109,69 @@ fn is_taken(tokens: &[(u8, &[u8])]) -> bool {
     false
 }
 
-fn element(alloc: Global, mark: u8, text: &[u8]) -> Result<Element, AllocError> {
-    if is_number(text) {
-        let mut digits = Vec::new(alloc);
-        for digit in text {
-            if *digit != b'0' || !digits.is_empty() {
-                digits.push(*digit)?;
-            }
+// The digits without the zeros in front.
+fn without_zeros(digits: &[u8]) -> &[u8] {
+    for n in 0..digits.len() {
+        if digits[n] != b'0' {
+            return &digits[n..];
         }
-        let rank = if mark == b'.' { 10 } else { 9 };
-        return Ok((rank, digits.len(), digits));
     }
-    let rank = match text {
+    b""
+}
+
+fn rank_of(word: &[u8]) -> u8 {
+    match word {
         b"alpha" => 1,
         b"beta" => 2,
         b"milestone" => 3,
         b"rc" => 4,
         b"snapshot" => 5,
         b"sp" => 7,
-        _ => return Ok((8, 0, Vec::from_slice(alloc, text)?)),
+        _ => 8,
+    }
+}
+
+fn element(alloc: Global, mark: u8, text: &[u8]) -> Result<Element, AllocError> {
+    let (rank, count, kept) = if is_number(text) {
+        let digits = without_zeros(text);
+        (if mark == b'.' { 10 } else { 9 }, digits.len(), digits)
+    } else {
+        let rank = rank_of(text);
+        (rank, 0, if rank == 8 { text } else { b"" })
     };
-    Ok((rank, 0, Vec::new(alloc)))
+    Ok((rank, count, Vec::from_slice(alloc, kept)?))
+}
+
+fn is_left_out(text: &[u8]) -> bool {
+    matches!(text, b"ga" | b"final" | b"release")
+}
+
+// The mark and the text of each piece that counts.
+fn tokens_of(alloc: Global, pieces: &[Piece]) -> Result<Vec<(u8, &[u8])>, AllocError> {
+    let mut tokens = Vec::new(alloc);
+    for (i, piece) in pieces.iter().enumerate() {
+        let text = full(piece.text.as_slice(), pieces.get(i + 1));
+        if !is_left_out(text) {
+            tokens.push((piece.mark, text))?;
+        }
+    }
+    Ok(tokens)
+}
+
+fn elements_of(alloc: Global, tokens: &[(u8, &[u8])]) -> Result<Vec<Element>, AllocError> {
+    let mut elements = Vec::new(alloc);
+    for (i, token) in tokens.iter().enumerate() {
+        if !is_taken(&tokens[i..]) {
+            elements.push(element(alloc, token.0, token.1)?)?;
+        }
+    }
+    Ok(elements)
 }
 
 pub fn key(alloc: Global, text: &str) -> Result<Vec<Element>, AllocError> {
     let pieces = pieces(alloc, text)?;
-    let mut tokens = Vec::new(alloc);
-    for (i, piece) in pieces.iter().enumerate() {
-        let text = full(piece.text.as_slice(), pieces.get(i + 1));
-        if !matches!(text, b"ga" | b"final" | b"release") {
-            tokens.push((piece.mark, text))?;
-        }
-    }
-    let mut key = Vec::new(alloc);
-    for (i, token) in tokens.iter().enumerate() {
-        if !is_taken(&tokens[i..]) {
-            key.push(element(alloc, token.0, token.1)?)?;
-        }
-    }
-    Ok(key)
+    let tokens = tokens_of(alloc, pieces.as_slice())?;
+    elements_of(alloc, tokens.as_slice())
 }
 
 pub fn compare(alloc: Global, left: &[Element], right: &[Element]) -> Ordering {

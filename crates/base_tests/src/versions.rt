@@ -6,7 +6,7 @@ use std::cmp::Ordering;
 use std::test::Fail;
 
 // Each first is as the second.
-const ALIKE: [(&str, &str); 18] = [
+static ALIKE: [(&str, &str); 18] = [
     ("1", "1.0"),
     ("1", "1-ga"),
     ("1", "1.0.0"),
@@ -28,7 +28,7 @@ const ALIKE: [(&str, &str); 18] = [
 ];
 
 // Each first is below the second.
-const BELOW: [(&str, &str); 21] = [
+static BELOW: [(&str, &str); 21] = [
     ("1.0-rc1", "1.0-SNAPSHOT"),
     ("1.0-SNAPSHOT", "1.0"),
     ("1.0", "1.0-sp"),
@@ -52,7 +52,7 @@ const BELOW: [(&str, &str); 21] = [
     ("1.0-0.1.1.1", "1.0.1"),
 ];
 
-const PARTS: [&str; 26] = [
+static PARTS: [&str; 26] = [
     "0",
     "1",
     "00",
@@ -81,15 +81,22 @@ const PARTS: [&str; 26] = [
     "milestone",
 ];
 
-// The order of two texts, or none where the plain program orders them otherwise.
-fn order_of(alloc: Global, left: &str, right: &str) -> Result<Option<Ordering>, AllocError> {
-    let order = compare(
-        &Version::parse(alloc, left)?,
-        &Version::parse(alloc, right)?,
-    );
+fn real_order(alloc: Global, left: &str, right: &str) -> Result<Ordering, AllocError> {
+    let left = Version::parse(alloc, left)?;
+    let right = Version::parse(alloc, right)?;
+    Ok(compare(&left, &right))
+}
+
+fn plain_order(alloc: Global, left: &str, right: &str) -> Result<Ordering, AllocError> {
     let left = plain_versions::key(alloc, left)?;
     let right = plain_versions::key(alloc, right)?;
-    Ok((plain_versions::compare(alloc, &left, &right) == order).then_some(order))
+    Ok(plain_versions::compare(alloc, &left, &right))
+}
+
+// The order of two texts, or none where the plain program orders them otherwise.
+fn order_of(alloc: Global, left: &str, right: &str) -> Result<Option<Ordering>, AllocError> {
+    let order = real_order(alloc, left, right)?;
+    Ok((plain_order(alloc, left, right)? == order).then_some(order))
 }
 
 // The first pair of a list that has another order.
@@ -108,8 +115,9 @@ fn first_wrong(
 
 #[test]
 fn follows_the_table(rt: HostRuntime) -> Result<(), Fail> {
-    assert_eq!(rt; first_wrong(rt.alloc(), &ALIKE, Ordering::Equal)?, None);
-    assert_eq!(rt; first_wrong(rt.alloc(), &BELOW, Ordering::Less)?, None);
+    let alike = first_wrong(rt.alloc(), &ALIKE, Ordering::Equal)?;
+    let below = first_wrong(rt.alloc(), &BELOW, Ordering::Less)?;
+    assert_eq!(rt; (alike, below), (None, None));
     Ok(())
 }
 
@@ -149,24 +157,34 @@ fn agrees_with_the_plain_program(rt: HostRuntime) -> Result<(), Fail> {
     Ok(())
 }
 
-// The texts in the order of their versions, each with a blank behind it.
-fn sorted(alloc: Global, texts: &[&str]) -> Result<String, AllocError> {
+fn parsed(alloc: Global, texts: &[&str]) -> Result<Vec<Version>, AllocError> {
     let mut versions = Vec::new(alloc);
     for text in texts {
         versions.push(Version::parse(alloc, text)?)?;
     }
-    versions.sort()?;
+    Ok(versions)
+}
+
+fn joined(alloc: Global, versions: &[Version]) -> Result<String, AllocError> {
     let mut all = String::new(alloc);
-    for version in &versions {
+    for version in versions {
         all.push_str(version.as_str())?;
         all.push_str(" ")?;
     }
     Ok(all)
 }
 
+// The texts in the order of their versions, each with a blank behind it.
+fn sorted(alloc: Global, texts: &[&str]) -> Result<String, AllocError> {
+    let mut versions = parsed(alloc, texts)?;
+    versions.sort()?;
+    joined(alloc, versions.as_slice())
+}
+
 #[test]
 fn sorts_lists(rt: HostRuntime) -> Result<(), Fail> {
     let texts = ["1.10", "1.0", "1.9", "1-ga", "1", "1.0-rc1", "1.0.0"];
-    assert!(rt; sorted(rt.alloc(), &texts)?.as_str() == "1.0-rc1 1 1-ga 1.0 1.0.0 1.9 1.10 ");
+    let sorted = sorted(rt.alloc(), &texts)?;
+    assert!(rt; sorted.as_str() == "1.0-rc1 1 1-ga 1.0 1.0.0 1.9 1.10 ");
     Ok(())
 }

@@ -87,30 +87,59 @@ pub struct Bench {
     blobs: MemBlobs,
 }
 
-fn policy(alloc: Global, id: &str, releases: bool, snapshots: bool) -> Result<Policy, AllocError> {
-    Ok(Policy {
-        id: Text::new(alloc, id)?,
-        releases,
-        snapshots,
-    })
+// Repositories, and whether each takes releases and snapshots.
+static HOSTED: [(&str, bool, bool); 3] = [
+    ("releases", true, false),
+    ("mixed", true, true),
+    ("snapshots", false, true),
+];
+
+fn policies(alloc: Global) -> Result<Vec<Policy>, AllocError> {
+    let mut policies = Vec::new(alloc);
+    for (id, releases, snapshots) in &HOSTED {
+        policies.push(Policy {
+            id: Text::new(alloc, id)?,
+            releases: *releases,
+            snapshots: *snapshots,
+        })?;
+    }
+    Ok(policies)
+}
+
+fn core_of(alloc: Global, hosted: &[Policy]) -> Result<Core<ScriptClock, MemHeld>, AllocError> {
+    let clock = ScriptClock::stepping(alloc, 1_700_000_000, 1);
+    match Core::plain(alloc, hosted, 1_000, clock) {
+        Ok(core) => Ok(core),
+        Err((error, _)) => Err(error),
+    }
+}
+
+fn texts(alloc: Global, repo: &str, path: &str) -> Result<(Text, Text), AllocError> {
+    let repo = Text::new(alloc, repo)?;
+    let path = Text::new(alloc, path)?;
+    Ok((repo, path))
+}
+
+fn look(alloc: Global, repo: &str, path: &str) -> Result<Command<MemHeld>, AllocError> {
+    let (repo, path) = texts(alloc, repo, path)?;
+    Ok(Command::Look { repo, path })
+}
+
+fn may_put(alloc: Global, repo: &str, path: &str) -> Result<Command<MemHeld>, AllocError> {
+    let (repo, path) = texts(alloc, repo, path)?;
+    Ok(Command::MayPut { repo, path })
 }
 
 impl Bench {
     /// The repositories `releases`, `mixed` and `snapshots`, which take what their ids say. The clock goes on by a
     /// second each time that it is read.
     pub fn new(alloc: Global) -> Result<Bench, Fail> {
-        let hosted = vec![in alloc;
-            policy(alloc, "releases", true, false)?,
-            policy(alloc, "mixed", true, true)?,
-            policy(alloc, "snapshots", false, true)?,
-        ]?;
-        let clock = ScriptClock::stepping(alloc, 1_700_000_000, 1);
-        let core = match Core::plain(alloc, &hosted, 1_000, clock) {
-            Ok(core) => core,
-            Err((error, _)) => return Err(error.into()),
-        };
-        let blobs = MemBlobs::new(alloc, FaultScript::none(alloc));
-        Ok(Bench { alloc, core, blobs })
+        let hosted = policies(alloc)?;
+        Ok(Bench {
+            alloc,
+            core: core_of(alloc, hosted.as_slice())?,
+            blobs: MemBlobs::new(alloc, FaultScript::none(alloc)),
+        })
     }
 
     /// A parcel of these bytes, stored under a number.
@@ -125,34 +154,51 @@ impl Bench {
         })
     }
 
-    pub fn command(&mut self, ask: Ask) -> Result<Command<MemHeld>, Fail> {
-        let alloc = self.alloc;
-        Ok(match ask {
-            Ask::Done(lease) => Command::Done { lease },
-            Ask::Drop(draft) => Command::Drop { draft },
-            Ask::Look(repo, path) => Command::Look {
-                repo: Text::new(alloc, repo)?,
-                path: Text::new(alloc, path)?,
-            },
-            Ask::MayPut(repo, path) => Command::MayPut {
-                repo: Text::new(alloc, repo)?,
-                path: Text::new(alloc, path)?,
-            },
-            Ask::Put(repo, path, draft, bytes) => Command::Put {
-                repo: Text::new(alloc, repo)?,
-                path: Text::new(alloc, path)?,
-                draft,
-                parcel: self.parcel(draft, bytes)?,
-            },
+    fn put(
+        &mut self,
+        repo: &str,
+        path: &str,
+        draft: u64,
+        bytes: &[u8],
+    ) -> Result<Command<MemHeld>, Fail> {
+        let parcel = self.parcel(draft, bytes)?;
+        let (repo, path) = texts(self.alloc, repo, path)?;
+        Ok(Command::Put {
+            repo,
+            path,
+            draft,
+            parcel,
         })
+    }
+
+    fn command(&mut self, ask: Ask) -> Result<Command<MemHeld>, Fail> {
+        match ask {
+            Ask::Done(lease) => Ok(Command::Done { lease }),
+            Ask::Drop(draft) => Ok(Command::Drop { draft }),
+            Ask::Look(repo, path) => Ok(look(self.alloc, repo, path)?),
+            Ask::MayPut(repo, path) => Ok(may_put(self.alloc, repo, path)?),
+            Ask::Put(repo, path, draft, bytes) => self.put(repo, path, draft, bytes),
+        }
+    }
+
+    /// Whether a command meets its condition.
+    pub fn fits(&mut self, ask: Ask) -> Result<bool, Fail> {
+        let command = self.command(ask)?;
+        Ok(self.core.fits(&command))
+    }
+
+    // The core's reply, or `Other` where the command does not meet its condition.
+    fn said(&mut self, command: Command<MemHeld>) -> Said {
+        if self.core.fits(&command) {
+            value_of(self.core.call(command))
+        } else {
+            Said::Other
+        }
     }
 
     /// One call, or `Other` where the command does not meet its condition.
     pub fn answer(&mut self, ask: Ask) -> Result<Said, Fail> {
         let command = self.command(ask)?;
-        if !self.core.fits(&command) {
-            return Ok(Said::Other);
-        }
-        Ok(value_of(self.core.call(command)))
+        Ok(self.said(command))
     }
 }

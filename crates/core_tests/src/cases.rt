@@ -20,7 +20,7 @@ const NOTHING: Seen = Seen {
 };
 
 // Commands and their replies, one after the other.
-const STEPS: [(Ask, Said); 29] = [
+static STEPS: [(Ask, Said); 29] = [
     // a file is put once and stays
     (Ask::Look("releases", JAR), Said::Missed),
     (Ask::MayPut("releases", JAR), Said::Draft(1)),
@@ -56,7 +56,7 @@ const STEPS: [(Ask, Said); 29] = [
 ];
 
 // Commands, and whether each meets its condition.
-const FIT: [(Ask, bool); 11] = [
+static FIT: [(Ask, bool); 11] = [
     (Ask::Look("central", JAR), false),
     (Ask::MayPut("", JAR), false),
     (Ask::Put("snapshots", JAR, 1, b"abc"), false),
@@ -76,10 +76,15 @@ const FIT: [(Ask, bool); 11] = [
     (Ask::Put("snapshots", BUILD, 1, b"abc"), true),
 ];
 
+fn is_answered(bench: &mut Bench, step: &(Ask, Said)) -> Result<bool, Fail> {
+    let answer = bench.answer(step.0)?;
+    Ok(answer == step.1)
+}
+
 // The first step with another reply.
 fn first_wrong(bench: &mut Bench) -> Result<Option<usize>, Fail> {
-    for (n, (ask, want)) in STEPS.iter().enumerate() {
-        if bench.answer(*ask)? != *want {
+    for (n, step) in STEPS.iter().enumerate() {
+        if !is_answered(bench, step)? {
             return Ok(Some(n));
         }
     }
@@ -89,22 +94,34 @@ fn first_wrong(bench: &mut Bench) -> Result<Option<usize>, Fail> {
 // The first command that fits and is not to, or the other way round.
 fn first_unfit(bench: &mut Bench) -> Result<Option<usize>, Fail> {
     for (n, (ask, want)) in FIT.iter().enumerate() {
-        let command = bench.command(*ask)?;
-        if bench.core.fits(&command) != *want {
+        if bench.fits(*ask)? != *want {
             return Ok(Some(n));
         }
     }
     Ok(None)
 }
 
+// The first command that is wrong in one list, and in the other.
+fn all_wrong(bench: &mut Bench) -> Result<(Option<usize>, Option<usize>), Fail> {
+    let unfit = first_unfit(bench)?;
+    let wrong = first_wrong(bench)?;
+    Ok((unfit, wrong))
+}
+
+// How many calls there were, and what the clock then tells.
+fn end_of(bench: Bench) -> (u64, u64) {
+    let calls = bench.core.calls();
+    let mut clock = bench.core.end();
+    (calls, clock.now())
+}
+
 #[test]
 fn commands_are_answered_as_written(rt: HostRuntime) -> Result<(), Fail> {
     let mut bench = Bench::new(rt.alloc())?;
-    assert_eq!(rt; first_unfit(&mut bench)?, None);
-    assert_eq!(rt; first_wrong(&mut bench)?, None);
-    assert_eq!(rt; bench.core.calls(), 29);
+    let wrong = all_wrong(&mut bench)?;
+    let end = end_of(bench);
+    assert_eq!(rt; wrong, (None, None));
     // each turn reads the clock once
-    let mut clock = bench.core.end();
-    assert_eq!(rt; clock.now(), 1_700_000_029);
+    assert_eq!(rt; end, (29, 1_700_000_029));
     Ok(())
 }

@@ -6,9 +6,9 @@ use crate::plain::{Plain, takes};
 use std::alloc::Global;
 use std::test::Fail;
 
-const REPOS: [&str; 3] = ["releases", "mixed", "snapshots"];
+static REPOS: [&str; 3] = ["releases", "mixed", "snapshots"];
 
-const PATHS: [&str; 6] = [
+static PATHS: [&str; 6] = [
     "org/acme/lib/1.0/lib-1.0.jar",
     "org/acme/lib/1.0/lib-1.0.pom",
     "org/acme/lib/1.0/lib-1.0-sources.jar",
@@ -17,7 +17,7 @@ const PATHS: [&str; 6] = [
     "org/acme/lib/1.1-SNAPSHOT/lib-1.1-20240102.030405-1.jar",
 ];
 
-const CONTENTS: [&[u8]; 3] = [b"", b"abc", b"abd"];
+static CONTENTS: [&[u8]; 3] = [b"", b"abc", b"abd"];
 
 /// Numbers that look random: a linear congruence with the multiplier and the increment of Knuth's MMIX.
 #[derive(Drop)]
@@ -51,27 +51,53 @@ impl Numbers {
     }
 }
 
+/// Both machines, and the numbers that their commands are made of.
+#[derive(Drop)]
+struct Pair {
+    bench: Bench,
+    plain: Plain,
+    numbers: Numbers,
+}
+
+impl Pair {
+    fn new(alloc: Global) -> Result<Pair, Fail> {
+        Ok(Pair {
+            bench: Bench::new(alloc)?,
+            plain: Plain::new(alloc),
+            numbers: Numbers(1),
+        })
+    }
+
+    // What both answer to the next command, or none where they answer otherwise.
+    fn step(&mut self) -> Result<Option<Said>, Fail> {
+        let ask = self.numbers.next_ask(&self.plain.drafts);
+        let answer = self.bench.answer(ask)?;
+        let plain = self.plain.turn(ask)?;
+        Ok((answer == plain).then_some(answer))
+    }
+}
+
+// One more file, or one more refusal, where the answer is one.
+fn counted((files, refused): (u64, u64), answer: Said) -> (u64, u64) {
+    match answer {
+        Said::File(_, _, _) => (files.saturating_add(1), refused),
+        Said::Same | Said::Taken(_, _) | Said::NoDraft => (files, refused.saturating_add(1)),
+        _ => (files, refused),
+    }
+}
+
 // How often a file was given and how often a command was refused, or the first command that the plain machine
 // answers otherwise.
 fn compared(alloc: Global) -> Result<Result<(u64, u64), u64>, Fail> {
-    let mut bench = Bench::new(alloc)?;
-    let mut plain = Plain::new(alloc);
-    let mut numbers = Numbers(1);
-    let mut files = 0u64;
-    let mut refused = 0u64;
+    let mut pair = Pair::new(alloc)?;
+    let mut counts = (0, 0);
     for n in 0..4_000u64 {
-        let ask = numbers.next_ask(&plain.drafts);
-        let answer = bench.answer(ask)?;
-        if answer != plain.turn(ask)? {
-            return Ok(Err(n));
-        }
-        match answer {
-            Said::File(_, _, _) => files = files.saturating_add(1),
-            Said::Same | Said::Taken(_, _) | Said::NoDraft => refused = refused.saturating_add(1),
-            _ => {}
+        match pair.step()? {
+            Some(answer) => counts = counted(counts, answer),
+            None => return Ok(Err(n)),
         }
     }
-    Ok(Ok((files, refused)))
+    Ok(Ok(counts))
 }
 
 #[test]

@@ -1,8 +1,8 @@
 // Documents made, written, settled and merged.
 use mvn_coords::{Build, Kind, Stamp, kind_of};
 use mvn_doc::{
-    Doc, Held, NoMemory, Pair, empty, is_base_version, is_classifier, is_entry, is_extension,
-    is_version, merge, settle, write,
+    Doc, NoMemory, Pair, SnapshotBuild, empty, is_base_version, is_classifier, is_entry,
+    is_extension, is_version, merge, settle, write,
 };
 use mvn_version::Version;
 use std::alloc::Global;
@@ -22,7 +22,7 @@ fn nothing(alloc: Global, path: &str) -> Result<Doc, Fail> {
     }
 }
 
-pub fn settled(alloc: Global, doc: Doc, path: &str) -> Result<Doc, Fail> {
+fn settled(alloc: Global, doc: Doc, path: &str) -> Result<Doc, Fail> {
     match kind_of(path) {
         Ok(Kind::Doc(dir)) => Ok(settle(alloc, doc, &dir)?),
         _ => Err("no document")?,
@@ -35,7 +35,7 @@ fn with(rt: &impl Abort, alloc: Global, doc: Doc, version: &str) -> Result<Doc, 
     Ok(doc.with_version(version)?)
 }
 
-#[derive(Drop)]
+#[derive(Clone, Copy)]
 struct File {
     classifier: &'static str,
     extension: &'static str,
@@ -44,23 +44,34 @@ struct File {
     number: u32,
 }
 
-fn with_file(rt: &impl Abort, alloc: Global, doc: Doc, file: &File) -> Result<Doc, Fail> {
-    let stamp = Stamp::parse(file.stamp).ok_or("stamp")?;
-    let build = Build::new(stamp, file.number).ok_or("build")?;
-    let pair = Pair {
-        classifier: Text::new(alloc, file.classifier)?,
-        extension: Text::new(alloc, file.extension)?,
-    };
-    let held = Held {
-        base: Text::new(alloc, file.base)?,
-        build,
-    };
-    let is_entry = is_entry(alloc, &pair, &held)?;
-    assert!(rt; is_entry);
-    Ok(doc.with_build(pair, held)?)
+fn pair_of(alloc: Global, file: File) -> Result<Pair, NoMemory> {
+    let classifier = Text::new(alloc, file.classifier)?;
+    let extension = Text::new(alloc, file.extension)?;
+    Ok(Pair {
+        classifier,
+        extension,
+    })
 }
 
-const JAR: File = File {
+fn build_of(file: File) -> Option<Build> {
+    Build::new(Stamp::parse(file.stamp)?, file.number)
+}
+
+fn snapshot_of(alloc: Global, file: File) -> Result<SnapshotBuild, Fail> {
+    let build = build_of(file).ok_or("build")?;
+    let base = Text::new(alloc, file.base)?;
+    Ok(SnapshotBuild { base, build })
+}
+
+fn with_file(rt: &impl Abort, alloc: Global, doc: Doc, file: File) -> Result<Doc, Fail> {
+    let pair = pair_of(alloc, file)?;
+    let snapshot = snapshot_of(alloc, file)?;
+    let is_entry = is_entry(alloc, &pair, &snapshot)?;
+    assert!(rt; is_entry);
+    Ok(doc.with_build(pair, snapshot)?)
+}
+
+static JAR: File = File {
     classifier: "",
     extension: "jar",
     base: "1.1",
@@ -68,13 +79,44 @@ const JAR: File = File {
     number: 1,
 };
 
-const POM: File = File {
+static POM: File = File {
     classifier: "",
     extension: "pom",
     base: "1.1",
     stamp: "20240301.080000",
     number: 2,
 };
+
+// The document, settled for the directory of a path.
+pub fn expect_settled(
+    rt: &impl Abort,
+    alloc: Global,
+    doc: Doc,
+    path: &str,
+    want: &str,
+) -> Result<(), Fail> {
+    let doc = settled(alloc, doc, path)?;
+    expect(rt, alloc, &doc, want)?;
+    Ok(())
+}
+
+// A document with these versions, added one after another.
+fn of_versions(rt: &impl Abort, alloc: Global, path: &str, versions: &[&str]) -> Result<Doc, Fail> {
+    let mut doc = nothing(alloc, path)?;
+    for version in versions {
+        doc = with(rt, alloc, doc, version)?;
+    }
+    Ok(doc)
+}
+
+// A snapshot directory's document with these files, added one after another.
+fn of_files(rt: &impl Abort, alloc: Global, files: &[File]) -> Result<Doc, Fail> {
+    let mut doc = nothing(alloc, SNAPSHOT)?;
+    for file in files {
+        doc = with_file(rt, alloc, doc, *file)?;
+    }
+    Ok(doc)
+}
 
 pub fn expect(rt: &impl Abort, alloc: Global, doc: &Doc, want: &str) -> Result<(), NoMemory> {
     assert_eq!(rt; write(alloc, doc)?.as_slice(), want.as_bytes());
@@ -139,17 +181,14 @@ pub const OF_RELEASES: &str = "<?xml version=\"1.0\" encoding=\"UTF-8\"?>
 
 #[test]
 fn snapshot_is_written(rt: HostRuntime) -> Result<(), Fail> {
-    let doc = nothing(rt.alloc(), SNAPSHOT)?;
-    let doc = with_file(&rt, rt.alloc(), doc, &POM)?;
-    let doc = with_file(&rt, rt.alloc(), doc, &JAR)?;
+    let doc = of_files(&rt, rt.alloc(), &[POM, JAR])?;
     expect(&rt, rt.alloc(), &doc, OF_SNAPSHOT)?;
     Ok(())
 }
 
 #[test]
 fn artifact_is_written(rt: HostRuntime) -> Result<(), Fail> {
-    let doc = nothing(rt.alloc(), ARTIFACT)?;
-    let doc = with(&rt, rt.alloc(), doc, "1.1-SNAPSHOT")?;
+    let doc = of_versions(&rt, rt.alloc(), ARTIFACT, &["1.1-SNAPSHOT"])?;
     let doc = doc.with_update(Stamp::from_moment(1_709_208_000));
     let doc = doc.with_update(Stamp::from_moment(1_709_207_999));
     expect(&rt, rt.alloc(), &doc, OF_ARTIFACT)?;
@@ -159,10 +198,7 @@ fn artifact_is_written(rt: HostRuntime) -> Result<(), Fail> {
 // Versions in any order, one of them twice.
 #[test]
 fn releases_are_written(rt: HostRuntime) -> Result<(), Fail> {
-    let doc = nothing(rt.alloc(), ARTIFACT)?;
-    let doc = with(&rt, rt.alloc(), doc, "1.0")?;
-    let doc = with(&rt, rt.alloc(), doc, "1")?;
-    let doc = with(&rt, rt.alloc(), doc, "1.0")?;
+    let doc = of_versions(&rt, rt.alloc(), ARTIFACT, &["1.0", "1", "1.0"])?;
     expect(&rt, rt.alloc(), &doc, OF_RELEASES)?;
     Ok(())
 }
@@ -231,73 +267,95 @@ const WITHOUT_IT: &str = "<?xml version=\"1.0\" encoding=\"UTF-8\"?>
 </metadata>
 ";
 
+static BUILDS: [File; 4] = [
+    File {
+        classifier: "",
+        extension: "jar",
+        base: "1.1",
+        stamp: "20240229.235959",
+        number: 1,
+    },
+    File {
+        classifier: "",
+        extension: "jar",
+        base: "1.1",
+        stamp: "20240229.235959",
+        number: 2,
+    },
+    File {
+        classifier: "",
+        extension: "jar",
+        base: "1.1",
+        stamp: "20240229.235959",
+        number: 1,
+    },
+    File {
+        classifier: "sources",
+        extension: "jar",
+        base: "1.2",
+        stamp: "20240229.235959",
+        number: 999_999_999,
+    },
+];
+
 // A classifier, a later build of a pair, an earlier one, and a file of another version, which settling drops.
 #[test]
 fn newest_build_counts(rt: HostRuntime) -> Result<(), Fail> {
-    let doc = nothing(rt.alloc(), SNAPSHOT)?;
-    let doc = with_file(&rt, rt.alloc(), doc, &JAR)?;
-    let later = File { number: 2, ..JAR };
-    let doc = with_file(&rt, rt.alloc(), doc, &later)?;
-    let doc = with_file(&rt, rt.alloc(), doc, &JAR)?;
-    let other = File {
-        classifier: "sources",
-        base: "1.2",
-        number: 999_999_999,
-        ..JAR
-    };
-    let doc = with_file(&rt, rt.alloc(), doc, &other)?;
+    let doc = of_files(&rt, rt.alloc(), &BUILDS)?;
     expect(&rt, rt.alloc(), &doc, WITH_ANOTHER_VERSION)?;
-    let doc = settled(rt.alloc(), doc, SNAPSHOT)?;
-    expect(&rt, rt.alloc(), &doc, WITHOUT_IT)?;
+    expect_settled(&rt, rt.alloc(), doc, SNAPSHOT, WITHOUT_IT)
+}
+
+fn expect_merged(rt: &impl Abort, alloc: Global, docs: &[Doc], want: &str) -> Result<(), NoMemory> {
+    assert!(rt; !docs.is_empty());
+    let doc = merge(alloc, docs)?;
+    expect(rt, alloc, &doc, want)
+}
+
+// Documents of two artifacts, with a version each, and one of another kind.
+fn documents(rt: &impl Abort, alloc: Global) -> Result<Vec<Doc>, Fail> {
+    let mut docs = Vec::new(alloc);
+    for (path, version) in [(ARTIFACT, "1.0"), ("com/other/maven-metadata.xml", "1")] {
+        docs.push(of_versions(rt, alloc, path, &[version])?)?;
+    }
+    docs.push(of_files(rt, alloc, &[JAR])?)?;
+    Ok(docs)
+}
+
+// Versions are united, and a document of another kind adds nothing.
+#[test]
+fn versions_are_merged(rt: HostRuntime) -> Result<(), Fail> {
+    let docs = documents(&rt, rt.alloc())?;
+    expect_merged(&rt, rt.alloc(), docs.as_slice(), OF_RELEASES)?;
     Ok(())
 }
 
-// Versions are united, the newest build counts, and a document of another kind adds nothing.
+// The newest build counts.
 #[test]
-fn documents_are_merged(rt: HostRuntime) -> Result<(), Fail> {
-    let one = with(&rt, rt.alloc(), nothing(rt.alloc(), ARTIFACT)?, "1.0")?;
-    let other = with(
-        &rt,
-        rt.alloc(),
-        nothing(rt.alloc(), "com/other/maven-metadata.xml")?,
-        "1",
-    )?;
-    let snapshot = with_file(&rt, rt.alloc(), nothing(rt.alloc(), SNAPSHOT)?, &JAR)?;
+fn builds_are_merged(rt: HostRuntime) -> Result<(), Fail> {
     let mut docs = Vec::new(rt.alloc());
-    docs.push(one).map_err(|_| "memory")?;
-    docs.push(other).map_err(|_| "memory")?;
-    docs.push(snapshot).map_err(|_| "memory")?;
-    assert_eq!(rt; docs.len(), 3);
-    expect(
-        &rt,
-        rt.alloc(),
-        &merge(rt.alloc(), docs.as_slice())?,
-        OF_RELEASES,
-    )?;
-    let mut builds = Vec::new(rt.alloc());
-    let jar = with_file(&rt, rt.alloc(), nothing(rt.alloc(), SNAPSHOT)?, &JAR)?;
-    let pom = with_file(&rt, rt.alloc(), nothing(rt.alloc(), SNAPSHOT)?, &POM)?;
-    builds.push(pom).map_err(|_| "memory")?;
-    builds.push(jar).map_err(|_| "memory")?;
-    assert_eq!(rt; builds.len(), 2);
-    expect(
-        &rt,
-        rt.alloc(),
-        &merge(rt.alloc(), builds.as_slice())?,
-        OF_SNAPSHOT,
-    )?;
+    for file in [POM, JAR] {
+        docs.push(of_files(&rt, rt.alloc(), &[file])?)?;
+    }
+    expect_merged(&rt, rt.alloc(), docs.as_slice(), OF_SNAPSHOT)?;
     Ok(())
 }
+
+const OF_NOTHING: &str = "<?xml version=\"1.0\" encoding=\"UTF-8\"?>
+<metadata modelVersion=\"1.1.0\">
+  <groupId>org.acme</groupId>
+  <artifactId>lib</artifactId>
+  <versioning>
+  </versioning>
+</metadata>
+";
 
 // A document settled for a directory of the other kind lists nothing.
 #[test]
 fn other_kind_is_dropped(rt: HostRuntime) -> Result<(), Fail> {
-    let doc = with(&rt, rt.alloc(), nothing(rt.alloc(), ARTIFACT)?, "1.0")?;
-    let doc = settled(rt.alloc(), settled(rt.alloc(), doc, SNAPSHOT)?, ARTIFACT)?;
-    let none = nothing(rt.alloc(), ARTIFACT)?;
-    let text = write(rt.alloc(), &none)?;
-    assert_eq!(rt; write(rt.alloc(), &doc)?.as_slice(), text.as_slice());
-    Ok(())
+    let doc = of_versions(&rt, rt.alloc(), ARTIFACT, &["1.0"])?;
+    let doc = settled(rt.alloc(), doc, SNAPSHOT)?;
+    expect_settled(&rt, rt.alloc(), doc, ARTIFACT, OF_NOTHING)
 }
 
 #[test]

@@ -1,8 +1,8 @@
 // The elements of texts, and where texts are refused.
-use std::alloc::Global;
+use std::alloc::{AllocError, Global};
 use std::process::Abort;
 use std::test::Fail;
-use xml_subset::{XmlFault, outline};
+use xml_subset::{Element, XmlFault, outline};
 
 /// Where the text is refused.
 fn refused_at(alloc: Global, text: &[u8]) -> Option<usize> {
@@ -12,15 +12,22 @@ fn refused_at(alloc: Global, text: &[u8]) -> Option<usize> {
     }
 }
 
+/// Adds an element: its name, the digit of its depth, `=`, its text and `;`.
+fn add(list: &mut Vec<u8>, element: &Element<'_>) -> Result<(), AllocError> {
+    list.extend_from_slice(element.name)?;
+    list.push(b'0' + (element.depth % 10) as u8)?;
+    list.push(b'=')?;
+    list.extend_from_slice(&element.text)?;
+    list.push(b';')?;
+    Ok(())
+}
+
 /// The elements of the text, each with its name, the digit of its depth, `=`, its text and `;`.
 fn listed(alloc: Global, text: &[u8]) -> Result<Vec<u8>, Fail> {
     let mut list = Vec::new(alloc);
-    for element in outline(alloc, b"metadata", text)? {
-        list.extend_from_slice(element.name)?;
-        list.push(b'0' + (element.depth % 10) as u8)?;
-        list.push(b'=')?;
-        list.extend_from_slice(&element.text)?;
-        list.push(b';')?;
+    let elements = outline(alloc, b"metadata", text)?;
+    for element in &elements {
+        add(&mut list, element)?;
     }
     Ok(list)
 }
@@ -40,7 +47,7 @@ fn nested(alloc: Global, count: usize, inner: &[u8]) -> Result<Vec<u8>, Fail> {
 }
 
 // Tokens that may not stand where they do.
-const MISPLACED: [(&[u8], usize); 20] = [
+static MISPLACED: [(&[u8], usize); 20] = [
     (b"", 0),
     (b"\xEF\xBB\xBF", 3),
     (b"<metadata>", 10),
@@ -64,7 +71,7 @@ const MISPLACED: [(&[u8], usize); 20] = [
 ];
 
 // Tokens that cannot be cut.
-const BROKEN: [(&[u8], usize); 20] = [
+static BROKEN: [(&[u8], usize); 20] = [
     (b"<?xml version='1.0'", 0),
     (b"\xEF\xBB\xBF<?xml ", 3),
     (b"<?xml?><metadata/>", 0),
@@ -88,7 +95,7 @@ const BROKEN: [(&[u8], usize); 20] = [
 ];
 
 // References that are none, all at the same place.
-const REFERENCES: [(&[u8], usize); 18] = [
+static REFERENCES: [(&[u8], usize); 18] = [
     (b"<metadata>&", 10),
     (b"<metadata>&lt", 10),
     (b"<metadata>&;</metadata>", 10),
@@ -123,7 +130,7 @@ fn faults_have_their_places(rt: HostRuntime) {
 }
 
 // Texts, and their elements.
-const LISTED: [(&[u8], &[u8]); 9] = [
+static LISTED: [(&[u8], &[u8]); 9] = [
     (b"<metadata/>", b"metadata1=;"),
     (
         b"\xEF\xBB\xBF<?xml version=\"1.0\"?>\r\n<!-- a -- b --><metadata a='1' a = \"2>&'\"\t></metadata >\n<!--->--> ",
@@ -156,24 +163,46 @@ const LISTED: [(&[u8], &[u8]); 9] = [
     (b"<metadata>></metadata>", b"metadata1=>;"),
 ];
 
+fn is_listed(alloc: Global, text: &[u8], list: &[u8]) -> Result<bool, Fail> {
+    Ok(listed(alloc, text)?.as_slice() == list)
+}
+
 #[test]
 fn elements_have_their_texts(rt: HostRuntime) -> Result<(), Fail> {
     for (text, list) in LISTED {
-        assert_eq!(rt; listed(rt.alloc(), text)?.as_slice(), list);
+        assert!(rt; is_listed(rt.alloc(), text, list)?);
     }
     Ok(())
 }
 
+/// How many elements a text has, the depth of the last, and whether its text is `x`.
+fn last_of(alloc: Global, text: &[u8]) -> Result<(usize, usize, bool), Fail> {
+    let elements = outline(alloc, b"metadata", text)?;
+    Ok(match elements.as_slice().last() {
+        Some(last) => (
+            elements.len(),
+            last.depth,
+            last.text.as_slice() == b"x".as_slice(),
+        ),
+        None => (0, 0, false),
+    })
+}
+
 #[test]
-fn depths(rt: HostRuntime) -> Result<(), Fail> {
+fn depth_32_is_read(rt: HostRuntime) -> Result<(), Fail> {
     let deep = nested(rt.alloc(), 31, b"x")?;
-    let elements = outline(rt.alloc(), b"metadata", &deep)?;
-    assert_eq!(rt; elements.len(), 32);
-    assert_eq!(rt; elements[31].depth, 32);
-    assert_eq!(rt; elements[31].text.as_slice(), b"x".as_slice());
-    let deeper = nested(rt.alloc(), 32, b"")?;
-    assert_eq!(rt; refused_at(rt.alloc(), &deeper), Some(103));
-    let empty = nested(rt.alloc(), 31, b"<a/>")?;
-    assert_eq!(rt; refused_at(rt.alloc(), &empty), Some(103));
+    assert_eq!(rt; last_of(rt.alloc(), &deep)?, (32, 32, true));
+    Ok(())
+}
+
+// Elements of depth 33, one with a tag of its own to close it and one without.
+static TOO_DEEP: [(usize, &[u8]); 2] = [(32, b""), (31, b"<a/>")];
+
+#[test]
+fn depth_33_is_refused(rt: HostRuntime) -> Result<(), Fail> {
+    for (count, inner) in TOO_DEEP {
+        let text = nested(rt.alloc(), count, inner)?;
+        assert_eq!(rt; refused_at(rt.alloc(), &text), Some(103));
+    }
     Ok(())
 }

@@ -1,5 +1,5 @@
-//! Tests of `xml_subset` and `mvn_doc`, with texts written out. They stand apart from those, since a crate is proved
-//! once more with its tests.
+//! Tests of `xml_subset`, `mvn_metadata` and `mvn_doc`, with texts written out. They stand apart from those, since a
+//! crate is proved once more with its tests.
 #![tactic(auto)]
 
 #[cfg(test)]

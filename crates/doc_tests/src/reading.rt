@@ -1,6 +1,6 @@
 // Documents read.
 use crate::documents::{
-    ARTIFACT, OF_ARTIFACT, OF_RELEASES, OF_SNAPSHOT, SNAPSHOT, expect, settled,
+    ARTIFACT, OF_ARTIFACT, OF_RELEASES, OF_SNAPSHOT, SNAPSHOT, expect, expect_settled,
 };
 use mvn_doc::{DocFault, NoMemory, read};
 use std::alloc::Global;
@@ -46,7 +46,7 @@ const START: &str =
 const NOTHING: &str = "  <versioning>\n  </versioning>\n";
 
 // Texts, and where they are refused.
-const REFUSED: [(&[u8], usize); 12] = [
+static REFUSED: [(&[u8], usize); 12] = [
     (b"<metadata>", 10),
     (b"<metadata></metadatb>", 10),
     (b"<metadata/>x", 11),
@@ -68,20 +68,26 @@ fn faults_have_their_places(rt: HostRuntime) {
     }
 }
 
+/// A root, elements inside one another of this count, and this inside the last.
+fn nested(alloc: Global, count: usize, inner: &str) -> Result<String, NoMemory> {
+    let mut text = String::from_str(alloc, "<metadata>")?;
+    for _ in 0..count {
+        text.push_str("<a>")?;
+    }
+    text.push_str(inner)?;
+    for _ in 0..count {
+        text.push_str("</a>")?;
+    }
+    text.push_str("</metadata>")?;
+    Ok(text)
+}
+
 #[test]
 fn depth_is_limited(rt: HostRuntime) -> Result<(), Fail> {
-    let mut text = Vec::from_slice(rt.alloc(), b"<metadata>")?;
-    for _ in 0..31 {
-        text.extend_from_slice(b"<a>")?;
+    for (inner, at) in [("", None), ("<a/>", Some(103))] {
+        let text = nested(rt.alloc(), 31, inner)?;
+        assert_eq!(rt; refused_at(rt.alloc(), text.as_bytes()), at);
     }
-    let mut deeper = Vec::from_slice(rt.alloc(), text.as_slice())?;
-    deeper.extend_from_slice(b"<a/>")?;
-    for _ in 0..31 {
-        text.extend_from_slice(b"</a>")?;
-    }
-    text.extend_from_slice(b"</metadata>")?;
-    assert_eq!(rt; refused_at(rt.alloc(), text.as_slice()), None);
-    assert_eq!(rt; refused_at(rt.alloc(), deeper.as_slice()), Some(103));
     Ok(())
 }
 
@@ -114,9 +120,7 @@ const OF_GROUP_X: &str = "<?xml version=\"1.0\" encoding=\"UTF-8\"?>
 fn read_documents_are_settled(rt: HostRuntime) -> Result<(), Fail> {
     let doc = read(rt.alloc(), THREE_VERSIONS)?;
     expect(&rt, rt.alloc(), &doc, OF_GROUP_X)?;
-    let doc = settled(rt.alloc(), doc, ARTIFACT)?;
-    expect(&rt, rt.alloc(), &doc, OF_RELEASES)?;
-    Ok(())
+    expect_settled(&rt, rt.alloc(), doc, ARTIFACT, OF_RELEASES)
 }
 
 // What Apache Maven 3.8.7 sends for a snapshot directory: the version stands behind the versioning.
@@ -178,9 +182,8 @@ const AS_WRITTEN: &str = "<?xml version=\"1.0\" encoding=\"UTF-8\"?>
 
 #[test]
 fn documents_of_maven_are_read(rt: HostRuntime) -> Result<(), Fail> {
-    let doc = settled(rt.alloc(), read(rt.alloc(), BY_MAVEN)?, SNAPSHOT)?;
-    expect(&rt, rt.alloc(), &doc, AS_WRITTEN)?;
-    Ok(())
+    let doc = read(rt.alloc(), BY_MAVEN)?;
+    expect_settled(&rt, rt.alloc(), doc, SNAPSHOT, AS_WRITTEN)
 }
 
 // A mark, a comment, both quotes, references, an attribute twice, an empty tag, other elements, bytes from 0x80.
@@ -200,7 +203,7 @@ fn texts_may_be_odd(rt: HostRuntime) -> Result<(), Fail> {
 }
 
 // Containers that come twice are read as one; of a single element the first counts, also where it does not fit.
-const TWICE: [(&str, &str); 4] = [
+static TWICE: [(&str, &str); 4] = [
     (
         "<groupId>a</groupId><groupId>b</groupId>",
         "  <groupId>a</groupId>\n  <versioning>\n  </versioning>\n",
@@ -217,7 +220,7 @@ const TWICE: [(&str, &str); 4] = [
 ];
 
 // Values that do not fit are passed over.
-const MISFITS: [(&str, &str); 9] = [
+static MISFITS: [(&str, &str); 9] = [
     (
         "<groupId>a..b</groupId><artifactId>l+b</artifactId>",
         NOTHING,
@@ -263,7 +266,7 @@ fn values_may_not_fit(rt: HostRuntime) -> Result<(), Fail> {
 const NO_ENTRIES: &str = "  <version>1-SNAPSHOT</version>\n  <versioning>\n  </versioning>\n";
 
 // What may stand in a `snapshotVersion` that is passed over.
-const ENTRIES: [&str; 12] = [
+static ENTRIES: [&str; 12] = [
     "<extension>jar</extension>",
     "<value>1-20240301.080000-1</value>",
     "<extension>j/r</extension><value>1-20240301.080000-1</value>",

@@ -1,6 +1,8 @@
 //! `mvnrepod`: a Maven repository manager.
 #![tactic(auto)]
 
+ghost use Rattle.std.specs.Prelude.{◌≡◌, ◌<◌, IfOk, vec_len};
+
 mod actions;
 mod run;
 #[cfg(test)]
@@ -9,7 +11,8 @@ mod words;
 
 use crate::run::{Desk, NO_MEMORY, run};
 use outside::{
-    Duplex, FaultScript, MemBlobs, NoMemory, ReaderSource, ScriptClock, ScriptPort, WriterSink,
+    Blobs, Duplex, FaultScript, MemBlobs, NoMemory, Port, ReaderSource, ScriptClock, ScriptPort,
+    Sink, WriterSink,
 };
 use std::alloc::Global;
 use std::env;
@@ -20,15 +23,17 @@ use std::process::ExitCode;
 type Standard = Duplex<ReaderSource<Stdin>, WriterSink<Stdout>>;
 
 /// The desk of `replay`: its port gives standard input and output once, and its blobs are in memory.
-fn standard_desk(
-    alloc: Global,
-    link: Standard,
-) -> Result<Desk<ScriptPort<Standard>, MemBlobs>, NoMemory> {
+fn standard_desks(rt: &HostRuntime) -> Result<Vec<Desk<ScriptPort<Standard>, MemBlobs>>, NoMemory>
+    ensures { IfOk result (λ desks. vec_len desks ≡ 1) }
+{
+    let alloc = rt.alloc();
+    let link = Duplex {
+        source: ReaderSource::new(rt.stdin()),
+        sink: WriterSink::new(rt.stdout()),
+    };
     let port = ScriptPort::new(alloc, vec![in alloc; link]?, FaultScript::none(alloc))?;
-    Ok(Desk {
-        port,
-        blobs: MemBlobs::new(alloc, FaultScript::none(alloc)),
-    })
+    let blobs = MemBlobs::new(alloc, FaultScript::none(alloc));
+    Ok(vec![in alloc; Desk { port, blobs }]?)
 }
 
 /// The words behind the program's name; none where one of them is no text.
@@ -40,28 +45,27 @@ fn words_of(rt: &HostRuntime) -> io::Result<Vec<String>> {
     }
 }
 
+/// The status of a run with these words and desks.
+fn status_of<P: Port + Drop, B: Blobs + Drop, O: Sink>(
+    alloc: Global,
+    words: &[String],
+    desks: Vec<Desk<P, B>>,
+    out: &mut O,
+) -> u8
+    requires { 0 < vec_len desks }
+{
+    let clock = ScriptClock::stepping(alloc, 0, 0);
+    run(alloc, words, desks, clock, out).status
+}
+
 fn main(rt: HostRuntime) -> ExitCode {
-    let alloc = rt.alloc();
     let Ok(words) = words_of(&rt) else {
         return ExitCode::from(NO_MEMORY);
     };
-    let link = Duplex {
-        source: ReaderSource::new(rt.stdin()),
-        sink: WriterSink::new(rt.stdout()),
-    };
-    let Ok(desk) = standard_desk(alloc, link) else {
-        return ExitCode::from(NO_MEMORY);
-    };
-    let Ok(desks) = vec![in alloc; desk] else {
+    let Ok(desks) = standard_desks(&rt) else {
         return ExitCode::from(NO_MEMORY);
     };
     let mut out = WriterSink::new(rt.stderr());
-    let ran = run(
-        alloc,
-        words.as_slice(),
-        desks,
-        ScriptClock::stepping(alloc, 0, 0),
-        &mut out,
-    );
-    ExitCode::from(ran.status)
+    let status = status_of(rt.alloc(), words.as_slice(), desks, &mut out);
+    ExitCode::from(status)
 }

@@ -1,3 +1,4 @@
+//! A run of the program: its words, its one connection, its line and its status.
 ghost use Rattle.std.specs.Prelude.{◌≡◌, ◌<◌, map, vec_len, IfOk, IfErr, MatchBool};
 ghost use Rattle.std.specs.String.{string_bytes};
 ghost use Rattle.repo_server.specs.Held.{AllTell};

@@ -1,13 +1,13 @@
-use crate::run::{Desk, core_of, run, serve_first};
+// The worked exchanges, whole and in pieces of one byte.
+use crate::run::{Desk, Ran, run};
 use outside::{
-    Duplex, FaultScript, MemBlobs, MemHeld, MemSink, MemSource, ScriptClock, ScriptPort,
+    Duplex, FaultScript, MemBlobs, MemLink, MemSink, MemSource, ScriptClock, ScriptPort,
 };
-use repo_core::{Command, Core, Reply};
-use repo_server::End;
 use std::alloc::{AllocError, Global};
 use std::process::Abort;
 use std::test::Fail;
-use texts::Text;
+
+mod faults;
 
 const PUT_ABC: &str =
     "PUT /repository/releases/org/acme/lib/1.0/lib-1.0.jar HTTP/1.1\r\nHost: x\r\nContent-Length: 3\r\n\r\nabc";
@@ -50,9 +50,6 @@ const NOT_THERE: &str =
 const BAD_HEAD: &str =
     "HTTP/1.1 400 Bad Request\r\nContent-Type: text/plain\r\nContent-Length: 9\r\nConnection: close\r\n\r\nbad-head\n";
 
-const BLOB_FAULT: &str =
-    "HTTP/1.1 503 Service Unavailable\r\nContent-Type: text/plain\r\nContent-Length: 11\r\n\r\nblob-fault\n";
-
 /// What is to fail, and how the bytes come.
 #[derive(Drop)]
 struct Script {
@@ -83,65 +80,84 @@ struct Outcome {
     status: u8,
 }
 
+impl Outcome {
+    /// Whether the run ended with this line and status.
+    fn has_ended(&self, (line, status): (&str, u8)) -> bool {
+        self.line.as_str() == line && self.status == status
+    }
+}
+
 fn text_of(alloc: Global, bytes: &[u8]) -> Result<String, AllocError> {
     String::from_utf8_lossy(alloc, bytes)
 }
 
-/// Runs `replay` on an input.
-fn replayed(alloc: Global, input: &str, script: Script) -> Result<Outcome, Fail> {
-    let Script {
-        port,
-        reads,
-        blobs,
-        most,
-        room,
-        line_room,
-    } = script;
-    let link = Duplex {
-        source: MemSource::new(
-            Vec::from_slice(alloc, input.as_bytes())?,
-            most.max(1),
-            reads,
-        ),
-        sink: MemSink::new(alloc, room, FaultScript::none(alloc))?,
-    };
-    let port = ScriptPort::new(alloc, vec![in alloc; link]?, port)?;
-    let blobs = MemBlobs::new(alloc, blobs);
-    let desks = vec![in alloc; Desk { port, blobs }]?;
-    let words = vec![in alloc; String::from_str(alloc, "replay")?]?;
-    let mut out = MemSink::new(alloc, line_room, FaultScript::none(alloc))?;
+type MemDesk = Desk<ScriptPort<MemLink>, MemBlobs>;
+
+/// A connection that gives this input and has room for so many bytes.
+fn link_of(
+    alloc: Global,
+    input: &str,
+    most: usize,
+    reads: FaultScript,
+    room: usize,
+) -> Result<MemLink, AllocError> {
+    let bytes = Vec::from_slice(alloc, input.as_bytes())?;
+    let source = MemSource::new(bytes, most.max(1), reads);
+    let sink = MemSink::new(alloc, room, FaultScript::none(alloc))?;
+    Ok(Duplex { source, sink })
+}
+
+/// A desk whose one connection gives this input.
+fn desk_of(alloc: Global, input: &str, script: Script) -> Result<MemDesk, Fail> {
+    let link = link_of(alloc, input, script.most, script.reads, script.room)?;
+    let port = ScriptPort::new(alloc, vec![in alloc; link]?, script.port)?;
+    let blobs = MemBlobs::new(alloc, script.blobs);
+    Ok(Desk { port, blobs })
+}
+
+/// Runs the program with one word and one desk.
+fn run_word(
+    alloc: Global,
+    word: &str,
+    desk: MemDesk,
+    out: &mut MemSink,
+) -> Result<Ran<ScriptPort<MemLink>, MemBlobs, ScriptClock>, AllocError> {
+    let words = vec![in alloc; String::from_str(alloc, word)?]?;
+    let desks = vec![in alloc; desk]?;
     let clock = ScriptClock::stepping(alloc, 0, 0);
-    let ran = run(alloc, words.as_slice(), desks, clock, &mut out);
-    let given_back = ran
-        .desks
-        .get(0)
-        .and_then(|desk| desk.port.given_back().get(0));
-    let answers = match given_back {
-        Some(link) => text_of(alloc, link.sink.bytes())?,
-        None => String::new(alloc),
-    };
-    let line = text_of(alloc, out.bytes())?;
+    Ok(run(alloc, words.as_slice(), desks, clock, out))
+}
+
+/// What was written on the first connection that a desk took back.
+fn written_at(alloc: Global, desks: &[MemDesk]) -> Result<String, AllocError> {
+    let link = desks.get(0).and_then(|desk| desk.port.given_back().get(0));
+    match link {
+        Some(link) => text_of(alloc, link.sink.bytes()),
+        None => Ok(String::new(alloc)),
+    }
+}
+
+fn outcome_of(
+    alloc: Global,
+    desks: &[MemDesk],
+    line: &[u8],
+    status: u8,
+) -> Result<Outcome, AllocError> {
+    let answers = written_at(alloc, desks)?;
+    let line = text_of(alloc, line)?;
     Ok(Outcome {
         answers,
         line,
-        status: ran.status,
+        status,
     })
 }
 
-/// The input, and what it has to be answered, whole and in pieces of one byte.
-fn expect_answers<R: Abort + AllocGlobal>(
-    rt: &R,
-    input: &str,
-    answers: &str,
-    line: &str,
-) -> Result<(), Fail> {
-    for most in [1_000_000, 1] {
-        let replayed = replayed(rt.alloc(), input, plain(rt.alloc(), most))?;
-        assert_eq!(rt; replayed.answers.as_str(), answers);
-        assert_eq!(rt; replayed.line.as_str(), line);
-        assert_eq!(rt; replayed.status, 0);
-    }
-    Ok(())
+/// Runs `replay` on an input.
+fn replayed(alloc: Global, input: &str, script: Script) -> Result<Outcome, Fail> {
+    let mut out = MemSink::new(alloc, script.line_room, FaultScript::none(alloc))?;
+    let desk = desk_of(alloc, input, script)?;
+    let ran = run_word(alloc, "replay", desk, &mut out)?;
+    Ok(outcome_of(alloc, ran.desks.as_slice(), out.bytes(), ran.status)?)
 }
 
 fn joined(alloc: Global, parts: &[&str]) -> Result<String, AllocError> {
@@ -152,95 +168,111 @@ fn joined(alloc: Global, parts: &[&str]) -> Result<String, AllocError> {
     Ok(all)
 }
 
+/// Runs an input by a script, and compares what it is answered, the line and the status.
+fn expect<R: Abort + AllocGlobal>(
+    rt: &R,
+    input: &[&str],
+    script: Script,
+    answers: &[&str],
+    ended: (&str, u8),
+) -> Result<(), Fail> {
+    let input = joined(rt.alloc(), input)?;
+    let answers = joined(rt.alloc(), answers)?;
+    let outcome = replayed(rt.alloc(), input.as_str(), script)?;
+    assert_eq!(rt; outcome.answers.as_str(), answers.as_str());
+    assert!(rt; outcome.has_ended(ended));
+    Ok(())
+}
+
+/// The input, and what it has to be answered, whole and in pieces of one byte.
+fn expect_answers<R: Abort + AllocGlobal>(
+    rt: &R,
+    input: &[&str],
+    answers: &[&str],
+    line: &str,
+) -> Result<(), Fail> {
+    for most in [1_000_000, 1] {
+        expect(rt, input, plain(rt.alloc(), most), answers, (line, 0))?;
+    }
+    Ok(())
+}
+
 #[test]
 fn a_file_is_put_and_got(rt: HostRuntime) -> Result<(), Fail> {
-    let input = joined(rt.alloc(), &[PUT_ABC, GET_LAST])?;
-    let answers = joined(rt.alloc(), &[CREATED, ABC_LAST])?;
     expect_answers(
         &rt,
-        input.as_str(),
-        answers.as_str(),
+        &[PUT_ABC, GET_LAST],
+        &[CREATED, ABC_LAST],
         "calls 4 end Closed\n",
     )
 }
 
 #[test]
 fn a_release_is_never_changed(rt: HostRuntime) -> Result<(), Fail> {
-    let input = joined(rt.alloc(), &[PUT_ABC, PUT_ABC, PUT_NOTHING, GET])?;
-    let answers = joined(rt.alloc(), &[CREATED, SAME, TAKEN, ABC])?;
     expect_answers(
         &rt,
-        input.as_str(),
-        answers.as_str(),
+        &[PUT_ABC, PUT_ABC, PUT_NOTHING, GET],
+        &[CREATED, SAME, TAKEN, ABC],
         "calls 8 end Closed\n",
     )
 }
 
 #[test]
 fn an_empty_file_is_a_file(rt: HostRuntime) -> Result<(), Fail> {
-    let input = joined(rt.alloc(), &[GET, PUT_NOTHING, GET])?;
-    let answers = joined(rt.alloc(), &[NOT_THERE, CREATED, NOTHING])?;
     expect_answers(
         &rt,
-        input.as_str(),
-        answers.as_str(),
+        &[GET, PUT_NOTHING, GET],
+        &[NOT_THERE, CREATED, NOTHING],
         "calls 5 end Closed\n",
     )
 }
 
-/// Adds 70,000 times the letter a.
-fn push_long_body(all: &mut String) -> Result<(), AllocError> {
+/// 70,000 times the letter a.
+fn long_body(alloc: Global) -> Result<String, AllocError> {
+    let mut body = String::new(alloc);
     for _ in 0..7000 {
-        all.push_str("aaaaaaaaaa")?;
+        body.push_str("aaaaaaaaaa")?;
     }
-    Ok(())
-}
-
-fn long_input(alloc: Global) -> Result<String, AllocError> {
-    let mut all = String::from_str(alloc, PUT_LONG)?;
-    push_long_body(&mut all)?;
-    all.push_str(GET)?;
-    all.push_str(GET)?;
-    Ok(all)
-}
-
-fn long_answers(alloc: Global) -> Result<String, AllocError> {
-    let mut all = String::from_str(alloc, CREATED)?;
-    all.push_str(LONG_HEAD)?;
-    push_long_body(&mut all)?;
-    all.push_str(LONG_HEAD)?;
-    push_long_body(&mut all)?;
-    Ok(all)
+    Ok(body)
 }
 
 // Want of memory may be answered anywhere by proof, so this says that it is not.
 #[test]
 fn a_long_file_is_put_and_got_twice(rt: HostRuntime) -> Result<(), Fail> {
-    let input = long_input(rt.alloc())?;
-    let answers = long_answers(rt.alloc())?;
+    let body = long_body(rt.alloc())?;
     expect_answers(
         &rt,
-        input.as_str(),
-        answers.as_str(),
+        &[PUT_LONG, body.as_str(), GET, GET],
+        &[CREATED, LONG_HEAD, body.as_str(), LONG_HEAD, body.as_str()],
         "calls 6 end Closed\n",
     )
 }
 
+const PUT_TORN: &str =
+    "PUT /repository/releases/org/acme/lib/1.0/lib-1.0.jar HTTP/1.1\r\nHost: x\r\nContent-Length: 5\r\n\r\nabc";
+
 #[test]
 fn a_torn_body_is_not_stored(rt: HostRuntime) -> Result<(), Fail> {
-    let input =
-        "PUT /repository/releases/org/acme/lib/1.0/lib-1.0.jar HTTP/1.1\r\nHost: x\r\nContent-Length: 5\r\n\r\nabc";
-    expect_answers(&rt, input, "", "calls 2 end TornRequest\n")
+    expect_answers(&rt, &[PUT_TORN], &[], "calls 2 end TornRequest\n")
 }
+
+const DELETE: &str =
+    "DELETE /repository/releases/org/acme/lib/1.0/lib-1.0.jar HTTP/1.1\r\nHost: x\r\n\r\n";
+
+const PUT_OTHER_NAME: &str =
+    "PUT /repository/releases/org/acme/lib/1.0/other-1.0.jar HTTP/1.1\r\nHost: x\r\nContent-Length: 3\r\n\r\nabc";
 
 #[test]
 fn a_head_that_is_not_plain_ends_the_connection(rt: HostRuntime) -> Result<(), Fail> {
-    let deleted =
-        "DELETE /repository/releases/org/acme/lib/1.0/lib-1.0.jar HTTP/1.1\r\nHost: x\r\n\r\n";
-    expect_answers(&rt, deleted, BAD_HEAD, "calls 0 end Closed\n")?;
-    let other_name =
-        "PUT /repository/releases/org/acme/lib/1.0/other-1.0.jar HTTP/1.1\r\nHost: x\r\nContent-Length: 3\r\n\r\nabc";
-    expect_answers(&rt, other_name, BAD_HEAD, "calls 0 end Closed\n")
+    for input in [DELETE, PUT_OTHER_NAME] {
+        expect_answers(&rt, &[input], &[BAD_HEAD], "calls 0 end Closed\n")?;
+    }
+    Ok(())
+}
+
+/// How often a text has another one in it.
+fn count_of(text: &str, part: &str) -> usize {
+    text.matches(part).count()
 }
 
 #[test]
@@ -249,158 +281,23 @@ fn a_connection_has_a_thousand_requests(rt: HostRuntime) -> Result<(), Fail> {
     for _ in 0..1001 {
         input.push_str(GET)?;
     }
-    let replayed = replayed(rt.alloc(), input.as_str(), plain(rt.alloc(), 4096))?;
-    assert_eq!(rt;
-        replayed.answers.as_str().matches("404 Not Found").count(),
-        1000
+    let outcome = replayed(rt.alloc(), input.as_str(), plain(rt.alloc(), 4096))?;
+    let answers = outcome.answers.as_str();
+    let counts = (
+        count_of(answers, "404 Not Found"),
+        count_of(answers, "Connection: close"),
     );
-    assert_eq!(rt;
-        replayed
-            .answers
-            .as_str()
-            .matches("Connection: close")
-            .count(),
-        1
-    );
-    assert_eq!(rt; replayed.line.as_str(), "calls 1000 end TurnLimit\n");
-    Ok(())
-}
-
-#[test]
-fn a_sink_that_fails_has_a_part(rt: HostRuntime) -> Result<(), Fail> {
-    let input = joined(rt.alloc(), &[PUT_ABC, GET_LAST])?;
-    let mut script = plain(rt.alloc(), 4096);
-    script.room = 100;
-    let replayed = replayed(rt.alloc(), input.as_str(), script)?;
-    let whole = joined(rt.alloc(), &[CREATED, ABC_LAST])?;
-    assert!(rt; whole.as_str().starts_with(replayed.answers.as_str()));
-    assert_eq!(rt; replayed.answers.len(), 100);
-    assert_eq!(rt; replayed.line.as_str(), "");
-    assert_eq!(rt; replayed.status, 7);
-    Ok(())
-}
-
-type MemDesk = Desk<ScriptPort<Duplex<MemSource, MemSink>>, MemBlobs>;
-
-/// A desk whose connection gives this input and has room for so many bytes.
-fn desk_of(alloc: Global, input: &str, room: usize, blobs: FaultScript) -> Result<MemDesk, Fail> {
-    let none = FaultScript::none(alloc);
-    let link = Duplex {
-        source: MemSource::new(Vec::from_slice(alloc, input.as_bytes())?, 4096, none),
-        sink: MemSink::new(alloc, room, FaultScript::none(alloc))?,
-    };
-    let port = ScriptPort::new(alloc, vec![in alloc; link]?, FaultScript::none(alloc))?;
-    let blobs = MemBlobs::new(alloc, blobs);
-    Ok(Desk { port, blobs })
-}
-
-#[test]
-fn a_lease_is_given_back_where_the_sink_fails(rt: HostRuntime) -> Result<(), Fail> {
-    let alloc = rt.alloc();
-    let input = joined(alloc, &[PUT_ABC, GET_LAST])?;
-    let mut desk = desk_of(alloc, input.as_str(), 100, FaultScript::none(alloc))?;
-    let opened: Result<Core<ScriptClock, MemHeld>, _> = core_of(
-        alloc,
-        ScriptClock::stepping(alloc, 0, 0),
-    );
-    let mut core = match opened {
-        Ok(core) => core,
-        Err((error, _)) => return Err(Fail::from(error)),
-    };
-    let end = serve_first(alloc, &mut desk, &mut core);
-    assert_eq!(rt; end, Some(End::SinkFault));
-    assert_eq!(rt; core.calls(), 4);
-    Ok(())
-}
-
-#[test]
-fn a_blob_that_is_not_stored_has_used_its_draft(rt: HostRuntime) -> Result<(), Fail> {
-    let alloc = rt.alloc();
-    let input = joined(alloc, &[PUT_ABC, PUT_ABC])?;
-    let failing = FaultScript::failing_at(vec![in alloc; 0]?);
-    let mut desk = desk_of(alloc, input.as_str(), 1000, failing)?;
-    let opened: Result<Core<ScriptClock, MemHeld>, _> = core_of(
-        alloc,
-        ScriptClock::stepping(alloc, 0, 0),
-    );
-    let mut core = match opened {
-        Ok(core) => core,
-        Err((error, _)) => return Err(Fail::from(error)),
-    };
-    let end = serve_first(alloc, &mut desk, &mut core);
-    assert_eq!(rt; end, Some(End::Closed));
-    let look = Command::Look {
-        repo: Text::new(alloc, "releases")?,
-        path: Text::new(alloc, "org/acme/lib/1.0/lib-1.0.jar")?,
-    };
-    assert!(rt; core.fits(&look));
-    let blob = match core.call(look) {
-        Reply::File { lease: _, parcel } => parcel.blob,
-        _ => 0,
-    };
-    assert_eq!(rt; blob, 2);
-    Ok(())
-}
-
-#[test]
-fn a_source_that_fails_ends_the_run(rt: HostRuntime) -> Result<(), Fail> {
-    let mut script = plain(rt.alloc(), 1);
-    script.reads = FaultScript::failing_at(vec![in rt.alloc(); 100]?);
-    let input = joined(rt.alloc(), &[PUT_ABC, GET_LAST])?;
-    let replayed = replayed(rt.alloc(), input.as_str(), script)?;
-    assert_eq!(rt; replayed.answers.as_str(), CREATED);
-    assert_eq!(rt; replayed.line.as_str(), "mvnrepod: input\n");
-    assert_eq!(rt; replayed.status, 6);
-    Ok(())
-}
-
-#[test]
-fn a_blob_that_is_not_stored_is_told(rt: HostRuntime) -> Result<(), Fail> {
-    let input = joined(rt.alloc(), &[PUT_ABC, PUT_ABC, GET])?;
-    let mut script = plain(rt.alloc(), 4096);
-    script.blobs = FaultScript::failing_at(vec![in rt.alloc(); 0]?);
-    let replayed = replayed(rt.alloc(), input.as_str(), script)?;
-    let answers = joined(rt.alloc(), &[BLOB_FAULT, CREATED, ABC])?;
-    assert_eq!(rt; replayed.answers.as_str(), answers.as_str());
-    assert_eq!(rt; replayed.line.as_str(), "calls 6 end Closed\n");
-    Ok(())
-}
-
-#[test]
-fn a_port_that_fails_ends_the_run(rt: HostRuntime) -> Result<(), Fail> {
-    let mut script = plain(rt.alloc(), 4096);
-    script.port = FaultScript::failing_at(vec![in rt.alloc(); 0]?);
-    let replayed = replayed(rt.alloc(), GET_LAST, script)?;
-    assert_eq!(rt; replayed.answers.as_str(), "");
-    assert_eq!(rt; replayed.line.as_str(), "mvnrepod: input\n");
-    assert_eq!(rt; replayed.status, 6);
-    Ok(())
-}
-
-#[test]
-fn a_line_that_is_cut_is_told(rt: HostRuntime) -> Result<(), Fail> {
-    let mut script = plain(rt.alloc(), 4096);
-    script.line_room = 7;
-    let replayed = replayed(rt.alloc(), "", script)?;
-    assert_eq!(rt; replayed.line.as_str(), "calls 0");
-    assert_eq!(rt; replayed.status, 7);
+    let got = (counts, outcome.line.as_str());
+    assert_eq!(rt; got, ((1000, 1), "calls 1000 end TurnLimit\n"));
     Ok(())
 }
 
 #[test]
 fn other_words_are_refused(rt: HostRuntime) -> Result<(), Fail> {
-    let alloc = rt.alloc();
-    let desks: Vec<Desk<ScriptPort<Duplex<MemSource, MemSink>>, MemBlobs>> = vec![in alloc;
-        Desk {
-            port: ScriptPort::new(alloc, Vec::new(alloc), FaultScript::none(alloc))?,
-            blobs: MemBlobs::new(alloc, FaultScript::none(alloc)),
-        },
-    ]?;
-    let words = vec![in alloc; String::from_str(alloc, "serve")?]?;
-    let mut out = MemSink::new(alloc, 100, FaultScript::none(alloc))?;
-    let clock = ScriptClock::stepping(alloc, 0, 0);
-    let ran = run(alloc, words.as_slice(), desks, clock, &mut out);
-    assert_eq!(rt; ran.status, 2);
-    assert_eq!(rt; out.bytes(), b"mvnrepod: words\n".as_slice());
+    let mut out = MemSink::new(rt.alloc(), 100, FaultScript::none(rt.alloc()))?;
+    let desk = desk_of(rt.alloc(), GET, plain(rt.alloc(), 4096))?;
+    let ran = run_word(rt.alloc(), "serve", desk, &mut out)?;
+    let got = (ran.status, out.bytes());
+    assert_eq!(rt; got, (2, b"mvnrepod: words\n".as_slice()));
     Ok(())
 }

@@ -1,3 +1,4 @@
+//! Which action the words of the command line want.
 ghost use Rattle.std.specs.Prelude.{◌≡◌, map, IfOk};
 ghost use Rattle.std.specs.String.{string_bytes};
 ghost use Rattle.mvnrepod.specs.Words.{action_of};

@@ -1,6 +1,6 @@
 // The bytes of answers, written out.
 use http_wire::{Answer, Content, NO_MEMORY, Status, no_memory_answer, render};
-use mvn_digest::Hashes;
+use mvn_digest::{Digests, Hashes};
 use std::alloc::{AllocError, Global};
 use std::test::Fail;
 use texts::{Bytes, Text};
@@ -16,7 +16,7 @@ struct Row {
     bytes: &'static [u8],
 }
 
-const ROWS: [Row; 6] = [
+static ROWS: [Row; 6] = [
     Row {
         status: Status::Created,
         content: Content::Plain,
@@ -73,23 +73,38 @@ const ROWS: [Row; 6] = [
     },
 ];
 
-// Whether the row's answer has the row's bytes. A file's answer has the digests of its body.
-fn is_rendered(alloc: Global, row: &Row) -> Result<bool, AllocError> {
+// A file's answer has the digests of its body.
+fn digests_of(row: &Row) -> Option<Digests> {
     let mut hashes = Hashes::new();
     hashes.update(row.body);
-    let answer = Answer {
+    (row.content == Content::File).then_some(hashes.finish())
+}
+
+fn allow_of(alloc: Global, row: &Row) -> Result<Option<Text>, AllocError> {
+    match row.allow {
+        "" => Ok(None),
+        methods => Ok(Some(Text::new(alloc, methods)?)),
+    }
+}
+
+fn answer_of(alloc: Global, row: &Row) -> Result<Answer, AllocError> {
+    let body = Bytes::new(alloc, row.body)?;
+    Ok(Answer {
         status: row.status,
         content: row.content,
         length: row.length,
-        digests: (row.content == Content::File).then_some(hashes.finish()),
-        allow: match row.allow {
-            "" => None,
-            methods => Some(Text::new(alloc, methods)?),
-        },
+        digests: digests_of(row),
+        allow: allow_of(alloc, row)?,
         close: row.close,
-        body: Bytes::new(alloc, row.body)?,
-    };
-    Ok(render(alloc, &answer)?.as_slice() == row.bytes)
+        body,
+    })
+}
+
+// Whether the row's answer has the row's bytes.
+fn is_rendered(alloc: Global, row: &Row) -> Result<bool, AllocError> {
+    let answer = answer_of(alloc, row)?;
+    let bytes = render(alloc, &answer)?;
+    Ok(bytes.as_slice() == row.bytes)
 }
 
 // The first row whose answer has other bytes.

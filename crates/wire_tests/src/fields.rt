@@ -14,7 +14,7 @@ struct Row {
     length: BodyLength,
 }
 
-const ROWS: [Row; 4] = [
+static ROWS: [Row; 4] = [
     Row {
         bytes: b"PUT /a HTTP/1.0\nHost: \t x \nhost:y\nConnection: keep-alive , Close\ncontent-length: 007\nContent-Length:7\n\n",
         old: true,
@@ -50,7 +50,7 @@ const ROWS: [Row; 4] = [
 ];
 
 // Values of Content-Length that give no length.
-const WRONG: [&[u8]; 4] = [
+static WRONG: [&[u8]; 4] = [
     b"PUT /a HTTP/1.1\nContent-Length: 0000000000000000000\n\n",
     b"PUT /a HTTP/1.1\nContent-Length:\n\n",
     b"PUT /a HTTP/1.1\nContent-Length: +5\n\n",
@@ -71,12 +71,25 @@ fn is_as_said(request: &Request, row: &Row) -> bool {
         && request.body_length() == row.length
 }
 
+fn is_right(alloc: Global, row: &Row) -> Result<bool, WireFault> {
+    match head_of(alloc, row.bytes)? {
+        Some(request) => Ok(is_as_said(&request, row)),
+        None => Ok(false),
+    }
+}
+
+fn has_wrong_length(alloc: Global, bytes: &[u8]) -> Result<bool, WireFault> {
+    match head_of(alloc, bytes)? {
+        Some(request) => Ok(request.body_length() == BodyLength::Wrong),
+        None => Ok(false),
+    }
+}
+
 // The first row whose head says something else.
 fn first_wrong(alloc: Global) -> Result<Option<usize>, WireFault> {
     for (n, row) in ROWS.iter().enumerate() {
-        match head_of(alloc, row.bytes)? {
-            Some(request) if is_as_said(&request, row) => {}
-            _ => return Ok(Some(n)),
+        if !is_right(alloc, row)? {
+            return Ok(Some(n));
         }
     }
     Ok(None)
@@ -85,9 +98,8 @@ fn first_wrong(alloc: Global) -> Result<Option<usize>, WireFault> {
 // The first of the wrong lengths that is taken.
 fn first_taken(alloc: Global) -> Result<Option<usize>, WireFault> {
     for (n, bytes) in WRONG.iter().enumerate() {
-        match head_of(alloc, bytes)? {
-            Some(request) if request.body_length() == BodyLength::Wrong => {}
-            _ => return Ok(Some(n)),
+        if !has_wrong_length(alloc, bytes)? {
+            return Ok(Some(n));
         }
     }
     Ok(None)
@@ -95,7 +107,8 @@ fn first_taken(alloc: Global) -> Result<Option<usize>, WireFault> {
 
 #[test]
 fn fields_are_found_by_name(rt: HostRuntime) -> Result<(), Fail> {
-    assert_eq!(rt; first_wrong(rt.alloc())?, None);
-    assert_eq!(rt; first_taken(rt.alloc())?, None);
+    let wrong = first_wrong(rt.alloc())?;
+    let taken = first_taken(rt.alloc())?;
+    assert_eq!(rt; (wrong, taken), (None, None));
     Ok(())
 }

@@ -2,10 +2,11 @@
 use crate::plain;
 use crate::streams::{said, source_of};
 use http_wire::Wire;
+use outside::MemSource;
 use std::alloc::{AllocError, Global};
 use std::test::Fail;
 
-const FIRST: [&[u8]; 12] = [
+static FIRST: [&[u8]; 12] = [
     b"GET /a HTTP/1.1",
     b"PUT /b/c HTTP/1.0",
     b"X-y! http://h/?q HTTP/1.1",
@@ -20,7 +21,7 @@ const FIRST: [&[u8]; 12] = [
     b" GET /a HTTP/1.1",
 ];
 
-const FIELDS: [&[u8]; 12] = [
+static FIELDS: [&[u8]; 12] = [
     b"Host: x",
     b"A:",
     b"b:\t c d \t",
@@ -35,11 +36,11 @@ const FIELDS: [&[u8]; 12] = [
     b"M: \x01",
 ];
 
-const ENDS: [&[u8]; 10] = [
+static ENDS: [&[u8]; 10] = [
     b"\n", b"\r\n", b"\n", b"\r\n", b"\n", b"\r\n", b"\n", b"\r\n", b"\r\r\n", b"",
 ];
 
-const EMPTY: [&[u8]; 4] = [b"\n", b"\r\n", b"", b"\r"];
+static EMPTY: [&[u8]; 4] = [b"\n", b"\r\n", b"", b"\r"];
 
 /// Choices that look random: a seed that is scrambled at each choice.
 #[derive(Drop)]
@@ -62,22 +63,50 @@ impl Choices {
         options.get(self.below(count)).copied().unwrap_or(b"")
     }
 
+    // Puts one of the options behind the bytes.
+    fn add(&mut self, bytes: &mut Vec<u8>, options: &[&'static [u8]]) -> Result<(), AllocError> {
+        bytes.extend_from_slice(self.pick(options))
+    }
+
+    fn add_line(
+        &mut self,
+        bytes: &mut Vec<u8>,
+        options: &[&'static [u8]],
+    ) -> Result<(), AllocError> {
+        self.add(bytes, options)?;
+        self.add(bytes, &ENDS)
+    }
+
+    fn add_head(&mut self, bytes: &mut Vec<u8>) -> Result<(), AllocError> {
+        for _ in 0..self.below(3) {
+            self.add(bytes, &EMPTY)?;
+        }
+        self.add_line(bytes, &FIRST)?;
+        for _ in 0..self.below(4) {
+            self.add_line(bytes, &FIELDS)?;
+        }
+        self.add(bytes, &EMPTY)
+    }
+
     fn stream(&mut self, alloc: Global) -> Result<Vec<u8>, AllocError> {
         let mut bytes = Vec::new(alloc);
         for _ in 0..self.below(4) {
-            for _ in 0..self.below(3) {
-                bytes.extend_from_slice(self.pick(&EMPTY))?;
-            }
-            bytes.extend_from_slice(self.pick(&FIRST))?;
-            bytes.extend_from_slice(self.pick(&ENDS))?;
-            for _ in 0..self.below(4) {
-                bytes.extend_from_slice(self.pick(&FIELDS))?;
-                bytes.extend_from_slice(self.pick(&ENDS))?;
-            }
-            bytes.extend_from_slice(self.pick(&EMPTY))?;
+            self.add_head(&mut bytes)?;
         }
         Ok(bytes)
     }
+}
+
+// What is left behind what a call gives, or none where the plain program says something else.
+fn step<'a>(
+    alloc: Global,
+    wire: &mut Wire,
+    source: &mut MemSource,
+    rest: &'a [u8],
+) -> Result<Option<&'a [u8]>, AllocError> {
+    let (want, left) = plain::front(alloc, rest)?;
+    let given = said(alloc, wire.next_request(alloc, source))?;
+    Ok((given == want).then_some(left))
 }
 
 // How many of the first four calls over a stream give a head, or none where the plain program says something else.
@@ -87,10 +116,9 @@ fn heads_of(alloc: Global, stream: &[u8], most: usize) -> Result<Option<u32>, Al
     let mut rest = stream;
     let mut heads = 0u32;
     for _ in 0..4 {
-        let (want, left) = plain::front(alloc, rest)?;
-        if said(alloc, wire.next_request(alloc, &mut source))? != want {
+        let Some(left) = step(alloc, &mut wire, &mut source, rest)? else {
             return Ok(None);
-        }
+        };
         if left.len() < rest.len() {
             heads = heads.saturating_add(1);
         }

@@ -5,24 +5,31 @@ ghost use Rattle.std.specs.Prelude.{◌≤◌, length, IfSome};
 
 use std::alloc::{AllocError, Global};
 
-/// The line of a request: method, target, digit of HTTP/1.x, and each field.
-pub fn line(
+// A part with a mark behind it.
+fn add(line: &mut Vec<u8>, part: &[u8], mark: u8) -> Result<(), AllocError> {
+    line.extend_from_slice(part)?;
+    line.push(mark)?;
+    Ok(())
+}
+
+/// The front of a request's line: method, target and digit of HTTP/1.x.
+pub fn start(
     alloc: Global,
-    start: [&[u8]; 3],
-    fields: &[(&[u8], &[u8])],
+    method: &[u8],
+    target: &[u8],
+    minor: &[u8],
 ) -> Result<Vec<u8>, AllocError> {
     let mut line = Vec::new(alloc);
-    for part in start {
-        line.extend_from_slice(part)?;
-        line.push(b' ')?;
-    }
-    for (name, value) in fields {
-        line.extend_from_slice(name)?;
-        line.push(b'=')?;
-        line.extend_from_slice(value)?;
-        line.push(b'|')?;
+    for part in [method, target, minor] {
+        add(&mut line, part, b' ')?;
     }
     Ok(line)
+}
+
+/// Puts a field behind a request's line.
+pub fn add_field(line: &mut Vec<u8>, name: &[u8], value: &[u8]) -> Result<(), AllocError> {
+    add(line, name, b'=')?;
+    add(line, value, b'|')
 }
 
 /// What the bytes begin with, as a request's line or a word, and what is left.
@@ -30,24 +37,36 @@ pub fn front(alloc: Global, bytes: &[u8]) -> Result<(Vec<u8>, &[u8]), AllocError
     let window = &bytes[..bytes.len().min(8192)];
     let start = blank_length(window);
     let Some(end) = end_of_head(window, start) else {
-        let word = if bytes.len() >= 8192 {
-            b"TooLong".as_slice()
-        } else if has_only(bytes, b"\r\n") {
-            b"Clean".as_slice()
-        } else {
-            b"Torn".as_slice()
-        };
-        return Ok((Vec::from_slice(alloc, word)?, bytes));
+        return Ok((Vec::from_slice(alloc, word_of(bytes))?, bytes));
     };
     let (before, rest) = bytes.split_at(end);
-    let lines = parts(alloc, &before[start..], b'\n')?;
+    match head_of(alloc, &before[start..])? {
+        Ok(line) => Ok((line, rest)),
+        Err(word) => Ok((Vec::from_slice(alloc, word)?, bytes)),
+    }
+}
+
+// What is said of bytes in which no head ends.
+fn word_of(bytes: &[u8]) -> &'static [u8] {
+    if bytes.len() >= 8192 {
+        b"TooLong"
+    } else if has_only(bytes, b"\r\n") {
+        b"Clean"
+    } else {
+        b"Torn"
+    }
+}
+
+// The line of a request with this head, or a word.
+fn head_of(alloc: Global, head: &[u8]) -> Result<Result<Vec<u8>, &'static [u8]>, AllocError> {
+    let lines = parts(alloc, head, b'\n')?;
     // The first line, 64 lines of fields, the empty line, and nothing behind its line feed.
     if lines.len() > 67 {
-        return Ok((Vec::from_slice(alloc, b"TooLong")?, bytes));
+        return Ok(Err(b"TooLong"));
     }
     match read(alloc, lines.as_slice())? {
-        Some(line) => Ok((line, rest)),
-        None => Ok((Vec::from_slice(alloc, b"Broken")?, bytes)),
+        Some(line) => Ok(Ok(line)),
+        None => Ok(Err(b"Broken")),
     }
 }
 
@@ -88,26 +107,39 @@ fn read(alloc: Global, lines: &[&[u8]]) -> Result<Option<Vec<u8>>, AllocError> {
     let [first, fields @ .., _, _] = lines else {
         return Ok(None);
     };
-    let words = parts(alloc, without_end(first), b' ')?;
-    let [method, target, version] = words.as_slice() else {
+    let Some((method, target, minor)) = start_of(without_end(first)) else {
         return Ok(None);
     };
-    let minor = match *version {
-        b"HTTP/1.0" => b"0".as_slice(),
-        b"HTTP/1.1" => b"1".as_slice(),
-        _ => return Ok(None),
-    };
-    if !is_token(method) || !is_target(target) {
-        return Ok(None);
+    let mut line = start(alloc, method, target, minor)?;
+    let whole = add_fields(&mut line, fields)?;
+    Ok(whole.then_some(line))
+}
+
+// The method, the target and the digit of the version.
+fn start_of(line: &[u8]) -> Option<(&[u8], &[u8], &'static [u8])> {
+    let (method, rest) = halves(line, b' ')?;
+    let (target, version) = halves(rest, b' ')?;
+    let minor = minor_of(version)?;
+    (is_token(method) && is_target(target)).then_some((method, target, minor))
+}
+
+fn minor_of(version: &[u8]) -> Option<&'static [u8]> {
+    match version {
+        b"HTTP/1.0" => Some(b"0"),
+        b"HTTP/1.1" => Some(b"1"),
+        _ => None,
     }
-    let mut pairs = Vec::new(alloc);
+}
+
+// Puts the fields behind a request's line, up to a line that is none. Whether each is one.
+fn add_fields(line: &mut Vec<u8>, fields: &[&[u8]]) -> Result<bool, AllocError> {
     for field in fields {
         match pair(without_end(field)) {
-            Some(pair) => pairs.push(pair)?,
-            None => return Ok(None),
+            Some((name, value)) => add_field(line, name, value)?,
+            None => return Ok(false),
         }
     }
-    Ok(Some(line(alloc, [method, target, minor], pairs.as_slice())?))
+    Ok(true)
 }
 
 fn parts(alloc: Global, text: &[u8], mark: u8) -> Result<Vec<&[u8]>, AllocError> {
@@ -146,10 +178,10 @@ fn is_target(text: &[u8]) -> bool {
     !text.is_empty() && is_visible(text, b'!', b'!') && str::from_utf8(text).is_ok()
 }
 
-// What stands before the first colon and behind it.
-fn halves(line: &[u8]) -> Option<(&[u8], &[u8])> {
+// What stands before the first mark and behind it.
+fn halves(line: &[u8], mark: u8) -> Option<(&[u8], &[u8])> {
     for i in 0..line.len() {
-        if line[i] == b':' {
+        if line[i] == mark {
             return Some((&line[..i], &line[i + 1..]));
         }
     }
@@ -158,7 +190,7 @@ fn halves(line: &[u8]) -> Option<(&[u8], &[u8])> {
 
 // The name and the value of a field line, the value without the blanks at its ends.
 fn pair(line: &[u8]) -> Option<(&[u8], &[u8])> {
-    let (name, value) = halves(line)?;
+    let (name, value) = halves(line, b':')?;
     if !is_token(name) || !is_visible(value, b'\t', b' ') {
         return None;
     }

@@ -32,16 +32,12 @@ fn line_of(alloc: Global, request: &Request) -> Result<Vec<u8>, AllocError> {
     } else {
         b"1".as_slice()
     };
-    let mut pairs = Vec::new(alloc);
+    let (method, target) = (request.method(), request.target());
+    let mut line = plain::start(alloc, method.as_bytes(), target.as_bytes(), minor)?;
     for field in request.fields() {
-        pairs.push((field.name.as_slice(), field.value.as_slice()))?;
+        plain::add_field(&mut line, field.name.as_slice(), field.value.as_slice())?;
     }
-    let start = [
-        request.method().as_bytes(),
-        request.target().as_bytes(),
-        minor,
-    ];
-    plain::line(alloc, start, pairs.as_slice())
+    Ok(line)
 }
 
 /// What one call of `next_request` gave, as a line or a word.
@@ -66,7 +62,7 @@ const TWO_SAID: &[u8] = b"PUT /a/b 1 Host=x|X=a b|;GET http://h/c?d 0 Host=x|;Cl
 
 const NEVER: u64 = u64::MAX;
 
-const STREAMS: [Stream; 22] = [
+static STREAMS: [Stream; 22] = [
     (TWO, 1, NEVER, TWO_SAID),
     (TWO, 2, NEVER, TWO_SAID),
     (TWO, 7, NEVER, TWO_SAID),
@@ -136,23 +132,59 @@ const STREAMS: [Stream; 22] = [
     (b"\x00\r\n\r\n", 4, NEVER, b"Broken;Broken;Broken;"),
 ];
 
-fn reads(alloc: Global, stream: Stream) -> Result<bool, AllocError> {
-    let (bytes, most, fails_at, want) = stream;
-    let mut wire = Wire::new();
-    let mut source = source_of(alloc, bytes, most, fails_at)?;
-    let mut lines = Vec::new(alloc);
-    for _ in 0..3 {
-        let line = said(alloc, wire.next_request(alloc, &mut source))?;
-        lines.extend_from_slice(line.as_slice())?;
-        lines.push(b';')?;
+/// A wire over a source, and what its calls gave, a semicolon behind each.
+#[derive(Drop)]
+struct Calls {
+    alloc: Global,
+    wire: Wire,
+    source: MemSource,
+    given: Vec<u8>,
+}
+
+impl Calls {
+    fn new(alloc: Global, source: MemSource) -> Calls {
+        Calls {
+            alloc,
+            wire: Wire::new(),
+            source,
+            given: Vec::new(alloc),
+        }
     }
-    Ok(lines.as_slice() == want)
+
+    fn add(&mut self, given: &[u8]) -> Result<(), AllocError> {
+        self.given.extend_from_slice(given)?;
+        self.given.push(b';')?;
+        Ok(())
+    }
+
+    fn head(&mut self) -> Result<(), AllocError> {
+        let head = self.wire.next_request(self.alloc, &mut self.source);
+        let line = said(self.alloc, head)?;
+        self.add(line.as_slice())
+    }
+
+    fn body(&mut self, length: u64) -> Result<(), AllocError> {
+        match self.wire.body(self.alloc, &mut self.source, length) {
+            Ok(body) => self.add(body.as_slice()),
+            Err(fault) => self.add(word_of(fault)),
+        }
+    }
+}
+
+fn reads(alloc: Global, stream: &Stream) -> Result<bool, AllocError> {
+    let (bytes, most, fails_at, want) = stream;
+    let source = source_of(alloc, bytes, *most, *fails_at)?;
+    let mut calls = Calls::new(alloc, source);
+    for _ in 0..3 {
+        calls.head()?;
+    }
+    Ok(calls.given.as_slice() == *want)
 }
 
 // The first stream that is read as something else.
 fn first_wrong_stream(alloc: Global) -> Result<Option<usize>, AllocError> {
     for (n, stream) in STREAMS.iter().enumerate() {
-        if !reads(alloc, *stream)? {
+        if !reads(alloc, stream)? {
             return Ok(Some(n));
         }
     }
@@ -162,7 +194,7 @@ fn first_wrong_stream(alloc: Global) -> Result<Option<usize>, AllocError> {
 /// The front of a stream, what comes behind it and how often, the end, and whether that is too long for a head.
 type Long = (&'static [u8], &'static [u8], usize, &'static [u8], bool);
 
-const LONG: [Long; 6] = [
+static LONG: [Long; 6] = [
     (b"GET ", b"/", 8175, b" HTTP/1.1\r\n\r\n", false),
     (b"GET ", b"/", 8176, b" HTTP/1.1\r\n\r\n", true),
     (b"GET / HTTP/1.1\r\n", b"A: b\r\n", 64, b"\r\n", false),
@@ -171,22 +203,28 @@ const LONG: [Long; 6] = [
     (b"", b"\n", 8192, b"", true),
 ];
 
-fn is_too_long(alloc: Global, long: Long) -> Result<bool, AllocError> {
+fn bytes_of(alloc: Global, long: &Long) -> Result<Vec<u8>, AllocError> {
     let (front, unit, count, end, _) = long;
     let mut bytes = Vec::from_slice(alloc, front)?;
-    for _ in 0..count {
+    for _ in 0..*count {
         bytes.extend_from_slice(unit)?;
     }
     bytes.extend_from_slice(end)?;
-    let mut source = source_of(alloc, bytes.as_slice(), 100, NEVER)?;
-    let line = said(alloc, Wire::new().next_request(alloc, &mut source))?;
-    Ok(line.as_slice() == b"TooLong".as_slice())
+    Ok(bytes)
+}
+
+fn is_too_long(alloc: Global, bytes: &[u8]) -> Result<bool, AllocError> {
+    let source = source_of(alloc, bytes, 100, NEVER)?;
+    let mut calls = Calls::new(alloc, source);
+    calls.head()?;
+    Ok(calls.given.as_slice() == b"TooLong;".as_slice())
 }
 
 // The first long stream of which the wire says something else.
 fn first_wrong_length(alloc: Global) -> Result<Option<usize>, AllocError> {
     for (n, long) in LONG.iter().enumerate() {
-        if is_too_long(alloc, *long)? != long.4 {
+        let bytes = bytes_of(alloc, long)?;
+        if is_too_long(alloc, bytes.as_slice())? != long.4 {
             return Ok(Some(n));
         }
     }
@@ -196,7 +234,7 @@ fn first_wrong_length(alloc: Global) -> Result<Option<usize>, AllocError> {
 /// A stream, the most bytes of a read, and its first head, three bodies of 3, 0 and 2 bytes, and the next head.
 type Bodies = (&'static [u8], usize, &'static [u8]);
 
-const BODIES: [Bodies; 4] = [
+static BODIES: [Bodies; 4] = [
     (
         b"PUT /a HTTP/1.1\n\nabcdeGET /b HTTP/1.1\n\n",
         1,
@@ -215,28 +253,22 @@ const BODIES: [Bodies; 4] = [
     (b"PUT /a HTTP/1.1\n\nabcd", 18, b"PUT /a 1 ;abc;;Torn;Clean"),
 ];
 
-fn gives_bodies(alloc: Global, bodies: Bodies) -> Result<bool, AllocError> {
+fn gives_bodies(alloc: Global, bodies: &Bodies) -> Result<bool, AllocError> {
     let (bytes, most, want) = bodies;
-    let mut wire = Wire::new();
-    let mut source = source_of(alloc, bytes, most, NEVER)?;
-    let mut given = said(alloc, wire.next_request(alloc, &mut source))?;
+    let source = source_of(alloc, bytes, *most, NEVER)?;
+    let mut calls = Calls::new(alloc, source);
+    calls.head()?;
     for length in [3, 0, 2] {
-        given.push(b';')?;
-        match wire.body(alloc, &mut source, length) {
-            Ok(body) => given.extend_from_slice(body.as_slice())?,
-            Err(fault) => given.extend_from_slice(word_of(fault))?,
-        }
+        calls.body(length)?;
     }
-    given.push(b';')?;
-    let next = said(alloc, wire.next_request(alloc, &mut source))?;
-    given.extend_from_slice(next.as_slice())?;
-    Ok(given.as_slice() == want)
+    calls.head()?;
+    Ok(calls.given.as_slice().strip_suffix(b";") == Some(*want))
 }
 
 // The first stream whose bodies are others.
 fn first_wrong_body(alloc: Global) -> Result<Option<usize>, AllocError> {
     for (n, bodies) in BODIES.iter().enumerate() {
-        if !gives_bodies(alloc, *bodies)? {
+        if !gives_bodies(alloc, bodies)? {
             return Ok(Some(n));
         }
     }
@@ -245,8 +277,9 @@ fn first_wrong_body(alloc: Global) -> Result<Option<usize>, AllocError> {
 
 #[test]
 fn streams_are_read_as_written(rt: HostRuntime) -> Result<(), Fail> {
-    assert_eq!(rt; first_wrong_stream(rt.alloc())?, None);
-    assert_eq!(rt; first_wrong_length(rt.alloc())?, None);
-    assert_eq!(rt; first_wrong_body(rt.alloc())?, None);
+    let stream = first_wrong_stream(rt.alloc())?;
+    let length = first_wrong_length(rt.alloc())?;
+    let body = first_wrong_body(rt.alloc())?;
+    assert_eq!(rt; (stream, length, body), (None, None, None));
     Ok(())
 }
