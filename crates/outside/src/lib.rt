@@ -5,8 +5,8 @@
 //! answers `Failed` only where the object's count of faults rose in that call. A program that is generic over
 //! the traits can't raise a count, so it can't give up by itself.
 //!
-//! The forms in memory (`Mem..`, `Script..`) tell all there is to tell and fail where they are told to. Those
-//! over std's readers and writers tell nothing.
+//! The forms in memory (`Mem..`, `Script..`) tell all there is to tell and fail where they are told to. The adapters of
+//! std's readers and writers tell what these tell.
 #![tactic(auto)]
 
 mod clocks;
