@@ -57,7 +57,7 @@ impl Model for Stamp {
 impl Stamp {
     ghost use Rattle.mvn_coords.specs.Civil.{seconds_of, text_of_time, time_of, if_civil, fields_of, shown};
 
-    /// The greatest moment that has a stamp, in seconds since 1970-01-01T00:00:00Z.
+    /// The greatest moment that `from_moment` takes, in seconds since 1970-01-01T00:00:00Z.
     pub const LAST_MOMENT: u64 = 253_402_207_200;
 
     /// Reads `yyyyMMdd.HHmmss`: a day of the Gregorian calendar (ISO 8601) and a time of day.
@@ -139,7 +139,7 @@ impl Stamp {
         ]
     }
 
-    /// The civil time in UTC, `moment` seconds after 1970-01-01T00:00:00Z.
+    /// The civil time in UTC, `moment` seconds after 1970-01-01T00:00:00Z, at most `LAST_MOMENT`.
     pub fn from_moment(moment: u64) -> Stamp
         requires { moment ≤ Self.LAST_MOMENT }
         ensures { seconds_of result ≡ pos moment }

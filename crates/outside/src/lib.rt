@@ -6,7 +6,7 @@
 //! the traits can't raise a count, so it can't give up by itself.
 //!
 //! The forms in memory (`Mem..`, `Script..`) tell all there is to tell and fail where they are told to. The adapters of
-//! std's readers and writers tell what these tell.
+//! std's readers and writers count faults and tell no bytes; their own clauses say what is known of these.
 #![tactic(auto)]
 
 mod clocks;

@@ -42,7 +42,7 @@ fn end_of(close: bool) -> Option<End>
     if close { Some(End::Closed) } else { None }
 }
 
-/// The same before a body of `length` bytes that stays unread, which ends the connection too.
+/// What ends a connection behind a request whose body of `length` bytes stays unread: that, too.
 fn with_unread(closing: Closing, length: u64) -> Closing
     ensures { result ≡ record { close = closing.close || nat_lt 0 length; last = closing.last } }
 {

@@ -7,8 +7,8 @@ ghost use Rattle.repo_model.specs.Step.{latest_moment};
 use mvn_coords::Stamp;
 use outside::Clock;
 
-/// The moment of a turn: what the clock gives, but no moment before the last turn's, and none behind the last that has a
-/// stamp. Reads the clock once.
+/// The moment of a turn: what the clock gives, but no moment before the last turn's, and none behind
+/// `Stamp::LAST_MOMENT`. Reads the clock once.
 pub fn next_moment<C: Clock>(clock: &mut C, last: u64) -> u64
     requires { last ≤ latest_moment }
     ensures given { IfSome (C.moments clock.old) (λ moments. result ≡ max last (min latest_moment moments.next)) }

@@ -29,7 +29,7 @@ impl Model for MemSource {
 }
 
 impl MemSource {
-    /// A source of these bytes, at most `most` of them a read.
+    /// A source of these bytes, at most `most` of them a read, which is not 0.
     pub fn new(bytes: Vec<u8>, most: usize, script: FaultScript) -> MemSource
         requires { 0 < most }
         ensures { result ≡ record { left = bytes.items; most = most; script = script } }
