@@ -3,17 +3,11 @@
 
 ghost use Rattle.std.specs.Prelude.{◌≡◌, ◌<◌, IfOk, vec_len};
 
-mod actions;
-mod run;
-#[cfg(test)]
-mod tests;
-mod words;
-
-use crate::run::{Desk, NO_MEMORY, run};
 use outside::{
     Blobs, Duplex, FaultScript, MemBlobs, NoMemory, Port, ReaderSource, ScriptClock, ScriptPort,
     Sink, WriterSink,
 };
+use repo_run::{Desk, NO_MEMORY, run};
 use std::alloc::Global;
 use std::env;
 use std::io::{self, Stdin, Stdout};

@@ -1,0 +1,106 @@
+-- A replay: the first connection of a desk is served by a repository that begins empty, and given back.
+use Rattle.std.specs.Prelude.{◌≡◌, ◌≢◌, ◌⊎◌, ℕ, List, [], ◌∷◌, length, All, Option, Some, None}
+use Rattle.outside.specs.Faults.{Rose}
+use Rattle.outside.specs.Moments.{Moments}
+use Rattle.outside.specs.Told.{behind, in_front, IsAtEnd}
+use Rattle.repo_model.specs.State.{opening}
+use Rattle.repo_model.specs.Reply.{no_draft}
+use Rattle.repo_model.specs.History.{Entry, Legal, end}
+use Rattle.repo_core.specs.Whole.{Whole}
+use Rattle.repo_server.specs.declared.outcomes.End.{End}
+use Rattle.repo_server.specs.declared.outcomes.End.TheVariants.{Closed, SourceFault, SinkFault}
+use Rattle.repo_server.specs.CoreTurn.{CoreTurn}
+use Rattle.repo_server.specs.Endings.{EndsByCause}
+use Rattle.repo_server.specs.Faultless.{Played, first_scene, play_stream}
+use Rattle.repo_server.specs.AsPlayed.{IsAsPlayed, IsPlayedUpTo, NoFaults, StoodStill}
+use Rattle.repo_server.specs.Machine.{with_entries, with_history}
+use Rattle.repo_server.specs.Serving.{Serves}
+use Rattle.repo_server.specs.Releases.{releases_alone}
+use Rattle.repo_run.specs.declared.actions.Action.{Action}
+use Rattle.repo_run.specs.declared.actions.Action.TheVariants.{Replay, Nothing}
+use Rattle.repo_server.specs.declared.streams.TheConstants.{TURNS}
+use Rattle.repo_run.specs.Lines.{words_line, input_line, memory_line, ending_line}
+use Rattle.repo_run.specs.Status.{HasStatus, Counts}
+use Rattle.repo_run.specs.Surroundings.{Connection, DeskState, Output, PrintsWhole, PrintsPart, Prints, world_at}
+
+-- the repository before its first call, with these moments to come
+abbrev pub opened : Option Moments → Whole
+opened clock = record { settings = releases_alone; state = opening releases_alone clock; calls = 0 }
+
+-- what a connection is answered that gives these bytes, if nothing fails: a function of the moments and the bytes
+abbrev pub answers : Moments → List ℕ → Played End
+answers moments input = play_stream releases_alone TURNS (first_scene releases_alone (Some moments) input)
+
+-- all is told: the blobs' bytes, the clock's moments, the bytes that the connection gives, and those that it has taken
+pub record AllTold (tells : Type 0) (clock : Option Moments) (old : Connection) (moments : Moments) (input before : List ℕ) : Type 0 where
+  pub blobs_tell : tells
+  pub clock_is : clock ≡ Some moments
+  pub left_is : old.left ≡ Some input
+  pub taken_is : old.taken ≡ Some before
+
+-- A connection is served by a repository that begins empty. Its calls, each once, in order and no other, are a legal history, as long as `calls`.
+pub record IsReplayed (tells : Type 0) (clock clock' : Option Moments) (old new : Connection) (faults faults' : ℕ) (ending : End) (calls : ℕ) : Type 0 where
+  pub entries : List Entry
+  -- the repository in the end, and the bytes that were read ahead and not used
+  pub core : Whole
+  pub held : List ℕ
+  pub serves : Serves (with_history (CoreTurn releases_alone)) tells TURNS
+      (with_entries [] (world_at (opened clock) old.left old faults)) (with_entries entries (world_at core (in_front held new.left) new faults')) ending
+  pub legal : Legal releases_alone (opening releases_alone clock) entries
+  pub state : core.state ≡ end (opening releases_alone clock) entries
+  pub clock_is : clock' ≡ core.state.clock
+  pub counted : calls ≡ length entries
+  -- no draft and no lease stands in the end, and no call was told that its draft is not there
+  pub nothing_left : (core.state.yard.drafts ≡ []) × (core.state.yard.leases ≡ [])
+  pub drafts_found : All (λ (e : Entry). e.reply ≢ no_draft) entries
+  pub ends : EndsByCause ending old.read_faults old.write_faults new.read_faults new.write_faults
+  -- where no blob failed, what was taken is what is answered if nothing fails, up to some place
+  pub played : (moments : Moments) (input before : List ℕ) → AllTold tells clock old moments input before → StoodStill faults faults'
+      → IsPlayedUpTo before (answers moments input) (world_at (opened clock) old.left old faults) (world_at core (in_front held new.left) new faults') ending
+  -- and all of it where nothing failed
+  pub faultless : (moments : Moments) (input before : List ℕ) → AllTold tells clock old moments input before
+      → NoFaults (world_at (opened clock) old.left old faults) (world_at core (in_front held new.left) new faults')
+      → IsAsPlayed before (answers moments input) new.taken ending
+
+-- a stream is over: its line, or the part of it that was printed, or that there was no memory for it
+abbrev pub Finishes : ℕ → End → Output → Output → ℕ → Type 0
+Finishes calls ending old new status =
+    (PrintsWhole (ending_line calls ending) old new × (status ≡ 0))
+    ⊎ (PrintsPart (ending_line calls ending) old new × (status ≡ 7))
+    ⊎ (Prints memory_line old new × (status ≡ 8))
+
+-- the status and the line of a stream that ended so
+abbrev pub Reports : End → ℕ → Output → Output → ℕ → Type 0
+Reports SourceFault calls old new status = Prints input_line old new × (status ≡ 6)
+Reports SinkFault calls old new status = (new ≡ old) × (status ≡ 7)
+Reports ending calls old new status = Finishes calls ending old new status
+
+-- the same of the port's first connection; none, where the port failed
+abbrev pub ReportsFirst : Option End → ℕ → Output → Output → ℕ → Type 0
+ReportsFirst (Some ending) calls old new status = Reports ending calls old new status
+ReportsFirst None calls old new status = Prints input_line old new × (status ≡ 6)
+
+abbrev pub counts : Connection → Output → Counts
+counts c out = record { source = c.read_faults; sink = c.write_faults; out = out.faults }
+
+-- A replay over a desk and a clock, and its line. `connection_of` is what a connection tells of itself.
+pub data Replays {X : Type 0} (tells : Type 0) (connection_of : X → Connection) (clock clock' : Option Moments) (old new : DeskState X) (out out' : Output) (status : ℕ) : Type 0 where
+  -- memory was wanted before the port was asked
+  starved : new ≡ old → clock' ≡ clock → Prints memory_line out out' → status ≡ 8 → Replays tells connection_of clock clock' old new out out' status
+  port_failed : (faults : ℕ) → Rose old.port_faults faults → new ≡ record old { port_faults = faults } → clock' ≡ clock
+      → Prints input_line out out' → status ≡ 6 → Replays tells connection_of clock clock' old new out out' status
+  none_left : IsAtEnd old.left → new ≡ old → clock' ≡ clock → Reports Closed 0 out out' status
+      → Replays tells connection_of clock clock' old new out out' status
+  -- the first connection was served, and given back in this state
+  one_served : (link link' : X) (left : Option (List X)) (faults : ℕ) (ending : End) (calls : ℕ) → old.left ≡ in_front (link ∷ []) left
+      → new ≡ record old { left = left; given_back = behind old.given_back (link' ∷ []); blob_faults = faults }
+      → IsReplayed tells clock clock' (connection_of link) (connection_of link') old.blob_faults faults ending calls
+      → Reports ending calls out out' status → HasStatus (counts (connection_of link) out) (counts (connection_of link') out') status
+      → Replays tells connection_of clock clock' old new out out' status
+
+-- what a run does, by what its words ask for
+abbrev pub Runs : {X : Type 0} → Action → Type 0 → (X → Connection) → Option Moments → Option Moments → DeskState X → DeskState X → Output → Output → ℕ → Type 0
+Runs Replay tells connection_of clock clock' old new out out' status = Replays tells connection_of clock clock' old new out out' status
+Runs Nothing tells connection_of clock clock' old new out out' status =
+    (new ≡ old) × (clock' ≡ clock)
+    × ((Prints words_line out out' × (status ≡ 2)) ⊎ (Prints memory_line out out' × (status ≡ 8)))

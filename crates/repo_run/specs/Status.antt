@@ -1,0 +1,29 @@
+-- The statuses that a run may end with, and the cause of each.
+use Rattle.std.specs.Prelude.{◌≡◌, ◌⊎◌, ℕ}
+use Rattle.outside.specs.Faults.{Rose}
+use Rattle.repo_run.specs.declared.actions.Action.{Action}
+use Rattle.repo_run.specs.declared.actions.Action.TheVariants.{Replay, Nothing}
+
+-- done, input, output or want of memory; and never 2
+abbrev pub IsStatusOfReplay : ℕ → Type 0
+IsStatusOfReplay status = (status ≡ 0) ⊎ ((status ≡ 6) ⊎ ((status ≡ 7) ⊎ (status ≡ 8)))
+
+-- by what the words ask for; want of memory may stand in the place of a refusal
+abbrev pub MatchAction : Action → ℕ → Type 0
+MatchAction Replay status = IsStatusOfReplay status
+MatchAction Nothing status = (status ≡ 2) ⊎ (status ≡ 8)
+
+-- the counts of faults that decide how a connection's replay ends, in the order in which they do: those of its source and
+-- of its sink, and that of the output
+pub record Counts : Type 0 where
+  pub source : ℕ
+  pub sink : ℕ
+  pub out : ℕ
+
+-- The status by its cause: one of the counts rose and none that decides before it, memory was wanted, or no count rose.
+pub data HasStatus (old new : Counts) (status : ℕ) : Type 0 where
+  done : new ≡ old → status ≡ 0 → HasStatus old new status
+  source_failed : Rose old.source new.source → new.sink ≡ old.sink → status ≡ 6 → HasStatus old new status
+  sink_failed : new.source ≡ old.source → Rose old.sink new.sink → new.out ≡ old.out → status ≡ 7 → HasStatus old new status
+  out_failed : new.source ≡ old.source → new.sink ≡ old.sink → Rose old.out new.out → status ≡ 7 → HasStatus old new status
+  memory_wanted : new.source ≡ old.source → new.sink ≡ old.sink → status ≡ 8 → HasStatus old new status

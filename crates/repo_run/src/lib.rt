@@ -1,0 +1,10 @@
+//! A run of the program `mvnrepod`: what its words ask for, what it serves, the line that it prints, and its status.
+#![tactic(auto)]
+
+mod actions;
+mod program;
+mod words;
+
+pub use actions::{Action, Wanted};
+pub use program::{DONE, Desk, INPUT, NO_MEMORY, OUTPUT, REFUSED, Ran, core_of, run, serve_first};
+pub use words::wanted;

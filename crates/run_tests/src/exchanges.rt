@@ -1,0 +1,272 @@
+// The worked exchanges: what comes in, and what has to be answered.
+
+pub const PUT_ABC: &str =
+    "PUT /repository/releases/org/acme/lib/1.0/lib-1.0.jar HTTP/1.1\r\nHost: x\r\nContent-Length: 3\r\n\r\nabc";
+
+const PUT_NOTHING: &str =
+    "PUT /repository/releases/org/acme/lib/1.0/lib-1.0.jar HTTP/1.1\r\nHost: x\r\nContent-Length: 0\r\n\r\n";
+
+const PUT_LONG: &str =
+    "PUT /repository/releases/org/acme/lib/1.0/lib-1.0.jar HTTP/1.1\r\nHost: x\r\nContent-Length: 70000\r\n\r\n";
+
+const PUT_TORN: &str =
+    "PUT /repository/releases/org/acme/lib/1.0/lib-1.0.jar HTTP/1.1\r\nHost: x\r\nContent-Length: 5\r\n\r\nabc";
+
+const PUT_OTHER_NAME: &str =
+    "PUT /repository/releases/org/acme/lib/1.0/other-1.0.jar HTTP/1.1\r\nHost: x\r\nContent-Length: 3\r\n\r\nabc";
+
+pub const GET: &str =
+    "GET /repository/releases/org/acme/lib/1.0/lib-1.0.jar HTTP/1.1\r\nHost: x\r\n\r\n";
+
+pub const GET_LAST: &str =
+    "GET /repository/releases/org/acme/lib/1.0/lib-1.0.jar HTTP/1.1\r\nHost: x\r\nConnection: close\r\n\r\n";
+
+const DELETE: &str =
+    "DELETE /repository/releases/org/acme/lib/1.0/lib-1.0.jar HTTP/1.1\r\nHost: x\r\n\r\n";
+
+const CREATED: &str =
+    "HTTP/1.1 201 Created\r\nContent-Type: text/plain\r\nContent-Length: 8\r\n\r\ncreated\n";
+
+const ABC: &str =
+    "HTTP/1.1 200 OK\r\nContent-Type: application/octet-stream\r\nContent-Length: 3\r\nX-Checksum-SHA1: a9993e364706816aba3e25717850c26c9cd0d89d\r\nX-Checksum-MD5: 900150983cd24fb0d6963f7d28e17f72\r\n\r\nabc";
+
+const ABC_LAST: &str =
+    "HTTP/1.1 200 OK\r\nContent-Type: application/octet-stream\r\nContent-Length: 3\r\nX-Checksum-SHA1: a9993e364706816aba3e25717850c26c9cd0d89d\r\nX-Checksum-MD5: 900150983cd24fb0d6963f7d28e17f72\r\nConnection: close\r\n\r\nabc";
+
+const LONG_HEAD: &str =
+    "HTTP/1.1 200 OK\r\nContent-Type: application/octet-stream\r\nContent-Length: 70000\r\nX-Checksum-SHA1: 49dc0e9304ca87f2151de32f6c5291bf09c5e652\r\nX-Checksum-MD5: 0b21388e04a856f824a29c58d71c8d40\r\n\r\n";
+
+const NOTHING: &str =
+    "HTTP/1.1 200 OK\r\nContent-Type: application/octet-stream\r\nContent-Length: 0\r\nX-Checksum-SHA1: da39a3ee5e6b4b0d3255bfef95601890afd80709\r\nX-Checksum-MD5: d41d8cd98f00b204e9800998ecf8427e\r\n\r\n";
+
+const SAME: &str = "HTTP/1.1 200 OK\r\nContent-Type: text/plain\r\nContent-Length: 5\r\n\r\nsame\n";
+
+const TAKEN: &str =
+    "HTTP/1.1 409 Conflict\r\nContent-Type: text/plain\r\nContent-Length: 168\r\n\r\ntaken kept 3 a9993e364706816aba3e25717850c26c9cd0d89d 900150983cd24fb0d6963f7d28e17f72 sent 0 da39a3ee5e6b4b0d3255bfef95601890afd80709 d41d8cd98f00b204e9800998ecf8427e\n";
+
+const NOT_THERE: &str =
+    "HTTP/1.1 404 Not Found\r\nContent-Type: text/plain\r\nContent-Length: 10\r\n\r\nnot-there\n";
+
+const NOT_THERE_LAST: &str =
+    "HTTP/1.1 404 Not Found\r\nContent-Type: text/plain\r\nContent-Length: 10\r\nConnection: close\r\n\r\nnot-there\n";
+
+const BAD_HEAD: &str =
+    "HTTP/1.1 400 Bad Request\r\nContent-Type: text/plain\r\nContent-Length: 9\r\nConnection: close\r\n\r\nbad-head\n";
+
+const BLOB_FAULT: &str =
+    "HTTP/1.1 503 Service Unavailable\r\nContent-Type: text/plain\r\nContent-Length: 11\r\n\r\nblob-fault\n";
+
+/// Texts one after another, each so many times.
+pub type Parts = &'static [(usize, &'static str)];
+
+/// Which call of each object fails, if one does, and the room of both sinks.
+#[derive(Clone, Copy)]
+pub struct Script {
+    pub port: Option<u64>,
+    pub reads: Option<u64>,
+    pub blobs: Option<u64>,
+    pub room: usize,
+    pub line_room: usize,
+}
+
+/// Nothing fails.
+pub const PLAIN: Script = Script {
+    port: None,
+    reads: None,
+    blobs: None,
+    room: 500_000,
+    line_room: 100,
+};
+
+/// The pieces that an input comes in.
+#[derive(Clone, Copy)]
+pub enum Pieces {
+    WholeAndBytes,
+    Blocks,
+    Bytes,
+}
+
+impl Pieces {
+    /// The greatest pieces, by runs.
+    pub fn most(self) -> &'static [usize] {
+        match self {
+            Pieces::WholeAndBytes => &[1_000_000, 1],
+            Pieces::Blocks => &[4096],
+            Pieces::Bytes => &[1],
+        }
+    }
+}
+
+/// A run of the program: its word, its input and the pieces that it comes in, and what the run has to write and
+/// to give.
+pub struct Exchange {
+    pub name: &'static str,
+    pub word: &'static str,
+    pub input: Parts,
+    pub pieces: Pieces,
+    pub script: Script,
+    pub answers: Parts,
+    pub line: &'static str,
+    pub status: u8,
+}
+
+/// A replay of nothing.
+const REPLAY: Exchange = Exchange {
+    name: "nothing comes",
+    word: "replay",
+    input: &[],
+    pieces: Pieces::WholeAndBytes,
+    script: PLAIN,
+    answers: &[],
+    line: "calls 0 end Closed\n",
+    status: 0,
+};
+
+// Want of memory may be answered anywhere by proof, so these also say that it is not.
+static FILES: [Exchange; 4] = [
+    Exchange {
+        name: "a file is put and got",
+        input: &[(1, PUT_ABC), (1, GET_LAST)],
+        answers: &[(1, CREATED), (1, ABC_LAST)],
+        line: "calls 4 end Closed\n",
+        ..REPLAY
+    },
+    Exchange {
+        name: "a release is never changed",
+        input: &[(2, PUT_ABC), (1, PUT_NOTHING), (1, GET)],
+        answers: &[(1, CREATED), (1, SAME), (1, TAKEN), (1, ABC)],
+        line: "calls 8 end Closed\n",
+        ..REPLAY
+    },
+    Exchange {
+        name: "an empty file is a file",
+        input: &[(1, GET), (1, PUT_NOTHING), (1, GET)],
+        answers: &[(1, NOT_THERE), (1, CREATED), (1, NOTHING)],
+        line: "calls 5 end Closed\n",
+        ..REPLAY
+    },
+    Exchange {
+        name: "a long file is put and got twice",
+        input: &[(1, PUT_LONG), (7000, "aaaaaaaaaa"), (2, GET)],
+        answers: &[
+            (1, CREATED),
+            (1, LONG_HEAD),
+            (7000, "aaaaaaaaaa"),
+            (1, LONG_HEAD),
+            (7000, "aaaaaaaaaa"),
+        ],
+        line: "calls 6 end Closed\n",
+        ..REPLAY
+    },
+];
+
+pub fn files() -> &'static [Exchange] {
+    &FILES
+}
+
+static ENDS: [Exchange; 5] = [
+    Exchange {
+        name: "a torn body is not stored",
+        input: &[(1, PUT_TORN)],
+        line: "calls 2 end TornRequest\n",
+        ..REPLAY
+    },
+    Exchange {
+        name: "a method that is not served ends the connection",
+        input: &[(1, DELETE)],
+        answers: &[(1, BAD_HEAD)],
+        ..REPLAY
+    },
+    Exchange {
+        name: "a path that is no release file ends the connection",
+        input: &[(1, PUT_OTHER_NAME)],
+        answers: &[(1, BAD_HEAD)],
+        ..REPLAY
+    },
+    Exchange {
+        name: "a connection has a thousand requests",
+        input: &[(1001, GET)],
+        pieces: Pieces::Blocks,
+        answers: &[(999, NOT_THERE), (1, NOT_THERE_LAST)],
+        line: "calls 1000 end TurnLimit\n",
+        ..REPLAY
+    },
+    Exchange {
+        name: "other words are refused",
+        word: "serve",
+        input: &[(1, GET)],
+        pieces: Pieces::Blocks,
+        line: "mvnrepod: words\n",
+        status: 2,
+        ..REPLAY
+    },
+];
+
+pub fn ends() -> &'static [Exchange] {
+    &ENDS
+}
+
+static FAULTS: [Exchange; 5] = [
+    Exchange {
+        name: "a sink that fails has a part",
+        input: &[(1, PUT_ABC), (1, GET_LAST)],
+        pieces: Pieces::Blocks,
+        script: Script { room: 100, ..PLAIN },
+        answers: &[(1, CREATED), (1, "HTTP/1.1 200 OK\r\nConten")],
+        line: "",
+        status: 7,
+        ..REPLAY
+    },
+    Exchange {
+        name: "a source that fails ends the run",
+        input: &[(1, PUT_ABC), (1, GET_LAST)],
+        pieces: Pieces::Bytes,
+        script: Script {
+            reads: Some(100),
+            ..PLAIN
+        },
+        answers: &[(1, CREATED)],
+        line: "mvnrepod: input\n",
+        status: 6,
+        ..REPLAY
+    },
+    Exchange {
+        name: "a blob that is not stored is told",
+        input: &[(2, PUT_ABC), (1, GET)],
+        pieces: Pieces::Blocks,
+        script: Script {
+            blobs: Some(0),
+            ..PLAIN
+        },
+        answers: &[(1, BLOB_FAULT), (1, CREATED), (1, ABC)],
+        line: "calls 6 end Closed\n",
+        ..REPLAY
+    },
+    Exchange {
+        name: "a port that fails ends the run",
+        input: &[(1, GET_LAST)],
+        pieces: Pieces::Blocks,
+        script: Script {
+            port: Some(0),
+            ..PLAIN
+        },
+        line: "mvnrepod: input\n",
+        status: 6,
+        ..REPLAY
+    },
+    Exchange {
+        name: "a line that is cut is told",
+        pieces: Pieces::Blocks,
+        script: Script {
+            line_room: 7,
+            ..PLAIN
+        },
+        line: "calls 0",
+        status: 7,
+        ..REPLAY
+    },
+];
+
+pub fn faults() -> &'static [Exchange] {
+    &FAULTS
+}

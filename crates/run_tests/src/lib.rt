@@ -1,0 +1,10 @@
+//! Tests of `repo_run`: exchanges in tables of literal bytes. They stand apart from it, since a crate is proved once more
+//! with its tests.
+#![tactic(auto)]
+
+#[cfg(test)]
+mod cores;
+#[cfg(test)]
+mod exchanges;
+#[cfg(test)]
+mod runs;

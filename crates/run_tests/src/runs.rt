@@ -1,0 +1,164 @@
+// The worked exchanges, each in the pieces that it names, and those where something fails.
+ghost use Rattle.std.specs.Prelude.{◌<◌, IfOk, vec_len};
+
+use crate::exchanges::{Exchange, Parts, Script, ends, faults, files};
+use outside::{
+    Duplex, FaultScript, MemBlobs, MemLink, MemSink, MemSource, ScriptClock, ScriptPort,
+};
+use repo_run::{Desk, Ran, run};
+use std::alloc::{AllocError, Global};
+use std::test::Fail;
+
+fn joined(alloc: Global, parts: Parts) -> Result<Vec<u8>, AllocError> {
+    let mut all = Vec::new(alloc);
+    for (times, text) in parts {
+        for _ in 0..*times {
+            all.extend_from_slice(text.as_bytes())?;
+        }
+    }
+    Ok(all)
+}
+
+/// The call with this number fails, if there is one.
+fn failing_at(alloc: Global, call: Option<u64>) -> Result<FaultScript, AllocError> {
+    Ok(FaultScript::failing_at(Vec::from_slice(alloc, call.as_slice())?))
+}
+
+fn source_of(
+    alloc: Global,
+    input: Parts,
+    script: Script,
+    most: usize,
+) -> Result<MemSource, AllocError> {
+    let faults = failing_at(alloc, script.reads)?;
+    let bytes = joined(alloc, input)?;
+    Ok(MemSource::new(bytes, most.max(1), faults))
+}
+
+/// A connection that gives this input and has room for so many bytes.
+fn link_of(
+    alloc: Global,
+    input: Parts,
+    script: Script,
+    most: usize,
+) -> Result<MemLink, AllocError> {
+    let source = source_of(alloc, input, script, most)?;
+    let sink = MemSink::new(alloc, script.room, FaultScript::none(alloc))?;
+    Ok(Duplex { source, sink })
+}
+
+type MemPort = ScriptPort<MemLink>;
+
+type MemDesk = Desk<MemPort, MemBlobs>;
+
+/// A port with one connection.
+fn port_of(
+    alloc: Global,
+    input: Parts,
+    script: Script,
+    most: usize,
+) -> Result<MemPort, AllocError> {
+    let faults = failing_at(alloc, script.port)?;
+    let links = vec![in alloc; link_of(alloc, input, script, most)?]?;
+    ScriptPort::new(alloc, links, faults)
+}
+
+/// A desk whose one connection gives this input.
+pub fn desk_of(
+    alloc: Global,
+    input: Parts,
+    script: Script,
+    most: usize,
+) -> Result<MemDesk, AllocError> {
+    let blobs = MemBlobs::new(alloc, failing_at(alloc, script.blobs)?);
+    let port = port_of(alloc, input, script, most)?;
+    Ok(Desk { port, blobs })
+}
+
+fn words_of(alloc: Global, word: &str) -> Result<Vec<String>, AllocError> {
+    Ok(vec![in alloc; String::from_str(alloc, word)?]?)
+}
+
+/// A run that is over, and the sink that took its line.
+#[derive(Drop)]
+struct Over {
+    ran: Ran<MemPort, MemBlobs, ScriptClock>,
+    out: MemSink,
+}
+
+impl Over {
+    /// What was written on the first connection that was given back.
+    fn answers(&self) -> &[u8] {
+        match self.ran.desks.get(0) {
+            Some(desk) => match desk.port.given_back().get(0) {
+                Some(link) => link.sink.bytes(),
+                None => &[],
+            },
+            None => &[],
+        }
+    }
+
+    /// Whether the run wrote what it has to, and ended with this line and status.
+    fn is_as_said(&self, alloc: Global, exchange: &Exchange) -> Result<bool, AllocError> {
+        let answers = joined(alloc, exchange.answers)?;
+        Ok(
+            self.answers() == answers.as_slice()
+                && self.out.bytes() == exchange.line.as_bytes()
+                && self.ran.status == exchange.status,
+        )
+    }
+}
+
+fn desks_of(
+    alloc: Global,
+    input: Parts,
+    script: Script,
+    most: usize,
+) -> Result<Vec<MemDesk>, AllocError>
+    ensures { IfOk result (λ desks. 0 < vec_len desks) }
+{
+    Ok(vec![in alloc; desk_of(alloc, input, script, most)?]?)
+}
+
+/// Runs the program with the word of an exchange, on one desk whose source gives so many bytes at most.
+fn run_of(alloc: Global, exchange: &Exchange, most: usize) -> Result<Over, AllocError> {
+    let words = words_of(alloc, exchange.word)?;
+    let mut out = MemSink::new(alloc, exchange.script.line_room, FaultScript::none(alloc))?;
+    let desks = desks_of(alloc, exchange.input, exchange.script, most)?;
+    let clock = ScriptClock::stepping(alloc, 0, 0);
+    let ran = run(alloc, words.as_slice(), desks, clock, &mut out);
+    Ok(Over { ran, out })
+}
+
+/// Whether an exchange goes as it has to, in pieces of so many bytes.
+fn goes_as_said(alloc: Global, exchange: &Exchange, most: usize) -> Result<bool, AllocError> {
+    run_of(alloc, exchange, most)?.is_as_said(alloc, exchange)
+}
+
+/// In which pieces an exchange does not go as it has to.
+fn wrong_pieces(alloc: Global, exchange: &Exchange) -> Result<Option<usize>, AllocError> {
+    for most in exchange.pieces.most() {
+        if !goes_as_said(alloc, exchange, *most)? {
+            return Ok(Some(*most));
+        }
+    }
+    Ok(None)
+}
+
+/// The first exchange that does not go as it has to, and its pieces.
+fn first_wrong(alloc: Global) -> Result<Option<(&'static str, usize)>, AllocError> {
+    for exchanges in [files(), ends(), faults()] {
+        for exchange in exchanges {
+            if let Some(most) = wrong_pieces(alloc, exchange)? {
+                return Ok(Some((exchange.name, most)));
+            }
+        }
+    }
+    Ok(None)
+}
+
+#[test]
+fn all_exchanges_go_as_said(rt: HostRuntime) -> Result<(), Fail> {
+    assert_eq!(rt; first_wrong(rt.alloc())?, None);
+    Ok(())
+}
