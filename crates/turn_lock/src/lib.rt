@@ -14,6 +14,3 @@ pub use seat::{Note, NoteToken, Seat, SeatToken, close};
 pub use thing::Thing;
 pub use turns::Turns;
 pub use view::Entry;
-
-#[cfg(test)]
-mod tests;

@@ -61,7 +61,7 @@ impl<T: Thing> Turns<T> {
 }
 
 impl<T: Thing> SeatToken<T::Call, T::Reply, T> {
-    /// Waits for the turn, and asks the object once. The history that the seat has seen then ends with this call and its reply, and begins with all that it had seen before. Of the seat's own entries just this one is new. A history has at most 2^62 entries: a call after that waits for good. It takes no memory but what the object takes.
+    /// Waits for the turn, and asks the object once. The call is one that the object may be asked. The history that the seat has seen then ends with this call and its reply, and begins with all that it had seen before. Of the seat's own entries just this one is new. A history has at most 2^62 entries: a call after that waits for good. It takes no memory but what the object takes.
     pub fn call<R: Wait>(&mut self, rt: &R, turns: &Turns<T>, call: T::Call) -> T::Reply
         requires seat { IsSeatOf (IsStep T.fixed T.may_ask T.turned) turns.now self.old }
         requires call { T.may_ask (T.fixed (opening turns.now)) call }
@@ -107,7 +107,7 @@ impl<T: Thing> SeatToken<T::Call, T::Reply, T> {
         merge(turns, self, token);
     }
 
-    /// A note, which carries what this seat has seen to another. It takes one part with it. It takes no memory.
+    /// A note, which carries what this seat has seen to another. The seat has more than one part; the note takes one of them with it. It takes no memory.
     pub fn note(&mut self, turns: &Turns<T>) -> Note<T>
         requires seat { IsSeatOf (IsStep T.fixed T.may_ask T.turned) turns.now self.old }
         requires parts { 1 < parts_of self.old }

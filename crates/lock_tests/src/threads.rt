@@ -3,15 +3,15 @@ ghost use Rattle.std.proofs.Common.{length-set};
 ghost use Rattle.turn_lock.specs.History.{IsStep};
 ghost use Rattle.turn_lock.specs.Seats.{opening, parts_of, IsSeatOf, IsNoteOf};
 
-use super::*;
 use std::alloc::Global;
 use std::sync::Wait;
 use std::test::*;
 use std::thread::Threads;
+use turn_lock::{Note, Seat, Thing, Turns, close};
 
 mod jobs;
 
-use jobs::{Job, run_both, run_four};
+use crate::threads::jobs::{Job, run_both, run_four};
 
 // A call adds, and is told the sum before it.
 #[derive(Drop)]

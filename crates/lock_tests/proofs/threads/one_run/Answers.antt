@@ -7,8 +7,9 @@ use Rattle.atomic_table.proofs.shared.Seat.TheSendSync.{the_send as seat_send}
 use Rattle.turn_lock.specs.declared.thing.Thing.{Ghosts}
 use Rattle.turn_lock.proofs.Crosses.{slot_crosses, token_crosses, note_crosses, turns_shared}
 use Rattle.turn_lock.specs.contracts.turns.Turns as Turns
-use Rattle.turn_lock.specs.contracts.tests.Caller as Caller
-use Rattle.turn_lock.proofs.tests.both_call.Goals as goal
+use Rattle.lock_tests.specs.contracts.threads.Caller as Caller
+use Rattle.lock_tests.specs.contracts.threads.Counter as Counter
+use Rattle.lock_tests.proofs.threads.one_run.Goals as goal
 
 -- a caller may go to another thread where its call and the object may
 caller_crosses : (κ : NamedLft) (C T F : RattleType) (g : Ghosts T.Denot C.Denot (Field.u64-field).Value F.Denot) → IsSend C → IsSend T → IsSend (Caller.the_row κ C T F g)
@@ -18,14 +19,14 @@ caller_crosses κ C T F g call thing =
     struct_send (shape (Caller.the_type κ C T F g)) (turns, (search (sendable, seat_send, slot_crosses) depth 30, (search (sendable, seat_send, slot_crosses) depth 30, (call, (search sendable, tt))))) in
     recorded_send (Caller.the_field κ C T F g).row _ _ (Caller.the_type κ C T F g).to_one fields
 
-pub run_both-requires-send-A : goal.run_both-requires-send-A
-run_both-requires-send-A g c κs within = let t = c.type_bounds.send-T in let u = c.type_bounds.send-C in search (sendable, caller_crosses) depth 40
+counter_crosses : IsSend Counter.the_row
+counter_crosses = search sendable depth 20
 
-pub run_both-requires-send-B : goal.run_both-requires-send-B
-run_both-requires-send-B g c κs within = let t = c.type_bounds.send-T in let u = c.type_bounds.send-C in search (sendable, caller_crosses) depth 40
+number_crosses : IsSend (Field.u64-field).row
+number_crosses = search sendable depth 20
 
-pub run_both-requires-send-A-Out : goal.run_both-requires-send-A-Out
-run_both-requires-send-A-Out g c κs within = let t = c.type_bounds.send-T in search (sendable, token_crosses, note_crosses) depth 40
+pub run_four-a-requires-send-A : goal.run_four-a-requires-send-A
+run_four-a-requires-send-A g c κs within = search (sendable, caller_crosses, counter_crosses, number_crosses) depth 40
 
-pub run_both-requires-send-B-Out : goal.run_both-requires-send-B-Out
-run_both-requires-send-B-Out g c κs within = let t = c.type_bounds.send-T in search (sendable, token_crosses, note_crosses) depth 40
+pub run_four-a-requires-send-A-Out : goal.run_four-a-requires-send-A-Out
+run_four-a-requires-send-A-Out g c κs within = search (sendable, token_crosses, note_crosses, counter_crosses) depth 40
