@@ -15,7 +15,7 @@ use Rattle.repo_server.specs.Course.{Course, asks, takes, sends, says, stops, co
 use Rattle.repo_server.specs.Machine.{with_history}
 use Rattle.repo_server.specs.World.{World}
 use Rattle.repo_server.specs.Serving.{Follows, Turn, clean, torn, failed, starved, refused, served, Serves}
-use Rattle.repo_server.proofs.Recorded.{takes-kept, sends-kept, says-kept, reads-kept}
+use Rattle.repo_server.proofs.Recorded.{takes-kept, sends-kept, says-kept, uses-kept}
 
 -- whatever is replied, a course makes at most so many calls
 abbrev pub AtMost : Course → ℕ → Type 0
@@ -97,17 +97,17 @@ module _ {A : Type 0} (Asks : A → Entry → A → Type 0) (tells : Type 0) whe
 
   turn-most : (last : Bool) (old new : World (A × List Entry)) (end : Option End) → Turn (with_history Asks) tells last old new end
       → count new ≤ count old + 3
-  turn-most last old new end (clean begins reads ends) =
-      let equal = same-count old new (reads-kept (with_history Asks) tells old new reads).0 in omega arith
-  turn-most last old new end (torn begins reads ends) =
-      let equal = same-count old new (reads-kept (with_history Asks) tells old new reads).0 in omega arith
-  turn-most last old new end (failed faults rose reads ends) =
-      let equal = same-count old new (reads-kept (with_history Asks) tells (record old { read_faults = faults }) new reads).0 in omega arith
-  turn-most last old new end (starved mid begins reads said) =
-      let equal = same-count old mid (reads-kept (with_history Asks) tells old mid reads).0 in
+  turn-most last old new end (clean begins still ends) =
+      let equal = same-count old new (ap (λ w. w.machine) still) in omega arith
+  turn-most last old new end (torn begins still ends) =
+      let equal = same-count old new (ap (λ w. w.machine) still) in omega arith
+  turn-most last old new end (failed faults rose still ends) =
+      let equal = same-count old new (ap (λ w. w.machine) still) in omega arith
+  turn-most last old new end (starved mid begins uses said) =
+      let equal = same-count old mid (uses-kept (with_history Asks) tells old mid uses).0 in
       let then = same-count mid new (says-kept (with_history Asks) tells _ _ mid new end said).0 in omega arith
-  turn-most last old new end (refused mid begins reads said) =
-      let equal = same-count old mid (reads-kept (with_history Asks) tells old mid reads).0 in
+  turn-most last old new end (refused mid begins uses said) =
+      let equal = same-count old mid (uses-kept (with_history Asks) tells old mid uses).0 in
       let then = same-count mid new (says-kept (with_history Asks) tells _ _ mid new end said).0 in omega arith
   turn-most last old new end (served request rest begins follows) =
       follows-most (course request last) 3 (course-most request last) (record old { input = rest }) new end follows

@@ -13,7 +13,7 @@ use Rattle.repo_server.specs.declared.outcomes.Took.{Took}
 use Rattle.repo_server.specs.declared.outcomes.Took.TheVariants as took
 use Rattle.repo_server.specs.Course.{Course, asks, takes, sends, says, stops, course}
 use Rattle.repo_server.specs.World.{World}
-use Rattle.repo_server.specs.Serving.{Takes, Sends, Says, whole, memory, cut, Follows, Turn, clean, torn, failed, starved, refused, served, Serves, ReadsOn}
+use Rattle.repo_server.specs.Serving.{Takes, Sends, Says, whole, memory, cut, Follows, Turn, clean, torn, failed, starved, refused, served, Serves, ReadsOn, UsesHead}
 
 -- no count fell
 pub record Grew {A : Type 0} (old new : World A) : Type 0 where
@@ -32,9 +32,6 @@ not-risen before after rose le lt = omega arith
 -- a count that rose later rose
 pub rose-before : (first before after : ℕ) → first ≤ before → Rose before after → Rose first after
 rose-before first before after le rose = (omega arith, omega arith)
-
-pub rose-then : (before after last : ℕ) → Rose before after → after ≤ last → Rose before last
-rose-then before after last rose le = (omega arith, omega arith)
 
 module _ {A : Type 0} where
   pub grew : (old new : World A) → new.read_faults ≡ old.read_faults → new.write_faults ≡ old.write_faults
@@ -56,6 +53,11 @@ module _ {A : Type 0} where
   pub reads-grew : (old new : World A) → ReadsOn old new → Grew old new
   reads-grew old new t = from-is old (record old { input = t.0 }) new (grew old (record old { input = t.0 }) refl refl refl) t.1
 
+  -- nothing was used, or a head
+  pub uses-reads : (old new : World A) → UsesHead old new → ReadsOn old new
+  uses-reads old new (inl still) = (old.input, still)
+  uses-reads old new (inr t) = (t.0, t.2)
+
   pub takes-grew : (tells : Type 0) (draft count : ℕ) (result : Result Blob Took) (old new : World A)
       → Takes tells draft count result old new → Grew old new
   takes-grew tells draft count (Ok blob) old new t =
@@ -67,7 +69,8 @@ module _ {A : Type 0} where
   takes-grew tells draft count (Err took.BlobFault) old new t =
       let mid : World A = record old { blob_faults = t.0; input = t.3.0 } in
       from-is old mid new (record { reads = omega arith; writes = omega arith; blobs = t.2.0 }) t.3.3
-  takes-grew tells draft count (Err took.NoMemory) old new t = reads-grew old new t
+  takes-grew tells draft count (Err took.NoMemory) old new (inl still) = reads-grew old new (old.input, still)
+  takes-grew tells draft count (Err took.NoMemory) old new (inr t) = reads-grew old new (t.1.0, t.1.3)
 
   pub sends-grew : (blob : Blob) (head : List ℕ) (result : Sent) (old new : World A) → Sends blob head result old new → Grew old new
   sends-grew blob head sent.Whole old new t = subst (λ w. Grew old w) (sym t.2) (grew old _ refl refl refl)
@@ -97,15 +100,15 @@ module _ {A : Type 0} where
     follows-grew (stops next) old new end t = from-is old old new (grew old old refl refl refl) t.0
 
     pub turn-grew : (last : Bool) (old new : World A) (end : Option End) → Turn Asks tells last old new end → Grew old new
-    turn-grew last old new end (clean begins reads ends) = reads-grew old new reads
-    turn-grew last old new end (torn begins reads ends) = reads-grew old new reads
-    turn-grew last old new end (failed faults rose reads ends) =
+    turn-grew last old new end (clean begins still ends) = reads-grew old new (old.input, still)
+    turn-grew last old new end (torn begins still ends) = reads-grew old new (old.input, still)
+    turn-grew last old new end (failed faults rose still ends) =
         let mid : World A = record old { read_faults = faults } in
-        grew-then old mid new (record { reads = rose.0; writes = omega arith; blobs = omega arith }) (reads-grew mid new reads)
-    turn-grew last old new end (starved mid begins reads said) =
-        grew-then old mid new (reads-grew old mid reads) (says-grew _ _ mid new end said)
-    turn-grew last old new end (refused mid begins reads said) =
-        grew-then old mid new (reads-grew old mid reads) (says-grew _ _ mid new end said)
+        from-is old mid new (record { reads = rose.0; writes = omega arith; blobs = omega arith }) still
+    turn-grew last old new end (starved mid begins uses said) =
+        grew-then old mid new (reads-grew old mid (uses-reads old mid uses)) (says-grew _ _ mid new end said)
+    turn-grew last old new end (refused mid begins uses said) =
+        grew-then old mid new (reads-grew old mid (uses-reads old mid uses)) (says-grew _ _ mid new end said)
     turn-grew last old new end (served request rest begins follows) =
         let mid : World A = record old { input = rest } in
         grew-then old mid new (grew old mid refl refl refl) (follows-grew (course request last) mid new end follows)

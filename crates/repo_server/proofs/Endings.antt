@@ -17,6 +17,7 @@ use Rattle.repo_server.specs.Plain.{Plain, get, put as put_request}
 use Rattle.repo_server.specs.Course.{Course, asks, takes, sends, says, stops, course, end_of, after_look, after_may_put, after_put}
 use Rattle.repo_server.specs.World.{World}
 use Rattle.repo_server.specs.Serving.{Takes, Sends, Says, whole, memory, cut, Follows, Turn, clean, torn, failed, starved, refused, served, Serves, ReadsOn}
+use Rattle.repo_server.proofs.Counts.{uses-reads}
 use Rattle.repo_server.specs.Endings.{EndsByCause}
 use Rattle.repo_server.proofs.Early.{closing}
 use Rattle.repo_server.proofs.Fair.{Closes, ended}
@@ -138,8 +139,10 @@ module _ {A : Type 0} where
     takes-shows number count next later honest (Err took.BlobFault) old mid new end t f =
         from-same end old mid new (ap (λ w. w.read_faults) t.3.3) (ap (λ w. w.write_faults) t.3.3)
         (later (Err took.BlobFault) honest.3 mid new end f)
-    takes-shows number count next later honest (Err took.NoMemory) old mid new end t f =
-        after-reads end old mid new t (later (Err took.NoMemory) honest.4 mid new end f)
+    takes-shows number count next later honest (Err took.NoMemory) old mid new end (inl still) f =
+        after-reads end old mid new (old.input, still) (later (Err took.NoMemory) honest.4 mid new end f)
+    takes-shows number count next later honest (Err took.NoMemory) old mid new end (inr t) f =
+        after-reads end old mid new (t.1.0, t.1.3) (later (Err took.NoMemory) honest.4 mid new end f)
 
     sends-shows : (blob : Blob) (answer : Answer) (next : Sent → Course) → ((result : Sent) → Later (next result))
         → Honest (sends blob answer next) → (result : Sent) (old mid new : World A) (end : Option End)
@@ -168,16 +171,16 @@ module _ {A : Type 0} where
         (quiet-shows next honest _ _ _ _ (ap (λ w. w.read_faults) t.0) (ap (λ w. w.write_faults) t.0))
 
     turn-shows : (last : Bool) (old new : World A) (end : Option End) → Turn Asks tells last old new end → Between end old new
-    turn-shows last old new end (clean begins reads ends) =
-        after-reads end old new new reads (subst (λ (e : Option End). Between e new new) (sym ends) ((refl, refl)))
-    turn-shows last old new end (torn begins reads ends) =
-        after-reads end old new new reads (subst (λ (e : Option End). Between e new new) (sym ends) ((refl, refl)))
-    turn-shows last old new end (failed faults rose reads ends) =
-        source-shows end old new faults rose (ap (λ w. w.read_faults) reads.1) (ap (λ w. w.write_faults) reads.1) ends
-    turn-shows last old new end (starved mid begins reads said) =
-        after-reads end old mid new reads (says-shows _ _ end mid new tt said)
-    turn-shows last old new end (refused mid begins reads said) =
-        after-reads end old mid new reads (says-shows _ _ end mid new tt said)
+    turn-shows last old new end (clean begins still ends) =
+        after-reads end old new new (old.input, still) (subst (λ (e : Option End). Between e new new) (sym ends) ((refl, refl)))
+    turn-shows last old new end (torn begins still ends) =
+        after-reads end old new new (old.input, still) (subst (λ (e : Option End). Between e new new) (sym ends) ((refl, refl)))
+    turn-shows last old new end (failed faults rose still ends) =
+        source-shows end old new faults rose (ap (λ w. w.read_faults) still) (ap (λ w. w.write_faults) still) ends
+    turn-shows last old new end (starved mid begins uses said) =
+        after-reads end old mid new (uses-reads old mid uses) (says-shows _ _ end mid new tt said)
+    turn-shows last old new end (refused mid begins uses said) =
+        after-reads end old mid new (uses-reads old mid uses) (says-shows _ _ end mid new tt said)
     turn-shows last old new end (served request rest begins follows) =
         follows-shows (course request last) (course-honest request last) (record old { input = rest }) new end follows
 

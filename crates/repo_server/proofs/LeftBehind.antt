@@ -2,7 +2,6 @@
 use Rattle.std.proofs.Common.{◌≡◌, ◌≢◌, ◌⊎◌, ℕ, suc, zero, ◌<◌, ◌≤◌, ◌==◌, ◌||◌, Bool, true, false, not, if◌then◌else◌, List, [], ◌∷◌, ◌++◌, filter, Option, Some, None, Result, Ok, Err, inl, inr, ap, arith, refl, subst, sym, ◌∙◌}
 use Rattle.std.proofs.lemmas.Bool.Decides.{eqb_tells}
 use Rattle.http_wire.specs.Answer.{shown}
-use Rattle.repo_core.specs.Whole.{Whole}
 use Rattle.repo_model.specs.Data.{Blob, Row, Settings}
 use Rattle.repo_model.specs.State.{Lease, State, Yard, condemned_draft, drawn_draft, given_back, is_among, kept_draft, leased, row_at, rows_of}
 use Rattle.repo_model.specs.Command.{Command, drop_draft, fits_repo, look, may_put, number_end, put}
@@ -16,12 +15,12 @@ use Rattle.repo_server.specs.declared.outcomes.Sent.TheVariants as sent
 use Rattle.repo_server.specs.declared.outcomes.Took.{Took}
 use Rattle.repo_server.specs.declared.outcomes.Took.TheVariants as took
 use Rattle.repo_server.specs.Course.{Course, after_body, after_drop, after_look, after_may_put, after_put, after_send, asks, course, says, sends, stops, takes}
-use Rattle.repo_server.specs.CoreTurn.{CoreTurn}
 use Rattle.repo_server.specs.LeftBehind.{IsDrawn, LeavesNothing, NumbersAreBelow}
+use Rattle.repo_server.specs.Machine.{IsMachine}
 use Rattle.repo_server.specs.Plain.{Plain, get, put as put_request, repository}
 use Rattle.repo_server.specs.Serving.{Follows, Serves, Turn, clean, failed, refused, served, starved, torn}
 use Rattle.repo_server.specs.World.{World}
-use Rattle.repo_server.proofs.Recorded.{reads-kept, says-kept, sends-kept, takes-kept}
+use Rattle.repo_server.proofs.Recorded.{says-kept, sends-kept, takes-kept, uses-kept}
 
 -- the numbers below one that is not below itself
 not_below : (n m : ℕ) → m < n → (m == n) ≡ false
@@ -85,6 +84,16 @@ Settles settings y (sends blob answer next) s = (result : Sent) → Settles sett
 Settles settings y (says answer next) s = LeavesNothing y s.yard
 Settles settings y (stops next) s = LeavesNothing y s.yard
 
+-- the reply that fits, once the command is known
+pub replied : (settings : Settings) (s : State) (entry : Entry) (command : Command) → entry.command ≡ command → Fits settings s entry
+    → (entry.reply ≡ reply_of settings s command) ⊎ (entry.reply ≡ no_memory)
+replied settings s entry command is fits = pick fits.reply
+  where
+    pick : {M : Type 0} → (entry.reply ≡ reply_of settings s entry.command) ⊎ ((entry.reply ≡ no_memory) × M)
+        → (entry.reply ≡ reply_of settings s command) ⊎ (entry.reply ≡ no_memory)
+    pick (inl due) = inl (due ∙ ap (reply_of settings s) is)
+    pick (inr wanted) = inr wanted.0
+
 -- a GET
 
 lease-is : (next : ℕ) (found : Option Row) (lease : ℕ) (blob : Blob) → (file lease blob ≡ look_reply next found) ⊎ (file lease blob ≡ no_memory) → lease ≡ next
@@ -124,7 +133,7 @@ look-settles settings close last path s moment r due drawn = stays s.yard
 
 -- a PUT
 
-draft-is : (taken_here : Bool) (next n : ℕ) → (draft n ≡ may_put_reply taken_here next) ⊎ (draft n ≡ no_memory) → n ≡ next
+pub draft-is : (taken_here : Bool) (next n : ℕ) → (draft n ≡ may_put_reply taken_here next) ⊎ (draft n ≡ no_memory) → n ≡ next
 draft-is taken_here next n (inr due) = (cc)
 draft-is false next n (inl due) = (cc)
 draft-is true next n (inl due) = pick (next == number_end) due
@@ -148,13 +157,15 @@ condemned-left y n is drawn =
     let kept = kept-left y n is drawn in
     record { drafts = kept.drafts; leases = refl; next_draft = omega arith; next_lease = omega arith }
 
+-- a draft that was just drawn stands among the drafts
+pub stands-there : (y : Yard) (n : ℕ) (s : State) → s.yard ≡ drawn_draft y → n ≡ y.next_draft → is_among n s.yard.drafts ≡ true
+stands-there y n s yard is =
+    ap (λ (d : Yard). is_among n d.drafts) yard ∙ ap (λ (m : ℕ). is_among n (y.drafts ++ m ∷ [])) (sym is) ∙ stands_last n y.drafts
+
 dropped-left : (y : Yard) (n : ℕ) (s : State) → s.yard ≡ drawn_draft y → n ≡ y.next_draft → IsDrawn y → (moment : ℕ) (reply : Reply)
     → LeavesNothing y (changed (ticked s moment) (drop_draft n) moment reply).yard
-dropped-left y n s yard is drawn moment reply = pick (is_among n s.yard.drafts) among
+dropped-left y n s yard is drawn moment reply = pick (is_among n s.yard.drafts) (stands-there y n s yard is)
   where
-    among : is_among n s.yard.drafts ≡ true
-    among = ap (λ (d : Yard). is_among n d.drafts) yard ∙ ap (λ (m : ℕ). is_among n (y.drafts ++ m ∷ [])) (sym is) ∙ stands_last n y.drafts
-
     pick : (b : Bool) → b ≡ true → LeavesNothing y (if b then with_yard (condemned_draft n) (ticked s moment) else ticked s moment).yard
     pick true holds = subst (λ (d : Yard). LeavesNothing y (condemned_draft n d)) (sym yard) (condemned-left y n is drawn)
     pick false holds = (cc)
@@ -196,16 +207,6 @@ may_put-settles settings close last path length s moment (draft n) due drawn =
     (draft-is (fits_repo settings repository path is_taken) s.yard.next_draft n due) drawn
 may_put-settles settings close last path length s moment r due drawn = stays s.yard
 
--- the reply that fits, once the command is known
-replied : (settings : Settings) (s : State) (entry : Entry) (command : Command) → entry.command ≡ command → Fits settings s entry
-    → (entry.reply ≡ reply_of settings s command) ⊎ (entry.reply ≡ no_memory)
-replied settings s entry command is fits = pick fits.reply
-  where
-    pick : {M : Type 0} → (entry.reply ≡ reply_of settings s entry.command) ⊎ ((entry.reply ≡ no_memory) × M)
-        → (entry.reply ≡ reply_of settings s command) ⊎ (entry.reply ≡ no_memory)
-    pick (inl due) = inl (due ∙ ap (reply_of settings s) is)
-    pick (inr wanted) = inr wanted.0
-
 course-settles : (settings : Settings) (request : Plain) (last : Bool) (s : State) → IsDrawn s.yard → Settles settings s.yard (course request last) s
 course-settles settings (get path close) last s drawn = λ entry command fits.
     subst (λ (c : Command). Settles settings s.yard (after_look close last entry.reply) (changed (ticked s entry.moment) c entry.moment entry.reply)) (sym command)
@@ -214,47 +215,50 @@ course-settles settings (put_request path length close) last s drawn = λ entry 
     subst (λ (c : Command). Settles settings s.yard (after_may_put path length close last entry.reply) (changed (ticked s entry.moment) c entry.moment entry.reply)) (sym command)
     (may_put-settles settings close last path length s entry.moment entry.reply (replied settings s entry (may_put repository path) command fits) drawn)
 
--- a course that was followed, a turn and a stream
+-- a course that was followed, a turn and a stream, on a machine whose turns are the one-thread repository's
 
-follows-left : (settings : Settings) (tells : Type 0) (y : Yard) (c : Course) (old new : World Whole) (end : Option End) → Follows (CoreTurn settings) tells c old new end
-    → Settles settings y c old.machine.state → LeavesNothing y new.machine.state.yard
-follows-left settings tells y (asks command next) old new end t settles =
-    follows-left settings tells y (next t.0.reply) (record old { machine = t.1 }) new end t.4
-    (subst (λ (s : State). Settles settings y (next t.0.reply) s) (sym t.3.state) (settles t.0 t.2 t.3.fits))
-follows-left settings tells y (takes n count next) old new end t settles =
-    follows-left settings tells y (next t.0) t.1 new end t.3
-    (subst (λ (m : Whole). Settles settings y (next t.0) m.state) (sym (takes-kept (CoreTurn settings) tells n count t.0 old t.1 t.2).0) (settles t.0))
-follows-left settings tells y (sends blob answer next) old new end t settles =
-    follows-left settings tells y (next t.0) t.1 new end t.3
-    (subst (λ (m : Whole). Settles settings y (next t.0) m.state) (sym (sends-kept (CoreTurn settings) tells blob (shown answer) t.0 old t.1 t.2).0) (settles t.0))
-follows-left settings tells y (says answer next) old new end t settles =
-    subst (λ (m : Whole). LeavesNothing y m.state.yard) (sym (says-kept (CoreTurn settings) tells answer next old new end t).0) settles
-follows-left settings tells y (stops next) old new end t settles =
-    subst (λ (w : World Whole). LeavesNothing y w.machine.state.yard) (sym t.0) settles
+module _ {A : Type 0} (Asks : A → Entry → A → Type 0) (tells : Type 0) (settings : Settings) (state_of : A → State) (is : IsMachine Asks settings state_of) where
+  abbrev yard_of : A → Yard
+  yard_of machine = (state_of machine).yard
 
-unmoved : (old new : World Whole) → new.machine ≡ old.machine → LeavesNothing old.machine.state.yard new.machine.state.yard
-unmoved old new still = subst (λ (m : Whole). LeavesNothing old.machine.state.yard m.state.yard) (sym still) (stays old.machine.state.yard)
+  follows-left : (y : Yard) (c : Course) (old new : World A) (end : Option End) → Follows Asks tells c old new end
+      → Settles settings y c (state_of old.machine) → LeavesNothing y (yard_of new.machine)
+  follows-left y (asks command next) old new end t settles =
+      follows-left y (next t.0.reply) (record old { machine = t.1 }) new end t.4
+      (subst (λ (s : State). Settles settings y (next t.0.reply) s) (sym (is.moves old.machine t.0 t.1 t.3)) (settles t.0 t.2 (is.fits old.machine t.0 t.1 t.3)))
+  follows-left y (takes n count next) old new end t settles =
+      follows-left y (next t.0) t.1 new end t.3
+      (subst (λ (m : A). Settles settings y (next t.0) (state_of m)) (sym (takes-kept Asks tells n count t.0 old t.1 t.2).0) (settles t.0))
+  follows-left y (sends blob answer next) old new end t settles =
+      follows-left y (next t.0) t.1 new end t.3
+      (subst (λ (m : A). Settles settings y (next t.0) (state_of m)) (sym (sends-kept Asks tells blob (shown answer) t.0 old t.1 t.2).0) (settles t.0))
+  follows-left y (says answer next) old new end t settles =
+      subst (λ (m : A). LeavesNothing y (yard_of m)) (sym (says-kept Asks tells answer next old new end t).0) settles
+  follows-left y (stops next) old new end t settles =
+      subst (λ (w : World A). LeavesNothing y (yard_of w.machine)) (sym t.0) settles
 
-turn-left : (settings : Settings) (tells : Type 0) (last : Bool) (old new : World Whole) (end : Option End) → IsDrawn old.machine.state.yard
-    → Turn (CoreTurn settings) tells last old new end → LeavesNothing old.machine.state.yard new.machine.state.yard
-turn-left settings tells last old new end drawn (clean begins reads ends) = unmoved old new (reads-kept (CoreTurn settings) tells old new reads).0
-turn-left settings tells last old new end drawn (torn begins reads ends) = unmoved old new (reads-kept (CoreTurn settings) tells old new reads).0
-turn-left settings tells last old new end drawn (failed faults rose reads ends) =
-    unmoved old new (reads-kept (CoreTurn settings) tells (record old { read_faults = faults }) new reads).0
-turn-left settings tells last old new end drawn (starved mid begins reads said) =
-    unmoved old new ((says-kept (CoreTurn settings) tells _ _ mid new end said).0 ∙ (reads-kept (CoreTurn settings) tells old mid reads).0)
-turn-left settings tells last old new end drawn (refused mid begins reads said) =
-    unmoved old new ((says-kept (CoreTurn settings) tells _ _ mid new end said).0 ∙ (reads-kept (CoreTurn settings) tells old mid reads).0)
-turn-left settings tells last old new end drawn (served request rest begins follows) =
-    follows-left settings tells old.machine.state.yard (course request last) (record old { input = rest }) new end follows
-    (course-settles settings request last old.machine.state drawn)
+  unmoved : (old new : World A) → new.machine ≡ old.machine → LeavesNothing (yard_of old.machine) (yard_of new.machine)
+  unmoved old new still = subst (λ (m : A). LeavesNothing (yard_of old.machine) (yard_of m)) (sym still) (stays (yard_of old.machine))
 
-pub stream-left : (settings : Settings) (tells : Type 0) (n : ℕ) (old new : World Whole) (ending : End) → IsDrawn old.machine.state.yard
-    → Serves (CoreTurn settings) tells n old new ending → LeavesNothing old.machine.state.yard new.machine.state.yard
-unfolding Serves
-stream-left settings tells zero old new ending drawn t = unmoved old new (ap (λ w. w.machine) t.0)
-stream-left settings tells (suc left) old new ending drawn (inl turn) = turn-left settings tells (left == 0) old new (Some ending) drawn turn
-stream-left settings tells (suc left) old new ending drawn (inr t) =
-    let first = turn-left settings tells (left == 0) old t.0 None drawn t.1 in
-    both_left old.machine.state.yard t.0.machine.state.yard new.machine.state.yard first
-    (stream-left settings tells left t.0 new ending (still_drawn old.machine.state.yard t.0.machine.state.yard first drawn) t.2)
+  turn-left : (last : Bool) (old new : World A) (end : Option End) → IsDrawn (yard_of old.machine)
+      → Turn Asks tells last old new end → LeavesNothing (yard_of old.machine) (yard_of new.machine)
+  turn-left last old new end drawn (clean begins still ends) = unmoved old new (ap (λ w. w.machine) still)
+  turn-left last old new end drawn (torn begins still ends) = unmoved old new (ap (λ w. w.machine) still)
+  turn-left last old new end drawn (failed faults rose still ends) = unmoved old new (ap (λ w. w.machine) still)
+  turn-left last old new end drawn (starved mid begins uses said) =
+      unmoved old new ((says-kept Asks tells _ _ mid new end said).0 ∙ (uses-kept Asks tells old mid uses).0)
+  turn-left last old new end drawn (refused mid begins uses said) =
+      unmoved old new ((says-kept Asks tells _ _ mid new end said).0 ∙ (uses-kept Asks tells old mid uses).0)
+  turn-left last old new end drawn (served request rest begins follows) =
+      follows-left (yard_of old.machine) (course request last) (record old { input = rest }) new end follows
+      (course-settles settings request last (state_of old.machine) drawn)
+
+  pub stream-left : (n : ℕ) (old new : World A) (ending : End) → IsDrawn (yard_of old.machine)
+      → Serves Asks tells n old new ending → LeavesNothing (yard_of old.machine) (yard_of new.machine)
+  unfolding Serves
+  stream-left zero old new ending drawn t = unmoved old new (ap (λ w. w.machine) t.0)
+  stream-left (suc left) old new ending drawn (inl turn) = turn-left (left == 0) old new (Some ending) drawn turn
+  stream-left (suc left) old new ending drawn (inr t) =
+      let first = turn-left (left == 0) old t.0 None drawn t.1 in
+      both_left (yard_of old.machine) (yard_of t.0.machine) (yard_of new.machine) first
+      (stream-left left t.0 new ending (still_drawn (yard_of old.machine) (yard_of t.0.machine) first drawn) t.2)

@@ -9,6 +9,7 @@ pub mod JudgedLemmas
 pub mod LeftBehind
 pub mod Meets
 pub mod OnLiterals
+pub mod OwnDrafts
 pub mod PlayedCourse
 pub mod PlayedFrom
 pub mod PlayedSteps

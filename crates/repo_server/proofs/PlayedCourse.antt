@@ -136,10 +136,14 @@ module _ {A : Type 0} (Asks : A → Entry → A → Type 0) (settings : Settings
   takes-play n count next ih (Err took.BlobFault) fair old mid new end input before ready quiet quiet' first grows cause follows =
       risen old.blob_faults cause.0 new.blob_faults cause.2
       (subst (λ k. k ≤ new.blob_faults) (ap (λ w. w.blob_faults) cause.3.3) grows.blobs) quiet.blobs quiet.more_blobs
-  takes-play n count next ih (Err took.NoMemory) fair old mid new end input before ready quiet quiet' first grows cause follows =
+  takes-play n count next ih (Err took.NoMemory) fair old mid new end input before ready quiet quiet' first grows (inl still) follows =
       inr (early-before before _ old mid new end first
       (follows-memory Asks tells (next (Err took.NoMemory)) fair.2 mid new end before _ follows
-      (ap (λ w. w.output) cause.1 ∙ ready.output_is)))
+      (ap (λ w. w.output) still ∙ ready.output_is)))
+  takes-play n count next ih (Err took.NoMemory) fair old mid new end input before ready quiet quiet' first grows (inr t) follows =
+      inr (early-before before _ old mid new end first
+      (follows-memory Asks tells (next (Err took.NoMemory)) fair.2 mid new end before _ follows
+      (ap (λ w. w.output) t.1.3 ∙ ready.output_is)))
 
   sends-play : (blob : Blob) (answer : Answer) (next : Sent → Course) → ((result : Sent) → Plays (next result))
       → (result : Sent) → Fair (sends blob answer next) → (old mid new : World A) (end : Option End) (input before : List ℕ)

@@ -19,7 +19,7 @@ use Rattle.repo_server.specs.Serving.{IsFrontOf, Says, Follows, Turn, clean, tor
 use Rattle.repo_server.specs.Faultless.{Played, Scene, wrote, play_request, play_turn, then_play, play_stream}
 use Rattle.repo_server.specs.Machine.{IsMachine}
 use Rattle.repo_server.specs.AsPlayed.{IsAsPlayed, in_full, wants_memory, IsPlayedUpTo, unbroken, broken, NoFaults, StoodStill}
-use Rattle.repo_server.proofs.Counts.{Grew, Quiet, not-risen, rose-before, grew, quiet-first, quiet-then, reads-grew, follows-grew, turn-grew, serves-grew}
+use Rattle.repo_server.proofs.Counts.{Grew, Quiet, not-risen, rose-before, grew, quiet-first, quiet-then, reads-grew, follows-grew, turn-grew, serves-grew, uses-reads}
 use Rattle.repo_server.proofs.Fair.{course-fair}
 use Rattle.repo_server.proofs.Early.{Ready, Outcome, early-before, no-more, source-failed, says-early, says-memory}
 use Rattle.repo_server.proofs.PlayedCourse.{course-play}
@@ -70,10 +70,10 @@ module _ {A : Type 0} (Asks : A → Entry → A → Type 0) (settings : Settings
 
   -- nothing more is written, and the stream ends
   ends-with : (e : End) (old new : World A) (end : Option End) (input before : List ℕ) (scene : Scene) → Ready state_of old input before
-      → ReadsOn old new → end ≡ Some e
+      → new ≡ old → end ≡ Some e
       → Outcome state_of before (record { written = []; scene = scene; end = Some e }) old new end
-  ends-with e old new end input before scene ready reads ends = inl record {
-    output = ap (λ w. w.output) reads.1 ∙ ready.output_is ∙ ap Some (sym (append-nil before));
+  ends-with e old new end input before scene ready still ends = inl record {
+    output = ap (λ w. w.output) still ∙ ready.output_is ∙ ap Some (sym (append-nil before));
     ends = ends;
     goes = λ none. ends-not end ends none;
   }
@@ -114,25 +114,26 @@ module _ {A : Type 0} (Asks : A → Entry → A → Type 0) (settings : Settings
 
   turn-play : (last : Bool) (old new : World A) (end : Option End) (input before : List ℕ) → Ready state_of old input before
       → Quiet old new → Turn Asks tells last old new end → Turned last (front input) input before old new end
-  turn-play last old new end input before ready quiet (clean begins reads ends) =
+  turn-play last old new end input before ready quiet (clean begins still ends) =
       let what = subst (λ o. Begins o (λ f. f ≡ Clean)) ready.input_is begins in
       subst (λ f. Turned last f input before old new end) (sym what)
-      (ends-with stream.Closed old new end input before (scene_at old input) ready reads ends)
-  turn-play last old new end input before ready quiet (torn begins reads ends) =
+      (ends-with stream.Closed old new end input before (scene_at old input) ready still ends)
+  turn-play last old new end input before ready quiet (torn begins still ends) =
       let what = subst (λ o. Begins o (λ f. f ≡ Cut)) ready.input_is begins in
       subst (λ f. Turned last f input before old new end) (sym what)
-      (ends-with stream.TornRequest old new end input before (scene_at old input) ready reads ends)
-  turn-play last old new end input before ready quiet (failed faults rose reads ends) =
+      (ends-with stream.TornRequest old new end input before (scene_at old input) ready still ends)
+  turn-play last old new end input before ready quiet (failed faults rose still ends) =
       inr (no-more before _ [] old new end (_, refl)
-      (ap (λ w. w.output) reads.1 ∙ ready.output_is ∙ ap Some (sym (append-nil before)))
-      (source-failed old new end ends (subst (λ n. Rose old.read_faults n) (sym (ap (λ w. w.read_faults) reads.1)) rose)))
-  turn-play last old new end input before ready quiet (starved mid begins reads said) =
+      (ap (λ w. w.output) still ∙ ready.output_is ∙ ap Some (sym (append-nil before)))
+      (source-failed old new end ends (subst (λ n. Rose old.read_faults n) (sym (ap (λ w. w.read_faults) still)) rose)))
+  turn-play last old new end input before ready quiet (starved mid begins uses said) =
+      let reads = uses-reads old mid uses in
       inr (early-before before _ old mid new end (reads-grew old mid reads)
       (says-memory mid new end before _ said (ap (λ w. w.output) reads.1 ∙ ready.output_is)))
-  turn-play last old new end input before ready quiet (refused mid begins reads said) =
+  turn-play last old new end input before ready quiet (refused mid begins uses said) =
       refused-turn last (front input) (subst (λ o. Begins o IsRefused) ready.input_is begins) old new end input before
       (λ rest. closes-with bad_head_answer old mid new end input before
-      (record { state = state_of old.machine; input = rest }) ready reads said)
+      (record { state = state_of old.machine; input = rest }) ready (uses-reads old mid uses) said)
   turn-play last old new end input before ready quiet (served request rest begins follows) =
       let mid : World A = record old { input = rest } in
       let later = quiet-then old mid new (grew old mid refl refl refl)

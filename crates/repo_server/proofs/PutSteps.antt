@@ -1,5 +1,5 @@
 -- The course of a PUT, one step after another.
-use Rattle.std.proofs.Common.{◌≡◌, ℕ, Bool, List, Option, None, Result, Ok, Err, ap, refl, subst, sym}
+use Rattle.std.proofs.Common.{◌≡◌, ℕ, Bool, List, Option, None, Result, Ok, Err, inl, inr, ap, refl, subst, sym}
 use Rattle.outside.specs.declared.stores.Held.{Ghosts}
 use Rattle.repo_core.specs.declared.reply.Reply as core
 use Rattle.repo_core.specs.declared.reply.Reply.TheVariants as core_reply
@@ -22,14 +22,16 @@ takes_in : {A : Type 0} (m : A) (tells : Type 0) (draft count : ℕ) (result : R
     → Takes tells draft count result (world m in0 output r0 writes b0) (world m in1 output r1 writes b1)
 takes_in {A} m tells draft count (Ok blob) output writes in0 in1 r0 r1 b0 b1 (body, (rest, long, came, same), number, print, told, some) =
     (body, (rest, long, came, ap (λ (w : World Nobody). world m w.input output w.read_faults writes w.blob_faults) same), number, print, told, some)
-takes_in {A} m tells draft count (Err took.Torn) output writes in0 in1 r0 r1 b0 b1 (short, (rest, same)) =
-    (short, (rest, ap (λ (w : World Nobody). world m w.input output w.read_faults writes w.blob_faults) same))
-takes_in {A} m tells draft count (Err took.SourceFault) output writes in0 in1 r0 r1 b0 b1 (faults, rose, (rest, same)) =
-    (faults, rose, (rest, ap (λ (w : World Nobody). world m w.input output w.read_faults writes w.blob_faults) same))
+takes_in {A} m tells draft count (Err took.Torn) output writes in0 in1 r0 r1 b0 b1 (short, (rest, same), ended) =
+    (short, (rest, ap (λ (w : World Nobody). world m w.input output w.read_faults writes w.blob_faults) same), ended)
+takes_in {A} m tells draft count (Err took.SourceFault) output writes in0 in1 r0 r1 b0 b1 (faults, rose, (rest, same), gone) =
+    (faults, rose, (rest, ap (λ (w : World Nobody). world m w.input output w.read_faults writes w.blob_faults) same), gone)
 takes_in {A} m tells draft count (Err took.BlobFault) output writes in0 in1 r0 r1 b0 b1 (faults, body, rose, (rest, long, came, same)) =
     (faults, body, rose, (rest, long, came, ap (λ (w : World Nobody). world m w.input output w.read_faults writes w.blob_faults) same))
-takes_in {A} m tells draft count (Err took.NoMemory) output writes in0 in1 r0 r1 b0 b1 (rest, same) =
-    (rest, ap (λ (w : World Nobody). world m w.input output w.read_faults writes w.blob_faults) same)
+takes_in {A} m tells draft count (Err took.NoMemory) output writes in0 in1 r0 r1 b0 b1 (inl same) =
+    inl (ap (λ (w : World Nobody). world m w.input output w.read_faults writes w.blob_faults) same)
+takes_in {A} m tells draft count (Err took.NoMemory) output writes in0 in1 r0 r1 b0 b1 (inr (body, (rest, long, came, same))) =
+    inr (body, (rest, long, came, ap (λ (w : World Nobody). world m w.input output w.read_faults writes w.blob_faults) same))
 
 -- the body is taken while the sink's side stays, and what follows its outcome
 pub put_took : {A : Type 0} (Asks : A → Entry → A → Type 0) (tells : Type 0) (draft count : ℕ) (next : Result Blob Took → Course) (result : Result Blob Took)

@@ -15,7 +15,7 @@ use Rattle.repo_server.specs.declared.outcomes.Took.{Took}
 use Rattle.repo_server.specs.declared.outcomes.Took.TheVariants as took
 use Rattle.repo_server.specs.Course.{Course, asks, takes, sends, says, stops, course}
 use Rattle.repo_server.specs.World.{World}
-use Rattle.repo_server.specs.Serving.{Takes, Sends, Says, whole, memory, cut, Follows, Turn, clean, torn, failed, starved, refused, served, Serves, ReadsOn}
+use Rattle.repo_server.specs.Serving.{Takes, Sends, Says, whole, memory, cut, Follows, Turn, clean, torn, failed, starved, refused, served, Serves, UsesHead}
 use Rattle.repo_server.specs.Machine.{CountsCalls, IsMachine, LeadsTo, with_history, with_entries}
 
 pub leads-legal : {A : Type 0} (Asks : A → Entry → A → Type 0) (settings : Settings) (state_of : A → State)
@@ -51,13 +51,15 @@ module _ {A : Type 0} (Asks : A → Entry → A → Type 0) (tells : Type 0) whe
   takes-kept draft count (Ok blob) old new t =
       (ap (λ w. w.machine) t.1.3, λ h. (t.0, (t.1.0, t.1.1, t.1.2, ap (with_entries h) t.1.3), t.2, t.3, t.4, t.5))
   takes-kept draft count (Err took.Torn) old new t =
-      (ap (λ w. w.machine) t.1.1, λ h. (t.0, (t.1.0, ap (with_entries h) t.1.1)))
+      (ap (λ w. w.machine) t.1.1, λ h. (t.0, (t.1.0, ap (with_entries h) t.1.1), t.2))
   takes-kept draft count (Err took.SourceFault) old new t =
-      (ap (λ w. w.machine) t.2.1, λ h. (t.0, t.1, (t.2.0, ap (with_entries h) t.2.1)))
+      (ap (λ w. w.machine) t.2.1, λ h. (t.0, t.1, (t.2.0, ap (with_entries h) t.2.1), t.3))
   takes-kept draft count (Err took.BlobFault) old new t =
       (ap (λ w. w.machine) t.3.3, λ h. (t.0, t.1, t.2, (t.3.0, t.3.1, t.3.2, ap (with_entries h) t.3.3)))
-  takes-kept draft count (Err took.NoMemory) old new t =
-      (ap (λ w. w.machine) t.1, λ h. (t.0, ap (with_entries h) t.1))
+  takes-kept draft count (Err took.NoMemory) old new (inl still) =
+      (ap (λ w. w.machine) still, λ h. inl (ap (with_entries h) still))
+  takes-kept draft count (Err took.NoMemory) old new (inr t) =
+      (ap (λ w. w.machine) t.1.3, λ h. inr (t.0, (t.1.0, t.1.1, t.1.2, ap (with_entries h) t.1.3)))
 
   pub sends-kept : (blob : Blob) (head : List ℕ) (result : Sent) (old new : World A) → Sends blob head result old new
       → Kept (λ B. Sends {A = B} blob head result) old new
@@ -77,8 +79,9 @@ module _ {A : Type 0} (Asks : A → Entry → A → Type 0) (tells : Type 0) whe
   says-kept answer next old new end (cut faults all part rose all-is front is ends) =
       (ap (λ w. w.machine) is, λ h. cut faults all part rose all-is front (ap (with_entries h) is) ends)
 
-  pub reads-kept : (old new : World A) → ReadsOn old new → Kept (λ B. ReadsOn {A = B}) old new
-  reads-kept old new t = (ap (λ w. w.machine) t.1, λ h. (t.0, ap (with_entries h) t.1))
+  pub uses-kept : (old new : World A) → UsesHead old new → Kept (λ B. UsesHead {A = B}) old new
+  uses-kept old new (inl still) = (ap (λ w. w.machine) still, λ h. inl (ap (with_entries h) still))
+  uses-kept old new (inr t) = (ap (λ w. w.machine) t.2, λ h. inr (t.0, t.1, ap (with_entries h) t.2))
 
   -- the entries lead from one machine to the other, and the relation holds with them behind any history
   abbrev pub Recorded : ((B : Type 0) → (B → Entry → B → Type 0) → World B → World B → Type 0) → World A → World A → Type 0
@@ -135,21 +138,18 @@ module _ {A : Type 0} (Asks : A → Entry → A → Type 0) (tells : Type 0) whe
   )
 
   turn-recorded : (last : Bool) (old new : World A) (end : Option End) → Turn Asks tells last old new end → Turning last end old new
-  turn-recorded last old new end (clean begins reads ends) =
-      let kept = reads-kept old new reads in
-      turn-kept last end old new kept.0 (λ h. clean begins (kept.1 h) ends)
-  turn-recorded last old new end (torn begins reads ends) =
-      let kept = reads-kept old new reads in
-      turn-kept last end old new kept.0 (λ h. torn begins (kept.1 h) ends)
-  turn-recorded last old new end (failed faults rose reads ends) =
-      let kept = reads-kept (record old { read_faults = faults }) new reads in
-      turn-kept last end old new kept.0 (λ h. failed faults rose (kept.1 h) ends)
-  turn-recorded last old new end (starved mid begins reads said) =
-      let kept = reads-kept old mid reads in
+  turn-recorded last old new end (clean begins still ends) =
+      turn-kept last end old new (ap (λ w. w.machine) still) (λ h. clean begins (ap (with_entries h) still) ends)
+  turn-recorded last old new end (torn begins still ends) =
+      turn-kept last end old new (ap (λ w. w.machine) still) (λ h. torn begins (ap (with_entries h) still) ends)
+  turn-recorded last old new end (failed faults rose still ends) =
+      turn-kept last end old new (ap (λ w. w.machine) still) (λ h. failed faults rose (ap (with_entries h) still) ends)
+  turn-recorded last old new end (starved mid begins uses said) =
+      let kept = uses-kept old mid uses in
       let spoke = says-kept _ _ mid new end said in
       turn-kept last end old new (spoke.0 ∙ kept.0) (λ h. starved (with_entries h mid) begins (kept.1 h) (spoke.1 h))
-  turn-recorded last old new end (refused mid begins reads said) =
-      let kept = reads-kept old mid reads in
+  turn-recorded last old new end (refused mid begins uses said) =
+      let kept = uses-kept old mid uses in
       let spoke = says-kept _ _ mid new end said in
       turn-kept last end old new (spoke.0 ∙ kept.0) (λ h. refused (with_entries h mid) begins (kept.1 h) (spoke.1 h))
   turn-recorded last old new end (served request rest begins follows) =

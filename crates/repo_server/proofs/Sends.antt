@@ -50,3 +50,14 @@ cut_in_bytes blob head bytes n taken mid taken' faults mid_faults faults' blobs 
   where
     ap_rose : {a b c : ℕ} → a ≡ b → Rose a c → Rose b c
     ap_rose {c = c} same rose = subst (λ (x : ℕ). Rose x c) same rose
+
+-- the sink took the head and the file's bytes
+pub sent_whole : (blob : Blob) (head bytes : List ℕ) (taken mid taken' : Option (List ℕ)) (faults mid_faults faults' blobs : ℕ)
+    → IsWhereTold blob.bytes bytes → mid ≡ behind taken head → mid_faults ≡ faults → taken' ≡ behind mid bytes → faults' ≡ mid_faults
+    → Sends blob head sent.Whole (sees taken faults blobs) (sees taken' faults' blobs)
+sent_whole blob head bytes taken mid taken' faults mid_faults faults' blobs told whole same_faults all_taken kept =
+    let both : taken' ≡ behind taken (head ++ bytes) = all_taken ∙ ap (λ t. behind t bytes) whole ∙ behind-behind taken head bytes in (
+      bytes,
+      told,
+      ap (λ t. sees t faults' blobs) both ∙ ap (λ n. sees (behind taken (head ++ bytes)) n blobs) (kept ∙ same_faults),
+    )

@@ -1,30 +1,21 @@
 -- One turn of a stream by what its call gave, and a stream by its turns.
-use Rattle.std.proofs.Common.{◌≡◌, ◌≢◌, ◌⊎◌, ℕ, suc, ◌+◌, ◌-◌, ◌<◌, ◌==◌, Bool, true, false, List, [], Option, Some, None, IfSome, MatchOption, inl, inr, ap, arith, refl, subst, sym, ◌∙◌}
+use Rattle.std.proofs.Common.{◌≡◌, ◌≢◌, ◌⊎◌, ℕ, suc, ◌+◌, ◌-◌, ◌<◌, ◌==◌, Bool, true, false, List, Option, Some, None, IfSome, MatchOption, Result, Ok, Err, inl, inr, ap, arith, refl, subst, sym, ◌∙◌}
 use Rattle.std.specs.Option.{option_map}
 use Rattle.std.proofs.lemmas.Bool.Decides.{eqb_tells}
-use Rattle.http_wire.specs.declared.answers.Answer.{Answer}
 use Rattle.http_wire.specs.declared.faults.HeadFault.{HeadFault}
+use Rattle.http_wire.specs.declared.faults.WireFault.{WireFault}
+use Rattle.http_wire.specs.declared.faults.WireFault.TheVariants.{SourceFault}
 use Rattle.http_wire.specs.Front.{Front, Bad, Whole, front}
 use Rattle.http_wire.specs.Head.{Head}
-use Rattle.http_wire.specs.Stream.{BeginsWithHead, unread}
-use Rattle.repo_core.specs.Whole as core
+use Rattle.http_wire.specs.Stream.{BeginsWithHead}
 use Rattle.repo_model.specs.History.{Entry}
 use Rattle.repo_server.specs.declared.outcomes.End.{End}
 use Rattle.repo_server.specs.declared.outcomes.End.TheVariants as stream
 use Rattle.repo_server.specs.Answers.{bad_head_answer}
 use Rattle.repo_server.specs.Course.{course}
-use Rattle.repo_server.specs.CoreTurn.{IsSaid}
 use Rattle.repo_server.specs.Plain.{Plain, plain}
-use Rattle.repo_server.specs.Serving.{Begins, Follows, IsHead, IsRefused, IsRequest, IsServed, ReadsOn, Says, Serves, Turn, refused, served, starved}
+use Rattle.repo_server.specs.Serving.{Begins, Follows, IsBehindHead, IsHead, IsRefused, IsRequest, IsServed, Says, Serves, Turn, refused, served, starved}
 use Rattle.repo_server.specs.World.{World, world}
-
--- an answer beside a source that stays as it was
-pub said_beside : (answer : Answer) (next : Option End) (m : core.Whole) (in0 in1 t0 t1 : Option (List ℕ)) (r0 r1 w0 w1 b : ℕ) (end : Option End)
-    → IsSaid answer next t0 w0 t1 w1 end → in1 ≡ in0 → r1 ≡ r0
-    → Says answer next (world m in0 t0 r0 w0 b) (world m in1 t1 r1 w1 b) end
-said_beside answer next m in0 in1 t0 t1 r0 r1 w0 w1 b end said same_input same_reads =
-    let reads = subst (λ (r : ℕ). Says answer next (world m in0 t0 r0 w0 b) (world m in0 t1 r w1 b) end) (sym same_reads) (said m in0 r0 b) in
-    subst (λ (i : Option (List ℕ)). Says answer next (world m in0 t0 r0 w0 b) (world m i t1 r1 w1 b) end) (sym same_input) reads
 
 -- the head is not plain
 pub served_refused : {A : Type 0} (Asks : A → Entry → A → Type 0) (tells : Type 0) (judged : Option Plain) (last : Bool) (old new : World A) (end : Option End)
@@ -52,7 +43,8 @@ turn_judged : {A : Type 0} (Asks : A → Entry → A → Type 0) (tells : Type 0
     → MatchOption judged (Says bad_head_answer (Some stream.Closed) (record old { input = in1 }) new end) (λ request. Follows Asks tells (course request last) (record old { input = in1 }) new end)
     → Turn Asks tells last old new end
 turn_judged Asks tells last head in1 old new end None is_refused same said =
-    refused (record old { input = in1 }) (begins IsRefused head old.input in1 same (λ rest there. is_refused)) (in1, refl) said
+    refused (record old { input = in1 }) (begins IsRefused head old.input in1 same (λ rest there. is_refused))
+    (inr (in1, begins (IsBehindHead in1) head old.input in1 same (λ rest there. there), refl)) said
 turn_judged Asks tells last head in1 old new end (Some request) is_plain same follows =
     served request in1 (begins (IsRequest request in1) head old.input in1 same (λ rest there. (is_plain, there))) follows
 
@@ -63,13 +55,22 @@ pub turn_of_head : {A : Type 0} (Asks : A → Entry → A → Type 0) (tells : T
     → Turn Asks tells last old new end
 turn_of_head Asks tells last head in1 old new end same (inl matched) = turn_judged Asks tells last head in1 old new end (plain head) refl same matched
 turn_of_head Asks tells last head in1 old new end same (inr said) =
-    starved (record old { input = in1 }) (begins IsHead head old.input in1 same (λ rest there. tt)) (in1, refl) said
+    starved (record old { input = in1 }) (begins IsHead head old.input in1 same (λ rest there. tt))
+    (inr (in1, begins (IsBehindHead in1) head old.input in1 same (λ rest there. there), refl)) said
 
--- only the source was used
-pub reads_on : {A : Type 0} (m : A) (in0 in1 t0 t1 : Option (List ℕ)) (r0 r1 w0 w1 b : ℕ) → t1 ≡ t0 → r1 ≡ r0 → w1 ≡ w0
-    → ReadsOn (world m in0 t0 r0 w0 b) (world m in1 t1 r1 w1 b)
-reads_on m in0 in1 t0 t1 r0 r1 w0 w1 b same_taken same_reads same_writes =
-    (in1, ap (λ t. world m in1 t r1 w1 b) same_taken ∙ ap (λ r. world m in1 t0 r w1 b) same_reads ∙ ap (λ w. world m in1 t0 r0 w b) same_writes)
+-- the source did not fail
+abbrev pub IsNoFailure : {T : Type 0} → Result T WireFault → Type 0
+IsNoFailure (Err SourceFault) = ⊥
+IsNoFailure result = Unit {0}
+
+pub not_failed : {T : Type 0} (result : Result T WireFault) → IsNoFailure result → result ≢ Err SourceFault
+not_failed result holds same = subst IsNoFailure same holds
+
+-- nothing was used
+pub stands : {A : Type 0} (m : A) (in0 in1 t0 t1 : Option (List ℕ)) (r0 r1 w0 w1 b : ℕ) → in1 ≡ in0 → t1 ≡ t0 → r1 ≡ r0 → w1 ≡ w0
+    → world m in1 t1 r1 w1 b ≡ world m in0 t0 r0 w0 b
+stands m in0 in1 t0 t1 r0 r1 w0 w1 b same_input same_taken same_reads same_writes =
+    λ i. world m (same_input i) (same_taken i) (same_reads i) (same_writes i) b
 
 -- what holds of a world whose source alone was read
 pub from_read : {A : Type 0} (P : World A → Type 0) (m : A) (in1 t0 t1 : Option (List ℕ)) (r0 r1 w0 w1 b : ℕ) → t1 ≡ t0 → r1 ≡ r0 → w1 ≡ w0
@@ -87,11 +88,6 @@ begins_head (Some all) there = subst IsHead (sym there.2) tt
 pub begins_refused : (bytes : Option (List ℕ)) (fault : HeadFault) → IfSome bytes (λ all. front all ≡ Bad fault) → Begins bytes IsRefused
 begins_refused None fault is = tt
 begins_refused (Some all) fault is = subst IsRefused (sym is) tt
-
--- the bytes of a wire that holds nothing are the source's
-pub unread_none : (left : Option (List ℕ)) → unread [] left ≡ left
-unread_none None = refl
-unread_none (Some bytes) = refl
 
 -- one more request may come
 pub one_less : (limit count : ℕ) → count < limit → limit - count ≡ suc (limit - (count + 1))

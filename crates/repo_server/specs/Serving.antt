@@ -1,7 +1,7 @@
 -- How a stream is served: for each request the steps of its course, one after another, each with the causes of its result.
 use Rattle.std.specs.Prelude.{◌≡◌, ℕ, zero, suc, ◌<◌, ◌⊎◌, ◌==◌, Bool, List, ◌++◌, length, Option, Some, None, IfSome, IsSome, MatchOption, Result, Ok, Err}
 use Rattle.outside.specs.Faults.{Rose}
-use Rattle.outside.specs.Told.{in_front, behind, IsWhereTold}
+use Rattle.outside.specs.Told.{in_front, behind, IsAtEnd, IsWhereTold}
 use Rattle.mvn_digest.specs.Digests.{digests_of}
 use Rattle.http_wire.specs.declared.answers.Answer.{Answer}
 use Rattle.http_wire.specs.Answer.{shown}
@@ -36,17 +36,20 @@ abbrev pub ReadsBody : {A : Type 0} → ℕ → List ℕ → World A → World A
 ReadsBody {A} count body old new =
     (rest : Option (List ℕ)) × (length body ≡ count) × (old.input ≡ in_front body rest) × (new ≡ record old { input = rest })
 
--- What comes of taking a body. Where the blobs tell their bytes, the stored one tells the body's.
+-- What comes of taking a body. Where the blobs tell their bytes, the stored one tells the body's. A torn body is read to the
+-- end of the stream; of one that the source failed to give, less than the whole is gone.
 abbrev pub Takes : {A : Type 0} → Type 0 → ℕ → ℕ → Result Blob Took → World A → World A → Type 0
 Takes tells draft count (Ok blob) old new =
     (body : List ℕ) × ReadsBody count body old new
     × (blob.number ≡ draft) × (blob.print ≡ print_of body) × IsWhereTold blob.bytes body × (tells → IsSome blob.bytes)
-Takes tells draft count (Err took.Torn) old new = IfSome old.input (λ bytes. length bytes < count) × ReadsOn old new
+Takes tells draft count (Err took.Torn) old new =
+    IfSome old.input (λ bytes. length bytes < count) × ReadsOn old new × IsAtEnd new.input
 Takes tells draft count (Err took.SourceFault) old new =
     (faults : ℕ) × Rose old.read_faults faults × ReadsOn (record old { read_faults = faults }) new
+    × ((gone : List ℕ) × (length gone < count) × (old.input ≡ in_front gone new.input))
 Takes tells draft count (Err took.BlobFault) old new =
     (faults : ℕ) × (body : List ℕ) × Rose old.blob_faults faults × ReadsBody count body (record old { blob_faults = faults }) new
-Takes tells draft count (Err took.NoMemory) old new = ReadsOn old new
+Takes tells draft count (Err took.NoMemory) old new = (new ≡ old) ⊎ ((body : List ℕ) × ReadsBody count body old new)
 
 -- What comes of sending a file behind a head.
 abbrev pub Sends : {A : Type 0} → Blob → List ℕ → Sent → World A → World A → Type 0
@@ -106,14 +109,25 @@ IsServed Asks tells judged last old new end =
     MatchOption judged (Says bad_head_answer (Some stream.Closed) old new end) (λ request. Follows Asks tells (course request last) old new end)
     ⊎ Says memory_answer (Some stream.Closed) old new end
 
--- One turn of a stream: nothing more comes, or one request is served. It says how the stream ends, or that it goes on.
+-- the whole head that comes is used
+abbrev pub IsBehindHead : Option (List ℕ) → Front → Type 0
+IsBehindHead rest (Whole head behind) = rest ≡ Some behind
+IsBehindHead rest _ = ⊥
+
+-- nothing is used, or the whole head that comes
+abbrev pub UsesHead : {A : Type 0} → World A → World A → Type 0
+UsesHead old new =
+    (new ≡ old) ⊎ ((rest : Option (List ℕ)) × Begins old.input (IsBehindHead rest) × (new ≡ record old { input = rest }))
+
+-- One turn of a stream: nothing more comes, or one request is served. It says how the stream ends, or that it goes on. Where the
+-- stream ends before a whole head, or the source fails before one, no byte is used.
 pub data Turn {A : Type 0} (Asks : A → Entry → A → Type 0) (tells : Type 0) (last : Bool) (old new : World A) (end : Option End) : Type 0 where
-  clean : Begins old.input (λ what. what ≡ Clean) → ReadsOn old new → end ≡ Some stream.Closed → Turn Asks tells last old new end
-  torn : Begins old.input (λ what. what ≡ Cut) → ReadsOn old new → end ≡ Some stream.TornRequest → Turn Asks tells last old new end
-  failed : (faults : ℕ) → Rose old.read_faults faults → ReadsOn (record old { read_faults = faults }) new
+  clean : Begins old.input (λ what. what ≡ Clean) → new ≡ old → end ≡ Some stream.Closed → Turn Asks tells last old new end
+  torn : Begins old.input (λ what. what ≡ Cut) → new ≡ old → end ≡ Some stream.TornRequest → Turn Asks tells last old new end
+  failed : (faults : ℕ) → Rose old.read_faults faults → new ≡ record old { read_faults = faults }
       → end ≡ Some stream.SourceFault → Turn Asks tells last old new end
-  starved : (mid : World A) → Begins old.input IsHead → ReadsOn old mid → Says memory_answer (Some stream.Closed) mid new end → Turn Asks tells last old new end
-  refused : (mid : World A) → Begins old.input IsRefused → ReadsOn old mid → Says bad_head_answer (Some stream.Closed) mid new end
+  starved : (mid : World A) → Begins old.input IsHead → UsesHead old mid → Says memory_answer (Some stream.Closed) mid new end → Turn Asks tells last old new end
+  refused : (mid : World A) → Begins old.input IsRefused → UsesHead old mid → Says bad_head_answer (Some stream.Closed) mid new end
       → Turn Asks tells last old new end
   served : (request : Plain) (rest : Option (List ℕ)) → Begins old.input (IsRequest request rest)
       → Follows Asks tells (course request last) (record old { input = rest }) new end → Turn Asks tells last old new end

@@ -3,12 +3,13 @@ ghost use Rattle.std.specs.Prelude.{◌≡◌, ◌≤◌, ◌||◌, nat_lt, ℕ,
 ghost use Rattle.http_wire.specs.Answer.{shown};
 ghost use Rattle.http_wire.specs.Stream.{unread};
 ghost use Rattle.repo_core.specs.Shown.{shown_parcel, shown_reply};
+ghost use Rattle.repo_core.specs.Whole.{Whole};
 ghost use Rattle.repo_model.specs.Command.{drop_draft};
 ghost use Rattle.repo_model.specs.Data.{Settings};
 ghost use Rattle.repo_model.specs.History.{Entry};
 ghost use Rattle.repo_server.specs.Answers.{file_answer, taken_text, text_answer};
 ghost use Rattle.repo_server.specs.CoreTurn.{CoreTurn, IsSaid};
-ghost use Rattle.repo_server.specs.Course.{after_body, after_drop, asks, course, end_of, takes};
+ghost use Rattle.repo_server.specs.Course.{after_body, after_drop, after_send, asks, course, end_of, takes};
 ghost use Rattle.repo_server.specs.Held.{AllTell};
 ghost use Rattle.repo_server.specs.Plain.{get, IsReleasePath, longest_body, put as put_request, repository};
 ghost use Rattle.repo_server.specs.Serving.{Follows, Sends};
@@ -102,6 +103,32 @@ fn send<B: Blobs, O: Sink>(
     }
 }
 
+/// The course of a GET behind its file, once the lease was given back. It takes no body, so it is the same whether the
+/// blobs tell their bytes.
+fn after_send<O: Sink>(alloc: Global, closing: Closing, sent: Sent, sink: &mut O) -> Option<End>
+    ensures follows { (settings : Settings) (core : Whole) (input : Option (List ℕ)) (reads blobs : ℕ)
+        → Follows (CoreTurn settings) (Unit {0}) (after_send closing.close closing.last sent)
+        (world core input (O.taken sink.old) reads (O.write_faults sink.old) blobs)
+        (world core input (O.taken sink.new) reads (O.write_faults sink.new) blobs) result }
+    ensures left { O.left sink.new ≡ O.left sink.old }
+    ensures read_faults { O.read_faults sink.new ≡ O.read_faults sink.old }
+{
+    match sent {
+        Sent::Whole => end_of(closing.close),
+        Sent::BlobFault => {
+            answered(
+                alloc,
+                closing,
+                Status::ServiceUnavailable,
+                b"blob-fault",
+                sink,
+            )
+        }
+        Sent::SinkFault => Some(End::SinkFault),
+        Sent::NoMemory => say_no_memory(sink),
+    }
+}
+
 /// The course of a GET of a release file.
 pub fn get<C: Clock, B: Blobs, O: Sink>(
     alloc: Global,
@@ -130,20 +157,7 @@ pub fn get<C: Clock, B: Blobs, O: Sink>(
         Reply::File { lease, parcel } => {
             let sent = send(alloc, blobs, sink, &parcel, closing);
             let _done = core.call(Command::Done { lease });
-            match sent {
-                Sent::Whole => end_of(closing.close),
-                Sent::BlobFault => {
-                    answered(
-                        alloc,
-                        closing,
-                        Status::ServiceUnavailable,
-                        b"blob-fault",
-                        sink,
-                    )
-                }
-                Sent::SinkFault => Some(End::SinkFault),
-                Sent::NoMemory => say_no_memory(sink),
-            }
+            after_send(alloc, closing, sent, sink)
         }
         Reply::Missed => answered(alloc, closing, Status::NotFound, b"not-there", sink),
         Reply::Spent => answered(alloc, closing, Status::InternalServerError, b"spent", sink),

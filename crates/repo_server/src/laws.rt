@@ -1,10 +1,11 @@
 //! The laws of a served stream. No function here has code: its contract is the law.
 
-ghost use Rattle.std.specs.Prelude.{◌≡◌, ◌⊎◌, ℕ, ◌+◌, ◌≤◌, min, length, List, [], ◌++◌, Some, IsSome};
+ghost use Rattle.std.specs.Prelude.{◌≡◌, ◌≢◌, ◌⊎◌, ℕ, ◌+◌, ◌≤◌, min, length, List, [], ◌++◌, Some, IsSome, All};
 ghost use Rattle.outside.specs.Faults.{last_count};
 ghost use Rattle.outside.specs.Moments.{Moments};
 ghost use Rattle.repo_model.specs.Data.{Settings};
 ghost use Rattle.repo_model.specs.History.{Entry, Legal, end};
+ghost use Rattle.repo_model.specs.Reply.{no_draft};
 ghost use Rattle.repo_model.specs.State.{State, opening};
 ghost use Rattle.repo_server.specs.declared.outcomes.End.{End};
 ghost use Rattle.repo_core.specs.Whole.{Whole};
@@ -103,6 +104,13 @@ pub fn nothing_is_left_behind<H: Held>()
     ensures { (settings : Settings) (n : ℕ) (old new : World Whole) (ending : End) → IsDrawn old.machine.state.yard →
         Serves (CoreTurn settings) (AllTell H.bytes) n old new ending →
         LeavesNothing old.machine.state.yard new.machine.state.yard }
+{}
+
+/// A stream that is served alone finds each draft of its own: no call in its history is answered NoDraft.
+pub fn own_drafts_are_there<H: Held>()
+    ensures { (settings : Settings) (n : ℕ) (old new : World Whole) (ending : End) (entries : List Entry) →
+        Serves (with_history (CoreTurn settings)) (AllTell H.bytes) n (with_entries [] old) (with_entries entries new) ending →
+        All (λ (e : Entry). e.reply ≢ no_draft) entries }
 {}
 
 /// Worked exchanges, from an empty repository and whatever the clock tells.

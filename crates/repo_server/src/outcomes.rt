@@ -35,6 +35,6 @@ pub enum Took {
     SourceFault,
     /// The blob could not be stored. The body was read.
     BlobFault,
-    /// There was no memory for the body.
+    /// There was no memory for the body, or none to store it.
     NoMemory,
 }

@@ -129,9 +129,9 @@ fn serve_turns<C: Clock, B: Blobs, T: Stream>(
     stream: &mut T,
 ) -> End
     requires { ServesReleases core.old.settings }
-    ensures serves { (rest : Option (List ℕ)) × Serves (CoreTurn core.old.settings) (AllTell B.Held.bytes) TURNS
+    ensures serves { (held : List ℕ) × Serves (CoreTurn core.old.settings) (AllTell B.Held.bytes) TURNS
         (world core.old (T.left stream.old) (T.taken stream.old) (T.read_faults stream.old) (T.write_faults stream.old) (B.faults blobs.old))
-        (world core.new rest (T.taken stream.new) (T.read_faults stream.new) (T.write_faults stream.new) (B.faults blobs.new)) result }
+        (world core.new (unread held (T.left stream.new)) (T.taken stream.new) (T.read_faults stream.new) (T.write_faults stream.new) (B.faults blobs.new)) result }
     ensures settings { core.new.settings ≡ core.old.settings }
 {
     let mut wire = Wire::new();
@@ -151,7 +151,9 @@ fn serve_turns<C: Clock, B: Blobs, T: Stream>(
 /// comes where the stream ended between requests or an answer closed it, `TornRequest` where it ended within one,
 /// `TurnLimit` behind the last request, `SourceFault` and `SinkFault` where the count of that side rose. Each call of
 /// the core is one entry of one legal history, which leads to the state that the core is left in. Every draft that a
-/// request was given is put or given up, and every lease given back.
+/// request was given is put or given up, and every lease given back. The bytes that were not used are some that were
+/// read ahead (`held`) and then those that the stream has left. The core has a repository `releases`, which takes
+/// releases.
 pub fn serve_stream<C: Clock, B: Blobs, T: Stream>(
     alloc: Global,
     core: &mut Core<C, B::Held>,
@@ -159,12 +161,12 @@ pub fn serve_stream<C: Clock, B: Blobs, T: Stream>(
     stream: &mut T,
 ) -> End
     requires { ServesReleases core.old.settings }
-    ensures serves { (rest : Option (List ℕ)) × Serves (CoreTurn core.old.settings) (AllTell B.Held.bytes) TURNS
+    ensures serves { (held : List ℕ) × Serves (CoreTurn core.old.settings) (AllTell B.Held.bytes) TURNS
         (world core.old (T.left stream.old) (T.taken stream.old) (T.read_faults stream.old) (T.write_faults stream.old) (B.faults blobs.old))
-        (world core.new rest (T.taken stream.new) (T.read_faults stream.new) (T.write_faults stream.new) (B.faults blobs.new)) result }
-    ensures history { (rest : Option (List ℕ)) × (entries : List Entry) × IsRecorded (AllTell B.Held.bytes) TURNS
+        (world core.new (unread held (T.left stream.new)) (T.taken stream.new) (T.read_faults stream.new) (T.write_faults stream.new) (B.faults blobs.new)) result }
+    ensures history { (held : List ℕ) × (entries : List Entry) × IsRecorded (AllTell B.Held.bytes) TURNS
         (world core.old (T.left stream.old) (T.taken stream.old) (T.read_faults stream.old) (T.write_faults stream.old) (B.faults blobs.old))
-        (world core.new rest (T.taken stream.new) (T.read_faults stream.new) (T.write_faults stream.new) (B.faults blobs.new)) result entries }
+        (world core.new (unread held (T.left stream.new)) (T.taken stream.new) (T.read_faults stream.new) (T.write_faults stream.new) (B.faults blobs.new)) result entries }
     ensures left_behind { IsDrawn core.old.state.yard → LeavesNothing core.old.state.yard core.new.state.yard }
     ensures settings { core.new.settings ≡ core.old.settings }
 {

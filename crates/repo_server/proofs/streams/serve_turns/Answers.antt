@@ -27,7 +27,7 @@ returns-in-Some-clause-serves g c =
     let now = (world c.loop-served.core (unread c.loop-served.wire (g.T.Tells.left c.loop-served.stream)) (g.T.Tells.taken c.loop-served.stream) (g.T.Tells.read_faults c.loop-served.stream) (g.T.Tells.write_faults c.loop-served.stream) (g.B.Blobs.faults c.loop-served.blobs)) in
     let next = (world c.serve_turn.new.core (unread c.serve_turn.new.wire (g.T.Tells.left c.serve_turn.new.stream)) (g.T.Tells.taken c.serve_turn.new.stream) (g.T.Tells.read_faults c.serve_turn.new.stream) (g.T.Tells.write_faults c.serve_turn.new.stream) (g.B.Blobs.faults c.serve_turn.new.blobs)) in
     let turn = subst (λ (settings : Settings). Turn (CoreTurn settings) tells (c.loop-served.served + 1 == 1000) now next (Some c.in-Some.end)) c.loop-served.invariant.0 c.in-Some.ensures.turn in (
-      unread c.serve_turn.new.wire (g.T.Tells.left c.serve_turn.new.stream),
+      c.serve_turn.new.wire,
       c.loop-served.invariant.1 next c.in-Some.end
           (ends_with (CoreTurn c.args.core.now.settings) tells 1000 c.loop-served.served now next c.in-Some.end c.loop-served-test.true turn),
     )
@@ -38,7 +38,7 @@ returns-clause-serves g c =
     let tells = AllTell g.B.Held.Held.bytes in
     let now = (world c.loop-served.core (unread c.loop-served.wire (g.T.Tells.left c.loop-served.stream)) (g.T.Tells.taken c.loop-served.stream) (g.T.Tells.read_faults c.loop-served.stream) (g.T.Tells.write_faults c.loop-served.stream) (g.B.Blobs.faults c.loop-served.blobs)) in
     let none_left : 1000 - c.loop-served.served ≡ 0 = omega arith in (
-      unread c.loop-served.wire (g.T.Tells.left c.loop-served.stream),
+      c.loop-served.wire,
       c.loop-served.invariant.1 now stream.TurnLimit
           (subst (λ (n : ℕ). Serves turns tells n now now stream.TurnLimit) (sym none_left) (ends_here turns tells now)),
     )
