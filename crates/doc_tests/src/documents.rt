@@ -1,8 +1,10 @@
 // Documents made, written, settled and merged.
-use mvn_coords::{Build, Kind, Stamp, kind_of};
+ghost use Rattle.std.specs.Prelude.{IfOk, IsTrue};
+ghost use Rattle.mvn_metadata.specs.Form.{is_entry};
+
+use mvn_coords::{Build, Dir, Kind, Stamp, kind_of};
 use mvn_doc::{
-    Doc, NoMemory, Pair, SnapshotBuild, empty, is_base_version, is_classifier, is_entry,
-    is_extension, is_version, merge, settle, write,
+    Doc, NoMemory, Pair, SnapshotBuild, empty, is_entry, is_version, merge, settle, write,
 };
 use mvn_version::Version;
 use std::alloc::Global;
@@ -14,19 +16,18 @@ pub const ARTIFACT: &str = "org/acme/lib/maven-metadata.xml";
 
 pub const SNAPSHOT: &str = "org/acme/lib/1.1-SNAPSHOT/maven-metadata.xml";
 
-// The document of a path, in which nothing is listed.
-fn nothing(alloc: Global, path: &str) -> Result<Doc, Fail> {
+// The directory whose document has this path.
+pub fn directory(path: &str) -> Result<Dir<'_>, Fail> {
     match kind_of(path) {
-        Ok(Kind::Doc(dir)) => Ok(empty(alloc, &dir)?),
+        Ok(Kind::Doc(dir)) => Ok(dir),
         _ => Err("no document")?,
     }
 }
 
-fn settled(alloc: Global, doc: Doc, path: &str) -> Result<Doc, Fail> {
-    match kind_of(path) {
-        Ok(Kind::Doc(dir)) => Ok(settle(alloc, doc, &dir)?),
-        _ => Err("no document")?,
-    }
+// The document of a path, in which nothing is listed.
+fn nothing(alloc: Global, path: &str) -> Result<Doc, Fail> {
+    let dir = directory(path)?;
+    Ok(empty(alloc, &dir)?)
 }
 
 fn with(rt: &impl Abort, alloc: Global, doc: Doc, version: &str) -> Result<Doc, Fail> {
@@ -63,41 +64,48 @@ fn snapshot_of(alloc: Global, file: File) -> Result<SnapshotBuild, Fail> {
     Ok(SnapshotBuild { base, build })
 }
 
-fn with_file(rt: &impl Abort, alloc: Global, doc: Doc, file: File) -> Result<Doc, Fail> {
+// The entry of a file, which has the form of one.
+fn entry_of(rt: &impl Abort, alloc: Global, file: File) -> Result<(Pair, SnapshotBuild), Fail>
+    ensures { IfOk result (λ e. IsTrue (is_entry (e.0, e.1))) }
+{
     let pair = pair_of(alloc, file)?;
     let snapshot = snapshot_of(alloc, file)?;
     let is_entry = is_entry(alloc, &pair, &snapshot)?;
     assert!(rt; is_entry);
+    Ok((pair, snapshot))
+}
+
+fn with_file(rt: &impl Abort, alloc: Global, doc: Doc, file: File) -> Result<Doc, Fail> {
+    let (pair, snapshot) = entry_of(rt, alloc, file)?;
     Ok(doc.with_build(pair, snapshot)?)
 }
 
-static JAR: File = File {
-    classifier: "",
-    extension: "jar",
-    base: "1.1",
-    stamp: "20240229.235959",
-    number: 1,
-};
+static POM_AND_JAR: [File; 2] = [
+    File {
+        classifier: "",
+        extension: "pom",
+        base: "1.1",
+        stamp: "20240301.080000",
+        number: 2,
+    },
+    File {
+        classifier: "",
+        extension: "jar",
+        base: "1.1",
+        stamp: "20240229.235959",
+        number: 1,
+    },
+];
 
-static POM: File = File {
-    classifier: "",
-    extension: "pom",
-    base: "1.1",
-    stamp: "20240301.080000",
-    number: 2,
-};
-
-// The document, settled for the directory of a path.
+// The document, settled for a directory.
 pub fn expect_settled(
     rt: &impl Abort,
     alloc: Global,
     doc: Doc,
-    path: &str,
+    dir: &Dir<'_>,
     want: &str,
 ) -> Result<(), Fail> {
-    let doc = settled(alloc, doc, path)?;
-    expect(rt, alloc, &doc, want)?;
-    Ok(())
+    expect(rt, alloc, settle(alloc, doc, dir)?, want)
 }
 
 // A document with these versions, added one after another.
@@ -118,8 +126,13 @@ fn of_files(rt: &impl Abort, alloc: Global, files: &[File]) -> Result<Doc, Fail>
     Ok(doc)
 }
 
-pub fn expect(rt: &impl Abort, alloc: Global, doc: &Doc, want: &str) -> Result<(), NoMemory> {
-    assert_eq!(rt; write(alloc, doc)?.as_slice(), want.as_bytes());
+fn written(alloc: Global, doc: Doc) -> Result<Vec<u8>, NoMemory> {
+    write(alloc, &doc)
+}
+
+pub fn expect(rt: &impl Abort, alloc: Global, doc: Doc, want: &str) -> Result<(), Fail> {
+    let text = written(alloc, doc)?;
+    assert_eq!(rt; text.as_slice(), want.as_bytes());
     Ok(())
 }
 
@@ -181,9 +194,8 @@ pub const OF_RELEASES: &str = "<?xml version=\"1.0\" encoding=\"UTF-8\"?>
 
 #[test]
 fn snapshot_is_written(rt: HostRuntime) -> Result<(), Fail> {
-    let doc = of_files(&rt, rt.alloc(), &[POM, JAR])?;
-    expect(&rt, rt.alloc(), &doc, OF_SNAPSHOT)?;
-    Ok(())
+    let doc = of_files(&rt, rt.alloc(), &POM_AND_JAR)?;
+    expect(&rt, rt.alloc(), doc, OF_SNAPSHOT)
 }
 
 #[test]
@@ -191,16 +203,14 @@ fn artifact_is_written(rt: HostRuntime) -> Result<(), Fail> {
     let doc = of_versions(&rt, rt.alloc(), ARTIFACT, &["1.1-SNAPSHOT"])?;
     let doc = doc.with_update(Stamp::from_moment(1_709_208_000));
     let doc = doc.with_update(Stamp::from_moment(1_709_207_999));
-    expect(&rt, rt.alloc(), &doc, OF_ARTIFACT)?;
-    Ok(())
+    expect(&rt, rt.alloc(), doc, OF_ARTIFACT)
 }
 
 // Versions in any order, one of them twice.
 #[test]
 fn releases_are_written(rt: HostRuntime) -> Result<(), Fail> {
     let doc = of_versions(&rt, rt.alloc(), ARTIFACT, &["1.0", "1", "1.0"])?;
-    expect(&rt, rt.alloc(), &doc, OF_RELEASES)?;
-    Ok(())
+    expect(&rt, rt.alloc(), doc, OF_RELEASES)
 }
 
 #[test]
@@ -213,8 +223,7 @@ fn empty_is_written(rt: HostRuntime) -> Result<(), Fail> {
 </metadata>
 ";
     let doc = nothing(rt.alloc(), "org/maven-metadata.xml")?;
-    expect(&rt, rt.alloc(), &doc, want)?;
-    Ok(())
+    expect(&rt, rt.alloc(), doc, want)
 }
 
 const WITH_ANOTHER_VERSION: &str = "<?xml version=\"1.0\" encoding=\"UTF-8\"?>
@@ -301,44 +310,56 @@ static BUILDS: [File; 4] = [
 // A classifier, a later build of a pair, an earlier one, and a file of another version, which settling drops.
 #[test]
 fn newest_build_counts(rt: HostRuntime) -> Result<(), Fail> {
+    let dir = directory(SNAPSHOT)?;
     let doc = of_files(&rt, rt.alloc(), &BUILDS)?;
-    expect(&rt, rt.alloc(), &doc, WITH_ANOTHER_VERSION)?;
-    expect_settled(&rt, rt.alloc(), doc, SNAPSHOT, WITHOUT_IT)
+    expect(&rt, rt.alloc(), doc, WITH_ANOTHER_VERSION)?;
+    let doc = of_files(&rt, rt.alloc(), &BUILDS)?;
+    expect_settled(&rt, rt.alloc(), doc, &dir, WITHOUT_IT)
 }
 
-fn expect_merged(rt: &impl Abort, alloc: Global, docs: &[Doc], want: &str) -> Result<(), NoMemory> {
+fn expect_merged(rt: &impl Abort, alloc: Global, docs: &[Doc], want: &str) -> Result<(), Fail> {
     assert!(rt; !docs.is_empty());
-    let doc = merge(alloc, docs)?;
-    expect(rt, alloc, &doc, want)
+    expect(rt, alloc, merge(alloc, docs)?, want)
 }
 
-// Documents of two artifacts, with a version each, and one of another kind.
-fn documents(rt: &impl Abort, alloc: Global) -> Result<Vec<Doc>, Fail> {
-    let mut docs = Vec::new(alloc);
-    for (path, version) in [(ARTIFACT, "1.0"), ("com/other/maven-metadata.xml", "1")] {
+// Adds a document of each file.
+fn add_each(
+    docs: &mut Vec<Doc>,
+    rt: &impl Abort,
+    alloc: Global,
+    files: &[File],
+) -> Result<(), Fail> {
+    for file in files {
+        docs.push(of_files(rt, alloc, &[*file])?)?;
+    }
+    Ok(())
+}
+
+// Artifacts, with a version each.
+static ARTIFACTS: [(&str, &str); 2] = [(ARTIFACT, "1.0"), ("com/other/maven-metadata.xml", "1")];
+
+// Adds documents of two artifacts, and one of another kind.
+fn add_both_kinds(docs: &mut Vec<Doc>, rt: &impl Abort, alloc: Global) -> Result<(), Fail> {
+    for (path, version) in &ARTIFACTS {
         docs.push(of_versions(rt, alloc, path, &[version])?)?;
     }
-    docs.push(of_files(rt, alloc, &[JAR])?)?;
-    Ok(docs)
+    add_each(docs, rt, alloc, &POM_AND_JAR[1..])
 }
 
 // Versions are united, and a document of another kind adds nothing.
 #[test]
 fn versions_are_merged(rt: HostRuntime) -> Result<(), Fail> {
-    let docs = documents(&rt, rt.alloc())?;
-    expect_merged(&rt, rt.alloc(), docs.as_slice(), OF_RELEASES)?;
-    Ok(())
+    let mut docs = Vec::new(rt.alloc());
+    add_both_kinds(&mut docs, &rt, rt.alloc())?;
+    expect_merged(&rt, rt.alloc(), docs.as_slice(), OF_RELEASES)
 }
 
 // The newest build counts.
 #[test]
 fn builds_are_merged(rt: HostRuntime) -> Result<(), Fail> {
     let mut docs = Vec::new(rt.alloc());
-    for file in [POM, JAR] {
-        docs.push(of_files(&rt, rt.alloc(), &[file])?)?;
-    }
-    expect_merged(&rt, rt.alloc(), docs.as_slice(), OF_SNAPSHOT)?;
-    Ok(())
+    add_each(&mut docs, &rt, rt.alloc(), &POM_AND_JAR)?;
+    expect_merged(&rt, rt.alloc(), docs.as_slice(), OF_SNAPSHOT)
 }
 
 const OF_NOTHING: &str = "<?xml version=\"1.0\" encoding=\"UTF-8\"?>
@@ -353,19 +374,9 @@ const OF_NOTHING: &str = "<?xml version=\"1.0\" encoding=\"UTF-8\"?>
 // A document settled for a directory of the other kind lists nothing.
 #[test]
 fn other_kind_is_dropped(rt: HostRuntime) -> Result<(), Fail> {
+    let snapshot = directory(SNAPSHOT)?;
+    let artifact = directory(ARTIFACT)?;
     let doc = of_versions(&rt, rt.alloc(), ARTIFACT, &["1.0"])?;
-    let doc = settled(rt.alloc(), doc, SNAPSHOT)?;
-    expect_settled(&rt, rt.alloc(), doc, ARTIFACT, OF_NOTHING)
-}
-
-#[test]
-fn values_fit(rt: HostRuntime) {
-    assert!(rt;
-        is_version("1.0") && !is_version("") && !is_version("SNAPSHOT") && !is_version("a/b")
-    );
-    assert!(rt;
-        is_base_version("1-SNAPSHOT") && !is_base_version("1") && !is_base_version("-SNAPSHOT")
-    );
-    assert!(rt; is_classifier("") && is_classifier("sources") && !is_classifier("a.b"));
-    assert!(rt; is_extension("tar.gz") && !is_extension(""));
+    let doc = settle(rt.alloc(), doc, &snapshot)?;
+    expect_settled(&rt, rt.alloc(), doc, &artifact, OF_NOTHING)
 }

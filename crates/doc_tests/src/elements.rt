@@ -15,11 +15,9 @@ fn refused_at(alloc: Global, text: &[u8]) -> Option<usize> {
 /// Adds an element: its name, the digit of its depth, `=`, its text and `;`.
 fn add(list: &mut Vec<u8>, element: &Element<'_>) -> Result<(), AllocError> {
     list.extend_from_slice(element.name)?;
-    list.push(b'0' + (element.depth % 10) as u8)?;
-    list.push(b'=')?;
+    list.extend_from_slice(&[b'0' + (element.depth % 10) as u8, b'='])?;
     list.extend_from_slice(&element.text)?;
-    list.push(b';')?;
-    Ok(())
+    list.extend_from_slice(b";")
 }
 
 /// The elements of the text, each with its name, the digit of its depth, `=`, its text and `;`.
@@ -169,7 +167,7 @@ fn is_listed(alloc: Global, text: &[u8], list: &[u8]) -> Result<bool, Fail> {
 
 #[test]
 fn elements_have_their_texts(rt: HostRuntime) -> Result<(), Fail> {
-    for (text, list) in LISTED {
+    for (text, list) in &LISTED {
         assert!(rt; is_listed(rt.alloc(), text, list)?);
     }
     Ok(())
@@ -200,8 +198,8 @@ static TOO_DEEP: [(usize, &[u8]); 2] = [(32, b""), (31, b"<a/>")];
 
 #[test]
 fn depth_33_is_refused(rt: HostRuntime) -> Result<(), Fail> {
-    for (count, inner) in TOO_DEEP {
-        let text = nested(rt.alloc(), count, inner)?;
+    for (count, inner) in &TOO_DEEP {
+        let text = nested(rt.alloc(), *count, inner)?;
         assert_eq!(rt; refused_at(rt.alloc(), &text), Some(103));
     }
     Ok(())

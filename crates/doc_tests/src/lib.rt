@@ -8,3 +8,5 @@ mod documents;
 mod elements;
 #[cfg(test)]
 mod reading;
+#[cfg(test)]
+mod values;

@@ -1,6 +1,6 @@
 // Documents read.
 use crate::documents::{
-    ARTIFACT, OF_ARTIFACT, OF_RELEASES, OF_SNAPSHOT, SNAPSHOT, expect, expect_settled,
+    ARTIFACT, OF_ARTIFACT, OF_RELEASES, OF_SNAPSHOT, SNAPSHOT, directory, expect, expect_settled,
 };
 use mvn_doc::{DocFault, NoMemory, read};
 use std::alloc::Global;
@@ -17,19 +17,22 @@ fn refused_at(alloc: Global, text: &[u8]) -> Option<usize> {
 
 /// The text is read, and written so.
 fn reads_as(rt: &impl Abort, alloc: Global, text: &[u8], want: &str) -> Result<(), Fail> {
-    let doc = read(alloc, text)?;
-    expect(rt, alloc, &doc, want)?;
-    Ok(())
+    expect(rt, alloc, read(alloc, text)?, want)
+}
+
+/// The parts, one behind another.
+fn joined(alloc: Global, parts: &[&str]) -> Result<String, NoMemory> {
+    let mut text = String::new(alloc);
+    for part in parts {
+        text.push_str(part)?;
+    }
+    Ok(text)
 }
 
 /// A document with this inside its root, read and written: what stands inside the root then.
 fn inside(rt: &impl Abort, alloc: Global, inner: &str, want: &str) -> Result<(), Fail> {
-    let mut text = String::from_str(alloc, "<metadata>")?;
-    text.push_str(inner)?;
-    text.push_str("</metadata>")?;
-    let mut written = String::from_str(alloc, START)?;
-    written.push_str(want)?;
-    written.push_str("</metadata>\n")?;
+    let text = joined(alloc, &["<metadata>", inner, "</metadata>"])?;
+    let written = joined(alloc, &[START, want, "</metadata>\n"])?;
     reads_as(rt, alloc, text.as_bytes(), written.as_str())
 }
 
@@ -63,30 +66,44 @@ static REFUSED: [(&[u8], usize); 12] = [
 
 #[test]
 fn faults_have_their_places(rt: HostRuntime) {
-    for (text, at) in REFUSED {
-        assert_eq!(rt; refused_at(rt.alloc(), text), Some(at));
+    for (text, at) in &REFUSED {
+        assert_eq!(rt; refused_at(rt.alloc(), text), Some(*at));
     }
+}
+
+/// The text so many times.
+fn times(alloc: Global, text: &str, count: usize) -> Result<String, NoMemory> {
+    let mut all = String::new(alloc);
+    for _ in 0..count {
+        all.push_str(text)?;
+    }
+    Ok(all)
 }
 
 /// A root, elements inside one another of this count, and this inside the last.
 fn nested(alloc: Global, count: usize, inner: &str) -> Result<String, NoMemory> {
-    let mut text = String::from_str(alloc, "<metadata>")?;
-    for _ in 0..count {
-        text.push_str("<a>")?;
-    }
-    text.push_str(inner)?;
-    for _ in 0..count {
-        text.push_str("</a>")?;
-    }
-    text.push_str("</metadata>")?;
-    Ok(text)
+    let opened = times(alloc, "<a>", count)?;
+    let closed = times(alloc, "</a>", count)?;
+    joined(
+        alloc,
+        &[
+            "<metadata>",
+            opened.as_str(),
+            inner,
+            closed.as_str(),
+            "</metadata>",
+        ],
+    )
 }
+
+// What stands inside 31 elements, and where it is refused.
+static DEEP: [(&str, Option<usize>); 2] = [("", None), ("<a/>", Some(103))];
 
 #[test]
 fn depth_is_limited(rt: HostRuntime) -> Result<(), Fail> {
-    for (inner, at) in [("", None), ("<a/>", Some(103))] {
+    for (inner, at) in &DEEP {
         let text = nested(rt.alloc(), 31, inner)?;
-        assert_eq!(rt; refused_at(rt.alloc(), text.as_bytes()), at);
+        assert_eq!(rt; refused_at(rt.alloc(), text.as_bytes()), *at);
     }
     Ok(())
 }
@@ -118,9 +135,10 @@ const OF_GROUP_X: &str = "<?xml version=\"1.0\" encoding=\"UTF-8\"?>
 
 #[test]
 fn read_documents_are_settled(rt: HostRuntime) -> Result<(), Fail> {
+    let dir = directory(ARTIFACT)?;
+    reads_as(&rt, rt.alloc(), THREE_VERSIONS, OF_GROUP_X)?;
     let doc = read(rt.alloc(), THREE_VERSIONS)?;
-    expect(&rt, rt.alloc(), &doc, OF_GROUP_X)?;
-    expect_settled(&rt, rt.alloc(), doc, ARTIFACT, OF_RELEASES)
+    expect_settled(&rt, rt.alloc(), doc, &dir, OF_RELEASES)
 }
 
 // What Apache Maven 3.8.7 sends for a snapshot directory: the version stands behind the versioning.
@@ -182,8 +200,9 @@ const AS_WRITTEN: &str = "<?xml version=\"1.0\" encoding=\"UTF-8\"?>
 
 #[test]
 fn documents_of_maven_are_read(rt: HostRuntime) -> Result<(), Fail> {
+    let dir = directory(SNAPSHOT)?;
     let doc = read(rt.alloc(), BY_MAVEN)?;
-    expect_settled(&rt, rt.alloc(), doc, SNAPSHOT, AS_WRITTEN)
+    expect_settled(&rt, rt.alloc(), doc, &dir, AS_WRITTEN)
 }
 
 // A mark, a comment, both quotes, references, an attribute twice, an empty tag, other elements, bytes from 0x80.
@@ -195,10 +214,7 @@ const ODD_WRITTEN: &str = "  <groupId>org.acme</groupId>\n  <artifactId>lib</art
 
 #[test]
 fn texts_may_be_odd(rt: HostRuntime) -> Result<(), Fail> {
-    let mut want = String::from_str(rt.alloc(), START)?;
-    want.push_str(ODD_WRITTEN)?;
-    want.push_str(NOTHING)?;
-    want.push_str("</metadata>\n")?;
+    let want = joined(rt.alloc(), &[START, ODD_WRITTEN, NOTHING, "</metadata>\n"])?;
     reads_as(&rt, rt.alloc(), ODD, want.as_str())
 }
 
@@ -283,10 +299,19 @@ static ENTRIES: [&str; 12] = [
 
 // A snapshot directory's document with this in a `snapshotVersion`, and a snapshot whose number does not fit.
 fn with_entry(alloc: Global, entry: &str) -> Result<String, NoMemory> {
-    let mut text = String::from_str(alloc, BEFORE_ENTRY)?;
-    text.push_str(entry)?;
-    text.push_str("</snapshotVersion></snapshotVersions></versioning>")?;
-    Ok(text)
+    joined(
+        alloc,
+        &[
+            BEFORE_ENTRY,
+            entry,
+            "</snapshotVersion></snapshotVersions></versioning>",
+        ],
+    )
+}
+
+fn is_passed_over(rt: &impl Abort, alloc: Global, entry: &str) -> Result<(), Fail> {
+    let text = with_entry(alloc, entry)?;
+    inside(rt, alloc, text.as_str(), NO_ENTRIES)
 }
 
 const BEFORE_ENTRY: &str =
@@ -294,9 +319,8 @@ const BEFORE_ENTRY: &str =
 
 #[test]
 fn entries_may_not_fit(rt: HostRuntime) -> Result<(), Fail> {
-    for entry in ENTRIES {
-        let text = with_entry(rt.alloc(), entry)?;
-        inside(&rt, rt.alloc(), text.as_str(), NO_ENTRIES)?;
+    for entry in &ENTRIES {
+        is_passed_over(&rt, rt.alloc(), entry)?;
     }
     Ok(())
 }

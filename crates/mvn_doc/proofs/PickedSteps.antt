@@ -1,23 +1,14 @@
 -- One element after another: what the first of them adds to what is picked, and cuts at `-`.
-use Rattle.std.proofs.Common.{◌≡◌, ℕ, zero, suc, ◌+◌, ◌-◌, ◌<◌, ◌≤◌, add-one, true, false, ◌&&◌, ◌==◌, List, [], ◌∷◌, length, take, drop, map, filter, fold, get_or, refl, sym, ap, ◌∙◌, arith, Option, Some, None}
-use Rattle.std.specs.Prelude.{if◌then◌else◌}
+use Rattle.std.proofs.Common.{◌≡◌, ℕ, zero, suc, ◌+◌, ◌-◌, ◌<◌, ◌≤◌, add-one, true, false, ◌&&◌, ◌==◌, List, [], ◌∷◌, length, take, drop, map, filter, fold, get_or, refl, sym, ap, ◌∙◌, arith, Option, Some, None, if◌then◌else◌}
 use Rattle.std.proofs.Math.Seq.{drop-cons, take-length}
 use Rattle.std.proofs.lemmas.List.{drop_more, length-drop}
 use Rattle.mvn_metadata.specs.declared.listing.Listing.{Listing}
-use Rattle.mvn_doc.specs.declared.place.Place.{Place}
 use Rattle.mvn_doc.specs.declared.place.Place.TheVariants.{SnapshotVersion, Version}
 use Rattle.mvn_metadata.specs.Document.{Document, with_build, with_version}
 use Rattle.mvn_metadata.specs.Form.{is_version}
 use Rattle.mvn_metadata.specs.Merge.{Entry}
-use Rattle.mvn_doc.specs.Picked.{cut_onto, entries_in, entry_in, first_at, last_cut, onto, section, versions_in}
+use Rattle.mvn_doc.specs.Picked.{cut_onto, entries_in, entry_in, last_cut, onto, section, versions_in}
 use Rattle.mvn_doc.specs.Place.{Placed, is_at}
-
--- ---- the first element at a place
-pub first_behind : (place : Place) (p : Placed) (ps : List Placed) → is_at p.place place ≡ false → first_at place (p ∷ ps) ≡ first_at place ps
-first_behind place p ps e = rw e refl
-
-pub first_here : (place : Place) (p : Placed) (ps : List Placed) → is_at p.place place ≡ true → first_at place (p ∷ ps) ≡ Some p.text
-first_here place p ps e = rw e refl
 
 -- ---- versions
 pub versions_onto : (l : Listing) (p : Placed) (ps : List Placed)
@@ -76,7 +67,7 @@ other_step d e p ps there made =
     ∙ ap (λ es. record d { listing = fold with_build d.listing es }) (sym (entries_behind p ps there))
 
 -- the elements from a place on: the one there, and the rest
-pub cut_off : (ps : List Placed) (i : ℕ) (p : Placed) → i < length ps → p ≡ get_or ps i p → drop i ps ≡ p ∷ drop (i + 1) ps
+pub cut_off : {A : Type 0} (ps : List A) (i : ℕ) (p : A) → i < length ps → p ≡ get_or ps i p → drop i ps ≡ p ∷ drop (i + 1) ps
 cut_off ps i p l e = drop_more ps i p l ∙ ap (λ q. q ∷ drop (i + 1) ps) (sym e)
 
 pub taken_rest : {A : Type 0} (xs : List A) (n : ℕ) → take (length xs - n) (drop n xs) ≡ drop n xs
@@ -85,9 +76,6 @@ taken_rest xs n = ap (λ k. take k (drop n xs)) (sym (length-drop n xs)) ∙ tak
 -- ---- the last `-`
 pub cut_here : (b : ℕ) (bs : List ℕ) → (b == 45) ≡ true → last_cut bs ≡ None → last_cut (b ∷ bs) ≡ Some ([], bs)
 cut_here b bs e n = rw n (rw e refl)
-
-pub cut_behind : (b : ℕ) (bs : List ℕ) → (b == 45) ≡ false → last_cut bs ≡ None → last_cut (b ∷ bs) ≡ None
-cut_behind b bs e n = rw n (rw e refl)
 
 -- what stands before the place of the last `-` goes on
 pub cut_at : (bs : List ℕ) (i : ℕ) → last_cut (drop i bs) ≡ Some ([], drop (suc i) bs) → i < length bs → last_cut bs ≡ Some (take i bs, drop (suc i) bs)

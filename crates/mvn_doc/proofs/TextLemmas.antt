@@ -1,30 +1,53 @@
 -- A text that is written piece by piece.
-use Rattle.std.proofs.Common.{◌≡◌, ℕ, Bool, true, false, List, [], ◌∷◌, ◌++◌, refl, sym, ap, ◌∙◌, append_assoc}
+use Rattle.std.proofs.Common.{◌≡◌, ℕ, Bool, true, false, List, [], ◌∷◌, ◌++◌, Option, Some, None, refl, sym, ap, ◌∙◌, subst, append_assoc, append-nil}
 use Rattle.std.specs.List.{flat_map}
 use Rattle.mvn_metadata.specs.Merge.{Entry}
-use Rattle.mvn_doc.specs.Written.{block, close_tag, entries_lines, entry_lines, open_tag, version_line, version_lines}
+use Rattle.mvn_doc.specs.Sheet.{Adds, Gains}
+use Rattle.mvn_doc.specs.Written.{block, entries_lines, entry_lines, version_line, version_lines}
 use Rattle.std.specs.Prelude.{codes}
 
-pub flat_map_step : {A : Type 0} (f : A → List ℕ) (out new : List ℕ) (x : A) (left rest : List A) (all : List ℕ) → new ≡ out ++ f x → left ≡ x ∷ rest → out ++ flat_map f left ≡ all → new ++ flat_map f rest ≡ all
-flat_map_step f out new x left rest all made is kept =
-    ap (λ o. o ++ flat_map f rest) made ∙ append_assoc out (f x) (flat_map f rest)
-    ∙ sym (ap (λ l. out ++ flat_map f l) is) ∙ kept
+two_gained : (a b c : Option (List ℕ)) (s t : List ℕ) → Gains a b s → Gains b c t → Gains a c (s ++ t)
+two_gained a b None s t p q = tt
+two_gained None None (Some z) s t p q = absurd q
+two_gained (Some x) None (Some z) s t p q = absurd q
+two_gained None (Some y) (Some z) s t p q = absurd p
+two_gained (Some x) (Some y) (Some z) s t p q = q ∙ ap (λ o. o ++ t) p ∙ append_assoc x s t
+
+none_gained : (a : Option (List ℕ)) → Gains a a []
+none_gained None = tt
+none_gained (Some x) = sym (append-nil x)
 
 -- two pieces, one after another
-pub put_two : (out o1 o2 a b : List ℕ) → o1 ≡ out ++ a → o2 ≡ o1 ++ b → o2 ≡ out ++ (a ++ b)
-put_two out o1 o2 a b p q = q ∙ ap (λ o. o ++ b) p ∙ append_assoc out a b
+pub then : {a b c : Option (List ℕ)} {s t : List ℕ} → Adds a b s → Adds b c t → Adds a c (s ++ t)
+then {a} {b} {c} {s} {t} p q = record { gains = two_gained a b c s t p.gains q.gains }
 
--- lines between two tags
-pub put_block : (margin name lines out o1 o2 o3 : List ℕ) → o1 ≡ out ++ (margin ++ open_tag name ++ 10 ∷ []) → o2 ≡ o1 ++ lines → o3 ≡ o2 ++ (margin ++ close_tag name ++ 10 ∷ []) → o3 ≡ out ++ block margin name lines
-put_block margin name lines out o1 o2 o3 p q r =
-    put_two out o2 o3 _ _ (put_two out o1 o2 _ _ p q) r
+pub nothing : (a : Option (List ℕ)) → Adds a a []
+nothing a = record { gains = none_gained a }
 
-pub put_versions : (vs : List (List ℕ)) (b : Bool) (out o1 o2 o3 : List ℕ) → b ≡ false → (vs ≡ [] → b ≡ true) → o1 ≡ out ++ (codes "    " ++ open_tag (codes "versions") ++ 10 ∷ []) → o2 ≡ o1 ++ flat_map version_line vs → o3 ≡ o2 ++ (codes "    " ++ close_tag (codes "versions") ++ 10 ∷ []) → o3 ≡ out ++ version_lines vs
-put_versions [] b out o1 o2 o3 f t p q r = absurd (let e : true ≡ false = sym (t refl) ∙ f in cc)
-put_versions (v ∷ vs) b out o1 o2 o3 f t p q r =
-    put_block (codes "    ") (codes "versions") (flat_map version_line (v ∷ vs)) out o1 o2 o3 p q r
+-- what stands on a sheet that was empty
+pub from_empty : {all text : List ℕ} → Adds (Some []) (Some all) text → all ≡ text
+from_empty p = p.gains
 
-pub put_entries : (es : List Entry) (b : Bool) (out o1 o2 o3 : List ℕ) → b ≡ false → (es ≡ [] → b ≡ true) → o1 ≡ out ++ (codes "    " ++ open_tag (codes "snapshotVersions") ++ 10 ∷ []) → o2 ≡ o1 ++ flat_map entry_lines es → o3 ≡ o2 ++ (codes "    " ++ close_tag (codes "snapshotVersions") ++ 10 ∷ []) → o3 ≡ out ++ entries_lines es
-put_entries [] b out o1 o2 o3 f t p q r = absurd (let e : true ≡ false = sym (t refl) ∙ f in cc)
-put_entries (e ∷ es) b out o1 o2 o3 f t p q r =
-    put_block (codes "    ") (codes "snapshotVersions") (flat_map entry_lines (e ∷ es)) out o1 o2 o3 p q r
+-- a piece that is the same as another
+pub same : {a b : Option (List ℕ)} {s t : List ℕ} → s ≡ t → Adds a b s → Adds a b t
+same {a} {b} {s} {t} e p = subst (λ u. Adds a b u) e p
+
+-- lines that are left to write, one written
+pub one_more : {A : Type 0} (f : A → List ℕ) (begun out new : Option (List ℕ)) (x : A) (left rest all : List A) → left ≡ x ∷ rest → Adds out new (f x) → ((end : Option (List ℕ)) → Adds out end (flat_map f left) → Adds begun end (flat_map f all)) → (end : Option (List ℕ)) → Adds new end (flat_map f rest) → Adds begun end (flat_map f all)
+one_more f begun out new x left rest all is made left_over end p =
+    left_over end (same (ap (λ l. flat_map f l) (sym is)) (then made p))
+
+pub all_written : {A : Type 0} (f : A → List ℕ) (begun out : Option (List ℕ)) (left all : List A) → left ≡ [] → ((end : Option (List ℕ)) → Adds out end (flat_map f left) → Adds begun end (flat_map f all)) → Adds begun out (flat_map f all)
+all_written f begun out left all is left_over = left_over out (same (ap (λ l. flat_map f l) (sym is)) (nothing out))
+
+pub versions_block : (vs : List (List ℕ)) (b : Bool) {begun end : Option (List ℕ)} → b ≡ false → (vs ≡ [] → b ≡ true) → Adds begun end (block (codes "    ") (codes "versions") (flat_map version_line vs)) → Adds begun end (version_lines vs)
+versions_block [] b f t p = absurd (let e : true ≡ false = sym (t refl) ∙ f in cc)
+versions_block (v ∷ vs) b f t p = p
+
+pub entries_block : (es : List Entry) (b : Bool) {begun end : Option (List ℕ)} → b ≡ false → (es ≡ [] → b ≡ true) → Adds begun end (block (codes "    ") (codes "snapshotVersions") (flat_map entry_lines es)) → Adds begun end (entries_lines es)
+entries_block [] b f t p = absurd (let e : true ≡ false = sym (t refl) ∙ f in cc)
+entries_block (e ∷ es) b f t p = p
+
+-- a piece, and another that ends a line
+pub line_end : {a b c : Option (List ℕ)} {s : List ℕ} (t u : List ℕ) → Adds a b s → Adds b c (t ++ u) → Adds a c (s ++ t ++ u)
+line_end {a} {b} {c} {s} t u p q = same (sym (append_assoc s t u)) (then p q)

@@ -6,6 +6,7 @@ pub mod laws;
 mod picked;
 mod place;
 mod reading;
+mod sheet;
 mod sizes;
 mod value;
 mod writing;

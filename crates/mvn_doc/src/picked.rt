@@ -24,7 +24,7 @@ fn first_at<'a>(placed: &[Placed<'a>], place: Place) -> Option<&'a [u8]>
 fn group(alloc: Global, placed: &[Placed<'_>]) -> Result<Option<Bytes>, NoMemory>
     ensures { IfOk result (λ g. g ≡ spec.group_in placed.now) }
 {
-    match first_at(placed, Place::GroupId).and_then(|text| value::group(text)) {
+    match first_at(placed, Place::GroupId).and_then(value::group) {
         Some(group) => Ok(Some(Bytes::new(alloc, group)?)),
         None => Ok(None),
     }
@@ -33,7 +33,7 @@ fn group(alloc: Global, placed: &[Placed<'_>]) -> Result<Option<Bytes>, NoMemory
 fn artifact(alloc: Global, placed: &[Placed<'_>]) -> Result<Option<Text>, NoMemory>
     ensures { IfOk result (λ a. a ≡ spec.artifact_in placed.now) }
 {
-    match first_at(placed, Place::ArtifactId).and_then(|text| value::artifact(text)) {
+    match first_at(placed, Place::ArtifactId).and_then(value::artifact) {
         Some(artifact) => Ok(Some(Text::new(alloc, artifact)?)),
         None => Ok(None),
     }
@@ -42,27 +42,24 @@ fn artifact(alloc: Global, placed: &[Placed<'_>]) -> Result<Option<Text>, NoMemo
 fn base(alloc: Global, placed: &[Placed<'_>]) -> Result<Option<Text>, NoMemory>
     ensures { IfOk result (λ b. b ≡ spec.base_in placed.now) }
 {
-    match first_at(placed, Place::BaseVersion).and_then(|text| value::base_version(text)) {
+    match first_at(placed, Place::BaseVersion).and_then(value::base_version) {
         Some(base) => Ok(Some(Text::new(alloc, base)?)),
         None => Ok(None),
     }
 }
 
-fn moment(alloc: Global, placed: &[Placed<'_>]) -> Result<Option<Stamp>, NoMemory>
-    ensures { IfOk result (λ t. t ≡ spec.moment_in placed.now) }
+fn moment(placed: &[Placed<'_>]) -> Option<Stamp>
+    ensures { result ≡ spec.moment_in placed.now }
 {
-    match first_at(placed, Place::LastUpdated) {
-        Some(text) => value::moment(alloc, text),
-        None => Ok(None),
-    }
+    value::moment(first_at(placed, Place::LastUpdated)?)
 }
 
 /// The build that `snapshot` names.
 fn build(placed: &[Placed<'_>]) -> Option<Build>
     ensures { result ≡ spec.build_in placed.now }
 {
-    let stamp = first_at(placed, Place::Timestamp).and_then(|text| value::timestamp(text));
-    let number = first_at(placed, Place::BuildNumber).and_then(|text| value::number(text));
+    let stamp = first_at(placed, Place::Timestamp).and_then(value::timestamp);
+    let number = first_at(placed, Place::BuildNumber).and_then(value::number);
     value::build(stamp, number)
 }
 
@@ -107,7 +104,7 @@ fn entry(alloc: Global, placed: &[Placed<'_>]) -> Result<Option<(Pair, SnapshotB
     ensures { IfOk result (λ e. e ≡ spec.entry_in placed.now) }
 {
     let classifier = value::classifier(first_at(placed, Place::Classifier).unwrap_or(b""));
-    let extension = first_at(placed, Place::Extension).and_then(|text| value::extension(text));
+    let extension = first_at(placed, Place::Extension).and_then(value::extension);
     let (Some(classifier), Some(extension)) = (classifier, extension) else {
         return Ok(None);
     };
@@ -172,7 +169,7 @@ pub(crate) fn document(alloc: Global, placed: &[Placed<'_>]) -> Result<Doc, NoMe
             with_entries(alloc, Doc::new(group, artifact, listing), placed)
         }
         None => {
-            let listing = Listing::Artifact(Versions::new(alloc), moment(alloc, placed)?);
+            let listing = Listing::Artifact(Versions::new(alloc), moment(placed));
             with_versions(alloc, Doc::new(group, artifact, listing), placed)
         }
     }

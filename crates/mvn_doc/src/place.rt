@@ -1,6 +1,6 @@
 //! Where an element stands in a document.
-ghost use Rattle.std.specs.Prelude.{◌≡◌, ◌-◌, ◌++◌, ◌∷◌, IfOk, OnOk, [], map, take, bytes_eq};
-ghost use Rattle.xml_subset.specs.Element.{shown};
+ghost use Rattle.std.specs.Prelude.{◌≡◌, ◌-◌, ◌++◌, ◌∷◌, IfOk, OnOk, [], map, take, bytes_eq, List};
+ghost use Rattle.xml_subset.specs.Element.{Element as ShownElement, shown};
 ghost use Rattle.mvn_doc.specs.Place as spec;
 
 use mvn_metadata::NoMemory;
@@ -168,6 +168,23 @@ fn enter(opened: &mut Vec<Place>, depth: usize, name: &[u8]) -> Result<Place, No
     Ok(place)
 }
 
+/// Places one more element behind those that are placed.
+fn add_placed<'a>(
+    placed: &mut Vec<Placed<'a>>,
+    opened: &mut Vec<Place>,
+    element: &'a Element<'a>,
+) -> Result<(), NoMemory>
+    ensures { OnOk result ((es : List ShownElement) → placed.new.items ++ spec.placed opened.new.items es
+        ≡ placed.old.items ++ spec.placed opened.old.items (shown element.now ∷ es)) }
+{
+    let place = enter(opened, element.depth, element.name)?;
+    placed.push(Placed {
+        place,
+        text: element.text.as_slice(),
+    })?;
+    Ok(())
+}
+
 /// Elements in document order with their places.
 pub(crate) fn with_places<'a>(
     alloc: Global,
@@ -178,11 +195,7 @@ pub(crate) fn with_places<'a>(
     let mut placed = Vec::new(alloc);
     let mut opened = Vec::new(alloc);
     for element in elements {
-        let place = enter(&mut opened, element.depth, element.name)?;
-        placed.push(Placed {
-            place,
-            text: element.text.as_slice(),
-        })?;
+        add_placed(&mut placed, &mut opened, element)?;
     }
     Ok(placed)
 }

@@ -118,17 +118,16 @@ pub(crate) fn number(bytes: &[u8]) -> Option<u32>
 }
 
 /// The civil time that 14 digits write.
-pub(crate) fn moment(alloc: Global, bytes: &[u8]) -> Result<Option<Stamp>, NoMemory>
-    ensures { IfOk result (λ t. t ≡ picked.moment_of bytes.now) }
+pub(crate) fn moment(bytes: &[u8]) -> Option<Stamp>
+    ensures { result ≡ picked.moment_of bytes.now }
 {
     if bytes.len() != 14 {
-        return Ok(None);
+        return None;
     }
-    let mut text = Vec::with_capacity(alloc, 15)?;
-    text.extend_from_slice(&bytes[..8])?;
-    text.push(b'.')?;
-    text.extend_from_slice(&bytes[8..])?;
-    Ok(timestamp(text.as_slice()))
+    let mut text = [b'.'; 15];
+    text[..8].copy_from_slice(&bytes[..8]);
+    text[9..].copy_from_slice(&bytes[8..]);
+    timestamp(&text)
 }
 
 /// The build with this stamp and number, where both are there.

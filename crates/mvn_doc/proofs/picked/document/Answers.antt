@@ -9,5 +9,5 @@ new-requires-in-Some c =
 
 pub new-requires-in-None-2 : goal.new-requires-in-None-2
 new-requires-in-None-2 c =
-    artifact_form c.args.placed.now c.in_ok-group.group c.in_ok-artifact.artifact c.new-in-None.result c.in_ok-moment-in-None.field-0
-    c.in_ok-group.ensures c.in_ok-artifact.ensures c.new-in-None.ensures c.in_ok-moment-in-None.ensures
+    artifact_form c.args.placed.now c.in_ok-group.group c.in_ok-artifact.artifact c.new-in-None.result c.moment.result
+    c.in_ok-group.ensures c.in_ok-artifact.ensures c.new-in-None.ensures c.moment.ensures

@@ -1,14 +1,31 @@
-use Rattle.std.proofs.Common.{◌≡◌, ◌∷◌, ◌++◌, [], take, drop, ap, append_assoc, ◌∙◌}
+use Rattle.std.proofs.Common.{◌≡◌, ℕ, zero, suc, List, [], ◌∷◌, ◌++◌, length, take, drop, refl, ap, append_assoc, append-nil, ◌∙◌, arith}
 use Rattle.mvn_coords.specs.Civil.{time_of}
 use Rattle.mvn_doc.proofs.PickedSteps.{taken_rest}
 use Rattle.mvn_doc.proofs.value.moment.Goals as goal
 
+-- the front of a text up to its dot, and what lies behind the dot
+to_dot : (n : ℕ) (date dots : List ℕ) → length date ≡ n → take (suc n) (date ++ 46 ∷ dots) ≡ date ++ 46 ∷ []
+to_dot zero [] dots h = refl
+to_dot zero (x ∷ date) dots h = absurd (omega arith)
+to_dot (suc n) [] dots h = absurd (omega arith)
+to_dot (suc n) (x ∷ date) dots h = ap (λ t. x ∷ t) (to_dot n date dots (omega arith))
+
+behind_dot : (n : ℕ) (date dots : List ℕ) → length date ≡ n → drop (suc n) (date ++ 46 ∷ dots) ≡ dots
+behind_dot zero [] dots h = refl
+behind_dot zero (x ∷ date) dots h = absurd (omega arith)
+behind_dot (suc n) [] dots h = absurd (omega arith)
+behind_dot (suc n) (x ∷ date) dots h = behind_dot n date dots (omega arith)
+
+dotted : (date time dots : List ℕ) → length date ≡ 8 → drop 6 dots ≡ [] → take 9 (date ++ 46 ∷ dots) ++ (time ++ drop 6 (drop 9 (date ++ 46 ∷ dots))) ≡ date ++ 46 ∷ time
+dotted date time dots h e =
+    let front = to_dot 8 date dots h in
+    let end = ap (drop 6) (behind_dot 8 date dots h) ∙ e in
+    (λ i. front i ++ (time ++ end i)) ∙ append_assoc date (46 ∷ []) (time ++ []) ∙ ap (λ t. date ++ 46 ∷ t) (append-nil time)
+
 pub returns : goal.returns
 returns c =
-    let bytes = c.args.bytes.now in
-    let end = taken_rest bytes 8 in
-    let first : c.extend_from_slice.new.self.items ≡ take 8 bytes = c.in_ok-extend_from_slice.ensures.items ∙ ap (λ t. t ++ take 8 bytes) c.in_ok-text.ensures.items in
-    let second : c.push.new.self.items ≡ take 8 bytes ++ 46 ∷ [] = c.in_ok-push.ensures.items ∙ ap (λ t. t ++ 46 ∷ []) first in
-    let whole : c.extend_from_slice-2.new.self.items ≡ take 8 bytes ++ 46 ∷ drop 8 bytes =
-    c.in_ok-extend_from_slice-2.ensures.items ∙ (λ i. second i ++ end i) ∙ append_assoc (take 8 bytes) (46 ∷ []) (drop 8 bytes) in
-    c.timestamp.ensures ∙ ap time_of (c.as_slice.ensures.value ∙ whole)
+    let date = c.copy_from_slice.new.self in
+    let time = c.copy_from_slice-2.new.self in
+    let whole = dotted date time (46 ∷ 46 ∷ 46 ∷ 46 ∷ 46 ∷ 46 ∷ []) c.copy_from_slice.ensures.len refl in
+    let back = c.copy_from_slice-2.ensures.after ∙ taken_rest c.args.bytes.now 8 in
+    c.timestamp.ensures ∙ ap time_of (whole ∙ (λ i. c.copy_from_slice.ensures.after i ++ 46 ∷ back i))
