@@ -1,6 +1,6 @@
 -- How a search for a head goes on, byte by byte.
 use Rattle.std.proofs.Common.{◌≡◌, ◌≢◌, ℕ, ◌+◌, ◌-◌, ◌<◌, ◌≤◌, ◌⊎◌, inl, inr, Option, rules, List, [], ◌∷◌, ◌++◌, length, take, get_or, slice_range, Some, None, refl, sym, ap, ◌∙◌, arith, append_assoc, length-append, get_or-take, get_or-drop}
-use Rattle.std.proofs.lemmas.List.{take_all, take_more, take-append-le, get_or_append_left}
+use Rattle.std.proofs.lemmas.List.{take-append-le, take_all, take_more}
 use Rattle.std.proofs.lemmas.List.Elements.{All-from_get_or, recursion_from_All}
 use Rattle.httparse.proofs.RunLemmas.{length-slice_range}
 use Rattle.http_wire.specs.Front.{head_place}
@@ -102,16 +102,6 @@ none_open {bytes} {start} {line} {at} h all =
     ap head_place (sym whole) ∙ h.lines (slice_range bytes line at)
     ∙ place_from_end (slice_range bytes line at) start line (line_has_none h)
 
--- the same search over more bytes
-pub IsOpen-append : {bytes : List ℕ} {start line at : ℕ} (more : List ℕ) → IsOpen bytes start line at → IsOpen (bytes ++ more) start line at
-IsOpen-append {bytes} {start} {line} {at} more h = record {
-  started = h.started;
-  lined = h.lined;
-  within = omega (arith, h.within, length-append bytes more);
-  lines = λ following. rw (take-append-le line bytes more (omega (arith, h.lined, h.within))) (h.lines following);
-  unended = λ k low high. rw (get_or_append_left bytes more 0 k (omega (arith, h.within))) (h.unended k low high);
-}
-
 -- before anything was looked at
 pub open_start : (bytes : List ℕ) → IsOpen bytes 0 0 0
 unfolding place_from
@@ -126,3 +116,19 @@ open_start bytes = record {
     id : (o : Option (ℕ × ℕ)) → o ≡ moved 0 o
     id None = refl
     id (Some p) = ap Some (pair p.0 p.1 (0 + p.0) (0 + p.1) (omega arith) (omega arith))
+
+-- more bytes behind those that were looked at
+pub open_more : {bytes : List ℕ} {start line at : ℕ} → IsOpen bytes start line at → (more : List ℕ) → IsOpen (bytes ++ more) start line at
+open_more {bytes} {start} {line} {at} h more = record {
+  started = h.started;
+  lined = h.lined;
+  within = omega (arith, length-append bytes more, h.within);
+  lines = λ following. ap (λ (l : List ℕ). head_place (l ++ following)) (take-append-le line bytes more (omega (arith, h.lined, h.within))) ∙ h.lines following;
+  unended = λ k low high is. h.unended k low high (sym (same k high) ∙ is);
+}
+  where
+    same : (k : ℕ) → k < at → get_or (bytes ++ more) k 0 ≡ get_or bytes k 0
+    same k high =
+        sym (get_or-take at (bytes ++ more) k 0 high)
+        ∙ ap (λ (l : List ℕ). get_or l k 0) (take-append-le at bytes more h.within)
+        ∙ get_or-take at bytes k 0 high

@@ -1,19 +1,20 @@
 -- Parts of a buffer, and what a stream begins with by what a wire holds of it.
 use Rattle.std.proofs.Common.{◌≡◌, ℕ, ◌+◌, ◌-◌, ◌≤◌, ◌<◌, ◌⊎◌, inl, inr, min, List, ◌++◌, length, take, drop, slice_range, [], Option, Some, None, Ok, Err, true, false, refl, sym, ap, ◌∙◌, subst, arith, append-nil, append_assoc, length-drop}
-use Rattle.std.proofs.lemmas.List.{drop-drop, drop-take, drop_all, take-append-drop, take_all, take_at}
+use Rattle.std.proofs.lemmas.List.{drop-drop, drop-take, drop_all, take-append-drop, take-take, take_all, take_at}
 use Rattle.std.proofs.lemmas.Bool.{cases_lt}
-use Rattle.std.specs.Option.{option_map}
 use Rattle.std.specs.List.{list_all}
+use Rattle.std.specs.Option.{option_map}
 use Rattle.httparse.proofs.RunLemmas.{length-slice_range}
 use Rattle.outside.specs.Told.{IsAtEnd, in_front}
 use Rattle.http_wire.specs.Front.{Clean, Cut, Front, Whole, front, is_line_byte, judged, unfinished}
 use Rattle.http_wire.specs.Head.{Head}
+use Rattle.http_wire.specs.Held.{Grows}
 use Rattle.http_wire.specs.Parsed.{IsJudged, IsTaken}
 use Rattle.http_wire.specs.Search.{IsHeadAt}
 use Rattle.http_wire.specs.declared.faults.HeadFault.{HeadFault}
 use Rattle.http_wire.proofs.FrontLemmas.{front_found}
 use Rattle.http_wire.proofs.ParsedLemmas.{judged_spelled}
-use Rattle.http_wire.specs.Stream.{BeginsWith, BeginsWithHead, unread}
+use Rattle.http_wire.specs.Stream.{BeginsWith, unread}
 
 -- a slice from which the first n are dropped
 pub slice_range-add : (buffer : List ℕ) (start end n : ℕ) → start + n ≤ end
@@ -37,17 +38,24 @@ take-moved buffer moved start end ordered within is =
     ap (λ (l : List ℕ). take (end - start) l) split
     ∙ take_at (slice_range buffer start end) behind (end - start) (length-slice_range buffer start end ordered within)
 
--- ---- a stream that tells its bytes
+-- what was read behind the bytes at the front
+pub grown : (buffer held : List ℕ) (kept count : ℕ) (left left_after : Option (List ℕ)) → take kept buffer ≡ held
+    → kept + count ≤ length buffer → left ≡ in_front (slice_range buffer kept (kept + count)) left_after
+    → Grows held left (slice_range buffer 0 (kept + count)) left_after count
+grown buffer held kept count left left_after front_kept fits from =
+    let size : (kept + count) - kept ≡ count = omega arith in
+    let all : (kept + count) - 0 ≡ kept + count = omega arith in
+    let front_of = take (kept + count) buffer in (
+      slice_range buffer kept (kept + count),
+      length-slice_range buffer kept (kept + count) (omega arith) fits ∙ size,
+      ap (λ (n : ℕ). take n buffer) all
+          ∙ sym (take-append-drop kept front_of)
+          ∙ ap (λ (l : List ℕ). l ++ drop kept front_of) (take-take kept (kept + count) buffer (omega arith) ∙ front_kept)
+          ∙ ap (λ (l : List ℕ). held ++ l) (drop-take kept count buffer ∙ ap (λ (n : ℕ). take n (drop kept buffer)) (sym size)),
+      from,
+    )
 
--- a head was taken off what is held
-pub told_whole : (held held_after : List ℕ) (left before : Option (List ℕ)) (head : Head) → unread held left ≡ before
-    → ((more : List ℕ) → front (held ++ more) ≡ Whole head (held_after ++ more))
-    → option_map front before ≡ option_map (λ rest. Whole head rest) (unread held_after left)
-told_whole held held_after left before head kept is = ap (option_map front) (sym kept) ∙ by_left left
-  where
-    by_left : (o : Option (List ℕ)) → option_map front (unread held o) ≡ option_map (λ rest. Whole head rest) (unread held_after o)
-    by_left None = refl
-    by_left (Some more) = ap Some (is more)
+-- ---- a stream that tells its bytes
 
 -- what is held decides what the stream begins with
 pub told_front : (held : List ℕ) (left before : Option (List ℕ)) (what : Front) → unread held left ≡ before
@@ -58,13 +66,15 @@ told_front held left before what kept is = subst (λ (o : Option (List ℕ)). Be
     by_left None = tt
     by_left (Some more) = is more
 
-pub told_head : (held : List ℕ) (left before : Option (List ℕ)) → unread held left ≡ before
-    → ((more : List ℕ) → (head : Head) × (rest : List ℕ) × (front (held ++ more) ≡ Whole head rest)) → BeginsWithHead before
-told_head held left before kept is = subst BeginsWithHead kept (by_left left)
+-- a head is taken off
+pub told_whole : (held held_after : List ℕ) (left before : Option (List ℕ)) (head : Head) → unread held left ≡ before
+    → ((more : List ℕ) → front (held ++ more) ≡ Whole head (held_after ++ more))
+    → option_map front before ≡ option_map (λ rest. Whole head rest) (unread held_after left)
+told_whole held held_after left before head kept is = ap (option_map front) (sym kept) ∙ by_left left
   where
-    by_left : (o : Option (List ℕ)) → BeginsWithHead (unread held o)
-    by_left None = tt
-    by_left (Some more) = is more
+    by_left : (o : Option (List ℕ)) → option_map front (unread held o) ≡ option_map (λ rest. Whole head rest) (unread held_after o)
+    by_left None = refl
+    by_left (Some more) = ap Some (is more)
 
 -- the source is at its end
 pub told_end : (held : List ℕ) (left before : Option (List ℕ)) (what : Front) → unread held left ≡ before

@@ -16,6 +16,16 @@ use httparse::spans::{EMPTY_HEADER_SPAN, HeaderSpan, parse_request};
 use std::alloc::{AllocError, Global};
 use texts::{Bytes, Text};
 
+/// The field that the span covers.
+fn field_at(alloc: Global, bytes: &[u8], span: &HeaderSpan) -> Result<Field, AllocError>
+    requires { IsHeaderWithin (length bytes.now) span.now }
+    ensures { IfOk result (λ field. field ≡ field_at bytes.now span.now) }
+{
+    let name = Bytes::new(alloc, span.name.of(bytes))?;
+    let value = Bytes::new(alloc, span.value.of(bytes))?;
+    Ok(Field { name, value })
+}
+
 /// The fields that the spans cover.
 fn fields_at(alloc: Global, bytes: &[u8], spans: &[HeaderSpan]) -> Result<Vec<Field>, AllocError>
     requires { All (IsHeaderWithin (length bytes.now)) spans.now }
@@ -23,9 +33,7 @@ fn fields_at(alloc: Global, bytes: &[u8], spans: &[HeaderSpan]) -> Result<Vec<Fi
 {
     let mut fields = Vec::with_capacity(alloc, spans.len())?;
     for span in spans {
-        let name = Bytes::new(alloc, span.name.of(bytes))?;
-        let value = Bytes::new(alloc, span.value.of(bytes))?;
-        fields.push(Field { name, value })?;
+        fields.push(field_at(alloc, bytes, span)?)?;
     }
     Ok(fields)
 }

@@ -78,7 +78,8 @@ fn copy_front(body: &mut [u8], held: &[u8]) -> usize
     count
 }
 
-/// Reads from the source until `body` is full, or to the source's end. The first `held` bytes stay.
+/// Reads from the source until `body` is full, or to the source's end. The first `held` bytes stay. Where they are
+/// the whole body the source isn't read.
 fn read_rest<S: Source>(source: &mut S, body: &mut [u8], held: usize) -> Result<usize, Failed>
     requires { held ≤ length body.old }
     ensures cause { HasCause (S.read_faults source.old) (S.read_faults source.new) result }
@@ -89,9 +90,13 @@ fn read_rest<S: Source>(source: &mut S, body: &mut [u8], held: usize) -> Result<
     ensures end { IfOk result (λ n. held + n < length body.new → IsAtEnd (S.left source.new)) }
     ensures failed { OnErr result ((gone : List ℕ) × (held + length gone < length body.new)
         × (S.left source.old ≡ in_front gone (S.left source.new))) }
+    ensures unasked { held ≡ length body.old → source.new ≡ source.old }
     ensures taken { S.taken source.new ≡ S.taken source.old }
     ensures write_faults { S.write_faults source.new ≡ S.write_faults source.old }
 {
+    if held == body.len() {
+        return Ok(0);
+    }
     read_full(source, &mut body[held..])
 }
 
@@ -297,9 +302,6 @@ impl Wire {
         let mut body = vec![in alloc; 0; count as usize]?;
         let held = copy_front(&mut body, self.held());
         self.use_up(held);
-        if held == body.len() {
-            return Ok(body);
-        }
         let given = read_rest(source, &mut body, held)?;
         if held + given < body.len() {
             return Err(WireFault::Torn);

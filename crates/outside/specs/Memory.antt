@@ -1,4 +1,4 @@
--- The states of the outside in memory.
+-- The states of the forms in memory, and of a source over a reader or a sink over a writer.
 use Rattle.std.specs.Prelude.{ℕ, List, Option}
 use Rattle.outside.specs.Script.{Script}
 

@@ -1,31 +1,16 @@
-use Rattle.std.proofs.Common.{◌≡◌, ◌∙◌, ℕ, ◌+◌, ◌<◌, ◌≤◌, List, [], ◌++◌, length, min, take, drop, refl, ap, sym, rules, arith, length-append}
+use Rattle.std.proofs.Common.{◌≡◌, ◌∙◌, ℕ, ◌+◌, ◌<◌, ◌≤◌, List, ◌++◌, length, min, take, drop, refl, ap, sym, rules, arith, length-append}
 use Rattle.std.proofs.lemmas.List.{drop_all, take_at}
 use Rattle.outside.specs.Told.{in_front}
 use Rattle.http_wire.specs.Stream.{unread}
-use Rattle.http_wire.proofs.WireLemmas.{body_given, body_gone, in_front-none, slice_range-rest}
+use Rattle.http_wire.proofs.WireLemmas.{body_given, body_gone, slice_range-rest}
 use Rattle.http_wire.proofs.wires.Wire.body.Goals as goal
-
-pub returns-then-held-len-clause-given : goal.returns-then-held-len-clause-given
-returns-then-held-len-clause-given g c =
-    let left = g.S.Tells.left c.args.source.now in
-    let copied = c.copy_front-held.new.body in
-    let behind = drop (length copied) c.in_ok-body.body.items in
-    let room : length copied ≡ c.in_ok-body.body.len = search rules in
-    let whole : length copied ≤ c.copy_front-held.result = search rules in
-    body_given c.args.self.now copied [] c.copy_front-held.result left left
-    (search rules)
-    (c.copy_front-held.ensures.copied ∙ ap (λ (l : List ℕ). take c.copy_front-held.result l) c.held.ensures.value)
-    (drop_all c.copy_front-held.result copied whole)
-    (in_front-none left)
-    ∙ ap (λ (l : List ℕ). in_front l (unread (drop c.copy_front-held.result c.args.self.now) left)) (sym (take_at copied behind c.in_ok-body.body.len room))
-    ∙ ap (λ (l : List ℕ). in_front (take c.in_ok-body.body.len (copied ++ behind)) (unread l left)) (sym c.use_up.ensures)
 
 pub returns-in_err-given-clause-fault_rest : goal.returns-in_err-given-clause-fault_rest
 returns-in_err-given-clause-fault_rest g c = λ e.
     let gone = c.in_err-given.ensures.failed in
     let count = c.copy_front-held.result in
-    let all : length c.args.self.now ≤ count = search rules in
     let room : length c.read_rest.new.body ≡ c.in_ok-body.body.len = search rules in
+    let all : length c.args.self.now ≤ count = omega (arith, c.copy_front-held.ensures.count, gone.1, ap (λ (l : List ℕ). length l) c.held.ensures.value, room) in
     let size : c.in_ok-body.body.len ≡ c.args.count = search rules in
     let bound : length (c.args.self.now ++ gone.0) < c.args.count = omega (arith, length-append c.args.self.now gone.0, gone.1, room, size, all) in (
       c.args.self.now ++ gone.0,

@@ -2,9 +2,20 @@ use Rattle.std.proofs.Common.{◌≡◌, ◌∙◌, ap, sym, subst}
 use Rattle.http_wire.specs.declared.faults.HeadFault.TheVariants.{TooLong}
 use Rattle.http_wire.specs.Front.{Bad, Clean, Cut}
 use Rattle.http_wire.specs.Held.{IsHeld}
+use Rattle.http_wire.specs.Parsed.{IsTaken}
 use Rattle.http_wire.proofs.FrontLemmas.{front_end, front_full}
-use Rattle.http_wire.proofs.WireLemmas.{told_end, told_front, unfinished_clean, unfinished_cut}
+use Rattle.http_wire.proofs.WireLemmas.{told_end, told_front, told_whole, unfinished_clean, unfinished_cut}
 use Rattle.http_wire.proofs.wires.Wire.next_request.Goals as goal
+
+pub returns-in-Ok-clause-request : goal.returns-in-Ok-clause-request
+returns-in-Ok-clause-request g c =
+    let t = g.S.Tells in
+    let taken = subst (IsTaken c.find_head.new.self c.take_head.new.self) c.in-Ok.is c.in_ok-request-in-Head.ensures.taken in
+    told_whole c.find_head.new.self c.take_head.new.self (t.left c.find_head.new.source) _ c.in-Ok.request c.in_ok-start.ensures.unread taken.0
+
+pub returns-in-Ok-clause-spelled : goal.returns-in-Ok-clause-spelled
+returns-in-Ok-clause-spelled g c =
+    (subst (IsTaken c.find_head.new.self c.take_head.new.self) c.in-Ok.is c.in_ok-request-in-Head.ensures.taken).1
 
 pub returns-in-Full-clause-refused : goal.returns-in-Full-clause-refused
 returns-in-Full-clause-refused g c = λ fault e.
