@@ -2,7 +2,7 @@
 use Rattle.std.proofs.Common.{◌≡◌, ℕ, zero, suc, ◌+◌, ◌-◌, ◌*◌, ◌/◌, ◌%◌, ◌^◌, ◌<◌, ◌≤◌, true, leb, List, [], ◌∷◌, ◌++◌, length, get_or, take, drop, fold, refl, ap, sym, ◌∙◌, arith, add-one}
 use Rattle.std.specs.Char.{is_ascii_digit}
 use Rattle.std.proofs.lemmas.Bool.{and_parts, leb-true}
-use Rattle.std.proofs.lemmas.List.{take_more, length_push, take-append-drop}
+use Rattle.std.proofs.lemmas.List.{length_push, take-append-drop}
 use Rattle.std.proofs.lemmas.List.Folds.{list_all-append}
 use Rattle.std.proofs.Math.Nat.{pow-suc, mul-le-mul_right, mul-one}
 use Rattle.std.proofs.lemmas.List.Sums.{fold_push}
@@ -19,9 +19,6 @@ digit_at (d ∷ ds) (suc i) h l = digit_at ds i (and_parts (is_ascii_digit d) (a
 
 pub decimal_push : (ds : List ℕ) (d : ℕ) → decimal (ds ++ d ∷ []) ≡ decimal ds * 10 + (d - 48)
 decimal_push ds d = fold_push (λ x d. x * 10 + (d - 48)) 0 ds d
-
-pub decimal_more : (ds : List ℕ) (i : ℕ) → i < length ds → decimal (take (i + 1) ds) ≡ decimal (take i ds) * 10 + (get_or ds i 0 - 48)
-decimal_more ds i l = ap decimal (take_more ds i 0 l) ∙ decimal_push (take i ds) (get_or ds i 0)
 
 are_digits-append : (xs ys : List ℕ) → are_digits (xs ++ ys) ≡ true → (are_digits xs ≡ true) × (are_digits ys ≡ true)
 are_digits-append xs ys h = and_parts (are_digits xs) (are_digits ys) (sym (list_all-append is_ascii_digit xs ys) ∙ h)

@@ -1,9 +1,9 @@
 -- Civil times by the words of the calendar.
 use Rattle.std.proofs.Common.{◌≡◌, ℕ, ◌*◌, ◌<◌, ◌≤◌, true, ◌&&◌, nat_le, refl, sym, ◌∙◌, arith, ℤ, pos, negsuc, ◌+ℤ◌, ◌*ℤ◌, ◌≤ℤ◌, ◌<ℤ◌, unsigned_abs}
-use Rattle.std.proofs.lemmas.Bool.{and_parts, and_from, leb-true, le-leb}
+use Rattle.std.proofs.lemmas.Bool.{and_parts, leb-true}
 use Rattle.std.proofs.lemmas.Int.{ints}
-use Rattle.jiff_core.specs.Calendar.{IsDate, day_count, days_in_month}
-use Rattle.jiff_core.specs.Time.{IsTime, time_seconds}
+use Rattle.jiff_core.specs.Calendar.{day_count, days_in_month}
+use Rattle.jiff_core.specs.Time.{time_seconds}
 use Rattle.jiff_core.specs.Date.{epoch_day}
 use Rattle.jiff_core.specs.DateTime.{civil_nanos, civil_seconds}
 use Rattle.jiff_core.specs.declared.civil.datetime.DateTime.{DateTime}
@@ -16,13 +16,6 @@ use Rattle.mvn_coords.specs.Civil.{CivilTime, is_civil, seconds_of, shown}
 civil_seconds-parts : (c : DateTime) → civil_seconds c ≡ epoch_day c.date *ℤ pos 86_400 +ℤ pos (time_seconds c.time)
 unfolding civil_seconds
 civil_seconds-parts c = refl
-
-pub civil_from : (t : CivilTime) → IsDate (pos t.year) (pos t.month) (pos t.day) → IsTime (pos t.hour) (pos t.minute) (pos t.second) (pos 0) → is_civil t ≡ true
-civil_from t d h =
-    and_from _ _ (and_from _ _ (and_from _ _ (le-leb t.year 9999 (omega (arith, ints)))
-    (and_from _ _ (le-leb 1 t.month (omega (arith, ints))) (le-leb t.month 12 (omega (arith, ints)))))
-    (and_from _ _ (le-leb 1 t.day (omega (arith, ints))) (le-leb t.day (days_in_month (pos t.year) t.month) (omega (arith, ints)))))
-    (and_from _ _ (and_from _ _ (le-leb t.hour 23 (omega (arith, ints))) (le-leb t.minute 59 (omega (arith, ints)))) (le-leb t.second 59 (omega (arith, ints))))
 
 pub record IsOfCalendar (t : CivilTime) : Type 0 where
   pub year : t.year ≤ 9999

@@ -1,5 +1,5 @@
 -- The kind of a path by the path rule, as `kind_of` answers it.
-use Rattle.std.specs.Prelude.{◌≡◌, ℕ, Bool, false, List, ◌++◌, Option, Some, None, is_none, Result, Ok}
+use Rattle.std.specs.Prelude.{◌≡◌, ℕ, List, ◌++◌, Option, Some, None, Result, Ok}
 use Rattle.mvn_coords.specs.declared.fault.PathFault.{PathFault}
 use Rattle.mvn_coords.specs.declared.fault.Side.{Side}
 use Rattle.mvn_coords.specs.declared.kind.Kind.{Kind}
@@ -37,11 +37,3 @@ pub record IsExact : Type 0 where
   pub path : (path : List ℕ) (k : Kind) → kind path ≡ Ok k → text_of_kind k ≡ path
   pub file : (path : List ℕ) (c : Coordinates) (side : Side) → kind path ≡ Ok (FileSide c side) → kind (text_of c) ≡ Ok (File c)
   pub document : (path : List ℕ) (d : Directory) (side : Side) → kind path ≡ Ok (DocSide d side) → kind (text_of_document d) ≡ Ok (Doc d)
-
--- the path is of a file that has no build
-abbrev pub is_release : Result Kind PathFault → Bool
-is_release (Ok (File c)) = is_none c.build
-is_release _ = false
-
-abbrev pub is_release_file : List ℕ → Bool
-is_release_file path = is_release (kind path)

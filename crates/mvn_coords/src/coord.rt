@@ -78,6 +78,7 @@ impl<'a> Coord<'a> {
         self.group
     }
 
+    /// The artifact identifier.
     pub fn artifact(&self) -> &'a str
         ensures { result.now ≡ self.now.artifact }
     {
@@ -181,6 +182,7 @@ impl<'a> Dir<'a> {
         self.group
     }
 
+    /// The artifact identifier.
     pub fn artifact(&self) -> &'a str
         ensures { result.now ≡ self.now.artifact }
     {

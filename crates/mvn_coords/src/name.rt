@@ -100,8 +100,18 @@ fn is_literal(text: &str) -> bool
     ensures { result ≡ spec.is_literal text.now }
 {
     match behind("SNAPSHOT", text) {
-        Some(rest) => rest.is_empty() || rest.starts_with(".") || rest.starts_with("-"),
+        Some(rest) => is_end_of_word(rest),
         None => false,
+    }
+}
+
+/// Whether a word that stands before this text ends there.
+fn is_end_of_word(rest: &str) -> bool
+    ensures { result ≡ spec.is_end_of_word rest.now }
+{
+    match rest.as_bytes() {
+        [] => true,
+        [next, ..] => *next == b'.' || *next == b'-',
     }
 }
 

@@ -9,7 +9,7 @@ ghost use Rattle.mvn_coords.specs.Worked.{WorkedPaths};
 ghost use Rattle.mvn_coords.specs.Kind.{kind, kind_by, text_of_kind, with_side, IsExact};
 
 use crate::name::{base_of, ending_in};
-use crate::text::{before, cut_last};
+use crate::text::{before, cut_last, is};
 use crate::{
     Coord, Dir, Kind, NoMemory, PathFault, Side, is_artifact, is_group_segment, is_segment,
     is_version_directory,
@@ -154,7 +154,7 @@ fn named(cut: Cut<'_>) -> Result<Kind<'_>, PathFault>
     let Some((above, name)) = cut_last(path) else {
         return Err(PathFault::Short);
     };
-    if name == "maven-metadata.xml" {
+    if is(name, "maven-metadata.xml") {
         return match directory(path, above) {
             Ok(dir) => Ok(document_kind(dir, side)),
             Err(fault) => Err(fault),

@@ -3,6 +3,8 @@ ghost use Rattle.std.specs.Prelude.{◌≡◌};
 ghost use Rattle.std.specs.List.{list_all};
 ghost use Rattle.mvn_coords.specs.Segment as spec;
 
+use crate::text::is;
+
 fn is_group_byte(b: u8) -> bool
     ensures { result ≡ spec.is_group_byte b }
 {
@@ -27,7 +29,7 @@ pub fn is_path_byte(b: u8) -> bool
 pub fn is_segment(text: &str) -> bool
     ensures { result ≡ spec.is_segment text.now }
 {
-    if text.is_empty() || text.len() > 255 || text == "." || text == ".." {
+    if text.is_empty() || text.len() > 255 || is(text, ".") || is(text, "..") {
         return false;
     }
     are_path_bytes(text)
@@ -37,21 +39,21 @@ pub fn is_segment(text: &str) -> bool
 pub fn are_path_bytes(text: &str) -> bool
     ensures { result ≡ list_all spec.is_path_byte text.now }
 {
-    text.bytes().all(|b| is_path_byte(b))
+    text.bytes().all(is_path_byte)
 }
 
 /// Whether a segment may be part of a group: letters, digits, `_` and `-`.
 pub fn is_group_segment(segment: &str) -> bool
     ensures { result ≡ spec.is_group_segment segment.now }
 {
-    segment.bytes().all(|b| is_group_byte(b))
+    segment.bytes().all(is_group_byte)
 }
 
 /// Whether a segment may be an artifact: letters, digits, `_`, `-` and `.`.
 pub fn is_artifact(segment: &str) -> bool
     ensures { result ≡ spec.is_artifact segment.now }
 {
-    segment.bytes().all(|b| is_artifact_byte(b))
+    segment.bytes().all(is_artifact_byte)
 }
 
 /// Whether a segment may be a version directory: at most 128 bytes, and neither `SNAPSHOT` nor
@@ -59,5 +61,5 @@ pub fn is_artifact(segment: &str) -> bool
 pub fn is_version_directory(segment: &str) -> bool
     ensures { result ≡ spec.is_version_directory segment.now }
 {
-    segment.len() <= 128 && segment != "SNAPSHOT" && segment != "-SNAPSHOT"
+    segment.len() <= 128 && !is(segment, "SNAPSHOT") && !is(segment, "-SNAPSHOT")
 }

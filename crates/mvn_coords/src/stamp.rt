@@ -1,5 +1,5 @@
 //! Timestamps: civil times and their text.
-ghost use Rattle.std.specs.Prelude.{◌≡◌, ◌≤◌, ◌+◌, ◌%◌, ◌^◌, ◌<◌, pos, ◌≤ℤ◌, length, IsTrue};
+ghost use Rattle.std.specs.Prelude.{◌≡◌, ◌≤◌, ◌+◌, ◌%◌, ◌^◌, ◌<◌, pos, ◌≤ℤ◌, length, slice_range, IsTrue};
 ghost use Rattle.mvn_coords.specs.Civil as spec;
 ghost use Rattle.mvn_coords.specs.Civil.{IsExactText};
 
@@ -84,12 +84,12 @@ impl Stamp {
         ensures { result ≡ if_civil (fields_of date.now time.now) }
     {
         let civil = DateTime::new(
-            four_digits(&date[0..4]),
-            two_digits(&date[4..6]),
-            two_digits(&date[6..8]),
-            two_digits(&time[0..2]),
-            two_digits(&time[2..4]),
-            two_digits(&time[4..6]),
+            four_digits(date),
+            two_digits(date, 4),
+            two_digits(date, 6),
+            two_digits(time, 0),
+            two_digits(time, 2),
+            two_digits(time, 4),
             0,
         );
         match civil {
@@ -184,20 +184,20 @@ pub(crate) fn decimal(digits: &[u8]) -> u32
     number
 }
 
-/// The number that four digits write.
+/// The number that the first four digits write.
 fn four_digits(digits: &[u8]) -> i16
     requires digits { IsTrue (spec.are_digits digits.now) }
-    requires four { length digits.now ≡ 4 }
-    ensures { result ≡ pos (spec.decimal digits.now) }
+    requires four { 4 ≤ length digits.now }
+    ensures { result ≡ pos (spec.decimal (slice_range digits.now 0 4)) }
 {
-    decimal(digits) as i16
+    decimal(&digits[0..4]) as i16
 }
 
-/// The number that two digits write.
-fn two_digits(digits: &[u8]) -> i8
+/// The number that two digits write, the first of them `at` this index.
+fn two_digits(digits: &[u8], at: usize) -> i8
     requires digits { IsTrue (spec.are_digits digits.now) }
-    requires two { length digits.now ≡ 2 }
-    ensures { result ≡ pos (spec.decimal digits.now) }
+    requires two { at + 2 ≤ length digits.now }
+    ensures { result ≡ pos (spec.decimal (slice_range digits.now at (at + 2))) }
 {
-    decimal(digits) as i8
+    decimal(&digits[at..at + 2]) as i8
 }

@@ -1,8 +1,15 @@
-//! Cuts of a text at its front, at its end and at its last slash.
-ghost use Rattle.std.specs.Prelude.{◌≡◌, ◌++◌, ◌∷◌, [], MatchOption};
+//! Whether a text is another one, and cuts of a text at its front, at its end and at its last slash.
+ghost use Rattle.std.specs.Prelude.{◌≡◌, ◌++◌, ◌∷◌, [], MatchOption, bytes_eq};
 ghost use Rattle.std.specs.Option.{option_copied};
 ghost use Rattle.mvn_coords.specs.FileName as spec;
 ghost use Rattle.mvn_coords.specs.Segment.{levels};
+
+/// Whether a text is this word.
+pub(crate) fn is(text: &str, word: &str) -> bool
+    ensures { result ≡ bytes_eq text.now word.now }
+{
+    text == word
+}
 
 /// What is left of a text behind a front.
 pub(crate) fn behind<'a>(front: &str, text: &'a str) -> Option<&'a str>

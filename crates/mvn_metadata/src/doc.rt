@@ -111,7 +111,8 @@ fn joined(alloc: Global, listing: Listing, other: &Listing) -> Result<Listing, N
 impl Doc {
     ghost use Rattle.mvn_metadata.specs.Form.{is_document, is_entry, is_listing, is_version};
 
-    /// The document with these parts: the group with `.` between its segments, in ASCII, the artifact, and what is listed.
+    /// The document with these parts, which have the form of a document: the group with `.` between its segments, in
+    /// ASCII, the artifact, and what is listed.
     pub fn new(group: Option<Bytes>, artifact: Option<Text>, listing: Listing) -> Doc
         requires { IsTrue (is_document (record { group = group; artifact = artifact; listing = listing })) }
         ensures { result ≡ record { group = group; artifact = artifact; listing = listing } }
@@ -226,7 +227,7 @@ impl Doc {
     }
 
     /// The document of a snapshot directory with one more file of a build, which counts where it is the newest of its
-    /// pair. An artifact's document lists none and stays as it is.
+    /// pair. An artifact's document lists none and stays as it is. The pair and its build have the form of an entry.
     pub fn with_build(self, pair: Pair, snapshot: SnapshotBuild) -> Result<Doc, NoMemory>
         requires { IsTrue (is_entry (pair, snapshot)) }
         ensures { IfOk result (λ d. d ≡ record self { listing = with_build self.listing (pair, snapshot) }) }

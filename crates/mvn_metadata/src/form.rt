@@ -39,7 +39,7 @@ fn is_classifier_byte(b: u8) -> bool
 fn are_classifier_bytes(text: &str) -> bool
     ensures { result ≡ list_all spec.is_classifier_byte text.now }
 {
-    text.bytes().all(|b| is_classifier_byte(b))
+    text.bytes().all(is_classifier_byte)
 }
 
 /// Whether a text may be a classifier: up to 255 bytes of `A-Z a-z 0-9 _ + -`; none where there is no classifier.

@@ -14,9 +14,9 @@ use texts::{Bytes, Text};
 pub fn settle(alloc: Global, doc: Doc, dir: &Dir<'_>) -> Result<Doc, NoMemory>
     ensures { IfOk result (λ d. d ≡ settled doc dir.now) }
 {
+    let listing = of_kind(alloc, dir.version(), doc.into_listing())?;
     let group = dotted(alloc, dir.group())?;
     let artifact = Text::new(alloc, dir.artifact())?;
-    let listing = of_kind(alloc, dir.version(), doc.into_listing())?;
     // A path says of its directory that it is one.
     let _path = dir.path();
     Ok(Doc::new(group, Some(artifact), listing))

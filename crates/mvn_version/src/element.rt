@@ -1,6 +1,6 @@
 //! The elements of a key.
 
-ghost use Rattle.std.specs.Prelude.{◌≡◌, IfOk, map, reverse};
+ghost use Rattle.std.specs.Prelude.{◌≡◌, IfOk, bytes_eq, map, reverse};
 ghost use Rattle.mvn_version.specs.Element.{rank_number, shown};
 ghost use Rattle.mvn_version.specs.Key.{element, elements, full_word, is_number, is_release, is_zero, number, significant, word, word_rank};
 ghost use Rattle.mvn_version.specs.Order.{end_mark, ended};
@@ -46,10 +46,16 @@ fn is_zero(text: &[u8]) -> bool
     text.iter().all(|c| *c == b'0')
 }
 
+fn is(text: &[u8], word: &[u8]) -> bool
+    ensures { result ≡ bytes_eq text.now word.now }
+{
+    text == word
+}
+
 fn is_release(word: &[u8]) -> bool
     ensures { result ≡ is_release word.now }
 {
-    matches!(word, b"ga" | b"final" | b"release")
+    is(word, b"ga") || is(word, b"final") || is(word, b"release")
 }
 
 // The word in full, where `joined` says that a digit follows it at once.
@@ -68,14 +74,20 @@ fn full_word<'a>(word: &'a [u8], joined: bool) -> &'a [u8]
 fn word_rank(word: &[u8]) -> Rank
     ensures { rank_number result ≡ word_rank word.now }
 {
-    match word {
-        b"alpha" => Rank::Alpha,
-        b"beta" => Rank::Beta,
-        b"milestone" => Rank::Milestone,
-        b"rc" => Rank::Candidate,
-        b"snapshot" => Rank::Snapshot,
-        b"sp" => Rank::ServicePack,
-        _ => Rank::Word,
+    if is(word, b"alpha") {
+        Rank::Alpha
+    } else if is(word, b"beta") {
+        Rank::Beta
+    } else if is(word, b"milestone") {
+        Rank::Milestone
+    } else if is(word, b"rc") {
+        Rank::Candidate
+    } else if is(word, b"snapshot") {
+        Rank::Snapshot
+    } else if is(word, b"sp") {
+        Rank::ServicePack
+    } else {
+        Rank::Word
     }
 }
 

@@ -47,12 +47,6 @@ tokens-more (c ∷ text) cut e =
     ∙ ap (λ ps. record { left = length (c ∷ text); token = cut.0 } ∷ ps)
     (tokens-same (length text) (length cut.1) cut.1 (omega (arith, first_token_less (c ∷ text) cut e)) (omega arith))
 
--- no token
-tokens-none : (text : List ℕ) → 0 < length text → first_token text ≡ None → tokens text ≡ broken text ∷ []
-tokens-none [] h e = absurd (omega arith)
-tokens-none (c ∷ text) h e =
-    ap (λ o. option_map_or (λ (cut : Cut). record { left = length (c ∷ text); token = cut.0 } ∷ tokens_within (length text) cut.1) o (broken (c ∷ text) ∷ [])) e
-
 -- ---- faults
 
 stands : (root : List ℕ) (ns : List (List ℕ)) (b : Bool) (p : Placed) (ps : List Placed) → may_stand root ns b p.token ≡ true → fault root ns b (p ∷ ps) ≡ fault root (open_behind ns p.token) (begun_behind b p.token) ps
@@ -67,16 +61,6 @@ fault_behind root t rest = fault root (names t.open.items) (has_begun (begun t))
 
 abbrev pub tokens_of : List ℕ → List Token
 tokens_of text = map (λ p. p.token) (tokens text)
-
--- no token can be cut
-pub fault_broken : (root : List ℕ) (t : Tree) (rest : List ℕ) → 0 < length rest → first_token rest ≡ None → fault_behind root t rest ≡ Some (length rest)
-fault_broken root t rest h e = ap (fault root (names t.open.items) (has_begun (begun t))) (tokens-none rest h e)
-
--- a token may not stand where it does
-pub fault_misplaced : (root : List ℕ) (t : Tree) (rest : List ℕ) (cut : Cut) → first_token rest ≡ Some cut → may_stand root (names t.open.items) (has_begun (begun t)) cut.0 ≡ false → fault_behind root t rest ≡ Some (length rest)
-fault_misplaced root t rest cut e misplaced =
-    ap (fault root (names t.open.items) (has_begun (begun t))) (tokens-more rest cut e)
-    ∙ falls root (names t.open.items) (has_begun (begun t)) (record { left = length rest; token = cut.0 }) (tokens cut.1) misplaced
 
 -- a token is taken
 pub fault_taken : (root : List ℕ) (old new : Tree) (rest : List ℕ) (cut : Cut) → first_token rest ≡ Some cut → may_stand root (names old.open.items) (has_begun (begun old)) cut.0 ≡ true → Takes old new cut.0 → fault_behind root new cut.1 ≡ fault_behind root old rest

@@ -87,14 +87,6 @@ takes_text old new os o p bytes sound olds news same index name text = record {
       (subst (IsInRange (length old.elements.items)) (sym news) both);
 }
 
-pub takes_nothing : (old : Tree) (bytes : List ℕ) → IsSound old → old.open.items ≡ [] → Takes old old (Text bytes)
-takes_nothing old bytes sound none = record {
-  elements = λ ts. (λ i. all_of (none i) (begun old) ts) ∙ (λ i. all_of (sym none i) (begun old) (Text bytes ∷ ts));
-  names = refl;
-  begun = refl;
-  sound = sound;
-}
-
 in_range_begun : (t : Tree) → IsSound t → IsInRange (length (begun t)) t.open.items
 in_range_begun t sound = subst (λ (n : ℕ). IsInRange n t.open.items) (sym (length-map t.elements.items shown)) sound
 
@@ -149,14 +141,6 @@ takes_close old new os o e d name sound olds closes news depth same_name text =
           subst (λ (n : ℕ). IsInRange n new.open.items) (sym same)
           (subst (IsInRange (length old.elements.items)) (sym closes) (in_range_front _ os o range));
     }
-
-pub takes_no_close : (old : Tree) (name : List ℕ) → IsSound old → old.open.items ≡ [] → Takes old old (Close name)
-takes_no_close old name sound none = record {
-  elements = λ ts. (λ i. all_of (none i) (begun old) ts) ∙ (λ i. all_of (sym none i) (begun old) (Close name ∷ ts));
-  names = ap names none ∙ ap (λ os. drop 1 (names os)) (sym none);
-  begun = refl;
-  sound = sound;
-}
 
 pub takes_comment : (old : Tree) → IsSound old → Takes old old Comment
 takes_comment old sound = record {
