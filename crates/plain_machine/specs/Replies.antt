@@ -1,7 +1,7 @@
 -- What putting a blob does, as the reply that says so.
 use Rattle.repo_model.specs.Reply.{Reply, created, relisted, same, taken}
-use Rattle.plain_machine.specs.declared.machine.Outcome.{Outcome}
-use Rattle.plain_machine.specs.declared.machine.Outcome.TheVariants.{Created, Same, Relisted, Taken}
+use Rattle.plain_machine.specs.declared.outcomes.Outcome.{Outcome}
+use Rattle.plain_machine.specs.declared.outcomes.Outcome.TheVariants.{Created, Same, Relisted, Taken}
 
 abbrev pub shown_outcome : Outcome → Reply
 shown_outcome Created = created

@@ -7,6 +7,7 @@
 mod commands;
 mod hosted;
 mod machine;
+mod outcomes;
 mod rows;
 mod settings;
 mod yard;

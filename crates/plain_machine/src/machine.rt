@@ -7,17 +7,16 @@ ghost use Rattle.repo_model.specs.Command.{fits_repo, look, done, may_put, put, 
 ghost use Rattle.repo_model.specs.File.{is_taken};
 ghost use Rattle.repo_model.specs.Reply.{dropped, given_back, no_draft};
 ghost use Rattle.repo_model.specs.Step.{latest_moment, look_reply, may_put_reply, moment_now, put_reply, changed, new_row, reply_of, state_after, ticked, with_rows_of, with_yard};
-ghost use Rattle.plain_machine.specs.Replies.{shown_outcome};
 ghost use Rattle.plain_machine.specs.Commands.{shown_command, shown_reply};
 
 use crate::commands::{Command, Reply};
 use crate::hosted::{Hosted, add_row, empty_hosted, file_at, list_row_again};
-use crate::rows::{Blob, Phase, Row};
+use crate::outcomes::{Outcome, put_outcome};
+use crate::rows::{Blob, Row};
 use crate::settings::Settings;
 use crate::yard::Yard;
 use mvn_coords::Stamp;
 use outside::{Clock, ScriptClock};
-use repo_model::Print;
 use std::alloc::{AllocError, Global};
 use std::marker::Model;
 use texts::Text;
@@ -45,14 +44,6 @@ impl Model for Machine {
 pub struct Turned {
     pub reply: Reply,
     pub machine: Machine,
-}
-
-/// What putting a blob at a path does.
-enum Outcome {
-    Created,
-    Same,
-    Relisted,
-    Taken { kept: Print, sent: Print },
 }
 
 impl Machine {
@@ -246,31 +237,62 @@ impl Machine {
             });
         }
         match put_outcome(&self.hosted, repo, path.as_str(), blob.print()) {
-            Outcome::Created => {
-                let machine = self.kept(alloc, draft)?.with_new_row(repo, path, blob)?;
-                Ok(Turned {
-                    reply: Reply::Created,
-                    machine,
-                })
+            Outcome::Created => self.created(alloc, repo, path, draft, blob),
+            Outcome::Relisted => self.relisted(alloc, repo, path.as_str(), draft),
+            Outcome::Same => self.not_used(alloc, draft, Reply::Same),
+            Outcome::Taken { kept, sent } => {
+                self.not_used(alloc, draft, Reply::Taken { kept, sent })
             }
-            Outcome::Relisted => {
-                let machine = self
-                    .condemned(alloc, draft)?
-                    .listed_again(repo, path.as_str());
-                Ok(Turned {
-                    reply: Reply::Relisted,
-                    machine,
-                })
-            }
-            Outcome::Same => Ok(Turned {
-                reply: Reply::Same,
-                machine: self.condemned(alloc, draft)?,
-            }),
-            Outcome::Taken { kept, sent } => Ok(Turned {
-                reply: Reply::Taken { kept, sent },
-                machine: self.condemned(alloc, draft)?,
-            }),
         }
+    }
+
+    /// The turn of a put that makes a row of its draft.
+    fn created(
+        self,
+        alloc: Global,
+        repo: &str,
+        path: Text,
+        draft: u64,
+        blob: Blob,
+    ) -> Result<Turned, AllocError>
+        ensures reply { IfOk result (λ turned. turned.reply ≡ Reply.Created) }
+        ensures state { IfOk result (λ turned. turned.machine
+            ≡ with_rows_of repo.now (with_row (new_row path blob self.last)) (with_yard (kept_draft draft) self)) }
+    {
+        let kept = self.kept(alloc, draft)?;
+        let machine = kept.with_new_row(repo, path, blob)?;
+        Ok(Turned {
+            reply: Reply::Created,
+            machine,
+        })
+    }
+
+    /// The turn of a put that lists the row at its path again.
+    fn relisted(
+        self,
+        alloc: Global,
+        repo: &str,
+        path: &str,
+        draft: u64,
+    ) -> Result<Turned, AllocError>
+        ensures reply { IfOk result (λ turned. turned.reply ≡ Reply.Relisted) }
+        ensures state { IfOk result (λ turned. turned.machine
+            ≡ with_rows_of repo.now (relisted_at path.now self.last) (with_yard (condemned_draft draft) self)) }
+    {
+        let condemned = self.condemned(alloc, draft)?;
+        Ok(Turned {
+            reply: Reply::Relisted,
+            machine: condemned.listed_again(repo, path),
+        })
+    }
+
+    /// The turn of a command that makes garbage of its draft and changes no row.
+    fn not_used(self, alloc: Global, draft: u64, reply: Reply) -> Result<Turned, AllocError>
+        ensures reply { IfOk result (λ turned. turned.reply ≡ reply) }
+        ensures state { IfOk result (λ turned. turned.machine ≡ with_yard (condemned_draft draft) self) }
+    {
+        let machine = self.condemned(alloc, draft)?;
+        Ok(Turned { reply, machine })
     }
 
     fn drop_draft(self, alloc: Global, draft: u64) -> Result<Turned, AllocError>
@@ -283,10 +305,7 @@ impl Machine {
                 machine: self,
             });
         }
-        Ok(Turned {
-            reply: Reply::Dropped,
-            machine: self.condemned(alloc, draft)?,
-        })
+        self.not_used(alloc, draft, Reply::Dropped)
     }
 
     /// The machine once a draft became a row's blob.
@@ -373,22 +392,5 @@ fn read_clock(last: u64, clock: Option<ScriptClock>) -> (u64, Option<ScriptClock
             let moment = clock.now().min(Stamp::LAST_MOMENT).max(last);
             (moment, Some(clock))
         }
-    }
-}
-
-/// What putting a content at a path does.
-fn put_outcome(hosted: &[Hosted], repo: &str, path: &str, sent: Print) -> Outcome
-    ensures { shown_outcome result ≡ put_reply sent (row_at path.now (rows_of repo.now hosted.now)) }
-{
-    let Some(row) = file_at(hosted, repo, path) else {
-        return Outcome::Created;
-    };
-    let kept = row.blob().print();
-    if kept != sent {
-        return Outcome::Taken { kept, sent };
-    }
-    match row.phase() {
-        Phase::Listed => Outcome::Same,
-        Phase::Fading(_) => Outcome::Relisted,
     }
 }

@@ -28,6 +28,12 @@ pub struct Closing {
     pub last: bool,
 }
 
+/// What ends a connection behind an answer that closes it, whatever the client wants.
+const CLOSING: Closing = Closing {
+    close: true,
+    last: false,
+};
+
 /// The id of the repository once more.
 fn repository(alloc: Global) -> Result<Text, AllocError>
     ensures { IfOk result (λ id. id ≡ repository) }
@@ -75,8 +81,13 @@ fn without_memory(alloc: Global, scene: Scene) -> Result<Played, AllocError>
     ensures { IfOk result (λ played. shown_played played
         ≡ record { written = shown memory_answer; scene = shown_scene scene; end = Some End.Closed }) }
 {
-    let answer = text_answer(alloc, Status::InsufficientStorage, b"memory", true)?;
-    said(alloc, scene, &answer, Some(End::Closed))
+    answered(
+        alloc,
+        scene,
+        CLOSING,
+        Status::InsufficientStorage,
+        b"memory",
+    )
 }
 
 /// The answer to a head that is not plain, which closes the connection.
@@ -84,8 +95,7 @@ pub fn bad_head(alloc: Global, scene: Scene) -> Result<Played, AllocError>
     ensures { IfOk result (λ played. shown_played played
         ≡ record { written = shown bad_head_answer; scene = shown_scene scene; end = Some End.Closed }) }
 {
-    let answer = text_answer(alloc, Status::BadRequest, b"bad-head", true)?;
-    said(alloc, scene, &answer, Some(End::Closed))
+    answered(alloc, scene, CLOSING, Status::BadRequest, b"bad-head")
 }
 
 /// The course of a GET, followed to its end: the file is looked up, sent, and its lease given back.

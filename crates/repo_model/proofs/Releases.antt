@@ -9,7 +9,7 @@ use Rattle.std.specs.Cmp.Lexicographic.{slice_cmp}
 use Rattle.outside.specs.Moments.{Moments}
 use Rattle.repo_model.specs.Data.{Row, listed, fading, Settings}
 use Rattle.repo_model.specs.File.{file_kind, release, snapshot}
-use Rattle.repo_model.specs.State.{State, Hosted, row_at, rows_of, with_row, list_again, relisted, opening}
+use Rattle.repo_model.specs.State.{State, row_at, rows_of, with_row, list_again, relisted, opening}
 use Rattle.repo_model.specs.History.{Entry, Fits, after}
 use Rattle.repo_model.specs.Step.{new_row}
 use Rattle.repo_model.specs.Laws.{FadingAreSnapshots, KeepsReleases}
@@ -22,9 +22,6 @@ FadesRightly row = (since : ℕ) → row.phase ≡ fading since → file_kind ro
 
 abbrev pub RowsFadeRightly : List Row → Type 0
 RowsFadeRightly rows = All FadesRightly rows
-
-abbrev pub HostedFadeRightly : List Hosted → Type 0
-HostedFadeRightly hosted = All (λ h. RowsFadeRightly h.rows) hosted
 
 row_at_all : (path : List ℕ) (rows : List Row) (row : Row) → RowsFadeRightly rows → row_at path rows ≡ Some row → FadesRightly row
 row_at_all path [] row all is = absurd (let e : None ≡ Some row = is in cc)

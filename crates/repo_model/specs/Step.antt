@@ -9,7 +9,7 @@ use Rattle.repo_model.specs.Command.{Command, look, done, may_put, put, drop_dra
 use Rattle.repo_model.specs.File.{is_taken}
 use Rattle.repo_model.specs.Reply.{Reply, file, missed, given_back, kind_refused, draft, no_draft, taken, same, relisted, created, dropped, spent}
 
--- the last moment that a clock may give: 9999-12-30T22:00:00Z, after which some offset shows the year 10000
+-- the last moment of a turn: 9999-12-30T22:00:00Z, after which some offset shows the year 10000; a later one counts as it
 abbrev pub latest_moment : ℕ
 latest_moment = 253402207200
 

@@ -3,7 +3,7 @@
 //! The definitions stand in `specs/`. The functions of `laws` have no code: each one's contract is a law about them.
 #![tactic(auto)]
 
-mod laws;
+pub mod laws;
 mod numbers;
 mod print;
 mod worked;
