@@ -5,7 +5,7 @@ use std::alloc::{AllocError, Global};
 use std::test::Fail;
 
 // A path, and its fault or what its line begins with.
-static PATHS: [(&str, &str); 80] = [
+static RELEASES: [(&str, &str); 37] = [
     ("", "Empty"),
     ("a/b.jar", "Short"),
     ("acme/lib/lib-1.0.jar", "Short"),
@@ -48,6 +48,11 @@ static PATHS: [(&str, &str); 80] = [
     ("org/acme/lib/SNAPSHOT/lib-SNAPSHOT.jar", "BadSegment"),
     ("org/acme/lib/-SNAPSHOT/lib--SNAPSHOT.jar", "BadSegment"),
     ("org/acme/lib/1.0-snapshot/lib-1.0-snapshot.jar", "file"),
+    ("org/acme/lib/1.1/maven-metadata-local.xml", "NotNamed"),
+];
+
+// The same in snapshot directories.
+static SNAPSHOTS: [(&str, &str); 24] = [
     (
         "org/acme/lib/1.1-SNAPSHOT/lib-1.1-20240229.235959-1.jar",
         "file",
@@ -134,6 +139,14 @@ static PATHS: [(&str, &str); 80] = [
         "NotNamed",
     ),
     ("org/acme/lib/1.1-SNAPSHOT/lib-1.1.jar", "NotNamed"),
+    (
+        "org/acme/lib/1.1-SNAPSHOT/lib-1.1-20240229.235959-12-all.tar.gz",
+        "file org/acme/lib 1.1-SNAPSHOT 20240229.235959-12 all tar.gz  ",
+    ),
+];
+
+// The same of documents.
+static DOCUMENTS: [(&str, &str); 19] = [
     ("maven-metadata.xml", "Short"),
     ("maven-metadata.xml.sha1", "Short"),
     ("org/maven-metadata.xml", "document"),
@@ -160,11 +173,6 @@ static PATHS: [(&str, &str); 80] = [
         "BadSegment",
     ),
     ("org/acme/l+b/maven-metadata.xml", "BadSegment"),
-    ("org/acme/lib/1.1/maven-metadata-local.xml", "NotNamed"),
-    (
-        "org/acme/lib/1.1-SNAPSHOT/lib-1.1-20240229.235959-12-all.tar.gz",
-        "file org/acme/lib 1.1-SNAPSHOT 20240229.235959-12 all tar.gz  ",
-    ),
     (
         "org/acme/lib/1.1-SNAPSHOT/maven-metadata.xml",
         "document org/acme/lib 1.1-SNAPSHOT  ",
@@ -235,10 +243,6 @@ fn side_text(side: Side) -> &'static str {
     }
 }
 
-fn has_path(alloc: Global, c: &Coord<'_>, path: &str) -> Result<bool, AllocError> {
-    Ok(path_of(alloc, c)?.as_str() == path)
-}
-
 fn kind_line(alloc: Global, kind: &Kind<'_>) -> Result<String, AllocError> {
     match kind {
         Kind::File(c) => file_line(alloc, c, ""),
@@ -248,10 +252,19 @@ fn kind_line(alloc: Global, kind: &Kind<'_>) -> Result<String, AllocError> {
     }
 }
 
-fn real_line(alloc: Global, path: &str, kind: &Kind<'_>) -> Result<String, AllocError> {
+// Whether a file's coordinates have this path.
+fn is_written(alloc: Global, path: &str, kind: &Kind<'_>) -> Result<bool, AllocError> {
     match kind {
-        Kind::File(c) if !has_path(alloc, c, path)? => String::from_str(alloc, "another path"),
-        kind => kind_line(alloc, kind),
+        Kind::File(c) => Ok(path_of(alloc, c)?.as_str() == path),
+        _ => Ok(true),
+    }
+}
+
+fn real_line(alloc: Global, path: &str, kind: &Kind<'_>) -> Result<String, AllocError> {
+    if is_written(alloc, path, kind)? {
+        kind_line(alloc, kind)
+    } else {
+        String::from_str(alloc, "another path")
     }
 }
 
@@ -291,8 +304,16 @@ fn long_path(alloc: Global, long: &Long) -> Result<String, AllocError> {
     Ok(path)
 }
 
-fn first_wrong_path(alloc: Global) -> Result<Option<usize>, AllocError> {
-    first_wrong(alloc, &PATHS)
+fn first_wrong_release(alloc: Global) -> Result<Option<usize>, AllocError> {
+    first_wrong(alloc, &RELEASES)
+}
+
+fn first_wrong_snapshot(alloc: Global) -> Result<Option<usize>, AllocError> {
+    first_wrong(alloc, &SNAPSHOTS)
+}
+
+fn first_wrong_document(alloc: Global) -> Result<Option<usize>, AllocError> {
+    first_wrong(alloc, &DOCUMENTS)
 }
 
 // The first long path of which something else is said.
@@ -308,9 +329,14 @@ fn first_wrong_length(alloc: Global) -> Result<Option<usize>, AllocError> {
 
 #[test]
 fn paths_are_read_as_written(rt: HostRuntime) -> Result<(), Fail> {
-    let path = first_wrong_path(rt.alloc())?;
+    let release = first_wrong_release(rt.alloc())?;
+    let snapshot = first_wrong_snapshot(rt.alloc())?;
+    let document = first_wrong_document(rt.alloc())?;
     let length = first_wrong_length(rt.alloc())?;
-    assert_eq!(rt; (path, length), (None, None));
+    assert_eq!(rt;
+        (release, snapshot, document, length),
+        (None, None, None, None)
+    );
     Ok(())
 }
 
@@ -326,13 +352,16 @@ fn first_wrong_moment() -> Option<usize> {
     None
 }
 
+// Whether a stamp is below a later one, and none where there is no such day.
 fn stamps_are_ordered() -> bool {
     let early = Stamp::parse("20240229.120000");
-    early.is_some() && early < Stamp::parse("20240301.080000")
+    early.is_some()
+        && early < Stamp::parse("20240301.080000")
+        && Stamp::parse("20230229.120000").is_none()
 }
 
 #[test]
 fn stamps_of_moments(rt: HostRuntime) {
-    assert_eq!(rt; first_wrong_moment(), None);
-    assert!(rt; stamps_are_ordered() && Stamp::parse("20230229.120000").is_none());
+    let wrong = first_wrong_moment();
+    assert_eq!(rt; (wrong, stamps_are_ordered()), (None, true));
 }

@@ -3,8 +3,12 @@ use std::alloc::{AllocError, Global};
 use std::test::Fail;
 use texts::{Bytes, Text};
 
+fn copy_of(alloc: Global, text: &str) -> Result<Text, AllocError> {
+    Text::new(alloc, text)?.copied(alloc)
+}
+
 fn is_copied(alloc: Global, text: &str) -> Result<bool, AllocError> {
-    let copy = Text::new(alloc, text)?.copied(alloc)?;
+    let copy = copy_of(alloc, text)?;
     Ok(copy.as_str() == text)
 }
 
@@ -18,13 +22,11 @@ fn is_held(alloc: Global, bytes: &[u8]) -> Result<bool, AllocError> {
     Ok(held.as_slice() == bytes)
 }
 
-fn are_kept(alloc: Global) -> Result<bool, AllocError> {
-    Ok(is_copied(alloc, "lib-1.0.jar")? && is_made(alloc, "abc")? && is_held(alloc, b"abc")?)
-}
-
 #[test]
 fn texts_are_kept(rt: HostRuntime) -> Result<(), Fail> {
-    let kept = are_kept(rt.alloc())?;
-    assert!(rt; kept);
+    let copied = is_copied(rt.alloc(), "lib-1.0.jar")?;
+    let made = is_made(rt.alloc(), "abc")?;
+    let held = is_held(rt.alloc(), b"abc")?;
+    assert!(rt; copied && made && held);
     Ok(())
 }

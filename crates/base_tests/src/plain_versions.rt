@@ -9,6 +9,17 @@ pub type Element = (u8, usize, Vec<u8>);
 
 const SEAM: u8 = b'~';
 
+static RANKS: [(&[u8], u8); 6] = [
+    (b"alpha", 1),
+    (b"beta", 2),
+    (b"milestone", 3),
+    (b"rc", 4),
+    (b"snapshot", 5),
+    (b"sp", 7),
+];
+
+static LEFT_OUT: [&[u8]; 3] = [b"ga", b"final", b"release"];
+
 #[derive(Drop)]
 struct Piece {
     mark: u8,
@@ -43,17 +54,27 @@ fn mark_at(text: &[u8], byte: u8) -> Option<u8> {
     (last.is_ascii_digit() != byte.is_ascii_digit()).then_some(SEAM)
 }
 
+// Puts a byte behind the piece, or behind a new piece where it begins one.
+fn add(
+    alloc: Global,
+    pieces: &mut Vec<Piece>,
+    piece: &mut Piece,
+    byte: u8,
+) -> Result<(), AllocError> {
+    if let Some(mark) = mark_at(piece.text.as_slice(), byte) {
+        pieces.push(mem::replace(piece, empty(alloc, mark)))?;
+    }
+    if !is_separator(byte) {
+        piece.text.push(byte)?;
+    }
+    Ok(())
+}
+
 fn pieces(alloc: Global, text: &str) -> Result<Vec<Piece>, AllocError> {
     let mut pieces = Vec::new(alloc);
     let mut piece = empty(alloc, b'.');
     for byte in text.as_bytes() {
-        let byte = lowered(*byte);
-        if let Some(mark) = mark_at(piece.text.as_slice(), byte) {
-            pieces.push(mem::replace(&mut piece, empty(alloc, mark)))?;
-        }
-        if !is_separator(byte) {
-            piece.text.push(byte)?;
-        }
+        add(alloc, &mut pieces, &mut piece, lowered(*byte))?;
     }
     pieces.push(piece)?;
     Ok(pieces)
@@ -120,15 +141,12 @@ fn without_zeros(digits: &[u8]) -> &[u8] {
 }
 
 fn rank_of(word: &[u8]) -> u8 {
-    match word {
-        b"alpha" => 1,
-        b"beta" => 2,
-        b"milestone" => 3,
-        b"rc" => 4,
-        b"snapshot" => 5,
-        b"sp" => 7,
-        _ => 8,
+    for (text, rank) in &RANKS {
+        if word == *text {
+            return *rank;
+        }
     }
+    8
 }
 
 fn element(alloc: Global, mark: u8, text: &[u8]) -> Result<Element, AllocError> {
@@ -143,7 +161,12 @@ fn element(alloc: Global, mark: u8, text: &[u8]) -> Result<Element, AllocError> 
 }
 
 fn is_left_out(text: &[u8]) -> bool {
-    matches!(text, b"ga" | b"final" | b"release")
+    for word in &LEFT_OUT {
+        if text == *word {
+            return true;
+        }
+    }
+    false
 }
 
 // The mark and the text of each piece that counts.

@@ -81,6 +81,10 @@ static PARTS: [&str; 26] = [
     "milestone",
 ];
 
+static UNSORTED: [&str; 7] = ["1.10", "1.0", "1.9", "1-ga", "1", "1.0-rc1", "1.0.0"];
+
+static SORTED: [&str; 7] = ["1.0-rc1", "1", "1-ga", "1.0", "1.0.0", "1.9", "1.10"];
+
 fn real_order(alloc: Global, left: &str, right: &str) -> Result<Ordering, AllocError> {
     let left = Version::parse(alloc, left)?;
     let right = Version::parse(alloc, right)?;
@@ -165,26 +169,26 @@ fn parsed(alloc: Global, texts: &[&str]) -> Result<Vec<Version>, AllocError> {
     Ok(versions)
 }
 
-fn joined(alloc: Global, versions: &[Version]) -> Result<String, AllocError> {
-    let mut all = String::new(alloc);
-    for version in versions {
-        all.push_str(version.as_str())?;
-        all.push_str(" ")?;
+// Whether the versions have these texts.
+fn are_written(versions: &[Version], texts: &[&str]) -> bool {
+    for (n, version) in versions.iter().enumerate() {
+        let text = texts.get(n).copied().unwrap_or("");
+        if version.as_str() != text {
+            return false;
+        }
     }
-    Ok(all)
+    versions.len() == texts.len()
 }
 
-// The texts in the order of their versions, each with a blank behind it.
-fn sorted(alloc: Global, texts: &[&str]) -> Result<String, AllocError> {
+// Whether the texts in the order of their versions are those.
+fn are_sorted(alloc: Global, texts: &[&str], want: &[&str]) -> Result<bool, AllocError> {
     let mut versions = parsed(alloc, texts)?;
     versions.sort()?;
-    joined(alloc, versions.as_slice())
+    Ok(are_written(versions.as_slice(), want))
 }
 
 #[test]
 fn sorts_lists(rt: HostRuntime) -> Result<(), Fail> {
-    let texts = ["1.10", "1.0", "1.9", "1-ga", "1", "1.0-rc1", "1.0.0"];
-    let sorted = sorted(rt.alloc(), &texts)?;
-    assert!(rt; sorted.as_str() == "1.0-rc1 1 1-ga 1.0 1.0.0 1.9 1.10 ");
+    assert!(rt; are_sorted(rt.alloc(), &UNSORTED, &SORTED)?);
     Ok(())
 }

@@ -56,10 +56,10 @@ fn seen_print(print: &Print) -> Seen {
     }
 }
 
-fn value_of(reply: Reply<MemHeld>) -> Said {
+fn value_of(reply: &Reply<MemHeld>) -> Said {
     match reply {
         Reply::File { lease, parcel } => Said::File(
-            lease,
+            *lease,
             parcel.blob,
             Seen {
                 length: parcel.length,
@@ -69,9 +69,9 @@ fn value_of(reply: Reply<MemHeld>) -> Said {
         Reply::Missed => Said::Missed,
         Reply::Done => Said::Done,
         Reply::KindRefused => Said::KindRefused,
-        Reply::Draft(draft) => Said::Draft(draft),
+        Reply::Draft(draft) => Said::Draft(*draft),
         Reply::NoDraft => Said::NoDraft,
-        Reply::Taken { kept, sent } => Said::Taken(seen_print(&kept), seen_print(&sent)),
+        Reply::Taken { kept, sent } => Said::Taken(seen_print(kept), seen_print(sent)),
         Reply::Same => Said::Same,
         Reply::Created => Said::Created,
         Reply::Dropped => Said::Dropped,
@@ -190,7 +190,7 @@ impl Bench {
     // The core's reply, or `Other` where the command does not meet its condition.
     fn said(&mut self, command: Command<MemHeld>) -> Said {
         if self.core.fits(&command) {
-            value_of(self.core.call(command))
+            value_of(&self.core.call(command))
         } else {
             Said::Other
         }

@@ -1,6 +1,7 @@
 // Worked cases of the five commands.
 use crate::bench::{Ask, Bench, Said, Seen};
 use outside::Clock;
+use std::alloc::Global;
 use std::test::Fail;
 
 const JAR: &str = "org/acme/lib/1.0/lib-1.0.jar";
@@ -101,13 +102,6 @@ fn first_unfit(bench: &mut Bench) -> Result<Option<usize>, Fail> {
     Ok(None)
 }
 
-// The first command that is wrong in one list, and in the other.
-fn all_wrong(bench: &mut Bench) -> Result<(Option<usize>, Option<usize>), Fail> {
-    let unfit = first_unfit(bench)?;
-    let wrong = first_wrong(bench)?;
-    Ok((unfit, wrong))
-}
-
 // How many calls there were, and what the clock then tells.
 fn end_of(bench: Bench) -> (u64, u64) {
     let calls = bench.core.calls();
@@ -115,13 +109,18 @@ fn end_of(bench: Bench) -> (u64, u64) {
     (calls, clock.now())
 }
 
+// The first command that is wrong in one list, and in the other, and the end.
+fn outcome(alloc: Global) -> Result<(Option<usize>, Option<usize>, (u64, u64)), Fail> {
+    let mut bench = Bench::new(alloc)?;
+    let unfit = first_unfit(&mut bench)?;
+    let wrong = first_wrong(&mut bench)?;
+    Ok((unfit, wrong, end_of(bench)))
+}
+
 #[test]
 fn commands_are_answered_as_written(rt: HostRuntime) -> Result<(), Fail> {
-    let mut bench = Bench::new(rt.alloc())?;
-    let wrong = all_wrong(&mut bench)?;
-    let end = end_of(bench);
-    assert_eq!(rt; wrong, (None, None));
+    let outcome = outcome(rt.alloc())?;
     // each turn reads the clock once
-    assert_eq!(rt; end, (29, 1_700_000_029));
+    assert_eq!(rt; outcome, (None, None, (29, 1_700_000_029)));
     Ok(())
 }

@@ -75,6 +75,19 @@ impl Pair {
         let plain = self.plain.turn(ask)?;
         Ok((answer == plain).then_some(answer))
     }
+
+    // How often a file was given and how often a command was refused, or the first command that the plain machine
+    // answers otherwise.
+    fn compared(&mut self) -> Result<Result<(u64, u64), u64>, Fail> {
+        let mut counts = (0, 0);
+        for n in 0..4_000u64 {
+            match self.step()? {
+                Some(answer) => counts = counted(counts, answer),
+                None => return Ok(Err(n)),
+            }
+        }
+        Ok(Ok(counts))
+    }
 }
 
 // One more file, or one more refusal, where the answer is one.
@@ -86,18 +99,9 @@ fn counted((files, refused): (u64, u64), answer: Said) -> (u64, u64) {
     }
 }
 
-// How often a file was given and how often a command was refused, or the first command that the plain machine
-// answers otherwise.
 fn compared(alloc: Global) -> Result<Result<(u64, u64), u64>, Fail> {
     let mut pair = Pair::new(alloc)?;
-    let mut counts = (0, 0);
-    for n in 0..4_000u64 {
-        match pair.step()? {
-            Some(answer) => counts = counted(counts, answer),
-            None => return Ok(Err(n)),
-        }
-    }
-    Ok(Ok(counts))
+    pair.compared()
 }
 
 #[test]

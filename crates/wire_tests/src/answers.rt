@@ -80,11 +80,11 @@ fn digests_of(row: &Row) -> Option<Digests> {
     (row.content == Content::File).then_some(hashes.finish())
 }
 
-fn allow_of(alloc: Global, row: &Row) -> Result<Option<Text>, AllocError> {
-    match row.allow {
-        "" => Ok(None),
-        methods => Ok(Some(Text::new(alloc, methods)?)),
+fn allow_of(alloc: Global, methods: &str) -> Result<Option<Text>, AllocError> {
+    if methods.is_empty() {
+        return Ok(None);
     }
+    Ok(Some(Text::new(alloc, methods)?))
 }
 
 fn answer_of(alloc: Global, row: &Row) -> Result<Answer, AllocError> {
@@ -94,7 +94,7 @@ fn answer_of(alloc: Global, row: &Row) -> Result<Answer, AllocError> {
         content: row.content,
         length: row.length,
         digests: digests_of(row),
-        allow: allow_of(alloc, row)?,
+        allow: allow_of(alloc, row.allow)?,
         close: row.close,
         body,
     })
@@ -117,9 +117,14 @@ fn first_wrong(alloc: Global) -> Result<Option<usize>, AllocError> {
     Ok(None)
 }
 
+fn is_for_no_memory(bytes: &[u8]) -> bool {
+    no_memory_answer() == bytes
+}
+
 #[test]
 fn answers_are_rendered(rt: HostRuntime) -> Result<(), Fail> {
-    assert_eq!(rt; first_wrong(rt.alloc())?, None);
-    assert!(rt; no_memory_answer() == NO_MEMORY.as_slice());
+    let wrong = first_wrong(rt.alloc())?;
+    let prepared = is_for_no_memory(NO_MEMORY);
+    assert_eq!(rt; (wrong, prepared), (None, true));
     Ok(())
 }

@@ -68,23 +68,37 @@ impl Choices {
         bytes.extend_from_slice(self.pick(options))
     }
 
-    fn add_line(
+    fn add_times(
         &mut self,
         bytes: &mut Vec<u8>,
+        count: usize,
         options: &[&'static [u8]],
     ) -> Result<(), AllocError> {
-        self.add(bytes, options)?;
-        self.add(bytes, &ENDS)
+        for _ in 0..count {
+            self.add(bytes, options)?;
+        }
+        Ok(())
+    }
+
+    fn add_lines(
+        &mut self,
+        bytes: &mut Vec<u8>,
+        count: usize,
+        options: &[&'static [u8]],
+    ) -> Result<(), AllocError> {
+        for _ in 0..count {
+            self.add(bytes, options)?;
+            self.add(bytes, &ENDS)?;
+        }
+        Ok(())
     }
 
     fn add_head(&mut self, bytes: &mut Vec<u8>) -> Result<(), AllocError> {
-        for _ in 0..self.below(3) {
-            self.add(bytes, &EMPTY)?;
-        }
-        self.add_line(bytes, &FIRST)?;
-        for _ in 0..self.below(4) {
-            self.add_line(bytes, &FIELDS)?;
-        }
+        let blanks = self.below(3);
+        self.add_times(bytes, blanks, &EMPTY)?;
+        self.add_lines(bytes, 1, &FIRST)?;
+        let fields = self.below(4);
+        self.add_lines(bytes, fields, &FIELDS)?;
         self.add(bytes, &EMPTY)
     }
 
@@ -109,14 +123,17 @@ fn step<'a>(
     Ok((given == want).then_some(left))
 }
 
-// How many of the first four calls over a stream give a head, or none where the plain program says something else.
-fn heads_of(alloc: Global, stream: &[u8], most: usize) -> Result<Option<u32>, AllocError> {
-    let mut wire = Wire::new();
-    let mut source = source_of(alloc, stream, most, u64::MAX)?;
+// How many of four calls over the rest of a stream give a head, or none where the plain program says something else.
+fn heads_from(
+    alloc: Global,
+    wire: &mut Wire,
+    source: &mut MemSource,
+    stream: &[u8],
+) -> Result<Option<u32>, AllocError> {
     let mut rest = stream;
     let mut heads = 0u32;
     for _ in 0..4 {
-        let Some(left) = step(alloc, &mut wire, &mut source, rest)? else {
+        let Some(left) = step(alloc, wire, source, rest)? else {
             return Ok(None);
         };
         if left.len() < rest.len() {
@@ -125,6 +142,11 @@ fn heads_of(alloc: Global, stream: &[u8], most: usize) -> Result<Option<u32>, Al
         rest = left;
     }
     Ok(Some(heads))
+}
+
+fn heads_of(alloc: Global, stream: &[u8], most: usize) -> Result<Option<u32>, AllocError> {
+    let mut source = source_of(alloc, stream, most, u64::MAX)?;
+    heads_from(alloc, &mut Wire::new(), &mut source, stream)
 }
 
 // How many heads there are in all, or the first seed whose stream the two programs read otherwise.

@@ -40,10 +40,8 @@ pub fn front(alloc: Global, bytes: &[u8]) -> Result<(Vec<u8>, &[u8]), AllocError
         return Ok((Vec::from_slice(alloc, word_of(bytes))?, bytes));
     };
     let (before, rest) = bytes.split_at(end);
-    match head_of(alloc, &before[start..])? {
-        Ok(line) => Ok((line, rest)),
-        Err(word) => Ok((Vec::from_slice(alloc, word)?, bytes)),
-    }
+    let (said, is_head) = head_of(alloc, &before[start..])?;
+    Ok((said, if is_head { rest } else { bytes }))
 }
 
 // What is said of bytes in which no head ends.
@@ -57,17 +55,10 @@ fn word_of(bytes: &[u8]) -> &'static [u8] {
     }
 }
 
-// The line of a request with this head, or a word.
-fn head_of(alloc: Global, head: &[u8]) -> Result<Result<Vec<u8>, &'static [u8]>, AllocError> {
+// The line of a request with this head, or a word and false.
+fn head_of(alloc: Global, head: &[u8]) -> Result<(Vec<u8>, bool), AllocError> {
     let lines = parts(alloc, head, b'\n')?;
-    // The first line, 64 lines of fields, the empty line, and nothing behind its line feed.
-    if lines.len() > 67 {
-        return Ok(Err(b"TooLong"));
-    }
-    match read(alloc, lines.as_slice())? {
-        Some(line) => Ok(Ok(line)),
-        None => Ok(Err(b"Broken")),
-    }
+    read(alloc, lines.as_slice())
 }
 
 // The bytes of the blank lines in front.
@@ -103,16 +94,35 @@ fn without_end(line: &[u8]) -> &[u8] {
     line.strip_suffix(b"\r").unwrap_or(line)
 }
 
-fn read(alloc: Global, lines: &[&[u8]]) -> Result<Option<Vec<u8>>, AllocError> {
-    let [first, fields @ .., _, _] = lines else {
-        return Ok(None);
-    };
-    let Some((method, target, minor)) = start_of(without_end(first)) else {
-        return Ok(None);
+fn refused(alloc: Global, word: &[u8]) -> Result<(Vec<u8>, bool), AllocError> {
+    Ok((Vec::from_slice(alloc, word)?, false))
+}
+
+fn read(alloc: Global, lines: &[&[u8]]) -> Result<(Vec<u8>, bool), AllocError> {
+    // The first line, 64 lines of fields, the empty line, and nothing behind its line feed.
+    if lines.len() > 67 {
+        return refused(alloc, b"TooLong");
+    }
+    match lines {
+        [first, fields @ .., _, _] => read_lines(alloc, without_end(first), fields),
+        _ => refused(alloc, b"Broken"),
+    }
+}
+
+fn read_lines(
+    alloc: Global,
+    first: &[u8],
+    fields: &[&[u8]],
+) -> Result<(Vec<u8>, bool), AllocError> {
+    let Some((method, target, minor)) = start_of(first) else {
+        return refused(alloc, b"Broken");
     };
     let mut line = start(alloc, method, target, minor)?;
-    let whole = add_fields(&mut line, fields)?;
-    Ok(whole.then_some(line))
+    if add_fields(&mut line, fields)? {
+        Ok((line, true))
+    } else {
+        refused(alloc, b"Broken")
+    }
 }
 
 // The method, the target and the digit of the version.

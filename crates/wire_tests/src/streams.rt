@@ -169,16 +169,34 @@ impl Calls {
             Err(fault) => self.add(word_of(fault)),
         }
     }
+
+    fn make(&mut self, calls: &[Option<u64>]) -> Result<(), AllocError> {
+        for call in calls {
+            match call {
+                Some(length) => self.body(*length)?,
+                None => self.head()?,
+            }
+        }
+        Ok(())
+    }
+}
+
+// Whether these calls, each for a head or for a body of that length, give that.
+fn gives(
+    alloc: Global,
+    source: MemSource,
+    calls: &[Option<u64>],
+    want: &[u8],
+) -> Result<bool, AllocError> {
+    let mut made = Calls::new(alloc, source);
+    made.make(calls)?;
+    Ok(made.given.as_slice() == want)
 }
 
 fn reads(alloc: Global, stream: &Stream) -> Result<bool, AllocError> {
     let (bytes, most, fails_at, want) = stream;
     let source = source_of(alloc, bytes, *most, *fails_at)?;
-    let mut calls = Calls::new(alloc, source);
-    for _ in 0..3 {
-        calls.head()?;
-    }
-    Ok(calls.given.as_slice() == *want)
+    gives(alloc, source, &[None, None, None], want)
 }
 
 // The first stream that is read as something else.
@@ -215,9 +233,7 @@ fn bytes_of(alloc: Global, long: &Long) -> Result<Vec<u8>, AllocError> {
 
 fn is_too_long(alloc: Global, bytes: &[u8]) -> Result<bool, AllocError> {
     let source = source_of(alloc, bytes, 100, NEVER)?;
-    let mut calls = Calls::new(alloc, source);
-    calls.head()?;
-    Ok(calls.given.as_slice() == b"TooLong;".as_slice())
+    gives(alloc, source, &[None], b"TooLong;")
 }
 
 // The first long stream of which the wire says something else.
@@ -238,31 +254,34 @@ static BODIES: [Bodies; 4] = [
     (
         b"PUT /a HTTP/1.1\n\nabcdeGET /b HTTP/1.1\n\n",
         1,
-        b"PUT /a 1 ;abc;;de;GET /b 1 ",
+        b"PUT /a 1 ;abc;;de;GET /b 1 ;",
     ),
     (
         b"PUT /a HTTP/1.1\n\nabcdeGET /b HTTP/1.1\n\n",
         5,
-        b"PUT /a 1 ;abc;;de;GET /b 1 ",
+        b"PUT /a 1 ;abc;;de;GET /b 1 ;",
     ),
     (
         b"PUT /a HTTP/1.1\n\nabcdeGET /b HTTP/1.1\n\n",
         9000,
-        b"PUT /a 1 ;abc;;de;GET /b 1 ",
+        b"PUT /a 1 ;abc;;de;GET /b 1 ;",
     ),
-    (b"PUT /a HTTP/1.1\n\nabcd", 18, b"PUT /a 1 ;abc;;Torn;Clean"),
+    (
+        b"PUT /a HTTP/1.1\n\nabcd",
+        18,
+        b"PUT /a 1 ;abc;;Torn;Clean;",
+    ),
 ];
 
 fn gives_bodies(alloc: Global, bodies: &Bodies) -> Result<bool, AllocError> {
     let (bytes, most, want) = bodies;
     let source = source_of(alloc, bytes, *most, NEVER)?;
-    let mut calls = Calls::new(alloc, source);
-    calls.head()?;
-    for length in [3, 0, 2] {
-        calls.body(length)?;
-    }
-    calls.head()?;
-    Ok(calls.given.as_slice().strip_suffix(b";") == Some(*want))
+    gives(
+        alloc,
+        source,
+        &[None, Some(3), Some(0), Some(2), None],
+        want,
+    )
 }
 
 // The first stream whose bodies are others.
