@@ -1,47 +1,94 @@
 -- The commands of the machine, as plain data, and the condition that each of them meets.
-use Rattle.std.specs.Prelude.{ℕ, Bool, true, false, ◌&&◌, ◌==◌, nat_lt, List, find, Option, Some}
-use Rattle.std.specs.Str.{bytes_eq}
-use Rattle.repo_model.specs.Data.{Blob, Policy, Settings}
-use Rattle.repo_model.specs.File.{FileKind, file_kind, is_taken}
+use Rattle.std.specs.Prelude.{ℕ, Bool, true, false, ◌&&◌, ◌==◌, nat_lt, List, length, find, Option, Some, None, Result, Ok, Err, is_some, bytes_eq}
+use Rattle.mvn_coords.specs.Kind.{kind}
+use Rattle.mvn_coords.specs.declared.kind.Kind.{Kind}
+use Rattle.mvn_coords.specs.declared.kind.Kind.TheVariants.{FileSide, DocSide, Doc}
+use Rattle.mvn_coords.specs.declared.fault.PathFault.{PathFault}
+use Rattle.mvn_coords.specs.declared.fault.Side.{Side}
+use Rattle.mvn_coords.specs.declared.fault.Side.TheVariants.{Sha1, Md5}
+use Rattle.repo_model.specs.Data.{Blob, Place, repository, session}
+use Rattle.repo_model.specs.Settings.{Rule, Settings}
+use Rattle.repo_model.specs.Paths.{takes, file_at}
+use Rattle.repo_model.specs.State.{number_end}
 
 pub data Command : Type 0 where
-  -- asks for the file at a path, and for a lease on its blob
-  look : (repo path : List ℕ) → Command
+  -- asks what is at a path, and for a lease on the blob of a file; these members of a group were tried
+  look : (repo path : List ℕ) (tried : List ℕ) → Command
   -- gives a lease back
   done : (lease : ℕ) → Command
-  -- asks for a draft, the number of a blob to store
-  may_put : (repo path : List ℕ) → Command
+  -- asks for a draft, the number of a blob to store, for a file at a path
+  may_put : Place → (path : List ℕ) → Command
   -- makes the blob stored under a draft the file at a path
   put : (repo path : List ℕ) (draft : ℕ) (blob : Blob) → Command
+  -- compares the digest that a side file says with that of its file
+  put_side : Place → (path said : List ℕ) → Command
+  -- a document was sent, which is not kept
+  put_doc : Place → (path : List ℕ) → Command
   -- gives a draft up
   drop_draft : (draft : ℕ) → Command
+  -- opens a deployment session for a repository
+  open_session : (repo : List ℕ) → Command
+  -- makes the blob stored under a draft a file of a session
+  stage : (session : ℕ) (path : List ℕ) (draft : ℕ) (blob : Blob) → Command
+  -- deploys all files of a session at once
+  commit : (session : ℕ) → Command
+  -- gives a session up
+  abort : (session : ℕ) → Command
+  -- lets the builds of a repository fade that are not to be kept
+  unlist : (repo : List ℕ) → Command
+  -- takes away what has faded for longer than the grace period, and asks for garbage to remove
+  collect : Command
+  -- asks how much there is
+  status : Command
 
--- numbers of drafts and leases, and lengths of blobs, are below it
-abbrev pub number_end : ℕ
-number_end = 9223372036854775808
+abbrev pub rule_of : List ℕ → Settings → Option Rule
+rule_of id settings = find (λ rule. bytes_eq rule.id id) settings.hosted
 
-abbrev pub policy_of : List ℕ → List Policy → Option Policy
-policy_of id policies = find (λ policy. bytes_eq policy.id id) policies
+abbrev pub is_fit : {A : Type 0} → (A → Bool) → Option A → Bool
+is_fit test None = false
+is_fit test (Some value) = test value
 
-abbrev pub both : Option Policy → Option FileKind → (Policy → FileKind → Bool) → Bool
-both (Some policy) (Some kind) test = test policy kind
-both _ _ test = false
+abbrev pub is_there : List ℕ → Settings → Bool
+is_there repo settings = is_some (rule_of repo settings)
 
--- the repository is there, the path names a file, and both pass the test
-abbrev pub fits_repo : Settings → List ℕ → List ℕ → (Policy → FileKind → Bool) → Bool
-fits_repo settings repo path test = both (policy_of repo settings.hosted) (file_kind path) test
+abbrev pub is_place : Place → Settings → Bool
+is_place (repository repo) settings = is_there repo settings
+is_place (session n) settings = true
+
+abbrev pub names_something : Result Kind PathFault → Bool
+names_something (Ok k) = true
+names_something (Err fault) = false
+
+-- the bytes of a digest (FIPS 180-4, section 1; RFC 1321, section 3.5)
+abbrev pub digest_bytes : Side → ℕ
+digest_bytes Sha1 = 20
+digest_bytes Md5 = 16
+
+-- a digest of the side that the path names
+abbrev pub is_digest : Result Kind PathFault → List ℕ → Bool
+is_digest (Ok (FileSide c side)) said = length said == digest_bytes side
+is_digest (Ok (DocSide d side)) said = length said == digest_bytes side
+is_digest _ said = false
+
+abbrev pub names_document : Result Kind PathFault → Bool
+names_document (Ok (Doc d)) = true
+names_document _ = false
+
+abbrev pub is_file_path : List ℕ → Bool
+is_file_path path = is_some (file_at path)
+
+-- a parcel has its draft's number, and a length below 2 ^ 63
+abbrev pub is_parcel : ℕ → Blob → Bool
+is_parcel n blob = (blob.number == n) && nat_lt blob.print.length number_end
 
 -- the condition of a command
 abbrev pub meets : Settings → Command → Bool
-meets settings (look repo path) = fits_repo settings repo path (λ policy kind. true)
-meets settings (done lease) = true
-meets settings (may_put repo path) = fits_repo settings repo path (λ policy kind. true)
-meets settings (put repo path draft blob) =
-    fits_repo settings repo path is_taken && (blob.number == draft) && nat_lt blob.print.length number_end
-meets settings (drop_draft draft) = true
-
--- want of memory may be the reply to it
-abbrev pub takes_memory : Command → Bool
-takes_memory (done lease) = false
-takes_memory (drop_draft draft) = false
-takes_memory _ = true
+meets settings (look repo path tried) = is_there repo settings && names_something (kind path)
+meets settings (may_put place path) = is_place place settings && is_file_path path
+meets settings (put repo path n blob) = is_fit (λ rule. takes rule path) (rule_of repo settings) && is_parcel n blob
+meets settings (put_side place path said) = is_place place settings && is_digest (kind path) said
+meets settings (put_doc place path) = is_place place settings && names_document (kind path)
+meets settings (open_session repo) = is_there repo settings
+meets settings (stage at path n blob) = is_file_path path && is_parcel n blob
+meets settings (unlist repo) = is_there repo settings
+meets settings command = true

@@ -1,14 +1,12 @@
--- The plain data of a repository: fingerprints, stored blobs, rows and settings (Maven 2 repository layout; SHA-1 of FIPS 180-4 and MD5 of RFC 1321 as checksums).
+-- The plain data of a repository: fingerprints, stored blobs, rows and sessions (SHA-1 of FIPS 180-4 and MD5 of RFC 1321 as checksums).
 use Rattle.std.specs.Prelude.{ℕ, Bool, ◌&&◌, ◌==◌, List, Option}
 use Rattle.std.specs.Str.{bytes_eq}
-use Rattle.mvn_digest.specs.declared.digests.Digests.{Digests}
 use Rattle.repo_model.specs.declared.print.Print.{Print}
-
-abbrev pub is_same_digests : Digests → Digests → Bool
-is_same_digests a b = bytes_eq a.sha1 b.sha1 && bytes_eq a.md5 b.md5
+use Rattle.repo_model.specs.declared.session.SessionResult.{SessionResult}
+use Rattle.repo_model.specs.Settings.{Rule}
 
 abbrev pub is_same_print : Print → Print → Bool
-is_same_print a b = (a.length == b.length) && is_same_digests a.digests b.digests
+is_same_print a b = (a.length == b.length) && (bytes_eq a.digests.sha1 b.digests.sha1 && bytes_eq a.digests.md5 b.digests.md5)
 
 -- a stored blob: its number, its bytes where they are told, and its fingerprint
 pub record Blob : Type 0 where
@@ -28,12 +26,24 @@ pub record Row : Type 0 where
   pub accepted : ℕ
   pub phase : Phase
 
--- what a hosted repository takes: releases, snapshots or both
-pub record Policy : Type 0 where
-  pub id : List ℕ
-  pub releases : Bool
-  pub snapshots : Bool
+-- a hosted repository: its rows, each path once, in byte order of path
+pub record Hosted : Type 0 where
+  pub rule : Rule
+  pub rows : List Row
 
-pub record Settings : Type 0 where
-  pub hosted : List Policy
-  pub max_file : ℕ
+-- a file that a session has staged
+pub record Staged : Type 0 where
+  pub path : List ℕ
+  pub blob : Blob
+
+-- a session for one hosted repository: open with its staged files in byte order of path, or ended
+pub record Session : Type 0 where
+  pub number : ℕ
+  pub repo : List ℕ
+  pub staged : List Staged
+  pub ended : Option SessionResult
+
+-- where a file is put: a repository, or a session
+pub data Place : Type 0 where
+  repository : List ℕ → Place
+  session : ℕ → Place

@@ -1,106 +1,104 @@
--- The state of the one-thread repository, and the words that read and change one part of it.
-use Rattle.std.specs.Prelude.{ℕ, ◌+◌, Bool, not, ◌==◌, if◌then◌else◌, List, [], ◌∷◌, ◌++◌, map, filter, find, Option, nat_lt}
+-- The state of the one-thread repository, and the words that read one part of it.
+use Rattle.std.specs.Prelude.{ℕ, Bool, ◌&&◌, ◌==◌, if◌then◌else◌, List, [], ◌∷◌, map, find, Option, is_none, bytes_eq}
+use Rattle.std.specs.Option.{option_map_or}
 use Rattle.std.specs.List.{list_any}
-use Rattle.std.specs.Str.{bytes_eq}
-use Rattle.std.specs.Ordering.{nat_cmp, match_ordering}
-use Rattle.std.specs.Cmp.Lexicographic.{slice_cmp}
 use Rattle.outside.specs.Moments.{Moments}
-use Rattle.repo_model.specs.Data.{Row, listed, Policy, Settings}
+use Rattle.repo_model.specs.Data.{Row, Hosted, Staged, Session}
+use Rattle.repo_model.specs.Settings.{Rule, Settings}
 
--- the rows of one hosted repository, each path once, in byte order of path
-pub record Hosted : Type 0 where
-  pub id : List ℕ
-  pub rows : List Row
+-- numbers of drafts, leases and sessions, and lengths of blobs, are below it
+abbrev pub number_end : ℕ
+number_end = 9223372036854775808
+
+-- the most sessions that are open, and the most files that one of them stages
+abbrev pub most_sessions : ℕ
+most_sessions = 64
+
+abbrev pub most_staged : ℕ
+most_staged = 1000
 
 -- a blob that a reader has borrowed
 pub record Lease : Type 0 where
   pub number : ℕ
   pub blob : ℕ
 
--- blob numbers: allocated and not yet used (drafts), borrowed (leases), garbage (condemned), and the next ones to draw
+-- numbers: blobs allocated and not yet used (drafts), borrowed (leases), garbage (condemned), and the next ones to draw
 pub record Yard : Type 0 where
   pub drafts : List ℕ
   pub leases : List Lease
   pub condemned : List ℕ
   pub next_draft : ℕ
   pub next_lease : ℕ
+  pub next_session : ℕ
 
 pub record State : Type 0 where
   pub hosted : List Hosted
+  pub sessions : List Session
   pub yard : Yard
-  -- the moment of the last turn, in seconds since 1970 in UTC
+  -- the moment of the last turn
   pub last : ℕ
   -- the moments that the clock has left, where told
   pub clock : Option Moments
+  -- how often the records have failed
+  pub faults : ℕ
 
--- the row at a path
+-- each item that passes the test is changed, and the others stay
+abbrev pub change_where : {X : Type 0} → (X → Bool) → (X → X) → List X → List X
+change_where test f xs = map (λ x. if test x then f x else x) xs
+
+-- the first item that passes the test is changed
+abbrev pub change_first : {X : Type 0} → (X → Bool) → (X → X) → List X → List X
+change_first test f [] = []
+change_first test f (x ∷ xs) = if test x then f x ∷ xs else x ∷ change_first test f xs
+
+abbrev pub is_repository : List ℕ → Hosted → Bool
+is_repository id h = bytes_eq h.rule.id id
+
+abbrev pub is_row : List ℕ → Row → Bool
+is_row path row = bytes_eq row.path path
+
+abbrev pub is_session : ℕ → Session → Bool
+is_session n s = s.number == n
+
+abbrev pub is_staged : List ℕ → Staged → Bool
+is_staged path file = bytes_eq file.path path
+
+abbrev pub hosted_of : List ℕ → State → Option Hosted
+hosted_of id s = find (is_repository id) s.hosted
+
 abbrev pub row_at : List ℕ → List Row → Option Row
-row_at path rows = find (λ row. bytes_eq row.path path) rows
+row_at path rows = find (is_row path) rows
 
 -- the rows of a repository; none where there is no such repository
-abbrev pub rows_of : List ℕ → List Hosted → List Row
-rows_of id [] = []
-rows_of id (h ∷ hosted) = if bytes_eq h.id id then h.rows else rows_of id hosted
+abbrev pub rows_of : List ℕ → State → List Row
+rows_of id s = option_map_or (λ h. h.rows) (hosted_of id s) []
 
--- the repositories with other rows at one of them
-abbrev pub with_rows : List ℕ → List Row → List Hosted → List Hosted
-with_rows id rows [] = []
-with_rows id rows (h ∷ hosted) =
-    if bytes_eq h.id id then record h { rows = rows } ∷ hosted else h ∷ with_rows id rows hosted
+-- a session that was opened, also one that has ended
+abbrev pub session_of : ℕ → State → Option Session
+session_of n s = find (is_session n) s.sessions
 
--- the rows with one more, which stands before the first that is not below it in byte order of path
-abbrev pub with_row : Row → List Row → List Row
-with_row new [] = new ∷ []
-with_row new (row ∷ rows) =
-    match_ordering (slice_cmp nat_cmp row.path new.path) (row ∷ with_row new rows) (new ∷ row ∷ rows) (new ∷ row ∷ rows)
+abbrev pub is_open : Session → Bool
+is_open s = is_none s.ended
 
--- a row listed again, accepted at that moment
-abbrev pub list_again : ℕ → Row → Row
-list_again moment row = record row { accepted = moment; phase = listed }
+abbrev pub is_open_at : ℕ → Session → Bool
+is_open_at n s = is_session n s && is_open s
 
--- the rows with the one at a path listed again
-abbrev pub relisted : List ℕ → ℕ → List Row → List Row
-relisted path moment rows = map (λ row. if bytes_eq row.path path then list_again moment row else row) rows
-
--- numbers in rising order with one more
-abbrev pub with_number : ℕ → List ℕ → List ℕ
-with_number n [] = n ∷ []
-with_number n (m ∷ ms) = if nat_lt m n then m ∷ with_number n ms else n ∷ m ∷ ms
-
-abbrev pub without_number : ℕ → List ℕ → List ℕ
-without_number n ns = filter (λ m. not (m == n)) ns
+abbrev pub open_of : ℕ → State → Option Session
+open_of n s = find (is_open_at n) s.sessions
 
 abbrev pub is_among : ℕ → List ℕ → Bool
 is_among n ns = list_any (λ m. m == n) ns
 
--- a draft becomes garbage
-abbrev pub condemned_draft : ℕ → Yard → Yard
-condemned_draft n yard = record yard { drafts = without_number n yard.drafts; condemned = with_number n yard.condemned }
+abbrev pub new_hosted : Rule → Hosted
+new_hosted rule = record { rule = rule; rows = [] }
 
--- a draft becomes a row's blob
-abbrev pub kept_draft : ℕ → Yard → Yard
-kept_draft n yard = record yard { drafts = without_number n yard.drafts }
-
-abbrev pub drawn_draft : Yard → Yard
-drawn_draft yard = record yard { drafts = yard.drafts ++ yard.next_draft ∷ []; next_draft = yard.next_draft + 1 }
-
-abbrev pub leased : ℕ → Yard → Yard
-leased blob yard = record yard {
-  leases = yard.leases ++ record { number = yard.next_lease; blob = blob } ∷ [];
-  next_lease = yard.next_lease + 1;
-}
-
-abbrev pub given_back : ℕ → Yard → Yard
-given_back lease yard = record yard { leases = filter (λ l. not (l.number == lease)) yard.leases }
-
-abbrev pub empty_hosted : Policy → Hosted
-empty_hosted policy = record { id = policy.id; rows = [] }
-
--- before the first turn: no rows, no numbers drawn
+-- before the first turn of an empty repository
 abbrev pub opening : Settings → Option Moments → State
 opening settings clock = record {
-  hosted = map empty_hosted settings.hosted;
-  yard = record { drafts = []; leases = []; condemned = []; next_draft = 1; next_lease = 1 };
+  hosted = map new_hosted settings.hosted;
+  sessions = [];
+  yard = record { drafts = []; leases = []; condemned = []; next_draft = 1; next_lease = 1; next_session = 1 };
   last = 0;
   clock = clock;
+  faults = 0;
 }

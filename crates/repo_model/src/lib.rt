@@ -1,12 +1,21 @@
 //! The one-thread repository: its state, its commands and replies, one turn, and legal histories.
 //!
-//! The definitions stand in `specs/`. The functions of `laws` have no code: each one's contract is a law about them.
+//! The definitions stand in `specs/`: a turn is a reply and a list of effects, each a small change of one part of the state.
+//! `repo_laws` has what holds of them.
 #![tactic(auto)]
 
-pub mod laws;
+mod ask;
+mod command;
+mod item;
 mod numbers;
 mod print;
-mod worked;
+mod reply;
+mod session;
 
+pub use ask::Ask;
+pub use command::Command;
+pub use item::Item;
 pub use numbers::NUMBER_END;
 pub use print::Print;
+pub use reply::Reply;
+pub use session::SessionResult;

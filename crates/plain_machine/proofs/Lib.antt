@@ -1,2 +1,0 @@
-pub mod HostedLemmas
-pub mod RowLemmas

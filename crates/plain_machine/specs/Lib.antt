@@ -1,3 +1,0 @@
-pub mod Commands
-pub mod Replies
-pub mod Phases

@@ -1,4 +1,0 @@
-pub mod Requests
-pub mod Scenes
-pub mod Streams
-pub mod Bodies

@@ -1,0 +1,48 @@
+-- The commands, the replies and the parcels of the program as the machine's plain data.
+use Rattle.std.specs.Prelude.{ℕ, []}
+use Rattle.outside.specs.declared.parcels.Parcel.{Parcel}
+use Rattle.outside.specs.declared.stores.Held.{Ghosts}
+use Rattle.repo_model.specs.declared.print.Print.{Print}
+use Rattle.repo_model.specs.Data.{Blob, repository}
+use Rattle.repo_model.specs.Command as asked
+use Rattle.repo_model.specs.Reply as answered
+use Rattle.repo_model.specs.History.{Entry}
+use Rattle.repo_model.specs.declared.command.Command.{Command}
+use Rattle.repo_model.specs.declared.command.Command.TheVariants.{Look, Done, MayPut, Put, Drop}
+use Rattle.repo_model.specs.declared.reply.Reply.{Reply}
+use Rattle.repo_model.specs.declared.reply.Reply.TheVariants as given
+
+-- a parcel's fingerprint
+abbrev pub shown_print : {X : Type 0} {G : Ghosts X} → Parcel X G → Print
+shown_print parcel = record { length = parcel.length; digests = parcel.digests }
+
+-- a parcel as a stored blob
+abbrev pub shown_parcel : {X : Type 0} {G : Ghosts X} → Parcel X G → Blob
+shown_parcel {X} {G} parcel = record { number = parcel.blob; bytes = G.bytes parcel.held; print = shown_print parcel }
+
+abbrev pub shown_command : {X : Type 0} {G : Ghosts X} → Command X G → asked.Command
+shown_command (Look repo path) = asked.look repo path []
+shown_command (Done lease) = asked.done lease
+shown_command (MayPut repo path) = asked.may_put (repository repo) path
+shown_command (Put repo path draft parcel) = asked.put repo path draft (shown_parcel parcel)
+shown_command (Drop draft) = asked.drop_draft draft
+
+abbrev pub shown_reply : {X : Type 0} {G : Ghosts X} → Reply X G → answered.Reply
+shown_reply (given.File lease parcel) = answered.file lease (shown_parcel parcel)
+shown_reply given.Missed = answered.missed
+shown_reply given.Done = answered.given_back
+shown_reply given.KindRefused = answered.kind_refused
+shown_reply (given.Draft number) = answered.draft number
+shown_reply given.NoDraft = answered.no_draft
+shown_reply (given.Taken kept sent) = answered.taken kept sent
+shown_reply given.Same = answered.same
+shown_reply given.Relisted = answered.relisted
+shown_reply given.Created = answered.created
+shown_reply given.Dropped = answered.dropped
+shown_reply given.Spent = answered.spent
+shown_reply given.NoMemory = answered.no_memory
+
+-- a call at a moment, what it answered, and how often the records had failed then
+abbrev pub entry_of : {X : Type 0} {G : Ghosts X} → Command X G → ℕ → Reply X G → ℕ → Entry
+entry_of command moment reply faults =
+    record { command = shown_command command; moment = moment; reply = shown_reply reply; faults = faults }
