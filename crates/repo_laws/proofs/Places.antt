@@ -1,0 +1,243 @@
+-- Each blob number stands in one place: kept by each effect.
+use native.Mathlib.Omega.{arith}
+use Rattle.std.proofs.Common.{◌≡◌, ◌≤◌, ◌<◌, ◌+◌, ℕ, Bool, true, false, not, cond, ◌&&◌, List, [], ◌∷◌, ◌++◌, Some, refl, sym, ◌∙◌, ap, subst}
+use Rattle.std.specs.Prelude.{◌==◌, nat_lt, IsTrue, count_by, filter, find}
+use Rattle.std.specs.Option.{option_map_or}
+use Rattle.std.specs.List.{AllByRecursion, list_all, list_any}
+use Rattle.std.proofs.lemmas.Bool.{ne_eqb, eq-eqb, false≢true, and_parts, or_parts, or_from, and_from, ltb-true, ltb-false}
+use Rattle.std.proofs.lemmas.List.Sums.{sum_by_push}
+use Rattle.repo_model.specs.Data.{Row, Hosted, Staged, Session}
+use Rattle.repo_model.specs.State.{State, Lease, change_where, is_repository, is_row, is_staged, is_open_at, rows_of, is_among}
+use Rattle.repo_model.specs.Effect.{Effect, draws, drops, creates, stages, delivers, discards, relists, fades, expires, forgets, lends, returns, opens, ends, with_row, new_row, list_again, fade, with_staged, without_row, without_staged, new_session, with_effect}
+use Rattle.repo_model.specs.May.{May}
+use Rattle.repo_laws.specs.Laws.{places_of, rows_with, count_of}
+use Rattle.repo_laws.specs.Sound.{RowsApart, OnePlace}
+use Rattle.repo_laws.proofs.Rows.{rows_in}
+use Rattle.repo_laws.proofs.Counts.{one_if, count-cons, count-push, count-filter, found-goes, row-goes, count-with_number, given-up, count-with_row, count-with_staged, count-change_where, names, stages_it, rows-counted, rows-counted-back, staged-counted, row-counts}
+
+-- the effect draws the next number
+abbrev pub is_draw : Effect → Bool
+is_draw draws = true
+is_draw effect = false
+
+abbrev pub drawn_by : Effect → State → ℕ → ℕ
+drawn_by e s n = one_if (is_draw e && (s.yard.next_draft == n))
+
+module _ (grace now : ℕ) (s : State) (n : ℕ) where
+  abbrev Counted : Effect → Type 0
+  Counted e = places_of (with_effect s e) n ≤ drawn_by e s n + places_of s n
+
+  relisted : (repo path : List ℕ) (f : Row → Row) → ((r : Row) → names n (f r) ≡ names n r) →
+      count_by (names n) (change_where (is_row path) f (rows_of repo s)) + 0 ≤ count_by (names n) (rows_of repo s) + 0
+  relisted repo path f keeps = omega (arith, count-change_where (names n) (is_row path) f keeps (rows_of repo s))
+
+  -- a number stands in no more places than before, but for the next one, which is drawn
+  pub places-counted : (e : Effect) → May grace now s e → Counted e
+  places-counted draws may = omega (arith, count-push (λ m. m == n) s.yard.drafts s.yard.next_draft)
+  places-counted (drops m) may = omega (arith, given-up n m s.yard.drafts may, count-with_number n m s.yard.condemned)
+  places-counted (creates repo path blob moment) may =
+      let here = rows-counted n repo (with_row (new_row path blob moment)) 0 (one_if (blob.number == n)) s.hosted
+      (omega (arith, count-with_row (names n) (new_row path blob moment) (rows_of repo s))) in
+      omega (arith, given-up n blob.number s.yard.drafts may.2, here)
+  places-counted (stages m path blob) may =
+      let (one, found, among, _, _) = may in
+      let new : Staged = record { path = path; blob = blob } in
+      let here = staged-counted n (is_open_at m) (λ session. record session { staged = with_staged new session.staged }) 0 (one_if (blob.number == n)) s.sessions one found
+      (omega (arith, count-with_staged (stages_it n) new one.staged)) in
+      omega (arith, given-up n blob.number s.yard.drafts among, here)
+  places-counted (delivers m repo path blob moment) may =
+      let (one, _, _, found, is, _) = may in
+      let rows = rows-counted n repo (with_row (new_row path blob moment)) 0 (one_if (blob.number == n)) s.hosted
+      (omega (arith, count-with_row (names n) (new_row path blob moment) (rows_of repo s))) in
+      let files = staged-counted n (is_open_at m) (without_staged path) (one_if (blob.number == n)) 0 s.sessions one found
+      (omega (arith, found-goes (stages_it n) (is_staged path) one.staged (record { path = path; blob = blob }) is)) in
+      omega (arith, rows, files)
+  places-counted (discards m path draft) may =
+      let (one, file, found, is, named) = may in
+      let same : one_if (file.blob.number == n) ≡ one_if (draft == n) = ap (λ k. one_if (k == n)) named in
+      let files = staged-counted n (is_open_at m) (without_staged path) (one_if (file.blob.number == n)) 0 s.sessions one found
+      (omega (arith, found-goes (stages_it n) (is_staged path) one.staged file is)) in
+      omega (arith, files, same, count-with_number n draft s.yard.condemned)
+  places-counted (relists repo path moment) may =
+      omega (arith, rows-counted n repo (change_where (is_row path) (list_again moment)) 0 0 s.hosted (relisted repo path (list_again moment) (λ r. refl)))
+  places-counted (fades repo path moment) may =
+      omega (arith, rows-counted n repo (change_where (is_row path) (fade moment)) 0 0 s.hosted (relisted repo path (fade moment) (λ r. refl)))
+  places-counted (expires repo path blob) may =
+      let (row, since, found, _, named, _) = may in
+      let same : one_if (row.blob.number == n) ≡ one_if (blob == n) = ap (λ k. one_if (k == n)) named in
+      let rows = rows-counted n repo (without_row path) (one_if (row.blob.number == n)) 0 s.hosted
+      (omega (arith, found-goes (names n) (is_row path) (rows_of repo s) row found)) in
+      omega (arith, rows, same, count-with_number n blob s.yard.condemned)
+  places-counted (forgets blobs) may = omega (arith, count-filter (λ m. m == n) (λ m. not (is_among m blobs)) s.yard.condemned)
+  places-counted (lends blob) may = omega arith
+  places-counted (returns lease) may = omega arith
+  places-counted (opens m repo) may =
+      let none : count_by (stages_it n) [] ≡ 0 = refl in
+      omega (arith, none, sum_by_push (λ (x : Session). count_by (stages_it n) x.staged) s.sessions (new_session m repo))
+  places-counted (ends m outcome) may =
+      let (one, found, _) = may in
+      omega (arith, staged-counted n (is_open_at m) (λ session. record session { ended = Some outcome }) 0 0 s.sessions one found (omega arith))
+
+-- the next number grows where it is drawn
+pub next-counted : (s : State) (e : Effect) → (with_effect s e).yard.next_draft ≡ s.yard.next_draft + one_if (is_draw e)
+next-counted s draws = refl
+next-counted s (drops m) = omega arith
+next-counted s (creates repo path blob moment) = omega arith
+next-counted s (stages m path blob) = omega arith
+next-counted s (delivers m repo path blob moment) = omega arith
+next-counted s (discards m path draft) = omega arith
+next-counted s (relists repo path moment) = omega arith
+next-counted s (fades repo path moment) = omega arith
+next-counted s (expires repo path blob) = omega arith
+next-counted s (forgets blobs) = omega arith
+next-counted s (lends blob) = omega arith
+next-counted s (returns lease) = omega arith
+next-counted s (opens m repo) = omega arith
+next-counted s (ends m outcome) = omega arith
+
+-- a number that was drawn is not drawn again
+pub never-again : (s : State) (e : Effect) (n : ℕ) → n < s.yard.next_draft → drawn_by e s n ≡ 0
+never-again s e n drawn =
+    let other : (s.yard.next_draft == n) ≡ false = ne_eqb s.yard.next_draft n (λ same. omega (arith, same, drawn)) in
+    elim (is_draw e) as (λ b. one_if (b && (s.yard.next_draft == n)) ≡ 0) [ true ↦ ap one_if other | false ↦ refl ]
+
+-- what is not below the next number then, is not drawn
+not-drawn : (s : State) (e : Effect) (n : ℕ) → (with_effect s e).yard.next_draft ≤ n → drawn_by e s n ≡ 0
+not-drawn s e n above =
+    let next = next-counted s e in
+    elim (is_draw e) as (λ b. (with_effect s e).yard.next_draft ≡ s.yard.next_draft + one_if b → one_if (b && (s.yard.next_draft == n)) ≡ 0) [
+      | true ↦ λ grown. ap one_if (ne_eqb s.yard.next_draft n (λ same. omega (arith, same, above, grown)))
+      | false ↦ λ _. refl
+    ] next
+
+one-at-most : (b : Bool) → one_if b ≤ 1
+one-at-most true = omega arith
+one-at-most false = omega arith
+
+not_off : (b : Bool) → not b ≡ true → b ≡ false
+not_off true is = absurd (false≢true is)
+not_off false is = refl
+
+pub rows-apart : (repo : List ℕ) (hosted : List Hosted) → AllByRecursion (λ (h : Hosted). RowsApart h.rows) hosted → RowsApart (rows_in repo hosted)
+rows-apart repo [] all = tt
+rows-apart repo (h ∷ hosted) all =
+    elim (is_repository repo h) as (λ b. RowsApart (option_map_or (λ (g : Hosted). g.rows) (cond b (Some h) (find (is_repository repo) hosted)) [])) [
+      | true ↦ all.0
+      | false ↦ rows-apart repo hosted all.1
+    ]
+
+-- what is borrowed is a row's or condemned
+abbrev IsLent : State → Lease → Type 0
+IsLent t lease = 0 < rows_with lease.blob t.hosted + count_of lease.blob t.yard.condemned
+
+module _ (s : State) where
+  all-lent : (t : State) → ((n : ℕ) → rows_with n s.hosted + count_of n s.yard.condemned ≤ rows_with n t.hosted + count_of n t.yard.condemned)
+      → (leases : List Lease) → AllByRecursion (IsLent s) leases → AllByRecursion (IsLent t) leases
+  all-lent t more [] all = tt
+  all-lent t more (lease ∷ leases) all = (omega (arith, all.0, more lease.blob), all-lent t more leases all.1)
+
+  lent-push : (leases : List Lease) (lease : Lease) → AllByRecursion (IsLent s) leases → IsLent s lease → AllByRecursion (IsLent s) (leases ++ lease ∷ [])
+  lent-push [] lease all new = (new, tt)
+  lent-push (first ∷ leases) lease all new = (all.0, lent-push leases lease all.1 new)
+
+  lent-filter : (q : Lease → Bool) (leases : List Lease) → AllByRecursion (IsLent s) leases → AllByRecursion (IsLent s) (filter q leases)
+  lent-filter q [] all = tt
+  lent-filter q (lease ∷ leases) all =
+      elim (q lease) as (λ b. AllByRecursion (IsLent s) (cond b (lease ∷ filter q leases) (filter q leases))) [
+        | true ↦ (all.0, lent-filter q leases all.1)
+        | false ↦ lent-filter q leases all.1
+      ]
+
+  -- what is not among the forgotten stays
+  count-others : (k : ℕ) (blobs ms : List ℕ) → is_among k blobs ≡ false → count_of k (filter (λ m. not (is_among m blobs)) ms) ≡ count_of k ms
+  count-others k blobs [] other = refl
+  count-others k blobs (m ∷ ms) other =
+      let rest = filter (λ i. not (is_among i blobs)) ms in
+      let same = count-others k blobs ms other in
+      let is : ℕ → Bool = λ i. i == k in
+      elim (is_among m blobs)
+      as (λ b. is_among m blobs ≡ b → count_of k (cond (not b) (m ∷ rest) rest) ≡ count_of k (m ∷ ms)) [
+        | true ↦ λ among.
+            let apart : (m == k) ≡ false = ne_eqb m k (λ at. false≢true (sym other ∙ ap (λ i. is_among i blobs) (sym at) ∙ among)) in
+            let zero : one_if (m == k) ≡ 0 = ap one_if apart in
+            omega (arith, count-cons is m ms, zero, same)
+        | false ↦ λ _. omega (arith, count-cons is m rest, count-cons is m ms, same)
+      ] refl
+
+  not_lent : (lease : Lease) (leases : List Lease) (blobs : List ℕ) → IsTrue (list_all (λ n. is_among n s.yard.condemned && not (list_any (λ (l : Lease). l.blob == n) (lease ∷ leases))) blobs)
+      → (is_among lease.blob blobs ≡ false) × IsTrue (list_all (λ n. is_among n s.yard.condemned && not (list_any (λ (l : Lease). l.blob == n) leases)) blobs)
+  not_lent lease leases [] all = (refl, refl)
+  not_lent lease leases (n ∷ ns) all =
+      let Free : ℕ → List Lease → Bool = λ k ls. is_among k s.yard.condemned && not (list_any (λ (l : Lease). l.blob == k) ls) in
+      let (here, then) = and_parts (Free n (lease ∷ leases)) (list_all (λ k. Free k (lease ∷ leases)) ns) all in
+      let (garbage, unlent) = and_parts (is_among n s.yard.condemned) (not (list_any (λ (l : Lease). l.blob == n) (lease ∷ leases))) here in
+      let (apart, others) = or_parts (lease.blob == n) (list_any (λ (l : Lease). l.blob == n) leases) (not_off (list_any (λ (l : Lease). l.blob == n) (lease ∷ leases)) unlent) in
+      let (rest, rest_free) = not_lent lease leases ns then in
+      let apart_too : (n == lease.blob) ≡ false = ne_eqb n lease.blob (λ at. false≢true (sym apart ∙ eq-eqb lease.blob n (sym at))) in (
+        or_from (n == lease.blob) (is_among lease.blob ns) apart_too rest,
+        and_from (Free n leases) (list_all (λ k. Free k leases) ns)
+            (and_from (is_among n s.yard.condemned) (not (list_any (λ (l : Lease). l.blob == n) leases)) garbage (ap not others)) rest_free,
+      )
+
+  forgotten : (leases : List Lease) (blobs : List ℕ) → IsTrue (list_all (λ n. is_among n s.yard.condemned && not (list_any (λ (l : Lease). l.blob == n) leases)) blobs)
+      → AllByRecursion (IsLent s) leases → AllByRecursion (IsLent (with_effect s (forgets blobs))) leases
+  forgotten [] blobs free all = tt
+  forgotten (lease ∷ leases) blobs free all =
+      let (other, rest) = not_lent lease leases blobs free in
+      (omega (arith, all.0, count-others lease.blob blobs s.yard.condemned other), forgotten leases blobs rest all.1)
+
+pub lent-kept : (grace now : ℕ) (s : State) (e : Effect) → AllByRecursion (λ (h : Hosted). RowsApart h.rows) s.hosted → May grace now s e
+    → AllByRecursion (IsLent s) s.yard.leases → AllByRecursion (IsLent (with_effect s e)) (with_effect s e).yard.leases
+lent-kept grace now s draws apart may all = all
+lent-kept grace now s (drops m) apart may all =
+    all-lent s (with_effect s (drops m)) (λ n. omega (arith, count-with_number n m s.yard.condemned)) s.yard.leases all
+lent-kept grace now s (creates repo path blob moment) apart may all =
+    all-lent s (with_effect s (creates repo path blob moment))
+    (λ n. omega (arith, rows-counted-back n repo (with_row (new_row path blob moment)) 0 s.hosted (omega (arith, count-with_row (names n) (new_row path blob moment) (rows_of repo s))))) s.yard.leases all
+lent-kept grace now s (stages m path blob) apart may all = all
+lent-kept grace now s (delivers m repo path blob moment) apart may all =
+    all-lent s (with_effect s (delivers m repo path blob moment))
+    (λ n. omega (arith, rows-counted-back n repo (with_row (new_row path blob moment)) 0 s.hosted (omega (arith, count-with_row (names n) (new_row path blob moment) (rows_of repo s))))) s.yard.leases all
+lent-kept grace now s (discards m path draft) apart may all =
+    all-lent s (with_effect s (discards m path draft)) (λ n. omega (arith, count-with_number n draft s.yard.condemned)) s.yard.leases all
+lent-kept grace now s (relists repo path moment) apart may all =
+    all-lent s (with_effect s (relists repo path moment))
+    (λ n. omega (arith, rows-counted-back n repo (change_where (is_row path) (list_again moment)) 0 s.hosted (omega (arith, count-change_where (names n) (is_row path) (list_again moment) (λ r. refl) (rows_of repo s))))) s.yard.leases all
+lent-kept grace now s (fades repo path moment) apart may all =
+    all-lent s (with_effect s (fades repo path moment))
+    (λ n. omega (arith, rows-counted-back n repo (change_where (is_row path) (fade moment)) 0 s.hosted (omega (arith, count-change_where (names n) (is_row path) (fade moment) (λ r. refl) (rows_of repo s))))) s.yard.leases all
+lent-kept grace now s (expires repo path blob) apart may all =
+    let (row, since, found, _, named, _) = may in
+    all-lent s (with_effect s (expires repo path blob))
+    (λ n. let same : one_if (row.blob.number == n) ≡ one_if (blob == n) = ap (λ k. one_if (k == n)) named in
+    let rows = rows-counted-back n repo (without_row path) (one_if (row.blob.number == n)) s.hosted (row-goes (names n) path (rows_of repo s) row (rows-apart repo s.hosted apart) found) in
+    omega (arith, rows, same, count-with_number n blob s.yard.condemned)) s.yard.leases all
+lent-kept grace now s (forgets blobs) apart may all = forgotten s s.yard.leases blobs may all
+lent-kept grace now s (lends blob) apart may all =
+    let (repo, path, row, _, found, named) = may in
+    let there : 0 < rows_with blob s.hosted = subst (λ (k : ℕ). 0 < rows_with k s.hosted) named (row-counts repo path s.hosted row found) in
+    lent-push s s.yard.leases (record { number = s.yard.next_lease; blob = blob }) all (omega (arith, there))
+lent-kept grace now s (returns lease) apart may all = lent-filter s (λ l. not (l.number == lease)) s.yard.leases all
+lent-kept grace now s (opens m repo) apart may all = all
+lent-kept grace now s (ends m outcome) apart may all = all
+
+-- each effect keeps all of it
+pub one-place-kept : (grace now : ℕ) (s : State) (e : Effect) → AllByRecursion (λ (h : Hosted). RowsApart h.rows) s.hosted → May grace now s e
+    → OnePlace s → OnePlace (with_effect s e)
+one-place-kept grace now s e apart may old =
+    let next = next-counted s e in
+    record {
+      drawn = λ n below.
+          elim (nat_lt n s.yard.next_draft) as (λ b. nat_lt n s.yard.next_draft ≡ b → places_of (with_effect s e) n ≤ 1) [
+            | true ↦ λ is.
+                let drawn : n < s.yard.next_draft = ltb-true n s.yard.next_draft is in
+                omega (arith, places-counted grace now s n e may, never-again s e n drawn, old.drawn n drawn)
+            | false ↦ λ is.
+                let later : s.yard.next_draft ≤ n = ltb-false n s.yard.next_draft is in
+                omega (arith, places-counted grace now s n e may, one-at-most (is_draw e && (s.yard.next_draft == n)), old.later n later)
+          ] refl;
+      later = λ n above.
+          let later : s.yard.next_draft ≤ n = omega (arith, above, next) in
+          omega (arith, places-counted grace now s n e may, old.later n later, not-drawn s e n above);
+      lent = lent-kept grace now s e apart may old.lent;
+    }

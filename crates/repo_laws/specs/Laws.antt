@@ -1,0 +1,46 @@
+-- Words of the laws.
+use Rattle.std.specs.Prelude.{◌≡◌, ℕ, ◌+◌, ◌≤◌, ◌==◌, true, false, List, [], ◌∷◌, find, None, Some, sum_by, count_by}
+use Rattle.std.specs.List.{AllByRecursion}
+use Rattle.repo_model.specs.Data.{Blob, Row, Phase, listed, fading, Hosted, Session, Staged}
+use Rattle.repo_model.specs.Paths.{is_snapshot_path}
+use Rattle.repo_model.specs.State.{State, row_at, rows_of, is_staged}
+
+-- a row that fades is a snapshot's
+abbrev pub FadesRightly : Row → Type 0
+FadesRightly row = (since : ℕ) → row.phase ≡ fading since → is_snapshot_path row.path ≡ true
+
+abbrev pub FadingAreSnapshots : State → Type 0
+FadingAreSnapshots s = AllByRecursion (λ (h : Hosted). AllByRecursion FadesRightly h.rows) s.hosted
+
+-- a row that is no snapshot's stays, with every field the same
+abbrev pub KeepsReleases : State → State → Type 0
+KeepsReleases old new =
+    (repo path : List ℕ) (row : Row) → is_snapshot_path path ≡ false →
+    row_at path (rows_of repo old) ≡ Some row → row_at path (rows_of repo new) ≡ Some row
+
+abbrev pub count_of : ℕ → List ℕ → ℕ
+count_of n ns = count_by (λ m. m == n) ns
+
+abbrev pub rows_with : ℕ → List Hosted → ℕ
+rows_with n hosted = sum_by (λ h. count_by (λ (row : Row). row.blob.number == n) h.rows) hosted
+
+abbrev pub staged_with : ℕ → List Session → ℕ
+staged_with n sessions = sum_by (λ (s : Session). count_by (λ (f : Staged). f.blob.number == n) s.staged) sessions
+
+-- in how many places a blob number stands
+abbrev pub places_of : State → ℕ → ℕ
+places_of s n = count_of n s.yard.drafts + rows_with n s.hosted + staged_with n s.sessions + count_of n s.yard.condemned
+
+-- no later file has the path of an earlier one
+abbrev pub AreApart : List Staged → Type 0
+AreApart [] = Unit {0}
+AreApart (file ∷ files) = (find (is_staged file.path) files ≡ None) × AreApart files
+
+-- a row that is visible, or fades since no earlier than a moment
+abbrev pub LastsFrom : ℕ → Phase → Type 0
+LastsFrom t listed = Unit {0}
+LastsFrom t (fading since) = t ≤ since
+
+-- a blob stands at a path, and was visible at a moment or later
+abbrev pub Stands : List ℕ → Blob → ℕ → List Row → Type 0
+Stands path blob t rows = (row : Row) × (row_at path rows ≡ Some row) × (row.blob ≡ blob) × LastsFrom t row.phase

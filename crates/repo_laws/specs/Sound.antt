@@ -1,0 +1,37 @@
+-- What each state of a history keeps: it is in order, and each blob number stands in one place.
+use Rattle.std.specs.Prelude.{◌≡◌, ℕ, ◌+◌, ◌<◌, ◌≤◌, List, [], ◌∷◌, map, find, None, IsTrue, bytes_eq}
+use Rattle.std.specs.List.{AllByRecursion}
+use Rattle.repo_model.specs.Data.{Row, Hosted, Session}
+use Rattle.repo_model.specs.Settings.{Rule, Settings}
+use Rattle.repo_model.specs.State.{State, Lease, row_at, number_end}
+use Rattle.repo_model.specs.Command.{is_there}
+use Rattle.repo_laws.specs.Laws.{AreApart, places_of, rows_with, count_of}
+
+-- no later rule has the id of an earlier one
+abbrev pub AreNamedApart : List Rule → Type 0
+AreNamedApart [] = Unit {0}
+AreNamedApart (rule ∷ rules) = (find (λ other. bytes_eq other.id rule.id) rules ≡ None) × AreNamedApart rules
+
+-- no later row has the path of an earlier one
+abbrev pub RowsApart : List Row → Type 0
+RowsApart [] = Unit {0}
+RowsApart (row ∷ rows) = (row_at row.path rows ≡ None) × RowsApart rows
+
+-- a session's repository is there, and no path is staged twice
+abbrev pub IsInOrder : Settings → Session → Type 0
+IsInOrder settings one = IsTrue (is_there one.repo settings) × AreApart one.staged
+
+-- a state in order: the repositories of the settings, each path once, sessions of repositories that are there, numbers up to their end
+pub record Sound (settings : Settings) (s : State) : Type 0 where
+  pub rules : map (λ h. h.rule) s.hosted ≡ settings.hosted
+  pub rows : AllByRecursion (λ (h : Hosted). RowsApart h.rows) s.hosted
+  pub sessions : AllByRecursion (IsInOrder settings) s.sessions
+  pub draft : s.yard.next_draft ≤ number_end
+  pub lease : s.yard.next_lease ≤ number_end
+  pub session : s.yard.next_session ≤ number_end
+
+-- each drawn number stands in at most one place, and no other number stands anywhere; what is borrowed is a row's or condemned
+pub record OnePlace (s : State) : Type 0 where
+  pub drawn : (n : ℕ) → n < s.yard.next_draft → places_of s n ≤ 1
+  pub later : (n : ℕ) → s.yard.next_draft ≤ n → places_of s n ≡ 0
+  pub lent : AllByRecursion (λ (lease : Lease). 0 < rows_with lease.blob s.hosted + count_of lease.blob s.yard.condemned) s.yard.leases
