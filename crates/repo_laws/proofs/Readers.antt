@@ -17,7 +17,7 @@ use Rattle.repo_model.specs.Effect.{Effect, draws, drops, creates, stages, deliv
 use Rattle.repo_model.specs.Command.{Command, look, done, may_put, put, put_side, put_doc, drop_draft, open_session, stage, commit, abort, unlist, collect, status}
 use Rattle.repo_model.specs.Reply.{Reply, file, text, doc, missed, spent, same, relisted, taken, created, no_draft, staged, session_full, kind_refused, agreed, differs, sessions_full, opened, noted, no_memory, store_fault, is_free}
 use Rattle.repo_model.specs.Purge.{due_rows, expire_all, expired_of, is_over, most_rows}
-use Rattle.repo_model.specs.Deploy.{offence, without_pom, deliver_at, deliver_again, deliver_all, discard_all}
+use Rattle.repo_model.specs.Deploy.{Offence, offence, without_pom, deliver_at, deliver_again, deliver_all, discard_all}
 use Rattle.repo_model.specs.Turn.{Turn, turn, says, draws_or_spent, Seen, is_file, is_text, is_doc, is_nothing, shows, seen_at, in_repository, has_room, draws_draft, may_put_in, put_again, put_at, compared, judged, side_of, with_open, staged_at, stage_at, stage_in, commit_by, commit_of, abort_of, unlist_of, unlent}
 use Rattle.repo_model.specs.History.{Entry, Fits, IsReply, due, wants_memory, failed, ticked, effects_of, after, Legal}
 use Rattle.repo_laws.specs.Sound.{AreNamedApart}
@@ -116,7 +116,7 @@ module _ (lease : ℕ) where
       both (deliver_at one now f (row_at f.path rows)) (flat_map (λ (g : Staged). deliver_at one now g (row_at g.path rows)) files)
       (delivered-quiet one now f (row_at f.path rows)) (deliver-quiet one now rows files)
 
-  commit-by-quiet : (one : Session) (now : ℕ) (rows : List Row) (offends : Option Reply) (pom : Option (List ℕ)) → QuietTurn (commit_by one now rows offends pom)
+  commit-by-quiet : (one : Session) (now : ℕ) (rows : List Row) (other : Option Offence) (pom : Option (List ℕ)) → QuietTurn (commit_by one now rows other pom)
   commit-by-quiet one now rows (Some reply) pom = tt
   commit-by-quiet one now rows None (Some directory) = tt
   commit-by-quiet one now rows None None = both (deliver_all one now rows) (ends one.number _ ∷ []) (deliver-quiet one now rows one.staged) (refl, tt)

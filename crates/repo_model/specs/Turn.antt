@@ -22,9 +22,9 @@ use Rattle.repo_model.specs.Document.{document, is_listed}
 use Rattle.repo_model.specs.State.{State, Yard, Lease, hosted_of, row_at, rows_of, session_of, open_of, is_open, is_staged, is_among, number_end, most_sessions, most_staged}
 use Rattle.repo_model.specs.Effect.{Effect, draws, drops, creates, stages, relists, forgets, lends, returns, opens, ends, with_effects}
 use Rattle.repo_model.specs.Command.{Command, look, done, may_put, put, put_side, put_doc, drop_draft, open_session, stage, commit, abort, unlist, collect, status}
-use Rattle.repo_model.specs.Reply.{Reply, file, text, doc, missed, given_back, kind_refused, draft, no_draft, taken, same, relisted, created, not_there, differs, agreed, noted, dropped, no_session, sessions_full, opened, session_full, staged, ended, unlisted, collected, counts, spent, missing_pom}
+use Rattle.repo_model.specs.Reply.{Reply, file, text, doc, missed, given_back, kind_refused, draft, no_draft, taken, same, relisted, created, not_there, differs, agreed, noted, dropped, no_session, sessions_full, opened, session_full, staged, ended, unlisted, collected, counts, spent, offends, missing_pom}
 use Rattle.repo_model.specs.Purge.{fade_all, due_rows, expire_all}
-use Rattle.repo_model.specs.Deploy.{offence, without_pom, deliver_all, discard_all}
+use Rattle.repo_model.specs.Deploy.{Offence, offence, without_pom, deliver_all, discard_all}
 
 pub record Turn : Type 0 where
   pub reply : Reply
@@ -126,8 +126,8 @@ abbrev pub stage_in : List ℕ → ℕ → Blob → Option Session → Turn
 stage_in path n blob None = record { reply = no_session; effects = drops n ∷ [] }
 stage_in path n blob (Some found) = stage_at found path n blob (staged_at path found.staged)
 
-abbrev pub commit_by : Session → ℕ → List Row → Option Reply → Option (List ℕ) → Turn
-commit_by found now rows (Some reply) pom = says reply
+abbrev pub commit_by : Session → ℕ → List Row → Option Offence → Option (List ℕ) → Turn
+commit_by found now rows (Some other) pom = says (offends other.path other.kept other.sent)
 commit_by found now rows None (Some directory) = says (missing_pom directory)
 commit_by found now rows None None = record {
   reply = ended (Done (length found.staged));
