@@ -25,6 +25,7 @@ use Rattle.repo_model.specs.History.{Entry, IsReply, due, wants_memory, failed, 
 use Rattle.repo_laws.specs.Laws.{Stands, LastsFrom}
 use Rattle.repo_laws.specs.Sound.{AreNamedApart, Sound}
 use Rattle.repo_laws.specs.Closed.{gives_file, named, IsDocumentOf, AnswersDocument, GivesFile, GivesText, Answers, AnswersUpTo, StandsInTime, Closed}
+use Rattle.repo_laws.proofs.ByPath.{all-apart}
 use Rattle.repo_laws.proofs.Stands.{stands-kept}
 use Rattle.repo_laws.proofs.Places.{rows-apart}
 use Rattle.repo_laws.proofs.Lists.{all-then, filter-has, each-found}
@@ -146,7 +147,7 @@ module _ (settings : Settings) (apart : AreNamedApart settings.hosted) where
         (λ _. stands-entry s e e.moment repo row.path row.blob fits sound (omega arith) (omega arith) (row, found, refl, lasts e.moment row.phase shown)),
       ))
       (named d rows served)
-      (filter-has (λ row. Found row × (stands_there row ≡ true)) gives (listed_in d rows) (filter-has Found stands_there rows (each-found rows (rows-apart repo s.hosted sound.rows))))
+      (filter-has (λ row. Found row × (stands_there row ≡ true)) gives (listed_in d rows) (filter-has Found stands_there rows (each-found rows (rows-apart repo s.hosted (all-apart s.hosted sound.rows)))))
 
   pub closed : (entries : List Entry) (s : State) → Sound settings s → Legal settings s entries → Closed settings s entries
   closed [] s sound legal = tt

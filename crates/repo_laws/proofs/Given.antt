@@ -14,6 +14,7 @@ use Rattle.repo_model.specs.History.{Entry, Fits, after, Legal, end}
 use Rattle.repo_laws.specs.Laws.{places_of, count_of}
 use Rattle.repo_laws.specs.Sound.{AreNamedApart, Sound, OnePlace}
 use Rattle.repo_laws.specs.Closed.{given_out, all_given_out}
+use Rattle.repo_laws.proofs.ByPath.{all-apart}
 use Rattle.repo_laws.proofs.Counts.{one_if, count-cons, count-filter, among-counts}
 use Rattle.repo_laws.proofs.Places.{is_draw, one-place-kept, places-counted, next-counted, never-again}
 use Rattle.repo_laws.proofs.Lists.{all-take}
@@ -114,7 +115,7 @@ module _ (settings : Settings) (apart : AreNamedApart settings.hosted) where
             let is_collect = only-collect n e.command e.reply among in
             let t : State = cleared settings apart s e in
             let (given, _, _) = collects settings apart s e n fits.reply is_collect (subst (λ c. is_among n (given_out c e.reply) ≡ true) is_collect among) in
-            let placed_so : OnePlace t = cleared-keeps settings apart s e OnePlace sound (λ u f sound_then may old. one-place-kept settings.grace e.moment u f sound_then.rows may old) placed in
+            let placed_so : OnePlace t = cleared-keeps settings apart s e OnePlace sound (λ u f sound_then may old. one-place-kept settings.grace e.moment u f (all-apart u.hosted sound_then.rows) may old) placed in
             let next_same : t.yard.next_draft ≡ s.yard.next_draft = next-same (expire_all settings.grace e.moment s.hosted) s (expire-draws-none settings.grace e.moment s.hosted) in
             absurd (omega (arith, among-counts n (unlent t.yard) given, count-unlent n t.yard, placed_so.later n (omega (arith, next_same, later))))
       ] refl

@@ -1,6 +1,9 @@
 -- What each state of a history keeps: it is in order, and each blob number stands in one place.
 use Rattle.std.specs.Prelude.{◌≡◌, ℕ, ◌+◌, ◌<◌, ◌≤◌, List, [], ◌∷◌, map, find, None, IsTrue, bytes_eq}
 use Rattle.std.specs.List.{AllByRecursion}
+use Rattle.std.specs.Ordering.{nat_cmp}
+use Rattle.std.specs.declared.cmp.Ordering.TheVariants.{Less}
+use Rattle.std.specs.Cmp.Lexicographic.{slice_cmp}
 use Rattle.repo_model.specs.Data.{Row, Hosted, Session}
 use Rattle.repo_model.specs.Settings.{Rule, Settings}
 use Rattle.repo_model.specs.State.{State, Lease, row_at, number_end}
@@ -12,6 +15,15 @@ abbrev pub AreNamedApart : List Rule → Type 0
 AreNamedApart [] = Unit {0}
 AreNamedApart (rule ∷ rules) = (find (λ other. bytes_eq other.id rule.id) rules ≡ None) × AreNamedApart rules
 
+-- the path is below that of a row, in byte order
+abbrev pub IsBelow : List ℕ → Row → Type 0
+IsBelow path row = slice_cmp nat_cmp path row.path ≡ Less
+
+-- in byte order of path, each path once
+abbrev pub AreByPath : List Row → Type 0
+AreByPath [] = Unit {0}
+AreByPath (row ∷ rows) = AllByRecursion (IsBelow row.path) rows × AreByPath rows
+
 -- no later row has the path of an earlier one
 abbrev pub RowsApart : List Row → Type 0
 RowsApart [] = Unit {0}
@@ -21,10 +33,10 @@ RowsApart (row ∷ rows) = (row_at row.path rows ≡ None) × RowsApart rows
 abbrev pub IsInOrder : Settings → Session → Type 0
 IsInOrder settings one = IsTrue (is_there one.repo settings) × AreApart one.staged
 
--- a state in order: the repositories of the settings, each path once, sessions of repositories that are there, numbers up to their end
+-- a state in order: the repositories of the settings, their rows in byte order of path, sessions of repositories that are there, numbers up to their end
 pub record Sound (settings : Settings) (s : State) : Type 0 where
   pub rules : map (λ h. h.rule) s.hosted ≡ settings.hosted
-  pub rows : AllByRecursion (λ (h : Hosted). RowsApart h.rows) s.hosted
+  pub rows : AllByRecursion (λ (h : Hosted). AreByPath h.rows) s.hosted
   pub sessions : AllByRecursion (IsInOrder settings) s.sessions
   pub draft : s.yard.next_draft ≤ number_end
   pub lease : s.yard.next_lease ≤ number_end
