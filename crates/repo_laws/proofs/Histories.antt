@@ -61,7 +61,7 @@ pub sound-ticked : (settings : Settings) (s : State) (moment faults : ℕ) → S
 sound-ticked settings s moment faults old = record { rules = old.rules; rows = old.rows; sessions = old.sessions; draft = old.draft; lease = old.lease; session = old.session }
 
 one-place-ticked : (s : State) (moment faults : ℕ) → OnePlace s → OnePlace (ticked s moment faults)
-one-place-ticked s moment faults old = record { drawn = old.drawn; later = old.later; lent = old.lent }
+one-place-ticked s moment faults old = record { drawn = old.drawn; later = old.later; none = old.none; begun = old.begun; lent = old.lent }
 
 pub moment-rises : (s : State) (moment : ℕ) → MomentFits s moment → s.last ≤ moment
 moment-rises s moment fits =
@@ -130,6 +130,8 @@ pub one-place-opening : (settings : Settings) (clock : Option Moments) → OnePl
 one-place-opening settings clock = record {
   drawn = λ n below. omega (arith, new-none n settings.hosted);
   later = λ n above. omega (arith, new-none n settings.hosted);
+  none = omega (arith, new-none 0 settings.hosted);
+  begun = omega arith;
   lent = tt;
 }
 

@@ -22,7 +22,7 @@ use Rattle.repo_model.specs.Turn.{Turn, turn, says, draws_or_spent, Seen, is_fil
 use Rattle.repo_model.specs.History.{Entry, Fits, IsReply, due, wants_memory, failed, ticked, effects_of, after, Legal}
 use Rattle.repo_laws.specs.Sound.{AreNamedApart}
 use Rattle.repo_laws.specs.Closed.{given_out, IsLentAs, ReadsOn, ReadersLast}
-use Rattle.repo_laws.proofs.Lists.{all-take}
+use Rattle.repo_laws.proofs.Making.{Common, all-expired, turn-makes}
 use Rattle.repo_laws.proofs.Turns.{unlent-has}
 use Rattle.repo_laws.proofs.Untouched.{only-collect, collects, cleared, among-has}
 
@@ -35,148 +35,20 @@ module _ (lease : ℕ) where
   abbrev Quiet : List Effect → Type 0
   Quiet es = AllByRecursion (λ e. gives_back e ≡ false) es
 
-  abbrev QuietTurn : Turn → Type 0
-  QuietTurn t = Quiet t.effects
-
-  both : (es fs : List Effect) → Quiet es → Quiet fs → Quiet (es ++ fs)
-  both [] fs es_so fs_so = fs_so
-  both (e ∷ es) fs es_so fs_so = (es_so.0, both es fs es_so.1 fs_so)
-
-  if-quiet : (b : Bool) (t u : Turn) → QuietTurn t → QuietTurn u → QuietTurn (if b then t else u)
-  if-quiet true t u one other = one
-  if-quiet false t u one other = other
-
-  spent-quiet : (next : ℕ) (t : Turn) → QuietTurn t → QuietTurn (draws_or_spent next t)
-  spent-quiet next t so = if-quiet (next == number_end) (says spent) t tt so
-
-  shows-quiet : (next : ℕ) (seen : Seen) → QuietTurn (shows next seen)
-  shows-quiet next (is_file blob) = spent-quiet next (record { reply = file next blob; effects = lends blob.number ∷ [] }) (refl, tt)
-  shows-quiet next (is_text bytes) = tt
-  shows-quiet next (is_doc bytes) = tt
-  shows-quiet next is_nothing = tt
-
-  draft-quiet : (next : ℕ) → QuietTurn (draws_draft next)
-  draft-quiet next = spent-quiet next (record { reply = Rattle.repo_model.specs.Reply.draft next; effects = draws ∷ [] }) (refl, tt)
-
-  in-quiet : (path : List ℕ) (found : Option Hosted) (t : Turn) → QuietTurn t → QuietTurn (in_repository path found t)
-  in-quiet path None t so = tt
-  in-quiet path (Some h) t so = if-quiet (takes h.rule path) t (says kind_refused) so tt
-
-  may_put-quiet : (s : State) (path : List ℕ) (found : Option Session) → QuietTurn (may_put_in s path found)
-  may_put-quiet s path None = tt
-  may_put-quiet s path (Some one) =
-      in-quiet path (hosted_of one.repo s) (if has_room path one.staged then draws_draft s.yard.next_draft else says session_full)
-      (if-quiet (has_room path one.staged) (draws_draft s.yard.next_draft) (says session_full) (draft-quiet s.yard.next_draft) tt)
-
-  again-quiet : (repo path : List ℕ) (n now : ℕ) (phase : Phase) → QuietTurn (put_again repo path n now phase)
-  again-quiet repo path n now listed = (refl, tt)
-  again-quiet repo path n now (fading since) = (refl, (refl, tt))
-
-  put-quiet : (repo path : List ℕ) (n : ℕ) (blob : Blob) (now : ℕ) (found : Option Row) → QuietTurn (put_at repo path n blob now found)
-  put-quiet repo path n blob now None = (refl, tt)
-  put-quiet repo path n blob now (Some row) =
-      if-quiet (is_same_print row.blob.print blob.print) (put_again repo path n now row.phase) (record { reply = taken row.blob.print blob.print; effects = drops n ∷ [] })
-      (again-quiet repo path n now row.phase) (refl, tt)
-
-  compared-quiet : (said : List ℕ) (found : Option (List ℕ)) → QuietTurn (compared said found)
-  compared-quiet said None = tt
-  compared-quiet said (Some kept) = if-quiet (bytes_eq said kept) (says agreed) (says (differs said kept)) tt tt
-
-  judged-quiet : (k : Result Kind PathFault) (said : List ℕ) (blob_at : List ℕ → Option Blob) → QuietTurn (judged k said blob_at)
-  judged-quiet (Ok (File c)) said blob_at = tt
-  judged-quiet (Ok (FileSide c side)) said blob_at = compared-quiet said (option_map (λ (blob : Blob). side_of blob.print.digests side) (blob_at (text_of c)))
-  judged-quiet (Ok (Doc d)) said blob_at = tt
-  judged-quiet (Ok (DocSide d side)) said blob_at = tt
-  judged-quiet (Err fault) said blob_at = tt
-
-  open-quiet : (found : Option Session) (f : Session → Turn) → ((one : Session) → QuietTurn (f one)) → QuietTurn (with_open found f)
-  open-quiet None f so = tt
-  open-quiet (Some one) f so = so one
-
-  stage-at-quiet : (one : Session) (path : List ℕ) (n : ℕ) (blob : Blob) (kept : Option Blob) → QuietTurn (stage_at one path n blob kept)
-  stage-at-quiet one path n blob None =
-      if-quiet (has_room path one.staged) (record { reply = staged; effects = stages one.number path blob ∷ [] }) (record { reply = session_full; effects = drops n ∷ [] }) (refl, tt) (refl, tt)
-  stage-at-quiet one path n blob (Some kept) = (refl, tt)
-
-  stage-quiet : (path : List ℕ) (n : ℕ) (blob : Blob) (found : Option Session) → QuietTurn (stage_in path n blob found)
-  stage-quiet path n blob None = (refl, tt)
-  stage-quiet path n blob (Some one) = stage-at-quiet one path n blob (staged_at path one.staged)
-
-  again-delivered-quiet : (one : Session) (now : ℕ) (f : Staged) (phase : Phase) → Quiet (deliver_again one now f phase)
-  again-delivered-quiet one now f listed = (refl, tt)
-  again-delivered-quiet one now f (fading since) = (refl, (refl, tt))
-
-  delivered-quiet : (one : Session) (now : ℕ) (f : Staged) (found : Option Row) → Quiet (deliver_at one now f found)
-  delivered-quiet one now f None = (refl, tt)
-  delivered-quiet one now f (Some row) = again-delivered-quiet one now f row.phase
-
-  deliver-quiet : (one : Session) (now : ℕ) (rows : List Row) (files : List Staged) → Quiet (flat_map (λ (f : Staged). deliver_at one now f (row_at f.path rows)) files)
-  deliver-quiet one now rows [] = tt
-  deliver-quiet one now rows (f ∷ files) =
-      both (deliver_at one now f (row_at f.path rows)) (flat_map (λ (g : Staged). deliver_at one now g (row_at g.path rows)) files)
-      (delivered-quiet one now f (row_at f.path rows)) (deliver-quiet one now rows files)
-
-  commit-by-quiet : (one : Session) (now : ℕ) (rows : List Row) (other : Option Offence) (pom : Option (List ℕ)) → QuietTurn (commit_by one now rows other pom)
-  commit-by-quiet one now rows (Some reply) pom = tt
-  commit-by-quiet one now rows None (Some directory) = tt
-  commit-by-quiet one now rows None None = both (deliver_all one now rows) (ends one.number _ ∷ []) (deliver-quiet one now rows one.staged) (refl, tt)
-
-  commit-quiet : (one : Session) (now : ℕ) (rows : List Row) (ended : Option SessionResult) → QuietTurn (commit_of one now rows ended)
-  commit-quiet one now rows (Some outcome) = tt
-  commit-quiet one now rows None = commit-by-quiet one now rows (offence rows one.staged) (without_pom rows one.staged)
-
-  discard-quiet : (one : Session) (files : List Staged) → Quiet (map (λ (f : Staged). discards one.number f.path f.blob.number) files)
-  discard-quiet one [] = tt
-  discard-quiet one (f ∷ files) = (refl, discard-quiet one files)
-
-  abort-quiet : (one : Session) (ended : Option SessionResult) → QuietTurn (abort_of one ended)
-  abort-quiet one (Some outcome) = tt
-  abort-quiet one None = both (discard_all one) (ends one.number _ ∷ []) (discard-quiet one one.staged) (refl, tt)
-
-  fades-quiet : (id : List ℕ) (now : ℕ) (rows : List Row) → Quiet (map (λ (row : Row). fades id row.path now) rows)
-  fades-quiet id now [] = tt
-  fades-quiet id now (row ∷ rows) = (refl, fades-quiet id now rows)
-
-  unlist-quiet : (now : ℕ) (found : Option Hosted) → QuietTurn (unlist_of now found)
-  unlist-quiet now None = tt
-  unlist-quiet now (Some h) = fades-quiet h.rule.id now (due_rows h.rule now h.rows)
+  most-quiet : Common (λ e. gives_back e ≡ false)
+  most-quiet = record {
+    draws_so = refl; drops_so = λ n. refl; creates_so = λ repo path blob moment. refl; stages_so = λ n path blob. refl;
+    delivers_so = λ n repo path blob moment. refl; discards_so = λ n path draft. refl; relists_so = λ repo path moment. refl;
+    fades_so = λ repo path moment. refl; expires_so = λ repo path blob. refl; lends_so = λ blob. refl; opens_so = λ n repo. refl; ends_so = λ n result. refl;
+  }
 
   expire-quiet : (grace now : ℕ) (hosted : List Hosted) → Quiet (expire_all grace now hosted)
-  expire-quiet grace now hosted = all-take (λ e. gives_back e ≡ false) most_rows (flat_map (expired_of grace now) hosted) (of-all hosted) where
-    of-rows : (id : List ℕ) (rows : List Row) (es : List Effect) → Quiet es → Quiet (map (λ (row : Row). expires id row.path row.blob.number) rows ++ es)
-    of-rows id [] es so = so
-    of-rows id (row ∷ rows) es so = (refl, of-rows id rows es so)
-
-    of-all : (hosted : List Hosted) → Quiet (flat_map (expired_of grace now) hosted)
-    of-all [] = tt
-    of-all (h ∷ hosted) = of-rows h.rule.id (filter (λ (row : Row). is_over grace now row.phase) h.rows) (flat_map (expired_of grace now) hosted) (of-all hosted)
+  expire-quiet = all-expired (λ e. gives_back e ≡ false) most-quiet
 
   -- only Done of this lease gives it back
-  turn-quiet : (settings : Settings) (s : State) (now : ℕ) (c : Command) → (c ≡ done lease → ⊥) → QuietTurn (turn settings s now c)
-  turn-quiet settings s now (look repo path tried) other = shows-quiet s.yard.next_lease (seen_at (rows_of repo s) path (kind path))
-  turn-quiet settings s now (done l) other = (ne_eqb l lease (λ at. other (ap done at)), tt)
-  turn-quiet settings s now (may_put (repository repo) path) other = in-quiet path (hosted_of repo s) (draws_draft s.yard.next_draft) (draft-quiet s.yard.next_draft)
-  turn-quiet settings s now (may_put (session n) path) other = may_put-quiet s path (open_of n s)
-  turn-quiet settings s now (put repo path n blob) other =
-      if-quiet (is_among n s.yard.drafts) (put_at repo path n blob now (row_at path (rows_of repo s))) (says no_draft) (put-quiet repo path n blob now (row_at path (rows_of repo s))) tt
-  turn-quiet settings s now (put_side (repository repo) path said) other = judged-quiet (kind path) said (λ at. option_map (λ (row : Row). row.blob) (row_at at (rows_of repo s)))
-  turn-quiet settings s now (put_side (session n) path said) other =
-      open-quiet (open_of n s) (λ found. judged (kind path) said (λ at. staged_at at found.staged)) (λ one. judged-quiet (kind path) said (λ at. staged_at at one.staged))
-  turn-quiet settings s now (put_doc (repository repo) path) other = tt
-  turn-quiet settings s now (put_doc (session n) path) other = open-quiet (open_of n s) (λ found. says noted) (λ one. tt)
-  turn-quiet settings s now (drop_draft n) other = elim (is_among n s.yard.drafts) as (λ b. Quiet (if b then drops n ∷ [] else [])) [ true ↦ (refl, tt) | false ↦ tt ]
-  turn-quiet settings s now (open_session repo) other =
-      if-quiet (nat_le most_sessions (count_by is_open s.sessions)) (says sessions_full) (draws_or_spent s.yard.next_session (record { reply = opened s.yard.next_session; effects = opens s.yard.next_session repo ∷ [] }))
-      tt (spent-quiet s.yard.next_session (record { reply = opened s.yard.next_session; effects = opens s.yard.next_session repo ∷ [] }) (refl, tt))
-  turn-quiet settings s now (stage at path n blob) other =
-      if-quiet (is_among n s.yard.drafts) (stage_in path n blob (open_of at s)) (says no_draft) (stage-quiet path n blob (open_of at s)) tt
-  turn-quiet settings s now (commit n) other =
-      open-quiet (session_of n s) (λ known. commit_of known now (rows_of known.repo s) known.ended) (λ one. commit-quiet one now (rows_of one.repo s) one.ended)
-  turn-quiet settings s now (abort n) other = open-quiet (session_of n s) (λ known. abort_of known known.ended) (λ one. abort-quiet one one.ended)
-  turn-quiet settings s now (unlist repo) other = unlist-quiet now (hosted_of repo s)
-  turn-quiet settings s now collect other =
-      both (expire_all settings.grace now s.hosted) (forgets (unlent (with_effects s (expire_all settings.grace now s.hosted)).yard) ∷ []) (expire-quiet settings.grace now s.hosted) (refl, tt)
-  turn-quiet settings s now status other = tt
+  turn-quiet : (settings : Settings) (s : State) (now : ℕ) (c : Command) → (c ≡ done lease → ⊥) → Quiet (turn settings s now c).effects
+  turn-quiet settings s now c other =
+      turn-makes (λ e. gives_back e ≡ false) most-quiet settings s now c (λ l is. ne_eqb l lease (λ same. other (is ∙ ap done same))) (λ blobs is. refl)
 
 any-more : {X : Type 0} (q : X → Bool) (xs ys : List X) → list_any q xs ≡ true → list_any q (xs ++ ys) ≡ true
 any-more q [] ys is = absurd (false≢true is)

@@ -8,7 +8,8 @@ use Rattle.repo_model.specs.Data.{Row, Hosted, Session}
 use Rattle.repo_model.specs.Settings.{Rule, Settings}
 use Rattle.repo_model.specs.State.{State, Lease, row_at, number_end}
 use Rattle.repo_model.specs.Command.{is_there}
-use Rattle.repo_laws.specs.Laws.{AreApart, places_of, rows_with, count_of}
+use Rattle.repo_model.specs.History.{latest_moment}
+use Rattle.repo_laws.specs.Laws.{FadingAreSnapshots, AreApart, places_of, leases_of, rows_with, count_of}
 
 -- no later rule has the id of an earlier one
 abbrev pub AreNamedApart : List Rule → Type 0
@@ -46,4 +47,27 @@ pub record Sound (settings : Settings) (s : State) : Type 0 where
 pub record OnePlace (s : State) : Type 0 where
   pub drawn : (n : ℕ) → n < s.yard.next_draft → places_of s n ≤ 1
   pub later : (n : ℕ) → s.yard.next_draft ≤ n → places_of s n ≡ 0
+  pub none : places_of s 0 ≡ 0
+  pub begun : 0 < s.yard.next_draft
   pub lent : AllByRecursion (λ (lease : Lease). 0 < rows_with lease.blob s.hosted + count_of lease.blob s.yard.condemned) s.yard.leases
+
+-- each lease that is taken has a number of its own, which was drawn
+pub record LentOnce (s : State) : Type 0 where
+  pub once : (n : ℕ) → leases_of s n ≤ 1
+  pub later : (n : ℕ) → s.yard.next_lease ≤ n → leases_of s n ≡ 0
+  pub none : leases_of s 0 ≡ 0
+  pub begun : 0 < s.yard.next_lease
+
+-- numbers that do not fall
+abbrev pub AreRising : List ℕ → Type 0
+AreRising [] = Unit {0}
+AreRising (n ∷ ns) = AllByRecursion (λ m. n ≤ m) ns × AreRising ns
+
+-- what holds of a state at every reachable moment
+pub record IsSound (settings : Settings) (s : State) : Type 0 where
+  pub order : Sound settings s
+  pub places : OnePlace s
+  pub leases : LentOnce s
+  pub condemned : AreRising s.yard.condemned
+  pub fading : FadingAreSnapshots s
+  pub last : s.last ≤ latest_moment
