@@ -63,7 +63,7 @@ module _ (settings : Settings) (s : State) (now : ℕ) where
   case-rows c t case still u = refl
 
 -- what an entry does, by its reply
-free-none : (settings : Settings) (s : State) (e : Entry) → is_free e.reply ≡ true → effects_of settings s e ≡ []
+pub free-none : (settings : Settings) (s : State) (e : Entry) → is_free e.reply ≡ true → effects_of settings s e ≡ []
 free-none settings s e free = ap (λ b. if b then [] else (turn settings s e.moment e.command).effects) free
 
 due-all : (settings : Settings) (s : State) (e : Entry) → is_free e.reply ≡ false → effects_of settings s e ≡ (turn settings s e.moment e.command).effects

@@ -21,7 +21,7 @@ use Rattle.repo_laws.proofs.Lists.{all-take}
 use Rattle.repo_laws.proofs.Histories.{entry-keeps, sound-entry, one-place-entry}
 use Rattle.repo_laws.proofs.Untouched.{count-forgotten, only-collect, collects, cleared, cleared-keeps}
 
-count-append : (n : ℕ) (ms ks : List ℕ) → count_of n (ms ++ ks) ≡ count_of n ms + count_of n ks
+pub count-append : (n : ℕ) (ms ks : List ℕ) → count_of n (ms ++ ks) ≡ count_of n ms + count_of n ks
 count-append n [] ks = omega arith
 count-append n (m ∷ ms) ks =
     let is : ℕ → Bool = λ i. i == n in

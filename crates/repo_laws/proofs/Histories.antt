@@ -60,7 +60,7 @@ module _ (moment faults : ℕ) where
 pub sound-ticked : (settings : Settings) (s : State) (moment faults : ℕ) → Sound settings s → Sound settings (ticked s moment faults)
 sound-ticked settings s moment faults old = record { rules = old.rules; rows = old.rows; sessions = old.sessions; draft = old.draft; lease = old.lease; session = old.session }
 
-one-place-ticked : (s : State) (moment faults : ℕ) → OnePlace s → OnePlace (ticked s moment faults)
+pub one-place-ticked : (s : State) (moment faults : ℕ) → OnePlace s → OnePlace (ticked s moment faults)
 one-place-ticked s moment faults old = record { drawn = old.drawn; later = old.later; none = old.none; begun = old.begun; lent = old.lent }
 
 pub moment-rises : (s : State) (moment : ℕ) → MomentFits s moment → s.last ≤ moment

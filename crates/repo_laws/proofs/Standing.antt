@@ -1,6 +1,6 @@
 -- No blob number is lost: it stands somewhere from when it is drawn until a Collect gives it out.
 use native.Mathlib.Omega.{arith}
-use Rattle.std.proofs.Common.{◌≡◌, ◌≤◌, ◌<◌, ◌+◌, ℕ, Bool, true, false, not, cond, ◌||◌, List, [], ◌∷◌, ◌++◌, Some, None, refl, sym, ◌∙◌, ap, subst, eqb-true}
+use Rattle.std.proofs.Common.{◌≡◌, ◌≤◌, ◌<◌, ◌+◌, ℕ, Bool, true, false, not, cond, ◌||◌, ◌⊎◌, inl, inr, List, [], ◌∷◌, ◌++◌, length, Some, None, refl, sym, ◌∙◌, ap, subst, eqb-true}
 use Rattle.std.specs.Prelude.{◌==◌, nat_lt, IsTrue, count_by, filter, find, if◌then◌else◌}
 use Rattle.std.specs.Option.{option_map_or}
 use Rattle.std.specs.List.{AllByRecursion, list_any}
@@ -12,7 +12,7 @@ use Rattle.repo_model.specs.Settings.{Settings}
 use Rattle.repo_model.specs.State.{State, change_where, change_first, is_repository, is_row, is_staged, is_open_at, rows_of, is_among}
 use Rattle.repo_model.specs.Effect.{Effect, draws, drops, creates, stages, delivers, discards, relists, fades, expires, forgets, lends, returns, opens, ends, with_number, without_number, with_row, new_row, list_again, fade, with_staged, without_row, without_staged, new_session, with_effect, with_effects}
 use Rattle.repo_model.specs.May.{May, AllMay}
-use Rattle.repo_model.specs.Command.{Command, collect}
+use Rattle.repo_model.specs.Command.{Command, look, collect}
 use Rattle.repo_model.specs.Reply.{Reply, is_free, collected}
 use Rattle.repo_model.specs.Purge.{expire_all}
 use Rattle.repo_model.specs.Turn.{turn, unlent}
@@ -21,12 +21,15 @@ use Rattle.repo_laws.specs.Laws.{count_of, rows_with, staged_with, places_of, Ar
 use Rattle.repo_laws.specs.Sound.{AreNamedApart, RowsApart, IsInOrder, Sound, OnePlace}
 use Rattle.repo_laws.specs.Closed.{given_out, all_given_out}
 use Rattle.repo_laws.proofs.Rows.{rows_in}
-use Rattle.repo_laws.proofs.Counts.{one_if, count-cons, count-push, count-filter, none-goes, row-goes, count-with_number, count-without_number, count-with_row, count-with_staged, count-change_where, names, stages_it, rows_with-cons, staged_with-cons, rows-counted-back}
+use Rattle.repo_laws.proofs.Counts.{one_if, count-cons, count-push, count-filter, none-goes, row-goes, count-with_number, count-without_number, among-counts, count-with_row, count-with_staged, count-change_where, names, stages_it, rows_with-cons, staged_with-cons, rows-counted-back}
 use Rattle.repo_laws.proofs.Places.{rows-apart, one-place-kept}
 use Rattle.repo_laws.proofs.Lists.{all-then}
 use Rattle.repo_laws.proofs.Releases.{same_path}
 use Rattle.repo_laws.proofs.ByPath.{all-apart}
 use Rattle.repo_laws.proofs.Orderly.{found-has, sound-kept}
+use Rattle.repo_laws.proofs.Answered.{free-none}
+use Rattle.repo_laws.proofs.Given.{count-append}
+use Rattle.repo_laws.proofs.Histories.{all-keep, with_effects-append, sound-ticked, one-place-ticked, entry-may, sound-entry, one-place-entry}
 use Rattle.repo_laws.proofs.Making.{Common, all-expired, turn-makes}
 
 -- a number that is taken out of a list where it stands once at most
@@ -213,3 +216,96 @@ module _ (settings : Settings) (grace now n : ℕ) where
       let none : one_if (is_among n (forgotten_by e)) ≡ 0 = ap (λ ns. one_if (is_among n ns)) quiet.0 in
       stood-effects es (with_effect s e) given (sound-kept settings grace now s e may.0 sound) (one-place-kept grace now s e (all-apart s.hosted sound.rows) may.0 placed) may.1 quiet.1
       (λ below above. omega (arith, none, stood-effect s e given sound placed may.0 stood below above))
+
+none-forgotten : Common (λ e. forgotten_by e ≡ [])
+none-forgotten = record {
+  draws_so = refl; drops_so = λ n. refl; creates_so = λ repo path blob moment. refl; stages_so = λ n path blob. refl;
+  delivers_so = λ n repo path blob moment. refl; discards_so = λ n path draft. refl; relists_so = λ repo path moment. refl;
+  fades_so = λ repo path moment. refl; expires_so = λ repo path blob. refl; lends_so = λ blob. refl; opens_so = λ n repo. refl; ends_so = λ n result. refl;
+}
+
+all-may-split : (grace now : ℕ) (es fs : List Effect) (s : State) → AllMay grace now s (es ++ fs) → AllMay grace now s es × AllMay grace now (with_effects s es) fs
+all-may-split grace now [] fs s all = (tt, all)
+all-may-split grace now (e ∷ es) fs s all = let rest = all-may-split grace now es fs (with_effect s e) all.1 in ((all.0, rest.0), rest.1)
+
+collect-or-not : (c : Command) → (c ≡ collect) ⊎ (c ≡ collect → ⊥)
+collect-or-not collect = inl refl
+collect-or-not (look repo path tried) = inr (λ is. cc)
+collect-or-not c = inr (λ is. cc)
+
+module _ (settings : Settings) (apart : AreNamedApart settings.hosted) (n : ℕ) where
+  once-or-more : (blobs : List ℕ) → one_if (is_among n blobs) ≤ count_of n blobs
+  once-or-more blobs =
+      elim (is_among n blobs) as (λ b. is_among n blobs ≡ b → one_if b ≤ count_of n blobs) [ true ↦ λ among. omega (arith, among-counts n blobs among) | false ↦ λ _. omega arith ] refl
+
+  module _ (s : State) (e : Entry) (given : ℕ) (sound : Sound settings s) (placed : OnePlace s) (fits : Fits settings s e) (stood : Stood settings settings.grace e.moment n given s) where
+    abbrev begun : State
+    begun = ticked s e.moment e.faults
+
+    abbrev Then : State → Type 0
+    Then t = Stood settings settings.grace e.moment n (given + count_of n (given_out e.command e.reply)) t
+
+    sound_so : Sound settings begun
+    sound_so = sound-ticked settings s e.moment e.faults sound
+
+    placed_so : OnePlace begun
+    placed_so = one-place-ticked s e.moment e.faults placed
+
+    -- where nothing is forgotten
+    quiet-entry : AllByRecursion (λ f. forgotten_by f ≡ []) (effects_of settings s e) → Then (after settings s e)
+    quiet-entry quiet below above =
+        omega (arith, stood-effects settings settings.grace e.moment n (effects_of settings s e) begun given sound_so placed_so (entry-may settings apart s e sound fits) quiet stood below above)
+
+    free-entry : is_free e.reply ≡ true → Then (after settings s e)
+    free-entry free = quiet-entry (subst (AllByRecursion (λ f. forgotten_by f ≡ [])) (sym (free-none settings s e free)) tt)
+
+    other-entry : (e.command ≡ collect → ⊥) → Then (after settings s e)
+    other-entry other =
+        quiet-entry
+        (elim (is_free e.reply) as (λ b. AllByRecursion (λ f. forgotten_by f ≡ []) (if b then [] else (turn settings s e.moment e.command).effects)) [
+          | true ↦ tt
+          | false ↦ turn-makes (λ f. forgotten_by f ≡ []) none-forgotten settings s e.moment e.command (λ lease is. refl) (λ blobs is. absurd (other is))
+        ])
+
+    abbrev expiring : List Effect
+    expiring = expire_all settings.grace e.moment s.hosted
+
+    abbrev blobs_out : List ℕ
+    blobs_out = unlent (with_effects s expiring).yard
+
+    collect-entry : e.command ≡ collect → e.reply ≡ (turn settings s e.moment e.command).reply → Then (after settings s e)
+    collect-entry is_collect is =
+        let reply_is : e.reply ≡ collected (length expiring) blobs_out = is ∙ ap (λ c. (turn settings s e.moment c).reply) is_collect in
+        let effects_are : effects_of settings s e ≡ expiring ++ forgets blobs_out ∷ [] =
+        ap (λ r. if is_free r then [] else (turn settings s e.moment e.command).effects) reply_is ∙ ap (λ c. (turn settings s e.moment c).effects) is_collect in
+        let may = all-may-split settings.grace e.moment expiring (forgets blobs_out ∷ []) begun (subst (AllMay settings.grace e.moment begun) effects_are (entry-may settings apart s e sound fits)) in
+        let cleared : State = with_effects begun expiring in
+        let both = all-keep settings.grace e.moment (λ t. Sound settings t × OnePlace t)
+        (λ t f can old. (sound-kept settings settings.grace e.moment t f can old.0, one-place-kept settings.grace e.moment t f (all-apart t.hosted old.0.rows) can old.1))
+        expiring begun may.0 (sound_so, placed_so) in
+        let stood_cleared = stood-effects settings settings.grace e.moment n expiring begun given sound_so placed_so may.0
+        (all-expired (λ f. forgotten_by f ≡ []) none-forgotten settings.grace e.moment s.hosted) stood in
+        let stood_then = stood-effect settings settings.grace e.moment n cleared (forgets blobs_out) given both.0 both.1 may.1.0 stood_cleared in
+        let after_is : after settings s e ≡ with_effect cleared (forgets blobs_out) = ap (with_effects begun) effects_are ∙ with_effects-append expiring (forgets blobs_out ∷ []) begun in
+        let count_is : count_of n (given_out e.command e.reply) ≡ count_of n blobs_out = ap (λ c. count_of n (given_out c e.reply)) is_collect ∙ ap (λ r. count_of n (given_out collect r)) reply_is in
+        subst Then (sym after_is) (λ below above. omega (arith, stood_then below above, once-or-more blobs_out, count_is))
+
+    pub entry-stood : Then (after settings s e)
+    entry-stood =
+        elim (collect-or-not e.command) as (λ _. Then (after settings s e)) [
+          | inl is_collect ↦ by is_collect fits.reply
+          | inr other ↦ other-entry other
+        ] where
+      by : e.command ≡ collect → IsReply settings s e → Then (after settings s e)
+      by is_collect (due is _) = collect-entry is_collect is
+      by is_collect (wants_memory is _ _) = free-entry (ap is_free is)
+      by is_collect (failed is _ _) = free-entry (ap is_free is)
+
+  -- at the end of a history each number that was drawn stands somewhere, or was given out
+  pub stood-through : (entries : List Entry) (s : State) (given : ℕ) → Sound settings s → OnePlace s → Legal settings s entries → (n < s.yard.next_draft → 0 < n → 0 < places_of s n + given)
+      → n < (end settings s entries).yard.next_draft → 0 < n → 0 < places_of (end settings s entries) n + (given + count_of n (all_given_out entries))
+  stood-through [] s given sound placed legal stood below above = omega (arith, stood below above)
+  stood-through (e ∷ entries) s given sound placed legal stood below above =
+      let rest = stood-through entries (after settings s e) (given + count_of n (given_out e.command e.reply)) (sound-entry settings apart s e legal.0 sound) (one-place-entry settings apart s e legal.0 sound placed) legal.1
+      (entry-stood s e given sound placed legal.0 stood) below above in
+      omega (arith, rest, count-append n (given_out e.command e.reply) (all_given_out entries))
