@@ -2,3 +2,5 @@ pub mod Laws
 pub mod Sound
 pub mod Closed
 pub mod Worked
+pub mod Holds
+pub mod Numbered

@@ -5,4 +5,5 @@
 
 pub mod kept;
 pub mod laws;
+pub mod tables;
 mod worked;
