@@ -1,11 +1,10 @@
 -- Lists of which some are changed, are taken away or come in: what is found then, how many pass a test, what all have.
 use native.Mathlib.Omega.{arith}
-use Rattle.std.proofs.Common.{◌≡◌, ◌≤◌, ◌<◌, ◌+◌, ℕ, Bool, true, false, not, cond, ◌||◌, max, List, [], ◌∷◌, ◌++◌, Option, Some, None, refl, sym, ◌∙◌, ap, option_map, inl, inr}
+use Rattle.std.proofs.Common.{◌≡◌, ◌≤◌, ◌<◌, ◌+◌, ℕ, Bool, true, false, not, cond, ◌||◌, max, List, [], ◌∷◌, ◌++◌, Option, Some, None, refl, ◌∙◌, ap, option_map}
 use Rattle.std.specs.Prelude.{filter, find, fold, count_by}
 use Rattle.std.specs.Option.{option_and_then, option_or}
 use Rattle.std.specs.List.{AllByRecursion, list_any}
-use Rattle.std.proofs.lemmas.Bool.{false≢true, or_parts, or_from}
-use Rattle.std.proofs.lemmas.Option.{none-some}
+use Rattle.std.proofs.lemmas.Bool.{false≢true, or_parts}
 use Rattle.repo_model.specs.State.{change_where, change_first}
 use Rattle.repo_laws.proofs.Counts.{one_if, count-cons}
 

@@ -1,23 +1,22 @@
 -- Tables stay in order under each item that fits.
 use native.Mathlib.Omega.{arith}
-use Rattle.std.proofs.Common.{◌≡◌, ◌≤◌, ◌<◌, ◌+◌, ℕ, Bool, true, false, not, cond, ◌&&◌, List, [], ◌∷◌, ◌++◌, Option, Some, None, refl, sym, ◌∙◌, ap, subst, option_map, eqb-true}
+use Rattle.std.proofs.Common.{◌≡◌, ◌≤◌, ◌<◌, ◌+◌, ℕ, Bool, true, false, not, cond, List, [], ◌∷◌, ◌++◌, Some, None, refl, sym, ◌∙◌, ap, subst, option_map, eqb-true}
 use Rattle.std.specs.Prelude.{◌==◌, nat_lt, filter, find, count_by, bytes_eq, is_none}
 use Rattle.std.specs.List.{AllByRecursion, list_any, list_all}
 use Rattle.std.specs.List.Sorted.{IsStrictlySortedBy}
-use Rattle.std.specs.Ordering.{nat_cmp, match_ordering, ordering_then, ordering_reverse, MatchOrdering}
+use Rattle.std.specs.Ordering.{nat_cmp, match_ordering, ordering_then, ordering_reverse}
 use Rattle.std.specs.Cmp.{IsTotalOrder, then_total, on_total, nat_cmp_is, nat_cmp_total}
 use Rattle.std.specs.declared.cmp.Ordering.{Ordering}
 use Rattle.std.specs.declared.cmp.Ordering.TheVariants.{Less, Equal, Greater}
 use Rattle.std.specs.Cmp.Lexicographic.{slice_cmp, nat_list_cmp_total}
-use Rattle.std.proofs.lemmas.Bool.{false≢true, and_parts, and_from, or_parts, or_from, ltb-true}
+use Rattle.std.proofs.lemmas.Bool.{false≢true, and_parts, and_from, or_parts, ltb-true}
 use Rattle.std.proofs.lemmas.Map.Lookups.{exact_bytes}
 use Rattle.std.proofs.lemmas.Option.{none-some}
 use Rattle.repo_model.specs.declared.item.Item.{Item}
 use Rattle.repo_model.specs.declared.item.Item.TheVariants.{HostedPut, Faded, Relisted, Removed, CachedFile, CachedDoc, SessionOpened, SessionEnded}
-use Rattle.repo_model.specs.Data.{Row}
 use Rattle.repo_model.specs.Effect.{list_again, fade}
 use Rattle.repo_model.specs.State.{change_where}
-use Rattle.repo_model.specs.Tables.{Tables, RecordedRow, RecordedDocument, RecordedSession, no_tables, place_cmp, is_recorded, recorded_at, recorded_row, with_recorded, with_document, change_recorded, is_session, names_blob, item_on, fits_on}
+use Rattle.repo_model.specs.Tables.{Tables, RecordedRow, RecordedDocument, RecordedSession, no_tables, place_cmp, is_recorded, recorded_at, recorded_row, with_recorded, with_document, is_session, names_blob, item_on, fits_on}
 use Rattle.repo_laws.specs.Holds.{row_cmp, document_cmp, session_cmp, named_in, InOrder}
 use Rattle.repo_laws.proofs.Counts.{one_if, count-cons, count-filter}
 use Rattle.repo_laws.proofs.Releases.{same_path, is_itself}
@@ -83,11 +82,13 @@ module _ {K : Type 0} (c : K → K → Ordering) (order : IsTotalOrder c) where
   unfolding IsStrictlySortedBy
   change-ordered q f left right [] rising = tt
   change-ordered q f left right (x ∷ xs) rising =
-      let after : AllByRecursion (λ y. c x y ≡ Less) (change_where q f xs) = all-change_where (λ y. c x y ≡ Less) q f (λ y before. right x y ∙ before) xs rising.0 in
-      (elim (q x) as (λ b. AllByRecursion (λ y. c (cond b (f x) x) y ≡ Less) (change_where q f xs)) [
-        | true ↦ all-as (change_where q f xs) after
-        | false ↦ after
-      ], change-ordered q f left right xs rising.1) where
+      let after : AllByRecursion (λ y. c x y ≡ Less) (change_where q f xs) = all-change_where (λ y. c x y ≡ Less) q f (λ y before. right x y ∙ before) xs rising.0 in (
+        elim (q x) as (λ b. AllByRecursion (λ y. c (cond b (f x) x) y ≡ Less) (change_where q f xs)) [
+          | true ↦ all-as (change_where q f xs) after
+          | false ↦ after
+        ],
+        change-ordered q f left right xs rising.1,
+      ) where
         all-as : (ys : List K) → AllByRecursion (λ y. c x y ≡ Less) ys → AllByRecursion (λ y. c (f x) y ≡ Less) ys
         all-as [] all = tt
         all-as (y ∷ ys) all = (left x y ∙ all.0, all-as ys all.1)

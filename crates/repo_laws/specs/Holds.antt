@@ -1,5 +1,5 @@
 -- What the records tell: tables in order, tables that hold a state, and a state that stands for tables after a start.
-use Rattle.std.specs.Prelude.{◌≡◌, ℕ, ◌+◌, ◌<◌, ◌≤◌, Bool, false, ◌==◌, max, List, [], ◌∷◌, ◌++◌, fold, find, count_by, Option, None, Some, IsTrue}
+use Rattle.std.specs.Prelude.{◌≡◌, ℕ, ◌+◌, ◌<◌, ◌≤◌, false, ◌==◌, max, List, [], ◌∷◌, ◌++◌, fold, find, count_by, Option, None, Some, IsTrue}
 use Rattle.std.specs.Option.{option_map, option_and_then}
 use Rattle.std.specs.List.{AllByRecursion, list_any}
 use Rattle.std.specs.List.Sorted.{IsStrictlySortedBy}
