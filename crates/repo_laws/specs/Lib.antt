@@ -3,3 +3,5 @@ pub mod Replies
 pub mod Sound
 pub mod Closed
 pub mod Worked
+pub mod Holds
+pub mod Numbered

@@ -9,6 +9,7 @@ use Rattle.repo_model.specs.Settings.{Rule, Settings}
 use Rattle.repo_model.specs.State.{State, Lease, row_at, number_end}
 use Rattle.repo_model.specs.Command.{is_there}
 use Rattle.repo_model.specs.History.{latest_moment}
+use Rattle.repo_laws.specs.Numbered.{Numbered}
 use Rattle.repo_laws.specs.Laws.{FadingAreSnapshots, AreApart, places_of, leases_of, rows_with, count_of}
 
 -- no later rule has the id of an earlier one
@@ -68,6 +69,7 @@ pub record IsSound (settings : Settings) (s : State) : Type 0 where
   pub order : Sound settings s
   pub places : OnePlace s
   pub leases : LentOnce s
+  pub sessions : Numbered s
   pub condemned : AreRising s.yard.condemned
   pub fading : FadingAreSnapshots s
   pub last : s.last ≤ latest_moment

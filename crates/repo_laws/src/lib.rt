@@ -8,4 +8,5 @@ pub mod documents;
 pub mod numbers;
 pub mod replies;
 pub mod states;
+pub mod tables;
 pub mod worked;
