@@ -1,7 +1,7 @@
 use Rattle.std.proofs.Common.{refl}
 use Rattle.mvn_coords.specs.Path.{parts_of}
 use Rattle.mvn_coords.specs.Worked.{WorkedPaths}
-use Rattle.mvn_coords.proofs.read.worked_paths.Goals as goal
+use Rattle.mvn_coords.proofs.laws.worked_paths.Goals as goal
 
 computed : WorkedPaths
 unfolding parts_of
