@@ -20,7 +20,8 @@ use Rattle.repo_model.specs.Command.{Command, look, done, may_put, put, put_side
 use Rattle.repo_model.specs.Reply.{Reply, file, text, doc, missed, given_back, kind_refused, draft, no_draft, taken, same, relisted, created, not_there, differs, agreed, noted, dropped, no_session, sessions_full, opened, session_full, staged, offends, missing_pom, ended, unlisted, collected, counts, spent}
 use Rattle.repo_model.specs.Purge.{due_rows, fade_all, expire_all}
 use Rattle.repo_model.specs.Deploy.{Offence, offence, without_pom, deliver_all, discard_all}
-use Rattle.repo_model.specs.Turn.{Turn, says, draws_or_spent, Seen, is_file, is_text, is_doc, is_nothing, seen_at, shows, in_repository, has_room, draws_draft, may_put_in, put_again, put_at, compared, judged, side_of, with_open, staged_at, stage_at, stage_in, commit_by, commit_of, abort_of, unlist_of, unlent, collect_of, counts_of, turn}
+use Rattle.repo_model.specs.Turn.{Turn, says, draws_or_spent, Seen, is_file, is_text, is_doc, is_nothing, seen_at, shows, in_repository, has_room, draws_draft, may_put_in, put_again, put_at, compared, judged, with_open, staged_at, stage_at, stage_in, commit_by, commit_of, abort_of, unlist_of, unlent, collect_of, counts_of, turn}
+use Rattle.mvn_digest.specs.Sides.{side_of}
 
 -- a reply and the effects with it
 abbrev pub does : Reply → List Effect → Turn

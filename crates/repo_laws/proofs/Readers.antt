@@ -19,7 +19,8 @@ use Rattle.repo_model.specs.Command.{Command, look, done, may_put, put, put_side
 use Rattle.repo_model.specs.Reply.{Reply, file, text, doc, missed, spent, same, relisted, taken, created, no_draft, staged, session_full, kind_refused, agreed, differs, sessions_full, opened, noted, no_memory, store_fault, is_free}
 use Rattle.repo_model.specs.Purge.{due_rows, expire_all, expired_of, is_over, most_rows}
 use Rattle.repo_model.specs.Deploy.{Offence, offence, without_pom, deliver_at, deliver_again, deliver_all, discard_all}
-use Rattle.repo_model.specs.Turn.{Turn, turn, says, draws_or_spent, Seen, is_file, is_text, is_doc, is_nothing, shows, seen_at, in_repository, has_room, draws_draft, may_put_in, put_again, put_at, compared, judged, side_of, with_open, staged_at, stage_at, stage_in, commit_by, commit_of, abort_of, unlist_of, unlent}
+use Rattle.repo_model.specs.Turn.{Turn, turn, says, draws_or_spent, Seen, is_file, is_text, is_doc, is_nothing, shows, seen_at, in_repository, has_room, draws_draft, may_put_in, put_again, put_at, compared, judged, with_open, staged_at, stage_at, stage_in, commit_by, commit_of, abort_of, unlist_of, unlent}
+use Rattle.mvn_digest.specs.Sides.{side_of}
 use Rattle.repo_model.specs.History.{Entry, Fits, IsReply, due, wants_memory, failed, ticked, effects_of, after, Legal}
 use Rattle.repo_laws.specs.Sound.{AreNamedApart}
 use Rattle.repo_laws.specs.Closed.{given_out, IsLentAs, ReadsOn, ReadersLast}
