@@ -13,7 +13,7 @@ use Rattle.repo_model.specs.History.{Entry, Fits, latest_moment, ticked, effects
 use Rattle.repo_laws.specs.Replies.{moments_of}
 
 -- effects set no moment
-last_of : (es : List Effect) (s : State) → (with_effects s es).last ≡ s.last
+pub last_of : (es : List Effect) (s : State) → (with_effects s es).last ≡ s.last
 last_of [] s = refl
 last_of (e ∷ es) s = last_of es (with_effect s e)
 
