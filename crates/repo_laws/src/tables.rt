@@ -1,18 +1,26 @@
 //! Laws of the records: what a turn records, and what the tables tell of the state.
-ghost use Rattle.std.specs.Prelude.{◌≡◌, ℕ, ◌≤◌, List, [], Option, Ok, true, IsTrue};
+ghost use Rattle.std.specs.Prelude.{◌≡◌, ℕ, ◌≤◌, List, [], ◌∷◌, ◌++◌, length, Option, None, Some, Ok, false, IsTrue};
+ghost use Rattle.std.specs.List.{flat_map};
 ghost use Rattle.outside.specs.Moments.{Moments};
 ghost use Rattle.repo_model.specs.declared.item.Item.{Item};
+ghost use Rattle.repo_model.specs.declared.item.Item.TheVariants.{HostedPut, Relisted, SessionOpened, SessionEnded};
+ghost use Rattle.repo_model.specs.declared.session.SessionResult.{SessionResult};
+ghost use Rattle.repo_model.specs.declared.session.SessionResult.TheVariants.{Aborted, Done};
+ghost use Rattle.repo_model.specs.Data.{Blob, Staged, Session};
 ghost use Rattle.repo_model.specs.Settings.{Settings};
-ghost use Rattle.repo_model.specs.State.{State, opening};
+ghost use Rattle.repo_model.specs.State.{State, opening, row_at, rows_of, session_of};
 ghost use Rattle.repo_model.specs.Effect.{Effect, with_effect, with_effects, items_of, recorded};
 ghost use Rattle.repo_model.specs.May.{May, AllMay};
-ghost use Rattle.repo_model.specs.Reply.{is_free};
+ghost use Rattle.repo_model.specs.Reply.{is_free, created, relisted, opened, ended, unlisted, collected};
+ghost use Rattle.repo_model.specs.Command.{Command, put, open_session, commit, abort, unlist, collect};
+ghost use Rattle.repo_model.specs.Purge.{expire_all};
+ghost use Rattle.repo_model.specs.Turn.{says, unlent, turn};
 ghost use Rattle.repo_model.specs.History.{Entry, Fits, Legal, effects_of, after, end};
 ghost use Rattle.repo_model.specs.Tables.{Tables, no_tables, item_on, fits_on, applied};
 ghost use Rattle.repo_laws.specs.Sound.{AreNamedApart, Sound, OnePlace};
 ghost use Rattle.repo_laws.specs.Closed.{Throughout};
 ghost use Rattle.repo_laws.specs.Numbered.{Numbered};
-ghost use Rattle.repo_laws.specs.Holds.{InOrder, Holds, StandsFor, with_items, told};
+ghost use Rattle.repo_laws.specs.Holds.{InOrder, Holds, StandsFor, with_items, told, can_record, item_at};
 
 /// Each item that fits leaves tables in order: rows and documents in byte order of repository and path, sessions rising, each once, and each blob named once.
 pub fn tables_stay_in_order()
@@ -53,4 +61,25 @@ pub fn empty_tables_hold()
     ensures history { (settings : Settings) (clock : Option Moments) (entries : List Entry) → AreNamedApart settings.hosted → Legal settings (opening settings clock) entries
         → (applied no_tables (told settings (opening settings clock) entries) ≡ Ok (with_items no_tables (told settings (opening settings clock) entries)))
         × Holds (with_items no_tables (told settings (opening settings clock) entries)) (end settings (opening settings clock) entries) }
+{}
+
+/// What a turn records, by its reply: a refusal nothing, and the numbers that are answered are those of the items.
+pub fn turns_record()
+    ensures refused { (settings : Settings) (s : State) (now : ℕ) (c : Command) → can_record (turn settings s now c).reply ≡ false → recorded (turn settings s now c).effects ≡ [] }
+    ensures created { (settings : Settings) (s : State) (now : ℕ) (repo path : List ℕ) (n : ℕ) (blob : Blob) → (turn settings s now (put repo path n blob)).reply ≡ created
+        → recorded (turn settings s now (put repo path n blob)).effects ≡ HostedPut repo path blob.number blob.print now ∷ [] }
+    ensures relisted { (settings : Settings) (s : State) (now : ℕ) (repo path : List ℕ) (n : ℕ) (blob : Blob) → (turn settings s now (put repo path n blob)).reply ≡ relisted
+        → recorded (turn settings s now (put repo path n blob)).effects ≡ Relisted repo path now ∷ [] }
+    ensures opened { (settings : Settings) (s : State) (now : ℕ) (repo : List ℕ) (n : ℕ) → (turn settings s now (open_session repo)).reply ≡ opened n
+        → recorded (turn settings s now (open_session repo)).effects ≡ SessionOpened n ∷ [] }
+    ensures committed { (settings : Settings) (s : State) (now n k : ℕ) (one : Session) → session_of n s ≡ Some one → one.ended ≡ None → (turn settings s now (commit n)).reply ≡ ended (Done k)
+        → recorded (turn settings s now (commit n)).effects ≡ flat_map (λ (file : Staged). item_at one.repo now file (row_at file.path (rows_of one.repo s))) one.staged ++ SessionEnded n (Done k) ∷ [] }
+    ensures aborted { (settings : Settings) (s : State) (now n : ℕ) (one : Session) → session_of n s ≡ Some one → one.ended ≡ None
+        → recorded (turn settings s now (abort n)).effects ≡ SessionEnded n Aborted ∷ [] }
+    ensures again { (settings : Settings) (s : State) (now n : ℕ) (one : Session) (result : SessionResult) → session_of n s ≡ Some one → one.ended ≡ Some result
+        → (turn settings s now (commit n) ≡ says (ended result)) × (turn settings s now (abort n) ≡ says (ended result)) }
+    ensures unlisted { (settings : Settings) (s : State) (now : ℕ) (repo : List ℕ)
+        → (turn settings s now (unlist repo)).reply ≡ unlisted (length (recorded (turn settings s now (unlist repo)).effects)) }
+    ensures collected { (settings : Settings) (s : State) (now : ℕ)
+        → (turn settings s now collect).reply ≡ collected (length (recorded (turn settings s now collect).effects)) (unlent (with_effects s (expire_all settings.grace now s.hosted)).yard) }
 {}
