@@ -26,7 +26,7 @@ use Rattle.repo_laws.proofs.HoldingLists.{all-change_where, all-filter, all-push
 rows-order : IsTotalOrder row_cmp
 rows-order = then_total (on_total (λ (r : RecordedRow). r.repo) nat_list_cmp_total) (on_total (λ (r : RecordedRow). r.row.path) nat_list_cmp_total)
 
-documents-order : IsTotalOrder document_cmp
+pub documents-order : IsTotalOrder document_cmp
 documents-order = then_total (on_total (λ (d : RecordedDocument). d.repo) nat_list_cmp_total) (on_total (λ (d : RecordedDocument). d.path) nat_list_cmp_total)
 
 sessions-order : IsTotalOrder session_cmp

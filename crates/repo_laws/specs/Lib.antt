@@ -4,3 +4,4 @@ pub mod Closed
 pub mod Worked
 pub mod Holds
 pub mod Numbered
+pub mod Items

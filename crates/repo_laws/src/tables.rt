@@ -1,12 +1,15 @@
 //! Laws of the records: what a turn records, and what the tables tell of the state.
-ghost use Rattle.std.specs.Prelude.{◌≡◌, ℕ, ◌≤◌, List, [], ◌∷◌, ◌++◌, length, Option, None, Some, Ok, false, IsTrue};
-ghost use Rattle.std.specs.List.{flat_map};
+ghost use Rattle.std.specs.Prelude.{◌≡◌, ◌↔◌, ℕ, ◌<◌, ◌≤◌, if◌then◌else◌, List, [], ◌∷◌, ◌++◌, length, find, Option, None, Some, Ok, Err, false, IsTrue};
+ghost use Rattle.std.specs.List.{AllByRecursion, flat_map};
+ghost use Rattle.mvn_metadata.specs.Document.{Document};
 ghost use Rattle.outside.specs.Moments.{Moments};
 ghost use Rattle.repo_model.specs.declared.item.Item.{Item};
-ghost use Rattle.repo_model.specs.declared.item.Item.TheVariants.{HostedPut, Relisted, SessionOpened, SessionEnded};
+ghost use Rattle.repo_model.specs.declared.item.Item.TheVariants.{HostedPut, Faded, Relisted, Removed, CachedFile, CachedDoc, SessionOpened, SessionEnded};
+ghost use Rattle.repo_model.specs.declared.print.Print.{Print};
 ghost use Rattle.repo_model.specs.declared.session.SessionResult.{SessionResult};
 ghost use Rattle.repo_model.specs.declared.session.SessionResult.TheVariants.{Aborted, Done};
-ghost use Rattle.repo_model.specs.Data.{Blob, Staged, Session};
+ghost use Rattle.repo_model.specs.Data.{Blob, Row, listed, fading, Staged, Session};
+ghost use Rattle.repo_model.specs.Paths.{is_snapshot_path};
 ghost use Rattle.repo_model.specs.Settings.{Settings};
 ghost use Rattle.repo_model.specs.State.{State, opening, row_at, rows_of, session_of};
 ghost use Rattle.repo_model.specs.Effect.{Effect, with_effect, with_effects, items_of, recorded};
@@ -16,16 +19,50 @@ ghost use Rattle.repo_model.specs.Command.{Command, put, open_session, commit, a
 ghost use Rattle.repo_model.specs.Purge.{expire_all};
 ghost use Rattle.repo_model.specs.Turn.{says, unlent, turn};
 ghost use Rattle.repo_model.specs.History.{Entry, Fits, Legal, effects_of, after, end};
-ghost use Rattle.repo_model.specs.Tables.{Tables, no_tables, item_on, fits_on, applied};
+ghost use Rattle.repo_model.specs.Tables.{Tables, RecordedSession, no_tables, recorded_at, names_blob, is_session, item_on, fits_on, applied};
 ghost use Rattle.repo_laws.specs.Sound.{AreNamedApart, Sound, OnePlace};
 ghost use Rattle.repo_laws.specs.Closed.{Throughout};
 ghost use Rattle.repo_laws.specs.Numbered.{Numbered};
 ghost use Rattle.repo_laws.specs.Holds.{InOrder, Holds, StandsFor, with_items, told, can_record, item_at};
+ghost use Rattle.repo_laws.specs.Items.{is_of_row, is_of_file, is_of_document, is_of_session, document_at, row_then, file_then, document_then, session_then};
 
 /// Each item that fits leaves tables in order: rows and documents in byte order of repository and path, sessions rising, each once, and each blob named once.
 pub fn tables_stay_in_order()
     ensures item { (t : Tables) (item : Item) → InOrder t → IsTrue (fits_on t item) → InOrder (item_on t item) }
     ensures empty { InOrder no_tables }
+{}
+
+/// Which items fit tables, and so which is the first that does not.
+pub fn items_fit()
+    ensures hosted_put { (t : Tables) (repo path : List ℕ) (blob : ℕ) (print : Print) (accepted : ℕ) → IsTrue (fits_on t (HostedPut repo path blob print accepted))
+        ↔ ((recorded_at repo path t.hosted ≡ None) × (names_blob blob t ≡ false)) }
+    ensures cached_file { (t : Tables) (repo path : List ℕ) (blob : ℕ) (print : Print) (accepted : ℕ) → IsTrue (fits_on t (CachedFile repo path blob print accepted))
+        ↔ ((recorded_at repo path t.cached ≡ None) × (names_blob blob t ≡ false)) }
+    ensures cached_doc { (t : Tables) (repo path : List ℕ) (checked : ℕ) (document : Document) → IsTrue (fits_on t (CachedDoc repo path checked document)) }
+    ensures faded { (t : Tables) (repo path : List ℕ) (moment : ℕ) → IsTrue (fits_on t (Faded repo path moment))
+        ↔ (IsTrue (is_snapshot_path path) × ((row : Row) × (recorded_at repo path t.hosted ≡ Some row) × (row.phase ≡ listed))) }
+    ensures relisted { (t : Tables) (repo path : List ℕ) (accepted : ℕ) → IsTrue (fits_on t (Relisted repo path accepted))
+        ↔ ((row : Row) × (since : ℕ) × (recorded_at repo path t.hosted ≡ Some row) × (row.phase ≡ fading since)) }
+    ensures removed { (t : Tables) (repo path : List ℕ) → IsTrue (fits_on t (Removed repo path))
+        ↔ ((row : Row) × (since : ℕ) × (recorded_at repo path t.hosted ≡ Some row) × (row.phase ≡ fading since)) }
+    ensures session_opened { (t : Tables) (n : ℕ) → IsTrue (fits_on t (SessionOpened n)) ↔ AllByRecursion (λ (one : RecordedSession). one.number < n) t.sessions }
+    ensures session_ended { (t : Tables) (n : ℕ) (result : SessionResult) → IsTrue (fits_on t (SessionEnded n result))
+        ↔ (find (is_session n) t.sessions ≡ Some (record { number = n; result = None })) }
+    ensures first { (t : Tables) (items : List Item) (place : ℕ) → applied t items ≡ Err place
+        → (before : List Item) × (item : Item) × (after : List Item) × (items ≡ before ++ item ∷ after) × (place ≡ length before)
+        × (applied t before ≡ Ok (with_items t before)) × (fits_on (with_items t before) item ≡ false) }
+{}
+
+/// An item that fits changes what it is about, and nothing else.
+pub fn items_change_one_place()
+    ensures rows { (t : Tables) (item : Item) (id at : List ℕ) → IsTrue (fits_on t item)
+        → recorded_at id at (item_on t item).hosted ≡ (if is_of_row id at item then row_then item (recorded_at id at t.hosted) else recorded_at id at t.hosted) }
+    ensures files { (t : Tables) (item : Item) (id at : List ℕ) → IsTrue (fits_on t item)
+        → recorded_at id at (item_on t item).cached ≡ (if is_of_file id at item then file_then item (recorded_at id at t.cached) else recorded_at id at t.cached) }
+    ensures documents { (t : Tables) (item : Item) (id at : List ℕ)
+        → document_at id at (item_on t item).documents ≡ (if is_of_document id at item then document_then item (document_at id at t.documents) else document_at id at t.documents) }
+    ensures sessions { (t : Tables) (item : Item) (n : ℕ) → IsTrue (fits_on t item)
+        → find (is_session n) (item_on t item).sessions ≡ (if is_of_session n item then session_then item (find (is_session n) t.sessions) else find (is_session n) t.sessions) }
 {}
 
 /// No two sessions have one number, and each number is below the next one to draw.
