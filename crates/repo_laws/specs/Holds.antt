@@ -58,6 +58,15 @@ greatest_session t = fold (λ m (one : RecordedSession). max m one.number) 0 t.s
 abbrev pub loose_in : State → ℕ → ℕ
 loose_in s n = count_of n s.yard.drafts + staged_with n s.sessions + count_of n s.yard.condemned
 
+-- no moment of a row is later
+abbrev pub IsUpTo : ℕ → RecordedRow → Type 0
+IsUpTo most r = (r.row.accepted ≤ most) × ((since : ℕ) → r.row.phase ≡ fading since → since ≤ most)
+
+-- no moment of the tables is later
+abbrev pub AreUpTo : ℕ → Tables → Type 0
+AreUpTo most t =
+    AllByRecursion (IsUpTo most) t.hosted × AllByRecursion (IsUpTo most) t.cached × AllByRecursion (λ (d : RecordedDocument). d.checked ≤ most) t.documents
+
 -- the tables tell what a state has that outlasts a stop
 pub record Holds (t : Tables) (s : State) : Type 0 where
   -- of each repository that is there, the row at each path, without its blob's bytes

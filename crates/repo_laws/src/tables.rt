@@ -1,6 +1,6 @@
 //! Laws of the records: what a turn records, and what the tables tell of the state.
-ghost use Rattle.std.specs.Prelude.{◌≡◌, ◌↔◌, ℕ, ◌<◌, ◌≤◌, if◌then◌else◌, List, [], ◌∷◌, ◌++◌, length, find, Option, None, Some, Ok, Err, false, IsTrue};
-ghost use Rattle.std.specs.List.{AllByRecursion, flat_map};
+ghost use Rattle.std.specs.Prelude.{◌≡◌, ◌↔◌, ℕ, ◌<◌, ◌≤◌, if◌then◌else◌, List, [], ◌∷◌, ◌++◌, length, find, Option, option_map, None, Some, Ok, Err, false, IsTrue};
+ghost use Rattle.std.specs.List.{AllByRecursion, list_any, flat_map};
 ghost use Rattle.mvn_metadata.specs.Document.{Document};
 ghost use Rattle.outside.specs.Moments.{Moments};
 ghost use Rattle.repo_model.specs.declared.item.Item.{Item};
@@ -11,7 +11,7 @@ ghost use Rattle.repo_model.specs.declared.session.SessionResult.TheVariants.{Ab
 ghost use Rattle.repo_model.specs.Data.{Blob, Row, listed, fading, Staged, Session};
 ghost use Rattle.repo_model.specs.Paths.{is_snapshot_path};
 ghost use Rattle.repo_model.specs.Settings.{Settings};
-ghost use Rattle.repo_model.specs.State.{State, opening, row_at, rows_of, session_of};
+ghost use Rattle.repo_model.specs.State.{State, is_repository, is_open_at, opening, row_at, rows_of, session_of};
 ghost use Rattle.repo_model.specs.Effect.{Effect, with_effect, with_effects, items_of, recorded};
 ghost use Rattle.repo_model.specs.May.{May, AllMay};
 ghost use Rattle.repo_model.specs.Reply.{is_free, created, relisted, opened, ended, unlisted, collected};
@@ -19,11 +19,11 @@ ghost use Rattle.repo_model.specs.Command.{Command, put, open_session, commit, a
 ghost use Rattle.repo_model.specs.Purge.{expire_all};
 ghost use Rattle.repo_model.specs.Turn.{says, unlent, turn};
 ghost use Rattle.repo_model.specs.History.{Entry, Fits, Legal, effects_of, after, end};
-ghost use Rattle.repo_model.specs.Tables.{Tables, RecordedSession, no_tables, recorded_at, names_blob, is_session, item_on, fits_on, applied};
+ghost use Rattle.repo_model.specs.Tables.{Tables, RecordedSession, no_tables, recorded_at, names_blob, is_session, item_on, fits_on, applied, greatest_moment};
 ghost use Rattle.repo_laws.specs.Sound.{AreNamedApart, Sound, OnePlace};
 ghost use Rattle.repo_laws.specs.Closed.{Throughout};
 ghost use Rattle.repo_laws.specs.Numbered.{Numbered};
-ghost use Rattle.repo_laws.specs.Holds.{InOrder, Holds, StandsFor, with_items, told, can_record, item_at};
+ghost use Rattle.repo_laws.specs.Holds.{InOrder, Holds, StandsFor, AreUpTo, with_items, told, without_bytes, result_of, can_record, item_at};
 ghost use Rattle.repo_laws.specs.Items.{is_of_row, is_of_file, is_of_document, is_of_session, document_at, row_then, file_then, document_then, session_then};
 
 /// Each item that fits leaves tables in order: rows and documents in byte order of repository and path, sessions rising, each once, and each blob named once.
@@ -63,6 +63,12 @@ pub fn items_change_one_place()
         → document_at id at (item_on t item).documents ≡ (if is_of_document id at item then document_then item (document_at id at t.documents) else document_at id at t.documents) }
     ensures sessions { (t : Tables) (item : Item) (n : ℕ) → IsTrue (fits_on t item)
         → find (is_session n) (item_on t item).sessions ≡ (if is_of_session n item then session_then item (find (is_session n) t.sessions) else find (is_session n) t.sessions) }
+{}
+
+/// The greatest moment of tables is the least that none of their moments is later than.
+pub fn greatest_moment_is_least()
+    ensures each { (t : Tables) → AreUpTo (greatest_moment t) t }
+    ensures least { (t : Tables) (most : ℕ) → AreUpTo most t → greatest_moment t ≤ most }
 {}
 
 /// No two sessions have one number, and each number is below the next one to draw.
@@ -119,4 +125,15 @@ pub fn turns_record()
         → (turn settings s now (unlist repo)).reply ≡ unlisted (length (recorded (turn settings s now (unlist repo)).effects)) }
     ensures collected { (settings : Settings) (s : State) (now : ℕ)
         → (turn settings s now collect).reply ≡ collected (length (recorded (turn settings s now collect).effects)) (unlent (with_effects s (expire_all settings.grace now s.hosted)).yard) }
+{}
+
+/// A start over the tables keeps the rows, the results of sessions and their numbers; open sessions are gone, and the moment is no later.
+pub fn restarts_keep()
+    ensures rows { (t : Tables) (old new : State) → Holds t old → Holds t new → (repo path : List ℕ) → IsTrue (list_any (is_repository repo) old.hosted)
+        → IsTrue (list_any (is_repository repo) new.hosted)
+        → option_map without_bytes (row_at path (rows_of repo new)) ≡ option_map without_bytes (row_at path (rows_of repo old)) }
+    ensures results { (t : Tables) (old new : State) → Holds t old → Holds t new → (n : ℕ) → result_of new n ≡ result_of old n }
+    ensures numbers { (t : Tables) (old new : State) → Holds t old → Holds t new → new.yard.next_session ≡ old.yard.next_session }
+    ensures lost { (t : Tables) (old new : State) → Holds t old → StandsFor t new → (n : ℕ) → IsTrue (list_any (is_open_at n) old.sessions) → session_of n new ≡ None }
+    ensures moments { (t : Tables) (old new : State) → Holds t old → StandsFor t new → new.last ≤ old.last }
 {}
