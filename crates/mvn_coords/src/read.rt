@@ -5,8 +5,7 @@ ghost use Rattle.std.specs.Str.{bytes_eq};
 ghost use Rattle.mvn_coords.specs.Segment as segment;
 ghost use Rattle.mvn_coords.specs.Layout as layout;
 ghost use Rattle.mvn_coords.specs.Path as path_rule;
-ghost use Rattle.mvn_coords.specs.Worked.{WorkedPaths};
-ghost use Rattle.mvn_coords.specs.Kind.{kind, kind_by, text_of_kind, with_side, IsExact};
+ghost use Rattle.mvn_coords.specs.Kind.{kind, kind_by, text_of_kind, with_side};
 
 use crate::name::{base_of, ending_in};
 use crate::text::{before, cut_last, is};
@@ -49,17 +48,6 @@ pub fn path_of(alloc: Global, c: &Coord<'_>) -> Result<String, NoMemory>
 {
     String::from_str(alloc, c.path())
 }
-
-/// A path is the one path of what it names, and a side file's path without its suffix names the
-/// file or document that it stands beside.
-pub fn exact_paths()
-    ensures { IsExact }
-{}
-
-/// Kinds of paths, written out.
-pub fn worked_paths()
-    ensures { WorkedPaths }
-{}
 
 /// Whether each part between slashes is a segment.
 fn all_segments(path: &str) -> bool

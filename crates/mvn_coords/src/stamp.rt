@@ -1,7 +1,7 @@
 //! Timestamps: civil times and their text.
 ghost use Rattle.std.specs.Prelude.{◌≡◌, ◌≤◌, ◌+◌, ◌%◌, ◌^◌, ◌<◌, pos, ◌≤ℤ◌, length, slice_range, IsTrue};
 ghost use Rattle.mvn_coords.specs.Civil as spec;
-ghost use Rattle.mvn_coords.specs.Civil.{IsExactText};
+ghost use Rattle.mvn_coords.specs.Calendar.{civil_of};
 
 use jiff::Timestamp;
 use jiff::civil::DateTime;
@@ -55,7 +55,7 @@ impl Model for Stamp {
 }
 
 impl Stamp {
-    ghost use Rattle.mvn_coords.specs.Civil.{seconds_of, text_of_time, time_of, if_civil, fields_of, shown};
+    ghost use Rattle.mvn_coords.specs.Civil.{text_of_time, time_of, if_civil, fields_of, shown};
 
     /// The greatest moment that `from_moment` takes, in seconds since 1970-01-01T00:00:00Z.
     pub const LAST_MOMENT: u64 = 253_402_207_200;
@@ -139,10 +139,10 @@ impl Stamp {
         ]
     }
 
-    /// The civil time in UTC, `moment` seconds after 1970-01-01T00:00:00Z, at most `LAST_MOMENT`.
+    /// The civil time in UTC of a moment, in seconds since 1970-01-01T00:00:00Z, at most `LAST_MOMENT`.
     pub fn from_moment(moment: u64) -> Stamp
         requires { moment ≤ Self.LAST_MOMENT }
-        ensures { seconds_of result ≡ pos moment }
+        ensures { result ≡ civil_of moment }
     {
         match Timestamp::from_second(moment as i64) {
             Ok(instant) => Stamp::from_civil(Offset::UTC.to_datetime(instant)),
@@ -150,11 +150,6 @@ impl Stamp {
         }
     }
 }
-
-/// Reading and writing a stamp's text are each other's inverse.
-pub fn exact_stamps()
-    ensures { IsExactText }
-{}
 
 /// The last decimal digit of a number, in ASCII.
 fn digit(number: u16) -> u8

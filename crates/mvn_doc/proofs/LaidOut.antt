@@ -10,7 +10,7 @@ use Rattle.mvn_doc.specs.declared.place.Place.TheVariants.{Metadata}
 use Rattle.mvn_metadata.specs.Document.{Document, latest, release}
 use Rattle.mvn_metadata.specs.Merge.{Entry}
 use Rattle.mvn_doc.specs.Place.{Placed, below}
-use Rattle.mvn_doc.specs.Written.{block, build_version, element, moment_text, number_text}
+use Rattle.mvn_metadata.specs.Written.{block, build_version, element, moment_text, number_text}
 
 pub data Lines : Type 0 where
   NoLines : Lines

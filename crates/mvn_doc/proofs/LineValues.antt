@@ -13,7 +13,7 @@ use Rattle.mvn_coords.specs.Segment.{is_artifact, is_group_segment, is_path_byte
 use Rattle.mvn_coords.proofs.Digits.{decimal-digits}
 use Rattle.mvn_metadata.specs.Form.{is_artifact_name, is_base_version, is_classifier, is_classifier_byte, is_extension, is_fit, is_group, is_version}
 use Rattle.mvn_metadata.specs.Document.{is_snapshot}
-use Rattle.mvn_doc.specs.Written.{moment_text, number_text}
+use Rattle.mvn_metadata.specs.Written.{moment_text, number_text}
 use Rattle.mvn_metadata.proofs.Bools.{both, first, second, list_all_weaker}
 use Rattle.mvn_doc.proofs.LinesOutlined.{is_line_value}
 use Rattle.mvn_doc.proofs.Utf8Lemmas.{digit_plain}

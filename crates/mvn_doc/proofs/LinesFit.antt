@@ -11,7 +11,7 @@ use Rattle.mvn_metadata.specs.declared.listing.Listing.TheVariants.{Artifact, Sn
 use Rattle.mvn_metadata.specs.Document.{Document, latest, release}
 use Rattle.mvn_metadata.specs.Form.{is_artifact_name, is_base_version, is_build, is_classifier, is_document, is_entry, is_extension, is_fit, is_group, is_listing, is_version}
 use Rattle.mvn_metadata.specs.Merge.{Entry}
-use Rattle.mvn_doc.specs.Written.{build_version, moment_text, number_text}
+use Rattle.mvn_metadata.specs.Written.{build_version, moment_text, number_text}
 use Rattle.mvn_metadata.proofs.Bools.{both, first, second, list_all_weaker}
 use Rattle.mvn_metadata.proofs.FormLemmas.{builds_parts, listing_of, versions_parts}
 use Rattle.mvn_doc.proofs.LaidOut.{Lines, NoLines, Line, Block, artifact_inside, classifier_if, each_entry, each_version, entries_block, entry_inside, line_if, lines_of, listing_inside, newest_block, snapshot_inside, versions_block}

@@ -19,7 +19,7 @@ use Rattle.mvn_metadata.specs.Merge.{Entry, with_entries, with_entry, with_versi
 use Rattle.mvn_metadata.specs.Order.{build_cmp}
 use Rattle.mvn_doc.specs.Picked.{artifact_in, base_in, build_by, build_in, build_value, document_in, entries_in, entry_by, entry_in, first_at, fitting, group_in, listing_in, moment_in, moment_of, onto, section, versions_in}
 use Rattle.mvn_doc.specs.Place.{Placed, is_at, place_number}
-use Rattle.mvn_doc.specs.Written.{build_version, moment_text}
+use Rattle.mvn_metadata.specs.Written.{build_version, moment_text}
 use Rattle.mvn_metadata.proofs.Bools.{first, second}
 use Rattle.mvn_metadata.proofs.FormLemmas.{builds_parts, listing_of, versions_parts}
 use Rattle.mvn_doc.proofs.LaidOut.{Lines, NoLines, Line, Block, artifact_inside, classifier_if, each_entry, each_version, entries_block, entry_inside, line_if, listing_inside, newest_block, placed_lines, placed_of, snapshot_inside, versions_block}

@@ -12,7 +12,7 @@ use Rattle.mvn_doc.specs.declared.place.Place.TheVariants.{Metadata}
 use Rattle.mvn_metadata.specs.Document.{Document}
 use Rattle.mvn_metadata.specs.Form.{is_document}
 use Rattle.mvn_doc.specs.Place.{placed}
-use Rattle.mvn_doc.specs.Written.{text}
+use Rattle.mvn_metadata.specs.Written.{text}
 use Rattle.mvn_doc.proofs.LaidOut.{Lines, lines_of, placed_lines, placed_of}
 use Rattle.mvn_doc.proofs.LinesContent.{content, text_spelled}
 use Rattle.mvn_doc.proofs.LinesFit.{document_fits}

@@ -14,7 +14,7 @@ use Rattle.mvn_metadata.specs.declared.pair.SnapshotBuild.{SnapshotBuild}
 use Rattle.mvn_metadata.specs.Form.{is_base_version, is_build, is_entry, is_classifier, is_extension, is_fit}
 use Rattle.mvn_metadata.specs.Merge.{Entry}
 use Rattle.mvn_doc.specs.Picked.{build_by, build_value, cut_onto, snapshot_build_behind, snapshot_build_by, snapshot_build_of, last_cut, moment_of}
-use Rattle.mvn_doc.specs.Written.{build_version, moment_text, number_text}
+use Rattle.mvn_metadata.specs.Written.{build_version, moment_text, number_text}
 use Rattle.mvn_metadata.proofs.Bools.{both, first, second}
 
 -- ---- digits

@@ -5,7 +5,7 @@ ghost use Rattle.std.specs.Option.{option_copied, option_map};
 ghost use Rattle.mvn_coords.specs.Civil.{digits};
 ghost use Rattle.mvn_coords.specs.Layout.{text_of_build, without_zeros};
 ghost use Rattle.mvn_doc.specs.Sheet.{Adds};
-ghost use Rattle.mvn_doc.specs.Written as written;
+ghost use Rattle.mvn_metadata.specs.Written as written;
 
 use crate::sheet::Sheet;
 use crate::sizes::text_size;

@@ -9,7 +9,7 @@ use Rattle.mvn_coords.specs.FileName.{base_of, ◌>>=◌}
 use Rattle.mvn_coords.specs.Layout.{Directory, file, document, all_groups, artifact_directory, directory, directory_of, file_of, named, snapshot_directory, text_of_document}
 use Rattle.mvn_coords.specs.Path.{IsDirectory}
 use Rattle.mvn_coords.specs.Segment.{Segment, is_artifact, is_group_byte, is_group_segment, is_segment, is_version_directory, path_of_levels}
-use Rattle.mvn_coords.proofs.Laws.{passes}
+use Rattle.mvn_coords.proofs.ExactPaths.{passes}
 use Rattle.mvn_coords.proofs.Levels.{filled}
 use Rattle.mvn_coords.proofs.Results.{bound, chosen, ok_same}
 use Rattle.mvn_coords.specs.declared.fault.PathFault.TheVariants as fault

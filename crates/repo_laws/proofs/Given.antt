@@ -14,13 +14,14 @@ use Rattle.repo_model.specs.History.{Entry, Fits, after, Legal, end}
 use Rattle.repo_laws.specs.Laws.{places_of, count_of}
 use Rattle.repo_laws.specs.Sound.{AreNamedApart, Sound, OnePlace}
 use Rattle.repo_laws.specs.Closed.{given_out, all_given_out}
+use Rattle.repo_laws.proofs.ByPath.{all-apart}
 use Rattle.repo_laws.proofs.Counts.{one_if, count-cons, count-filter, among-counts}
 use Rattle.repo_laws.proofs.Places.{is_draw, one-place-kept, places-counted, next-counted, never-again}
 use Rattle.repo_laws.proofs.Lists.{all-take}
 use Rattle.repo_laws.proofs.Histories.{entry-keeps, sound-entry, one-place-entry}
 use Rattle.repo_laws.proofs.Untouched.{count-forgotten, only-collect, collects, cleared, cleared-keeps}
 
-count-append : (n : ℕ) (ms ks : List ℕ) → count_of n (ms ++ ks) ≡ count_of n ms + count_of n ks
+pub count-append : (n : ℕ) (ms ks : List ℕ) → count_of n (ms ++ ks) ≡ count_of n ms + count_of n ks
 count-append n [] ks = omega arith
 count-append n (m ∷ ms) ks =
     let is : ℕ → Bool = λ i. i == n in
@@ -33,7 +34,7 @@ count-take n (suc k) (m ∷ ms) =
     let is : ℕ → Bool = λ i. i == n in
     omega (arith, count-cons is m (take k ms), count-cons is m ms, count-take n k ms)
 
-not-among-counts : (n : ℕ) (ms : List ℕ) → is_among n ms ≡ false → count_of n ms ≡ 0
+pub not-among-counts : (n : ℕ) (ms : List ℕ) → is_among n ms ≡ false → count_of n ms ≡ 0
 not-among-counts n [] none = refl
 not-among-counts n (m ∷ ms) none =
     let (here, later) = or_parts (m == n) (is_among n ms) none in
@@ -114,7 +115,7 @@ module _ (settings : Settings) (apart : AreNamedApart settings.hosted) where
             let is_collect = only-collect n e.command e.reply among in
             let t : State = cleared settings apart s e in
             let (given, _, _) = collects settings apart s e n fits.reply is_collect (subst (λ c. is_among n (given_out c e.reply) ≡ true) is_collect among) in
-            let placed_so : OnePlace t = cleared-keeps settings apart s e OnePlace sound (λ u f sound_then may old. one-place-kept settings.grace e.moment u f sound_then.rows may old) placed in
+            let placed_so : OnePlace t = cleared-keeps settings apart s e OnePlace sound (λ u f sound_then may old. one-place-kept settings.grace e.moment u f (all-apart u.hosted sound_then.rows) may old) placed in
             let next_same : t.yard.next_draft ≡ s.yard.next_draft = next-same (expire_all settings.grace e.moment s.hosted) s (expire-draws-none settings.grace e.moment s.hosted) in
             absurd (omega (arith, among-counts n (unlent t.yard) given, count-unlent n t.yard, placed_so.later n (omega (arith, next_same, later))))
       ] refl

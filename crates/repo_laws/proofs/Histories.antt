@@ -13,8 +13,9 @@ use Rattle.repo_model.specs.Reply.{is_free}
 use Rattle.repo_model.specs.Turn.{turn}
 use Rattle.repo_model.specs.History.{Entry, MomentFits, latest_moment, ticked, Fits, effects_of, after, Legal}
 use Rattle.repo_laws.specs.Laws.{rows_with}
-use Rattle.repo_laws.specs.Sound.{AreNamedApart, RowsApart, Sound, OnePlace}
+use Rattle.repo_laws.specs.Sound.{AreNamedApart, AreByPath, Sound, OnePlace}
 use Rattle.repo_laws.specs.Closed.{Throughout}
+use Rattle.repo_laws.proofs.ByPath.{all-apart}
 use Rattle.repo_laws.proofs.Counts.{rows_with-cons}
 use Rattle.repo_laws.proofs.Places.{one-place-kept}
 use Rattle.repo_laws.proofs.Orderly.{sound-kept}
@@ -59,8 +60,8 @@ module _ (moment faults : ℕ) where
 pub sound-ticked : (settings : Settings) (s : State) (moment faults : ℕ) → Sound settings s → Sound settings (ticked s moment faults)
 sound-ticked settings s moment faults old = record { rules = old.rules; rows = old.rows; sessions = old.sessions; draft = old.draft; lease = old.lease; session = old.session }
 
-one-place-ticked : (s : State) (moment faults : ℕ) → OnePlace s → OnePlace (ticked s moment faults)
-one-place-ticked s moment faults old = record { drawn = old.drawn; later = old.later; lent = old.lent }
+pub one-place-ticked : (s : State) (moment faults : ℕ) → OnePlace s → OnePlace (ticked s moment faults)
+one-place-ticked s moment faults old = record { drawn = old.drawn; later = old.later; none = old.none; begun = old.begun; lent = old.lent }
 
 pub moment-rises : (s : State) (moment : ℕ) → MomentFits s moment → s.last ≤ moment
 moment-rises s moment fits =
@@ -95,7 +96,7 @@ module _ (settings : Settings) (apart : AreNamedApart settings.hosted) where
 
   pub one-place-entry : (s : State) (e : Entry) → Fits settings s e → Sound settings s → OnePlace s → OnePlace (after settings s e)
   one-place-entry s e fits sound old =
-      entry-keeps s e OnePlace fits sound (λ t f sound_then may placed. one-place-kept settings.grace e.moment t f sound_then.rows may placed) (one-place-ticked s e.moment e.faults old)
+      entry-keeps s e OnePlace fits sound (λ t f sound_then may placed. one-place-kept settings.grace e.moment t f (all-apart t.hosted sound_then.rows) may placed) (one-place-ticked s e.moment e.faults old)
 
   pub one-place-throughout : (entries : List Entry) (s : State) → Sound settings s → OnePlace s → Legal settings s entries → Throughout (λ t. Sound settings t × OnePlace t) settings s entries
   one-place-throughout [] s sound old legal = (sound, old)
@@ -103,7 +104,7 @@ module _ (settings : Settings) (apart : AreNamedApart settings.hosted) where
       ((sound, old), one-place-throughout entries (after settings s e) (sound-entry s e legal.0 sound) (one-place-entry s e legal.0 sound old) legal.1)
 
 -- the opening state
-new-rows : (rules : List Rule) → AllByRecursion (λ (h : Hosted). RowsApart h.rows) (map new_hosted rules)
+new-rows : (rules : List Rule) → AllByRecursion (λ (h : Hosted). AreByPath h.rows) (map new_hosted rules)
 new-rows [] = tt
 new-rows (rule ∷ rules) = (tt, new-rows rules)
 
@@ -129,6 +130,8 @@ pub one-place-opening : (settings : Settings) (clock : Option Moments) → OnePl
 one-place-opening settings clock = record {
   drawn = λ n below. omega (arith, new-none n settings.hosted);
   later = λ n above. omega (arith, new-none n settings.hosted);
+  none = omega (arith, new-none 0 settings.hosted);
+  begun = omega arith;
   lent = tt;
 }
 

@@ -28,10 +28,11 @@ use Rattle.repo_laws.specs.Holds.{InOrder, Holds, StandsFor, named_in, loose_in,
 use Rattle.repo_laws.specs.Closed.{Throughout}
 use Rattle.repo_laws.proofs.Counts.{one_if, among-counts, given-up, count-with_number, found-goes, staged-counted, stages_it}
 use Rattle.repo_laws.proofs.Rows.{rows_in}
+use Rattle.repo_laws.proofs.ByPath.{all-apart}
 use Rattle.repo_laws.proofs.Places.{one-place-kept}
 use Rattle.repo_laws.proofs.Orderly.{sound-kept}
 use Rattle.repo_laws.proofs.Lists.{all-then, all-list_all}
-use Rattle.repo_laws.proofs.Histories.{all-keep, entry-may, sound-entry, sound-ticked, moment-rises, one-place-entry}
+use Rattle.repo_laws.proofs.Histories.{all-keep, entry-may, sound-entry, sound-ticked, moment-rises, one-place-entry, one-place-ticked}
 use Rattle.repo_laws.proofs.HoldingLists.{count-same, all-filter}
 use Rattle.repo_laws.proofs.HoldingOrder.{ordered-kept, count-with_recorded}
 use Rattle.repo_laws.proofs.HoldingRows.{RowsHeld, held-new, held-changed, held-gone, recorded-row}
@@ -269,7 +270,7 @@ module _ (settings : Settings) (grace now : ℕ) where
   steps (e ∷ es) s t all up sound placed numbered ordered parts =
       let (fits, parts_then) = step grace now s t up placed numbered ordered parts e all.0 in
       let (fit_rest, rest) = steps es (with_effect s e) (with_items t (items_of e)) all.1 up (sound-kept settings grace now s e all.0 sound)
-      (one-place-kept grace now s e sound.rows all.0 placed) (numbered-kept grace now s e all.0 numbered) (fit-ordered (items_of e) t fits ordered) parts_then in (
+      (one-place-kept grace now s e (all-apart s.hosted sound.rows) all.0 placed) (numbered-kept grace now s e all.0 numbered) (fit-ordered (items_of e) t fits ordered) parts_then in (
         fit-append (items_of e) (recorded es) t fits fit_rest,
         subst (λ (u : Tables). Parts u (with_effects s (e ∷ es))) (sym (fold-append item_on t (items_of e) (recorded es))) rest,
       )
@@ -292,8 +293,6 @@ held-ticked t s moment faults later held = record {
   moments = omega (arith, held.moments, later);
 }
 
-placed-ticked : (s : State) (moment faults : ℕ) → OnePlace s → OnePlace (ticked s moment faults)
-placed-ticked s moment faults old = record { drawn = old.drawn; later = old.later; lent = old.lent }
 
 numbered-ticked : (s : State) (moment faults : ℕ) → Numbered s → Numbered (ticked s moment faults)
 numbered-ticked s moment faults old = record { below = old.below; apart = old.apart }
@@ -314,7 +313,7 @@ module _ (settings : Settings) (apart : AreNamedApart settings.hosted) where
   entry-steps s e t fits sound placed numbered ordered held =
       let u : State = ticked s e.moment e.faults in
       steps settings settings.grace e.moment (effects_of settings s e) u t (entry-may settings apart s e sound fits) (omega arith) (sound-ticked settings s e.moment e.faults sound)
-      (placed-ticked s e.moment e.faults placed) (numbered-ticked s e.moment e.faults numbered) ordered (parts-of t u (held-ticked t s e.moment e.faults (moment-rises s e.moment fits.moment) held))
+      (one-place-ticked s e.moment e.faults placed) (numbered-ticked s e.moment e.faults numbered) ordered (parts-of t u (held-ticked t s e.moment e.faults (moment-rises s e.moment fits.moment) held))
 
   pub entry-recorded : (s : State) (e : Entry) (t : Tables) → Fits settings s e → Sound settings s → OnePlace s → Numbered s → InOrder t → Holds t s
       → (applied t (recorded (effects_of settings s e)) ≡ Ok (with_items t (recorded (effects_of settings s e)))) × InOrder (with_items t (recorded (effects_of settings s e)))

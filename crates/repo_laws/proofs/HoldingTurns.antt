@@ -23,117 +23,26 @@ use Rattle.repo_model.specs.Command.{Command, look, done, may_put, put, put_side
 use Rattle.repo_model.specs.Reply as answered
 use Rattle.repo_model.specs.Reply.{Reply}
 use Rattle.repo_model.specs.Purge.{expire_all, expired_of, is_over, due_rows, fade_all, most_rows}
-use Rattle.repo_model.specs.Deploy.{or_else, offence_at, offence, without_pom, deliver_all, deliver_at, deliver_again}
-use Rattle.repo_model.specs.Turn.{Turn, says, draws_or_spent, Seen, is_file, is_text, is_doc, is_nothing, shows, seen_at, in_repository, has_room, draws_draft, may_put_in, put_again, put_at, compared, judged, side_of, with_open, staged_at, stage_at, stage_in, commit_by, commit_of, abort_of, unlist_of, unlent, turn}
+use Rattle.repo_model.specs.Deploy.{Offence, offence, without_pom, deliver_all, deliver_at, deliver_again, discard_all}
+use Rattle.repo_model.specs.Turn.{Turn, says, draws_or_spent, Seen, is_file, is_text, is_doc, is_nothing, shows, seen_at, in_repository, has_room, draws_draft, may_put_in, put_again, put_at, compared, judged, with_open, staged_at, stage_at, stage_in, commit_by, commit_of, abort_of, unlist_of, unlent, turn}
 use Rattle.repo_laws.specs.Holds.{can_record, item_again, item_at}
+use Rattle.repo_laws.proofs.Cases.{Case, makes_row, lists_again, opens_one, deploys, aborts, unlists, collects, turn-case}
 use Rattle.repo_laws.proofs.Lists.{found-passes, all-take}
 
-abbrev Quiet : Turn → Type 0
-Quiet t = can_record t.reply ≡ false → recorded t.effects ≡ []
+module _ (settings : Settings) (s : State) (now : ℕ) where
+  case-quiet : (c : Command) (t : Turn) → Case settings s now c t → can_record t.reply ≡ false → recorded t.effects ≡ []
+  case-quiet c t (makes_row repo path n blob among) is = absurd (false≢true (sym is))
+  case-quiet c t (lists_again repo path n blob among) is = absurd (false≢true (sym is))
+  case-quiet c t (opens_one repo more) is = absurd (false≢true (sym is))
+  case-quiet c t (deploys n one known) is = absurd (false≢true (sym is))
+  case-quiet c t (aborts n one) is = absurd (false≢true (sym is))
+  case-quiet c t (unlists repo h) is = absurd (false≢true (sym is))
+  case-quiet c t collects is = absurd (false≢true (sym is))
+  case-quiet c t case is = refl
 
-if-quiet : (b : Bool) (t u : Turn) → Quiet t → Quiet u → Quiet (if b then t else u)
-if-quiet true t u one other = one
-if-quiet false t u one other = other
-
-shows-quiet : (next : ℕ) (seen : Seen) → Quiet (shows next seen)
-shows-quiet next (is_file blob) = if-quiet (next == number_end) (says answered.spent) (record { reply = answered.file next blob; effects = lends blob.number ∷ [] }) (λ _. refl) (λ _. refl)
-shows-quiet next (is_text bytes) = λ _. refl
-shows-quiet next (is_doc bytes) = λ _. refl
-shows-quiet next is_nothing = λ _. refl
-
-draft-quiet : (next : ℕ) → Quiet (draws_draft next)
-draft-quiet next = if-quiet (next == number_end) (says answered.spent) (record { reply = answered.draft next; effects = draws ∷ [] }) (λ _. refl) (λ _. refl)
-
-in-quiet : (path : List ℕ) (found : Option Hosted) (t : Turn) → Quiet t → Quiet (in_repository path found t)
-in-quiet path None t quiet = λ _. refl
-in-quiet path (Some h) t quiet = if-quiet (takes h.rule path) t (says answered.kind_refused) quiet (λ _. refl)
-
-may_put-quiet : (s : State) (path : List ℕ) (found : Option Session) → Quiet (may_put_in s path found)
-may_put-quiet s path None = λ _. refl
-may_put-quiet s path (Some one) =
-    in-quiet path (hosted_of one.repo s) (if has_room path one.staged then draws_draft s.yard.next_draft else says answered.session_full)
-    (if-quiet (has_room path one.staged) (draws_draft s.yard.next_draft) (says answered.session_full) (draft-quiet s.yard.next_draft) (λ _. refl))
-
-again-quiet : (repo path : List ℕ) (n now : ℕ) (phase : Phase) → Quiet (put_again repo path n now phase)
-again-quiet repo path n now listed = λ _. refl
-again-quiet repo path n now (fading since) = λ is. absurd (false≢true (sym is))
-
-put-quiet : (repo path : List ℕ) (n : ℕ) (blob : Blob) (now : ℕ) (found : Option Row) → Quiet (put_at repo path n blob now found)
-put-quiet repo path n blob now None = λ is. absurd (false≢true (sym is))
-put-quiet repo path n blob now (Some row) =
-    if-quiet (is_same_print row.blob.print blob.print) (put_again repo path n now row.phase) (record { reply = answered.taken row.blob.print blob.print; effects = drops n ∷ [] })
-    (again-quiet repo path n now row.phase) (λ _. refl)
-
-compared-quiet : (said : List ℕ) (found : Option (List ℕ)) → Quiet (compared said found)
-compared-quiet said None = λ _. refl
-compared-quiet said (Some kept) = if-quiet (bytes_eq said kept) (says answered.agreed) (says (answered.differs said kept)) (λ _. refl) (λ _. refl)
-
-judged-quiet : (k : Result Kind PathFault) (said : List ℕ) (blob_at : List ℕ → Option Blob) → Quiet (judged k said blob_at)
-judged-quiet (Ok (File c)) said blob_at = λ _. refl
-judged-quiet (Ok (FileSide c side)) said blob_at = compared-quiet said (option_map (λ (blob : Blob). side_of blob.print.digests side) (blob_at (text_of c)))
-judged-quiet (Ok (Doc d)) said blob_at = λ _. refl
-judged-quiet (Ok (DocSide d side)) said blob_at = λ _. refl
-judged-quiet (Err fault) said blob_at = λ _. refl
-
-open-quiet : (found : Option Session) (f : Session → Turn) → ((one : Session) → Quiet (f one)) → Quiet (with_open found f)
-open-quiet None f quiet = λ _. refl
-open-quiet (Some one) f quiet = quiet one
-
-stage_at-quiet : (one : Session) (path : List ℕ) (n : ℕ) (blob : Blob) (kept : Option Blob) → Quiet (stage_at one path n blob kept)
-stage_at-quiet one path n blob None =
-    if-quiet (has_room path one.staged) (record { reply = answered.staged; effects = stages one.number path blob ∷ [] }) (record { reply = answered.session_full; effects = drops n ∷ [] }) (λ _. refl) (λ _. refl)
-stage_at-quiet one path n blob (Some kept) = λ _. refl
-
-stage-quiet : (path : List ℕ) (n : ℕ) (blob : Blob) (found : Option Session) → Quiet (stage_in path n blob found)
-stage-quiet path n blob None = λ _. refl
-stage-quiet path n blob (Some one) = stage_at-quiet one path n blob (staged_at path one.staged)
-
-commit-quiet : (one : Session) (now : ℕ) (rows : List Row) (result : Option SessionResult) → Quiet (commit_of one now rows result)
-commit-quiet one now rows (Some result) = λ _. refl
-commit-quiet one now rows None = by (offence rows one.staged) (without_pom rows one.staged) where
-  by : (offends : Option Reply) (pom : Option (List ℕ)) → Quiet (commit_by one now rows offends pom)
-  by (Some reply) pom = λ _. refl
-  by None (Some directory) = λ _. refl
-  by None None = λ is. absurd (false≢true (sym is))
-
-abort-quiet : (one : Session) (result : Option SessionResult) → Quiet (abort_of one result)
-abort-quiet one (Some result) = λ _. refl
-abort-quiet one None = λ is. absurd (false≢true (sym is))
-
-unlist-quiet : (now : ℕ) (found : Option Hosted) → Quiet (unlist_of now found)
-unlist-quiet now None = λ _. refl
-unlist-quiet now (Some h) = λ is. absurd (false≢true (sym is))
-
-drop-quiet : (n : ℕ) (b : Bool) → recorded (if b then drops n ∷ [] else []) ≡ []
-drop-quiet n true = refl
-drop-quiet n false = refl
-
--- behind any other reply nothing is recorded
-pub refused-quiet : (settings : Settings) (s : State) (now : ℕ) (command : Command) → Quiet (turn settings s now command)
-refused-quiet settings s now (look repo path tried) = shows-quiet s.yard.next_lease (seen_at (rows_of repo s) path (kind path))
-refused-quiet settings s now (done lease) = λ _. refl
-refused-quiet settings s now (may_put (repository repo) path) = in-quiet path (hosted_of repo s) (draws_draft s.yard.next_draft) (draft-quiet s.yard.next_draft)
-refused-quiet settings s now (may_put (session n) path) = may_put-quiet s path (open_of n s)
-refused-quiet settings s now (put repo path n blob) =
-    if-quiet (is_among n s.yard.drafts) (put_at repo path n blob now (row_at path (rows_of repo s))) (says answered.no_draft) (put-quiet repo path n blob now (row_at path (rows_of repo s))) (λ _. refl)
-refused-quiet settings s now (put_side (repository repo) path said) = judged-quiet (kind path) said (λ at. option_map (λ (row : Row). row.blob) (row_at at (rows_of repo s)))
-refused-quiet settings s now (put_side (session n) path said) =
-    open-quiet (open_of n s) (λ found. judged (kind path) said (λ at. staged_at at found.staged)) (λ one. judged-quiet (kind path) said (λ at. staged_at at one.staged))
-refused-quiet settings s now (put_doc (repository repo) path) = λ _. refl
-refused-quiet settings s now (put_doc (session n) path) = open-quiet (open_of n s) (λ found. says answered.noted) (λ one _. refl)
-refused-quiet settings s now (drop_draft n) = λ _. drop-quiet n (is_among n s.yard.drafts)
-refused-quiet settings s now (open_session repo) =
-    if-quiet (nat_le most_sessions (count_by is_open s.sessions)) (says answered.sessions_full)
-    (draws_or_spent s.yard.next_session (record { reply = answered.opened s.yard.next_session; effects = opens s.yard.next_session repo ∷ [] })) (λ _. refl)
-    (if-quiet (s.yard.next_session == number_end) (says answered.spent) (record { reply = answered.opened s.yard.next_session; effects = opens s.yard.next_session repo ∷ [] }) (λ _. refl) (λ is. absurd (false≢true (sym is))))
-refused-quiet settings s now (stage at path n blob) =
-    if-quiet (is_among n s.yard.drafts) (stage_in path n blob (open_of at s)) (says answered.no_draft) (stage-quiet path n blob (open_of at s)) (λ _. refl)
-refused-quiet settings s now (commit n) =
-    open-quiet (session_of n s) (λ known. commit_of known now (rows_of known.repo s) known.ended) (λ one. commit-quiet one now (rows_of one.repo s) one.ended)
-refused-quiet settings s now (abort n) = open-quiet (session_of n s) (λ known. abort_of known known.ended) (λ one. abort-quiet one one.ended)
-refused-quiet settings s now (unlist repo) = unlist-quiet now (hosted_of repo s)
-refused-quiet settings s now collect = λ is. absurd (false≢true (sym is))
-refused-quiet settings s now status = λ _. refl
+  -- behind any other reply nothing is recorded
+  pub refused-quiet : (c : Command) → can_record (turn settings s now c).reply ≡ false → recorded (turn settings s now c).effects ≡ []
+  refused-quiet c = case-quiet c (turn settings s now c) (turn-case settings s now c)
 
 -- a put records one item, of a new row or of one that is visible again
 abbrev PutRecords : List ℕ → List ℕ → Blob → ℕ → Turn → Type 0
@@ -143,9 +52,6 @@ PutRecords repo path blob now t =
 
 pub put-records : (settings : Settings) (s : State) (now : ℕ) (repo path : List ℕ) (n : ℕ) (blob : Blob) → PutRecords repo path blob now (turn settings s now (put repo path n blob))
 put-records settings s now repo path n blob = if-records (is_among n s.yard.drafts) (put_at repo path n blob now (row_at path (rows_of repo s))) (says answered.no_draft) (at (row_at path (rows_of repo s))) ((λ is. cc), (λ is. cc)) where
-  Records : Turn → Type 0
-  Records t = PutRecords repo path blob now t
-
   if-records : (b : Bool) (t u : Turn) → PutRecords repo path blob now t → PutRecords repo path blob now u → PutRecords repo path blob now (if b then t else u)
   if-records true t u one other = one
   if-records false t u one other = other
@@ -196,31 +102,14 @@ CommitRecords s now one k t =
     t.reply ≡ answered.ended (Done k)
     → recorded t.effects ≡ flat_map (λ (file : Staged). item_at one.repo now file (row_at file.path (rows_of one.repo s))) one.staged ++ SessionEnded one.number (Done k) ∷ []
 
--- what offends is no end
-never-ended : (rows : List Row) (files : List Staged) (k : ℕ) → offence rows files ≡ Some (answered.ended (Done k)) → ⊥
-never-ended rows [] k is = none-some (answered.ended (Done k)) is
-never-ended rows (file ∷ files) k is =
-    elim (row_at file.path rows) as (λ found. or_else (offence_at file found) (offence rows files) ≡ Some (answered.ended (Done k)) → ⊥) [
-      | None ↦ λ later. never-ended rows files k later
-      | (Some row) ↦ λ later.
-          elim (is_same_print row.blob.print file.blob.print)
-          as (λ b. or_else (if b then None else Some (answered.offends file.path row.blob.print file.blob.print)) (offence rows files) ≡ Some (answered.ended (Done k)) → ⊥) [
-            | true ↦ λ rest. never-ended rows files k rest
-            | false ↦ λ here. cc
-          ] later
-    ] is
-
 pub commit-records : (settings : Settings) (s : State) (now n k : ℕ) (one : Session) → session_of n s ≡ Some one → one.ended ≡ None → CommitRecords s now one k (turn settings s now (commit n))
 commit-records settings s now n k one known going =
     rw (known, going)
-    (elim (offence (rows_of one.repo s) one.staged)
-    as (λ offends. offence (rows_of one.repo s) one.staged ≡ offends → CommitRecords s now one k (commit_by one now (rows_of one.repo s) offends (without_pom (rows_of one.repo s) one.staged))) [
-      | None ↦ λ _. by (without_pom (rows_of one.repo s) one.staged)
-      | (Some reply) ↦ λ offends is. absurd (never-ended (rows_of one.repo s) one.staged k (offends ∙ ap Some is))
-    ] refl) where
-      by : (pom : Option (List ℕ)) → CommitRecords s now one k (commit_by one now (rows_of one.repo s) None pom)
-      by (Some directory) is = cc
-      by None is =
+    (by (offence (rows_of one.repo s) one.staged) (without_pom (rows_of one.repo s) one.staged)) where
+      by : (other : Option Offence) (pom : Option (List ℕ)) → CommitRecords s now one k (commit_by one now (rows_of one.repo s) other pom)
+      by (Some other) pom is = cc
+      by None (Some directory) is = cc
+      by None None is =
           let same : Done (length one.staged) ≡ Done k = cc in
           flat_map-append items_of (deliver_all one now (rows_of one.repo s)) (ends one.number (Done (length one.staged)) ∷ [])
           ∙ ap (λ items. items ++ SessionEnded one.number (Done (length one.staged)) ∷ []) (files-items one now (rows_of one.repo s) one.staged)

@@ -17,7 +17,7 @@ use Rattle.repo_model.specs.May.{May}
 use Rattle.repo_model.specs.Command.{is_there}
 use Rattle.repo_laws.specs.Laws.{AreApart}
 use Rattle.repo_laws.specs.Sound.{RowsApart, IsInOrder, Sound}
-use Rattle.repo_laws.proofs.Rows.{rows_in}
+use Rattle.repo_laws.proofs.ByPath.{rows-kept}
 use Rattle.repo_laws.proofs.Releases.{is_itself, other_path, with_row-elsewhere}
 
 -- what passes no test before a filter, passes none after it
@@ -49,45 +49,6 @@ first-keeps P q f (first ∷ xs) x all is new =
     ] is
 
 -- rows
-with_row-apart : (new : Row) (rows : List Row) → row_at new.path rows ≡ None → RowsApart rows → RowsApart (with_row new rows)
-with_row-apart new [] free apart = (refl, tt)
-with_row-apart new (row ∷ rows) free apart =
-    elim (bytes_eq row.path new.path)
-    as (λ b. bytes_eq row.path new.path ≡ b → cond b (Some row) (row_at new.path rows) ≡ None → RowsApart (with_row new (row ∷ rows))) [
-      | true ↦ λ is found. absurd (none-some row (sym found))
-      | false ↦ λ is rest.
-          let other : bytes_eq new.path row.path ≡ false = other_path new.path row.path (λ same. false≢true (sym is ∙ ap (λ p. bytes_eq row.path p) same ∙ is_itself row.path)) in
-          elim (slice_cmp nat_cmp new.path row.path)
-          as (λ o. RowsApart (match_ordering o (new ∷ row ∷ rows) (new ∷ row ∷ rows) (row ∷ with_row new rows))) [
-            | Less ↦ (free, apart)
-            | Equal ↦ (free, apart)
-            | Greater ↦ (with_row-elsewhere row.path new rows other ∙ apart.0, with_row-apart new rows rest apart.1)
-          ]
-    ] refl free
-
-none-change : (path : List ℕ) (q : Row → Bool) (f : Row → Row) → ((r : Row) → (f r).path ≡ r.path) → (rows : List Row) → row_at path rows ≡ None → row_at path (change_where q f rows) ≡ None
-none-change path q f keeps [] none = refl
-none-change path q f keeps (row ∷ rows) none =
-    elim (bytes_eq row.path path) as (λ b. bytes_eq row.path path ≡ b → cond b (Some row) (row_at path rows) ≡ None → row_at path (change_where q f (row ∷ rows)) ≡ None) [
-      | true ↦ λ is found. absurd (none-some row (sym found))
-      | false ↦ λ is rest.
-          let then = none-change path q f keeps rows rest in
-          elim (q row) as (λ b. row_at path (cond b (f row) row ∷ change_where q f rows) ≡ None) [
-            | true ↦ rw (keeps row, is) then
-            | false ↦ rw is then
-          ]
-    ] refl none
-
-change-apart : (q : Row → Bool) (f : Row → Row) → ((r : Row) → (f r).path ≡ r.path) → (rows : List Row) → RowsApart rows → RowsApart (change_where q f rows)
-change-apart q f keeps [] apart = tt
-change-apart q f keeps (row ∷ rows) apart =
-    let then = none-change row.path q f keeps rows apart.0 in
-    let rest = change-apart q f keeps rows apart.1 in
-    elim (q row) as (λ b. RowsApart (cond b (f row) row ∷ change_where q f rows)) [
-      | true ↦ (subst (λ (p : List ℕ). row_at p (change_where q f rows) ≡ None) (sym (keeps row)) then, rest)
-      | false ↦ (then, rest)
-    ]
-
 pub filter-apart : (q : Row → Bool) (rows : List Row) → RowsApart rows → RowsApart (filter q rows)
 filter-apart q [] apart = tt
 filter-apart q (row ∷ rows) apart =
@@ -133,17 +94,6 @@ filter_staged-apart q (file ∷ files) apart =
     ]
 
 -- repositories
-hosted-apart : (at : List ℕ) (f : List Row → List Row) (hosted : List Hosted) → (RowsApart (rows_in at hosted) → RowsApart (f (rows_in at hosted)))
-    → AllByRecursion (λ (h : Hosted). RowsApart h.rows) hosted → AllByRecursion (λ (h : Hosted). RowsApart h.rows) (change_first (is_repository at) (λ h. record h { rows = f h.rows }) hosted)
-hosted-apart at f [] keeps all = tt
-hosted-apart at f (h ∷ hosted) keeps all =
-    let Apart : List Row → Type 0 = λ rows. RowsApart rows → RowsApart (f rows) in
-    elim (is_repository at h)
-    as (λ b. Apart (option_map_or (λ (g : Hosted). g.rows) (cond b (Some h) (find (is_repository at) hosted)) []) → AllByRecursion (λ (g : Hosted). RowsApart g.rows) (cond b (record h { rows = f h.rows } ∷ hosted) (h ∷ change_first (is_repository at) (λ g. record g { rows = f g.rows }) hosted))) [
-      | true ↦ λ here. (here all.0, all.1)
-      | false ↦ λ later. (all.0, hosted-apart at f hosted later all.1)
-    ] keeps
-
 rules-changed : (at : List ℕ) (f : List Row → List Row) (hosted : List Hosted) → map (λ (h : Hosted). h.rule) (change_first (is_repository at) (λ h. record h { rows = f h.rows }) hosted) ≡ map (λ h. h.rule) hosted
 rules-changed at f [] = refl
 rules-changed at f (h ∷ hosted) =
@@ -171,22 +121,6 @@ there-by-rules repo (h ∷ hosted) =
 -- a repository is there exactly where the settings name it
 pub there-as-set : (settings : Settings) (s : State) (repo : List ℕ) → map (λ (h : Hosted). h.rule) s.hosted ≡ settings.hosted → list_any (is_repository repo) s.hosted ≡ is_there repo settings
 there-as-set settings s repo rules = there-by-rules repo s.hosted ∙ ap (λ rs. is_some (find (λ (rule : Rule). bytes_eq rule.id repo) rs)) rules
-
-rows-kept : (grace now : ℕ) (s : State) (e : Effect) → May grace now s e → AllByRecursion (λ (h : Hosted). RowsApart h.rows) s.hosted → AllByRecursion (λ (h : Hosted). RowsApart h.rows) (with_effect s e).hosted
-rows-kept grace now s (creates repo path blob moment) may all = hosted-apart repo (with_row (new_row path blob moment)) s.hosted (with_row-apart (new_row path blob moment) (rows_of repo s) may.3) all
-rows-kept grace now s (delivers n repo path blob moment) may all = hosted-apart repo (with_row (new_row path blob moment)) s.hosted (with_row-apart (new_row path blob moment) (rows_of repo s) may.5) all
-rows-kept grace now s (relists repo path moment) may all = hosted-apart repo (change_where (is_row path) (list_again moment)) s.hosted (change-apart (is_row path) (list_again moment) (λ r. refl) (rows_of repo s)) all
-rows-kept grace now s (fades repo path moment) may all = hosted-apart repo (change_where (is_row path) (fade moment)) s.hosted (change-apart (is_row path) (fade moment) (λ r. refl) (rows_of repo s)) all
-rows-kept grace now s (expires repo path blob) may all = hosted-apart repo (without_row path) s.hosted (filter-apart (λ row. not (is_row path row)) (rows_of repo s)) all
-rows-kept grace now s draws may all = all
-rows-kept grace now s (drops n) may all = all
-rows-kept grace now s (stages n path blob) may all = all
-rows-kept grace now s (discards n path draft) may all = all
-rows-kept grace now s (forgets blobs) may all = all
-rows-kept grace now s (lends blob) may all = all
-rows-kept grace now s (returns lease) may all = all
-rows-kept grace now s (opens n repo) may all = all
-rows-kept grace now s (ends n outcome) may all = all
 
 module _ (settings : Settings) (grace now : ℕ) (s : State) where
   push-ordered : (one : Session) (sessions : List Session) → AllByRecursion (IsInOrder settings) sessions → IsInOrder settings one → AllByRecursion (IsInOrder settings) (sessions ++ one ∷ [])

@@ -239,5 +239,9 @@ one-place-kept grace now s e apart may old =
       later = λ n above.
           let later : s.yard.next_draft ≤ n = omega (arith, above, next) in
           omega (arith, places-counted grace now s n e may, old.later n later, not-drawn s e n above);
+      none =
+          let undrawn : drawn_by e s 0 ≡ 0 = never-again s e 0 old.begun in
+          omega (arith, places-counted grace now s 0 e may, undrawn, old.none);
+      begun = omega (arith, next, old.begun);
       lent = lent-kept grace now s e apart may old.lent;
     }

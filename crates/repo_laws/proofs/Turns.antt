@@ -22,9 +22,11 @@ use Rattle.repo_model.specs.Command.{Command, look, done, may_put, put, put_side
 use Rattle.repo_model.specs.Reply.{file, draft, kind_refused, session_full, no_draft, taken, agreed, differs, noted, staged, sessions_full, opened, spent}
 use Rattle.repo_model.specs.Purge.{expire_all}
 use Rattle.repo_model.specs.Deploy.{offence, without_pom}
-use Rattle.repo_model.specs.Turn.{Turn, says, draws_or_spent, is_file, is_text, is_doc, shows, seen_at, or_nothing, document_text, side_text, in_repository, has_room, draws_draft, may_put_in, put_again, put_at, compared, judged, side_of, with_open, staged_at, stage_at, stage_in, commit_by, commit_of, abort_of, unlent, collect_of, turn}
+use Rattle.repo_model.specs.Turn.{Turn, says, draws_or_spent, is_file, is_text, is_doc, shows, seen_at, or_nothing, document_text, in_repository, has_room, draws_draft, may_put_in, put_again, put_at, compared, judged, with_open, staged_at, stage_at, stage_in, commit_by, commit_of, abort_of, unlent, collect_of, turn}
+use Rattle.mvn_digest.specs.Sides.{side_text, side_of}
 use Rattle.repo_laws.specs.Laws.{AreApart}
 use Rattle.repo_laws.specs.Sound.{AreNamedApart, IsInOrder, Sound}
+use Rattle.repo_laws.proofs.ByPath.{all-apart}
 use Rattle.repo_laws.proofs.Lists.{found-passes, all-then, all-take, filter-has, all-list_all, below-end, all-may-append}
 use Rattle.repo_laws.proofs.Purges.{unlists, expires-all}
 use Rattle.repo_laws.proofs.Commits.{commits, aborts}
@@ -239,10 +241,10 @@ module _ (grace now : ℕ) where
     turn-can apart (stage at path n blob) fits same = stage-can s at path n blob (named-so n blob (and_parts (is_file_path path) (is_parcel n blob) fits).1)
     turn-can apart (commit n) fits same = commit-can n
     turn-can apart (abort n) fits same = abort-can n
-    turn-can apart (unlist repo) fits same = unlists grace now s sound.rows repo
+    turn-can apart (unlist repo) fits same = unlists grace now s (all-apart s.hosted sound.rows) repo
     turn-can apart collect fits same =
         subst (λ (g : ℕ). AllMay grace now s (collect_of (expire_all g now s.hosted) (with_effects s (expire_all g now s.hosted)).yard).effects) same
         (all-may-append grace now (expire_all grace now s.hosted) (forgets (unlent (with_effects s (expire_all grace now s.hosted)).yard) ∷ []) s
-        (expires-all grace now s settings apart sound.rules sound.rows)
+        (expires-all grace now s settings apart sound.rules (all-apart s.hosted sound.rows))
         (free-garbage (with_effects s (expire_all grace now s.hosted)).yard, tt))
     turn-can apart status fits same = tt

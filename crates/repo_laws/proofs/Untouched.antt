@@ -16,6 +16,7 @@ use Rattle.repo_model.specs.History.{Entry, Fits, IsReply, due, wants_memory, fa
 use Rattle.repo_laws.specs.Laws.{places_of, rows_with, count_of}
 use Rattle.repo_laws.specs.Sound.{AreNamedApart, Sound, OnePlace}
 use Rattle.repo_laws.specs.Closed.{given_out, IsGone, StaysGone, Untouched}
+use Rattle.repo_laws.proofs.ByPath.{all-apart}
 use Rattle.repo_laws.proofs.Counts.{one_if, count-cons, among-counts, row-counts}
 use Rattle.repo_laws.proofs.Places.{places-counted, next-counted, never-again, one-place-kept}
 use Rattle.repo_laws.proofs.Orderly.{sound-kept}
@@ -144,14 +145,14 @@ module _ (settings : Settings) (apart : AreNamedApart settings.hosted) where
   cleared-keeps s e P sound keeps old =
       (all-keep settings.grace e.moment (λ t. Sound settings t × P t)
       (λ t f may both. (sound-kept settings settings.grace e.moment t f may both.0, keeps t f both.0 may both.1))
-      (expire_all settings.grace e.moment s.hosted) s (expires-all settings.grace e.moment s settings apart sound.rules sound.rows) (sound, old)).1
+      (expire_all settings.grace e.moment s.hosted) s (expires-all settings.grace e.moment s settings apart sound.rules (all-apart s.hosted sound.rows)) (sound, old)).1
 
   pub given-gone : (s : State) (e : Entry) (n : ℕ) → Sound settings s → OnePlace s → Fits settings s e → is_among n (given_out e.command e.reply) ≡ true → IsGone n (after settings s e)
   given-gone s e n sound placed fits among =
       let is_collect : e.command ≡ collect = only-collect n e.command e.reply among in
       let (given, is, _) = collects s e n fits.reply is_collect (subst (λ c. is_among n (given_out c e.reply) ≡ true) is_collect among) in
       subst (IsGone n) (sym is)
-      (forgets-gone (cleared s e) n (cleared-keeps s e OnePlace sound (λ t f sound_then may old. one-place-kept settings.grace e.moment t f sound_then.rows may old) placed) given)
+      (forgets-gone (cleared s e) n (cleared-keeps s e OnePlace sound (λ t f sound_then may old. one-place-kept settings.grace e.moment t f (all-apart t.hosted sound_then.rows) may old) placed) given)
 
   none-again : (s : State) (e : Entry) (n : ℕ) → Sound settings s → Fits settings s e → IsGone n s → is_among n (given_out e.command e.reply) ≡ false
   none-again s e n sound fits gone =

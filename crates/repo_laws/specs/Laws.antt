@@ -3,7 +3,7 @@ use Rattle.std.specs.Prelude.{◌≡◌, ℕ, ◌+◌, ◌≤◌, ◌==◌, true
 use Rattle.std.specs.List.{AllByRecursion}
 use Rattle.repo_model.specs.Data.{Blob, Row, Phase, listed, fading, Hosted, Session, Staged}
 use Rattle.repo_model.specs.Paths.{is_snapshot_path}
-use Rattle.repo_model.specs.State.{State, row_at, rows_of, is_staged}
+use Rattle.repo_model.specs.State.{State, Lease, row_at, rows_of, is_staged}
 
 -- a row that fades is a snapshot's
 abbrev pub FadesRightly : Row → Type 0
@@ -30,6 +30,10 @@ staged_with n sessions = sum_by (λ (s : Session). count_by (λ (f : Staged). f.
 -- in how many places a blob number stands
 abbrev pub places_of : State → ℕ → ℕ
 places_of s n = count_of n s.yard.drafts + rows_with n s.hosted + staged_with n s.sessions + count_of n s.yard.condemned
+
+-- how many leases have a number
+abbrev pub leases_of : State → ℕ → ℕ
+leases_of s n = count_by (λ (l : Lease). l.number == n) s.yard.leases
 
 -- no later file has the path of an earlier one
 abbrev pub AreApart : List Staged → Type 0

@@ -1,4 +1,5 @@
 pub mod Laws
+pub mod Replies
 pub mod Sound
 pub mod Closed
 pub mod Worked

@@ -3,7 +3,10 @@
 //! No function here has code: its contract is the law.
 #![tactic(auto)]
 
-pub mod kept;
-pub mod laws;
+pub mod deployed;
+pub mod documents;
+pub mod numbers;
+pub mod replies;
+pub mod states;
 pub mod tables;
-mod worked;
+pub mod worked;

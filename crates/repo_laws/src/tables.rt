@@ -20,8 +20,7 @@ ghost use Rattle.repo_model.specs.Purge.{expire_all};
 ghost use Rattle.repo_model.specs.Turn.{says, unlent, turn};
 ghost use Rattle.repo_model.specs.History.{Entry, Fits, Legal, effects_of, after, end};
 ghost use Rattle.repo_model.specs.Tables.{Tables, RecordedSession, no_tables, recorded_at, names_blob, is_session, item_on, fits_on, applied, greatest_moment};
-ghost use Rattle.repo_laws.specs.Sound.{AreNamedApart, Sound, OnePlace};
-ghost use Rattle.repo_laws.specs.Closed.{Throughout};
+ghost use Rattle.repo_laws.specs.Sound.{AreNamedApart, OnePlace, IsSound};
 ghost use Rattle.repo_laws.specs.Numbered.{Numbered};
 ghost use Rattle.repo_laws.specs.Holds.{InOrder, Holds, StandsFor, AreUpTo, with_items, told, without_bytes, result_of, can_record, item_at};
 ghost use Rattle.repo_laws.specs.Items.{is_of_row, is_of_file, is_of_document, is_of_session, document_at, row_then, file_then, document_then, session_then};
@@ -71,27 +70,19 @@ pub fn greatest_moment_is_least()
     ensures least { (t : Tables) (most : ℕ) → AreUpTo most t → greatest_moment t ≤ most }
 {}
 
-/// No two sessions have one number, and each number is below the next one to draw.
-pub fn sessions_are_numbered()
-    ensures effect { (grace now : ℕ) (s : State) (e : Effect) → May grace now s e → Numbered s → Numbered (with_effect s e) }
-    ensures opening { (settings : Settings) (clock : Option Moments) → Numbered (opening settings clock) }
-    ensures history { (settings : Settings) (entries : List Entry) (s : State) → AreNamedApart settings.hosted → Sound settings s → Numbered s → Legal settings s entries
-        → Throughout Numbered settings s entries }
-{}
-
 /// What is recorded fits the tables that hold the state, and the tables behind it hold the state behind it.
 pub fn tables_hold()
     ensures effect { (grace now : ℕ) (s : State) (e : Effect) (t : Tables) → May grace now s e → now ≤ s.last → OnePlace s → Numbered s → InOrder t → Holds t s
         → (applied t (items_of e) ≡ Ok (with_items t (items_of e))) × InOrder (with_items t (items_of e)) × Holds (with_items t (items_of e)) (with_effect s e) }
-    ensures effects { (settings : Settings) (grace now : ℕ) (es : List Effect) (s : State) (t : Tables) → AllMay grace now s es → now ≤ s.last → Sound settings s → OnePlace s → Numbered s
+    ensures effects { (settings : Settings) (grace now : ℕ) (es : List Effect) (s : State) (t : Tables) → AllMay grace now s es → now ≤ s.last → IsSound settings s
         → InOrder t → Holds t s
         → (applied t (recorded es) ≡ Ok (with_items t (recorded es))) × InOrder (with_items t (recorded es)) × Holds (with_items t (recorded es)) (with_effects s es) }
-    ensures entry { (settings : Settings) (s : State) (e : Entry) (t : Tables) → AreNamedApart settings.hosted → Fits settings s e → Sound settings s → OnePlace s → Numbered s → InOrder t → Holds t s
+    ensures entry { (settings : Settings) (s : State) (e : Entry) (t : Tables) → AreNamedApart settings.hosted → Fits settings s e → IsSound settings s → InOrder t → Holds t s
         → (applied t (recorded (effects_of settings s e)) ≡ Ok (with_items t (recorded (effects_of settings s e)))) × InOrder (with_items t (recorded (effects_of settings s e)))
         × Holds (with_items t (recorded (effects_of settings s e))) (after settings s e) }
-    ensures free { (settings : Settings) (s : State) (e : Entry) (t : Tables) → AreNamedApart settings.hosted → Fits settings s e → Sound settings s → OnePlace s → Numbered s → InOrder t → Holds t s
+    ensures free { (settings : Settings) (s : State) (e : Entry) (t : Tables) → AreNamedApart settings.hosted → Fits settings s e → IsSound settings s → InOrder t → Holds t s
         → IsTrue (is_free e.reply) → (recorded (effects_of settings s e) ≡ []) × Holds t (after settings s e) }
-    ensures history { (settings : Settings) (entries : List Entry) (s : State) (t : Tables) → AreNamedApart settings.hosted → Legal settings s entries → Sound settings s → OnePlace s → Numbered s
+    ensures history { (settings : Settings) (entries : List Entry) (s : State) (t : Tables) → AreNamedApart settings.hosted → Legal settings s entries → IsSound settings s
         → InOrder t → Holds t s
         → (applied t (told settings s entries) ≡ Ok (with_items t (told settings s entries))) × InOrder (with_items t (told settings s entries))
         × Holds (with_items t (told settings s entries)) (end settings s entries) }

@@ -1,7 +1,7 @@
 //! Worked cases of the machine.
 ghost use Rattle.std.specs.Prelude.{◌≡◌, None, Some, option_map};
-ghost use Rattle.mvn_doc.specs.Written as written;
-ghost use Rattle.repo_model.specs.Calendar.{civil_of};
+ghost use Rattle.mvn_metadata.specs.Written as written;
+ghost use Rattle.mvn_coords.specs.Calendar.{civil_of};
 ghost use Rattle.repo_model.specs.Document.{document};
 ghost use Rattle.repo_model.specs.State.{State, opening, rows_of};
 ghost use Rattle.repo_model.specs.History.{Legal, end};

@@ -5,14 +5,12 @@ use Rattle.std.specs.List.{list_any}
 use Rattle.mvn_coords.specs.Kind.{kind}
 use Rattle.mvn_coords.specs.declared.kind.Kind.{Kind}
 use Rattle.mvn_coords.specs.declared.kind.Kind.TheVariants.{File, FileSide, Doc, DocSide}
-use Rattle.mvn_coords.specs.declared.fault.Side.{Side}
-use Rattle.mvn_coords.specs.declared.fault.Side.TheVariants.{Sha1, Md5}
 use Rattle.mvn_coords.specs.declared.fault.PathFault.{PathFault}
 use Rattle.mvn_coords.specs.Layout.{Directory, text_of}
 use Rattle.mvn_digest.specs.declared.digests.Digests.{Digests}
 use Rattle.mvn_digest.specs.Digests.{digests_of}
-use Rattle.mvn_digest.specs.Hex.{hex_text}
-use Rattle.mvn_doc.specs.Written as written
+use Rattle.mvn_digest.specs.Sides.{side_of, side_text}
+use Rattle.mvn_metadata.specs.Written as written
 use Rattle.repo_model.specs.declared.session.SessionResult.{SessionResult}
 use Rattle.repo_model.specs.declared.session.SessionResult.TheVariants.{Aborted, Done}
 use Rattle.repo_model.specs.Data.{Blob, Row, Phase, listed, fading, repository, session, Hosted, Staged, Session, is_same_print}
@@ -22,9 +20,9 @@ use Rattle.repo_model.specs.Document.{document, is_listed}
 use Rattle.repo_model.specs.State.{State, Yard, Lease, hosted_of, row_at, rows_of, session_of, open_of, is_open, is_staged, is_among, number_end, most_sessions, most_staged}
 use Rattle.repo_model.specs.Effect.{Effect, draws, drops, creates, stages, relists, forgets, lends, returns, opens, ends, with_effects}
 use Rattle.repo_model.specs.Command.{Command, look, done, may_put, put, put_side, put_doc, drop_draft, open_session, stage, commit, abort, unlist, collect, status}
-use Rattle.repo_model.specs.Reply.{Reply, file, text, doc, missed, given_back, kind_refused, draft, no_draft, taken, same, relisted, created, not_there, differs, agreed, noted, dropped, no_session, sessions_full, opened, session_full, staged, ended, unlisted, collected, counts, spent, missing_pom}
+use Rattle.repo_model.specs.Reply.{Reply, file, text, doc, missed, given_back, kind_refused, draft, no_draft, taken, same, relisted, created, not_there, differs, agreed, noted, dropped, no_session, sessions_full, opened, session_full, staged, ended, unlisted, collected, counts, spent, offends, missing_pom}
 use Rattle.repo_model.specs.Purge.{fade_all, due_rows, expire_all}
-use Rattle.repo_model.specs.Deploy.{offence, without_pom, deliver_all, discard_all}
+use Rattle.repo_model.specs.Deploy.{Offence, offence, without_pom, deliver_all, discard_all}
 
 pub record Turn : Type 0 where
   pub reply : Reply
@@ -43,13 +41,6 @@ pub data Seen : Type 0 where
   is_text : List ℕ → Seen
   is_doc : List ℕ → Seen
   is_nothing : Seen
-
-abbrev pub side_of : Digests → Side → List ℕ
-side_of digests Sha1 = digests.sha1
-side_of digests Md5 = digests.md5
-
-abbrev pub side_text : Side → Digests → List ℕ
-side_text side digests = hex_text (side_of digests side)
 
 abbrev pub or_nothing : {A : Type 0} → (A → Seen) → Option A → Seen
 or_nothing f None = is_nothing
@@ -126,8 +117,8 @@ abbrev pub stage_in : List ℕ → ℕ → Blob → Option Session → Turn
 stage_in path n blob None = record { reply = no_session; effects = drops n ∷ [] }
 stage_in path n blob (Some found) = stage_at found path n blob (staged_at path found.staged)
 
-abbrev pub commit_by : Session → ℕ → List Row → Option Reply → Option (List ℕ) → Turn
-commit_by found now rows (Some reply) pom = says reply
+abbrev pub commit_by : Session → ℕ → List Row → Option Offence → Option (List ℕ) → Turn
+commit_by found now rows (Some other) pom = says (offends other.path other.kept other.sent)
 commit_by found now rows None (Some directory) = says (missing_pom directory)
 commit_by found now rows None None = record {
   reply = ended (Done (length found.staged));

@@ -1,6 +1,6 @@
 use Rattle.std.proofs.Common.{◌≡◌, ap, ◌∙◌}
 use Rattle.mvn_coords.specs.Civil.{text_of_time}
-use Rattle.mvn_doc.specs.Written.{number_text}
+use Rattle.mvn_metadata.specs.Written.{number_text}
 use Rattle.mvn_coords.specs.Layout.{without_zeros}
 use Rattle.mvn_doc.proofs.TextLemmas.{then, same}
 use Rattle.mvn_doc.proofs.writing.build.Goals as goal

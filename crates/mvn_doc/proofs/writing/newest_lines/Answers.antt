@@ -1,7 +1,7 @@
 use Rattle.std.proofs.Common.{◌≡◌, sym, ap, ◌∙◌}
 use Rattle.std.specs.Prelude.{codes}
 use Rattle.mvn_coords.specs.Civil.{text_of_time}
-use Rattle.mvn_doc.specs.Written.{element, newest_lines, number_text}
+use Rattle.mvn_metadata.specs.Written.{element, newest_lines, number_text}
 use Rattle.mvn_doc.proofs.TextLemmas.{then, same}
 use Rattle.mvn_doc.proofs.writing.newest_lines.Goals as goal
 

@@ -1,0 +1,208 @@
+-- Each turn by what it comes to: one case for each reply that a command can get.
+use Rattle.std.proofs.Common.{◌≡◌, ℕ, Bool, true, false, List, [], ◌∷◌, ◌++◌, length, map, Option, Some, None, Result, Ok, Err, refl}
+use Rattle.std.specs.Prelude.{◌==◌, nat_le, count_by, if◌then◌else◌, bytes_eq, find}
+use Rattle.std.specs.Option.{option_map}
+use Rattle.mvn_coords.specs.Kind.{kind}
+use Rattle.mvn_coords.specs.declared.kind.Kind.{Kind}
+use Rattle.mvn_coords.specs.declared.kind.Kind.TheVariants.{File, FileSide, Doc, DocSide}
+use Rattle.mvn_coords.specs.declared.fault.PathFault.{PathFault}
+use Rattle.mvn_coords.specs.Layout.{text_of}
+use Rattle.mvn_digest.specs.Digests.{digests_of}
+use Rattle.repo_model.specs.declared.print.Print.{Print}
+use Rattle.repo_model.specs.declared.session.SessionResult.{SessionResult}
+use Rattle.repo_model.specs.declared.session.SessionResult.TheVariants.{Aborted, Done}
+use Rattle.repo_model.specs.Data.{Blob, Row, Phase, listed, fading, Hosted, Staged, Session, Place, repository, session, is_same_print}
+use Rattle.repo_model.specs.Settings.{Settings}
+use Rattle.repo_model.specs.Paths.{takes}
+use Rattle.repo_model.specs.State.{State, Yard, hosted_of, row_at, rows_of, session_of, open_of, is_open, is_among, number_end, most_sessions}
+use Rattle.repo_model.specs.Effect.{Effect, draws, drops, creates, stages, relists, forgets, lends, returns, opens, ends, with_effects}
+use Rattle.repo_model.specs.Command.{Command, look, done, may_put, put, put_side, put_doc, drop_draft, open_session, stage, commit, abort, unlist, collect, status}
+use Rattle.repo_model.specs.Reply.{Reply, file, text, doc, missed, given_back, kind_refused, draft, no_draft, taken, same, relisted, created, not_there, differs, agreed, noted, dropped, no_session, sessions_full, opened, session_full, staged, offends, missing_pom, ended, unlisted, collected, counts, spent}
+use Rattle.repo_model.specs.Purge.{due_rows, fade_all, expire_all}
+use Rattle.repo_model.specs.Deploy.{Offence, offence, without_pom, deliver_all, discard_all}
+use Rattle.repo_model.specs.Turn.{Turn, says, draws_or_spent, Seen, is_file, is_text, is_doc, is_nothing, seen_at, shows, in_repository, has_room, draws_draft, may_put_in, put_again, put_at, compared, judged, with_open, staged_at, stage_at, stage_in, commit_by, commit_of, abort_of, unlist_of, unlent, collect_of, counts_of, turn}
+use Rattle.mvn_digest.specs.Sides.{side_of}
+
+-- a reply and the effects with it
+abbrev pub does : Reply → List Effect → Turn
+does reply effects = record { reply = reply; effects = effects }
+
+pub data Case (settings : Settings) (s : State) (now : ℕ) : Command → Turn → Type 0 where
+  lends_file : (repo path tried : List ℕ) (blob : Blob) → (s.yard.next_lease == number_end) ≡ false → seen_at (rows_of repo s) path (kind path) ≡ is_file blob
+      → Case settings s now (look repo path tried) (does (file s.yard.next_lease blob) (lends blob.number ∷ []))
+  no_lease : (repo path tried : List ℕ) (blob : Blob) → (s.yard.next_lease == number_end) ≡ true → seen_at (rows_of repo s) path (kind path) ≡ is_file blob
+      → Case settings s now (look repo path tried) (says spent)
+  shows_text : (repo path tried bytes : List ℕ) → Case settings s now (look repo path tried) (says (text bytes))
+  shows_doc : (repo path tried bytes : List ℕ) → Case settings s now (look repo path tried) (says (doc bytes (digests_of bytes)))
+  misses : (repo path tried : List ℕ) → Case settings s now (look repo path tried) (says missed)
+  takes_back : (lease : ℕ) → Case settings s now (done lease) (does given_back (returns lease ∷ []))
+  gives_draft : (place : Place) (path : List ℕ) → (s.yard.next_draft == number_end) ≡ false
+      → Case settings s now (may_put place path) (does (draft s.yard.next_draft) (draws ∷ []))
+  no_more_drafts : (place : Place) (path : List ℕ) → (s.yard.next_draft == number_end) ≡ true → Case settings s now (may_put place path) (says spent)
+  refuses_kind : (place : Place) (path : List ℕ) → Case settings s now (may_put place path) (says kind_refused)
+  no_place : (place : Place) (path : List ℕ) → Case settings s now (may_put place path) (says no_session)
+  no_room : (place : Place) (path : List ℕ) → Case settings s now (may_put place path) (says session_full)
+  not_drawn : (repo path : List ℕ) (n : ℕ) (blob : Blob) → is_among n s.yard.drafts ≡ false → Case settings s now (put repo path n blob) (says no_draft)
+  makes_row : (repo path : List ℕ) (n : ℕ) (blob : Blob) → is_among n s.yard.drafts ≡ true
+      → Case settings s now (put repo path n blob) (does created (creates repo path blob now ∷ []))
+  has_same : (repo path : List ℕ) (n : ℕ) (blob : Blob) → is_among n s.yard.drafts ≡ true → Case settings s now (put repo path n blob) (does same (drops n ∷ []))
+  lists_again : (repo path : List ℕ) (n : ℕ) (blob : Blob) → is_among n s.yard.drafts ≡ true
+      → Case settings s now (put repo path n blob) (does relisted (relists repo path now ∷ drops n ∷ []))
+  has_other : (repo path : List ℕ) (n : ℕ) (blob : Blob) (kept : Print) → is_among n s.yard.drafts ≡ true
+      → Case settings s now (put repo path n blob) (does (taken kept blob.print) (drops n ∷ []))
+  side_differs : (place : Place) (path said kept : List ℕ) → Case settings s now (put_side place path said) (says (differs said kept))
+  side_agrees : (place : Place) (path said : List ℕ) → Case settings s now (put_side place path said) (says agreed)
+  side_alone : (place : Place) (path said : List ℕ) → Case settings s now (put_side place path said) (says not_there)
+  side_nowhere : (place : Place) (path said : List ℕ) → Case settings s now (put_side place path said) (says no_session)
+  notes : (place : Place) (path : List ℕ) → Case settings s now (put_doc place path) (says noted)
+  notes_nowhere : (place : Place) (path : List ℕ) → Case settings s now (put_doc place path) (says no_session)
+  gives_up : (n : ℕ) → is_among n s.yard.drafts ≡ true → Case settings s now (drop_draft n) (does dropped (drops n ∷ []))
+  gives_nothing_up : (n : ℕ) → is_among n s.yard.drafts ≡ false → Case settings s now (drop_draft n) (says dropped)
+  opens_one : (repo : List ℕ) → (s.yard.next_session == number_end) ≡ false
+      → Case settings s now (open_session repo) (does (opened s.yard.next_session) (opens s.yard.next_session repo ∷ []))
+  no_more_sessions : (repo : List ℕ) → (s.yard.next_session == number_end) ≡ true → Case settings s now (open_session repo) (says spent)
+  too_many : (repo : List ℕ) → Case settings s now (open_session repo) (says sessions_full)
+  stage_not_drawn : (at : ℕ) (path : List ℕ) (n : ℕ) (blob : Blob) → is_among n s.yard.drafts ≡ false → Case settings s now (stage at path n blob) (says no_draft)
+  stage_nowhere : (at : ℕ) (path : List ℕ) (n : ℕ) (blob : Blob) → is_among n s.yard.drafts ≡ true → Case settings s now (stage at path n blob) (does no_session (drops n ∷ []))
+  stages_one : (at : ℕ) (path : List ℕ) (n : ℕ) (blob : Blob) (number : ℕ) → is_among n s.yard.drafts ≡ true
+      → Case settings s now (stage at path n blob) (does staged (stages number path blob ∷ []))
+  stage_full : (at : ℕ) (path : List ℕ) (n : ℕ) (blob : Blob) → is_among n s.yard.drafts ≡ true → Case settings s now (stage at path n blob) (does session_full (drops n ∷ []))
+  stage_same : (at : ℕ) (path : List ℕ) (n : ℕ) (blob : Blob) → is_among n s.yard.drafts ≡ true → Case settings s now (stage at path n blob) (does same (drops n ∷ []))
+  stage_other : (at : ℕ) (path : List ℕ) (n : ℕ) (blob : Blob) (kept : Print) → is_among n s.yard.drafts ≡ true
+      → Case settings s now (stage at path n blob) (does (taken kept blob.print) (drops n ∷ []))
+  commits_nothing : (n : ℕ) → Case settings s now (commit n) (says no_session)
+  committed : (n : ℕ) (result : SessionResult) → Case settings s now (commit n) (says (ended result))
+  commit_offends : (n : ℕ) (other : Offence) → Case settings s now (commit n) (says (offends other.path other.kept other.sent))
+  commit_lacks : (n : ℕ) (directory : List ℕ) → Case settings s now (commit n) (says (missing_pom directory))
+  deploys : (n : ℕ) (one : Session) → session_of n s ≡ Some one
+      → Case settings s now (commit n) (does (ended (Done (length one.staged))) (deliver_all one now (rows_of one.repo s) ++ ends one.number (Done (length one.staged)) ∷ []))
+  aborts_nothing : (n : ℕ) → Case settings s now (abort n) (says no_session)
+  has_ended : (n : ℕ) (result : SessionResult) → Case settings s now (abort n) (says (ended result))
+  aborts : (n : ℕ) (one : Session) → Case settings s now (abort n) (does (ended Aborted) (discard_all one ++ ends one.number Aborted ∷ []))
+  unlists_nothing : (repo : List ℕ) → Case settings s now (unlist repo) (says (unlisted 0))
+  unlists : (repo : List ℕ) (h : Hosted) → Case settings s now (unlist repo) (does (unlisted (length (due_rows h.rule now h.rows))) (fade_all h now))
+  collects : Case settings s now collect (collect_of (expire_all settings.grace now s.hosted) (with_effects s (expire_all settings.grace now s.hosted)).yard)
+  tells : Case settings s now status (says (counts_of s))
+
+module _ (settings : Settings) (s : State) (now : ℕ) where
+  abbrev Is : Command → Turn → Type 0
+  Is c t = Case settings s now c t
+
+  if-case : (c : Command) (b : Bool) (t u : Turn) → (b ≡ true → Is c t) → (b ≡ false → Is c u) → Is c (if b then t else u)
+  if-case c true t u one other = one refl
+  if-case c false t u one other = other refl
+
+  look-case : (repo path tried : List ℕ) (seen : Seen) → seen_at (rows_of repo s) path (kind path) ≡ seen → Is (look repo path tried) (shows s.yard.next_lease seen)
+  look-case repo path tried (is_file blob) is =
+      if-case (look repo path tried) (s.yard.next_lease == number_end) (says spent) (does (file s.yard.next_lease blob) (lends blob.number ∷ []))
+      (λ last. no_lease repo path tried blob last is) (λ more. lends_file repo path tried blob more is)
+  look-case repo path tried (is_text bytes) is = shows_text repo path tried bytes
+  look-case repo path tried (is_doc bytes) is = shows_doc repo path tried bytes
+  look-case repo path tried is_nothing is = misses repo path tried
+
+  draft-case : (place : Place) (path : List ℕ) → Is (may_put place path) (draws_draft s.yard.next_draft)
+  draft-case place path =
+      if-case (may_put place path) (s.yard.next_draft == number_end) (says spent) (does (draft s.yard.next_draft) (draws ∷ []))
+      (λ last. no_more_drafts place path last) (λ more. gives_draft place path more)
+
+  in-case : (place : Place) (path : List ℕ) (found : Option Hosted) (t : Turn) → Is (may_put place path) t → Is (may_put place path) (in_repository path found t)
+  in-case place path None t so = refuses_kind place path
+  in-case place path (Some h) t so = if-case (may_put place path) (takes h.rule path) t (says kind_refused) (λ _. so) (λ _. refuses_kind place path)
+
+  may_put-case : (n : ℕ) (path : List ℕ) (found : Option Session) → Is (may_put (session n) path) (may_put_in s path found)
+  may_put-case n path None = no_place (session n) path
+  may_put-case n path (Some one) =
+      in-case (session n) path (hosted_of one.repo s) (if has_room path one.staged then draws_draft s.yard.next_draft else says session_full)
+      (if-case (may_put (session n) path) (has_room path one.staged) (draws_draft s.yard.next_draft) (says session_full) (λ _. draft-case (session n) path) (λ _. no_room (session n) path))
+
+  put-case : (repo path : List ℕ) (n : ℕ) (blob : Blob) (found : Option Row) → is_among n s.yard.drafts ≡ true → Is (put repo path n blob) (put_at repo path n blob now found)
+  put-case repo path n blob None among = makes_row repo path n blob among
+  put-case repo path n blob (Some row) among =
+      if-case (put repo path n blob) (is_same_print row.blob.print blob.print) (put_again repo path n now row.phase) (does (taken row.blob.print blob.print) (drops n ∷ []))
+      (λ _. again row.phase) (λ _. has_other repo path n blob row.blob.print among) where
+    again : (phase : Phase) → Is (put repo path n blob) (put_again repo path n now phase)
+    again listed = has_same repo path n blob among
+    again (fading since) = lists_again repo path n blob among
+
+  compared-case : (place : Place) (path said : List ℕ) (found : Option (List ℕ)) → Is (put_side place path said) (compared said found)
+  compared-case place path said None = side_alone place path said
+  compared-case place path said (Some kept) =
+      if-case (put_side place path said) (bytes_eq said kept) (says agreed) (says (differs said kept)) (λ _. side_agrees place path said) (λ _. side_differs place path said kept)
+
+  judged-case : (place : Place) (path said : List ℕ) (k : Result Kind PathFault) (blob_at : List ℕ → Option Blob) → Is (put_side place path said) (judged k said blob_at)
+  judged-case place path said (Ok (FileSide c side)) blob_at = compared-case place path said (option_map (λ (blob : Blob). side_of blob.print.digests side) (blob_at (text_of c)))
+  judged-case place path said (Ok (File c)) blob_at = side_agrees place path said
+  judged-case place path said (Ok (Doc d)) blob_at = side_agrees place path said
+  judged-case place path said (Ok (DocSide d side)) blob_at = side_agrees place path said
+  judged-case place path said (Err fault) blob_at = side_agrees place path said
+
+  open-case : (c : Command) (found : Option Session) (f : Session → Turn) → Is c (says no_session) → ((one : Session) → found ≡ Some one → Is c (f one)) → Is c (with_open found f)
+  open-case c None f none some = none
+  open-case c (Some one) f none some = some one refl
+
+  stage-case : (at : ℕ) (path : List ℕ) (n : ℕ) (blob : Blob) → is_among n s.yard.drafts ≡ true → (found : Option Session) → Is (stage at path n blob) (stage_in path n blob found)
+  stage-case at path n blob among None = stage_nowhere at path n blob among
+  stage-case at path n blob among (Some one) = by_kept (staged_at path one.staged) where
+    by_kept : (kept : Option Blob) → Is (stage at path n blob) (stage_at one path n blob kept)
+    by_kept None =
+        if-case (stage at path n blob) (has_room path one.staged) (does staged (stages one.number path blob ∷ [])) (does session_full (drops n ∷ []))
+        (λ _. stages_one at path n blob one.number among) (λ _. stage_full at path n blob among)
+    by_kept (Some kept) =
+        elim (is_same_print kept.print blob.print) as (λ b. Is (stage at path n blob) (does (if b then same else taken kept.print blob.print) (drops n ∷ []))) [
+          | true ↦ stage_same at path n blob among
+          | false ↦ stage_other at path n blob kept.print among
+        ]
+
+  commit-case : (n : ℕ) (one : Session) → session_of n s ≡ Some one → (ended : Option SessionResult) → Is (commit n) (commit_of one now (rows_of one.repo s) ended)
+  commit-case n one is (Some result) = committed n result
+  commit-case n one is None = by_offence (offence (rows_of one.repo s) one.staged) (without_pom (rows_of one.repo s) one.staged) where
+    by_offence : (other : Option Offence) (pom : Option (List ℕ)) → Is (commit n) (commit_by one now (rows_of one.repo s) other pom)
+    by_offence (Some other) pom = commit_offends n other
+    by_offence None (Some directory) = commit_lacks n directory
+    by_offence None None = deploys n one is
+
+  abort-case : (n : ℕ) (one : Session) (ended : Option SessionResult) → Is (abort n) (abort_of one ended)
+  abort-case n one (Some result) = has_ended n result
+  abort-case n one None = aborts n one
+
+  unlist-case : (repo : List ℕ) (found : Option Hosted) → Is (unlist repo) (unlist_of now found)
+  unlist-case repo None = unlists_nothing repo
+  unlist-case repo (Some h) = unlists repo h
+
+  -- each turn is one of the cases
+  pub turn-case : (c : Command) → Is c (turn settings s now c)
+  turn-case (look repo path tried) = look-case repo path tried (seen_at (rows_of repo s) path (kind path)) refl
+  turn-case (done lease) = takes_back lease
+  turn-case (may_put (repository repo) path) = in-case (repository repo) path (hosted_of repo s) (draws_draft s.yard.next_draft) (draft-case (repository repo) path)
+  turn-case (may_put (session n) path) = may_put-case n path (open_of n s)
+  turn-case (put repo path n blob) =
+      if-case (put repo path n blob) (is_among n s.yard.drafts) (put_at repo path n blob now (row_at path (rows_of repo s))) (says no_draft)
+      (λ among. put-case repo path n blob (row_at path (rows_of repo s)) among) (λ none. not_drawn repo path n blob none)
+  turn-case (put_side (repository repo) path said) = judged-case (repository repo) path said (kind path) (λ at. option_map (λ (row : Row). row.blob) (row_at at (rows_of repo s)))
+  turn-case (put_side (session n) path said) =
+      open-case (put_side (session n) path said) (open_of n s) (λ found. judged (kind path) said (λ at. staged_at at found.staged)) (side_nowhere (session n) path said)
+      (λ one _. judged-case (session n) path said (kind path) (λ at. staged_at at one.staged))
+  turn-case (put_doc (repository repo) path) = notes (repository repo) path
+  turn-case (put_doc (session n) path) =
+      open-case (put_doc (session n) path) (open_of n s) (λ found. says noted) (notes_nowhere (session n) path) (λ one _. notes (session n) path)
+  turn-case (drop_draft n) =
+      elim (is_among n s.yard.drafts) as (λ b. is_among n s.yard.drafts ≡ b → Is (drop_draft n) (does dropped (if b then drops n ∷ [] else []))) [
+        | true ↦ λ among. gives_up n among
+        | false ↦ λ none. gives_nothing_up n none
+      ] refl
+  turn-case (open_session repo) =
+      if-case (open_session repo) (nat_le most_sessions (count_by is_open s.sessions)) (says sessions_full)
+      (draws_or_spent s.yard.next_session (does (opened s.yard.next_session) (opens s.yard.next_session repo ∷ [])))
+      (λ _. too_many repo)
+      (λ _. if-case (open_session repo) (s.yard.next_session == number_end) (says spent) (does (opened s.yard.next_session) (opens s.yard.next_session repo ∷ []))
+      (λ last. no_more_sessions repo last) (λ more. opens_one repo more))
+  turn-case (stage at path n blob) =
+      if-case (stage at path n blob) (is_among n s.yard.drafts) (stage_in path n blob (open_of at s)) (says no_draft)
+      (λ among. stage-case at path n blob among (open_of at s)) (λ none. stage_not_drawn at path n blob none)
+  turn-case (commit n) =
+      open-case (commit n) (session_of n s) (λ known. commit_of known now (rows_of known.repo s) known.ended) (commits_nothing n) (λ one is. commit-case n one is one.ended)
+  turn-case (abort n) =
+      open-case (abort n) (session_of n s) (λ known. abort_of known known.ended) (aborts_nothing n) (λ one _. abort-case n one one.ended)
+  turn-case (unlist repo) = unlist-case repo (hosted_of repo s)
+  turn-case collect = collects
+  turn-case status = tells

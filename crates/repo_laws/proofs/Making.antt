@@ -1,0 +1,98 @@
+-- What all effects but a few have, the effects of each turn have: only Done returns a lease, and only Collect forgets garbage.
+use Rattle.std.proofs.Common.{◌≡◌, ℕ, Bool, true, false, List, [], ◌∷◌, ◌++◌, map, length, Option, Some, None, refl}
+use Rattle.std.specs.Prelude.{filter}
+use Rattle.std.specs.List.{AllByRecursion, flat_map}
+use Rattle.repo_model.specs.declared.session.SessionResult.{SessionResult}
+use Rattle.repo_model.specs.declared.session.SessionResult.TheVariants.{Aborted, Done}
+use Rattle.repo_model.specs.Data.{Blob, Row, Phase, listed, fading, Hosted, Staged, Session}
+use Rattle.repo_model.specs.Settings.{Settings}
+use Rattle.repo_model.specs.State.{State, row_at, rows_of}
+use Rattle.repo_model.specs.Effect.{Effect, draws, drops, creates, stages, delivers, discards, relists, fades, expires, forgets, lends, returns, opens, ends, with_effects}
+use Rattle.repo_model.specs.Command.{Command, done, collect}
+use Rattle.repo_model.specs.Purge.{due_rows, expire_all, expired_of, is_over, most_rows}
+use Rattle.repo_model.specs.Deploy.{deliver_at, deliver_again, deliver_all, discard_all}
+use Rattle.repo_model.specs.Turn.{Turn, turn, unlent}
+use Rattle.repo_laws.proofs.Cases.{Case, lends_file, takes_back, gives_draft, makes_row, has_same, lists_again, has_other, gives_up, opens_one, stage_nowhere, stages_one, stage_full, stage_same, stage_other, deploys, aborts, unlists, collects, turn-case}
+use Rattle.repo_laws.proofs.Lists.{all-take}
+
+pub all-append : {X : Type 0} (P : X → Type 0) (xs ys : List X) → AllByRecursion P xs → AllByRecursion P ys → AllByRecursion P (xs ++ ys)
+all-append P [] ys all more = more
+all-append P (x ∷ xs) ys all more = (all.0, all-append P xs ys all.1 more)
+
+-- each effect has it, but for those that return a lease or forget garbage
+pub record Common (R : Effect → Type 0) : Type 0 where
+  pub draws_so : R draws
+  pub drops_so : (n : ℕ) → R (drops n)
+  pub creates_so : (repo path : List ℕ) (blob : Blob) (moment : ℕ) → R (creates repo path blob moment)
+  pub stages_so : (n : ℕ) (path : List ℕ) (blob : Blob) → R (stages n path blob)
+  pub delivers_so : (n : ℕ) (repo path : List ℕ) (blob : Blob) (moment : ℕ) → R (delivers n repo path blob moment)
+  pub discards_so : (n : ℕ) (path : List ℕ) (draft : ℕ) → R (discards n path draft)
+  pub relists_so : (repo path : List ℕ) (moment : ℕ) → R (relists repo path moment)
+  pub fades_so : (repo path : List ℕ) (moment : ℕ) → R (fades repo path moment)
+  pub expires_so : (repo path : List ℕ) (blob : ℕ) → R (expires repo path blob)
+  pub lends_so : (blob : ℕ) → R (lends blob)
+  pub opens_so : (n : ℕ) (repo : List ℕ) → R (opens n repo)
+  pub ends_so : (n : ℕ) (result : SessionResult) → R (ends n result)
+
+module _ (R : Effect → Type 0) (common : Common R) where
+  delivered : (one : Session) (now : ℕ) (f : Staged) (found : Option Row) → AllByRecursion R (deliver_at one now f found)
+  delivered one now f None = (common.delivers_so one.number one.repo f.path f.blob now, tt)
+  delivered one now f (Some row) = again row.phase where
+    again : (phase : Phase) → AllByRecursion R (deliver_again one now f phase)
+    again listed = (common.discards_so one.number f.path f.blob.number, tt)
+    again (fading since) = (common.relists_so one.repo f.path now, (common.discards_so one.number f.path f.blob.number, tt))
+
+  all-delivered : (one : Session) (now : ℕ) (rows : List Row) (files : List Staged) → AllByRecursion R (flat_map (λ (f : Staged). deliver_at one now f (row_at f.path rows)) files)
+  all-delivered one now rows [] = tt
+  all-delivered one now rows (f ∷ files) =
+      all-append R (deliver_at one now f (row_at f.path rows)) (flat_map (λ (g : Staged). deliver_at one now g (row_at g.path rows)) files)
+      (delivered one now f (row_at f.path rows)) (all-delivered one now rows files)
+
+  all-discarded : (one : Session) (files : List Staged) → AllByRecursion R (map (λ (f : Staged). discards one.number f.path f.blob.number) files)
+  all-discarded one [] = tt
+  all-discarded one (f ∷ files) = (common.discards_so one.number f.path f.blob.number, all-discarded one files)
+
+  all-faded : (id : List ℕ) (now : ℕ) (rows : List Row) → AllByRecursion R (map (λ (row : Row). fades id row.path now) rows)
+  all-faded id now [] = tt
+  all-faded id now (row ∷ rows) = (common.fades_so id row.path now, all-faded id now rows)
+
+  pub all-expired : (grace now : ℕ) (hosted : List Hosted) → AllByRecursion R (expire_all grace now hosted)
+  all-expired grace now hosted = all-take R most_rows (flat_map (expired_of grace now) hosted) (of-all hosted) where
+    of-rows : (id : List ℕ) (rows : List Row) (es : List Effect) → AllByRecursion R es → AllByRecursion R (map (λ (row : Row). expires id row.path row.blob.number) rows ++ es)
+    of-rows id [] es all = all
+    of-rows id (row ∷ rows) es all = (common.expires_so id row.path row.blob.number, of-rows id rows es all)
+
+    of-all : (hosted : List Hosted) → AllByRecursion R (flat_map (expired_of grace now) hosted)
+    of-all [] = tt
+    of-all (h ∷ hosted) = of-rows h.rule.id (filter (λ (row : Row). is_over grace now row.phase) h.rows) (flat_map (expired_of grace now) hosted) (of-all hosted)
+
+  module _ (settings : Settings) (s : State) (now : ℕ) where
+    case-makes : (c : Command) (t : Turn) → Case settings s now c t → ((lease : ℕ) → c ≡ done lease → R (returns lease)) → ((blobs : List ℕ) → c ≡ collect → R (forgets blobs)) → AllByRecursion R t.effects
+    case-makes c t (lends_file repo path tried blob more is) returned forgotten = (common.lends_so blob.number, tt)
+    case-makes c t (takes_back lease) returned forgotten = (returned lease refl, tt)
+    case-makes c t (gives_draft place path more) returned forgotten = (common.draws_so, tt)
+    case-makes c t (makes_row repo path n blob among) returned forgotten = (common.creates_so repo path blob now, tt)
+    case-makes c t (has_same repo path n blob among) returned forgotten = (common.drops_so n, tt)
+    case-makes c t (lists_again repo path n blob among) returned forgotten = (common.relists_so repo path now, (common.drops_so n, tt))
+    case-makes c t (has_other repo path n blob kept among) returned forgotten = (common.drops_so n, tt)
+    case-makes c t (gives_up n among) returned forgotten = (common.drops_so n, tt)
+    case-makes c t (opens_one repo more) returned forgotten = (common.opens_so s.yard.next_session repo, tt)
+    case-makes c t (stage_nowhere at path n blob among) returned forgotten = (common.drops_so n, tt)
+    case-makes c t (stages_one at path n blob number among) returned forgotten = (common.stages_so number path blob, tt)
+    case-makes c t (stage_full at path n blob among) returned forgotten = (common.drops_so n, tt)
+    case-makes c t (stage_same at path n blob among) returned forgotten = (common.drops_so n, tt)
+    case-makes c t (stage_other at path n blob kept among) returned forgotten = (common.drops_so n, tt)
+    case-makes c t (deploys n one is) returned forgotten =
+        all-append R (deliver_all one now (rows_of one.repo s)) (ends one.number (Done (length one.staged)) ∷ [])
+        (all-delivered one now (rows_of one.repo s) one.staged) (common.ends_so one.number (Done (length one.staged)), tt)
+    case-makes c t (aborts n one) returned forgotten =
+        all-append R (discard_all one) (ends one.number Aborted ∷ []) (all-discarded one one.staged) (common.ends_so one.number Aborted, tt)
+    case-makes c t (unlists repo h) returned forgotten = all-faded h.rule.id now (due_rows h.rule now h.rows)
+    case-makes c t collects returned forgotten =
+        all-append R (expire_all settings.grace now s.hosted) (forgets (unlent (with_effects s (expire_all settings.grace now s.hosted)).yard) ∷ [])
+        (all-expired settings.grace now s.hosted) (forgotten (unlent (with_effects s (expire_all settings.grace now s.hosted)).yard) refl, tt)
+    case-makes c t case returned forgotten = tt
+
+    -- the effects of a turn
+    pub turn-makes : (c : Command) → ((lease : ℕ) → c ≡ done lease → R (returns lease)) → ((blobs : List ℕ) → c ≡ collect → R (forgets blobs)) → AllByRecursion R (turn settings s now c).effects
+    turn-makes c = case-makes c (turn settings s now c) (turn-case settings s now c)

@@ -1,0 +1,65 @@
+-- Words of the laws on replies: refusals and what they give up, replies that may change rows, entries that ask alike, and the moments of a history.
+use Rattle.std.specs.Prelude.{◌≡◌, ◌↔◌, ℕ, Bool, true, false, ◌&&◌, List, [], ◌∷◌, map}
+use Rattle.repo_model.specs.declared.session.SessionResult.TheVariants.{Done}
+use Rattle.repo_model.specs.Paths.{takes}
+use Rattle.repo_model.specs.State.{State, hosted_of, open_of}
+use Rattle.repo_model.specs.Effect.{Effect, drops}
+use Rattle.repo_model.specs.Command.{Command, put, stage, is_fit}
+use Rattle.repo_model.specs.Reply.{Reply, missed, kind_refused, no_draft, taken, not_there, differs, no_session, sessions_full, session_full, offends, missing_pom, spent, no_memory, store_fault, relisted, created, ended, unlisted, collected}
+use Rattle.repo_model.specs.Turn.{has_room}
+use Rattle.repo_model.specs.History.{Entry}
+
+-- the replies that refuse a command
+abbrev pub is_refusal : Reply → Bool
+is_refusal missed = true
+is_refusal kind_refused = true
+is_refusal no_draft = true
+is_refusal (taken kept sent) = true
+is_refusal not_there = true
+is_refusal (differs said kept) = true
+is_refusal no_session = true
+is_refusal sessions_full = true
+is_refusal session_full = true
+is_refusal (offends path kept sent) = true
+is_refusal (missing_pom directory) = true
+is_refusal spent = true
+is_refusal no_memory = true
+is_refusal store_fault = true
+is_refusal reply = false
+
+-- what a refused command does: a blob that was sent for nothing is given up
+abbrev pub given_up : Command → Reply → List Effect
+given_up (put repo path n blob) (taken kept sent) = drops n ∷ []
+given_up (stage at path n blob) (taken kept sent) = drops n ∷ []
+given_up (stage at path n blob) no_session = drops n ∷ []
+given_up (stage at path n blob) session_full = drops n ∷ []
+given_up command reply = []
+
+-- the replies of turns that may change rows
+abbrev pub may_change_rows : Reply → Bool
+may_change_rows relisted = true
+may_change_rows created = true
+may_change_rows (ended (Done n)) = true
+may_change_rows (unlisted n) = true
+may_change_rows (collected expired blobs) = true
+may_change_rows reply = false
+
+-- a repository is there and takes the file of a path
+abbrev pub takes_at : List ℕ → List ℕ → State → Bool
+takes_at repo path s = is_fit (λ h. takes h.rule path) (hosted_of repo s)
+
+-- a session is open, its repository takes the file of a path, and the path is staged or there is room for it
+abbrev pub takes_in : ℕ → List ℕ → State → Bool
+takes_in n path s = is_fit (λ one. takes_at one.repo path s && has_room path one.staged) (open_of n s)
+
+-- the same command at the same moment; memory is wanted in both or in neither, and the records fail alike
+pub record AsksAlike (one other : Entry) : Type 0 where
+  pub command : one.command ≡ other.command
+  pub moment : one.moment ≡ other.moment
+  pub memory : (one.reply ≡ no_memory) ↔ (other.reply ≡ no_memory)
+  pub store : (one.reply ≡ store_fault) ↔ (other.reply ≡ store_fault)
+  pub faults : one.faults ≡ other.faults
+
+-- the last moment of a state, and then those of the entries
+abbrev pub moments_of : State → List Entry → List ℕ
+moments_of start entries = start.last ∷ map (λ e. e.moment) entries
