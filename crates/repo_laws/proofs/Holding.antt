@@ -293,7 +293,6 @@ held-ticked t s moment faults later held = record {
   moments = omega (arith, held.moments, later);
 }
 
-
 numbered-ticked : (s : State) (moment faults : ℕ) → Numbered s → Numbered (ticked s moment faults)
 numbered-ticked s moment faults old = record { below = old.below; apart = old.apart }
 

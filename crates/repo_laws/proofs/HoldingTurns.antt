@@ -1,30 +1,23 @@
 -- What a turn records, by its reply.
 use native.Mathlib.Omega.{arith}
-use Rattle.std.proofs.Common.{◌≡◌, ℕ, Bool, true, false, List, [], ◌∷◌, ◌++◌, map, length, Option, Some, None, Result, Ok, Err, refl, sym, ◌∙◌, ap, eqb-true, option_map, length-append}
-use Rattle.std.specs.Prelude.{◌==◌, nat_le, filter, bytes_eq, count_by, if◌then◌else◌}
+use Rattle.std.proofs.Common.{◌≡◌, ℕ, Bool, true, false, List, [], ◌∷◌, ◌++◌, map, length, Option, Some, None, refl, sym, ◌∙◌, ap, eqb-true, length-append}
+use Rattle.std.specs.Prelude.{◌==◌, nat_le, filter, count_by, if◌then◌else◌}
 use Rattle.std.specs.List.{AllByRecursion, flat_map}
 use Rattle.std.proofs.lemmas.Bool.{false≢true}
 use Rattle.std.proofs.lemmas.Grind.{flat_map-append}
-use Rattle.std.proofs.lemmas.Option.{none-some}
-use Rattle.mvn_coords.specs.Kind.{kind}
-use Rattle.mvn_coords.specs.declared.kind.Kind.{Kind}
-use Rattle.mvn_coords.specs.declared.kind.Kind.TheVariants.{File, FileSide, Doc, DocSide}
-use Rattle.mvn_coords.specs.declared.fault.PathFault.{PathFault}
-use Rattle.mvn_coords.specs.Layout.{text_of}
 use Rattle.repo_model.specs.declared.item.Item.TheVariants.{HostedPut, Relisted, SessionOpened, SessionEnded}
 use Rattle.repo_model.specs.declared.session.SessionResult.{SessionResult}
 use Rattle.repo_model.specs.declared.session.SessionResult.TheVariants.{Aborted, Done}
-use Rattle.repo_model.specs.Data.{Blob, Row, Phase, listed, fading, Hosted, Staged, Session, repository, session, is_same_print}
+use Rattle.repo_model.specs.Data.{Blob, Row, Phase, listed, fading, Hosted, Staged, Session, is_same_print}
 use Rattle.repo_model.specs.Settings.{Settings}
-use Rattle.repo_model.specs.Paths.{takes}
-use Rattle.repo_model.specs.State.{State, is_session, is_open, hosted_of, row_at, rows_of, session_of, open_of, is_among, number_end, most_sessions}
-use Rattle.repo_model.specs.Effect.{Effect, draws, drops, stages, discards, fades, expires, forgets, lends, opens, ends, with_effects, items_of, recorded}
-use Rattle.repo_model.specs.Command.{Command, look, done, may_put, put, put_side, put_doc, drop_draft, open_session, stage, commit, abort, unlist, collect, status}
+use Rattle.repo_model.specs.State.{State, is_session, is_open, hosted_of, row_at, rows_of, session_of, is_among, number_end, most_sessions}
+use Rattle.repo_model.specs.Effect.{Effect, drops, discards, fades, expires, forgets, opens, ends, with_effects, items_of, recorded}
+use Rattle.repo_model.specs.Command.{Command, put, open_session, commit, abort, unlist, collect}
 use Rattle.repo_model.specs.Reply as answered
 use Rattle.repo_model.specs.Reply.{Reply}
 use Rattle.repo_model.specs.Purge.{expire_all, expired_of, is_over, due_rows, fade_all, most_rows}
-use Rattle.repo_model.specs.Deploy.{Offence, offence, without_pom, deliver_all, deliver_at, deliver_again, discard_all}
-use Rattle.repo_model.specs.Turn.{Turn, says, draws_or_spent, Seen, is_file, is_text, is_doc, is_nothing, shows, seen_at, in_repository, has_room, draws_draft, may_put_in, put_again, put_at, compared, judged, with_open, staged_at, stage_at, stage_in, commit_by, commit_of, abort_of, unlist_of, unlent, turn}
+use Rattle.repo_model.specs.Deploy.{Offence, offence, without_pom, deliver_all, deliver_at, deliver_again}
+use Rattle.repo_model.specs.Turn.{Turn, says, draws_or_spent, put_again, put_at, commit_by, unlist_of, unlent, turn}
 use Rattle.repo_laws.specs.Holds.{can_record, item_again, item_at}
 use Rattle.repo_laws.proofs.Cases.{Case, makes_row, lists_again, opens_one, deploys, aborts, unlists, collects, turn-case}
 use Rattle.repo_laws.proofs.Lists.{found-passes, all-take}
