@@ -60,7 +60,7 @@ module _ {K : Type 0} (c : K → K → Ordering) (order : IsTotalOrder c) where
   pub before-it : (x y : K) → c x y ≡ Greater → c y x ≡ Less
   before-it x y is = turned (c y x) (sym (order.antisymm x y) ∙ is)
 
-  after-all : (x y : K) (xs : List K) → c x y ≡ Less → AllByRecursion (λ z. c y z ≡ Less) xs → AllByRecursion (λ z. c x z ≡ Less) xs
+  pub after-all : (x y : K) (xs : List K) → c x y ≡ Less → AllByRecursion (λ z. c y z ≡ Less) xs → AllByRecursion (λ z. c x z ≡ Less) xs
   after-all x y [] before all = tt
   after-all x y (z ∷ xs) before all = (order.trans x y z before all.0, after-all x y xs before all.1)
 

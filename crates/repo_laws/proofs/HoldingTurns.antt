@@ -90,6 +90,12 @@ files-items one now rows (file ∷ files) =
     ∙ ap (λ items. items ++ recorded (flat_map (λ (f : Staged). deliver_at one now f (row_at f.path rows)) files)) (file-items one now file (row_at file.path rows))
     ∙ ap (λ rest. item_at one.repo now file (row_at file.path rows) ++ rest) (files-items one now rows files)
 
+pub deploy-items : (one : Session) (now : ℕ) (rows : List Row) (result : SessionResult)
+    → recorded (deliver_all one now rows ++ ends one.number result ∷ []) ≡ flat_map (λ (file : Staged). item_at one.repo now file (row_at file.path rows)) one.staged ++ SessionEnded one.number result ∷ []
+deploy-items one now rows result =
+    flat_map-append items_of (deliver_all one now rows) (ends one.number result ∷ [])
+    ∙ ap (λ items. items ++ SessionEnded one.number result ∷ []) (files-items one now rows one.staged)
+
 abbrev CommitRecords : State → ℕ → Session → ℕ → Turn → Type 0
 CommitRecords s now one k t =
     t.reply ≡ answered.ended (Done k)
@@ -104,8 +110,7 @@ commit-records settings s now n k one known going =
       by None (Some directory) is = cc
       by None None is =
           let same : Done (length one.staged) ≡ Done k = cc in
-          flat_map-append items_of (deliver_all one now (rows_of one.repo s)) (ends one.number (Done (length one.staged)) ∷ [])
-          ∙ ap (λ items. items ++ SessionEnded one.number (Done (length one.staged)) ∷ []) (files-items one now (rows_of one.repo s) one.staged)
+          deploy-items one now (rows_of one.repo s) (Done (length one.staged))
           ∙ ap (λ result. flat_map (λ (file : Staged). item_at one.repo now file (row_at file.path (rows_of one.repo s))) one.staged ++ SessionEnded one.number result ∷ []) same
 
 -- a session that goes on is given up

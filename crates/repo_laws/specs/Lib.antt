@@ -6,3 +6,4 @@ pub mod Worked
 pub mod Holds
 pub mod Numbered
 pub mod Items
+pub mod Staged

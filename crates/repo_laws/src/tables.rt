@@ -1,6 +1,8 @@
 //! Laws of the records: what a turn records, and what the tables tell of the state.
 ghost use Rattle.std.specs.Prelude.{◌≡◌, ◌↔◌, ℕ, ◌<◌, ◌≤◌, if◌then◌else◌, List, [], ◌∷◌, ◌++◌, length, find, Option, option_map, None, Some, Ok, Err, false, IsTrue};
 ghost use Rattle.std.specs.List.{AllByRecursion, list_any, flat_map};
+ghost use Rattle.std.specs.List.Sorted.{IsStrictlySortedBy};
+ghost use Rattle.std.specs.declared.cmp.Ordering.TheVariants.{Less};
 ghost use Rattle.mvn_metadata.specs.Document.{Document};
 ghost use Rattle.outside.specs.Moments.{Moments};
 ghost use Rattle.repo_model.specs.declared.item.Item.{Item};
@@ -17,6 +19,7 @@ ghost use Rattle.repo_model.specs.May.{May, AllMay};
 ghost use Rattle.repo_model.specs.Reply.{is_free, created, relisted, opened, ended, unlisted, collected};
 ghost use Rattle.repo_model.specs.Command.{Command, put, open_session, commit, abort, unlist, collect};
 ghost use Rattle.repo_model.specs.Purge.{expire_all};
+ghost use Rattle.repo_model.specs.Deploy.{Offence, offence_at, offence};
 ghost use Rattle.repo_model.specs.Turn.{says, unlent, turn};
 ghost use Rattle.repo_model.specs.History.{Entry, Fits, Legal, effects_of, after, end};
 ghost use Rattle.repo_model.specs.Tables.{Tables, RecordedSession, no_tables, recorded_at, names_blob, is_session, item_on, fits_on, applied, greatest_moment};
@@ -24,6 +27,7 @@ ghost use Rattle.repo_laws.specs.Sound.{AreNamedApart, OnePlace, IsSound};
 ghost use Rattle.repo_laws.specs.Numbered.{Numbered};
 ghost use Rattle.repo_laws.specs.Holds.{InOrder, Holds, StandsFor, AreUpTo, with_items, told, without_bytes, result_of, can_record, item_at};
 ghost use Rattle.repo_laws.specs.Items.{is_of_row, is_of_file, is_of_document, is_of_session, document_at, row_then, file_then, document_then, session_then};
+ghost use Rattle.repo_laws.specs.Staged.{StagedByPath, path_cmp, staged_cmp, row_paths};
 
 /// Each item that fits leaves tables in order: rows and documents in byte order of repository and path, sessions rising, each once, and each blob named once.
 pub fn tables_stay_in_order()
@@ -116,6 +120,18 @@ pub fn turns_record()
         → (turn settings s now (unlist repo)).reply ≡ unlisted (length (recorded (turn settings s now (unlist repo)).effects)) }
     ensures collected { (settings : Settings) (s : State) (now : ℕ)
         → (turn settings s now collect).reply ≡ collected (length (recorded (turn settings s now collect).effects)) (unlent (with_effects s (expire_all settings.grace now s.hosted)).yard) }
+{}
+
+/// Sessions have their staged files in byte order of path, each path once. So a commit goes through them in that order: no
+/// file before the one that offends does so, and its items stand in that order.
+pub fn commits_go_by_path()
+    ensures effect { (grace now : ℕ) (s : State) (e : Effect) → May grace now s e → StagedByPath s → StagedByPath (with_effect s e) }
+    ensures opening { (settings : Settings) (clock : Option Moments) → StagedByPath (opening settings clock) }
+    ensures history { (settings : Settings) (entries : List Entry) (s : State) → AreNamedApart settings.hosted → IsSound settings s → StagedByPath s → Legal settings s entries
+        → StagedByPath (end settings s entries) }
+    ensures items { (settings : Settings) (s : State) (now n : ℕ) → StagedByPath s → IsStrictlySortedBy path_cmp (row_paths (recorded (turn settings s now (commit n)).effects)) }
+    ensures offends { (rows : List Row) (files : List Staged) (other : Offence) → IsStrictlySortedBy staged_cmp files → offence rows files ≡ Some other
+        → AllByRecursion (λ (file : Staged). path_cmp file.path other.path ≡ Less → offence_at file (row_at file.path rows) ≡ None) files }
 {}
 
 /// A start over the tables keeps the rows, the results of sessions and their numbers; open sessions are gone, and the moment is no later.
