@@ -1,6 +1,6 @@
 -- Tables that hold a state hold it after each effect and its item, after each entry, and through histories.
 use native.Mathlib.Omega.{arith}
-use Rattle.std.proofs.Common.{◌≡◌, ◌≤◌, ◌<◌, ◌+◌, ℕ, true, false, not, cond, ◌&&◌, List, [], ◌∷◌, ◌++◌, map, Option, Some, None, Ok, refl, sym, ◌∙◌, ap, subst}
+use Rattle.std.proofs.Common.{◌≡◌, ◌≤◌, ◌<◌, ◌+◌, ℕ, true, false, not, cond, ◌&&◌, List, [], ◌∷◌, ◌++◌, map, length, Option, Some, None, Ok, Err, refl, sym, ◌∙◌, ap, subst}
 use Rattle.std.specs.Prelude.{◌==◌, nat_lt, IsTrue, find, is_none, bytes_eq, if◌then◌else◌}
 use Rattle.std.specs.Option.{option_map, option_map_or}
 use Rattle.std.specs.List.{list_any}
@@ -235,6 +235,27 @@ fit-append : (items more : List Item) (t : Tables) → AllFit t items → AllFit
 fit-append [] more t all rest = rest
 fit-append (item ∷ items) more t all rest = (all.0, fit-append items more (item_on t item) all.1 rest)
 
+-- the place that is named is that of the first item that does not fit
+first-from : (items : List Item) (start place : ℕ) (t : Tables) → applied_from start t items ≡ Err place
+    → (before : List Item) × (item : Item) × (after : List Item) × (items ≡ before ++ item ∷ after) × (place ≡ start + length before) × AllFit t before × (fits_on (with_items t before) item ≡ false)
+first-from [] start place t is = cc
+first-from (item ∷ items) start place t is =
+    elim (fits_on t item)
+    as (λ b. fits_on t item ≡ b → (if b then applied_from (start + 1) (item_on t item) items else Err start) ≡ Err place
+    → (before : List Item) × (one : Item) × (after : List Item) × (item ∷ items ≡ before ++ one ∷ after) × (place ≡ start + length before) × AllFit t before × (fits_on (with_items t before) one ≡ false)) [
+      | true ↦ λ fits later.
+          let (before, one, behind, parts, place_is, all, misfit) = first-from items (start + 1) place (item_on t item) later in
+          (item ∷ before, one, behind, ap (λ rest. item ∷ rest) parts, omega (arith, place_is), (fits, all), misfit)
+      | false ↦ λ misfit here. let same : start ≡ place = cc in ([], item, items, refl, omega (arith, same), tt, misfit)
+    ] refl is
+
+pub first-misfit : (t : Tables) (items : List Item) (place : ℕ) → applied t items ≡ Err place
+    → (before : List Item) × (item : Item) × (after : List Item) × (items ≡ before ++ item ∷ after) × (place ≡ length before)
+    × (applied t before ≡ Ok (with_items t before)) × (fits_on (with_items t before) item ≡ false)
+first-misfit t items place is =
+    let (before, item, behind, parts, place_is, all, misfit) = first-from items 0 place t is in
+    (before, item, behind, parts, omega (arith, place_is), fit-applied before 0 t all, misfit)
+
 pub effect-recorded : (grace now : ℕ) (s : State) (e : Effect) (t : Tables) → May grace now s e → now ≤ s.last → OnePlace s → Numbered s → InOrder t → Holds t s
     → (applied t (items_of e) ≡ Ok (with_items t (items_of e))) × InOrder (with_items t (items_of e)) × Holds (with_items t (items_of e)) (with_effect s e)
 effect-recorded grace now s e t may up placed numbered ordered held =
@@ -271,7 +292,6 @@ held-ticked t s moment faults later held = record {
   loose = held.loose;
   moments = omega (arith, held.moments, later);
 }
-
 
 numbered-ticked : (s : State) (moment faults : ℕ) → Numbered s → Numbered (ticked s moment faults)
 numbered-ticked s moment faults old = record { below = old.below; apart = old.apart }

@@ -12,9 +12,10 @@ use Rattle.repo_model.specs.May.{May}
 use Rattle.repo_model.specs.Tables.{Tables, RecordedRow, RecordedDocument, is_recorded, recorded_at, with_recorded, change_recorded, names_blob, since_or, moment_of, greatest_moment}
 use Rattle.repo_laws.specs.Laws.{rows_with}
 use Rattle.repo_laws.specs.Sound.{OnePlace}
-use Rattle.repo_laws.specs.Holds.{named_in, loose_in}
+use Rattle.repo_laws.specs.Holds.{IsUpTo, AreUpTo, named_in, loose_in}
 use Rattle.repo_laws.proofs.Counts.{one_if, count-cons, found-goes}
 use Rattle.repo_laws.proofs.Places.{drawn_by, places-counted, next-counted, never-again}
+use Rattle.repo_laws.proofs.Lists.{all-then}
 use Rattle.repo_laws.proofs.HoldingLists.{any-counts, all-change_where, all-split, all-join, greatest-below, all-greatest}
 use Rattle.repo_laws.proofs.HoldingOrder.{all-with_recorded}
 
@@ -106,6 +107,36 @@ accepted-below row most up = below row.phase up where
   below : (phase : Phase) → since_or row.accepted phase ≤ most → row.accepted ≤ most
   below listed is = is
   below (fading since) is = omega (arith, is)
+
+up-to : (most : ℕ) (r : RecordedRow) → moment_of r.row ≤ most → IsUpTo most r
+up-to most r up = (accepted-below r.row most up, λ since fades_since. since-below r.row.phase since fades_since up) where
+  since-below : (phase : Phase) (since : ℕ) → phase ≡ fading since → since_or r.row.accepted phase ≤ most → since ≤ most
+  since-below listed since is up_then = cc
+  since-below (fading later) since is up_then = let same : later ≡ since = cc in omega (arith, same, up_then)
+
+from-up-to : (most : ℕ) (r : RecordedRow) → IsUpTo most r → moment_of r.row ≤ most
+from-up-to most r up =
+    elim r.row.phase as (λ phase. r.row.phase ≡ phase → since_or r.row.accepted phase ≤ most) [
+      | listed ↦ λ _. up.0
+      | (fading since) ↦ λ is. omega (arith, up.0, up.1 since is)
+    ] refl
+
+pub greatest-each : (t : Tables) → AreUpTo (greatest_moment t) t
+greatest-each t =
+    let most = greatest_moment t in
+    let (hosted, cached, documents) = moments-all t most (omega arith) in (
+      all-then (λ (r : RecordedRow). moment_of r.row ≤ most) (IsUpTo most) (up-to most) t.hosted hosted,
+      all-then (λ (r : RecordedRow). moment_of r.row ≤ most) (IsUpTo most) (up-to most) t.cached cached,
+      documents,
+    )
+
+pub greatest-least : (t : Tables) (most : ℕ) → AreUpTo most t → greatest_moment t ≤ most
+greatest-least t most up =
+    all-moments t most (
+      all-then (IsUpTo most) (λ (r : RecordedRow). moment_of r.row ≤ most) (from-up-to most) t.hosted up.0,
+      all-then (IsUpTo most) (λ (r : RecordedRow). moment_of r.row ≤ most) (from-up-to most) t.cached up.1,
+      up.2,
+    )
 
 module _ (rows : List RecordedRow) (repo path : List ℕ) (moment most : ℕ) (up : moment ≤ most) where
   pub moments-new : (new : RecordedRow) → moment_of new.row ≡ moment → AllByRecursion (λ (r : RecordedRow). moment_of r.row ≤ most) rows → AllByRecursion (λ (r : RecordedRow). moment_of r.row ≤ most) (with_recorded new rows)

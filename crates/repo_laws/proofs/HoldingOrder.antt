@@ -26,7 +26,7 @@ use Rattle.repo_laws.proofs.HoldingLists.{all-change_where, all-filter, all-push
 rows-order : IsTotalOrder row_cmp
 rows-order = then_total (on_total (λ (r : RecordedRow). r.repo) nat_list_cmp_total) (on_total (λ (r : RecordedRow). r.row.path) nat_list_cmp_total)
 
-documents-order : IsTotalOrder document_cmp
+pub documents-order : IsTotalOrder document_cmp
 documents-order = then_total (on_total (λ (d : RecordedDocument). d.repo) nat_list_cmp_total) (on_total (λ (d : RecordedDocument). d.path) nat_list_cmp_total)
 
 sessions-order : IsTotalOrder session_cmp
@@ -60,7 +60,7 @@ module _ {K : Type 0} (c : K → K → Ordering) (order : IsTotalOrder c) where
   pub before-it : (x y : K) → c x y ≡ Greater → c y x ≡ Less
   before-it x y is = turned (c y x) (sym (order.antisymm x y) ∙ is)
 
-  after-all : (x y : K) (xs : List K) → c x y ≡ Less → AllByRecursion (λ z. c y z ≡ Less) xs → AllByRecursion (λ z. c x z ≡ Less) xs
+  pub after-all : (x y : K) (xs : List K) → c x y ≡ Less → AllByRecursion (λ z. c y z ≡ Less) xs → AllByRecursion (λ z. c x z ≡ Less) xs
   after-all x y [] before all = tt
   after-all x y (z ∷ xs) before all = (order.trans x y z before all.0, after-all x y xs before all.1)
 

@@ -84,7 +84,7 @@ module _ (repo path : List ℕ) (f : List Row → List Row) (old new : List Reco
       ] refl
 
 -- one more row in the tables
-find-new : (q : RecordedRow → Bool) (new : RecordedRow) (rows : List RecordedRow) → q new ≡ true → find q rows ≡ None → find q (with_recorded new rows) ≡ Some new
+pub find-new : (q : RecordedRow → Bool) (new : RecordedRow) (rows : List RecordedRow) → q new ≡ true → find q rows ≡ None → find q (with_recorded new rows) ≡ Some new
 find-new q new [] is none = rw is refl
 find-new q new (r ∷ rows) is none =
     elim (q r) as (λ b. q r ≡ b → cond b (Some r) (find q rows) ≡ None → find q (with_recorded new (r ∷ rows)) ≡ Some new) [
@@ -98,7 +98,7 @@ find-new q new (r ∷ rows) is none =
           ]
     ] refl none
 
-find-others : (q : RecordedRow → Bool) (new : RecordedRow) (rows : List RecordedRow) → q new ≡ false → find q (with_recorded new rows) ≡ find q rows
+pub find-others : (q : RecordedRow → Bool) (new : RecordedRow) (rows : List RecordedRow) → q new ≡ false → find q (with_recorded new rows) ≡ find q rows
 find-others q new [] other = rw other refl
 find-others q new (r ∷ rows) other =
     let here : find q (new ∷ r ∷ rows) ≡ find q (r ∷ rows) = rw other refl in
@@ -124,7 +124,7 @@ row-new new (row ∷ rows) none =
     ] refl none
 
 -- a row of one place is of no other
-other-place : (repo path id at : List ℕ) → (repo ≡ id → path ≡ at → ⊥) → (r : RecordedRow) → is_recorded repo path r ≡ true → is_recorded id at r ≡ false
+pub other-place : (repo path id at : List ℕ) → (repo ≡ id → path ≡ at → ⊥) → (r : RecordedRow) → is_recorded repo path r ≡ true → is_recorded id at r ≡ false
 other-place repo path id at apart r here =
     let (repos, paths) = recorded-there repo path r here in
     false_from_ne_true (is_recorded id at r) (λ there. let (repos_too, paths_too) = recorded-there id at r there in apart (sym repos ∙ repos_too) (sym paths ∙ paths_too))

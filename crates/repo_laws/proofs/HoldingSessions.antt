@@ -126,7 +126,7 @@ sessions-staged n f keeps stays tables sessions next old = record {
 }
 
 -- a session is opened
-none-recorded : (n : ℕ) (tables : List kept.RecordedSession) → AllByRecursion (λ (one : kept.RecordedSession). one.number < n) tables → AllByRecursion (λ (one : kept.RecordedSession). kept.is_session n one ≡ false) tables
+pub none-recorded : (n : ℕ) (tables : List kept.RecordedSession) → AllByRecursion (λ (one : kept.RecordedSession). one.number < n) tables → AllByRecursion (λ (one : kept.RecordedSession). kept.is_session n one ≡ false) tables
 none-recorded n [] all = tt
 none-recorded n (one ∷ tables) all = (ne_eqb one.number n (λ same. omega (arith, same, all.0)), none-recorded n tables all.1)
 

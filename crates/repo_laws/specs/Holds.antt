@@ -1,16 +1,18 @@
 -- What the records tell: tables in order, tables that hold a state, and a state that stands for tables after a start.
-use Rattle.std.specs.Prelude.{◌≡◌, ℕ, ◌+◌, ◌<◌, ◌≤◌, false, ◌==◌, max, List, [], ◌∷◌, ◌++◌, fold, find, count_by, Option, None, Some, IsTrue}
+use Rattle.std.specs.Prelude.{◌≡◌, ℕ, ◌+◌, ◌<◌, ◌≤◌, Bool, true, false, ◌==◌, max, List, [], ◌∷◌, ◌++◌, fold, find, count_by, Option, None, Some, IsTrue}
 use Rattle.std.specs.Option.{option_map, option_and_then}
 use Rattle.std.specs.List.{AllByRecursion, list_any}
 use Rattle.std.specs.List.Sorted.{IsStrictlySortedBy}
 use Rattle.std.specs.Ordering.{nat_cmp}
 use Rattle.std.specs.declared.cmp.Ordering.{Ordering}
 use Rattle.repo_model.specs.declared.item.Item.{Item}
+use Rattle.repo_model.specs.declared.item.Item.TheVariants.{HostedPut, Relisted}
 use Rattle.repo_model.specs.declared.session.SessionResult.{SessionResult}
-use Rattle.repo_model.specs.Data.{Row, Session}
+use Rattle.repo_model.specs.Data.{Row, Phase, listed, fading, Staged, Session}
 use Rattle.repo_model.specs.Settings.{Settings}
 use Rattle.repo_model.specs.State.{State, is_repository, is_open, is_open_at, row_at, rows_of, session_of}
 use Rattle.repo_model.specs.Effect.{recorded}
+use Rattle.repo_model.specs.Reply.{Reply, created, relisted, opened, ended, unlisted, collected}
 use Rattle.repo_model.specs.Tables.{Tables, RecordedRow, RecordedDocument, RecordedSession, place_cmp, recorded_at, is_session, names_blob, greatest_moment, item_on}
 use Rattle.repo_model.specs.History.{Entry, effects_of, after}
 use Rattle.repo_laws.specs.Laws.{count_of, staged_with}
@@ -56,6 +58,15 @@ greatest_session t = fold (λ m (one : RecordedSession). max m one.number) 0 t.s
 abbrev pub loose_in : State → ℕ → ℕ
 loose_in s n = count_of n s.yard.drafts + staged_with n s.sessions + count_of n s.yard.condemned
 
+-- no moment of a row is later
+abbrev pub IsUpTo : ℕ → RecordedRow → Type 0
+IsUpTo most r = (r.row.accepted ≤ most) × ((since : ℕ) → r.row.phase ≡ fading since → since ≤ most)
+
+-- no moment of the tables is later
+abbrev pub AreUpTo : ℕ → Tables → Type 0
+AreUpTo most t =
+    AllByRecursion (IsUpTo most) t.hosted × AllByRecursion (IsUpTo most) t.cached × AllByRecursion (λ (d : RecordedDocument). d.checked ≤ most) t.documents
+
 -- the tables tell what a state has that outlasts a stop
 pub record Holds (t : Tables) (s : State) : Type 0 where
   -- of each repository that is there, the row at each path, without its blob's bytes
@@ -89,3 +100,22 @@ with_items t items = fold item_on t items
 abbrev pub told : Settings → State → List Entry → List Item
 told settings s [] = []
 told settings s (e ∷ entries) = recorded (effects_of settings s e) ++ told settings (after settings s e) entries
+
+-- the replies behind which something may be recorded
+abbrev pub can_record : Reply → Bool
+can_record created = true
+can_record relisted = true
+can_record (opened n) = true
+can_record (ended result) = true
+can_record (unlisted n) = true
+can_record (collected expired blobs) = true
+can_record reply = false
+
+-- what a commit records of a staged file, by the row that stands at its path
+abbrev pub item_again : List ℕ → ℕ → List ℕ → Phase → List Item
+item_again repo now path listed = []
+item_again repo now path (fading since) = Relisted repo path now ∷ []
+
+abbrev pub item_at : List ℕ → ℕ → Staged → Option Row → List Item
+item_at repo now file None = HostedPut repo file.path file.blob.number file.blob.print now ∷ []
+item_at repo now file (Some row) = item_again repo now file.path row.phase

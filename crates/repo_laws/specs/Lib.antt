@@ -5,3 +5,5 @@ pub mod Closed
 pub mod Worked
 pub mod Holds
 pub mod Numbered
+pub mod Items
+pub mod Staged
