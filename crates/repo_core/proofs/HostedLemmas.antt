@@ -1,5 +1,5 @@
 -- Hosted repositories: the first of an id, its rows and what it takes.
-use Rattle.std.proofs.Common.{◌≡◌, ℕ, ◌+◌, ◌<◌, ◌≤◌, Bool, true, false, cond, ◌||◌, List, [], ◌∷◌, ◌++◌, take, drop, get_or, set, length, map, Option, Some, None, find, refl, ap, sym, ◌∙◌, subst, add-one, arith}
+use Rattle.std.proofs.Common.{◌≡◌, ℕ, ◌+◌, ◌<◌, ◌≤◌, Bool, true, false, cond, ◌||◌, List, [], ◌∷◌, ◌++◌, take, drop, get_or, set, length, map, Option, Some, find, refl, ap, sym, ◌∙◌, subst, add-one}
 use Rattle.std.specs.Option.{option_map_or}
 use Rattle.std.specs.List.{list_any}
 use Rattle.std.specs.Str.{bytes_eq}
@@ -9,7 +9,7 @@ use Rattle.outside.specs.declared.stores.Held.{Ghosts}
 use Rattle.repo_model.specs.Data as plain
 use Rattle.repo_model.specs.Settings.{Rule}
 use Rattle.repo_model.specs.Command.{is_fit}
-use Rattle.repo_model.specs.State.{is_repository, change_first, new_hosted}
+use Rattle.repo_model.specs.State.{is_repository, new_hosted}
 use Rattle.repo_core.specs.declared.hosted.Policy.{Policy}
 use Rattle.repo_core.specs.declared.hosted.Repo.{Repo}
 use Rattle.repo_core.specs.Hosted.{shown_policies, shown_repo, shown_repos, rows_in, with_rows}

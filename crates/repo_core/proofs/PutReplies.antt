@@ -2,12 +2,11 @@
 use Rattle.std.proofs.Common.{◌≡◌, ℕ, Bool, true, false, not, cond, if◌then◌else◌, List, [], ◌∷◌, Option, Some, None, inl, inr, refl, sym, ap, ◌∙◌, subst}
 use Rattle.std.specs.Prelude.{find}
 use Rattle.std.specs.Option.{option_map_or}
-use Rattle.std.proofs.lemmas.Bool.{false≢true}
 use Rattle.repo_model.specs.declared.print.Print.{Print}
 use Rattle.repo_model.specs.Data.{Blob, Row, Phase, listed, fading, Hosted, is_same_print}
-use Rattle.repo_model.specs.State.{State, Yard, change_where, change_first, is_repository, is_row, row_at}
+use Rattle.repo_model.specs.State.{State, Yard, change_where, change_first, is_repository, is_row}
 use Rattle.repo_model.specs.Effect.{with_effects, yard_after, drops, with_row, new_row, list_again, without_draft}
-use Rattle.repo_model.specs.Reply.{Reply, created, taken, same, relisted, no_memory, is_free}
+use Rattle.repo_model.specs.Reply.{Reply, created, taken, is_free}
 use Rattle.repo_model.specs.Turn.{Turn, put_again, put_at}
 use Rattle.repo_core.specs.Hosted.{rows_in, with_rows}
 use Rattle.repo_core.specs.Rows.{put_due, rows_put, yard_put, shown_outcome}
@@ -69,8 +68,8 @@ rows-by repo f [] = refl
 rows-by repo f (h ∷ hosted) =
     elim (is_repository repo h)
     as (λ b. cond b (record h { rows = f (option_map_or (λ (g : Hosted). g.rows) (cond b (Some h) (find (is_repository repo) hosted)) []) } ∷ hosted)
-            (h ∷ change_first (is_repository repo) (λ (g : Hosted). record g { rows = f (option_map_or (λ (k : Hosted). k.rows) (cond b (Some h) (find (is_repository repo) hosted)) []) }) hosted)
-        ≡ cond b (record h { rows = f h.rows } ∷ hosted) (h ∷ change_first (is_repository repo) (λ (g : Hosted). record g { rows = f g.rows }) hosted)) [
+    (h ∷ change_first (is_repository repo) (λ (g : Hosted). record g { rows = f (option_map_or (λ (k : Hosted). k.rows) (cond b (Some h) (find (is_repository repo) hosted)) []) }) hosted)
+    ≡ cond b (record h { rows = f h.rows } ∷ hosted) (h ∷ change_first (is_repository repo) (λ (g : Hosted). record g { rows = f g.rows }) hosted)) [
       | true ↦ refl
       | false ↦ ap (λ hs. h ∷ hs) (rows-by repo f hosted)
     ]

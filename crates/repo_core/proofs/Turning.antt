@@ -1,6 +1,6 @@
 -- One turn of the parts of the repository, as a turn of the machine.
 use native.Mathlib.Omega.{arith}
-use Rattle.std.proofs.Common.{◌≡◌, ℕ, ◌+◌, ◌≤◌, min, max, Bool, true, false, cond, ◌&&◌, if◌then◌else◌, List, [], ◌∷◌, Option, Some, None, Result, Ok, Err, ◌⊎◌, inl, inr, refl, sym, ap, ◌∙◌, subst, eqb-true}
+use Rattle.std.proofs.Common.{◌≡◌, ℕ, ◌≤◌, min, max, Bool, true, false, ◌&&◌, if◌then◌else◌, List, [], ◌∷◌, Option, Some, None, Result, Ok, Err, ◌⊎◌, inl, inr, refl, sym, ap, ◌∙◌, subst, eqb-true}
 use Rattle.std.specs.Prelude.{◌==◌, IfSome, MatchOption, IsTrue, is_some, find, nat_lt}
 use Rattle.std.proofs.lemmas.Bool.{false≢true, and_parts}
 use Rattle.mvn_coords.specs.Kind.{kind}
@@ -8,22 +8,21 @@ use Rattle.mvn_coords.specs.declared.kind.Kind.{Kind}
 use Rattle.mvn_coords.specs.declared.kind.Kind.TheVariants.{File, FileSide, Doc, DocSide}
 use Rattle.mvn_coords.specs.declared.fault.PathFault.{PathFault}
 use Rattle.outside.specs.Moments.{Moments}
-use Rattle.outside.specs.Faults.{last_count}
 use Rattle.repo_model.specs.Data.{Blob, Row, Hosted, repository}
-use Rattle.repo_model.specs.Settings.{Rule, Settings}
+use Rattle.repo_model.specs.Settings.{Settings}
 use Rattle.repo_model.specs.Paths.{file_in, takes}
-use Rattle.repo_model.specs.State.{State, Yard, hosted_of, row_at, rows_of, is_repository, is_among, number_end}
-use Rattle.repo_model.specs.Effect.{Effect, with_effects, yard_after, lends, draws}
-use Rattle.repo_model.specs.Command.{Command, look, done, may_put, put, put_side, put_doc, drop_draft, open_session, stage, commit, abort, unlist, collect, status, meets, can_be_asked, is_asked_so_far, is_file_path, is_fit, is_parcel, is_there, names_something, rule_of}
+use Rattle.repo_model.specs.State.{State, Yard, row_at, rows_of, is_repository, is_among, number_end}
+use Rattle.repo_model.specs.Effect.{with_effects, yard_after, lends, draws}
+use Rattle.repo_model.specs.Command.{Command, look, may_put, put, put_side, put_doc, collect, meets, can_be_asked, is_asked_so_far, is_file_path, is_fit, is_parcel, is_there, names_something, rule_of}
 use Rattle.repo_model.specs.Reply.{Reply, file, missed, spent, draft, kind_refused, no_draft, no_memory, is_free, takes_memory}
 use Rattle.repo_model.specs.Purge.{expire_all}
-use Rattle.repo_model.specs.Turn.{Turn, turn, says, draws_or_spent, seen_at, is_file, or_nothing, shows, in_repository, draws_draft, put_at, collect_of}
-use Rattle.repo_model.specs.History.{Entry, IsReply, due, wants_memory, DidCommit, MomentFits, latest_moment, ticked, commits, Fits, effects_of, after}
+use Rattle.repo_model.specs.Turn.{Turn, turn, says, seen_at, is_file, or_nothing, shows, in_repository, draws_draft, put_at, collect_of}
+use Rattle.repo_model.specs.History.{Entry, IsReply, due, wants_memory, DidCommit, MomentFits, latest_moment, ticked, Fits, effects_of, after}
 use Rattle.repo_laws.specs.Sound.{IsSound, AreNamedApart}
 use Rattle.repo_laws.proofs.Histories.{ticked-later}
 use Rattle.repo_laws.proofs.Keeping.{keeps-sound}
 use Rattle.repo_laws.proofs.Moments.{last_of}
-use Rattle.repo_core.specs.Rows.{put_due, rows_put, yard_looked, yard_put, shown_outcome}
+use Rattle.repo_core.specs.Rows.{put_due, yard_looked, shown_outcome}
 use Rattle.repo_core.specs.Turn.{IsDueOr, done_by, Turned}
 use Rattle.repo_core.specs.Whole.{Whole, IsKept}
 use Rattle.repo_core.specs.declared.rows.PutOutcome.{PutOutcome}
@@ -56,6 +55,7 @@ module _ (w : Whole) (repo path : List ℕ) (asked : IsTrue (can_be_asked w.sett
   left-lent s row reply (inl is) = by (s.yard.next_lease == number_end) is where
     given : Turn
     given = record { reply = file s.yard.next_lease row.blob; effects = lends row.blob.number ∷ [] }
+
     by : (b : Bool) → reply ≡ (if b then says spent else given).reply → record s { yard = yard_looked reply s.yard } ≡ with_effects s (if is_free reply then [] else (if b then says spent else given).effects)
     by true e = subst (λ r. record s { yard = yard_looked r s.yard } ≡ with_effects s (if is_free r then [] else [])) (sym e) refl
     by false e = subst (λ r. record s { yard = yard_looked r s.yard } ≡ with_effects s (if is_free r then [] else given.effects)) (sym e) refl

@@ -3,7 +3,7 @@ use Rattle.std.specs.Prelude.{ℕ, List, [], map, Option}
 use Rattle.outside.specs.declared.stores.Held.{Ghosts}
 use Rattle.repo_model.specs.Data as plain
 use Rattle.repo_model.specs.State.{Yard, change_where, is_row}
-use Rattle.repo_model.specs.Effect.{with_row, new_row, list_again, without_draft, condemning, yard_after, lends, drops}
+use Rattle.repo_model.specs.Effect.{with_row, new_row, list_again, without_draft, yard_after, lends, drops}
 use Rattle.repo_model.specs.Reply.{Reply, file, created, relisted, same, taken, no_memory}
 use Rattle.repo_model.specs.Shown.{shown_parcel}
 use Rattle.repo_model.specs.Turn.{put_at}

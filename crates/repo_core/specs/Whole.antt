@@ -1,5 +1,5 @@
 -- What contracts see of the repository.
-use Rattle.std.specs.Prelude.{ℕ, List, [], map}
+use Rattle.std.specs.Prelude.{ℕ, List, []}
 use Rattle.repo_model.specs.Settings.{Rule, Settings}
 use Rattle.repo_model.specs.State.{State}
 use Rattle.repo_laws.specs.Sound.{AreNamedApart, IsSound}

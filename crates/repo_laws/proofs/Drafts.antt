@@ -1,14 +1,13 @@
 -- A draft serves once: it is given up by the command that names it, and never drawn again.
 use native.Mathlib.Omega.{arith}
-use Rattle.std.proofs.Common.{◌≡◌, ℕ, ◌+◌, ◌<◌, ◌≤◌, Bool, true, false, not, List, [], ◌∷◌, refl, sym, ◌∙◌, ap, subst, eqb-true}
-use Rattle.std.specs.Prelude.{◌==◌, IsTrue}
-use Rattle.std.specs.List.{AllByRecursion}
-use Rattle.std.proofs.lemmas.Bool.{ne_eqb, and_parts, false≢true}
+use Rattle.std.proofs.Common.{◌≡◌, ℕ, ◌<◌, true, false, not, List, [], ◌∷◌, refl, sym, ◌∙◌, ap, subst, eqb-true}
+use Rattle.std.specs.Prelude.{◌==◌}
+use Rattle.std.proofs.lemmas.Bool.{ne_eqb, and_parts}
 use Rattle.repo_model.specs.Data.{Blob}
 use Rattle.repo_model.specs.Settings.{Settings}
 use Rattle.repo_model.specs.Paths.{takes}
 use Rattle.repo_model.specs.State.{State, is_among}
-use Rattle.repo_model.specs.Effect.{Effect, draws, drops, creates, stages, delivers, discards, relists, fades, expires, forgets, lends, returns, opens, ends, with_effect, with_effects}
+use Rattle.repo_model.specs.Effect.{Effect, draws, drops, creates, stages, relists, with_effect, with_effects}
 use Rattle.repo_model.specs.Command.{Command, put, stage, drop_draft, meets, is_fit, is_parcel, rule_of, is_file_path}
 use Rattle.repo_model.specs.Reply.{is_free}
 use Rattle.repo_model.specs.Turn.{Turn, turn}

@@ -1,16 +1,13 @@
 -- A sound state stays sound: through an entry and through a history.
 use native.Mathlib.Omega.{arith}
-use Rattle.std.proofs.Common.{◌≡◌, ◌≤◌, ℕ, List, [], ◌∷◌, map, Option, refl, ap}
+use Rattle.std.proofs.Common.{ℕ, List, [], ◌∷◌, Option, refl}
 use Rattle.outside.specs.Moments.{Moments}
-use Rattle.repo_model.specs.Settings.{Rule, Settings}
+use Rattle.repo_model.specs.Settings.{Settings}
 use Rattle.repo_model.specs.State.{State, opening}
-use Rattle.repo_model.specs.Effect.{Effect, with_effect}
-use Rattle.repo_model.specs.May.{May}
 use Rattle.repo_model.specs.History.{Entry, Fits, ticked, after, Legal, end}
 use Rattle.repo_laws.specs.Laws.{FadingAreSnapshots}
 use Rattle.repo_laws.specs.Numbered.{Numbered}
-use Rattle.repo_laws.specs.Sound.{AreNamedApart, LentOnce, AreRising, Sound, OnePlace, IsSound}
-use Rattle.repo_laws.proofs.ByPath.{all-apart}
+use Rattle.repo_laws.specs.Sound.{AreNamedApart, LentOnce, AreRising, IsSound}
 use Rattle.repo_laws.proofs.Histories.{entry-keeps, sound-entry, one-place-entry, sound-opening, one-place-opening}
 use Rattle.repo_laws.proofs.Holding.{opening-numbered}
 use Rattle.repo_laws.proofs.HoldingSessions.{numbered-kept}

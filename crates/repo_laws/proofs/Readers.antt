@@ -1,27 +1,18 @@
 -- Who was answered a file can read it until the lease is given back.
 use native.Mathlib.Omega.{arith}
-use Rattle.std.proofs.Common.{◌≡◌, ℕ, Bool, true, false, not, cond, ◌&&◌, ◌||◌, List, [], ◌∷◌, ◌++◌, map, Option, Some, None, Result, Ok, Err, refl, sym, ◌∙◌, ap, subst, eqb-true, option_map}
-use Rattle.std.specs.Prelude.{◌==◌, nat_le, filter, count_by, bytes_eq, if◌then◌else◌}
-use Rattle.std.specs.List.{AllByRecursion, list_any, flat_map}
+use Rattle.std.proofs.Common.{◌≡◌, ℕ, Bool, true, false, not, cond, ◌&&◌, ◌||◌, List, [], ◌∷◌, ◌++◌, refl, sym, ◌∙◌, ap, subst, eqb-true}
+use Rattle.std.specs.Prelude.{◌==◌, filter, count_by, if◌then◌else◌}
+use Rattle.std.specs.List.{AllByRecursion, list_any}
 use Rattle.std.proofs.lemmas.Bool.{false≢true, and_parts, and_from, or_left, or_right, eq-eqb, ne_eqb, false_from_ne_true}
-use Rattle.mvn_coords.specs.Kind.{kind}
-use Rattle.mvn_coords.specs.declared.kind.Kind.{Kind}
-use Rattle.mvn_coords.specs.declared.kind.Kind.TheVariants.{File, FileSide, Doc, DocSide}
-use Rattle.mvn_coords.specs.declared.fault.PathFault.{PathFault}
-use Rattle.mvn_coords.specs.Layout.{text_of}
-use Rattle.repo_model.specs.declared.session.SessionResult.{SessionResult}
-use Rattle.repo_model.specs.Data.{Blob, Row, Phase, listed, fading, repository, session, Hosted, Staged, Session, is_same_print}
+use Rattle.repo_model.specs.Data.{Blob, Hosted}
 use Rattle.repo_model.specs.Settings.{Settings}
-use Rattle.repo_model.specs.Paths.{takes}
-use Rattle.repo_model.specs.State.{State, Lease, hosted_of, is_open, session_of, open_of, rows_of, row_at, is_among, number_end, most_sessions}
+use Rattle.repo_model.specs.State.{State, Lease, is_among}
 use Rattle.repo_model.specs.Effect.{Effect, draws, drops, creates, stages, delivers, discards, relists, fades, expires, forgets, lends, returns, opens, ends, with_effect, with_effects}
-use Rattle.repo_model.specs.Command.{Command, look, done, may_put, put, put_side, put_doc, drop_draft, open_session, stage, commit, abort, unlist, collect, status}
-use Rattle.repo_model.specs.Reply.{Reply, file, text, doc, missed, spent, same, relisted, taken, created, no_draft, staged, session_full, kind_refused, agreed, differs, sessions_full, opened, noted, no_memory, store_fault, is_free}
-use Rattle.repo_model.specs.Purge.{due_rows, expire_all, expired_of, is_over, most_rows}
-use Rattle.repo_model.specs.Deploy.{Offence, offence, without_pom, deliver_at, deliver_again, deliver_all, discard_all}
-use Rattle.repo_model.specs.Turn.{Turn, turn, says, draws_or_spent, Seen, is_file, is_text, is_doc, is_nothing, shows, seen_at, in_repository, has_room, draws_draft, may_put_in, put_again, put_at, compared, judged, with_open, staged_at, stage_at, stage_in, commit_by, commit_of, abort_of, unlist_of, unlent}
-use Rattle.mvn_digest.specs.Sides.{side_of}
-use Rattle.repo_model.specs.History.{Entry, Fits, IsReply, due, wants_memory, failed, ticked, effects_of, after, Legal}
+use Rattle.repo_model.specs.Command.{Command, done, collect}
+use Rattle.repo_model.specs.Reply.{file, is_free}
+use Rattle.repo_model.specs.Purge.{expire_all}
+use Rattle.repo_model.specs.Turn.{Turn, turn, unlent}
+use Rattle.repo_model.specs.History.{Entry, Fits, ticked, after, Legal}
 use Rattle.repo_laws.specs.Sound.{AreNamedApart}
 use Rattle.repo_laws.specs.Closed.{given_out, IsLentAs, ReadsOn, ReadersLast}
 use Rattle.repo_laws.proofs.Making.{Common, all-expired, turn-makes}
@@ -43,9 +34,18 @@ module _ (lease : ℕ) where
 
   most-quiet : Common (λ e. gives_back e ≡ false)
   most-quiet = record {
-    draws_so = refl; drops_so = λ n. refl; creates_so = λ repo path blob moment. refl; stages_so = λ n path blob. refl;
-    delivers_so = λ n repo path blob moment. refl; discards_so = λ n path draft. refl; relists_so = λ repo path moment. refl;
-    fades_so = λ repo path moment. refl; expires_so = λ repo path blob. refl; lends_so = λ blob. refl; opens_so = λ n repo. refl; ends_so = λ n result. refl;
+    draws_so = refl;
+    drops_so = λ n. refl;
+    creates_so = λ repo path blob moment. refl;
+    stages_so = λ n path blob. refl;
+    delivers_so = λ n repo path blob moment. refl;
+    discards_so = λ n path draft. refl;
+    relists_so = λ repo path moment. refl;
+    fades_so = λ repo path moment. refl;
+    expires_so = λ repo path blob. refl;
+    lends_so = λ blob. refl;
+    opens_so = λ n repo. refl;
+    ends_so = λ n result. refl;
   }
 
   expire-quiet : (grace now : ℕ) (hosted : List Hosted) → Quiet (expire_all grace now hosted)

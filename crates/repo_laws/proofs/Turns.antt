@@ -183,7 +183,7 @@ module _ (grace now : ℕ) where
         elim one.ended as (λ ended. one.ended ≡ ended → Can s (f one ended)) [
           | None ↦ λ is.
               let (there, apart) = found-has (IsInOrder settings) (is_session n) s.sessions one sound.sessions known in
-              going one (open-too n s.sessions one known is) apart (there-as-set settings s one.repo sound.rules ∙ there)
+              going one (open-too n s.sessions one known is) apart (there-as-set settings s one.repo sound.rules ∙ there is)
           | (Some outcome) ↦ λ _. over one outcome
         ] refl)
 

@@ -31,11 +31,11 @@ abbrev pub RowsApart : List Row → Type 0
 RowsApart [] = Unit {0}
 RowsApart (row ∷ rows) = (row_at row.path rows ≡ None) × RowsApart rows
 
--- a session's repository is there, and no path is staged twice
+-- an open session's repository is there, and no path is staged twice
 abbrev pub IsInOrder : Settings → Session → Type 0
-IsInOrder settings one = IsTrue (is_there one.repo settings) × AreApart one.staged
+IsInOrder settings one = (one.ended ≡ None → IsTrue (is_there one.repo settings)) × AreApart one.staged
 
--- a state in order: the repositories of the settings, their rows in byte order of path, sessions of repositories that are there, numbers up to their end
+-- a state in order: the repositories of the settings, their rows in byte order of path, open sessions of repositories that are there, numbers up to their end
 pub record Sound (settings : Settings) (s : State) : Type 0 where
   pub rules : map (λ h. h.rule) s.hosted ≡ settings.hosted
   pub rows : AllByRecursion (λ (h : Hosted). AreByPath h.rows) s.hosted

@@ -7,7 +7,6 @@ use Rattle.mvn_coords.specs.declared.kind.Kind.{Kind}
 use Rattle.mvn_coords.specs.declared.kind.Kind.TheVariants.{File, FileSide, Doc, DocSide}
 use Rattle.mvn_coords.specs.declared.fault.PathFault.{PathFault}
 use Rattle.mvn_coords.specs.Layout.{Directory, text_of}
-use Rattle.mvn_digest.specs.declared.digests.Digests.{Digests}
 use Rattle.mvn_digest.specs.Digests.{digests_of}
 use Rattle.mvn_digest.specs.Sides.{side_of, side_text}
 use Rattle.mvn_metadata.specs.Written as written

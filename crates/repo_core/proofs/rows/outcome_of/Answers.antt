@@ -1,4 +1,4 @@
-use Rattle.std.proofs.Common.{◌≡◌, true, not, sym, ap, ◌∙◌}
+use Rattle.std.proofs.Common.{◌≡◌, true, not, ap, ◌∙◌}
 use Rattle.repo_model.specs.Data.{listed, fading, is_same_print}
 use Rattle.repo_model.specs.Reply.{taken}
 use Rattle.repo_core.specs.Rows.{shown_phase, shown_row, put_due}

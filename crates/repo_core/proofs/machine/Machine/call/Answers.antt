@@ -1,4 +1,3 @@
-use Rattle.std.proofs.Common.{refl}
 use Rattle.repo_model.specs.History.{MomentFits}
 use Rattle.repo_model.specs.Shown.{shown_command, shown_reply}
 use Rattle.repo_core.proofs.Turning.{moment-given, turned-fits, turned-after, met-so}

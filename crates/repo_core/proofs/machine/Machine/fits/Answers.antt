@@ -1,4 +1,4 @@
-use Rattle.std.proofs.Common.{◌≡◌, Bool, true, false, inl, inr, sym, ap, ◌∙◌, ◌&&◌}
+use Rattle.std.proofs.Common.{◌≡◌, inl, inr, sym, ap, ◌∙◌, ◌&&◌}
 use Rattle.std.specs.Prelude.{◌==◌, nat_lt}
 use Rattle.repo_model.specs.Command.{is_fit, is_there, is_file_path, rule_of}
 use Rattle.repo_model.specs.Paths.{takes}
@@ -40,4 +40,3 @@ returns-else-parcel-draft g c =
       | else-takes w ↦ w.value-is ∙ w.if-takes.false ∙ ap (λ f. f && (c.in-Put.parcel.blob == c.in-Put.draft)) (sym w.if-takes.false ∙ fit)
     ] in
     rw (← c.self.view_is, c.in-Put.is) (can-put settings c.in-Put.repo c.in-Put.path c.in-Put.draft (shown_parcel c.in-Put.parcel) c.if-takes.value c.if-takes.value value (c.if-parcel-draft.false ∙ ap (λ v. v && short) (sym c.if-parcel-draft.false)))
-

@@ -1,9 +1,9 @@
-use Rattle.std.proofs.Common.{◌≡◌, true, false, find}
+use Rattle.std.proofs.Common.{◌≡◌, true, find}
 use Rattle.repo_model.specs.Command.{is_fit}
 use Rattle.repo_model.specs.Paths.{takes}
 use Rattle.repo_model.specs.State.{is_repository}
 use Rattle.repo_core.specs.Hosted.{shown_repos}
-use Rattle.repo_core.proofs.Turning.{turned-kind, turned-spent, turned-drawn, turned-undrawn}
+use Rattle.repo_core.proofs.Turning.{turned-drawn, turned-undrawn}
 use Rattle.repo_core.proofs.machine.Machine.may_put.Goals as goal
 use Rattle.repo_core.proofs.machine.Machine.may_put.Goals.{in-Ok, in-Err}
 

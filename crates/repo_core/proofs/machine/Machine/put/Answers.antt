@@ -1,7 +1,6 @@
 use Rattle.std.proofs.Common.{◌≡◌, true, false, refl, sym, subst}
-use Rattle.std.specs.Prelude.{IsTrue, find, bytes_eq}
-use Rattle.std.proofs.lemmas.Bool.{and_parts}
-use Rattle.repo_model.specs.Command.{can_be_asked, meets, put, is_fit, is_parcel}
+use Rattle.std.specs.Prelude.{IsTrue}
+use Rattle.repo_model.specs.Command.{can_be_asked, put}
 use Rattle.repo_model.specs.Paths.{takes}
 use Rattle.repo_model.specs.State.{is_among}
 use Rattle.repo_model.specs.Shown.{shown_parcel}

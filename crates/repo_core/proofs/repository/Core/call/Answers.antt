@@ -1,11 +1,8 @@
-use Rattle.std.proofs.Common.{[], ◌∷◌, sym, subst}
+use Rattle.std.proofs.Common.{[], ◌∷◌}
 use Rattle.repo_model.specs.History.{after}
 use Rattle.repo_model.specs.Shown.{entry_of}
 use Rattle.repo_laws.specs.Laws.{KeepsReleases}
-use Rattle.repo_laws.specs.Sound.{IsSound, AreNamedApart}
-use Rattle.repo_laws.proofs.Keeping.{keeps-sound}
 use Rattle.repo_laws.proofs.Lasting.{releases-last}
-use Rattle.repo_core.specs.Whole.{Whole, IsKept}
 use Rattle.repo_core.proofs.Turning.{kept-more}
 use Rattle.repo_core.proofs.repository.Core.call.Goals as goal
 

@@ -1,4 +1,4 @@
-use Rattle.std.proofs.Common.{ap, sym, subst}
+use Rattle.std.proofs.Common.{sym, subst}
 use Rattle.repo_laws.specs.Sound.{IsSound, AreNamedApart}
 use Rattle.repo_laws.proofs.Keeping.{opens-sound}
 use Rattle.repo_core.proofs.repository.Core.plain.Goals as goal
