@@ -7,3 +7,4 @@ pub mod Holds
 pub mod Numbered
 pub mod Items
 pub mod Staged
+pub mod Histories
