@@ -1,0 +1,40 @@
+/// How a stream of requests ended.
+#[derive(Clone, Copy, Debug, PartialEq, Eq)]
+pub enum End {
+    /// Between two requests, or behind an answer that closes the connection.
+    Closed,
+    /// Inside a head, or inside a body that was being read.
+    TornRequest,
+    /// Behind the last request that one connection may make.
+    TurnLimit,
+    /// The source failed.
+    SourceFault,
+    /// The sink failed.
+    SinkFault,
+}
+
+/// What came of sending a file.
+#[derive(Clone, Copy, Debug, PartialEq, Eq)]
+pub enum Sent {
+    /// The head and every byte of the file were written.
+    Whole,
+    /// The blob could not be read, and nothing was written.
+    BlobFault,
+    /// The sink failed, and no more than a part was written.
+    SinkFault,
+    /// There was no memory to read the blob, and nothing was written.
+    NoMemory,
+}
+
+/// Why no blob was made of a body.
+#[derive(Clone, Copy, Debug, PartialEq, Eq)]
+pub enum Took {
+    /// The stream ended before the body's last byte.
+    Torn,
+    /// The source failed.
+    SourceFault,
+    /// The blob could not be stored. The body was read.
+    BlobFault,
+    /// There was no memory for the body, or none to store it.
+    NoMemory,
+}
