@@ -4,3 +4,4 @@ pub mod Course
 pub mod Meets
 pub mod Acts
 pub mod Serving
+pub mod Asking
