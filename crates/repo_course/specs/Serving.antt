@@ -7,6 +7,7 @@ use Rattle.mvn_digest.specs.Digests.{digests_of}
 use Rattle.http_wire.specs.declared.answers.Answer.{Answer}
 use Rattle.http_wire.specs.Answer.{shown}
 use Rattle.http_wire.specs.Front.{Front, Clean, Cut, Bad, Whole, front}
+use Rattle.http_wire.specs.Head.{Head}
 use Rattle.http_wire.specs.Stream.{unread}
 use Rattle.repo_model.specs.declared.print.Print.{Print}
 use Rattle.repo_model.specs.Data.{Blob}
@@ -125,10 +126,10 @@ IsRefused (Whole head rest) = plain head ≡ None
 IsRefused (Bad fault) = Unit {0}
 IsRefused _ = ⊥
 
--- a plain request comes, and then the rest
-abbrev pub IsRequest : Plain → Option (List ℕ) → Front → Type 0
-IsRequest request rest (Whole head behind) = (plain head ≡ Some request) × (rest ≡ Some behind)
-IsRequest request rest _ = ⊥
+-- this whole head comes, and then the rest
+abbrev pub IsWhole : Head → Option (List ℕ) → Front → Type 0
+IsWhole head rest (Whole what behind) = (what ≡ head) × (rest ≡ Some behind)
+IsWhole head rest _ = ⊥
 
 -- the whole head that comes is used
 abbrev pub IsBehindHead : Option (List ℕ) → Front → Type 0
@@ -149,7 +150,7 @@ pub data Opens (last : Bool) (old new : Outside) (c : Course) : Type 0 where
       → c ≡ stops (Some stream.SourceFault) → Opens last old new c
   starved : Begins old.input IsHead → UsesHead old new → c ≡ without_memory → Opens last old new c
   refused : Begins old.input IsRefused → UsesHead old new → c ≡ bad_head → Opens last old new c
-  served : (request : Plain) (rest : Option (List ℕ)) → Begins old.input (IsRequest request rest)
+  served : (head : Head) (request : Plain) (rest : Option (List ℕ)) → plain head ≡ Some request → Begins old.input (IsWhole head rest)
       → new ≡ record old { input = rest } → c ≡ course request last → Opens last old new c
 
 -- One request of a stream, or its end. It says how the stream ends, or that it goes on.

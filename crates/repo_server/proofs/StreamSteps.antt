@@ -15,7 +15,7 @@ use Rattle.repo_course.specs.Course.{Course, course_of}
 use Rattle.repo_course.specs.declared.outcomes.End.{End}
 use Rattle.repo_course.specs.declared.outcomes.End.TheVariants as stream
 use Rattle.repo_course.specs.Plain.{Plain, plain}
-use Rattle.repo_course.specs.Serving.{Begins, IsBehindHead, IsHead, IsRefused, IsRequest, Opens, clean, torn, failed, starved, refused, served, Outside, Serves, Turn}
+use Rattle.repo_course.specs.Serving.{Begins, IsBehindHead, IsHead, IsRefused, IsWhole, Opens, clean, torn, failed, starved, refused, served, Outside, Serves, Turn}
 use Rattle.repo_server.proofs.Sources.{not_failed}
 
 -- what the stream begins with, once its head was taken
@@ -62,7 +62,7 @@ module _ (last : Bool) (c : Course) (old new : Outside) where
       refused (begins IsRefused head old.input new.input came (λ rest there. judged))
       (inr (new.input, begins (IsBehindHead new.input) head old.input new.input came (λ rest there. there), on)) is
   opens_head head (Some request) judged came on is =
-      served request new.input (begins (IsRequest request new.input) head old.input new.input came (λ rest there. (judged, there))) on is
+      served head request new.input judged (begins (IsWhole head new.input) head old.input new.input came (λ rest there. (refl, there))) on is
 
   pub opens_read : (read : Result (Option Head) WireFault) → IsRead read old new → Starts read last c → Opens last old new c
   opens_read (Ok (Some head)) r (act.due is) =

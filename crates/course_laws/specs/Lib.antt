@@ -1,0 +1,4 @@
+pub mod Duties
+pub mod Endings
+pub mod LeftBehind
+pub mod Complete
