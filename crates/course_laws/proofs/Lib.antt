@@ -3,3 +3,7 @@ pub mod Endings
 pub mod Yards
 pub mod LeftBehind
 pub mod Complete
+pub mod Counts
+pub mod Told
+pub mod Early
+pub mod PlayedCourse

@@ -2,3 +2,5 @@ pub mod Duties
 pub mod Endings
 pub mod LeftBehind
 pub mod Complete
+pub mod Faultless
+pub mod AsPlayed

@@ -9,6 +9,7 @@ ghost use Rattle.repo_model.specs.History.{Entry, Legal, end};
 ghost use Rattle.repo_model.specs.Reply.{no_draft};
 ghost use Rattle.repo_model.specs.Settings.{Settings};
 ghost use Rattle.repo_model.specs.State.{State};
+ghost use Rattle.course_laws.specs.AsPlayed.{RowsTold};
 ghost use Rattle.course_laws.specs.Complete.{IsComplete};
 ghost use Rattle.course_laws.specs.Endings.{EndsByCause};
 ghost use Rattle.course_laws.specs.LeftBehind.{IsDrawn, LeavesNothing};
@@ -46,4 +47,9 @@ pub fn own_drafts_are_there<H: Held>()
 /// not end in want of memory.
 pub fn courses_are_complete()
     ensures { (settings : Settings) (head : Head) (last : Bool) → IsComplete settings (course_of (plain head) last) }
+{}
+
+/// x
+pub fn try_told()
+    ensures { (settings : Settings) (s : State) → RowsTold s → RowsTold s }
 {}
