@@ -1,9 +1,9 @@
 -- Each course that a head comes to is complete.
-use Rattle.std.proofs.Common.{◌≡◌, ◌≢◌, ℕ, ◌≤◌, ◌==◌, ◌&&◌, Bool, true, false, if◌then◌else◌, List, [], ◌∷◌, Option, Some, None, IfSome, Result, Ok, Err, IsTrue, refl, sym, subst, ap, ◌∙◌}
+use Rattle.std.proofs.Common.{◌≡◌, ◌≢◌, ℕ, ◌==◌, ◌&&◌, Bool, true, false, if◌then◌else◌, List, [], ◌∷◌, Option, Some, None, IfSome, Result, Ok, Err, IsTrue, refl, sym, subst, ap, ◌∙◌}
 use Rattle.std.specs.Prelude.{nat_le, nat_eq, codes, drop, length, option_and_then}
 use Rattle.std.specs.List.{starts_with}
 use Rattle.std.specs.Str.{bytes_eq}
-use Rattle.std.proofs.lemmas.Bool.{and_parts, leb-true}
+use Rattle.std.proofs.lemmas.Bool.{leb-true}
 use Rattle.http_wire.specs.declared.requests.BodyLength.{BodyLength}
 use Rattle.http_wire.specs.declared.requests.BodyLength.TheVariants.{Known}
 use Rattle.http_wire.specs.Fields.{asks_close, body_length}
@@ -15,9 +15,9 @@ use Rattle.mvn_coords.specs.Kind.{kind}
 use Rattle.repo_model.specs.Command.{Command, look, may_put, put as puts}
 use Rattle.repo_model.specs.Data.{Blob, Hosted, Phase, Row, fading, listed, is_same_print, repository}
 use Rattle.repo_model.specs.Effect.{draws, drops, lends}
-use Rattle.repo_model.specs.History.{Entry, Fits, IsReply, due, wants_memory, failed, commits}
+use Rattle.repo_model.specs.History.{Entry, IsReply, due, wants_memory, failed, commits}
 use Rattle.repo_model.specs.Paths.{file_at, file_in, takes as takes_path}
-use Rattle.repo_model.specs.Reply.{Reply, created, draft, file, kind_refused, missed, no_draft, no_memory, relisted, same, spent, store_fault, taken}
+use Rattle.repo_model.specs.Reply.{Reply, draft, file, kind_refused, no_draft, no_memory, spent, taken}
 use Rattle.repo_model.specs.Settings.{Settings}
 use Rattle.repo_model.specs.State.{State, hosted_of, is_among, number_end, row_at, rows_of}
 use Rattle.repo_model.specs.Turn.{Turn, draws_draft, in_repository, is_file, or_nothing, put_again, put_at, says as replies, seen_at, shows, turn}

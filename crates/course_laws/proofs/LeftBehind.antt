@@ -74,7 +74,7 @@ module _ (tells : Type 0) (settings : Settings) where
       follows_leaves st.yard drawn t.0 3 (standing (opened_early t.2)) (opens-keeps last old t.1 t.0 t.2) entries st legal
       (record { drafts = refl; leases = refl; next_draft = omega arith; next_lease = omega arith }) t.1 new end t.3
 
-  end_append : (x : State) (xs ys : List Entry) → end_of settings x (xs ++ ys) ≡ end_of settings (end_of settings x xs) ys
+  pub end_append : (x : State) (xs ys : List Entry) → end_of settings x (xs ++ ys) ≡ end_of settings (end_of settings x xs) ys
   end_append x [] ys = refl
   end_append x (e ∷ es) ys = end_append (after settings x e) es ys
 

@@ -7,3 +7,5 @@ pub mod Counts
 pub mod Told
 pub mod Early
 pub mod PlayedCourse
+pub mod PlayedStream
+pub mod OnLiterals

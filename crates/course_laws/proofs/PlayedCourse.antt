@@ -1,15 +1,15 @@
 -- A course is followed as it is played, up to where memory is wanted or the source or the sink fails, if nothing else fails.
-use Rattle.std.proofs.Common.{◌≡◌, ◌⊎◌, ℕ, zero, suc, ◌+◌, ◌≤◌, ◌<◌, Bool, true, false, arith, inl, inr, List, [], ◌∷◌, ◌++◌, length, drop, take, Option, Some, None, Result, Ok, Err, IsTrue, refl, sym, subst, ap, ◌∙◌, append_assoc, append-nil, length-append}
-use Rattle.std.specs.Prelude.{min, IsSome, IfSome, unwrap_or, nat_lt, if◌then◌else◌}
+use Rattle.std.proofs.Common.{◌≡◌, ℕ, zero, suc, ◌≤◌, ◌<◌, Bool, arith, inl, inr, List, [], ◌∷◌, ◌++◌, length, drop, Option, Some, None, Ok, Err, IsTrue, refl, sym, subst, ap, ◌∙◌, append_assoc, append-nil, length-append}
+use Rattle.std.specs.Prelude.{IsSome, IfSome, unwrap_or}
 use Rattle.std.proofs.lemmas.Bool.{false≢true, lt-ltb, le-ltb}
 use Rattle.std.proofs.lemmas.Option.{none-some}
 use Rattle.std.proofs.Math.Seq.{drop-append_seam, take-append_seam}
-use Rattle.outside.specs.Faults.{Rose, last_count}
+use Rattle.outside.specs.Faults.{Rose}
 use Rattle.outside.specs.Told.{IsWhereTold, behind, in_front}
 use Rattle.http_wire.specs.Answer.{shown}
 use Rattle.repo_model.specs.Command.{Command, look, done, may_put, put, drop_draft}
-use Rattle.repo_model.specs.Data.{Blob, Place, repository, session}
-use Rattle.repo_model.specs.History.{Entry, Fits, Legal, after, due, wants_memory, failed, end as end_of}
+use Rattle.repo_model.specs.Data.{Blob}
+use Rattle.repo_model.specs.History.{Entry, Legal, after, due, wants_memory, failed, end as end_of}
 use Rattle.repo_model.specs.Reply.{Reply, file, missed, spent, draft, kind_refused, created, same, relisted, taken, no_draft, no_memory, store_fault, takes_memory}
 use Rattle.repo_model.specs.Settings.{Settings}
 use Rattle.repo_model.specs.State.{State}
@@ -24,9 +24,9 @@ use Rattle.repo_course.specs.declared.said.Said.{Said}
 use Rattle.repo_course.specs.Serving.{Follows, Outside, Says, Sends, Takes, print_of, writes}
 use Rattle.course_laws.specs.AsPlayed.{RowsTold}
 use Rattle.course_laws.specs.Duties.{by_memory, by_side, Keeps, MayAsk, Stand, asked_draft, has_put, looked, stand_after, stand_sent, stand_stored}
-use Rattle.course_laws.specs.Faultless.{Scene, due_entry, moment_now, play, taken_body}
-use Rattle.course_laws.proofs.Counts.{Calm, Grew, calm-then, follows-grew, not-risen, sends-grew, takes-grew}
-use Rattle.course_laws.proofs.Early.{Early, Goes, Outcome, Ready, early-before, ends-early, no-more, outcome-before, plays-early, says-early, says-memory, sink-failed, source-failed, wrote-outcome}
+use Rattle.course_laws.specs.Faultless.{Scene, due_entry, play, taken_body}
+use Rattle.course_laws.proofs.Counts.{Calm, Grew, follows-grew, not-risen, sends-grew, takes-grew}
+use Rattle.course_laws.proofs.Early.{Outcome, Ready, early-before, ends-early, no-more, outcome-before, plays-early, says-early, says-memory, sink-failed, source-failed, wrote-outcome}
 use Rattle.course_laws.proofs.Told.{CommandTold, ReplyTold, after-told, clock-stays, due-is, faults-are, faults-grow, moment-is, reply-told}
 
 -- what is told is these bytes, where it is told

@@ -1,6 +1,6 @@
 -- A turn keeps the bytes of each file's blob told, where those of the blob that it puts are, and the clock; and where nothing
 -- failed its entry is the one that is due.
-use Rattle.std.proofs.Common.{◌≡◌, ◌⊎◌, ℕ, ◌≤◌, ◌==◌, Bool, true, false, inl, inr, List, [], ◌∷◌, ◌++◌, Option, Some, None, Result, Ok, Err, IsTrue, arith, refl, sym, subst, ap, ◌∙◌, map}
+use Rattle.std.proofs.Common.{◌≡◌, ℕ, ◌≤◌, ◌==◌, Bool, true, false, List, [], ◌∷◌, Option, Some, None, Result, Ok, Err, arith, refl, sym, subst, ◌∙◌, map}
 use Rattle.std.specs.Prelude.{IsSome, MatchOption, if◌then◌else◌, filter, find, min, max}
 use Rattle.std.specs.List.{AllByRecursion}
 use Rattle.std.specs.Option.{option_map, option_map_or}
@@ -9,7 +9,6 @@ use Rattle.std.specs.Ordering.{nat_cmp, match_ordering}
 use Rattle.std.specs.declared.cmp.Ordering.{Ordering}
 use Rattle.std.specs.declared.cmp.Ordering.TheVariants.{Less, Equal, Greater}
 use Rattle.std.specs.Cmp.Lexicographic.{slice_cmp}
-use Rattle.outside.specs.Faults.{Rose}
 use Rattle.outside.specs.Moments.{Moments, moments_after}
 use Rattle.mvn_coords.specs.declared.fault.PathFault.{PathFault}
 use Rattle.mvn_coords.specs.declared.kind.Kind.{Kind}
@@ -19,16 +18,16 @@ use Rattle.mvn_coords.specs.Layout.{text_of}
 use Rattle.mvn_digest.specs.Digests.{digests_of}
 use Rattle.mvn_digest.specs.Sides.{side_text}
 use Rattle.repo_model.specs.Command.{Command, look, done, may_put, put, drop_draft}
-use Rattle.repo_model.specs.Data.{Blob, Hosted, Phase, Row, fading, listed, is_same_print, repository, session, Place}
-use Rattle.repo_model.specs.Effect.{Effect, creates, delivers, relists, fades, expires, draws, drops, lends, in_repo, rows_after, repo_of, with_effect, with_effects, with_row, without_row, list_again, fade, new_row}
-use Rattle.repo_model.specs.History.{Entry, Fits, Legal, MomentFits, after, effects_of, end, latest_moment, ticked}
+use Rattle.repo_model.specs.Data.{Blob, Hosted, Phase, Row, fading, listed, is_same_print, repository}
+use Rattle.repo_model.specs.Effect.{Effect, creates, delivers, relists, fades, expires, draws, drops, lends, in_repo, rows_after, repo_of, with_effect, with_effects, with_row, list_again, fade, new_row}
+use Rattle.repo_model.specs.History.{Entry, Legal, MomentFits, after, effects_of, end, latest_moment, ticked}
 use Rattle.repo_model.specs.Paths.{takes}
 use Rattle.repo_model.specs.Reply.{Reply, draft, file, is_free, kind_refused, no_draft, spent, taken}
 use Rattle.repo_model.specs.Settings.{Rule, Settings}
 use Rattle.repo_model.specs.State.{State, change_first, change_where, hosted_of, is_among, is_repository, is_row, new_hosted, number_end, opening, row_at, rows_of}
-use Rattle.repo_model.specs.Turn.{Seen, Turn, document_text, draws_draft, in_repository, is_doc, is_file, is_text, or_nothing, put_again, put_at, says, seen_at, shows, turn}
+use Rattle.repo_model.specs.Turn.{Turn, document_text, draws_draft, in_repository, is_doc, is_file, is_text, or_nothing, put_again, put_at, says, seen_at, shows, turn}
 use Rattle.course_laws.specs.AsPlayed.{RowsTold}
-use Rattle.course_laws.specs.Duties.{MayAsk, Stand, asked_draft, has_put, looked, stand_after}
+use Rattle.course_laws.specs.Duties.{MayAsk, Stand}
 use Rattle.course_laws.specs.Faultless.{due_entry, moment_now}
 
 abbrev pub IsTold : Row → Type 0
@@ -166,7 +165,7 @@ module _ (settings : Settings) (s : State) (told : RowsTold s) where
 
   put-tells : (repo path : List ℕ) (n : ℕ) (blob : Blob) (moment : ℕ) → IsSome blob.bytes → (o : Option Row) → Tells (put_at repo path n blob moment o)
   put-tells repo path n blob moment some None = ((some, tt), tt)
-  put-tells repo path n blob moment some (Some row) = 
+  put-tells repo path n blob moment some (Some row) =
       let other : Turn = record { reply = taken row.blob.print blob.print; effects = drops n ∷ [] } in
       either (is_same_print row.blob.print blob.print) (put_again repo path n moment row.phase) other (again row.phase) ((tt, tt), tt)
     where

@@ -1,5 +1,5 @@
 -- A course has an answer for each reply that its commands can get.
-use Rattle.std.specs.Prelude.{◌≡◌, ◌≢◌, Ok, Err}
+use Rattle.std.specs.Prelude.{◌≡◌, ◌≢◌, Err}
 use Rattle.repo_model.specs.History.{Entry, Fits}
 use Rattle.repo_model.specs.Reply.{no_memory}
 use Rattle.repo_model.specs.Settings.{Settings}

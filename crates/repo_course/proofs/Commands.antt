@@ -44,11 +44,11 @@ module _ (settings : Settings) (serves : ServesReleases settings) where
   there = subst (λ (o : Option Rule). IsTrue (is_some o)) (sym serves.1) refl
 
   puts : (path : List ℕ) (n : ℕ) (blob : Blob) → IsReleasePath path → blob.number ≡ n → blob.print.length ≤ longest_body
-      → IsTrue (is_fit (λ rule. takes rule path) (rule_of releases settings) && is_parcel n blob)
+      → IsTrue (is_fit (λ rule. takes rule path) (rule_of releases settings) && is_parcel n blob && true)
   puts path n blob r number long =
-      both (is_fit (λ rule. takes rule path) (rule_of releases settings)) (is_parcel n blob)
+      both (is_fit (λ rule. takes rule path) (rule_of releases settings) && is_parcel n blob) true (both (is_fit (λ rule. takes rule path) (rule_of releases settings)) (is_parcel n blob)
       (subst (λ (o : Option Rule). IsTrue (is_fit (λ rule. takes rule path) o)) (sym serves.1) (takes_release serves.0 (file_at path) serves.2 r))
-      (both (blob.number == n) (nat_lt blob.print.length number_end) (eq-eqb blob.number n number) (lt-ltb blob.print.length number_end (omega arith)))
+      (both (blob.number == n) (nat_lt blob.print.length number_end) (eq-eqb blob.number n number) (lt-ltb blob.print.length number_end (omega arith)))) refl
 
   after_send-meets : (c : Closing) (result : Sent) → Meets settings (after_send c result)
   after_send-meets c sent.Whole = tt
@@ -87,10 +87,11 @@ module _ (settings : Settings) (serves : ServesReleases settings) where
   course-meets : (request : Plain) (last : Bool) → IsPlain request → Meets settings (course request last)
   course-meets (get path close) last r =
       let c : Closing = record { close = close; last = last } in
-      (both (is_there releases settings) (names_something (kind path)) there (names (kind path) r), after_look-meets c)
+      (both (is_there releases settings && names_something (kind path)) (is_file_path path)
+      (both (is_there releases settings) (names_something (kind path)) there (names (kind path) r)) (is_file (file_at path) r), after_look-meets c)
   course-meets (put path count close) last r =
       let c : Closing = record { close = close; last = last } in
-      (both (is_there releases settings) (is_file_path path) there (is_file (file_at path) r.0), λ reply. after_may_put-meets path count c reply r.0 r.1)
+      (both (is_there releases settings && is_file_path path) true (both (is_there releases settings) (is_file_path path) there (is_file (file_at path) r.0)) refl, λ reply. after_may_put-meets path count c reply r.0 r.1)
 
   pub meets_of : (judged : Option Plain) (last : Bool) → IfSome judged IsPlain → Meets settings (course_of judged last)
   meets_of None last plain = tt
