@@ -8,8 +8,10 @@ use crate::law::Take;
 use crate::thing::Thing;
 use crate::turns::Turns;
 use crate::view::{Slot, View};
+use std::hint::spin_loop;
 use std::snapshot::Snapshot;
 use std::sync::Wait;
+use std::sync::atomic::Ordering::SeqCst;
 
 pub type Token<T> = atomic_table::Seat<
     Slot<<T as Thing>::Call, <T as Thing>::Reply, T>,
@@ -18,6 +20,9 @@ pub type Token<T> = atomic_table::Seat<
 
 // The word at which no turn is taken any more: it stands for 2^62 entries.
 const LAST: u64 = 1 << 63;
+
+// How often a caller looks whether the turn was given back before it sleeps.
+const LOOKS: u32 = 100;
 
 // Waits for the turn and takes it. Returns the word that stood there, which is even and below LAST.
 pub fn take<T: Thing, R: Wait>(rt: &R, turns: &Turns<T>, token: &mut Token<T>) -> u64
@@ -33,10 +38,31 @@ pub fn take<T: Thing, R: Wait>(rt: &R, turns: &Turns<T>, token: &mut Token<T>) -
                 return word;
             }
         } else {
-            shared.park(rt, 0, (word % (1 << 32)) as u32);
+            wait(rt, turns, word);
         }
     }
     unreachable!()
+}
+
+// Waits until the word may be another than this one: looks for a while, and then sleeps.
+fn wait<T: Thing, R: Wait>(rt: &R, turns: &Turns<T>, word: u64) {
+    let shared = &turns.table.shared;
+    for _ in 0..LOOKS {
+        if shared.peek(0) != word {
+            return;
+        }
+        spin_loop();
+    }
+    turns.sleepers.fetch_add(1, SeqCst);
+    shared.park(rt, 0, (word % (1 << 32)) as u32);
+    turns.sleepers.fetch_sub(1, SeqCst);
+}
+
+// Wakes one of those that sleep until the turn is given back, if there are any.
+pub fn wake<T: Thing>(turns: &Turns<T>) {
+    if turns.sleepers.load(SeqCst) != 0 {
+        turns.table.shared.wake_one(0);
+    }
 }
 
 // With the turn taken: takes the object out of the slot, asks it, and puts it back. Returns its reply, and what the step that gives the turn back is to tell.
