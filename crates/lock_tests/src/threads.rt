@@ -1,4 +1,4 @@
-ghost use Rattle.std.specs.Prelude.{◌≡◌, ◌+◌, ◌-◌, ◌%◌, ◌^◌, ◌<◌, length, slice_index, slice_set, vec_len};
+ghost use Rattle.std.specs.Prelude.{◌≡◌, ℕ, ◌+◌, ◌-◌, ◌%◌, ◌^◌, ◌<◌, length, slice_index, slice_set, vec_len};
 ghost use Rattle.std.proofs.Common.{length-set};
 ghost use Rattle.turn_lock.specs.History.{IsStep};
 ghost use Rattle.turn_lock.specs.Seats.{opening, parts_of, IsSeatOf, IsNoteOf};
@@ -24,7 +24,7 @@ impl Thing for Counter {
 
     type Reply = u64;
 
-    type Fixed = ();
+    ghost Fixed = { Unit {0} };
 
     ghost fixed = { λ c. tt };
 
@@ -52,7 +52,7 @@ impl Thing for Shelf {
 
     type Reply = u64;
 
-    type Fixed = usize;
+    ghost Fixed = { ℕ };
 
     ghost fixed = { λ s. length s.places.items };
 

@@ -14,7 +14,7 @@ use Rattle.turn_lock.proofs.CallerSteps.{accounts_named}
 use Rattle.turn_lock.proofs.Ends.{Ended, ends}
 use Rattle.turn_lock.proofs.Holdings.{same_home}
 
-module _ {T C R F : Type 0} (turned : T → C → R → T → Type 0) (turns : Turns T C R F) (seat : Seat C R T) (words : List ℕ) (slots : List (Slot C R T))
+module _ {T C R : Type 0} (turned : T → C → R → T → Type 0) (turns : Turns T C R) (seat : Seat C R T) (words : List ℕ) (slots : List (Slot C R T))
     (of : IsSeatOf turned turns seat) (all : seat.token.me.0.parts ≡ 2 ^ 64) (final : Final (Seen (Lawful turned (opening turns)) seat.token.id seat.token.me.0) words slots) where
   pub ended : Ended turned (opening turns) seat.token.id seat.token.me.0 words slots
   ended = ends turned (opening turns) seat.token.id seat.token.me.0 words slots all of.idle final

@@ -7,7 +7,7 @@ use Rattle.turn_lock.specs.declared.seat.NoteToken.{NoteToken as Note}
 use Rattle.turn_lock.specs.History.{Legal, end_of, entries_by, BeginsWith, times, AllKept, AllOnce, AllBelow}
 
 -- the object as the history began
-abbrev pub opening : {T C R F : Type 0} → Turns T C R F → T
+abbrev pub opening : {T C R : Type 0} → Turns T C R → T
 opening turns = turns.table.shared.key.value
 
 module _ {C R T : Type 0} where
@@ -48,7 +48,7 @@ module _ {C R T : Type 0} where
   given_before note = note.token.me.0.given
 
 -- The seat is one of these turns. What it has seen is legal. Each of its callers stands there once, with a number below those that it knows to be given, and has just these entries in what it has seen
-pub record IsSeatOf {T C R F : Type 0} (steps : T → C → R → T → Type 0) (turns : Turns T C R F) (seat : Seat C R T) : Type 0 where
+pub record IsSeatOf {T C R : Type 0} (steps : T → C → R → T → Type 0) (turns : Turns T C R) (seat : Seat C R T) : Type 0 where
   pub place : seat.token.table_id ≡ turns.table.shared.table_id
   pub alone : seat.token.me.1 ≡ []
   pub named : seat.token.me.0.named ≡ true
@@ -61,7 +61,7 @@ pub record IsSeatOf {T C R F : Type 0} (steps : T → C → R → T → Type 0) 
   pub below : AllBelow (given seat) (callers seat)
 
 -- The note is one of these turns, and what it carries is legal
-pub record IsNoteOf {T C R F : Type 0} (steps : T → C → R → T → Type 0) (turns : Turns T C R F) (note : Note C R T) : Type 0 where
+pub record IsNoteOf {T C R : Type 0} (steps : T → C → R → T → Type 0) (turns : Turns T C R) (note : Note C R T) : Type 0 where
   pub place : note.token.table_id ≡ turns.table.shared.table_id
   pub alone : note.token.me.1 ≡ []
   pub unnamed : note.token.me.0.named ≡ false
@@ -84,7 +84,7 @@ module _ {C R T : Type 0} where
       (seen new ≡ (seen old ++ between) ++ e ∷ []) × (mine new ≡ mine old ++ e ∷ []))
 
 -- The whole history is legal and goes on from what the seat has seen, the object is its end, and each entry is of one of the callers, who each stand there once
-pub record Closes {T C R F : Type 0} (steps : T → C → R → T → Type 0) (turns : Turns T C R F) (seat : Seat C R T) (thing : T) (calls : ℕ) : Type 0 where
+pub record Closes {T C R : Type 0} (steps : T → C → R → T → Type 0) (turns : Turns T C R) (seat : Seat C R T) (thing : T) (calls : ℕ) : Type 0 where
   pub log : List (Entry C R T)
   pub legal : Legal steps (opening turns) log
   pub begins : BeginsWith log (seen seat)

@@ -11,12 +11,12 @@ use Rattle.lock_tests.specs.contracts.threads.Caller as Caller
 use Rattle.lock_tests.proofs.threads.both_call.Goals as goal
 
 -- a caller may go to another thread where its call and the object may
-caller_crosses : (κ : NamedLft) (C T F : RattleType) (g : Ghosts T.Denot C.Denot (Field.u64-field).Value F.Denot) → IsSend C → IsSend T → IsSend (Caller.the_row κ C T F g)
-caller_crosses κ C T F g call thing =
-    let turns : IsSend (denote.Ref.ShrRef κ.mir κ.lft (Turns.the_row T C (Field.u64-field).row F g)) = shr_send _ _ _ (turns_shared T C (Field.u64-field).row F g thing) in
-    let fields : IsSend (Caller.the_field κ C T F g).row =
-    struct_send (shape (Caller.the_type κ C T F g)) (turns, (search (sendable, seat_send, slot_crosses) depth 30, (search (sendable, seat_send, slot_crosses) depth 30, (call, (search sendable, tt))))) in
-    recorded_send (Caller.the_field κ C T F g).row _ _ (Caller.the_type κ C T F g).to_one fields
+caller_crosses : (κ : NamedLft) (C T : RattleType) (g : Ghosts T.Denot C.Denot (Field.u64-field).Value) → IsSend C → IsSend T → IsSend (Caller.the_row κ C T g)
+caller_crosses κ C T g call thing =
+    let turns : IsSend (denote.Ref.ShrRef κ.mir κ.lft (Turns.the_row T C (Field.u64-field).row g)) = shr_send _ _ _ (turns_shared T C (Field.u64-field).row g thing) in
+    let fields : IsSend (Caller.the_field κ C T g).row =
+    struct_send (shape (Caller.the_type κ C T g)) (turns, (search (sendable, seat_send, slot_crosses) depth 30, (search (sendable, seat_send, slot_crosses) depth 30, (call, (search sendable, tt))))) in
+    recorded_send (Caller.the_field κ C T g).row _ _ (Caller.the_type κ C T g).to_one fields
 
 pub run_both-requires-send-A : goal.run_both-requires-send-A
 run_both-requires-send-A g c κs within = let t = c.type_bounds.send-T in let u = c.type_bounds.send-C in search (sendable, caller_crosses) depth 40
