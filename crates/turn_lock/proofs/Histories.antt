@@ -28,7 +28,7 @@ module _ {C R T : Type 0} where
       (λ is. let b = eq-eqb y.by k is in rw b (ap (λ l. y ∷ l) (entries_by-other k ys e apart)))
       (λ no. let b = ne_eqb y.by k no in rw b (entries_by-other k ys e apart))
 
-  entries_by-append : (k : ℕ) (log more : List (Entry C R T)) → entries_by k (log ++ more) ≡ entries_by k log ++ entries_by k more
+  pub entries_by-append : (k : ℕ) (log more : List (Entry C R T)) → entries_by k (log ++ more) ≡ entries_by k log ++ entries_by k more
   entries_by-append k [] more = refl
   entries_by-append k (y ∷ ys) more =
       dite (ℕ_discrete y.by k)

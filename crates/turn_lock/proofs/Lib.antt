@@ -10,3 +10,4 @@ mod Ends
 mod PartSteps
 mod Steps
 mod Seating
+mod Whole

@@ -4,7 +4,7 @@ use Rattle.turn_lock.specs.declared.view.Entry.{Entry}
 use Rattle.turn_lock.specs.declared.turns.Turns.{Turns}
 use Rattle.turn_lock.specs.declared.seat.SeatToken.{SeatToken as Seat}
 use Rattle.turn_lock.specs.declared.seat.NoteToken.{NoteToken as Note}
-use Rattle.turn_lock.specs.History.{Legal, end_of, entries_by, BeginsWith, times, AllKept, AllOnce, AllBelow}
+use Rattle.turn_lock.specs.History.{Legal, end_of, entries_by, times, AllKept, AllOnce, AllBelow}
 
 -- the object as the history began
 abbrev pub opening : {T C R : Type 0} → Turns T C R → T
@@ -83,12 +83,10 @@ module _ {C R T : Type 0} where
       × (let e : Entry C R T = record { by = number old; call = call; reply = reply; after = after } in
       (seen new ≡ (seen old ++ between) ++ e ∷ []) × (mine new ≡ mine old ++ e ∷ []))
 
--- The whole history is legal and goes on from what the seat has seen, the object is its end, and each entry is of one of the callers, who each stand there once
+-- The seat has seen the whole history: it is legal, the object is its end, and the number of calls its length. Each entry is of one of the seat's callers, who each stand there once with just their entries
 pub record Closes {T C R : Type 0} (steps : T → C → R → T → Type 0) (turns : Turns T C R) (seat : Seat C R T) (thing : T) (calls : ℕ) : Type 0 where
-  pub log : List (Entry C R T)
-  pub legal : Legal steps (opening turns) log
-  pub begins : BeginsWith log (seen seat)
-  pub end : thing ≡ end_of (opening turns) log
-  pub long : calls ≡ length log
-  pub own : AllKept log (callers seat)
-  pub others : (k : ℕ) → (times k (callers seat) ≡ 1) ⊎ ((times k (callers seat) ≡ 0) × (entries_by k log ≡ []))
+  pub legal : Legal steps (opening turns) (seen seat)
+  pub end : thing ≡ end_of (opening turns) (seen seat)
+  pub long : calls ≡ length (seen seat)
+  pub own : AllKept (seen seat) (callers seat)
+  pub others : (k : ℕ) → (times k (callers seat) ≡ 1) ⊎ ((times k (callers seat) ≡ 0) × (entries_by k (seen seat) ≡ []))
