@@ -1,4 +1,4 @@
-// The turn: taking it and giving it back.
+// The turn: waiting for it, taking it, and the object's answer.
 ghost use Rattle.std.specs.Prelude.{◌≡◌, ◌+◌, ◌*◌, ◌^◌, ◌<◌, ◌≤◌, ◌∷◌, ◌++◌, [], length};
 ghost use Rattle.turn_lock.specs.History.{IsStep};
 ghost use Rattle.turn_lock.specs.Holding.{IsFree, HasTurn, HoldsEnd, TookTurn};
@@ -65,7 +65,7 @@ pub fn wake<T: Thing>(turns: &Turns<T>) {
     }
 }
 
-// With the turn taken: takes the object out of the slot, asks it, and puts it back. Returns its reply, and what the step that gives the turn back is to tell.
+// With the turn taken: asks the object, which stays in its slot. Returns its reply, and what the step that gives the turn back is to tell.
 pub fn turn<T: Thing>(
     turns: &Turns<T>,
     token: &mut Token<T>,
@@ -75,14 +75,11 @@ pub fn turn<T: Thing>(
     requires call { T.may_ask (T.fixed (opening turns.now)) call }
     ensures { TookTurn (IsStep T.fixed T.may_ask T.turned) turns.now token.old token.new call result.0 result.1 }
 {
-    let shared = &turns.table.shared;
-    let Slot::Home(mut thing) = shared.exchange(token, 0, Slot::Away) else {
+    let asked = Snapshot::of(&call);
+    let Slot::Home(thing) = token.slot_mut(&turns.table.shared, 0) else {
         unreachable!()
     };
-    let asked = Snapshot::of(&call);
     let reply = thing.turn(call);
     let answered = Snapshot::of(&reply);
-    let vacated = shared.exchange(token, 0, Slot::Home(thing));
-    let Slot::Away = vacated else { unreachable!() };
     (reply, Slot::Told(asked, answered))
 }
