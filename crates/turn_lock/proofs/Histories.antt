@@ -59,6 +59,9 @@ module _ {C R T : Type 0} where
   pub begins_more : (log more seen : List (Entry C R T)) → BeginsWith log seen → BeginsWith (log ++ more) seen
   begins_more log more seen begins = (begins.0 ++ more, ap (λ l. l ++ more) begins.1 ∙ append_assoc seen begins.0 more)
 
+  pub begins_then : (log middle seen : List (Entry C R T)) → BeginsWith log middle → BeginsWith middle seen → BeginsWith log seen
+  begins_then log middle seen begins before = (before.0 ++ begins.0, begins.1 ∙ ap (λ l. l ++ begins.0) before.1 ∙ append_assoc seen before.0 begins.0)
+
   pub times-append : (k : ℕ) (ps qs : List (ℕ × List (Entry C R T))) → times k (ps ++ qs) ≡ times k ps + times k qs
   times-append k [] qs = omega arith
   times-append k (p ∷ ps) qs = let h = times-append k ps qs in omega arith

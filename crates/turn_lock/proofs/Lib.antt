@@ -11,3 +11,4 @@ mod PartSteps
 mod Steps
 mod Seating
 mod Whole
+mod Joining
