@@ -21,7 +21,7 @@ pub type Token<T> = atomic_table::Seat<
 // The word at which no turn is taken any more: it stands for 2^62 entries.
 const LAST: u64 = 1 << 63;
 
-// How often a caller looks whether the turn was given back before it sleeps.
+// How often a caller looks whether the turn was given back, before it sleeps.
 const LOOKS: u32 = 100;
 
 // Waits for the turn and takes it. Returns the word that stood there, which is even and below LAST.
@@ -31,30 +31,36 @@ pub fn take<T: Thing, R: Wait>(rt: &R, turns: &Turns<T>, token: &mut Token<T>) -
 {
     let shared = &turns.table.shared;
     for _ in rt.forever() {
-        let word = shared.peek(0);
+        let word = look(turns);
         if word % 2 == 0 && word < LAST {
             let found = shared.compare_exchange::<Take<T>>(token, 0, word, word + 1);
             if found == word {
                 return word;
             }
         } else {
-            wait(rt, turns, word);
+            sleep(rt, turns, word);
         }
     }
     unreachable!()
 }
 
-// Waits until the word may be another than this one: looks for a while, and then sleeps.
-fn wait<T: Thing, R: Wait>(rt: &R, turns: &Turns<T>, word: u64) {
-    let shared = &turns.table.shared;
+// The word, looked at until nobody has the turn, or LOOKS times more.
+fn look<T: Thing>(turns: &Turns<T>) -> u64 {
+    let mut word = turns.table.shared.peek(0);
     for _ in 0..LOOKS {
-        if shared.peek(0) != word {
-            return;
+        if word % 2 == 0 {
+            break;
         }
         spin_loop();
+        word = turns.table.shared.peek(0);
     }
+    word
+}
+
+// Sleeps until the turn is given back, as long as the word is this one.
+fn sleep<T: Thing, R: Wait>(rt: &R, turns: &Turns<T>, word: u64) {
     turns.sleepers.fetch_add(1, SeqCst);
-    shared.park(rt, 0, (word % (1 << 32)) as u32);
+    turns.table.shared.park(rt, 0, (word % (1 << 32)) as u32);
     turns.sleepers.fetch_sub(1, SeqCst);
 }
 
