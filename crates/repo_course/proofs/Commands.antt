@@ -86,9 +86,11 @@ module _ (settings : Settings) (serves : ServesReleases settings) where
 
   course-meets : (request : Plain) (last : Bool) → IsPlain request → Meets settings (course request last)
   course-meets (get path close) last r =
-      let c : Closing = record { close = close; last = last } in
-      (both (is_there releases settings && names_something (kind path)) (is_file_path path)
-      (both (is_there releases settings) (names_something (kind path)) there (names (kind path) r)) (is_file (file_at path) r), after_look-meets c)
+      let c : Closing = record { close = close; last = last } in (
+        both (is_there releases settings && names_something (kind path)) (is_file_path path)
+            (both (is_there releases settings) (names_something (kind path)) there (names (kind path) r)) (is_file (file_at path) r),
+        after_look-meets c,
+      )
   course-meets (put path count close) last r =
       let c : Closing = record { close = close; last = last } in
       (both (is_there releases settings && is_file_path path) true (both (is_there releases settings) (is_file_path path) there (is_file (file_at path) r.0)) refl, λ reply. after_may_put-meets path count c reply r.0 r.1)
