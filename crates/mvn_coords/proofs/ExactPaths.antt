@@ -13,7 +13,8 @@ use Rattle.mvn_coords.specs.declared.fault.Side.TheVariants.{Sha1, Md5}
 use Rattle.mvn_coords.specs.declared.kind.Kind.{Kind}
 use Rattle.mvn_coords.specs.declared.kind.Kind.TheVariants.{File, FileSide, Doc, DocSide}
 use Rattle.mvn_coords.specs.Segment.{Segment, levels, is_segment, is_path_byte}
-use Rattle.mvn_coords.specs.FileName.{◌>>=◌, before, base_of}
+use Rattle.byte_cuts.specs.Cuts.{before}
+use Rattle.mvn_coords.specs.FileName.{◌>>=◌, base_of}
 use Rattle.mvn_coords.specs.Layout.{Coordinates, Directory, Named, file, document, file_of, directory_of, named, text_of, text_of_document}
 use Rattle.mvn_coords.specs.Path.{Cut, cut_by, cut_side, has_suffix, has_other_suffix, suffix_of, Parts, parts_by, parts_of, IsPlain, IsBelow, IsFile, IsDirectory}
 use Rattle.mvn_coords.specs.Kind.{with_side, kind_of_parts, kind, text_of_kind, IsExact}

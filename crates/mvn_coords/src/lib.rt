@@ -14,7 +14,7 @@ mod segment;
 mod stamp;
 mod text;
 
-pub use build::{Build, build_number};
+pub use build::{Build, BuildText, NumberText, build_number};
 pub use coord::{Coord, Dir};
 pub use fault::{PathFault, Side};
 pub use kind::Kind;

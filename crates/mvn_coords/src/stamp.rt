@@ -117,14 +117,15 @@ impl Stamp {
         ensures text { result ≡ text_of_time self.now }
         ensures civil { IsTrue (spec.is_civil self.now) }
     {
-        let (month, day) = (u16::from(self.month), u16::from(self.day));
-        let (hour, minute) = (u16::from(self.hour), u16::from(self.minute));
-        let second = u16::from(self.second);
+        let year = u32::from(self.year);
+        let (month, day) = (u32::from(self.month), u32::from(self.day));
+        let (hour, minute) = (u32::from(self.hour), u32::from(self.minute));
+        let second = u32::from(self.second);
         [
-            digit(self.year / 10 / 10 / 10),
-            digit(self.year / 10 / 10),
-            digit(self.year / 10),
-            digit(self.year),
+            digit(year / 10 / 10 / 10),
+            digit(year / 10 / 10),
+            digit(year / 10),
+            digit(year),
             digit(month / 10),
             digit(month),
             digit(day / 10),
@@ -152,7 +153,7 @@ impl Stamp {
 }
 
 /// The last decimal digit of a number, in ASCII.
-fn digit(number: u16) -> u8
+pub(crate) fn digit(number: u32) -> u8
     ensures { result ≡ 48 + number % 10 }
 {
     b'0' + (number % 10) as u8

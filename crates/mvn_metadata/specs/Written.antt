@@ -2,9 +2,9 @@
 use Rattle.std.specs.Prelude.{ℕ, List, [], ◌∷◌, ◌++◌, take, drop, Option, Some, None, codes}
 use Rattle.std.specs.List.{flat_map}
 use Rattle.std.specs.Option.{option_map}
-use Rattle.mvn_coords.specs.Civil.{CivilTime, text_of_time, digits}
+use Rattle.mvn_coords.specs.Civil.{CivilTime, text_of_time}
 use Rattle.mvn_coords.specs.FileName.{BuildOf}
-use Rattle.mvn_coords.specs.Layout.{text_of_build, without_zeros}
+use Rattle.mvn_coords.specs.Layout.{text_of_build, text_of_number}
 use Rattle.mvn_metadata.specs.declared.listing.Listing.{Listing}
 use Rattle.mvn_metadata.specs.declared.listing.Listing.TheVariants.{Artifact, Snapshot}
 use Rattle.mvn_metadata.specs.Document.{Document, latest, release}
@@ -32,9 +32,6 @@ block margin name lines = (margin ++ open_tag name ++ 10 ∷ []) ++ lines ++ (ma
 -- 14 digits: a timestamp without its dot
 abbrev pub moment_text : CivilTime → List ℕ
 moment_text t = take 8 (text_of_time t) ++ drop 9 (text_of_time t)
-
-abbrev pub number_text : ℕ → List ℕ
-number_text n = without_zeros (digits 9 n)
 
 abbrev pub version_line : List ℕ → List ℕ
 version_line version = element (codes "      ") (codes "version") version
@@ -65,7 +62,7 @@ abbrev pub newest_lines : Option BuildOf → List ℕ
 newest_lines None = []
 newest_lines (Some b) = block (codes "    ") (codes "snapshot")
     (element (codes "      ") (codes "timestamp") (text_of_time b.stamp)
-    ++ element (codes "      ") (codes "buildNumber") (number_text b.number))
+    ++ element (codes "      ") (codes "buildNumber") (text_of_number b.number))
 
 abbrev pub updated_line : Option CivilTime → List ℕ
 updated_line t = element_if (codes "    ") (codes "lastUpdated") (option_map moment_text t)
