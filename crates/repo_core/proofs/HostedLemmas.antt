@@ -4,7 +4,7 @@ use Rattle.std.specs.Option.{option_map, option_map_or}
 use Rattle.std.specs.List.{list_any}
 use Rattle.std.specs.Str.{bytes_eq}
 use Rattle.std.proofs.lemmas.Bool.{false≢true}
-use Rattle.std.proofs.lemmas.List.{drop_more, take_more, drop_all, map-append, map-set, set-get_or, set_split, append_assoc}
+use Rattle.std.proofs.lemmas.List.{drop_more, take_more, drop_all, map-append, set_split, append_assoc}
 use Rattle.repo_model.specs.Data as plain
 use Rattle.repo_model.specs.Settings.{Rule}
 use Rattle.repo_model.specs.Command.{is_fit}

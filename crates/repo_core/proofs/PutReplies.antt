@@ -6,7 +6,7 @@ use Rattle.repo_model.specs.declared.print.Print.{Print}
 use Rattle.repo_model.specs.Data.{Blob, Row, Phase, listed, fading, Hosted, is_same_print}
 use Rattle.repo_model.specs.State.{State, Yard, change_where, change_first, is_repository, is_row}
 use Rattle.repo_model.specs.Effect.{with_effects, yard_after, drops, with_row, new_row, list_again, without_draft}
-use Rattle.repo_model.specs.Reply.{Reply, created, taken, no_memory, is_free}
+use Rattle.repo_model.specs.Reply.{Reply, taken, is_free}
 use Rattle.repo_model.specs.Turn.{Turn, put_again, put_at}
 use Rattle.hosted_repo.specs.Rows.{rows_after_all}
 use Rattle.repo_core.specs.Hosted.{rows_in, with_rows, put_due, rows_put}
@@ -47,15 +47,17 @@ rows-left repo path n now blob found h reply (inr is) = subst (λ r. (if is_free
 rows-left repo path n now blob found h reply (inl is) =
     subst (λ r. (if is_free r then h else record h { rows = rows_after_all (put_at repo path n blob now found).effects h.rows }) ≡ record h { rows = rows_put path blob now r h.rows }) (sym is)
     (bound (put_at repo path n blob now found) (never-free found) ∙ ap (λ rows. record h { rows = rows }) (rows-put repo path n now blob found h.rows)) where
-  never-by : (b : Bool) (phase : Phase) (kept sent : Print) → is_free (put_by b repo path n now phase kept sent).reply ≡ false
-  never-by true listed kept sent = refl
-  never-by true (fading since) kept sent = refl
-  never-by false phase kept sent = refl
-  never-free : (row : Option Row) → is_free (put_at repo path n blob now row).reply ≡ false
-  never-free None = refl
-  never-free (Some row) = never-by (is_same_print row.blob.print blob.print) row.phase row.blob.print blob.print
-  bound : (t : Turn) → is_free t.reply ≡ false → (if is_free t.reply then h else record h { rows = rows_after_all t.effects h.rows }) ≡ record h { rows = rows_after_all t.effects h.rows }
-  bound t is_bound = ap (λ b. if b then h else record h { rows = rows_after_all t.effects h.rows }) is_bound
+      never-by : (b : Bool) (phase : Phase) (kept sent : Print) → is_free (put_by b repo path n now phase kept sent).reply ≡ false
+      never-by true listed kept sent = refl
+      never-by true (fading since) kept sent = refl
+      never-by false phase kept sent = refl
+
+      never-free : (row : Option Row) → is_free (put_at repo path n blob now row).reply ≡ false
+      never-free None = refl
+      never-free (Some row) = never-by (is_same_print row.blob.print blob.print) row.phase row.blob.print blob.print
+
+      bound : (t : Turn) → is_free t.reply ≡ false → (if is_free t.reply then h else record h { rows = rows_after_all t.effects h.rows }) ≡ record h { rows = rows_after_all t.effects h.rows }
+      bound t is_bound = ap (λ b. if b then h else record h { rows = rows_after_all t.effects h.rows }) is_bound
 
 -- rows that are changed by what they are
 rows-by : (repo : List ℕ) (f : List Row → List Row) (hosted : List Hosted) → with_rows repo (f (rows_in repo hosted)) hosted ≡ change_first (is_repository repo) (λ h. record h { rows = f h.rows }) hosted
@@ -63,8 +65,8 @@ rows-by repo f [] = refl
 rows-by repo f (h ∷ hosted) =
     elim (is_repository repo h)
     as (λ b. cond b (record h { rows = f (option_map_or (λ (g : Hosted). g.rows) (cond b (Some h) (find (is_repository repo) hosted)) []) } ∷ hosted)
-            (h ∷ change_first (is_repository repo) (λ (g : Hosted). record g { rows = f (option_map_or (λ (k : Hosted). k.rows) (cond b (Some h) (find (is_repository repo) hosted)) []) }) hosted)
-        ≡ cond b (record h { rows = f h.rows } ∷ hosted) (h ∷ change_first (is_repository repo) (λ (g : Hosted). record g { rows = f g.rows }) hosted)) [
+    (h ∷ change_first (is_repository repo) (λ (g : Hosted). record g { rows = f (option_map_or (λ (k : Hosted). k.rows) (cond b (Some h) (find (is_repository repo) hosted)) []) }) hosted)
+    ≡ cond b (record h { rows = f h.rows } ∷ hosted) (h ∷ change_first (is_repository repo) (λ (g : Hosted). record g { rows = f g.rows }) hosted)) [
       | true ↦ refl
       | false ↦ ap (λ hs. h ∷ hs) (rows-by repo f hosted)
     ]

@@ -1,5 +1,5 @@
 -- The blobs of rows are in use: they are so where a row is found, and stay so once a put is over.
-use Rattle.std.proofs.Common.{◌≡◌, ℕ, ◌==◌, Bool, true, false, cond, ◌||◌, if◌then◌else◌, List, [], ◌∷◌, Option, Some, None, map, refl, sym, ap, ◌∙◌, subst, rules}
+use Rattle.std.proofs.Common.{◌≡◌, ℕ, ◌==◌, Bool, true, false, cond, ◌||◌, if◌then◌else◌, List, [], ◌∷◌, Option, Some, map, refl, sym, subst, rules}
 use Rattle.std.specs.Prelude.{find, nat_lt, IsTrue}
 use Rattle.std.specs.Ordering.{match_ordering, nat_cmp}
 use Rattle.std.specs.declared.cmp.Ordering.TheVariants.{Less, Equal, Greater}
@@ -7,7 +7,7 @@ use Rattle.std.specs.Cmp.Lexicographic.{slice_cmp}
 use Rattle.std.specs.Option.{option_map_or}
 use Rattle.std.specs.List.{AllByRecursion}
 use Rattle.repo_model.specs.Data.{Blob, Row, Hosted}
-use Rattle.repo_model.specs.State.{change_first, change_where, is_among, is_repository, is_row, row_at, new_hosted}
+use Rattle.repo_model.specs.State.{change_where, is_among, is_repository, is_row, row_at, new_hosted}
 use Rattle.repo_model.specs.Settings.{Rule}
 use Rattle.repo_model.specs.Effect.{with_row, new_row, with_number, list_again}
 use Rattle.repo_model.specs.Reply.{Reply, created, relisted}

@@ -1,6 +1,5 @@
 -- The numbers of blobs once a file was looked at, and once a put was over.
 use Rattle.std.specs.Prelude.{ℕ, List}
-use Rattle.blob_yard.specs.Numbers.{Numbers}
 use Rattle.repo_model.specs.State.{Yard}
 use Rattle.repo_model.specs.Effect.{without_draft, yard_after, lends, drops, with_number}
 use Rattle.repo_model.specs.Reply.{Reply, file, created, no_memory}

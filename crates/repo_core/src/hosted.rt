@@ -45,10 +45,7 @@ impl Policy {
 }
 
 /// The hosted repositories without rows.
-pub fn empty_repos<H: Held>(
-    alloc: Global,
-    hosted: &[Policy],
-) -> Result<Vec<Hosted<H>>, NoMemory>
+pub fn empty_repos<H: Held>(alloc: Global, hosted: &[Policy]) -> Result<Vec<Hosted<H>>, NoMemory>
     ensures { IfOk result (λ repos. repos.items ≡ map new_hosted (map shown_policy hosted.now)) }
 {
     let mut repos = Vec::new(alloc);

@@ -245,8 +245,8 @@ fn lend<H: Held>(yard: &mut Yard, row: &Row<H>) -> Reply<H>
 fn settle<H: Held>(yard: &mut Yard, draft: u64, did: &Put<H>)
     requires { IsTrue (is_among draft yard.old.yard.drafts) }
     ensures { yard.new ≡ record {
-        yard = yard_put draft (shown_put did.now) yard.old.yard;
-        kept = kept_put draft (shown_put did.now) yard.old.kept;
+      yard = yard_put draft (shown_put did.now) yard.old.yard;
+      kept = kept_put draft (shown_put did.now) yard.old.kept;
     } }
 {
     match did {

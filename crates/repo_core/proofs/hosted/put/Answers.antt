@@ -29,7 +29,7 @@ returns-clause-rows g c =
     let blob = shown_parcel c.args.parcel in
     let reply = shown_put c.put.result in
     let made : new ≡ record old { rows = rows_put c.args.path.now blob c.args.moment reply old.rows } =
-        c.put.ensures.rows ∙ rows-left old.rule.id c.args.path.now c.args.parcel.blob c.args.moment blob (row_at c.args.path.now old.rows) old reply c.put.ensures.reply in
+    c.put.ensures.rows ∙ rows-left old.rule.id c.args.path.now c.args.parcel.blob c.args.moment blob (row_at c.args.path.now old.rows) old reply c.put.ensures.reply in
     let within : i < length items = rw c.deref.ensures.value at c.place_of-place.ensures.bound in
     let same : new.rule ≡ (get_or c.deref.result.now i new).rule = rw c.deref.ensures.value (ap (λ (h : Hosted). h.rule) (made ∙ ap (λ (h : Hosted). record old { rule = h.rule; rows = rows_put c.args.path.now blob c.args.moment reply old.rows }) (c.index_mut.ensures.value ∙ get_or_default items i old new within))) in
     let changed : set items i new ≡ with_rows c.args.id.now new.rows items = rw c.deref.ensures.value at (c.place_of-place.ensures.change new same) in

@@ -1,7 +1,7 @@
 use Rattle.std.proofs.Common.{[], sym, ap, subst}
 use Rattle.std.specs.Prelude.{IsTrue}
 use Rattle.repo_model.specs.Command.{can_be_asked, look}
-use Rattle.repo_model.specs.Shown.{shown_parcel, shown_reply}
+use Rattle.repo_model.specs.Shown.{shown_reply}
 use Rattle.blob_yard.specs.Numbers.{Numbers}
 use Rattle.hosted_repo.specs.Rows.{shown_at}
 use Rattle.repo_core.proofs.Turning.{turned-missed, turned-lent}

@@ -1,14 +1,14 @@
-use Rattle.std.proofs.Common.{◌≡◌, true, false, refl, sym, ap, ◌∙◌, subst}
+use Rattle.std.proofs.Common.{◌≡◌, true, refl, sym, ap, ◌∙◌, subst}
 use Rattle.std.specs.Prelude.{IsTrue}
 use Rattle.repo_model.specs.Command.{can_be_asked, put}
 use Rattle.repo_model.specs.Paths.{takes}
 use Rattle.repo_model.specs.State.{is_among}
 use Rattle.repo_model.specs.Shown.{shown_parcel}
 use Rattle.hosted_repo.specs.Puts.{shown_put}
-use Rattle.repo_core.specs.Hosted.{AreInUse, rules_of}
+use Rattle.repo_core.specs.Hosted.{rules_of}
 use Rattle.repo_core.specs.Whole.{plain_settings}
 use Rattle.repo_core.proofs.HostedLemmas.{named-there, rules-kept}
-use Rattle.repo_core.proofs.Turning.{turned-put, turned-no_draft, fit-so, named-so}
+use Rattle.repo_core.proofs.Turning.{turned-put, fit-so, named-so}
 use Rattle.repo_core.proofs.UseLemmas.{put-used}
 use Rattle.repo_core.proofs.machine.Machine.put.Goals as goal
 
