@@ -1,6 +1,5 @@
 mod HostedLemmas
 mod ListLemmas
-mod NumberLemmas
 mod PutReplies
-mod RowLemmas
 mod Turning
+mod UseLemmas

@@ -22,10 +22,10 @@ use Rattle.repo_laws.specs.Sound.{IsSound, AreNamedApart}
 use Rattle.repo_laws.proofs.Histories.{ticked-later}
 use Rattle.repo_laws.proofs.Keeping.{keeps-sound}
 use Rattle.repo_laws.proofs.Moments.{last_of}
-use Rattle.repo_core.specs.Rows.{put_due, yard_looked, shown_outcome}
+use Rattle.repo_core.specs.Hosted.{put_due}
+use Rattle.repo_core.specs.Numbers.{yard_looked}
 use Rattle.repo_core.specs.Turn.{IsDueOr, done_by, Turned}
 use Rattle.repo_core.specs.Whole.{Whole, IsKept}
-use Rattle.repo_core.specs.declared.rows.PutOutcome.{PutOutcome}
 use Rattle.repo_core.proofs.PutReplies.{put-reply, state_put, left-put}
 
 -- looking at the path of a file
@@ -130,17 +130,17 @@ module _ (w : Whole) (repo path : List ℕ) (n : ℕ) (blob : Blob) where
       record { settings = refl; calls = refl; answered = inl (ap (λ (t : Turn). t.reply) (sym so)); left = ap (λ (t : Turn). with_effects w.state t.effects) (sym so) }
 
   -- a put that had an outcome
-  pub turned-put : (new : Whole) (outcome : PutOutcome) → new.settings ≡ w.settings → new.calls ≡ w.calls → is_among n w.state.yard.drafts ≡ true → blob.number ≡ n
-      → IsDueOr (put_due blob (row_at path (rows_of repo w.state))) (shown_outcome outcome) → new.state ≡ state_put repo path n blob outcome w.state → Turned w new (put repo path n blob) (shown_outcome outcome)
-  turned-put new outcome settings calls among named given left =
+  pub turned-put : (new : Whole) (reply : Reply) → new.settings ≡ w.settings → new.calls ≡ w.calls → is_among n w.state.yard.drafts ≡ true → blob.number ≡ n
+      → IsDueOr (put_due blob (row_at path (rows_of repo w.state))) reply → new.state ≡ state_put repo path n blob reply w.state → Turned w new (put repo path n blob) reply
+  turned-put new reply settings calls among named given left =
       let found = row_at path (rows_of repo w.state) in
       let so : turn w.settings w.state w.state.last (put repo path n blob) ≡ put_at repo path n blob w.state.last found = if-so (is_among n w.state.yard.drafts) (put_at repo path n blob w.state.last found) (says no_draft) (sym among) in
       record {
         settings = settings;
         calls = calls;
-        answered = elim given as (λ _. (shown_outcome outcome ≡ (turn w.settings w.state w.state.last (put repo path n blob)).reply) ⊎ ((shown_outcome outcome ≡ no_memory) × IsTrue (takes_memory (put repo path n blob))))
+        answered = elim given as (λ _. (reply ≡ (turn w.settings w.state w.state.last (put repo path n blob)).reply) ⊎ ((reply ≡ no_memory) × IsTrue (takes_memory (put repo path n blob))))
             [ (inl is) ↦ inl (is ∙ put-reply repo path n w.state.last blob found ∙ ap (λ (t : Turn). t.reply) (sym so)) | (inr is) ↦ inr (is, refl) ];
-        left = left ∙ left-put w.state repo path n blob named outcome found given ∙ ap (λ (t : Turn). with_effects w.state (if is_free (shown_outcome outcome) then [] else t.effects)) (sym so);
+        left = left ∙ left-put w.state repo path n blob named reply found given ∙ ap (λ (t : Turn). with_effects w.state (if is_free reply then [] else t.effects)) (sym so);
       }
 
 -- what a turn says and does depends on no moment before, on no clock and on no count

@@ -1,28 +1,37 @@
--- Hosted repositories as the machine's plain data.
-use Rattle.std.specs.Prelude.{ℕ, List, [], map, find}
+-- The rows of hosted repositories, and what putting a blob does to them.
+use Rattle.std.specs.Prelude.{ℕ, List, [], map, find, Option}
 use Rattle.std.specs.Option.{option_map_or}
-use Rattle.outside.specs.declared.stores.Held.{Ghosts}
-use Rattle.repo_model.specs.Data as plain
+use Rattle.std.specs.List.{AllByRecursion}
+use Rattle.std.specs.Prelude.{IsTrue}
+use Rattle.repo_model.specs.Data.{Blob, Row, Hosted}
 use Rattle.repo_model.specs.Settings.{Rule}
-use Rattle.repo_model.specs.State.{change_first, is_repository}
-use Rattle.repo_core.specs.Whole.{shown_policy}
-use Rattle.repo_core.specs.Rows.{shown_rows}
-use Rattle.repo_core.specs.declared.hosted.Repo.{Repo}
-
-abbrev pub shown_repo : {X : Type 0} {G : Ghosts X} → Repo X G → plain.Hosted
-shown_repo repo = record { rule = shown_policy repo.policy; rows = shown_rows repo.rows.items }
-
-abbrev pub shown_repos : {X : Type 0} {G : Ghosts X} → List (Repo X G) → List plain.Hosted
-shown_repos repos = map shown_repo repos
+use Rattle.repo_model.specs.State.{change_first, change_where, is_among, is_repository, is_row}
+use Rattle.repo_model.specs.Effect.{with_row, new_row, list_again}
+use Rattle.repo_model.specs.Reply.{Reply, created, relisted}
+use Rattle.repo_model.specs.Turn.{put_at}
 
 -- what the repositories take
-abbrev pub shown_policies : {X : Type 0} {G : Ghosts X} → List (Repo X G) → List Rule
-shown_policies repos = map (λ repo. shown_policy repo.policy) repos
+abbrev pub rules_of : List Hosted → List Rule
+rules_of hosted = map (λ h. h.rule) hosted
 
 -- the rows of a repository; none where there is no such repository
-abbrev pub rows_in : List ℕ → List plain.Hosted → List plain.Row
+abbrev pub rows_in : List ℕ → List Hosted → List Row
 rows_in id hosted = option_map_or (λ h. h.rows) (find (is_repository id) hosted) []
 
 -- the repositories with other rows at one of them
-abbrev pub with_rows : List ℕ → List plain.Row → List plain.Hosted → List plain.Hosted
+abbrev pub with_rows : List ℕ → List Row → List Hosted → List Hosted
 with_rows id rows hosted = change_first (is_repository id) (λ h. record h { rows = rows }) hosted
+
+-- the reply that is due to a put where that is the row at its path; it depends on nothing else
+abbrev pub put_due : Blob → Option Row → Reply
+put_due blob found = (put_at [] [] 0 blob 0 found).reply
+
+-- the rows once a blob was put at a path and that was the reply
+abbrev pub rows_put : List ℕ → Blob → ℕ → Reply → List Row → List Row
+rows_put path blob moment created rows = with_row (new_row path blob moment) rows
+rows_put path blob moment relisted rows = change_where (is_row path) (list_again moment) rows
+rows_put path blob moment _ rows = rows
+
+-- each row's blob is in use
+abbrev pub AreInUse : List ℕ → List Hosted → Type 0
+AreInUse kept hosted = AllByRecursion (λ (h : Hosted). AllByRecursion (λ (row : Row). IsTrue (is_among row.blob.number kept)) h.rows) hosted

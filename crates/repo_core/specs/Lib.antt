@@ -1,4 +1,3 @@
-pub mod Rows
 pub mod Hosted
 pub mod Numbers
 pub mod Turn

@@ -1,25 +1,21 @@
--- The blob numbers of the program as the machine's plain data.
-use Rattle.std.specs.Prelude.{◌+◌, ◌≤◌, map, vec_len, vec_capacity}
-use Rattle.repo_model.specs.State as state
-use Rattle.repo_model.specs.State.{number_end}
-use Rattle.repo_core.specs.declared.yard.Lease.{Lease}
-use Rattle.repo_core.specs.declared.yard.Yard.TheInside.{Inside}
+-- The numbers of blobs once a file was looked at, and once a put was over.
+use Rattle.std.specs.Prelude.{ℕ, List}
+use Rattle.repo_model.specs.State.{Yard}
+use Rattle.repo_model.specs.Effect.{without_draft, yard_after, lends, drops, with_number}
+use Rattle.repo_model.specs.Reply.{Reply, file, created, no_memory}
 
-abbrev pub shown_lease : Lease → state.Lease
-shown_lease lease = record { number = lease.number; blob = lease.blob }
+-- a file was looked at, and that was the reply
+abbrev pub yard_looked : Reply → Yard → Yard
+yard_looked (file lease blob) yard = yard_after (lends blob.number) yard
+yard_looked _ yard = yard
 
-abbrev pub shown_yard : Inside → state.Yard
-shown_yard yard = record {
-  drafts = yard.drafts.items;
-  leases = map shown_lease yard.leases.items;
-  condemned = yard.condemned.items;
-  next_draft = yard.next_draft;
-  next_lease = yard.next_lease;
-  next_session = 1;
-}
+-- a put was over, and that was the reply: its draft is a row's blob, or still a draft, or garbage
+abbrev pub yard_put : ℕ → Reply → Yard → Yard
+yard_put draft created yard = without_draft draft yard
+yard_put draft no_memory yard = yard
+yard_put draft _ yard = yard_after (drops draft) yard
 
--- each draft has its place among the garbage, and the next numbers stay in range
-pub record IsRoomy (yard : Inside) : Type 0 where
-  pub room : vec_len yard.condemned + vec_len yard.drafts ≤ vec_capacity yard.condemned
-  pub draft : yard.next_draft ≤ number_end
-  pub lease : yard.next_lease ≤ number_end
+-- which numbers are in use then
+abbrev pub kept_put : ℕ → Reply → List ℕ → List ℕ
+kept_put draft created kept = with_number draft kept
+kept_put draft _ kept = kept

@@ -5,9 +5,7 @@ mod asking;
 mod hosted;
 mod machine;
 mod repository;
-mod rows;
 mod turn;
-mod yard;
 
 pub use hosted::Policy;
 pub use repo_model::{Command, Reply};

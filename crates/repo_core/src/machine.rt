@@ -1,25 +1,25 @@
 //! The parts of the repository, and one turn of them.
 ghost use Rattle.std.specs.Prelude.{◌≡◌, IsTrue};
+ghost use Rattle.hosted_repo.specs.Puts.{shown_put};
 ghost use Rattle.repo_model.specs.State.{is_among};
-ghost use Rattle.repo_model.specs.Shown.{shown_reply};
+ghost use Rattle.repo_model.specs.Shown.{shown_parcel, shown_reply};
 ghost use Rattle.repo_model.specs.Turn.{shows, is_file};
-ghost use Rattle.repo_core.specs.Rows.{shown_row, shown_outcome, yard_looked, yard_put};
+ghost use Rattle.repo_core.specs.Numbers.{yard_looked, yard_put, kept_put};
 ghost use Rattle.repo_core.specs.Turn.{IsDueOr};
 
-use crate::hosted::{self, Policy, Repo, empty_repos, knows, row_of, takes};
-use crate::rows::{PutOutcome, Row};
+use crate::hosted::{self, Policy, empty_repos, knows, row_of, takes};
 use crate::turn::next_moment;
-use crate::yard::Yard;
+use blob_yard::{DrawFault, Yard};
+use hosted_repo::{Hosted, Put, Row, print_of};
 use outside::{Clock, Held, NoMemory, Parcel};
 use repo_model::{Command, NUMBER_END, Reply};
 use std::alloc::Global;
 use std::marker::Model;
-use texts::Text;
 
 /// Hosted repositories with their rows, the blob numbers, a clock, and how many calls there were.
 #[derive(Drop)]
 pub struct Machine<C: Clock, H: Held> {
-    repos: Vec<Repo<H>>,
+    repos: Vec<Hosted<H>>,
     max_file: u64,
     yard: Yard,
     last: u64,
@@ -28,21 +28,20 @@ pub struct Machine<C: Clock, H: Held> {
 }
 
 impl<C: Clock, H: Held> Model for Machine<C, H> {
-    ghost use Rattle.std.specs.Prelude.{◌≤◌};
-    ghost use Rattle.std.specs.Prelude.{[]};
+    ghost use Rattle.std.specs.Prelude.{◌≤◌, []};
     ghost use Rattle.repo_model.specs.History.{latest_moment};
     ghost use Rattle.repo_core.specs.Whole.{Whole, plain_settings};
 
     ghost Value = { Whole };
 
-    ghost use Rattle.repo_core.specs.Hosted.{shown_policies, shown_repos};
+    ghost use Rattle.repo_core.specs.Hosted.{rules_of, AreInUse};
 
     ghost view = { λ c. record {
-      settings = plain_settings (shown_policies c.repos.items) c.max_file;
+      settings = plain_settings (rules_of c.repos.items) c.max_file;
       state = record {
-        hosted = shown_repos c.repos.items;
+        hosted = c.repos.items;
         sessions = [];
-        yard = c.yard;
+        yard = c.yard.yard;
         last = c.last;
         clock = C.moments c.clock;
         faults = 0;
@@ -50,7 +49,7 @@ impl<C: Clock, H: Held> Model for Machine<C, H> {
       calls = c.calls;
     } };
 
-    ghost invariant = { λ c. c.last ≤ latest_moment };
+    ghost invariant = { λ c. record { moment : c.last ≤ latest_moment; blobs : AreInUse c.yard.kept c.repos.items } };
 }
 
 impl<C: Clock, H: Held> Machine<C, H> {
@@ -78,17 +77,22 @@ impl<C: Clock, H: Held> Machine<C, H> {
         ensures calls { IfOk result (λ core. core.calls ≡ 0) }
         ensures err { IfErr result (λ error. error.1 ≡ clock) }
     {
-        match empty_repos(alloc, hosted) {
-            Ok(repos) => Ok(Machine {
-                repos,
-                max_file,
-                yard: Yard::new(alloc),
-                last: 0,
-                clock,
-                calls: 0,
-            }),
-            Err(error) => Err((error, clock)),
-        }
+        let repos = match empty_repos(alloc, hosted) {
+            Ok(repos) => repos,
+            Err(error) => return Err((error, clock)),
+        };
+        let yard = match Yard::start(alloc, &[], 1, 1) {
+            Ok(yard) => yard,
+            Err(error) => return Err((error, clock)),
+        };
+        Ok(Machine {
+            repos,
+            max_file,
+            yard,
+            last: 0,
+            clock,
+            calls: 0,
+        })
     }
 
     /// One turn: reads the clock once, and answers the command.
@@ -164,7 +168,7 @@ impl<C: Clock, H: Held> Machine<C, H> {
         match command {
             Command::Look { repo, path } => self.look(repo.as_str(), path.as_str()),
             Command::Done { lease } => {
-                self.yard.give_back(lease);
+                self.yard.done(lease);
                 Reply::Done
             }
             Command::MayPut { repo, path } => self.may_put(repo.as_str(), path.as_str()),
@@ -173,7 +177,7 @@ impl<C: Clock, H: Held> Machine<C, H> {
                 path,
                 draft,
                 parcel,
-            } => self.put(repo.as_str(), path, draft, parcel),
+            } => self.put(repo.as_str(), path.as_str(), draft, parcel),
             Command::Drop { draft } => self.drop_draft(draft),
         }
     }
@@ -194,18 +198,16 @@ impl<C: Clock, H: Held> Machine<C, H> {
         if !takes(&self.repos, repo, path) {
             return Reply::KindRefused;
         }
-        if self.yard.is_out_of_drafts() {
-            return Reply::Spent;
-        }
-        match self.yard.draw() {
+        match self.yard.draft() {
             Ok(draft) => Reply::Draft(draft),
-            Err(_) => Reply::NoMemory,
+            Err(DrawFault::Spent) => Reply::Spent,
+            Err(DrawFault::NoMemory) => Reply::NoMemory,
         }
     }
 
-    fn put(&mut self, repo: &str, path: Text, draft: u64, parcel: Parcel<H>) -> Reply<H>
-        requires { IsTrue (can_be_asked self.old.settings (put repo.now path draft (shown_parcel parcel))) }
-        ensures { Turned self.old self.new (put repo.now path draft (shown_parcel parcel)) (shown_reply result) }
+    fn put(&mut self, repo: &str, path: &str, draft: u64, parcel: Parcel<H>) -> Reply<H>
+        requires { IsTrue (can_be_asked self.old.settings (put repo.now path.now draft (shown_parcel parcel))) }
+        ensures { Turned self.old self.new (put repo.now path.now draft (shown_parcel parcel)) (shown_reply result) }
     {
         if !self.yard.is_draft(draft) {
             return Reply::NoDraft;
@@ -218,51 +220,58 @@ impl<C: Clock, H: Held> Machine<C, H> {
     fn drop_draft(&mut self, draft: u64) -> Reply<H>
         ensures { Turned self.old self.new (drop_draft draft) (shown_reply result) }
     {
-        if self.yard.is_draft(draft) {
-            self.yard.condemn(draft);
-        }
+        self.yard.drop_draft(draft);
         Reply::Dropped
     }
 }
 
 // The answer where the file is there: its blob, lent.
 fn lend<H: Held>(yard: &mut Yard, row: &Row<H>) -> Reply<H>
-    ensures reply { IsDueOr (shows yard.old.next_lease (is_file (shown_row row.now).blob)).reply (shown_reply result) }
-    ensures yard { yard.new ≡ yard_looked (shown_reply result) yard.old }
+    requires { IsTrue (is_among row.now.parcel.blob yard.old.kept) }
+    ensures reply { IsDueOr (shows yard.old.yard.next_lease (is_file (shown_parcel row.now.parcel))).reply (shown_reply result) }
+    ensures yard { yard.new ≡ record yard.old { yard = yard_looked (shown_reply result) yard.old.yard } }
 {
-    if yard.is_out_of_leases() {
-        return Reply::Spent;
-    }
     let Ok(parcel) = row.parcel.share() else {
         return Reply::NoMemory;
     };
     match yard.lease(parcel.blob) {
         Ok(lease) => Reply::File { lease, parcel },
-        Err(_) => Reply::NoMemory,
+        Err(DrawFault::Spent) => Reply::Spent,
+        Err(DrawFault::NoMemory) => Reply::NoMemory,
     }
 }
 
 // A put is over: what becomes of its draft.
-fn settle(yard: &mut Yard, draft: u64, outcome: &PutOutcome)
-    requires { IsTrue (is_among draft yard.old.drafts) }
-    ensures { yard.new ≡ yard_put draft outcome.now yard.old }
+fn settle<H: Held>(yard: &mut Yard, draft: u64, did: &Put<H>)
+    requires { IsTrue (is_among draft yard.old.yard.drafts) }
+    ensures { yard.new ≡ record {
+      yard = yard_put draft (shown_put did.now) yard.old.yard;
+      kept = kept_put draft (shown_put did.now) yard.old.kept;
+    } }
 {
-    match outcome {
-        PutOutcome::Created => yard.keep(draft),
-        PutOutcome::NoMemory => {}
-        PutOutcome::Same | PutOutcome::Relisted | PutOutcome::Taken { .. } => yard.condemn(draft),
+    match did {
+        Put::Created => {
+            yard.keep(draft);
+        }
+        Put::NoMemory(_) => {}
+        Put::Same(_) | Put::Relisted(_) | Put::Taken { .. } => {
+            yard.drop_draft(draft);
+        }
     }
 }
 
 // What a put replies.
-fn reply_of<H: Held>(outcome: PutOutcome) -> Reply<H>
-    ensures { shown_reply result ≡ shown_outcome outcome }
+fn reply_of<H: Held>(did: Put<H>) -> Reply<H>
+    ensures { shown_reply result ≡ shown_put did }
 {
-    match outcome {
-        PutOutcome::Created => Reply::Created,
-        PutOutcome::Same => Reply::Same,
-        PutOutcome::Relisted => Reply::Relisted,
-        PutOutcome::Taken { kept, sent } => Reply::Taken { kept, sent },
-        PutOutcome::NoMemory => Reply::NoMemory,
+    match did {
+        Put::Created => Reply::Created,
+        Put::Same(_) => Reply::Same,
+        Put::Relisted(_) => Reply::Relisted,
+        Put::Taken { kept, sent } => Reply::Taken {
+            kept,
+            sent: print_of(&sent),
+        },
+        Put::NoMemory(_) => Reply::NoMemory,
     }
 }

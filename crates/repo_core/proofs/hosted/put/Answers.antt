@@ -1,18 +1,37 @@
-use Rattle.std.proofs.Common.{◌≡◌, ◌<◌, get_or, set, length, ap, ◌∙◌}
+use Rattle.std.proofs.Common.{◌≡◌, ◌<◌, get_or, set, length, inl, inr, sym, ap, ◌∙◌, subst}
 use Rattle.std.proofs.lemmas.List.{get_or_default}
+use Rattle.repo_model.specs.Data.{Hosted}
+use Rattle.repo_model.specs.State.{row_at}
 use Rattle.repo_model.specs.Shown.{shown_parcel}
-use Rattle.repo_core.specs.Hosted.{shown_repos, with_rows, rows_in}
-use Rattle.repo_core.specs.Rows.{shown_rows, rows_put, shown_outcome}
+use Rattle.hosted_repo.specs.Puts.{shown_put}
+use Rattle.repo_core.specs.Hosted.{with_rows, rows_in, rows_put, put_due}
+use Rattle.repo_core.specs.Turn.{IsDueOr}
+use Rattle.repo_core.proofs.PutReplies.{put-reply, rows-left}
 use Rattle.repo_core.proofs.hosted.put.Goals as goal
+
+pub returns-clause-reply : goal.returns-clause-reply
+returns-clause-reply g c =
+    let old = c.index_mut.result.now in
+    let blob = shown_parcel c.args.parcel in
+    let here : old.rows ≡ rows_in c.args.id.now c.args.repos.now.items = ap (λ (h : Hosted). h.rows) c.index_mut.ensures.value ∙ (rw c.deref.ensures.value at (c.place_of-place.ensures.rows old)) in
+    subst (λ rows. IsDueOr (put_due blob (row_at c.args.path.now rows)) (shown_put c.put.result)) here
+    (elim c.put.ensures.reply as (λ _. IsDueOr (put_due blob (row_at c.args.path.now old.rows)) (shown_put c.put.result)) [
+      | inl is ↦ inl (is ∙ sym (put-reply old.rule.id c.args.path.now c.args.parcel.blob c.args.moment blob (row_at c.args.path.now old.rows)))
+      | inr is ↦ inr is
+    ])
 
 pub returns-clause-rows : goal.returns-clause-rows
 returns-clause-rows g c =
     let items = c.args.repos.now.items in
     let i = c.place_of-place.result in
     let old = c.index_mut.result.now in
-    let new = record old { rows = c.put.new.rows } in
+    let new = c.put.new.self in
+    let blob = shown_parcel c.args.parcel in
+    let reply = shown_put c.put.result in
+    let made : new ≡ record old { rows = rows_put c.args.path.now blob c.args.moment reply old.rows } =
+    c.put.ensures.rows ∙ rows-left old.rule.id c.args.path.now c.args.parcel.blob c.args.moment blob (row_at c.args.path.now old.rows) old reply c.put.ensures.reply in
     let within : i < length items = rw c.deref.ensures.value at c.place_of-place.ensures.bound in
-    let same : new.policy ≡ (get_or c.deref.result.now i new).policy = rw c.deref.ensures.value (ap (λ r. r.policy) (c.index_mut.ensures.value ∙ get_or_default items i old new within)) in
-    let changed : shown_repos (set items i new) ≡ with_rows c.args.id.now (shown_rows c.put.new.rows.items) (shown_repos items) = rw c.deref.ensures.value at (c.place_of-place.ensures.change new same) in
-    let here : shown_rows old.rows.items ≡ rows_in c.args.id.now (shown_repos items) = ap (λ r. shown_rows r.rows.items) c.index_mut.ensures.value ∙ (rw c.deref.ensures.value at (c.place_of-place.ensures.rows old)) in
-    changed ∙ ap (λ rows. with_rows c.args.id.now rows (shown_repos items)) (c.put.ensures.rows ∙ ap (rows_put c.args.path (shown_parcel c.args.parcel) c.args.moment (shown_outcome c.put.result)) here)
+    let same : new.rule ≡ (get_or c.deref.result.now i new).rule = rw c.deref.ensures.value (ap (λ (h : Hosted). h.rule) (made ∙ ap (λ (h : Hosted). record old { rule = h.rule; rows = rows_put c.args.path.now blob c.args.moment reply old.rows }) (c.index_mut.ensures.value ∙ get_or_default items i old new within))) in
+    let changed : set items i new ≡ with_rows c.args.id.now new.rows items = rw c.deref.ensures.value at (c.place_of-place.ensures.change new same) in
+    let here : old.rows ≡ rows_in c.args.id.now items = ap (λ (h : Hosted). h.rows) c.index_mut.ensures.value ∙ (rw c.deref.ensures.value at (c.place_of-place.ensures.rows old)) in
+    changed ∙ ap (λ rows. with_rows c.args.id.now rows items) (ap (λ (h : Hosted). h.rows) made ∙ ap (rows_put c.args.path.now blob c.args.moment reply) here)

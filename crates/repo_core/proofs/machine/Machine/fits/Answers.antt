@@ -4,7 +4,7 @@ use Rattle.repo_model.specs.Command.{is_fit, is_there, is_file_path, rule_of}
 use Rattle.repo_model.specs.Paths.{takes}
 use Rattle.repo_model.specs.State.{number_end}
 use Rattle.repo_model.specs.Shown.{shown_parcel}
-use Rattle.repo_core.specs.Hosted.{shown_policies}
+use Rattle.repo_core.specs.Hosted.{rules_of}
 use Rattle.repo_core.specs.Whole.{plain_settings}
 use Rattle.repo_core.proofs.Turning.{can-look, can-may_put, can-put}
 use Rattle.repo_core.proofs.machine.Machine.fits.Goals as goal
@@ -12,7 +12,7 @@ use Rattle.repo_core.proofs.machine.Machine.fits.Goals.{then-takes, else-takes}
 
 pub returns-in-Look : goal.returns-in-Look
 returns-in-Look g c =
-    let settings = plain_settings (shown_policies c.self.inside.repos.items) c.self.inside.max_file in
+    let settings = plain_settings (rules_of c.self.inside.repos.items) c.self.inside.max_file in
     let known : c.knows.result ≡ (is_there c.in-Look.repo settings && is_file_path c.in-Look.path) = rw (c.deref-in-Look.ensures.value, c.as_str-in-Look.ensures, c.as_str-in-Look-2.ensures) at c.knows.ensures in
     elim c.in-Look.is [
       | inl is ↦ rw (← c.self.view_is, is) (known ∙ can-look settings c.in-Look.repo c.in-Look.path)
@@ -21,7 +21,7 @@ returns-in-Look g c =
 
 pub returns-then-parcel-draft : goal.returns-then-parcel-draft
 returns-then-parcel-draft g c =
-    let settings = plain_settings (shown_policies c.self.inside.repos.items) c.self.inside.max_file in
+    let settings = plain_settings (rules_of c.self.inside.repos.items) c.self.inside.max_file in
     let fit : c.takes.result ≡ is_fit (λ rule. takes rule c.in-Put.path) (rule_of c.in-Put.repo settings) = rw (c.deref.ensures.value, c.as_str.ensures, c.as_str-in-Put.ensures) at c.takes.ensures.rule in
     let short = nat_lt c.in-Put.parcel.length number_end in
     let value : c.if-takes.value ≡ (is_fit (λ rule. takes rule c.in-Put.path) (rule_of c.in-Put.repo settings) && (c.in-Put.parcel.blob == c.in-Put.draft)) = elim c.if-takes.branch [
@@ -32,7 +32,7 @@ returns-then-parcel-draft g c =
 
 pub returns-else-parcel-draft : goal.returns-else-parcel-draft
 returns-else-parcel-draft g c =
-    let settings = plain_settings (shown_policies c.self.inside.repos.items) c.self.inside.max_file in
+    let settings = plain_settings (rules_of c.self.inside.repos.items) c.self.inside.max_file in
     let fit : c.takes.result ≡ is_fit (λ rule. takes rule c.in-Put.path) (rule_of c.in-Put.repo settings) = rw (c.deref.ensures.value, c.as_str.ensures, c.as_str-in-Put.ensures) at c.takes.ensures.rule in
     let short = nat_lt c.in-Put.parcel.length number_end in
     let value : c.if-takes.value ≡ (is_fit (λ rule. takes rule c.in-Put.path) (rule_of c.in-Put.repo settings) && (c.in-Put.parcel.blob == c.in-Put.draft)) = elim c.if-takes.branch [

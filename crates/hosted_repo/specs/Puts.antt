@@ -1,0 +1,37 @@
+-- What a put did, as the machine's plain data.
+use Rattle.std.specs.Prelude.{◌≡◌, if◌then◌else◌, Option, Some, None}
+use Rattle.outside.specs.declared.parcels.Parcel.{Parcel}
+use Rattle.outside.specs.declared.stores.Held.{Ghosts}
+use Rattle.repo_model.specs.declared.print.Print.{Print}
+use Rattle.repo_model.specs.Data.{Row, Phase, listed, fading, is_same_print}
+use Rattle.repo_model.specs.Reply.{Reply, created, same, relisted, taken, no_memory}
+use Rattle.repo_model.specs.Shown.{shown_print}
+use Rattle.hosted_repo.specs.declared.put.Put.{Put}
+use Rattle.hosted_repo.specs.declared.put.Put.TheVariants as did
+use Rattle.hosted_repo.specs.declared.put.Standing.{Standing}
+use Rattle.hosted_repo.specs.declared.put.Standing.TheVariants as stands
+
+-- the reply that says what a put did
+abbrev pub shown_put : {X : Type 0} {G : Ghosts X} → Put X G → Reply
+shown_put did.Created = created
+shown_put (did.Same parcel) = same
+shown_put (did.Relisted parcel) = relisted
+shown_put (did.Taken kept sent) = taken kept (shown_print sent)
+shown_put (did.NoMemory parcel) = no_memory
+
+-- the parcel that was sent comes back, but for a new row
+abbrev pub GivesBack : {X : Type 0} {G : Ghosts X} → Put X G → Parcel X G → Type 0
+GivesBack did.Created parcel = Unit {0}
+GivesBack (did.Same back) parcel = back ≡ parcel
+GivesBack (did.Relisted back) parcel = back ≡ parcel
+GivesBack (did.Taken kept back) parcel = back ≡ parcel
+GivesBack (did.NoMemory back) parcel = back ≡ parcel
+
+abbrev pub standing_by : Phase → Standing
+standing_by listed = stands.Same
+standing_by (fading since) = stands.Unlisted
+
+-- what stands at a path, beside a content of a fingerprint
+abbrev pub standing : Print → Option Row → Standing
+standing sent None = stands.Free
+standing sent (Some row) = if is_same_print row.blob.print sent then standing_by row.phase else stands.Other row.blob.print

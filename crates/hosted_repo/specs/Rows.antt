@@ -1,0 +1,34 @@
+-- Rows as the machine's plain data.
+use Rattle.std.specs.Prelude.{ℕ, List, [], ◌∷◌, map, String, string_bytes}
+use Rattle.std.specs.declared.alloc.Global.{Global}
+use Rattle.outside.specs.declared.stores.Held.{Ghosts}
+use Rattle.repo_model.specs.Data as plain
+use Rattle.repo_model.specs.Effect.{Effect, rows_after}
+use Rattle.repo_model.specs.Shown.{shown_parcel}
+use Rattle.hosted_repo.specs.declared.row.Phase.{Phase}
+use Rattle.hosted_repo.specs.declared.row.Phase.TheVariants.{Listed, Fading}
+use Rattle.hosted_repo.specs.declared.row.Row.{Row}
+
+abbrev pub shown_phase : Phase → plain.Phase
+shown_phase Listed = plain.listed
+shown_phase (Fading since) = plain.fading since
+
+module _ {X : Type 0} {G : Ghosts X} where
+  abbrev pub shown_at : List ℕ → Row X G → plain.Row
+  shown_at path row = record {
+    path = path;
+    blob = shown_parcel row.parcel;
+    accepted = row.accepted;
+    phase = shown_phase row.phase;
+  }
+
+  abbrev pub shown_entry : String Global × Row X G → plain.Row
+  shown_entry e = shown_at (string_bytes e.0) e.1
+
+  abbrev pub shown_rows : List (String Global × Row X G) → List plain.Row
+  shown_rows entries = map shown_entry entries
+
+-- the rows after some effects
+abbrev pub rows_after_all : List Effect → List plain.Row → List plain.Row
+rows_after_all [] rows = rows
+rows_after_all (e ∷ effects) rows = rows_after_all effects (rows_after e rows)

@@ -1,0 +1,101 @@
+//! A hosted repository.
+ghost use Rattle.std.specs.Prelude.{◌≡◌, ◌≤◌, ◌⊎◌, if◌then◌else◌, length, count_by, not};
+ghost use Rattle.std.specs.Option.{option_map};
+ghost use Rattle.repo_model.specs.Document.{is_listed};
+ghost use Rattle.repo_model.specs.History.{latest_moment};
+ghost use Rattle.repo_model.specs.Paths.{takes_file, file_in};
+ghost use Rattle.repo_model.specs.Reply.{is_free, no_memory};
+ghost use Rattle.repo_model.specs.Shown.{shown_parcel};
+ghost use Rattle.repo_model.specs.State.{row_at, new_hosted};
+ghost use Rattle.repo_model.specs.Turn.{put_at};
+ghost use Rattle.hosted_repo.specs.Rules.{shown_rule};
+ghost use Rattle.hosted_repo.specs.Rows.{shown_at, rows_after_all};
+ghost use Rattle.hosted_repo.specs.Puts.{shown_put, GivesBack};
+
+use crate::put::{Put, Standing};
+use crate::row::Row;
+use crate::rows;
+use crate::rule::Rule;
+use mvn_coords::Kind;
+use outside::{Held, Parcel};
+use std::alloc::Global;
+use std::collections::BTreeMap;
+use std::marker::Model;
+
+/// A hosted repository: its rule and its rows, each path once, in byte order of path.
+#[derive(Drop)]
+pub struct Hosted<H: Held> {
+    alloc: Global,
+    rule: Rule,
+    rows: BTreeMap<String, Row<H>>,
+}
+
+impl<H: Held> Model for Hosted<H> {
+    ghost use Rattle.repo_model.specs.Data as plain;
+
+    ghost Value = { plain.Hosted };
+
+    ghost use Rattle.hosted_repo.specs.Rows.{shown_rows};
+    ghost use Rattle.hosted_repo.specs.Rules.{shown_rule};
+
+    ghost view = { λ h. record { rule = shown_rule h.rule; rows = shown_rows h.rows.entries } };
+}
+
+impl<H: Held> Hosted<H> {
+    /// A repository without rows.
+    pub fn new(alloc: Global, rule: Rule) -> Hosted<H>
+        ensures { result ≡ new_hosted (shown_rule rule) }
+    {
+        Hosted {
+            alloc,
+            rule,
+            rows: BTreeMap::new(alloc),
+        }
+    }
+
+    /// Its rule.
+    pub fn rule(&self) -> &Rule
+        ensures { shown_rule result.now ≡ self.now.rule }
+    {
+        &self.rule
+    }
+
+    /// Whether it takes what a path of this kind names: files of releases, of snapshots, or of both.
+    pub fn may_put(&self, kind: &Kind<'_>) -> bool
+        ensures { result ≡ takes_file self.now.rule (file_in (Ok kind.now)) }
+    {
+        self.rule.takes(kind)
+    }
+
+    /// The row at a path.
+    pub fn row(&self, path: &str) -> Option<&Row<H>>
+        ensures { option_map (λ row. shown_at path.now row.now) result ≡ row_at path.now self.now.rows }
+    {
+        rows::find(&self.rows, path)
+    }
+
+    /// Puts a stored blob at a path at a moment, in seconds since 1970 in UTC. A row of the same content stays its file and
+    /// is visible again, and one of another content stays as it is.
+    pub fn put(&mut self, path: &str, parcel: Parcel<H>, now: u64) -> Put<H>
+        requires { now ≤ latest_moment }
+        ensures reply { let turn = put_at self.old.rule.id path.now parcel.blob (shown_parcel parcel) now (row_at path.now self.old.rows) in
+            (shown_put result ≡ turn.reply) ⊎ (shown_put result ≡ no_memory) }
+        ensures rows { let turn = put_at self.old.rule.id path.now parcel.blob (shown_parcel parcel) now (row_at path.now self.old.rows) in
+            self.new ≡ (if is_free (shown_put result) then self.old else record self.old { rows = rows_after_all turn.effects self.old.rows }) }
+        ensures room { shown_put result ≡ no_memory → row_at path.now self.old.rows ≡ None }
+        ensures parcel { GivesBack result parcel }
+    {
+        match rows::standing(&self.rows, path, rows::print_of(&parcel)) {
+            Standing::Free => match rows::add(self.alloc, &mut self.rows, path, parcel, now) {
+                Ok(()) => Put::Created,
+                Err(parcel) => Put::NoMemory(parcel),
+            },
+            Standing::Other(kept) => Put::Taken { kept, sent: parcel },
+            Standing::Same => Put::Same(parcel),
+            Standing::Unlisted => {
+                rows::list_again(&mut self.rows, path, now);
+                Put::Relisted(parcel)
+            }
+        }
+    }
+}

@@ -1,0 +1,18 @@
+//! A hosted repository: its rows in an ordered map, what they answer, and the documents of its directories.
+#![tactic(auto)]
+
+mod hosted;
+mod put;
+mod row;
+mod rows;
+mod rule;
+
+pub use hosted::Hosted;
+pub use put::Put;
+pub use row::{Phase, Row};
+pub use rows::print_of;
+pub use rule::Rule;
+use std::alloc::AllocError;
+
+/// There was no memory left.
+pub type NoMemory = AllocError;

@@ -1,0 +1,92 @@
+//! Rows in an ordered map from path to row.
+ghost use Rattle.std.specs.Prelude.{◌≡◌, ◌≤◌, None, OnOk, OnErr, IfErr, IsSome, option_map, count_by, not};
+ghost use Rattle.std.specs.Option.{option_map};
+ghost use Rattle.repo_model.specs.State.{row_at, change_where, is_row};
+ghost use Rattle.repo_model.specs.Effect.{with_row, new_row, list_again};
+ghost use Rattle.repo_model.specs.History.{latest_moment};
+ghost use Rattle.repo_model.specs.Shown.{shown_print, shown_parcel};
+ghost use Rattle.hosted_repo.specs.Rows.{shown_at, shown_rows};
+ghost use Rattle.hosted_repo.specs.Puts.{standing};
+
+use crate::put::Standing;
+use crate::row::{Phase, Row};
+use outside::{Held, Parcel};
+use repo_model::Print;
+use std::alloc::Global;
+use std::collections::BTreeMap;
+
+/// Rows by path, in byte order.
+pub type Rows<H> = BTreeMap<String, Row<H>>;
+
+/// The fingerprint of a stored blob.
+pub fn print_of<H: Held>(parcel: &Parcel<H>) -> Print
+    ensures { result ≡ shown_print parcel.now }
+{
+    Print {
+        length: parcel.length,
+        digests: parcel.digests,
+    }
+}
+
+/// The row at a path.
+pub fn find<'a, H: Held>(rows: &'a BTreeMap<String, Row<H>>, path: &str) -> Option<&'a Row<H>>
+    ensures { option_map (λ row. shown_at path.now row.now) result ≡ row_at path.now (shown_rows rows.now.entries) }
+{
+    rows.get(path)
+}
+
+/// What stands at a path, beside a content of this fingerprint.
+pub fn standing<H: Held>(rows: &BTreeMap<String, Row<H>>, path: &str, sent: Print) -> Standing
+    ensures { result ≡ standing sent (row_at path.now (shown_rows rows.now.entries)) }
+{
+    let Some(row) = find(rows, path) else {
+        return Standing::Free;
+    };
+    let kept = print_of(&row.parcel);
+    if kept != sent {
+        return Standing::Other(kept);
+    }
+    match row.phase {
+        Phase::Listed => Standing::Same,
+        Phase::Fading(_) => Standing::Unlisted,
+    }
+}
+
+/// Adds a visible row at a path that has none. Where memory is wanting the parcel comes back.
+pub fn add<H: Held>(
+    alloc: Global,
+    rows: &mut BTreeMap<String, Row<H>>,
+    path: &str,
+    parcel: Parcel<H>,
+    accepted: u64,
+) -> Result<(), Parcel<H>>
+    requires free { row_at path.now (shown_rows rows.old.entries) ≡ None }
+    requires moment { accepted ≤ latest_moment }
+    ensures ok { OnOk result (shown_rows rows.new.entries ≡ with_row (new_row path.now (shown_parcel parcel) accepted) (shown_rows rows.old.entries)) }
+    ensures err { OnErr result (rows.new.entries ≡ rows.old.entries) }
+    ensures back { IfErr result (λ p. p ≡ parcel) }
+{
+    let Ok(path) = String::from_str(alloc, path) else {
+        return Err(parcel);
+    };
+    let row = Row {
+        parcel,
+        accepted,
+        phase: Phase::Listed,
+    };
+    match rows.insert(path, row) {
+        Ok(_) => Ok(()),
+        Err(failed) => Err(failed.value.1.parcel),
+    }
+}
+
+/// Lists the row at a path again, accepted at that moment.
+pub fn list_again<H: Held>(rows: &mut BTreeMap<String, Row<H>>, path: &str, moment: u64)
+    requires { moment ≤ latest_moment }
+    ensures { shown_rows rows.new.entries ≡ change_where (is_row path.now) (list_again moment) (shown_rows rows.old.entries) }
+{
+    if let Some(row) = rows.get_mut(path) {
+        row.accepted = moment;
+        row.phase = Phase::Listed;
+    }
+}

@@ -1,8 +1,0 @@
-use Rattle.std.proofs.Common.{◌≡◌, ◌++◌, map, take, drop}
-use Rattle.repo_core.proofs.RowLemmas.{again}
-use Rattle.repo_core.proofs.rows.list_again.Given as goal
-
--- the rows so far are listed again where they are at the path
-abbrev pub invariant-loop-row : goal.invariant-loop-row
-invariant-loop-row g l =
-    l.rows ≡ map (again l.path l.moment) (take l.row-index l.initial.rows) ++ drop l.row-index l.initial.rows

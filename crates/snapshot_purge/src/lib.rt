@@ -1,0 +1,10 @@
+//! Which builds of a snapshot directory are no longer to be kept.
+#![tactic(auto)]
+
+mod builds;
+
+pub use builds::{Aged, Keep, due};
+use std::alloc::AllocError;
+
+/// There was no memory left.
+pub type NoMemory = AllocError;
