@@ -1,3 +1,4 @@
 pub mod Puts
 pub mod Rows
 pub mod Rules
+pub mod Walks

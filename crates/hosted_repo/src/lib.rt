@@ -6,6 +6,7 @@ mod put;
 mod row;
 mod rows;
 mod rule;
+mod walk;
 
 pub use hosted::Hosted;
 pub use put::Put;
