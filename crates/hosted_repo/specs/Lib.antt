@@ -1,3 +1,4 @@
+pub mod Documents
 pub mod Puts
 pub mod Rows
 pub mod Rules

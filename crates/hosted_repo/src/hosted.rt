@@ -1,7 +1,7 @@
 //! A hosted repository.
-ghost use Rattle.std.specs.Prelude.{◌≡◌, ◌≤◌, ◌⊎◌, if◌then◌else◌, length, count_by, not};
+ghost use Rattle.std.specs.Prelude.{◌≡◌, ◌≤◌, ◌⊎◌, if◌then◌else◌, IfOk};
 ghost use Rattle.std.specs.Option.{option_map};
-ghost use Rattle.repo_model.specs.Document.{is_listed};
+ghost use Rattle.repo_model.specs.Document.{document};
 ghost use Rattle.repo_model.specs.History.{latest_moment};
 ghost use Rattle.repo_model.specs.Paths.{takes_file, file_in};
 ghost use Rattle.repo_model.specs.Reply.{is_free, no_memory};
@@ -12,11 +12,14 @@ ghost use Rattle.hosted_repo.specs.Rules.{shown_rule};
 ghost use Rattle.hosted_repo.specs.Rows.{shown_at, rows_after_all};
 ghost use Rattle.hosted_repo.specs.Puts.{shown_put, GivesBack};
 
+use crate::NoMemory;
+use crate::documents;
 use crate::put::{Put, Standing};
 use crate::row::Row;
 use crate::rows;
 use crate::rule::Rule;
-use mvn_coords::Kind;
+use mvn_coords::{Dir, Kind};
+use mvn_metadata::Doc;
 use outside::{Held, Parcel};
 use std::alloc::Global;
 use std::collections::BTreeMap;
@@ -97,5 +100,12 @@ impl<H: Held> Hosted<H> {
                 Put::Relisted(parcel)
             }
         }
+    }
+
+    /// The document of a directory, from its visible rows; none where there are none.
+    pub fn document(&self, dir: &Dir<'_>) -> Result<Option<Doc>, NoMemory>
+        ensures { IfOk result (λ d. d ≡ document dir.now self.now.rows) }
+    {
+        documents::document_of(self.alloc, &self.rows, dir)
     }
 }

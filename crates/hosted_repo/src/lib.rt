@@ -1,6 +1,7 @@
 //! A hosted repository: its rows in an ordered map, what they answer, and the documents of its directories.
 #![tactic(auto)]
 
+mod documents;
 mod hosted;
 mod put;
 mod row;
