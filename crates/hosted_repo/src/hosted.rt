@@ -1,23 +1,27 @@
 //! A hosted repository.
-ghost use Rattle.std.specs.Prelude.{◌≡◌, ◌≤◌, ◌⊎◌, if◌then◌else◌, IfOk};
+ghost use Rattle.std.specs.Prelude.{◌≡◌, ◌≤◌, ◌⊎◌, if◌then◌else◌, IfOk, OnErr, true};
 ghost use Rattle.std.specs.Option.{option_map};
+ghost use Rattle.mvn_coords.specs.Kind.{kind};
 ghost use Rattle.repo_model.specs.Document.{document};
 ghost use Rattle.repo_model.specs.History.{latest_moment};
 ghost use Rattle.repo_model.specs.Paths.{takes_file, file_in};
 ghost use Rattle.repo_model.specs.Reply.{is_free, no_memory};
 ghost use Rattle.repo_model.specs.Shown.{shown_parcel};
 ghost use Rattle.repo_model.specs.State.{row_at, new_hosted};
-ghost use Rattle.repo_model.specs.Turn.{put_at};
+ghost use Rattle.repo_model.specs.Turn.{put_at, seen_at};
 ghost use Rattle.hosted_repo.specs.Rules.{shown_rule};
 ghost use Rattle.hosted_repo.specs.Rows.{shown_at, rows_after_all};
 ghost use Rattle.hosted_repo.specs.Puts.{shown_put, GivesBack};
+ghost use Rattle.hosted_repo.specs.Seens.{shown_seen, is_of_document};
 
 use crate::NoMemory;
 use crate::documents;
+use crate::looks;
 use crate::put::{Put, Standing};
 use crate::row::Row;
 use crate::rows;
 use crate::rule::Rule;
+use crate::seen::Seen;
 use mvn_coords::{Dir, Kind};
 use mvn_metadata::Doc;
 use outside::{Held, Parcel};
@@ -68,6 +72,14 @@ impl<H: Held> Hosted<H> {
         ensures { result ≡ takes_file self.now.rule (file_in (Ok kind.now)) }
     {
         self.rule.takes(kind)
+    }
+
+    /// What it has at a path. Only a document or its side file takes memory.
+    pub fn look(&self, path: &str) -> Result<Option<Seen<'_, H>>, NoMemory>
+        ensures seen { IfOk result (λ s. shown_seen s ≡ seen_at self.now.rows path.now (kind path.now)) }
+        ensures room { OnErr result (is_of_document (kind path.now) ≡ true) }
+    {
+        looks::look_at(self.alloc, &self.rows, path)
     }
 
     /// The row at a path.

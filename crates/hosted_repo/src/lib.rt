@@ -3,10 +3,12 @@
 
 mod documents;
 mod hosted;
+mod looks;
 mod put;
 mod row;
 mod rows;
 mod rule;
+mod seen;
 mod walk;
 
 pub use hosted::Hosted;
@@ -14,6 +16,7 @@ pub use put::Put;
 pub use row::{Phase, Row};
 pub use rows::print_of;
 pub use rule::Rule;
+pub use seen::{DocText, Seen};
 use std::alloc::AllocError;
 
 /// There was no memory left.
