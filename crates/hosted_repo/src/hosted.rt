@@ -1,5 +1,5 @@
 //! A hosted repository.
-ghost use Rattle.std.specs.Prelude.{◌≡◌, ◌≤◌, ◌⊎◌, if◌then◌else◌, IfOk, OnErr, true};
+ghost use Rattle.std.specs.Prelude.{◌≡◌, ◌≤◌, ◌⊎◌, if◌then◌else◌, IfOk, OnErr, true, length, count_by};
 ghost use Rattle.std.specs.Option.{option_map};
 ghost use Rattle.mvn_coords.specs.Kind.{kind};
 ghost use Rattle.repo_model.specs.Document.{document};
@@ -10,7 +10,7 @@ ghost use Rattle.repo_model.specs.Shown.{shown_parcel};
 ghost use Rattle.repo_model.specs.State.{row_at, new_hosted};
 ghost use Rattle.repo_model.specs.Turn.{put_at, seen_at};
 ghost use Rattle.hosted_repo.specs.Rules.{shown_rule};
-ghost use Rattle.hosted_repo.specs.Rows.{shown_at, rows_after_all};
+ghost use Rattle.hosted_repo.specs.Rows.{fades, shown_at, rows_after_all};
 ghost use Rattle.hosted_repo.specs.Puts.{shown_put, GivesBack};
 ghost use Rattle.hosted_repo.specs.Seens.{shown_seen, is_of_document};
 
@@ -119,5 +119,13 @@ impl<H: Held> Hosted<H> {
         ensures { IfOk result (λ d. d ≡ document dir.now self.now.rows) }
     {
         documents::document_of(self.alloc, &self.rows, dir)
+    }
+
+    /// How many rows it has, and how many of them are unlisted.
+    pub fn counts(&self) -> (u64, u64)
+        ensures all { result.0 ≡ length self.now.rows }
+        ensures fading { result.1 ≡ count_by fades self.now.rows }
+    {
+        (self.rows.len() as u64, rows::fading(&self.rows))
     }
 }
