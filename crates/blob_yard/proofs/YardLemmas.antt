@@ -61,6 +61,9 @@ placed s p = record p { stand = s }
 pub among-drafts : (n : ℕ) (es : List (ℕ × Place)) → AreRising es → option_map_or (λ (p : Place). is_draft p.stand) (lookup (nat_eq n) es) false ≡ is_among n (numbers_of is_draft es)
 among-drafts n es up = sym (among-passing drafts_at n es up)
 
+pub among-kept : (n : ℕ) (es : List (ℕ × Place)) → AreRising es → option_map_or (λ (p : Place). is_kept p.stand) (lookup (nat_eq n) es) false ≡ is_among n (numbers_of is_kept es)
+among-kept n es up = sym (among-passing kept_at n es up)
+
 module _ (n : ℕ) (es : List (ℕ × Place)) (ls : List (ℕ × ℕ)) (a b c : ℕ) (up : AreRising es) where
   -- a draft comes into use, or is given up
   pub kept_shown : is_among n (numbers_of is_draft es) ≡ true → numbers_from (changed n (placed Kept) es) ls a b c

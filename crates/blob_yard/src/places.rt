@@ -4,7 +4,7 @@ ghost use Rattle.std.specs.Map.{keys_of, lookup};
 ghost use Rattle.std.specs.Option.{option_map_or};
 ghost use Rattle.blob_yard.specs.declared.places.Place.{Place};
 ghost use Rattle.repo_model.specs.State.{is_among};
-ghost use Rattle.blob_yard.specs.Places.{AreBelow, AreKept, AreRising, changed, leases_at, is_condemned, is_draft, is_garbage, garbage_of, without};
+ghost use Rattle.blob_yard.specs.Places.{AreBelow, AreKept, AreRising, changed, leases_at, is_condemned, is_draft, is_garbage, is_kept, garbage_of, without};
 
 use outside::NoMemory;
 use std::alloc::Global;
@@ -26,6 +26,12 @@ impl Stand {
         ensures { result ≡ is_draft self }
     {
         matches!(self, Stand::Draft)
+    }
+
+    fn is_kept(self) -> bool
+        ensures { result ≡ is_kept self }
+    {
+        matches!(self, Stand::Kept)
     }
 
     fn is_condemned(self) -> bool
@@ -61,6 +67,19 @@ pub fn is_draft(places: &Places, number: u64) -> bool
     let _len = places.len();
     match places.get(&number) {
         Some(place) => place.stand.is_draft(),
+        None => false,
+    }
+}
+
+/// Whether a number is in use.
+pub fn is_kept(places: &Places, number: u64) -> bool
+    ensures value { result ≡ option_map_or (λ (p : Place). is_kept p.stand) (lookup (nat_eq number) places.now.entries) false }
+    ensures rising { AreRising places.now.entries }
+{
+    // Its contract says that the keys rise.
+    let _len = places.len();
+    match places.get(&number) {
+        Some(place) => place.stand.is_kept(),
         None => false,
     }
 }

@@ -100,6 +100,13 @@ impl Yard {
         places::is_draft(&self.places, number)
     }
 
+    /// Whether a number is that of a blob in use.
+    pub fn is_kept(&self, number: u64) -> bool
+        ensures { result ≡ is_among number self.now.kept }
+    {
+        places::is_kept(&self.places, number)
+    }
+
     /// A draft comes into use. What is no draft changes nothing.
     pub fn keep(&mut self, draft: u64) -> bool
         ensures draft { result ≡ is_among draft self.old.yard.drafts }

@@ -1,8 +1,9 @@
 -- Rows as the machine's plain data.
-use Rattle.std.specs.Prelude.{ℕ, List, [], ◌∷◌, map, String, string_bytes}
+use Rattle.std.specs.Prelude.{ℕ, Bool, not, List, [], ◌∷◌, map, String, string_bytes}
 use Rattle.std.specs.declared.alloc.Global.{Global}
 use Rattle.outside.specs.declared.stores.Held.{Ghosts}
 use Rattle.repo_model.specs.Data as plain
+use Rattle.repo_model.specs.Document.{is_listed}
 use Rattle.repo_model.specs.Effect.{Effect, rows_after}
 use Rattle.repo_model.specs.Shown.{shown_parcel}
 use Rattle.hosted_repo.specs.declared.row.Phase.{Phase}
@@ -32,3 +33,7 @@ module _ {X : Type 0} {G : Ghosts X} where
 abbrev pub rows_after_all : List Effect → List plain.Row → List plain.Row
 rows_after_all [] rows = rows
 rows_after_all (e ∷ effects) rows = rows_after_all effects (rows_after e rows)
+
+-- whether a row is unlisted
+abbrev pub fades : plain.Row → Bool
+fades row = not (is_listed row.phase)

@@ -1,22 +1,29 @@
 //! A hosted repository.
-ghost use Rattle.std.specs.Prelude.{◌≡◌, ◌≤◌, ◌⊎◌, if◌then◌else◌, length, count_by, not};
+ghost use Rattle.std.specs.Prelude.{◌≡◌, ◌≤◌, ◌⊎◌, if◌then◌else◌, IfOk, OnErr, true, length, count_by};
 ghost use Rattle.std.specs.Option.{option_map};
-ghost use Rattle.repo_model.specs.Document.{is_listed};
+ghost use Rattle.mvn_coords.specs.Kind.{kind};
+ghost use Rattle.repo_model.specs.Document.{document};
 ghost use Rattle.repo_model.specs.History.{latest_moment};
 ghost use Rattle.repo_model.specs.Paths.{takes_file, file_in};
 ghost use Rattle.repo_model.specs.Reply.{is_free, no_memory};
 ghost use Rattle.repo_model.specs.Shown.{shown_parcel};
 ghost use Rattle.repo_model.specs.State.{row_at, new_hosted};
-ghost use Rattle.repo_model.specs.Turn.{put_at};
+ghost use Rattle.repo_model.specs.Turn.{put_at, seen_at};
 ghost use Rattle.hosted_repo.specs.Rules.{shown_rule};
-ghost use Rattle.hosted_repo.specs.Rows.{shown_at, rows_after_all};
+ghost use Rattle.hosted_repo.specs.Rows.{fades, shown_at, rows_after_all};
 ghost use Rattle.hosted_repo.specs.Puts.{shown_put, GivesBack};
+ghost use Rattle.hosted_repo.specs.Seens.{shown_seen, is_of_document};
 
+use crate::NoMemory;
+use crate::documents;
+use crate::looks;
 use crate::put::{Put, Standing};
 use crate::row::Row;
 use crate::rows;
 use crate::rule::Rule;
-use mvn_coords::Kind;
+use crate::seen::Seen;
+use mvn_coords::{Dir, Kind};
+use mvn_metadata::Doc;
 use outside::{Held, Parcel};
 use std::alloc::Global;
 use std::collections::BTreeMap;
@@ -67,6 +74,14 @@ impl<H: Held> Hosted<H> {
         self.rule.takes(kind)
     }
 
+    /// What it has at a path. Only a document or its side file takes memory.
+    pub fn look(&self, path: &str) -> Result<Option<Seen<'_, H>>, NoMemory>
+        ensures seen { IfOk result (λ s. shown_seen s ≡ seen_at self.now.rows path.now (kind path.now)) }
+        ensures room { OnErr result (is_of_document (kind path.now) ≡ true) }
+    {
+        looks::look_at(self.alloc, &self.rows, path)
+    }
+
     /// The row at a path.
     pub fn row(&self, path: &str) -> Option<&Row<H>>
         ensures { option_map (λ row. shown_at path.now row.now) result ≡ row_at path.now self.now.rows }
@@ -97,5 +112,20 @@ impl<H: Held> Hosted<H> {
                 Put::Relisted(parcel)
             }
         }
+    }
+
+    /// The document of a directory, from its visible rows; none where there are none.
+    pub fn document(&self, dir: &Dir<'_>) -> Result<Option<Doc>, NoMemory>
+        ensures { IfOk result (λ d. d ≡ document dir.now self.now.rows) }
+    {
+        documents::document_of(self.alloc, &self.rows, dir)
+    }
+
+    /// How many rows it has, and how many of them are unlisted.
+    pub fn counts(&self) -> (u64, u64)
+        ensures all { result.0 ≡ length self.now.rows }
+        ensures fading { result.1 ≡ count_by fades self.now.rows }
+    {
+        (self.rows.len() as u64, rows::fading(&self.rows))
     }
 }

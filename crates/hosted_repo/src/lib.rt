@@ -1,17 +1,22 @@
 //! A hosted repository: its rows in an ordered map, what they answer, and the documents of its directories.
 #![tactic(auto)]
 
+mod documents;
 mod hosted;
+mod looks;
 mod put;
 mod row;
 mod rows;
 mod rule;
+mod seen;
+mod walk;
 
 pub use hosted::Hosted;
 pub use put::Put;
 pub use row::{Phase, Row};
 pub use rows::print_of;
 pub use rule::Rule;
+pub use seen::{DocText, Seen};
 use std::alloc::AllocError;
 
 /// There was no memory left.

@@ -1,11 +1,12 @@
 //! Rows in an ordered map from path to row.
-ghost use Rattle.std.specs.Prelude.{◌≡◌, ◌≤◌, None, OnOk, OnErr, IfErr, IsSome, option_map, count_by, not};
+ghost use Rattle.std.specs.Prelude.{◌≡◌, ◌≤◌, None, OnOk, OnErr, IfErr, count_by, not};
 ghost use Rattle.std.specs.Option.{option_map};
 ghost use Rattle.repo_model.specs.State.{row_at, change_where, is_row};
 ghost use Rattle.repo_model.specs.Effect.{with_row, new_row, list_again};
+ghost use Rattle.repo_model.specs.Document.{is_listed};
 ghost use Rattle.repo_model.specs.History.{latest_moment};
 ghost use Rattle.repo_model.specs.Shown.{shown_print, shown_parcel};
-ghost use Rattle.hosted_repo.specs.Rows.{shown_at, shown_rows};
+ghost use Rattle.hosted_repo.specs.Rows.{fades, shown_at, shown_phase, shown_rows};
 ghost use Rattle.hosted_repo.specs.Puts.{standing};
 
 use crate::put::Standing;
@@ -89,4 +90,23 @@ pub fn list_again<H: Held>(rows: &mut BTreeMap<String, Row<H>>, path: &str, mome
         row.accepted = moment;
         row.phase = Phase::Listed;
     }
+}
+
+/// How many rows are unlisted.
+pub fn fading<H: Held>(rows: &BTreeMap<String, Row<H>>) -> u64
+    ensures { result ≡ count_by fades (shown_rows rows.now.entries) }
+{
+    let mut count = 0;
+    for (_, row) in rows {
+        if is_fading(row.phase) {
+            count += 1;
+        }
+    }
+    count
+}
+
+fn is_fading(phase: Phase) -> bool
+    ensures { result ≡ not (is_listed (shown_phase phase)) }
+{
+    matches!(phase, Phase::Fading(_))
 }

@@ -1,0 +1,136 @@
+// What the tests share: a repository over memory, and what it answers as plain values.
+use hosted_repo::{Hosted, Put, Rule, Seen};
+use mvn_coords::{Dir, Kind, kind_of};
+use mvn_digest::Hashes;
+use outside::{Blobs, FaultScript, MemBlobs, MemHeld, Parcel};
+use repo_model::Print;
+use std::alloc::Global;
+use std::process::Abort;
+use std::test::Fail;
+use texts::Text;
+
+// 2024-02-29 12:00:00 UTC.
+pub const T: u64 = 1_709_208_000;
+
+/// What a put came to.
+#[derive(Clone, Copy, Debug, PartialEq, Eq)]
+pub enum Did {
+    Created,
+    // with the blob that came back
+    Same(u64),
+    Relisted(u64),
+    // with the lengths of both contents, and the blob that came back
+    Taken(u64, u64, u64),
+    NoMemory(u64),
+}
+
+fn did_of(put: Put<MemHeld>) -> Did {
+    match put {
+        Put::Created => Did::Created,
+        Put::Same(parcel) => Did::Same(parcel.blob),
+        Put::Relisted(parcel) => Did::Relisted(parcel.blob),
+        Put::Taken { kept, sent } => Did::Taken(kept.length, sent.length, sent.blob),
+        Put::NoMemory(parcel) => Did::NoMemory(parcel.blob),
+    }
+}
+
+/// A repository and its blobs.
+#[derive(Drop)]
+pub struct Bench {
+    pub repo: Hosted<MemHeld>,
+    blobs: MemBlobs,
+    next: u64,
+}
+
+impl Bench {
+    /// A repository that takes releases, snapshots or both.
+    pub fn new(alloc: Global, releases: bool, snapshots: bool) -> Result<Bench, Fail> {
+        let rule = Rule {
+            id: Text::new(alloc, "snapshots")?,
+            releases,
+            snapshots,
+            keep_count: 1,
+            keep_days: 0,
+        };
+        Ok(Bench {
+            repo: Hosted::new(alloc, rule),
+            blobs: MemBlobs::new(alloc, FaultScript::none(alloc)),
+            next: 1,
+        })
+    }
+
+    fn parcel(&mut self, bytes: &[u8]) -> Result<Parcel<MemHeld>, Fail> {
+        let mut hashes = Hashes::new();
+        hashes.update(bytes);
+        let blob = self.next;
+        self.next = blob.wrapping_add(1);
+        Ok(Parcel {
+            blob,
+            held: self.blobs.store(blob, bytes)?,
+            length: bytes.len() as u64,
+            digests: hashes.finish(),
+        })
+    }
+
+    /// Puts bytes at a path, as the next blob.
+    pub fn put(&mut self, path: &str, bytes: &[u8]) -> Result<Did, Fail> {
+        let parcel = self.parcel(bytes)?;
+        Ok(did_of(self.repo.put(path, parcel, T)))
+    }
+
+    /// Puts `abc` at some paths that are free.
+    pub fn fill(&mut self, rt: &impl Abort, paths: &[&str]) -> Result<(), Fail> {
+        for path in paths {
+            assert_eq!(rt; self.put(path, b"abc")?, Did::Created);
+        }
+        Ok(())
+    }
+
+    /// Whether the repository takes a file at a path.
+    pub fn may_put(&self, path: &str) -> bool {
+        match kind_of(path) {
+            Ok(kind) => self.repo.may_put(&kind),
+            Err(_) => false,
+        }
+    }
+
+    /// The length and the first and last bytes of a look's digests or text.
+    pub fn expect_file(&self, rt: &impl Abort, path: &str, sha1: &[u8], md5: &[u8]) -> Result<(), Fail> {
+        match self.repo.look(path)? {
+            Some(Seen::File(parcel)) => {
+                assert_eq!(rt; parcel.digests.sha1_text().as_slice(), sha1);
+                assert_eq!(rt; parcel.digests.md5_text().as_slice(), md5);
+                Ok(())
+            }
+            _ => Err("no file")?,
+        }
+    }
+
+    /// A look gives this text of a side file.
+    pub fn expect_side(&self, rt: &impl Abort, path: &str, want: &[u8]) -> Result<(), Fail> {
+        match self.repo.look(path)? {
+            Some(Seen::Text(text)) => {
+                assert_eq!(rt; text.as_bytes(), want);
+                Ok(())
+            }
+            _ => Err("no side file")?,
+        }
+    }
+
+    /// A look gives this document.
+    pub fn expect_document(&self, rt: &impl Abort, path: &str, want: &str) -> Result<(), Fail> {
+        match self.repo.look(path)? {
+            Some(Seen::Doc(doc)) => {
+                assert_eq!(rt; doc.text.as_slice(), want.as_bytes());
+                Ok(())
+            }
+            _ => Err("no document")?,
+        }
+    }
+
+    /// A look gives nothing.
+    pub fn expect_nothing(&self, rt: &impl Abort, path: &str) -> Result<(), Fail> {
+        assert!(rt; self.repo.look(path)?.is_none());
+        Ok(())
+    }
+}
