@@ -1,7 +1,7 @@
 -- Where the first text that is no pattern stands.
 use Rattle.std.proofs.Common.{◌≡◌, ℕ, ◌+◌, ◌≤◌, Bool, true, false, not, ◌&&◌, cond, ltb, List, [], ◌∷◌, length, map, Some, None, add-one, refl, ap, arith}
-use Rattle.std.specs.List.{list_all, position, position_or_len, prefix_len}
-use Rattle.std.proofs.lemmas.Bool.{ltb-false}
+use Rattle.std.specs.List.{filter, list_all, position, position_or_len, prefix_len}
+use Rattle.std.proofs.lemmas.Bool.{and_parts, ltb-false}
 use Rattle.std.proofs.lemmas.List.{length-map}
 
 prefix_len-map : {X Y : Type 0} (p : Y → Bool) (f : X → Y) (xs : List X) → prefix_len p (map f xs) ≡ prefix_len (λ x. p (f x)) xs
@@ -27,3 +27,11 @@ all_pass p xs h = by (ltb (position_or_len (λ x. not (p x)) xs) (length xs)) re
         → cond b (Some (position_or_len (λ x. not (p x)) xs)) None ≡ None → list_all p xs ≡ true
     by true e h = cc
     by false e h = all_by_len p xs (ltb-false _ _ e)
+
+kept_first : {X : Type 0} (b : Bool) (x : X) (xs kept : List X) → b ≡ true → kept ≡ xs → cond b (x ∷ kept) kept ≡ x ∷ xs
+kept_first b x xs kept h e = rw (h, e) refl
+
+-- where all pass, all are kept
+pub filter-all : {X : Type 0} (p : X → Bool) (xs : List X) → list_all p xs ≡ true → filter p xs ≡ xs
+filter-all p [] h = refl
+filter-all p (x ∷ xs) h = let parts = and_parts (p x) (list_all p xs) h in kept_first (p x) x xs (filter p xs) parts.0 (filter-all p xs parts.1)

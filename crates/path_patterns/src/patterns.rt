@@ -1,5 +1,5 @@
 //! Lists of patterns, and the paths that they let through.
-ghost use Rattle.std.specs.Prelude.{◌≡◌, IfOk, IfErr, IsTrue, None, map, not, position, string_bytes};
+ghost use Rattle.std.specs.Prelude.{◌≡◌, [], ◌∷◌, ◌++◌, IfOk, IfErr, IsTrue, None, OnErr, OnOk, filter, map, not, position, string_bytes};
 ghost use Rattle.path_patterns.specs.Matching.{matches};
 ghost use Rattle.path_patterns.specs.Pattern.{are_patterns, first_bad, is_pattern, some_matches};
 ghost use Rattle.path_patterns.specs.Pattern as spec;
@@ -8,7 +8,7 @@ ghost use Rattle.path_patterns.specs.Fault.{IsFaultIn};
 use crate::form::is_pattern;
 use crate::segments::match_segments;
 use crate::verdict::Verdict;
-use std::alloc::Global;
+use std::alloc::{AllocError, Global};
 use std::marker::Model;
 use texts::Text;
 
@@ -39,7 +39,16 @@ impl Model for Patterns {
 }
 
 impl Patterns {
-    /// The patterns of these texts, or the first text that is none. A list of no pattern matches no path.
+    /// The list of no pattern, which matches no path.
+    pub fn new(alloc: Global) -> Patterns
+        ensures { result ≡ [] }
+    {
+        Patterns {
+            texts: Vec::new(alloc),
+        }
+    }
+
+    /// The patterns of these texts, or the first text that is none.
     pub fn parse(alloc: Global, patterns: &[String]) -> Result<Patterns, PatternFault>
         ensures ok { IfOk result (λ p. (p ≡ map string_bytes patterns.now)
             × (first_bad (map string_bytes patterns.now) ≡ None)) }
@@ -48,16 +57,27 @@ impl Patterns {
         if let Some(index) = first_bad(patterns) {
             return Err(PatternFault::BadPattern { index });
         }
-        let mut texts = Vec::new(alloc);
+        let mut parsed = Patterns::new(alloc);
         for pattern in patterns {
-            let Ok(text) = Text::new(alloc, pattern.as_str()) else {
-                return Err(PatternFault::NoMemory);
-            };
-            if texts.push(text).is_err() {
+            if parsed.add(pattern.as_str()).is_err() {
                 return Err(PatternFault::NoMemory);
             }
         }
-        Ok(Patterns { texts })
+        Ok(parsed)
+    }
+
+    /// Adds a text at the end where it is a pattern, and leaves the list as it is where it is none, or where memory is
+    /// wanting.
+    pub fn add(&mut self, text: &str) -> Result<(), AllocError>
+        ensures ok { OnOk result (self.new ≡ self.old ++ filter is_pattern (text.now ∷ [])) }
+        ensures err { OnErr result (self.new ≡ self.old) }
+    {
+        if !is_pattern(text) {
+            return Ok(());
+        }
+        let text = Text::new(*self.texts.allocator(), text)?;
+        self.texts.push(text)?;
+        Ok(())
     }
 
     /// The texts of the patterns, in order.
