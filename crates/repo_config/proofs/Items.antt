@@ -59,6 +59,21 @@ pub texts-drop : (items : List Value) (i : ℕ) (d : Value) → i < length items
     → texts (drop i items) ≡ cons_option (as_str (view (get_or items i d))) (texts (drop (i + 1) items))
 texts-drop items i d h = ap texts (drop_more items i d h)
 
+-- what is kept of the items up to one more
+pub kept_more : {X R : Type 0} (h : Data → Option X) (g : List X → List R) → ((xs ys : List X) → g (xs ++ ys) ≡ g xs ++ g ys)
+    → (items : List Value) (i : ℕ) (x : Value) (old new : List R) → i < length items → x ≡ get_or items i x
+    → old ≡ g (filter_map h (map view (take i items))) → new ≡ old ++ g (filter_map h (view x ∷ []))
+    → new ≡ g (filter_map h (map view (take (i + 1) items)))
+kept_more h g both items i x old new lt is before after =
+    let front = take i items in
+    let taken : take (i + 1) items ≡ front ++ x ∷ [] = take_more items i x lt ∙ ap (λ y. front ++ y ∷ []) (sym is) in
+    after
+    ∙ ap (λ rest. rest ++ g (filter_map h (view x ∷ []))) before
+    ∙ sym (both (filter_map h (map view front)) (filter_map h (view x ∷ [])))
+    ∙ ap g (sym (filter_map-append h (map view front) (view x ∷ [])))
+    ∙ ap (λ values. g (filter_map h values)) (sym (map-append view front (x ∷ [])))
+    ∙ ap (λ taken. g (filter_map h (map view taken))) (sym taken)
+
 -- a text that none before it is, and one that some is
 pub first_twice-next : (seen : List (List ℕ)) (text : Option (List ℕ)) (rest : List (List ℕ)) → option_map_or (is_among seen) text false ≡ false
     → first_twice seen (cons_option text rest) ≡ first_twice (seen ++ cons_option text []) rest

@@ -1,4 +1,8 @@
+pub mod Form
 pub mod Keys
 pub mod Names
+pub mod Reading
+pub mod Refusal
+pub mod Shown
 pub mod Values
 pub mod Walks

@@ -1,9 +1,9 @@
 -- Ids of repositories, and which of them are refused because of others.
-use Rattle.std.specs.Prelude.{ℕ, Bool, ◌&&◌, ◌||◌, ◌==◌, not, nat_le, if◌then◌else◌, List, [], ◌∷◌, ◌++◌, length, map, Option, Some, None}
+use Rattle.std.specs.Prelude.{ℕ, Bool, true, false, ◌&&◌, ◌||◌, ◌==◌, not, nat_le, if◌then◌else◌, List, [], ◌∷◌, ◌++◌, length, map, Option, Some, None}
 use Rattle.std.specs.Char.{is_ascii_digit, is_ascii_lowercase}
 use Rattle.std.specs.List.{find, flat_map, list_all, list_any}
 use Rattle.std.specs.Str.{bytes_eq}
-use Rattle.repo_model.specs.Settings.{Settings}
+use Rattle.repo_model.specs.Settings.{GroupRule, Settings}
 
 -- small letters, digits and `-`
 abbrev pub is_id_byte : ℕ → Bool
@@ -16,6 +16,11 @@ is_id text = nat_le 1 (length text) && nat_le (length text) 64 && list_all is_id
 abbrev pub is_among : List (List ℕ) → List ℕ → Bool
 is_among ids id = list_any (λ other. bytes_eq other id) ids
 
+-- an id is among these, or is not, as asked
+abbrev pub is_as : Bool → List (List ℕ) → List ℕ → Bool
+is_as true ids id = is_among ids id
+is_as false ids id = not (is_among ids id)
+
 -- the first of the ids that stands among those before it, or among the ones seen earlier
 abbrev pub first_twice : List (List ℕ) → List (List ℕ) → Option (List ℕ)
 first_twice seen [] = None
@@ -25,16 +30,13 @@ first_twice seen (id ∷ ids) = if is_among seen id then Some id else first_twic
 abbrev pub ids_of : Settings → List (List ℕ)
 ids_of s = map (λ rule. rule.id) s.hosted ++ map (λ rule. rule.id) s.proxies ++ map (λ rule. rule.id) s.groups
 
-abbrev pub members_of : Settings → List (List ℕ)
-members_of s = flat_map (λ group. group.members) s.groups
+abbrev pub members_of : List GroupRule → List (List ℕ)
+members_of groups = flat_map (λ group. group.members) groups
 
-abbrev pub twice_named : Settings → Option (List ℕ)
-twice_named s = first_twice [] (ids_of s)
+-- the first member of a group that is none of these ids
+abbrev pub no_member : List (List ℕ) → List GroupRule → Option (List ℕ)
+no_member ids groups = find (is_as false ids) (members_of groups)
 
--- the first member that no repository has as its id
-abbrev pub no_member : Settings → Option (List ℕ)
-no_member s = find (λ id. not (is_among (ids_of s) id)) (members_of s)
-
--- the first member that is a group
-abbrev pub member_is_group : Settings → Option (List ℕ)
-member_is_group s = find (is_among (map (λ group. group.id) s.groups)) (members_of s)
+-- the first member of a group that is a group
+abbrev pub member_is_group : List GroupRule → Option (List ℕ)
+member_is_group groups = find (is_as true (map (λ group. group.id) groups)) (members_of groups)

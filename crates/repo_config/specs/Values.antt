@@ -1,5 +1,5 @@
 -- What stands at a key of a table, and what a wrong or missing value counts as (TOML 1.1).
-use Rattle.std.specs.Prelude.{ℕ, ℤ, pos, Bool, true, false, List, [], ◌∷◌, Option, Some, None, option_and_then}
+use Rattle.std.specs.Prelude.{ℕ, ℤ, pos, Bool, false, ◌&&◌, if◌then◌else◌, nat_le, List, [], ◌∷◌, Option, Some, option_and_then}
 use Rattle.std.specs.Option.{option_map_or}
 use Rattle.std.specs.List.{filter_map}
 use Rattle.toml.specs.Data.{Data, Items, no_items, item, Members, no_members, member, as_array, as_bool, as_integer, as_str, as_table, get_member}
@@ -32,12 +32,14 @@ texts_in value = filter_map as_str (items_in value)
 abbrev pub text_at : List ℕ → List ℕ → Members → List ℕ
 text_at name missing table = option_map_or (λ text. text) (option_and_then as_str (get_member name table)) missing
 
-abbrev pub natural_or : ℕ → Option ℤ → ℕ
-natural_or missing (Some (pos n)) = n
-natural_or missing _ = missing
+-- the same of a whole number, which has to be within a range
+abbrev pub natural_within : ℕ → ℕ → ℕ → Option ℤ → ℕ
+natural_within low high missing (Some (pos n)) = if nat_le low n && nat_le n high then n else missing
+natural_within low high missing _ = missing
 
-abbrev pub number_at : List ℕ → ℕ → Members → ℕ
-number_at name missing table = natural_or missing (option_and_then as_integer (get_member name table))
+abbrev pub number_at : List ℕ → ℕ → ℕ → ℕ → Members → ℕ
+number_at name low high missing table =
+    natural_within low high missing (option_and_then as_integer (get_member name table))
 
 abbrev pub flag_at : List ℕ → Members → Bool
 flag_at name table = option_map_or (λ flag. flag) (option_and_then as_bool (get_member name table)) false

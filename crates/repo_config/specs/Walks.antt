@@ -1,5 +1,5 @@
 -- The walks over the tables of settings: the document, then the hosted repositories, the proxies and the groups, each as written.
-use Rattle.std.specs.Prelude.{ℕ, List, [], ◌∷◌, Option, Some, None, codes}
+use Rattle.std.specs.Prelude.{ℕ, List, [], ◌∷◌, Option, None, codes}
 use Rattle.std.specs.Option.{option_or}
 use Rattle.toml.specs.Data.{Members}
 use Rattle.repo_config.specs.Keys.{missing_in, unfit_in, unknown_in}

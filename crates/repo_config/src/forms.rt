@@ -17,8 +17,7 @@ pub(crate) fn is_id(text: &str) -> bool
 fn are_id_bytes(text: &str) -> bool
     ensures { result ≡ list_all is_id_byte text.now }
 {
-    text.bytes()
-        .all(|b| b.is_ascii_lowercase() || b.is_ascii_digit() || b == b'-')
+    text.bytes().all(|b| b.is_ascii_lowercase() || b.is_ascii_digit() || b == b'-')
 }
 
 /// 1 to 255 letters, digits, `.` and `-`.

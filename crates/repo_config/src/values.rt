@@ -1,5 +1,5 @@
 //! What stands at a key of a table of settings.
-ghost use Rattle.std.specs.Prelude.{◌≡◌, map, pos};
+ghost use Rattle.std.specs.Prelude.{◌≡◌, ◌≤◌, map};
 ghost use Rattle.std.specs.Option.{option_map};
 ghost use Rattle.toml.specs.Data.{get_member};
 ghost use Rattle.toml.specs.View.{table_view, view};
@@ -44,21 +44,27 @@ pub(crate) fn text_at<'a>(table: &'a Table, name: &str, missing: &'a str) -> &'a
     }
 }
 
-/// The whole number at a key, or `missing`.
-pub(crate) fn number_at(table: &Table, name: &str, missing: u64) -> u64
-    ensures { result ≡ spec.number_at name.now missing (table_view table.now) }
+/// The whole number at a key, from `low` to `high`, or `missing`.
+pub(crate) fn number_at(table: &Table, name: &str, low: u64, high: u64, missing: u64) -> u64
+    requires { missing ≤ high }
+    ensures value { result ≡ spec.number_at name.now low high missing (table_view table.now) }
+    ensures range { result ≤ high }
 {
     match value_at(table, name) {
-        Some(value) => natural_or(value.as_integer(), missing),
+        Some(value) => natural_within(value.as_integer(), low, high, missing),
         None => missing,
     }
 }
 
-fn natural_or(number: Option<i64>, missing: u64) -> u64
-    ensures { result ≡ spec.natural_or missing number }
+fn natural_within(number: Option<i64>, low: u64, high: u64, missing: u64) -> u64
+    requires { missing ≤ high }
+    ensures value { result ≡ spec.natural_within low high missing number }
+    ensures range { result ≤ high }
 {
     match number {
-        Some(number) if number >= 0 => number as u64,
+        Some(number) if number >= 0 && low <= number as u64 && number as u64 <= high => {
+            number as u64
+        }
         _ => missing,
     }
 }

@@ -139,11 +139,7 @@ fn missing_in_hosted(table: &Table) -> Option<&'static str>
 }
 
 /// The first of two keys that a table lacks.
-fn first_missing(
-    table: &Table,
-    first: &'static str,
-    second: &'static str,
-) -> Option<&'static str>
+fn first_missing(table: &Table, first: &'static str, second: &'static str) -> Option<&'static str>
     ensures { option_copied result ≡ keys.first_missing first.now second.now (table_view table.now) }
 {
     if value_at(table, first).is_none() {
