@@ -1,5 +1,7 @@
 //! Files that are read.
-ghost use Rattle.std.specs.Prelude.{◌≡◌, None};
+ghost use Rattle.std.specs.Prelude.{◌≡◌, IsErr, None};
+ghost use Rattle.std.specs.Io.{ReadsAtMost};
+ghost use Rattle.std.specs.Io.KnownBytes.{ReadConsumes};
 
 use outside::ReaderSource;
 use std::fs::{self, Files};
@@ -13,7 +15,11 @@ pub enum OpenedFile<F: Read + Drop> {
 }
 
 impl<F: Read + Drop> Read for OpenedFile<F> {
-    fn read(&mut self, buf: &mut [u8]) -> io::Result<usize> {
+    fn read(&mut self, buf: &mut [u8]) -> io::Result<usize>
+        ensures bound { ReadsAtMost result buf.new }
+        ensures bytes { ReadConsumes None None result buf.new }
+        ensures refused { self.old ≡ OpenedFile.Refused → IsErr result }
+    {
         match self {
             OpenedFile::Open(file) => file.read(buf),
             OpenedFile::Refused => Err(ErrorKind::NotFound.into()),
