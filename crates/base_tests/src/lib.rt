@@ -17,6 +17,8 @@ mod plain_coords;
 #[cfg(test)]
 mod plain_versions;
 #[cfg(test)]
+mod sides;
+#[cfg(test)]
 mod std_forms;
 #[cfg(test)]
 mod versions;

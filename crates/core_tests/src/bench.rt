@@ -1,4 +1,6 @@
 // What the tests share: a core over memory, and commands and replies as plain values.
+ghost use Rattle.std.specs.Prelude.{◌≡◌, IfOk};
+
 use mvn_digest::Hashes;
 use outside::{Blobs, FaultScript, MemBlobs, MemHeld, Parcel, ScriptClock};
 use repo_core::{Command, Core, Policy, Reply};
@@ -87,28 +89,22 @@ pub struct Bench {
     blobs: MemBlobs,
 }
 
-// Repositories, and whether each takes releases and snapshots.
-static HOSTED: [(&str, bool, bool); 3] = [
-    ("releases", true, false),
-    ("mixed", true, true),
-    ("snapshots", false, true),
-];
-
-fn policies(alloc: Global) -> Result<Vec<Policy>, AllocError> {
-    let mut policies = Vec::new(alloc);
-    for (id, releases, snapshots) in &HOSTED {
-        policies.push(Policy {
-            id: Text::new(alloc, id)?,
-            releases: *releases,
-            snapshots: *snapshots,
-        })?;
-    }
-    Ok(policies)
+fn policy(alloc: Global, id: &str, releases: bool, snapshots: bool) -> Result<Policy, AllocError>
+    ensures { IfOk result (λ policy. policy.id ≡ id.now) }
+{
+    Ok(Policy {
+        id: Text::new(alloc, id)?,
+        releases,
+        snapshots,
+    })
 }
 
-fn core_of(alloc: Global, hosted: &[Policy]) -> Result<Core<ScriptClock, MemHeld>, AllocError> {
+fn core_of(alloc: Global) -> Result<Core<ScriptClock, MemHeld>, AllocError> {
+    let releases = policy(alloc, "releases", true, false)?;
+    let mixed = policy(alloc, "mixed", true, true)?;
+    let snapshots = policy(alloc, "snapshots", false, true)?;
     let clock = ScriptClock::stepping(alloc, 1_700_000_000, 1);
-    match Core::plain(alloc, hosted, 1_000, clock) {
+    match Core::plain(alloc, &[releases, mixed, snapshots], 1_000, clock) {
         Ok(core) => Ok(core),
         Err((error, _)) => Err(error),
     }
@@ -134,10 +130,9 @@ impl Bench {
     /// The repositories `releases`, `mixed` and `snapshots`, which take what their ids say. The clock goes on by a
     /// second each time that it is read.
     pub fn new(alloc: Global) -> Result<Bench, Fail> {
-        let hosted = policies(alloc)?;
         Ok(Bench {
             alloc,
-            core: core_of(alloc, hosted.as_slice())?,
+            core: core_of(alloc)?,
             blobs: MemBlobs::new(alloc, FaultScript::none(alloc)),
         })
     }

@@ -2,10 +2,9 @@
 ghost use Rattle.std.specs.Prelude.{IfOk, IsTrue};
 ghost use Rattle.mvn_metadata.specs.Form.{is_entry};
 
-use mvn_coords::{Build, Dir, Kind, Stamp, kind_of};
-use mvn_doc::{
-    Doc, NoMemory, Pair, SnapshotBuild, empty, is_entry, is_version, merge, settle, write,
-};
+use mvn_coords::{Build, Dir, Kind, Stamp, is_version_directory, kind_of};
+use mvn_doc::write;
+use mvn_metadata::{Doc, NoMemory, Pair, SnapshotBuild, empty, is_entry, merge, settle};
 use mvn_version::Version;
 use std::alloc::Global;
 use std::process::Abort;
@@ -32,7 +31,7 @@ fn nothing(alloc: Global, path: &str) -> Result<Doc, Fail> {
 
 fn with(rt: &impl Abort, alloc: Global, doc: Doc, version: &str) -> Result<Doc, Fail> {
     let version = Version::parse(alloc, version)?;
-    assert!(rt; is_version(version.as_str()));
+    assert!(rt; is_version_directory(version.as_str()));
     Ok(doc.with_version(version)?)
 }
 
@@ -70,8 +69,7 @@ fn entry_of(rt: &impl Abort, alloc: Global, file: File) -> Result<(Pair, Snapsho
 {
     let pair = pair_of(alloc, file)?;
     let snapshot = snapshot_of(alloc, file)?;
-    let is_entry = is_entry(alloc, &pair, &snapshot)?;
-    assert!(rt; is_entry);
+    assert!(rt; is_entry(&pair, &snapshot));
     Ok((pair, snapshot))
 }
 

@@ -2,7 +2,8 @@
 use crate::documents::{
     ARTIFACT, OF_ARTIFACT, OF_RELEASES, OF_SNAPSHOT, SNAPSHOT, directory, expect, expect_settled,
 };
-use mvn_doc::{DocFault, NoMemory, read};
+use mvn_doc::{DocFault, read};
+use mvn_metadata::NoMemory;
 use std::alloc::Global;
 use std::process::Abort;
 use std::test::Fail;

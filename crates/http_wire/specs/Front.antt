@@ -5,7 +5,6 @@ use Rattle.std.specs.List.{list_all}
 use Rattle.httparse.specs.Ascii.{carriage_return, line_feed}
 use Rattle.http_wire.specs.declared.faults.HeadFault.{HeadFault}
 use Rattle.http_wire.specs.declared.faults.HeadFault.TheVariants.{Broken, TooLong}
-use Rattle.http_wire.specs.declared.TheConstants.{HEAD_BYTES, FIELD_LINES}
 use Rattle.http_wire.specs.Head.{Head, head_of}
 
 -- the first byte of the list is this one
@@ -53,10 +52,10 @@ abbrev pub whole_of : Option Head → List ℕ → Front
 whole_of (Some head) rest = Whole head rest
 whole_of None rest = Bad Broken
 
--- the head is read, unless it has too many field lines: its line feeds end the first line, these and the empty one
+-- the head is read, unless it has more than 64 field lines: its line feeds end the first line, these and the empty one
 unfoldable pub judged : List ℕ → List ℕ → Front
 judged bytes rest =
-    if nat_lt (FIELD_LINES + 2) (count_by (λ b. b == line_feed) bytes) then Bad TooLong
+    if nat_lt (64 + 2) (count_by (λ b. b == line_feed) bytes) then Bad TooLong
     else whole_of (head_of bytes) rest
 
 -- the stream ends before a whole head
@@ -66,8 +65,8 @@ unfinished bytes = if list_all is_line_byte bytes then Clean else Cut
 -- what the bytes begin with, where their first whole head has this place
 abbrev pub front_at : List ℕ → Option (ℕ × ℕ) → Front
 front_at bytes (Some place) = judged (slice_range bytes place.0 place.1) (drop place.1 bytes)
-front_at bytes None = if nat_lt (length bytes) HEAD_BYTES then unfinished bytes else Bad TooLong
+front_at bytes None = if nat_lt (length bytes) 8192 then unfinished bytes else Bad TooLong
 
--- what the bytes begin with; a head has to end within the first HEAD_BYTES bytes, blank lines before it included
+-- what the bytes begin with; a head has to end within the first 8,192 bytes, blank lines before it included
 unfoldable pub front : List ℕ → Front
-front bytes = front_at bytes (head_place (take HEAD_BYTES bytes))
+front bytes = front_at bytes (head_place (take 8192 bytes))

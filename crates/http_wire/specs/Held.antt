@@ -1,7 +1,6 @@
 -- What a wire holds once it has read from its source.
 use Rattle.std.specs.Prelude.{◌≡◌, ℕ, ◌<◌, ◌≤◌, List, ◌++◌, length, Option, None}
 use Rattle.outside.specs.Told.{IsAtEnd, in_front}
-use Rattle.http_wire.specs.declared.TheConstants.{HEAD_BYTES}
 use Rattle.http_wire.specs.declared.wires.Found.{Found}
 use Rattle.http_wire.specs.declared.wires.Found.TheVariants.{End, Full, Head}
 use Rattle.http_wire.specs.Front.{head_place}
@@ -14,6 +13,6 @@ Grows held left held_after left_after count =
 
 -- a whole head; no whole head, and the wire is not full and the source at its end; or no whole head in a full wire
 abbrev pub IsHeld : List ℕ → Option (List ℕ) → Found → Type 0
-IsHeld held left (Head start end) = (length held ≤ HEAD_BYTES) × IsHeadAt held start end
-IsHeld held left End = (length held < HEAD_BYTES) × IsAtEnd left × (head_place held ≡ None)
-IsHeld held left Full = (length held ≡ HEAD_BYTES) × (head_place held ≡ None)
+IsHeld held left (Head start end) = (length held ≤ 8192) × IsHeadAt held start end
+IsHeld held left End = (length held < 8192) × IsAtEnd left × (head_place held ≡ None)
+IsHeld held left Full = (length held ≡ 8192) × (head_place held ≡ None)

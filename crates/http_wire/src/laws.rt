@@ -7,6 +7,8 @@ ghost use Rattle.http_wire.specs.Head.{Head, head_of, head_said};
 ghost use Rattle.http_wire.specs.declared.answers.Answer.{Answer};
 ghost use Rattle.http_wire.specs.declared.faults.HeadFault.{HeadFault};
 
+use crate::{FIELD_LINES, HEAD_BYTES};
+
 /// The bytes spell a head exactly where they are a request head of `httparse`'s grammar without blank lines
 /// before it, and the head is what that one says.
 pub fn head_is_of_the_grammar()
@@ -27,4 +29,10 @@ pub fn front_stays()
 /// The body stands right behind the head, which doesn't depend on it.
 pub fn body_follows_head()
     ensures { (answer : Answer) → shown answer ≡ shown (record answer { body = [] }) ++ answer.body }
+{}
+
+/// The most bytes of a head, and the most field lines.
+pub fn limits()
+    ensures head { HEAD_BYTES ≡ 8192 }
+    ensures fields { FIELD_LINES ≡ 64 }
 {}

@@ -17,7 +17,7 @@ mod wires;
 
 pub use answers::{Answer, Content, NO_MEMORY, Status, no_memory_answer, render};
 pub use faults::{HeadFault, WireFault};
-pub use laws::{body_follows_head, front_stays, head_is_of_the_grammar};
+pub use laws::{body_follows_head, front_stays, head_is_of_the_grammar, limits};
 pub use requests::{BodyLength, Field, Request};
 pub use wires::Wire;
 

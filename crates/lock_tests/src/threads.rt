@@ -1,17 +1,14 @@
-ghost use Rattle.std.specs.Prelude.{◌≡◌, ◌+◌, ◌-◌, ◌%◌, ◌^◌, ◌<◌, length, slice_index, slice_set, vec_len};
+ghost use Rattle.std.specs.Prelude.{◌≡◌, ℕ, ◌+◌, ◌-◌, ◌%◌, ◌^◌, ◌<◌, ◌≤◌, [], All, IfOk, length, slice_index, slice_set, sum_by, vec_len, vec_capacity};
 ghost use Rattle.std.proofs.Common.{length-set};
 ghost use Rattle.turn_lock.specs.History.{IsStep};
 ghost use Rattle.turn_lock.specs.Seats.{opening, parts_of, IsSeatOf, IsNoteOf};
 
-use std::alloc::Global;
+use std::alloc::{AllocError, Global};
 use std::sync::Wait;
 use std::test::*;
 use std::thread::Threads;
-use turn_lock::{Note, Seat, Thing, Turns, close};
-
-mod jobs;
-
-use crate::threads::jobs::{Job, run_both, run_four};
+use thread_jobs::{Job, run_all};
+use turn_lock::{Note, Seat, Thing, Turns, close, join_all, split_many};
 
 // A call adds, and is told the sum before it.
 #[derive(Drop)]
@@ -24,7 +21,7 @@ impl Thing for Counter {
 
     type Reply = u64;
 
-    type Fixed = ();
+    ghost Fixed = { Unit {0} };
 
     ghost fixed = { λ c. tt };
 
@@ -52,7 +49,7 @@ impl Thing for Shelf {
 
     type Reply = u64;
 
-    type Fixed = usize;
+    ghost Fixed = { ℕ };
 
     ghost fixed = { λ s. length s.places.items };
 
@@ -69,7 +66,14 @@ impl Thing for Shelf {
     }
 }
 
-// A seat that takes a note in, makes the same call so often, and makes a note. Gives the seat and that note, and the sum of what was answered.
+// A note, and the sum of what was answered before it was made.
+#[derive(Drop)]
+struct Told<N> {
+    note: N,
+    sum: u64,
+}
+
+// A seat that takes a note in, makes the same call so often, and makes a note. Gives the seat, and with it that note and the sum of what was answered.
 #[derive(Drop)]
 struct Caller<'a, C: Copy, T: Thing<Call = C, Reply = u64>> {
     turns: &'a Turns<T>,
@@ -80,13 +84,13 @@ struct Caller<'a, C: Copy, T: Thing<Call = C, Reply = u64>> {
 }
 
 impl<C: Copy, T: Thing<Call = C, Reply = u64>> Job for Caller<'_, C, T> {
-    type Out = (Seat<T>, Note<T>, u64);
+    type Out = (Seat<T>, Told<Note<T>>);
 
     ghost ready = { λ d. IsSeatOf (IsStep T.fixed T.may_ask T.turned) d.turns.now d.seat × IsNoteOf (IsStep T.fixed T.may_ask T.turned) d.turns.now d.heard × T.may_ask (T.fixed (opening d.turns.now)) d.call };
 
-    ghost gives = { λ d out. IsSeatOf (IsStep T.fixed T.may_ask T.turned) d.turns.now out.0 × IsNoteOf (IsStep T.fixed T.may_ask T.turned) d.turns.now out.1 × (parts_of out.0 ≡ parts_of d.seat) };
+    ghost gives = { λ d out. IsSeatOf (IsStep T.fixed T.may_ask T.turned) d.turns.now out.0 × IsNoteOf (IsStep T.fixed T.may_ask T.turned) d.turns.now out.1.note × (parts_of out.0 ≡ parts_of d.seat) };
 
-    fn run<R: Wait>(self, rt: &R) -> (Seat<T>, Note<T>, u64) {
+    fn run<R: Wait>(self, rt: &R) -> (Seat<T>, Told<Note<T>>) {
         let Caller {
             turns,
             mut seat,
@@ -97,7 +101,7 @@ impl<C: Copy, T: Thing<Call = C, Reply = u64>> Job for Caller<'_, C, T> {
         seat.learn(turns, heard);
         let (mut seat, sum) = repeat(rt, turns, seat, call, times);
         let note = seat.note(turns);
-        (seat, note, sum)
+        (seat, Told { note, sum })
     }
 }
 
@@ -119,21 +123,40 @@ fn repeat<C: Copy, T: Thing<Call = C, Reply = u64>, R: Wait>(
     (seat, sum)
 }
 
-// Two seats call in threads of their own, each so often as it is told. Gives the seats, their notes and the sums of their answers.
+// Callers of the same turns at once, the last one in this thread. What they give comes in their order.
+fn all_call<'a, C: Copy + Send, T: Thing<Call = C, Reply = u64> + Send, R: Threads + Wait + Sync>(
+    rt: &R,
+    jobs: Vec<Caller<'a, C, T>>,
+    last: Caller<'a, C, T>,
+    room: Vec<(Seat<T>, Told<Note<T>>)>,
+) -> (Vec<(Seat<T>, Told<Note<T>>)>, (Seat<T>, Told<Note<T>>))
+    requires jobs { All (λ d. (d.turns.now ≡ last.turns.now) × IsSeatOf (IsStep T.fixed T.may_ask T.turned) last.turns.now d.seat × IsNoteOf (IsStep T.fixed T.may_ask T.turned) last.turns.now d.heard × T.may_ask (T.fixed (opening last.turns.now)) d.call) jobs.items }
+    requires last { IsSeatOf (IsStep T.fixed T.may_ask T.turned) last.turns.now last.seat × IsNoteOf (IsStep T.fixed T.may_ask T.turned) last.turns.now last.heard × T.may_ask (T.fixed (opening last.turns.now)) last.call }
+    requires room { (room.items ≡ []) × (vec_len jobs ≤ vec_capacity room) }
+    ensures outs { All (λ out. IsSeatOf (IsStep T.fixed T.may_ask T.turned) last.entry.turns.now out.0 × IsNoteOf (IsStep T.fixed T.may_ask T.turned) last.entry.turns.now out.1.note) result.0.items }
+    ensures parts { sum_by (λ out. parts_of out.0) result.0.items ≡ sum_by (λ d. parts_of d.seat) jobs.entry.items }
+    ensures len { vec_len result.0 ≡ vec_len jobs.entry }
+    ensures last { IsSeatOf (IsStep T.fixed T.may_ask T.turned) last.entry.turns.now result.1.0 × IsNoteOf (IsStep T.fixed T.may_ask T.turned) last.entry.turns.now result.1.1.note × (parts_of result.1.0 ≡ parts_of last.entry.seat) }
+{
+    run_all(rt, jobs, last, room)
+}
+
+// Two seats call at once, each so often as it is told. Gives the seats, their notes and the sums of their answers.
 fn both_call<C: Copy + Send, T: Thing<Call = C, Reply = u64> + Send, R: Threads + Wait + Sync>(
     rt: &R,
+    alloc: Global,
     turns: &Turns<T>,
     first: (Seat<T>, Note<T>),
     second: (Seat<T>, Note<T>),
     calls: (C, C),
     times: (u64, u64),
-) -> ((Seat<T>, Note<T>, u64), (Seat<T>, Note<T>, u64))
+) -> Result<((Seat<T>, Told<Note<T>>), (Seat<T>, Told<Note<T>>)), AllocError>
     requires seats { IsSeatOf (IsStep T.fixed T.may_ask T.turned) turns.now first.0 × IsSeatOf (IsStep T.fixed T.may_ask T.turned) turns.now second.0 }
     requires notes { IsNoteOf (IsStep T.fixed T.may_ask T.turned) turns.now first.1 × IsNoteOf (IsStep T.fixed T.may_ask T.turned) turns.now second.1 }
     requires calls { T.may_ask (T.fixed (opening turns.now)) calls.0 × T.may_ask (T.fixed (opening turns.now)) calls.1 }
-    ensures seats { IsSeatOf (IsStep T.fixed T.may_ask T.turned) turns.now result.0.0 × IsSeatOf (IsStep T.fixed T.may_ask T.turned) turns.now result.1.0 }
-    ensures notes { IsNoteOf (IsStep T.fixed T.may_ask T.turned) turns.now result.0.1 × IsNoteOf (IsStep T.fixed T.may_ask T.turned) turns.now result.1.1 }
-    ensures parts { (parts_of result.0.0 ≡ parts_of first.0) × (parts_of result.1.0 ≡ parts_of second.0) }
+    ensures seats { IfOk result (λ r. IsSeatOf (IsStep T.fixed T.may_ask T.turned) turns.now r.0.0 × IsSeatOf (IsStep T.fixed T.may_ask T.turned) turns.now r.1.0) }
+    ensures notes { IfOk result (λ r. IsNoteOf (IsStep T.fixed T.may_ask T.turned) turns.now r.0.1.note × IsNoteOf (IsStep T.fixed T.may_ask T.turned) turns.now r.1.1.note) }
+    ensures parts { IfOk result (λ r. (parts_of r.0.0 ≡ parts_of first.0) × (parts_of r.1.0 ≡ parts_of second.0)) }
 {
     let (seat, heard) = first;
     let one = Caller {
@@ -151,7 +174,13 @@ fn both_call<C: Copy + Send, T: Thing<Call = C, Reply = u64> + Send, R: Threads 
         call: calls.1,
         times: times.1,
     };
-    run_both(rt, one, two)
+    let mut jobs = Vec::with_capacity(alloc, 1)?;
+    jobs.push_reserved(one);
+    let (mut outs, two) = all_call(rt, jobs, two, Vec::with_capacity(alloc, 1)?);
+    let Some(one) = outs.pop() else {
+        unreachable!()
+    };
+    Ok((one, two))
 }
 
 // Two seats and a note of each, which have all parts.
@@ -206,18 +235,18 @@ fn two_threads_store(rt: HostRuntime) -> Result<(), Fail> {
         return Err("memory".into());
     };
     let (one, two) = two_seats(&turns, seat);
-    let (one, two) = both_call(&rt, &turns, one, two, ((0, 5), (3, 7)), (300, 300));
-    assert_eq!(rt; (one.2, two.2), (299 * 5, 299 * 7));
-    let (one, two) = ((one.0, one.1), (two.0, two.1));
-    let (one, two) = both_call(&rt, &turns, one, two, ((1, 5), (1, 7)), (300, 300));
-    let (shelf, calls) = end(turns, (one.0, one.1), (two.0, two.1));
+    let calls = ((0, 5), (3, 7));
+    let (one, two) = both_call(&rt, rt.alloc(), &turns, one, two, calls, (300, 300))?;
+    assert_eq!(rt; (one.1.sum, two.1.sum), (299 * 5, 299 * 7));
+    let (one, two) = ((one.0, one.1.note), (two.0, two.1.note));
+    let calls = ((1, 5), (1, 7));
+    let (one, two) = both_call(&rt, rt.alloc(), &turns, one, two, calls, (300, 300))?;
+    let told = one.1.sum.wrapping_add(two.1.sum);
+    let (shelf, calls) = end(turns, (one.0, one.1.note), (two.0, two.1.note));
     assert_eq!(rt; (shelf.places.len(), calls), (4, 1200));
     let left = shelf.places[1];
     assert!(rt; left == 5 || left == 7);
-    assert_eq!(rt;
-        one.2.wrapping_add(two.2).wrapping_add(left),
-        300 * 5 + 300 * 7
-    );
+    assert_eq!(rt; told.wrapping_add(left), 300 * 5 + 300 * 7);
     assert_eq!(rt; shelf.places.as_slice(), [5, left, 0, 7].as_slice());
     Ok(())
 }
@@ -229,42 +258,99 @@ fn a_note_goes_from_one_thread_to_another(rt: HostRuntime) -> Result<(), Fail> {
         return Err("memory".into());
     };
     let (one, two) = two_seats(&turns, seat);
-    let (one, two) = both_call(&rt, &turns, one, two, (5, 5), (1, 0));
-    let (one, two) = ((one.0, two.1), (two.0, one.1));
-    let (one, two) = both_call(&rt, &turns, one, two, (1, 1), (0, 1));
-    let (counter, calls) = end(turns, (one.0, one.1), (two.0, two.1));
-    assert_eq!(rt; (one.2, two.2, counter.sum, calls), (0, 5, 6, 2));
+    let (one, two) = both_call(&rt, rt.alloc(), &turns, one, two, (5, 5), (1, 0))?;
+    let (one, two) = ((one.0, two.1.note), (two.0, one.1.note));
+    let (one, two) = both_call(&rt, rt.alloc(), &turns, one, two, (1, 1), (0, 1))?;
+    let told = (one.1.sum, two.1.sum);
+    let (counter, calls) = end(turns, (one.0, one.1.note), (two.0, two.1.note));
+    assert_eq!(rt; (told, counter.sum, calls), ((0, 5), 6, 2));
     Ok(())
 }
 
 #[test]
-fn four_threads_count_a_thousand_times(rt: HostRuntime) {
+fn four_threads_count_a_thousand_times(rt: HostRuntime) -> Result<(), Fail> {
     for _ in 0..1000 {
-        assert!(rt; one_run(&rt, rt.alloc()) == Some((66, 12, 12)));
+        assert_eq!(rt; four_count(&rt, rt.alloc())?, (66, 12, 12));
     }
+    Ok(())
 }
 
-// Four threads count up three times each, with seats that were split off from one another. Gives the sum of the answers, the count and the number of calls.
-fn one_run<R: Threads + Wait + Sync>(rt: &R, alloc: Global) -> Option<(u64, u64, u64)> {
+// Four threads count up three times each. Gives the sum of the answers, the count and the number of calls.
+fn four_count<R: Threads + Wait + Sync>(
+    rt: &R,
+    alloc: Global,
+) -> Result<(u64, u64, u64), AllocError> {
     let Ok((turns, seat)) = Turns::begin(alloc, Counter { sum: 0 }) else {
-        return None;
+        return Err(AllocError);
     };
-    let ((mut a, note_a), (mut b, note_b)) = two_seats(&turns, seat);
-    let (mut c, mut d) = (a.split(&turns, 5), b.split(&turns, 3));
-    let (note_c, note_d) = (c.note(&turns), d.note(&turns));
-    let ((a, b), (c, d)) = run_four(
-        rt,
-        (thrice(&turns, a, note_a), thrice(&turns, b, note_b)),
-        (thrice(&turns, c, note_c), thrice(&turns, d, note_d)),
-    );
-    let answered = a.2.wrapping_add(b.2).wrapping_add(c.2).wrapping_add(d.2);
-    let (mut seat, mut other) = (a.0, b.0);
-    seat.join(&turns, c.0);
-    seat.learn(&turns, c.1);
-    other.join(&turns, d.0);
-    other.learn(&turns, d.1);
-    let (counter, calls) = end(turns, (seat, a.1), (other, b.1));
-    Some((answered, counter.sum, calls))
+    let (seat, answered) = four_call(rt, alloc, &turns, seat)?;
+    let (counter, calls) = close(turns, seat);
+    Ok((answered, counter.sum, calls))
+}
+
+// Four seats call three times each, at once. Gives the seat with all parts, and the sum of the answers.
+fn four_call<T: Thing<Call = u64, Reply = u64> + Send, R: Threads + Wait + Sync>(
+    rt: &R,
+    alloc: Global,
+    turns: &Turns<T>,
+    mut seat: Seat<T>,
+) -> Result<(Seat<T>, u64), AllocError>
+    requires seat { IsSeatOf (IsStep T.fixed T.may_ask T.turned) turns.now seat }
+    requires parts { parts_of seat ≡ 2 ^ 64 }
+    requires call { T.may_ask (T.fixed (opening turns.now)) 1 }
+    ensures seat { IfOk result (λ r. IsSeatOf (IsStep T.fixed T.may_ask T.turned) turns.now r.0) }
+    ensures parts { IfOk result (λ r. parts_of r.0 ≡ 2 ^ 64) }
+{
+    let seats = split_many(turns, &mut seat, 3, Vec::with_capacity(alloc, 3)?);
+    let jobs = callers(turns, &mut seat, seats, Vec::with_capacity(alloc, 3)?);
+    let heard = seat.note(turns);
+    let last = thrice(turns, seat, heard);
+    let (outs, (mut seat, own)) = all_call(rt, jobs, last, Vec::with_capacity(alloc, 3)?);
+    let told = join_all(turns, &mut seat, outs, Vec::with_capacity(alloc, 3)?);
+    let Told { note, sum } = own;
+    seat.learn(turns, note);
+    let others = learn_all(turns, &mut seat, told);
+    Ok((seat, sum.wrapping_add(others)))
+}
+
+// Makes each of these seats a caller, which hears a note of the first seat.
+fn callers<'a, T: Thing<Call = u64, Reply = u64>>(
+    turns: &'a Turns<T>,
+    seat: &mut Seat<T>,
+    mut seats: Vec<Seat<T>>,
+    mut room: Vec<Caller<'a, u64, T>>,
+) -> Vec<Caller<'a, u64, T>>
+    requires seat { IsSeatOf (IsStep T.fixed T.may_ask T.turned) turns.now seat.old }
+    requires seats { All (λ other. IsSeatOf (IsStep T.fixed T.may_ask T.turned) turns.now other) seats.items }
+    requires parts { vec_len seats < parts_of seat.old }
+    requires call { T.may_ask (T.fixed (opening turns.now)) 1 }
+    requires room { (room.items ≡ []) × (vec_len seats ≤ vec_capacity room) }
+    ensures seat { IsSeatOf (IsStep T.fixed T.may_ask T.turned) turns.now seat.new }
+    ensures left { parts_of seat.new + vec_len seats ≡ parts_of seat.old }
+    ensures jobs { All (λ d. (d.turns.now ≡ turns.now) × IsSeatOf (IsStep T.fixed T.may_ask T.turned) turns.now d.seat × IsNoteOf (IsStep T.fixed T.may_ask T.turned) turns.now d.heard × (d.call ≡ 1)) result.items }
+    ensures parts { sum_by (λ d. parts_of d.seat) result.items ≡ sum_by parts_of seats.items }
+    ensures len { vec_len result ≡ vec_len seats }
+{
+    while let Some(other) = seats.pop() {
+        let heard = seat.note(turns);
+        room.push_reserved(thrice(turns, other, heard));
+    }
+    room
+}
+
+// Takes in the notes, and adds up what came with them.
+fn learn_all<T: Thing>(turns: &Turns<T>, seat: &mut Seat<T>, mut told: Vec<Told<Note<T>>>) -> u64
+    requires seat { IsSeatOf (IsStep T.fixed T.may_ask T.turned) turns.now seat.old }
+    requires notes { All (λ one. IsNoteOf (IsStep T.fixed T.may_ask T.turned) turns.now one.note) told.items }
+    ensures seat { IsSeatOf (IsStep T.fixed T.may_ask T.turned) turns.now seat.new }
+    ensures parts { parts_of seat.new ≡ parts_of seat.old + vec_len told }
+{
+    let mut all: u64 = 0;
+    while let Some(Told { note, sum }) = told.pop() {
+        seat.learn(turns, note);
+        all = all.wrapping_add(sum);
+    }
+    all
 }
 
 fn thrice<T: Thing<Call = u64, Reply = u64>>(

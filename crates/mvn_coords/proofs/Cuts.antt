@@ -2,7 +2,7 @@
 use Rattle.std.proofs.Common.{◌≡◌, ℕ, ◌-◌, ◌<◌, Bool, true, false, cond, eqb, List, [], ◌∷◌, ◌++◌, length, take, drop, reverse, Option, Some, None, MatchOption, option_and_then, is_some, ◌≢◌, refl, ap, sym, ◌∙◌, arith, Bor, lit<}
 use Rattle.std.specs.Option.{option_copied}
 use Rattle.std.specs.List.{All, slice_split, onto_first, starts_with, ends_with}
-use Rattle.std.specs.Str.Pattern.{FindsTextPrefix, FindsTextSuffix, StripsPrefix, StripsSuffix, RFindsChar, SplitsAroundMatch}
+use Rattle.std.specs.Str.Pattern.{RFindsChar, SplitsAroundMatch}
 use Rattle.std.proofs.lemmas.Bool.{false_from_ne_true}
 use Rattle.std.proofs.lemmas.Bool.Decides.{Decides-eqb}
 use Rattle.std.proofs.lemmas.Slice.Eq.{starts_is, ends_is}
@@ -11,26 +11,8 @@ use Rattle.std.proofs.lemmas.List.Splits.{slice_split_none, length-slice_split}
 use Rattle.std.proofs.lemmas.Str.Pattern.{NoCharPasses-char, drop_at_char}
 use Rattle.std.proofs.lemmas.Bool.{ne_eqb}
 use Rattle.std.specs.Str.{NoCharPasses}
-use Rattle.mvn_coords.specs.FileName.{behind, before}
+use Rattle.byte_cuts.specs.Cuts.{behind, before}
 use Rattle.mvn_coords.specs.Segment.{levels}
-
-pub behind_strip : (front text : List ℕ) (r : Option (Bor (List ℕ))) → MatchOption r (FindsTextPrefix front text None) (λ x. StripsPrefix (FindsTextPrefix front) text x.now) → option_copied r ≡ behind front text
-behind_strip front text None h =
-    let e : starts_with eqb text front ≡ false = false_from_ne_true _ (λ t. h _ ((starts_is Decides-eqb text front _ refl).0 t)) in
-    rw e refl
-behind_strip front text (Some x) h =
-    let e : starts_with eqb text front ≡ true = (starts_is Decides-eqb text front _ refl).1 _ h.1.1 in
-    let n : h.0 ≡ length front = h.1.0 in
-    rw e (rw (← n) (ap Some h.2))
-
-pub before_strip : (end text : List ℕ) (r : Option (Bor (List ℕ))) → MatchOption r (FindsTextSuffix end text None) (λ x. StripsSuffix (FindsTextSuffix end) text x.now) → option_copied r ≡ before end text
-before_strip end text None h =
-    let e : ends_with eqb text end ≡ false = false_from_ne_true _ (λ t. h _ ((ends_is Decides-eqb text end _ refl).0 t)) in
-    rw e refl
-before_strip end text (Some x) h =
-    let e : ends_with eqb text end ≡ true = (ends_is Decides-eqb text end _ refl).1 _ h.1.1 in
-    let n : h.0 ≡ length end = h.1.0 in
-    rw e (rw (← n) (ap Some h.2))
 
 onto_first-append : (x : ℕ) (ys zs : List (List ℕ)) → 0 < length ys → onto_first x (ys ++ zs) ≡ onto_first x ys ++ zs
 onto_first-append x [] zs h = absurd (omega arith)

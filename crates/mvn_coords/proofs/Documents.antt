@@ -4,7 +4,7 @@ use Rattle.std.specs.List.{list_all}
 use Rattle.std.proofs.lemmas.Bool.{and_parts, and_from, false≢true, lt-ltb}
 use Rattle.std.proofs.lemmas.List.{append-nil}
 use Rattle.mvn_coords.specs.declared.fault.PathFault.TheVariants as fault
-use Rattle.mvn_coords.specs.Segment.{Segment, levels, path_of_levels, is_segment, is_artifact}
+use Rattle.mvn_coords.specs.Segment.{Segment, levels, path_of_levels, is_segment, are_artifact_bytes}
 use Rattle.mvn_coords.specs.FileName.{base_of, is_filled}
 use Rattle.mvn_coords.specs.Layout.{Directory, directory, document, may_stand, all_groups, artifact_directory, snapshot_directory, directory_of, named, text_of_directory, text_of_document, below_group}
 use Rattle.mvn_coords.specs.Path.{parts_of, IsDirectory, IsPlain, IsBelow}
@@ -29,7 +29,7 @@ under path artifact group above e h =
 
 artifact_text : (path : List ℕ) (artifact : Segment) (above : List Segment) (d : Directory) → levels path ≡ artifact ∷ above → list_all is_segment above ≡ true → artifact_directory artifact above ≡ Ok d → path ≡ text_of_directory d
 artifact_text path artifact above d e ok h =
-    let c = chosen (all_groups above && is_artifact artifact) (Ok (record { group = path_of_levels above; artifact = artifact; version = None })) fault.BadSegment d h in
+    let c = chosen (all_groups above && are_artifact_bytes artifact) (Ok (record { group = path_of_levels above; artifact = artifact; version = None })) fault.BadSegment d h in
     by_above above e ok ∙ sym (append-nil (below_group (path_of_levels above) artifact)) ∙ ap text_of_directory (ok_same _ _ c.value)
   where
     by_above : (above : List Segment) → levels path ≡ artifact ∷ above → list_all is_segment above ≡ true → path ≡ below_group (path_of_levels above) artifact
@@ -68,10 +68,10 @@ keeps_directory path above d plain place h =
     (ap parts_of (sym whole) ∙ rule, text)
 
 -- the steps by which a path is judged a directory
-pub one_directory : (ls : List Segment) (artifact : Segment) → ls ≡ artifact ∷ [] → is_artifact artifact ≡ true → directory_of ls ≡ Ok (directory [] artifact None)
+pub one_directory : (ls : List Segment) (artifact : Segment) → ls ≡ artifact ∷ [] → are_artifact_bytes artifact ≡ true → directory_of ls ≡ Ok (directory [] artifact None)
 one_directory ls artifact e h = rw (e, h) refl
 
-pub artifact_judged : (ls : List Segment) (artifact : Segment) (group : List ℕ) → directory_of ls ≡ artifact_directory artifact (levels group) → all_groups (levels group) ≡ true → is_artifact artifact ≡ true → directory_of ls ≡ Ok (directory group artifact None)
+pub artifact_judged : (ls : List Segment) (artifact : Segment) (group : List ℕ) → directory_of ls ≡ artifact_directory artifact (levels group) → all_groups (levels group) ≡ true → are_artifact_bytes artifact ≡ true → directory_of ls ≡ Ok (directory group artifact None)
 artifact_judged ls artifact group e g a =
     e ∙ ap (λ t. cond t (Ok (directory (path_of_levels (levels group)) artifact None)) (Err fault.BadSegment)) (and_from _ _ g a)
     ∙ ap (λ (p : List ℕ). Ok (directory p artifact None)) (path_of_levels-levels group)

@@ -8,8 +8,10 @@ use Rattle.std.proofs.lemmas.List.Sums.{passes_at_first}
 use Rattle.mvn_coords.specs.declared.fault.PathFault.{PathFault}
 use Rattle.mvn_coords.specs.declared.fault.PathFault.TheVariants as fault
 use Rattle.mvn_coords.specs.Civil.{CivilTime, time_of, text_of_time, digits}
-use Rattle.mvn_coords.specs.FileName.{BuildOf, Ending, ◌>>=◌, behind, is_dot, is_filled, tail_by, tail_of, ending_of, release_ending, number_of, digit_count, number_in, numbered, is_literal, snapshot_ending, ending_in}
-use Rattle.mvn_coords.specs.Layout.{without_zeros, tail_text, version_with}
+use Rattle.byte_cuts.specs.Cuts.{behind}
+use Rattle.mvn_coords.specs.FileName.{BuildOf, Ending, ◌>>=◌, is_dot, is_filled, tail_by, tail_of, ending_of, release_ending, number_of, digit_count, number_in, numbered, is_literal, snapshot_ending, ending_in}
+use Rattle.byte_cuts.specs.Cuts.{significant}
+use Rattle.mvn_coords.specs.Layout.{tail_text, version_with}
 use Rattle.mvn_coords.proofs.Cuts.{behind_some}
 use Rattle.mvn_coords.proofs.Results.{bound, chosen_some, ok_or_some, some_same, ok_same}
 use Rattle.mvn_coords.proofs.Written.{text_of_time-time_of, number_written}
@@ -60,17 +62,17 @@ release_written artifact directory name e h =
     front ∙ ap (λ v. (artifact ++ 45 ∷ directory) ++ v) p.0
     ∙ ap (λ (b : Option BuildOf). artifact ++ 45 ∷ version_with directory b None ++ tail_text e.classifier e.extension) (sym p.1)
 
-run_written : (text rest : List ℕ) (n : ℕ) → numbered text ≡ Some (n, rest) → text ≡ 45 ∷ (without_zeros (digits 9 n) ++ rest)
+run_written : (text rest : List ℕ) (n : ℕ) → numbered text ≡ Some (n, rest) → text ≡ 45 ∷ (significant (digits 9 n) ++ rest)
 run_written text rest n h = by_dash (behind (45 ∷ []) text) refl h
   where
-    by_number : (run : List ℕ) (o : Option ℕ) → number_of (take (digit_count run) run) ≡ o → option_map {T = ℕ} {U = ℕ × List ℕ} (λ k. (k, drop (digit_count run) run)) o ≡ Some (n, rest) → run ≡ without_zeros (digits 9 n) ++ rest
+    by_number : (run : List ℕ) (o : Option ℕ) → number_of (take (digit_count run) run) ≡ o → option_map {T = ℕ} {U = ℕ × List ℕ} (λ k. (k, drop (digit_count run) run)) o ≡ Some (n, rest) → run ≡ significant (digits 9 n) ++ rest
     by_number run None a h = cc
     by_number run (Some k) a h =
         let same : (k, drop (digit_count run) run) ≡ (n, rest) = some_same _ _ h in
         sym (take-append-drop (digit_count run) run) ∙ ap (λ v. v ++ drop (digit_count run) run) (number_written (take (digit_count run) run) k a)
-        ∙ ap (λ (v : ℕ × List ℕ). without_zeros (digits 9 v.0) ++ v.1) same
+        ∙ ap (λ (v : ℕ × List ℕ). significant (digits 9 v.0) ++ v.1) same
 
-    by_dash : (o : Option (List ℕ)) → behind (45 ∷ []) text ≡ o → option_and_then number_in o ≡ Some (n, rest) → text ≡ 45 ∷ (without_zeros (digits 9 n) ++ rest)
+    by_dash : (o : Option (List ℕ)) → behind (45 ∷ []) text ≡ o → option_and_then number_in o ≡ Some (n, rest) → text ≡ 45 ∷ (significant (digits 9 n) ++ rest)
     by_dash None a h = cc
     by_dash (Some run) a h = behind_some (45 ∷ []) text run a ∙ ap (λ v. 45 ∷ v) (by_number run (number_of (take (digit_count run) run)) refl h)
 
@@ -85,10 +87,10 @@ after_stamp artifact directory base name text stamp e front time h =
     let rest = b.value.1 in
     let run = run_written (drop 15 text) rest n (ok_or_some _ fault.BadBuild b.value b.first) in
     let p = ending_parts (Some (record { stamp = stamp; number = n })) rest e b.next in
-    let whole : text ≡ text_of_time stamp ++ 45 ∷ (without_zeros (digits 9 n) ++ rest) = sym (take-append-drop 15 text) ∙ ap (λ v. v ++ drop 15 text) (text_of_time-time_of (take 15 text) stamp time) ∙ ap (λ v. text_of_time stamp ++ v) run in
+    let whole : text ≡ text_of_time stamp ++ 45 ∷ (significant (digits 9 n) ++ rest) = sym (take-append-drop 15 text) ∙ ap (λ v. v ++ drop 15 text) (text_of_time-time_of (take 15 text) stamp time) ∙ ap (λ v. text_of_time stamp ++ v) run in
     front ∙ ap (λ v. (artifact ++ 45 ∷ base ++ 45 ∷ []) ++ v) whole
-    ∙ regrouped artifact base (text_of_time stamp) (without_zeros (digits 9 n)) rest
-    ∙ ap (λ v. artifact ++ 45 ∷ (base ++ 45 ∷ (text_of_time stamp ++ 45 ∷ without_zeros (digits 9 n))) ++ v) p.0
+    ∙ regrouped artifact base (text_of_time stamp) (significant (digits 9 n)) rest
+    ∙ ap (λ v. artifact ++ 45 ∷ (base ++ 45 ∷ (text_of_time stamp ++ 45 ∷ significant (digits 9 n))) ++ v) p.0
     ∙ ap (λ (b : Option BuildOf). artifact ++ 45 ∷ version_with directory b (Some base) ++ tail_text e.classifier e.extension) (sym p.1)
 
 snapshot_written : (artifact directory base name : List ℕ) (e : Ending) → snapshot_ending artifact base name ≡ Ok e → name ≡ NameFor artifact directory (Some base) e

@@ -4,8 +4,9 @@ pub mod Documents
 pub mod Endings
 pub mod Files
 pub mod Judged
-pub mod Laws
+pub mod ExactPaths
 pub mod Levels
+pub mod Moments
 pub mod Names
 pub mod Results
 pub mod Times

@@ -1,6 +1,6 @@
 -- Civil times by the words of the calendar.
-use Rattle.std.proofs.Common.{◌≡◌, ℕ, ◌*◌, ◌<◌, ◌≤◌, true, ◌&&◌, nat_le, refl, sym, ◌∙◌, arith, ℤ, pos, negsuc, ◌+ℤ◌, ◌*ℤ◌, ◌≤ℤ◌, ◌<ℤ◌, unsigned_abs}
-use Rattle.std.proofs.lemmas.Bool.{and_parts, leb-true}
+use Rattle.std.proofs.Common.{◌≡◌, ℕ, ◌*◌, ◌<◌, ◌≤◌, true, ◌&&◌, nat_le, refl, sym, subst, ◌∙◌, arith, ℤ, pos, negsuc, ◌+ℤ◌, ◌*ℤ◌, ◌≤ℤ◌, ◌<ℤ◌, unsigned_abs}
+use Rattle.std.proofs.lemmas.Bool.{and_from, and_parts, le-leb, leb-true}
 use Rattle.std.proofs.lemmas.Int.{ints}
 use Rattle.jiff_core.specs.Calendar.{day_count, days_in_month}
 use Rattle.jiff_core.specs.Time.{time_seconds}
@@ -43,6 +43,14 @@ from_civil t h =
       second = leb-true t.second 59 g.1;
     }
 
+pub to_civil : (t : CivilTime) → IsOfCalendar t → is_civil t ≡ true
+to_civil t c =
+    and_from _ _
+    (and_from _ _
+    (and_from _ _ (le-leb t.year 9999 c.year) (and_from _ _ (le-leb 1 t.month c.month.0) (le-leb t.month 12 c.month.1)))
+    (and_from _ _ (le-leb 1 t.day c.day.0) (le-leb t.day (days_in_month (pos t.year) t.month) c.day.1)))
+    (and_from _ _ (and_from _ _ (le-leb t.hour 23 c.hour) (le-leb t.minute 59 c.minute)) (le-leb t.second 59 c.second))
+
 -- a moment since 1970 has a year from 0 on
 late_day : (c : DateTime) (n : ℕ) → civil_nanos c ≡ pos n → c.date.year <ℤ pos 0 → ⊥
 late_day c n e h =
@@ -66,3 +74,18 @@ seconds_shown c n e h =
     let whole = civil_nanos-civil_seconds c in
     let seconds : civil_seconds c ≡ pos n = omega (arith, signed_arith, whole, c.time.subsec_in) in
     rw year (sym (civil_seconds-parts c) ∙ seconds)
+
+-- a date and time of the calendar from the year 0 on shows a civil time
+pub shown_is_civil : (c : DateTime) → pos 0 ≤ℤ c.date.year → is_civil (shown c) ≡ true
+shown_is_civil c h =
+    let year : pos (unsigned_abs c.date.year) ≡ c.date.year = omega (arith, signed_arith, ints) in
+    let d = civil c.date in
+    let Fits : ℤ → Type 0 = λ y. c.date.day ≤ days_in_month y c.date.month in
+    to_civil (shown c) (record {
+      year = omega (arith, signed_arith, d.0);
+      month = d.1;
+      day = (d.2.0, subst Fits (sym year) d.2.1);
+      hour = omega arith;
+      minute = omega arith;
+      second = omega arith;
+    })

@@ -8,7 +8,7 @@ use Rattle.std.proofs.lemmas.List.Folds.{list_all-append}
 use Rattle.std.proofs.Math.Nat.{pow-suc, pow-le-pow_right}
 use Rattle.mvn_coords.specs.Civil.{CivilTime, is_civil, time_of, is_time_form, fields_of, if_civil, text_of_time, digits, decimal, are_digits}
 use Rattle.mvn_coords.specs.FileName.{number_of}
-use Rattle.mvn_coords.specs.Layout.{without_zeros}
+use Rattle.byte_cuts.specs.Cuts.{significant}
 use Rattle.mvn_coords.proofs.Digits.{decimal_push, digit_bounds, are_digits-take, are_digits-drop, decimal_below}
 use Rattle.mvn_coords.proofs.Results.{chosen_some, some_same}
 
@@ -103,17 +103,17 @@ lead (suc n) x h =
     let p : 10 ^ suc n ≡ 10 ^ n * 10 = pow-suc 10 n in
     ap (λ v. v ++ (48 + x % 10) ∷ []) (lead n (x / 10) (omega arith))
 
-zeros_first : (k n x : ℕ) → x < 10 ^ n → without_zeros (digits (n + k) x) ≡ without_zeros (digits n x)
+zeros_first : (k n x : ℕ) → x < 10 ^ n → significant (digits (n + k) x) ≡ significant (digits n x)
 zeros_first zero n x h = rw add-zero refl
 zeros_first (suc k) n x h =
     let more : 10 ^ n ≤ 10 ^ (n + k) = pow-le-pow_right {n = 10} (lit< tt) (omega arith) in
-    rw (add-suc n k) (ap without_zeros (lead (n + k) x (omega arith)) ∙ zeros_first k n x h)
+    rw (add-suc n k) (ap significant (lead (n + k) x (omega arith)) ∙ zeros_first k n x h)
 
-no_zero : (run : List ℕ) → starts_with eqb run (48 ∷ []) ≡ false → without_zeros run ≡ run
+no_zero : (run : List ℕ) → starts_with eqb run (48 ∷ []) ≡ false → significant run ≡ run
 no_zero [] h = refl
 no_zero (d ∷ ds) h = rw (ne_eqb d 48 (λ e. false≢true (sym h ∙ rw e refl))) refl
 
-pub number_written : (run : List ℕ) (n : ℕ) → number_of run ≡ Some n → run ≡ without_zeros (digits 9 n)
+pub number_written : (run : List ℕ) (n : ℕ) → number_of run ≡ Some n → run ≡ significant (digits 9 n)
 number_written run n h =
     let c = chosen_some _ (Some (decimal run)) n h in
     let p = and_parts _ (not (starts_with eqb run (48 ∷ []))) c.test in
@@ -124,6 +124,6 @@ number_written run n h =
     let small : decimal run < 10 ^ length run = decimal_below run q.1 in
     let nine : length run + (9 - length run) ≡ 9 = omega arith in
     let whole : digits (length run) (decimal run) ≡ run = digits-decimal (length run) run refl q.1 in
-    sym (no_zero run (not-true _ p.1)) ∙ ap without_zeros (sym whole)
+    sym (no_zero run (not-true _ p.1)) ∙ ap significant (sym whole)
     ∙ sym (zeros_first (9 - length run) (length run) (decimal run) small)
     ∙ rw (nine, same) refl

@@ -1,8 +1,9 @@
 -- The name of a file in its version directory (Maven 2 repository layout): `artifact-version` with an extension, or with a classifier and an extension; in a snapshot directory the version is that of a unique snapshot, `base-yyyyMMdd.HHmmss-number`.
-use Rattle.std.specs.Prelude.{ℕ, ◌-◌, Bool, true, not, ◌&&◌, ◌||◌, ◌==◌, nat_eq, nat_le, nat_lt, if◌then◌else◌, List, [], ◌∷◌, ◌++◌, length, take, drop, Option, Some, None, option_and_then, unwrap_or, Result, Ok, Err, codes}
+use Rattle.std.specs.Prelude.{ℕ, Bool, true, not, ◌&&◌, ◌||◌, ◌==◌, nat_eq, nat_le, nat_lt, if◌then◌else◌, List, [], ◌∷◌, ◌++◌, length, take, drop, Option, Some, None, option_and_then, unwrap_or, Result, Ok, Err, codes}
 use Rattle.std.specs.Char.{is_ascii_digit}
-use Rattle.std.specs.List.{list_all, starts_with, ends_with, before_first, after_first, position}
+use Rattle.std.specs.List.{list_all, starts_with, before_first, after_first, position}
 use Rattle.std.specs.Option.{ok_or, option_map}
+use Rattle.byte_cuts.specs.Cuts.{behind, before}
 use Rattle.mvn_coords.specs.declared.fault.PathFault.{PathFault}
 use Rattle.mvn_coords.specs.declared.fault.PathFault.TheVariants as fault
 use Rattle.mvn_coords.specs.Civil.{CivilTime, time_of, decimal}
@@ -27,14 +28,6 @@ pub record Ending : Type 0 where
   pub build : Option BuildOf
   pub classifier : List ℕ
   pub extension : List ℕ
-
--- what is left of a text behind a front, or before an end
-abbrev pub behind : List ℕ → List ℕ → Option (List ℕ)
-behind front text = if starts_with nat_eq text front then Some (drop (length front) text) else None
-
-abbrev pub before : List ℕ → List ℕ → Option (List ℕ)
-before end text =
-    if ends_with nat_eq text end then Some (take (length text - length end) text) else None
 
 -- X, where a directory is X-SNAPSHOT and X has at least one byte
 abbrev pub base_of : List ℕ → Option (List ℕ)

@@ -1,11 +1,12 @@
 -- What a path names (Maven 2 repository layout): a file of an artifact, or the metadata document of a directory.
-use Rattle.std.specs.Prelude.{ℕ, Bool, ◌&&◌, ◌==◌, if◌then◌else◌, List, [], ◌∷◌, ◌++◌, Option, Some, None, is_some, Result, Ok, Err, codes}
+use Rattle.std.specs.Prelude.{ℕ, Bool, ◌&&◌, if◌then◌else◌, List, [], ◌∷◌, ◌++◌, Option, Some, None, is_some, Result, Ok, Err, codes}
 use Rattle.std.specs.List.{list_all}
 use Rattle.std.specs.Str.{bytes_eq}
+use Rattle.byte_cuts.specs.Cuts.{significant}
 use Rattle.mvn_coords.specs.declared.fault.PathFault.{PathFault}
 use Rattle.mvn_coords.specs.declared.fault.PathFault.TheVariants as fault
 use Rattle.mvn_coords.specs.Civil.{text_of_time, digits}
-use Rattle.mvn_coords.specs.Segment.{Segment, path_of_levels, is_group_segment, is_artifact, is_version_directory}
+use Rattle.mvn_coords.specs.Segment.{Segment, path_of_levels, are_group_bytes, are_artifact_bytes, fits_version}
 use Rattle.mvn_coords.specs.FileName.{BuildOf, Ending, ◌>>=◌, base_of, is_filled, ending_in}
 
 -- a file's coordinates: the group's segments joined by `/`, the classifier empty where there is none
@@ -31,11 +32,11 @@ pub data Named : Type 0 where
   document : Directory → Named
 
 abbrev pub all_groups : List Segment → Bool
-all_groups groups = list_all is_group_segment groups
+all_groups groups = list_all are_group_bytes groups
 
 -- which segments may stand as the group, the last one first, the artifact and the version directory
 abbrev pub may_stand : List Segment → Segment → Segment → Bool
-may_stand groups artifact version = all_groups groups && is_artifact artifact && is_version_directory version
+may_stand groups artifact version = all_groups groups && are_artifact_bytes artifact && fits_version version
 
 abbrev pub coordinates_of : List ℕ → Segment → Segment → Ending → Coordinates
 coordinates_of group artifact version e = record {
@@ -64,7 +65,7 @@ file_of _ = Err fault.Short
 -- the directory of an artifact or a group
 abbrev pub artifact_directory : Segment → List Segment → Result Directory PathFault
 artifact_directory artifact groups =
-    if all_groups groups && is_artifact artifact
+    if all_groups groups && are_artifact_bytes artifact
     then Ok (directory (path_of_levels groups) artifact None)
     else Err fault.BadSegment
 
@@ -90,13 +91,12 @@ named (name ∷ above) =
     then (directory_of above >>= λ d. Ok (document d))
     else (file_of (name ∷ above) >>= λ c. Ok (file c))
 
--- a number without leading zeros, below 10 ^ 9
-abbrev pub without_zeros : List ℕ → List ℕ
-without_zeros [] = []
-without_zeros (d ∷ ds) = if d == 48 then without_zeros ds else d ∷ ds
+-- a build's number without leading zeros; a build: its timestamp, `-` and its number
+abbrev pub text_of_number : ℕ → List ℕ
+text_of_number n = significant (digits 9 n)
 
 abbrev pub text_of_build : BuildOf → List ℕ
-text_of_build b = text_of_time b.stamp ++ 45 ∷ without_zeros (digits 9 b.number)
+text_of_build b = text_of_time b.stamp ++ 45 ∷ text_of_number b.number
 
 -- the version that a file's name has: the version directory, but with a build in the place of `SNAPSHOT`
 abbrev pub version_with : List ℕ → Option BuildOf → Option (List ℕ) → List ℕ

@@ -1,3 +1,4 @@
+pub mod Calendar
 pub mod Civil
 pub mod Fault
 pub mod Fields

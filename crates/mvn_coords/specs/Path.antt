@@ -6,7 +6,8 @@ use Rattle.mvn_coords.specs.declared.fault.PathFault.TheVariants as fault
 use Rattle.mvn_coords.specs.declared.fault.Side.{Side}
 use Rattle.mvn_coords.specs.declared.fault.Side.TheVariants.{Sha1, Md5}
 use Rattle.mvn_coords.specs.Segment.{Segment, levels, is_segment, is_path_byte}
-use Rattle.mvn_coords.specs.FileName.{◌>>=◌, before}
+use Rattle.byte_cuts.specs.Cuts.{before}
+use Rattle.mvn_coords.specs.FileName.{◌>>=◌}
 use Rattle.mvn_coords.specs.Layout.{Coordinates, Directory, Named, file, document, named, text_of, text_of_document}
 
 -- the suffix of a side file's name

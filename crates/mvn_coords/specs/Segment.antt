@@ -38,13 +38,25 @@ is_segment s =
     nat_lt 0 (length s) && nat_le (length s) 255 && not (bytes_eq s (codes "."))
     && not (bytes_eq s (codes "..")) && list_all is_path_byte s
 
-abbrev pub is_group_segment : Segment → Bool
-is_group_segment s = list_all is_group_byte s
+-- letters, digits, `_` and `-` alone
+abbrev pub are_group_bytes : Segment → Bool
+are_group_bytes s = list_all is_group_byte s
 
-abbrev pub is_artifact : Segment → Bool
-is_artifact s = list_all is_artifact_byte s
+-- these and `.` alone
+abbrev pub are_artifact_bytes : Segment → Bool
+are_artifact_bytes s = list_all is_artifact_byte s
 
 -- at most 128 bytes, and not the snapshot of nothing
-abbrev pub is_version_directory : Segment → Bool
-is_version_directory s =
+abbrev pub fits_version : Segment → Bool
+fits_version s =
     nat_le (length s) 128 && not (bytes_eq s (codes "SNAPSHOT")) && not (bytes_eq s (codes "-SNAPSHOT"))
+
+-- a segment of a group, an artifact, and a version directory
+abbrev pub is_group_segment : Segment → Bool
+is_group_segment s = is_segment s && are_group_bytes s
+
+abbrev pub is_artifact : Segment → Bool
+is_artifact s = is_segment s && are_artifact_bytes s
+
+abbrev pub is_version_directory : Segment → Bool
+is_version_directory s = is_segment s && fits_version s

@@ -7,21 +7,22 @@ mod build;
 mod coord;
 mod fault;
 mod kind;
+pub mod laws;
 mod name;
 mod read;
 mod segment;
 mod stamp;
 mod text;
 
-pub use build::{Build, build_number};
+pub use build::{Build, BuildText, NumberText, build_number};
 pub use coord::{Coord, Dir};
 pub use fault::{PathFault, Side};
 pub use kind::Kind;
-pub use read::{exact_paths, kind_of, path_of, worked_paths};
+pub use read::{kind_of, path_of};
 pub use segment::{
     are_path_bytes, is_artifact, is_group_segment, is_path_byte, is_segment, is_version_directory,
 };
-pub use stamp::{Stamp, exact_stamps};
+pub use stamp::Stamp;
 use std::alloc::AllocError;
 
 /// Memory was wanting.

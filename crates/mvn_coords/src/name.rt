@@ -2,12 +2,13 @@
 ghost use Rattle.std.specs.Prelude.{◌≡◌, ◌++◌, ◌∷◌, [], Option, None, IfSome, IsTrue, MatchOption, take, drop};
 ghost use Rattle.std.specs.Option.{option_copied, option_map};
 ghost use Rattle.std.specs.List.{position};
+ghost use Rattle.byte_cuts.specs.Cuts as cuts;
 ghost use Rattle.mvn_coords.specs.FileName as spec;
 ghost use Rattle.mvn_coords.specs.Civil.{time_of};
 
 use crate::build::build_number;
-use crate::text::{before, behind};
 use crate::{Build, PathFault, Stamp};
+use byte_cuts::text::{before, behind};
 use std::marker::Model;
 
 /// What a file's name tells beside artifact and version directory.
@@ -43,7 +44,7 @@ pub(crate) fn base_of(directory: &str) -> Option<&str>
 /// What is left of a name behind `artifact-version`.
 #[tactic(auto, using(crate::proofs::Cuts::behind_version))]
 fn behind_version<'a>(artifact: &str, version: &str, name: &'a str) -> Option<&'a str>
-    ensures { option_copied result ≡ spec.behind (artifact.now ++ 45 ∷ version.now) name.now }
+    ensures { option_copied result ≡ cuts.behind (artifact.now ++ 45 ∷ version.now) name.now }
 {
     let dashed = behind(artifact, name)?;
     let rest = behind("-", dashed)?;
@@ -53,7 +54,7 @@ fn behind_version<'a>(artifact: &str, version: &str, name: &'a str) -> Option<&'
 /// What is left of a name behind `artifact-base-`.
 #[tactic(auto, using(crate::proofs::Cuts::behind_base))]
 fn behind_base<'a>(artifact: &str, base: &str, name: &'a str) -> Option<&'a str>
-    ensures { option_copied result ≡ spec.behind (artifact.now ++ 45 ∷ base.now ++ 45 ∷ []) name.now }
+    ensures { option_copied result ≡ cuts.behind (artifact.now ++ 45 ∷ base.now ++ 45 ∷ []) name.now }
 {
     let rest = behind_version(artifact, base, name)?;
     behind("-", rest)

@@ -5,15 +5,13 @@ ghost use Rattle.std.specs.Str.{bytes_eq};
 ghost use Rattle.mvn_coords.specs.Segment as segment;
 ghost use Rattle.mvn_coords.specs.Layout as layout;
 ghost use Rattle.mvn_coords.specs.Path as path_rule;
-ghost use Rattle.mvn_coords.specs.Worked.{WorkedPaths};
-ghost use Rattle.mvn_coords.specs.Kind.{kind, kind_by, text_of_kind, with_side, IsExact};
+ghost use Rattle.mvn_coords.specs.Kind.{kind, kind_by, text_of_kind, with_side};
 
 use crate::name::{base_of, ending_in};
-use crate::text::{before, cut_last, is};
-use crate::{
-    Coord, Dir, Kind, NoMemory, PathFault, Side, is_artifact, is_group_segment, is_segment,
-    is_version_directory,
-};
+use crate::segment::{are_artifact_bytes, are_group_bytes, fits_version};
+use crate::text::cut_last;
+use crate::{Coord, Dir, Kind, NoMemory, PathFault, Side, is_segment};
+use byte_cuts::text::{before, is};
 use std::alloc::Global;
 use std::marker::Model;
 
@@ -50,17 +48,6 @@ pub fn path_of(alloc: Global, c: &Coord<'_>) -> Result<String, NoMemory>
     String::from_str(alloc, c.path())
 }
 
-/// A path is the one path of what it names, and a side file's path without its suffix names the
-/// file or document that it stands beside.
-pub fn exact_paths()
-    ensures { IsExact }
-{}
-
-/// Kinds of paths, written out.
-pub fn worked_paths()
-    ensures { WorkedPaths }
-{}
-
 /// Whether each part between slashes is a segment.
 fn all_segments(path: &str) -> bool
     ensures { result ≡ list_all segment.is_segment (segment.levels path.now) }
@@ -81,12 +68,12 @@ fn all_groups(path: &str) -> bool
 {
     let mut rest = path;
     'levels: while let Some((above, last)) = cut_last(rest) {
-        if !is_group_segment(last) {
+        if !are_group_bytes(last) {
             return false;
         }
         rest = above;
     }
-    is_group_segment(rest)
+    are_group_bytes(rest)
 }
 
 /// A path without its side suffix, and the side.
@@ -188,7 +175,7 @@ fn document_kind(dir: Dir<'_>, side: Option<Side>) -> Kind<'_>
 fn may_stand(group: &str, artifact: &str, version: &str) -> bool
     ensures { result ≡ layout.may_stand (segment.levels group.now) artifact.now version.now }
 {
-    all_groups(group) && is_artifact(artifact) && is_version_directory(version)
+    all_groups(group) && are_artifact_bytes(artifact) && fits_version(version)
 }
 
 /// The file that a path names: group segments, artifact, version directory and the file's name.
@@ -220,7 +207,7 @@ fn directory<'a>(document: &str, path: &'a str) -> Result<Dir<'a>, PathFault>
     ensures { result ≡ layout.directory_of (segment.levels path.now) }
 {
     let Some((above, last)) = cut_last(path) else {
-        if !is_artifact(path) {
+        if !are_artifact_bytes(path) {
             return Err(PathFault::BadSegment);
         }
         return Ok(Dir::new(path, "", path, None));
@@ -250,7 +237,7 @@ fn artifact_directory<'a>(
         ≡ layout.artifact_directory artifact.now (segment.levels group.now) }
     ensures { result ≡ layout.directory_of (segment.levels path.now) }
 {
-    if !all_groups(group) || !is_artifact(artifact) {
+    if !all_groups(group) || !are_artifact_bytes(artifact) {
         return Err(PathFault::BadSegment);
     }
     Ok(Dir::new(path, group, artifact, None))

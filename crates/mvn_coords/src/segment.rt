@@ -3,7 +3,7 @@ ghost use Rattle.std.specs.Prelude.{◌≡◌};
 ghost use Rattle.std.specs.List.{list_all};
 ghost use Rattle.mvn_coords.specs.Segment as spec;
 
-use crate::text::is;
+use byte_cuts::text::is;
 
 fn is_group_byte(b: u8) -> bool
     ensures { result ≡ spec.is_group_byte b }
@@ -42,24 +42,44 @@ pub fn are_path_bytes(text: &str) -> bool
     text.bytes().all(is_path_byte)
 }
 
-/// Whether a segment may be part of a group: letters, digits, `_` and `-`.
-pub fn is_group_segment(segment: &str) -> bool
-    ensures { result ≡ spec.is_group_segment segment.now }
+/// Whether each byte may stand in a segment of a group.
+pub(crate) fn are_group_bytes(text: &str) -> bool
+    ensures { result ≡ spec.are_group_bytes text.now }
 {
-    segment.bytes().all(is_group_byte)
+    text.bytes().all(is_group_byte)
 }
 
-/// Whether a segment may be an artifact: letters, digits, `_`, `-` and `.`.
-pub fn is_artifact(segment: &str) -> bool
-    ensures { result ≡ spec.is_artifact segment.now }
+/// Whether each byte may stand in an artifact.
+pub(crate) fn are_artifact_bytes(text: &str) -> bool
+    ensures { result ≡ spec.are_artifact_bytes text.now }
 {
-    segment.bytes().all(is_artifact_byte)
+    text.bytes().all(is_artifact_byte)
 }
 
-/// Whether a segment may be a version directory: at most 128 bytes, and neither `SNAPSHOT` nor
-/// `-SNAPSHOT`.
-pub fn is_version_directory(segment: &str) -> bool
-    ensures { result ≡ spec.is_version_directory segment.now }
+/// Whether a segment may be a version directory.
+pub(crate) fn fits_version(segment: &str) -> bool
+    ensures { result ≡ spec.fits_version segment.now }
 {
     segment.len() <= 128 && !is(segment, "SNAPSHOT") && !is(segment, "-SNAPSHOT")
+}
+
+/// Whether a text is a segment of a group: 1 to 255 letters, digits, `_` and `-`.
+pub fn is_group_segment(text: &str) -> bool
+    ensures { result ≡ spec.is_group_segment text.now }
+{
+    is_segment(text) && are_group_bytes(text)
+}
+
+/// Whether a text is an artifact: a segment of letters, digits, `_`, `-` and `.`.
+pub fn is_artifact(text: &str) -> bool
+    ensures { result ≡ spec.is_artifact text.now }
+{
+    is_segment(text) && are_artifact_bytes(text)
+}
+
+/// Whether a text is a version directory: a segment of at most 128 bytes, and neither `SNAPSHOT` nor `-SNAPSHOT`.
+pub fn is_version_directory(text: &str) -> bool
+    ensures { result ≡ spec.is_version_directory text.now }
+{
+    is_segment(text) && fits_version(text)
 }

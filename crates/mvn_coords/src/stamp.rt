@@ -1,7 +1,7 @@
 //! Timestamps: civil times and their text.
 ghost use Rattle.std.specs.Prelude.{◌≡◌, ◌≤◌, ◌+◌, ◌%◌, ◌^◌, ◌<◌, pos, ◌≤ℤ◌, length, slice_range, IsTrue};
 ghost use Rattle.mvn_coords.specs.Civil as spec;
-ghost use Rattle.mvn_coords.specs.Civil.{IsExactText};
+ghost use Rattle.mvn_coords.specs.Calendar.{civil_of};
 
 use jiff::Timestamp;
 use jiff::civil::DateTime;
@@ -55,7 +55,7 @@ impl Model for Stamp {
 }
 
 impl Stamp {
-    ghost use Rattle.mvn_coords.specs.Civil.{seconds_of, text_of_time, time_of, if_civil, fields_of, shown};
+    ghost use Rattle.mvn_coords.specs.Civil.{text_of_time, time_of, if_civil, fields_of, shown};
 
     /// The greatest moment that `from_moment` takes, in seconds since 1970-01-01T00:00:00Z.
     pub const LAST_MOMENT: u64 = 253_402_207_200;
@@ -117,14 +117,15 @@ impl Stamp {
         ensures text { result ≡ text_of_time self.now }
         ensures civil { IsTrue (spec.is_civil self.now) }
     {
-        let (month, day) = (u16::from(self.month), u16::from(self.day));
-        let (hour, minute) = (u16::from(self.hour), u16::from(self.minute));
-        let second = u16::from(self.second);
+        let year = u32::from(self.year);
+        let (month, day) = (u32::from(self.month), u32::from(self.day));
+        let (hour, minute) = (u32::from(self.hour), u32::from(self.minute));
+        let second = u32::from(self.second);
         [
-            digit(self.year / 10 / 10 / 10),
-            digit(self.year / 10 / 10),
-            digit(self.year / 10),
-            digit(self.year),
+            digit(year / 10 / 10 / 10),
+            digit(year / 10 / 10),
+            digit(year / 10),
+            digit(year),
             digit(month / 10),
             digit(month),
             digit(day / 10),
@@ -139,10 +140,10 @@ impl Stamp {
         ]
     }
 
-    /// The civil time in UTC, `moment` seconds after 1970-01-01T00:00:00Z, at most `LAST_MOMENT`.
+    /// The civil time in UTC of a moment, in seconds since 1970-01-01T00:00:00Z, at most `LAST_MOMENT`.
     pub fn from_moment(moment: u64) -> Stamp
         requires { moment ≤ Self.LAST_MOMENT }
-        ensures { seconds_of result ≡ pos moment }
+        ensures { result ≡ civil_of moment }
     {
         match Timestamp::from_second(moment as i64) {
             Ok(instant) => Stamp::from_civil(Offset::UTC.to_datetime(instant)),
@@ -151,13 +152,8 @@ impl Stamp {
     }
 }
 
-/// Reading and writing a stamp's text are each other's inverse.
-pub fn exact_stamps()
-    ensures { IsExactText }
-{}
-
 /// The last decimal digit of a number, in ASCII.
-fn digit(number: u16) -> u8
+pub(crate) fn digit(number: u32) -> u8
     ensures { result ≡ 48 + number % 10 }
 {
     b'0' + (number % 10) as u8

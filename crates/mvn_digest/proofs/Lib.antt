@@ -1,1 +1,1 @@
-pub mod WorkedRows
+pub mod SideTexts

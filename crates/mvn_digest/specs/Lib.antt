@@ -1,2 +1,4 @@
 pub mod Digests
 pub mod Hex
+pub mod Sides
+pub mod Worked

@@ -1,5 +1,8 @@
 ghost use Rattle.std.specs.Prelude.{◌≡◌};
 ghost use Rattle.mvn_digest.specs.Hex.{hex_text};
+ghost use Rattle.mvn_digest.specs.Sides.{bytes_in, side_in, side_of};
+
+use mvn_coords::Side;
 
 /// The length of a SHA-1 digest in bytes (FIPS 180-4, section 1).
 pub const SHA1_BYTES: usize = 20;
@@ -20,7 +23,47 @@ pub struct Digests {
     pub md5: [u8; MD5_BYTES],
 }
 
+/// A digest of one side.
+#[derive(Clone, Copy, Debug, PartialEq, Eq)]
+pub enum Digest {
+    Sha1([u8; SHA1_BYTES]),
+    Md5([u8; MD5_BYTES]),
+}
+
+impl Digest {
+    /// The digest's bytes, 20 of SHA-1 or 16 of MD5.
+    pub fn bytes(&self) -> &[u8]
+        ensures { result.now ≡ bytes_in self.now }
+    {
+        match self {
+            Digest::Sha1(bytes) => bytes.as_slice(),
+            Digest::Md5(bytes) => bytes.as_slice(),
+        }
+    }
+
+    /// The side that the digest is of.
+    pub fn side(&self) -> Side
+        ensures { result ≡ side_in self.now }
+    {
+        match self {
+            Digest::Sha1(_) => Side::Sha1,
+            Digest::Md5(_) => Side::Md5,
+        }
+    }
+}
+
 impl Digests {
+    /// The digest of a side.
+    pub fn of(&self, side: Side) -> Digest
+        ensures bytes { bytes_in result ≡ side_of self.now side }
+        ensures side { side_in result ≡ side }
+    {
+        match side {
+            Side::Sha1 => Digest::Sha1(self.sha1),
+            Side::Md5 => Digest::Md5(self.md5),
+        }
+    }
+
     /// The SHA-1 digest as 40 lower case hexadecimal digits, the high half of each byte first.
     pub fn sha1_text(&self) -> [u8; SHA1_DIGITS]
         ensures { result ≡ hex_text self.now.sha1 }

@@ -10,7 +10,8 @@ use Rattle.mvn_doc.specs.declared.place.Place.TheVariants.{Metadata}
 use Rattle.mvn_metadata.specs.Document.{Document, latest, release}
 use Rattle.mvn_metadata.specs.Merge.{Entry}
 use Rattle.mvn_doc.specs.Place.{Placed, below}
-use Rattle.mvn_doc.specs.Written.{block, build_version, element, moment_text, number_text}
+use Rattle.mvn_coords.specs.Layout.{text_of_number}
+use Rattle.mvn_metadata.specs.Written.{block, build_version, element, moment_text}
 
 pub data Lines : Type 0 where
   NoLines : Lines
@@ -55,7 +56,7 @@ entries_block (e ∷ es) more = Block (codes "snapshotVersions") (each_entry (e 
 abbrev pub newest_block : Option BuildOf → Lines → Lines
 newest_block None more = more
 newest_block (Some b) more =
-    Block (codes "snapshot") (Line (codes "timestamp") (text_of_time b.stamp) (Line (codes "buildNumber") (number_text b.number) NoLines)) more
+    Block (codes "snapshot") (Line (codes "timestamp") (text_of_time b.stamp) (Line (codes "buildNumber") (text_of_number b.number) NoLines)) more
 
 abbrev pub artifact_inside : List (List ℕ) → Option CivilTime → Lines
 artifact_inside versions updated =

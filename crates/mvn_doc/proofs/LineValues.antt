@@ -8,12 +8,15 @@ use Rattle.std.proofs.lemmas.List.Folds.{list_all-append}
 use Rattle.xml_subset.specs.Cut.{begins}
 use Rattle.mvn_coords.specs.Civil.{CivilTime, decimal, digits, text_of_time}
 use Rattle.mvn_coords.specs.FileName.{BuildOf, base_of, is_build_number}
-use Rattle.mvn_coords.specs.Layout.{text_of_build, without_zeros}
-use Rattle.mvn_coords.specs.Segment.{is_artifact, is_group_segment, is_path_byte, is_segment, is_version_directory}
+use Rattle.byte_cuts.specs.Cuts.{significant}
+use Rattle.mvn_coords.specs.Layout.{text_of_build}
+use Rattle.mvn_coords.specs.Segment.{are_artifact_bytes, are_group_bytes, is_path_byte, is_segment, fits_version}
 use Rattle.mvn_coords.proofs.Digits.{decimal-digits}
-use Rattle.mvn_metadata.specs.Form.{is_artifact_name, is_base_version, is_classifier, is_classifier_byte, is_extension, is_fit, is_group, is_version}
+use Rattle.mvn_coords.specs.Segment.{is_artifact, is_version_directory}
+use Rattle.mvn_metadata.specs.Form.{is_base_version, is_classifier, is_classifier_byte, is_extension, is_fit, is_group}
 use Rattle.mvn_metadata.specs.Document.{is_snapshot}
-use Rattle.mvn_doc.specs.Written.{moment_text, number_text}
+use Rattle.mvn_coords.specs.Layout.{text_of_number}
+use Rattle.mvn_metadata.specs.Written.{moment_text}
 use Rattle.mvn_metadata.proofs.Bools.{both, first, second, list_all_weaker}
 use Rattle.mvn_doc.proofs.LinesOutlined.{is_line_value}
 use Rattle.mvn_doc.proofs.Utf8Lemmas.{digit_plain}
@@ -69,14 +72,14 @@ segment_value s h =
     filled_value s (first filled short (first (filled && short) here (first (filled && short && here) above front)))
     (second (filled && short && here && above) (are_path_bytes s) h)
 
-pub artifact_value : (s : List ℕ) → is_artifact_name s ≡ true → is_line_value s ≡ true
-artifact_value s h = segment_value s (first (is_segment s) (is_artifact s) h)
+pub artifact_value : (s : List ℕ) → is_artifact s ≡ true → is_line_value s ≡ true
+artifact_value s h = segment_value s (first (is_segment s) (are_artifact_bytes s) h)
 
-pub version_value : (s : List ℕ) → is_version s ≡ true → is_line_value s ≡ true
-version_value s h = segment_value s (first (is_segment s) (is_version_directory s) h)
+pub version_value : (s : List ℕ) → is_version_directory s ≡ true → is_line_value s ≡ true
+version_value s h = segment_value s (first (is_segment s) (fits_version s) h)
 
 pub base_value : (s : List ℕ) → is_base_version s ≡ true → is_line_value s ≡ true
-base_value s h = version_value s (first (is_version s) (is_some (base_of s)) h)
+base_value s h = version_value s (first (is_version_directory s) (is_some (base_of s)) h)
 
 pub extension_value : (s : List ℕ) → is_extension s ≡ true → is_line_value s ≡ true
 extension_value s h =
@@ -118,8 +121,8 @@ split_path (b ∷ bs) h =
 pub group_value : (s : List ℕ) → is_group s ≡ true → is_line_value s ≡ true
 group_value [] h = absurd cc
 group_value (b ∷ bs) h =
-    cons_value b bs (split_path (b ∷ bs) (list_all_weaker (λ s. is_segment s && is_group_segment s) are_path_bytes (slice_split dot (b ∷ bs))
-    (λ s k. bytes_of_value s (segment_value s (first (is_segment s) (is_group_segment s) k))) h))
+    cons_value b bs (split_path (b ∷ bs) (list_all_weaker (λ s. is_segment s && are_group_bytes s) are_path_bytes (slice_split dot (b ∷ bs))
+    (λ s k. bytes_of_value s (segment_value s (first (is_segment s) (are_group_bytes s) k))) h))
 
 -- ---- moments and numbers
 digit_here : (x : ℕ) → is_path_byte (48 + x % 10) ≡ true
@@ -158,16 +161,16 @@ without_dot xs h =
 pub moment_value : (t : CivilTime) → is_line_value (moment_text t) ≡ true
 moment_value t = without_dot (text_of_time t) (time_value t)
 
-zeros_value : (ds : List ℕ) → are_path_bytes ds ≡ true → (decimal ds ≡ 0 → ⊥) → is_line_value (without_zeros ds) ≡ true
+zeros_value : (ds : List ℕ) → are_path_bytes ds ≡ true → (decimal ds ≡ 0 → ⊥) → is_line_value (significant ds) ≡ true
 zeros_value [] h more = absurd (more refl)
 zeros_value (d ∷ ds) h more =
-    elim (d == 48) as (λ b. (d == 48) ≡ b → is_line_value (if b then without_zeros ds else d ∷ ds) ≡ true) [
+    elim (d == 48) as (λ b. (d == 48) ≡ b → is_line_value (if b then significant ds else d ∷ ds) ≡ true) [
       | true ↦ λ e. zeros_value ds (second (is_path_byte d) (are_path_bytes ds) h)
           (λ none. more (ap (λ c. decimal (c ∷ ds)) (eqb-true d 48 e) ∙ none))
       | false ↦ λ _. cons_value d ds h
     ] refl
 
-pub number_value : (n : ℕ) → is_build_number n ≡ true → is_line_value (number_text n) ≡ true
+pub number_value : (n : ℕ) → is_build_number n ≡ true → is_line_value (text_of_number n) ≡ true
 number_value n h =
     let low : 1 ≤ n = leb-true 1 n (first (nat_le 1 n) (nat_le n 999_999_999) h) in
     let high : n ≤ 999_999_999 = leb-true n 999_999_999 (second (nat_le 1 n) (nat_le n 999_999_999) h) in
@@ -177,7 +180,7 @@ number_value n h =
 pub build_value : (base : List ℕ) (b : BuildOf) → is_base_version (base ++ codes "-SNAPSHOT") ≡ true → is_build_number b.number ≡ true → is_line_value (base ++ 45 ∷ text_of_build b) ≡ true
 build_value base b g h =
     let time = text_of_time b.stamp in
-    let number = number_text b.number in
+    let number = text_of_number b.number in
     let build = path_both time (45 ∷ number) (bytes_of_value time (time_value b.stamp)) (bytes_of_value number (number_value b.number h)) in
     value_behind base (45 ∷ text_of_build b)
     (path_front base (codes "-SNAPSHOT") (bytes_of_value (base ++ codes "-SNAPSHOT") (base_value (base ++ codes "-SNAPSHOT") g)))

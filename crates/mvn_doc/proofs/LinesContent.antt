@@ -4,7 +4,7 @@ use Rattle.std.specs.Prelude.{codes}
 use Rattle.xml_subset.specs.Content.{Content, Nothing, Data, Node}
 use Rattle.xml_subset.specs.Spelling.{spelled, spelled_document}
 use Rattle.mvn_metadata.specs.Document.{Document}
-use Rattle.mvn_doc.specs.Written.{block, close_tag, declaration, element, open_tag, text}
+use Rattle.mvn_metadata.specs.Written.{block, close_tag, declaration, element, open_tag, text}
 use Rattle.mvn_doc.proofs.LaidOut.{Lines, NoLines, Line, Block, lines_of, lines_text}
 use Rattle.mvn_doc.proofs.TextLines.{text_lines}
 

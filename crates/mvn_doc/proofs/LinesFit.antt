@@ -9,9 +9,11 @@ use Rattle.xml_subset.specs.Spelling.{is_name}
 use Rattle.mvn_metadata.specs.declared.listing.Listing.{Listing}
 use Rattle.mvn_metadata.specs.declared.listing.Listing.TheVariants.{Artifact, Snapshot}
 use Rattle.mvn_metadata.specs.Document.{Document, latest, release}
-use Rattle.mvn_metadata.specs.Form.{is_artifact_name, is_base_version, is_build, is_classifier, is_document, is_entry, is_extension, is_fit, is_group, is_listing, is_version}
+use Rattle.mvn_coords.specs.Segment.{is_artifact, is_version_directory}
+use Rattle.mvn_metadata.specs.Form.{is_base_version, is_build, is_classifier, is_document, is_entry, is_extension, is_fit, is_group, is_listing}
 use Rattle.mvn_metadata.specs.Merge.{Entry}
-use Rattle.mvn_doc.specs.Written.{build_version, moment_text, number_text}
+use Rattle.mvn_coords.specs.Layout.{text_of_number}
+use Rattle.mvn_metadata.specs.Written.{build_version, moment_text}
 use Rattle.mvn_metadata.proofs.Bools.{both, first, second, list_all_weaker}
 use Rattle.mvn_metadata.proofs.FormLemmas.{builds_parts, listing_of, versions_parts}
 use Rattle.mvn_doc.proofs.LaidOut.{Lines, NoLines, Line, Block, artifact_inside, classifier_if, each_entry, each_version, entries_block, entry_inside, line_if, lines_of, listing_inside, newest_block, snapshot_inside, versions_block}
@@ -105,10 +107,10 @@ entries_block_fits n (e ∷ es) h =
 newest_fits : (n : ℕ) (newest : Option BuildOf) (more : Lines) → is_fit is_build newest ≡ true → are_lines (suc (suc n)) more ≡ true → are_lines (suc (suc n)) (newest_block newest more) ≡ true
 newest_fits n None more g h = h
 newest_fits n (Some b) more g h =
-    let number = Line (codes "buildNumber") (number_text b.number) NoLines in
+    let number = Line (codes "buildNumber") (text_of_number b.number) NoLines in
     block_fits (suc n) (codes "snapshot") (Line (codes "timestamp") (text_of_time b.stamp) number) more refl
     (line_fits n (codes "timestamp") (text_of_time b.stamp) number refl (time_value b.stamp)
-    (line_fits n (codes "buildNumber") (number_text b.number) NoLines refl (number_value b.number (second (is_civil b.stamp) (is_build_number b.number) g)) refl)) h
+    (line_fits n (codes "buildNumber") (text_of_number b.number) NoLines refl (number_value b.number (second (is_civil b.stamp) (is_build_number b.number) g)) refl)) h
 
 snapshot_fits : (n : ℕ) (newest : Option BuildOf) (es : List Entry) → is_fit is_build newest ≡ true → list_all is_entry es ≡ true → are_lines (suc (suc (suc n))) (snapshot_inside newest es) ≡ true
 snapshot_fits n newest es g h =
@@ -121,7 +123,7 @@ snapshot_fits n newest es g h =
 listing_fits : (n : ℕ) (l : Listing) → is_listing l ≡ true → are_lines (suc (suc (suc (suc n)))) (listing_inside l) ≡ true
 listing_fits n (Artifact vs t) h =
     block_fits (suc (suc (suc n))) (codes "versioning") (artifact_inside vs t) NoLines refl
-    (artifact_fits (suc n) vs t (list_all_weaker is_version is_line_value vs version_value (versions_parts vs t h).each)) refl
+    (artifact_fits (suc n) vs t (list_all_weaker is_version_directory is_line_value vs version_value (versions_parts vs t h).each)) refl
 listing_fits n (Snapshot base newest es) h =
     let p = builds_parts base newest es h in
     line_fits (suc (suc (suc n))) (codes "version") base (Block (codes "versioning") (snapshot_inside newest es) NoLines) refl (base_value base p.base)
@@ -133,10 +135,10 @@ fits_weaker p q (Some v) w h = w v h
 
 pub document_fits : (d : Document) → is_document d ≡ true → are_lines 31 (lines_of d) ≡ true
 document_fits d h =
-    let front = first (is_fit is_group d.group && is_fit is_artifact_name d.artifact) (is_listing d.listing) h in
-    let group = first (is_fit is_group d.group) (is_fit is_artifact_name d.artifact) front in
-    let artifact = second (is_fit is_group d.group) (is_fit is_artifact_name d.artifact) front in
+    let front = first (is_fit is_group d.group && is_fit is_artifact d.artifact) (is_listing d.listing) h in
+    let group = first (is_fit is_group d.group) (is_fit is_artifact d.artifact) front in
+    let artifact = second (is_fit is_group d.group) (is_fit is_artifact d.artifact) front in
     let listing = listing_inside d.listing in
     line_if_fits 30 (codes "groupId") d.group (line_if (codes "artifactId") d.artifact listing) refl (fits_weaker is_group is_line_value d.group group_value group)
-    (line_if_fits 30 (codes "artifactId") d.artifact listing refl (fits_weaker is_artifact_name is_line_value d.artifact artifact_value artifact)
+    (line_if_fits 30 (codes "artifactId") d.artifact listing refl (fits_weaker is_artifact is_line_value d.artifact artifact_value artifact)
     (listing_fits 27 d.listing (listing_of d h)))

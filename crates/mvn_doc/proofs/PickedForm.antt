@@ -11,7 +11,8 @@ use Rattle.mvn_coords.proofs.Names.{number_range}
 use Rattle.mvn_metadata.specs.declared.listing.Listing.TheVariants.{Artifact, Snapshot}
 use Rattle.mvn_metadata.specs.declared.pair.SnapshotBuild.{SnapshotBuild}
 use Rattle.mvn_doc.specs.declared.place.Place.TheVariants.{ArtifactId, BaseVersion, BuildNumber, Classifier, Extension, GroupId, LastUpdated, Timestamp, Value}
-use Rattle.mvn_metadata.specs.Form.{is_artifact_name, is_base_version, is_build, is_classifier, is_document, is_entry, is_extension, is_fit, is_group, is_listing}
+use Rattle.mvn_coords.specs.Segment.{is_artifact}
+use Rattle.mvn_metadata.specs.Form.{is_base_version, is_build, is_classifier, is_document, is_entry, is_extension, is_fit, is_group, is_listing}
 use Rattle.mvn_metadata.specs.Merge.{Entry}
 use Rattle.mvn_doc.specs.Picked.{artifact_in, base_in, build_by, build_in, build_value, entry_by, entry_in, first_at, fitting, group_in, snapshot_build_behind, snapshot_build_by, snapshot_build_of, last_cut, moment_in, moment_of}
 use Rattle.mvn_doc.specs.Place.{Placed}
@@ -33,8 +34,8 @@ fits_behind test f h (Some a) = h a
 pub group_fits : (ps : List Placed) → is_fit is_group (group_in ps) ≡ true
 group_fits ps = fits_behind is_group (fitting is_group) (fitting_fits is_group) (first_at GroupId ps)
 
-pub artifact_fits : (ps : List Placed) → is_fit is_artifact_name (artifact_in ps) ≡ true
-artifact_fits ps = fits_behind is_artifact_name (fitting is_artifact_name) (fitting_fits is_artifact_name) (first_at ArtifactId ps)
+pub artifact_fits : (ps : List Placed) → is_fit is_artifact (artifact_in ps) ≡ true
+artifact_fits ps = fits_behind is_artifact (fitting is_artifact) (fitting_fits is_artifact) (first_at ArtifactId ps)
 
 pub base_fits : (ps : List Placed) → is_fit is_base_version (base_in ps) ≡ true
 base_fits ps = fits_behind is_base_version (fitting is_base_version) (fitting_fits is_base_version) (first_at BaseVersion ps)
@@ -136,8 +137,8 @@ pub snapshot_form : (ps : List Placed) (g a : Option (List ℕ)) (b : List ℕ) 
     → g ≡ group_in ps → a ≡ artifact_in ps → base_in ps ≡ Some b → n ≡ build_in ps → es ≡ []
     → is_document (record { group = g; artifact = a; listing = Snapshot b n es }) ≡ true
 snapshot_form ps g a b n es eg ea eb en ee =
-    both (is_fit is_group g && is_fit is_artifact_name a) (is_listing (Snapshot b n es))
-    (both (is_fit is_group g) (is_fit is_artifact_name a) (ap (is_fit is_group) eg ∙ group_fits ps) (ap (is_fit is_artifact_name) ea ∙ artifact_fits ps))
+    both (is_fit is_group g && is_fit is_artifact a) (is_listing (Snapshot b n es))
+    (both (is_fit is_group g) (is_fit is_artifact a) (ap (is_fit is_group) eg ∙ group_fits ps) (ap (is_fit is_artifact) ea ∙ artifact_fits ps))
     (ap (λ fs. is_listing (Snapshot b n fs)) ee ∙ builds_whole b n [] (record {
       base = subst (λ o. is_fit is_base_version o ≡ true) eb (base_fits ps);
       newest = ap (is_fit is_build) en ∙ build_in_fits ps;
@@ -150,8 +151,8 @@ pub artifact_form : (ps : List Placed) (g a : Option (List ℕ)) (vs : List (Lis
     → g ≡ group_in ps → a ≡ artifact_in ps → vs ≡ [] → t ≡ moment_in ps
     → is_document (record { group = g; artifact = a; listing = Artifact vs t }) ≡ true
 artifact_form ps g a vs t eg ea ev et =
-    both (is_fit is_group g && is_fit is_artifact_name a) (is_listing (Artifact vs t))
-    (both (is_fit is_group g) (is_fit is_artifact_name a) (ap (is_fit is_group) eg ∙ group_fits ps) (ap (is_fit is_artifact_name) ea ∙ artifact_fits ps))
+    both (is_fit is_group g && is_fit is_artifact a) (is_listing (Artifact vs t))
+    (both (is_fit is_group g) (is_fit is_artifact a) (ap (is_fit is_group) eg ∙ group_fits ps) (ap (is_fit is_artifact) ea ∙ artifact_fits ps))
     (ap (λ ws. is_listing (Artifact ws t)) ev ∙ versions_whole [] t (record { each = refl; rising = refl; updated = ap (is_fit is_civil) et ∙ moment_fits ps }))
 
 pub fitting_none : (test : List ℕ → Bool) (bs : List ℕ) → None ≡ fitting test bs → test bs ≡ false

@@ -14,12 +14,13 @@ use Rattle.mvn_metadata.specs.declared.pair.SnapshotBuild.{SnapshotBuild}
 use Rattle.mvn_doc.specs.declared.place.Place.{Place}
 use Rattle.mvn_doc.specs.declared.place.Place.TheVariants as place
 use Rattle.mvn_metadata.specs.Document.{Document, newest_build, with_build, with_version, latest, release}
-use Rattle.mvn_metadata.specs.Form.{is_artifact_name, is_base_version, is_build, is_classifier, is_document, is_entry, is_extension, is_fit, is_group, is_listing, is_reached, is_version}
+use Rattle.mvn_coords.specs.Segment.{is_artifact, is_version_directory}
+use Rattle.mvn_metadata.specs.Form.{is_base_version, is_build, is_classifier, is_document, is_entry, is_extension, is_fit, is_group, is_listing, is_reached}
 use Rattle.mvn_metadata.specs.Merge.{Entry, with_entries, with_entry, with_versions}
 use Rattle.mvn_metadata.specs.Order.{build_cmp}
 use Rattle.mvn_doc.specs.Picked.{artifact_in, base_in, build_by, build_in, build_value, document_in, entries_in, entry_by, entry_in, first_at, fitting, group_in, listing_in, moment_in, moment_of, onto, section, versions_in}
 use Rattle.mvn_doc.specs.Place.{Placed, is_at, place_number}
-use Rattle.mvn_doc.specs.Written.{build_version, moment_text}
+use Rattle.mvn_metadata.specs.Written.{build_version, moment_text}
 use Rattle.mvn_metadata.proofs.Bools.{first, second}
 use Rattle.mvn_metadata.proofs.FormLemmas.{builds_parts, listing_of, versions_parts}
 use Rattle.mvn_doc.proofs.LaidOut.{Lines, NoLines, Line, Block, artifact_inside, classifier_if, each_entry, each_version, entries_block, entry_inside, line_if, listing_inside, newest_block, placed_lines, placed_of, snapshot_inside, versions_block}
@@ -55,27 +56,27 @@ group_again d h =
     ap (option_and_then (fitting is_group)) (found_if place.GroupId place.Metadata (codes "groupId") d.group more refl none)
     ∙ fits is_group d.group h
 
-artifact_again : (d : Document) → is_fit is_artifact_name d.artifact ≡ true → artifact_in (placed_of d) ≡ d.artifact
+artifact_again : (d : Document) → is_fit is_artifact d.artifact ≡ true → artifact_in (placed_of d) ≡ d.artifact
 artifact_again d h =
-    ap (option_and_then (fitting is_artifact_name))
+    ap (option_and_then (fitting is_artifact))
     (past_if place.ArtifactId (first_at place.ArtifactId) (first_skips place.ArtifactId) place.Metadata (codes "groupId") d.group (line_if (codes "artifactId") d.artifact (listing_inside d.listing)) refl
     ∙ found_if place.ArtifactId place.Metadata (codes "artifactId") d.artifact (listing_inside d.listing) refl (none_listed place.ArtifactId d.listing (omega arith)))
-    ∙ fits is_artifact_name d.artifact h
+    ∙ fits is_artifact d.artifact h
 
 -- ---- versions and the moment of the last change
-version_seen : (v : List ℕ) (ps : List Placed) → is_version v ≡ true → versions_in (record { place = place.Version; text = v } ∷ ps) ≡ v ∷ versions_in ps
+version_seen : (v : List ℕ) (ps : List Placed) → is_version_directory v ≡ true → versions_in (record { place = place.Version; text = v } ∷ ps) ≡ v ∷ versions_in ps
 version_seen v ps h =
     let p : Placed = record { place = place.Version; text = v } in
-    let kept = filter (λ (q : Placed). is_at q.place place.Version && is_version q.text) ps in
+    let kept = filter (λ (q : Placed). is_at q.place place.Version && is_version_directory q.text) ps in
     ap (λ b. map (λ (q : Placed). q.text) (cond b (p ∷ kept) kept)) h
 
-each_version_again : (vs : List (List ℕ)) (rest : List Placed) → list_all is_version vs ≡ true → versions_in (placed_lines place.Versions (each_version vs) ++ rest) ≡ vs ++ versions_in rest
+each_version_again : (vs : List (List ℕ)) (rest : List Placed) → list_all is_version_directory vs ≡ true → versions_in (placed_lines place.Versions (each_version vs) ++ rest) ≡ vs ++ versions_in rest
 each_version_again [] rest h = refl
 each_version_again (v ∷ vs) rest h =
-    version_seen v (placed_lines place.Versions (each_version vs) ++ rest) (first (is_version v) (list_all is_version vs) h)
-    ∙ ap (λ ws. v ∷ ws) (each_version_again vs rest (second (is_version v) (list_all is_version vs) h))
+    version_seen v (placed_lines place.Versions (each_version vs) ++ rest) (first (is_version_directory v) (list_all is_version_directory vs) h)
+    ∙ ap (λ ws. v ∷ ws) (each_version_again vs rest (second (is_version_directory v) (list_all is_version_directory vs) h))
 
-versions_block_again : (vs : List (List ℕ)) (more : Lines) → list_all is_version vs ≡ true → versions_in (placed_lines place.Versioning (versions_block vs more)) ≡ vs ++ versions_in (placed_lines place.Versioning more)
+versions_block_again : (vs : List (List ℕ)) (more : Lines) → list_all is_version_directory vs ≡ true → versions_in (placed_lines place.Versioning (versions_block vs more)) ≡ vs ++ versions_in (placed_lines place.Versioning more)
 versions_block_again [] more h = refl
 versions_block_again (v ∷ vs) more h = each_version_again (v ∷ vs) (placed_lines place.Versioning more) h
 
@@ -91,7 +92,7 @@ past_names at f skips other vs more =
     past_if at f skips place.Versioning (codes "latest") (latest vs) (line_if (codes "release") (release vs) more) other
     ∙ past_if at f skips place.Versioning (codes "release") (release vs) more other
 
-versions_again : (vs : List (List ℕ)) (t : Option CivilTime) → list_all is_version vs ≡ true → versions_in (listed (Artifact vs t)) ≡ vs
+versions_again : (vs : List (List ℕ)) (t : Option CivilTime) → list_all is_version_directory vs ≡ true → versions_in (listed (Artifact vs t)) ≡ vs
 versions_again vs t h =
     let last = line_if (codes "lastUpdated") (option_map moment_text t) NoLines in
     ap versions_in (append-nil (placed_lines place.Versioning (artifact_inside vs t)))
@@ -235,8 +236,8 @@ listing_again d h =
 
 pub picked_again : (d : Document) → is_document d ≡ true → document_in (placed_of d) ≡ d
 picked_again d h =
-    let front = first (is_fit is_group d.group && is_fit is_artifact_name d.artifact) (is_listing d.listing) h in
-    let group = group_again d (first (is_fit is_group d.group) (is_fit is_artifact_name d.artifact) front) in
-    let artifact = artifact_again d (second (is_fit is_group d.group) (is_fit is_artifact_name d.artifact) front) in
+    let front = first (is_fit is_group d.group && is_fit is_artifact d.artifact) (is_listing d.listing) h in
+    let group = group_again d (first (is_fit is_group d.group) (is_fit is_artifact d.artifact) front) in
+    let artifact = artifact_again d (second (is_fit is_group d.group) (is_fit is_artifact d.artifact) front) in
     let listing = listing_again d (listing_of d h) in
     λ i. record { group = group i; artifact = artifact i; listing = listing i }

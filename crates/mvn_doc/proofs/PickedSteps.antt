@@ -5,7 +5,7 @@ use Rattle.std.proofs.lemmas.List.{drop_more, length-drop}
 use Rattle.mvn_metadata.specs.declared.listing.Listing.{Listing}
 use Rattle.mvn_doc.specs.declared.place.Place.TheVariants.{SnapshotVersion, Version}
 use Rattle.mvn_metadata.specs.Document.{Document, with_build, with_version}
-use Rattle.mvn_metadata.specs.Form.{is_version}
+use Rattle.mvn_coords.specs.Segment.{is_version_directory}
 use Rattle.mvn_metadata.specs.Merge.{Entry}
 use Rattle.mvn_doc.specs.Picked.{cut_onto, entries_in, entry_in, last_cut, onto, section, versions_in}
 use Rattle.mvn_doc.specs.Place.{Placed, is_at}
@@ -14,14 +14,14 @@ use Rattle.mvn_doc.specs.Place.{Placed, is_at}
 pub versions_onto : (l : Listing) (p : Placed) (ps : List Placed)
     → fold with_version (fold with_version l (versions_in (p ∷ []))) (versions_in ps) ≡ fold with_version l (versions_in (p ∷ ps))
 versions_onto l p ps =
-    elim (is_at p.place Version && is_version p.text) as
+    elim (is_at p.place Version && is_version_directory p.text) as
     (λ b. fold with_version (fold with_version l (map (λ q. q.text) (if b then p ∷ [] else []))) (versions_in ps)
-    ≡ fold with_version l (map (λ q. q.text) (if b then p ∷ filter (λ q. is_at q.place Version && is_version q.text) ps else filter (λ q. is_at q.place Version && is_version q.text) ps))) [
+    ≡ fold with_version l (map (λ q. q.text) (if b then p ∷ filter (λ q. is_at q.place Version && is_version_directory q.text) ps else filter (λ q. is_at q.place Version && is_version_directory q.text) ps))) [
       | true ↦ refl
       | false ↦ refl
     ]
 
-pub one_version : (l : Listing) (p : Placed) (v : List ℕ) → is_at p.place Version ≡ true → is_version p.text ≡ true → v ≡ p.text
+pub one_version : (l : Listing) (p : Placed) (v : List ℕ) → is_at p.place Version ≡ true → is_version_directory p.text ≡ true → v ≡ p.text
     → with_version l v ≡ fold with_version l (versions_in (p ∷ []))
 one_version l p v here fits e = ap (with_version l) e ∙ sym (rw (here, fits) refl)
 
@@ -36,7 +36,7 @@ version_step d e p ps made =
 pub no_version : (p : Placed) → is_at p.place Version ≡ false → versions_in (p ∷ []) ≡ []
 no_version p there = rw there refl
 
-pub misfit : (p : Placed) → is_at p.place Version ≡ true → is_version p.text ≡ false → versions_in (p ∷ []) ≡ []
+pub misfit : (p : Placed) → is_at p.place Version ≡ true → is_version_directory p.text ≡ false → versions_in (p ∷ []) ≡ []
 misfit p here fits = rw (here, fits) refl
 
 -- ---- entries

@@ -8,7 +8,8 @@ use Rattle.mvn_metadata.specs.declared.listing.Listing.{Listing}
 use Rattle.mvn_metadata.specs.declared.listing.Listing.TheVariants.{Artifact, Snapshot}
 use Rattle.mvn_doc.specs.declared.place.Place.TheVariants.{SnapshotVersion, Version}
 use Rattle.mvn_metadata.specs.Document.{Document, with_build, with_version}
-use Rattle.mvn_metadata.specs.Form.{is_document, is_entry, is_fit, is_listing, is_version}
+use Rattle.mvn_coords.specs.Segment.{is_version_directory}
+use Rattle.mvn_metadata.specs.Form.{is_document, is_entry, is_fit, is_listing}
 use Rattle.mvn_metadata.specs.Merge.{Entry}
 use Rattle.mvn_doc.specs.Picked.{artifact_in, base_in, build_in, document_in, entries_in, entry_in, group_in, listing_in, moment_in, onto, section, versions_in}
 use Rattle.mvn_doc.specs.Place.{Placed, is_at, placed}
@@ -18,11 +19,11 @@ use Rattle.mvn_metadata.proofs.FormLemmas.{is_document-listing, is_listing-with_
 use Rattle.mvn_doc.proofs.PickedForm.{artifact_form, entry_in_fits, snapshot_form}
 
 -- ---- what is listed one after another keeps the form
-with_each_version : (l : Listing) (vs : List (List ℕ)) → list_all is_version vs ≡ true → is_listing l ≡ true → is_listing (fold with_version l vs) ≡ true
+with_each_version : (l : Listing) (vs : List (List ℕ)) → list_all is_version_directory vs ≡ true → is_listing l ≡ true → is_listing (fold with_version l vs) ≡ true
 with_each_version l [] h g = g
 with_each_version l (v ∷ vs) h g =
-    with_each_version (with_version l v) vs (second (is_version v) (list_all is_version vs) h)
-    (is_listing-with_version l v (first (is_version v) (list_all is_version vs) h) g)
+    with_each_version (with_version l v) vs (second (is_version_directory v) (list_all is_version_directory vs) h)
+    (is_listing-with_version l v (first (is_version_directory v) (list_all is_version_directory vs) h) g)
 
 with_each_build : (l : Listing) (es : List Entry) → list_all is_entry es ≡ true → is_listing l ≡ true → is_listing (fold with_build l es) ≡ true
 with_each_build l [] h g = g
@@ -31,13 +32,13 @@ with_each_build l (e ∷ es) h g =
     (is_listing-with_build l e (first (is_entry e) (list_all is_entry es) h) g)
 
 -- ---- what is picked fits
-versions_fit : (ps : List Placed) → list_all is_version (versions_in ps) ≡ true
+versions_fit : (ps : List Placed) → list_all is_version_directory (versions_in ps) ≡ true
 versions_fit [] = refl
 versions_fit (p ∷ ps) =
-    let rest = filter (λ (q : Placed). is_at q.place Version && is_version q.text) ps in
-    let test = is_at p.place Version && is_version p.text in
-    elim test as (λ b. test ≡ b → list_all is_version (map (λ (q : Placed). q.text) (if b then p ∷ rest else rest)) ≡ true) [
-      | true ↦ λ e. both (is_version p.text) (list_all is_version (versions_in ps)) (second (is_at p.place Version) (is_version p.text) e) (versions_fit ps)
+    let rest = filter (λ (q : Placed). is_at q.place Version && is_version_directory q.text) ps in
+    let test = is_at p.place Version && is_version_directory p.text in
+    elim test as (λ b. test ≡ b → list_all is_version_directory (map (λ (q : Placed). q.text) (if b then p ∷ rest else rest)) ≡ true) [
+      | true ↦ λ e. both (is_version_directory p.text) (list_all is_version_directory (versions_in ps)) (second (is_at p.place Version) (is_version_directory p.text) e) (versions_fit ps)
       | false ↦ λ _. versions_fit ps
     ] refl
 

@@ -8,7 +8,7 @@ use Rattle.std.proofs.lemmas.List.Sums.{take_while-cons}
 use Rattle.mvn_doc.specs.declared.place.Place.{Place}
 use Rattle.mvn_doc.specs.declared.place.Place.TheVariants.{Outside, Metadata, GroupId, ArtifactId, BaseVersion, Versioning, LastUpdated, Versions, Version, Snapshot, Timestamp, BuildNumber, SnapshotVersions, SnapshotVersion, Classifier, Extension, Value, Other}
 use Rattle.mvn_metadata.specs.Document.{Document}
-use Rattle.mvn_metadata.specs.Form.{is_version}
+use Rattle.mvn_coords.specs.Segment.{is_version_directory}
 use Rattle.mvn_doc.specs.Picked.{entries_in, entry_in, first_at, onto, section, versions_in}
 use Rattle.mvn_doc.specs.Place.{Placed, below, is_at, place_number}
 use Rattle.mvn_metadata.proofs.Bools.{both, first, second}
@@ -102,8 +102,8 @@ first_skips place p ps e =
 
 pub versions_skips : (p : Placed) (ps : List Placed) → is_at p.place Version ≡ false → versions_in (p ∷ ps) ≡ versions_in ps
 versions_skips p ps e =
-    let kept = filter (λ (q : Placed). is_at q.place Version && is_version q.text) ps in
-    ap (λ b. map (λ (q : Placed). q.text) (cond (b && is_version p.text) (p ∷ kept) kept)) e
+    let kept = filter (λ (q : Placed). is_at q.place Version && is_version_directory q.text) ps in
+    ap (λ b. map (λ (q : Placed). q.text) (cond (b && is_version_directory p.text) (p ∷ kept) kept)) e
 
 pub entries_skips : (p : Placed) (ps : List Placed) → is_at p.place SnapshotVersion ≡ false → entries_in (p ∷ ps) ≡ entries_in ps
 entries_skips p ps e = ap (λ b. cond b (onto (entry_in (section ps)) (entries_in ps)) (entries_in ps)) e

@@ -3,7 +3,7 @@ use Rattle.std.proofs.Common.{◌≡◌, ℕ, Bool, true, false, List, [], ◌�
 use Rattle.std.specs.List.{flat_map}
 use Rattle.mvn_metadata.specs.Merge.{Entry}
 use Rattle.mvn_doc.specs.Sheet.{Adds, Gains}
-use Rattle.mvn_doc.specs.Written.{block, entries_lines, entry_lines, version_line, version_lines}
+use Rattle.mvn_metadata.specs.Written.{block, entries_lines, entry_lines, version_line, version_lines}
 use Rattle.std.specs.Prelude.{codes}
 
 two_gained : (a b c : Option (List ℕ)) (s t : List ℕ) → Gains a b s → Gains b c t → Gains a c (s ++ t)

@@ -9,7 +9,8 @@ use Rattle.mvn_metadata.specs.declared.listing.Listing.{Listing}
 use Rattle.mvn_metadata.specs.declared.listing.Listing.TheVariants.{Artifact, Snapshot}
 use Rattle.mvn_metadata.specs.Document.{Document, latest, release}
 use Rattle.mvn_metadata.specs.Merge.{Entry}
-use Rattle.mvn_doc.specs.Written.{artifact_lines, block, build_version, classifier_line, close_tag, declaration, element, element_if, entries_lines, entry_lines, listing_lines, moment_text, newest_lines, number_text, snapshot_lines, text, updated_line, version_line, version_lines}
+use Rattle.mvn_coords.specs.Layout.{text_of_number}
+use Rattle.mvn_metadata.specs.Written.{artifact_lines, block, build_version, classifier_line, close_tag, declaration, element, element_if, entries_lines, entry_lines, listing_lines, moment_text, newest_lines, snapshot_lines, text, updated_line, version_line, version_lines}
 use Rattle.mvn_doc.proofs.LaidOut.{Lines, NoLines, Line, artifact_inside, classifier_if, each_entry, each_version, entries_block, entry_inside, line_if, lines_of, lines_text, listing_inside, newest_block, snapshot_inside, versions_block}
 
 -- ---- single lines and blocks
@@ -62,7 +63,7 @@ newest_text None more = refl
 newest_text (Some b) more =
     let stamp = element (codes "      ") (codes "timestamp") (text_of_time b.stamp) in
     ap (λ t. block (codes "    ") (codes "snapshot") (stamp ++ t) ++ lines_text (codes "    ") more)
-    (append-nil (element (codes "      ") (codes "buildNumber") (number_text b.number)))
+    (append-nil (element (codes "      ") (codes "buildNumber") (text_of_number b.number)))
 
 -- ---- what is listed
 artifact_text : (vs : List (List ℕ)) (t : Option CivilTime) → lines_text (codes "    ") (artifact_inside vs t) ≡ artifact_lines vs t

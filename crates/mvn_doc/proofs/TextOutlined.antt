@@ -1,7 +1,6 @@
 -- A written document is read as its elements, which stand at the places of its lines.
-use Rattle.std.proofs.Common.{◌≡◌, ℕ, ◌-◌, true, List, [], ◌∷◌, refl, ap, ◌∙◌, Ok}
+use Rattle.std.proofs.Common.{◌≡◌, ℕ, true, List, [], ◌∷◌, refl, ap, ◌∙◌, Ok}
 use Rattle.std.specs.Prelude.{codes}
-use Rattle.xml_subset.specs.declared.document.TheConstants.{MAX_DEPTH}
 use Rattle.xml_subset.specs.Content.{Content, data_of, is_within, outlined}
 use Rattle.xml_subset.specs.Cut.{trimmed}
 use Rattle.xml_subset.specs.Document.{outline}
@@ -12,7 +11,7 @@ use Rattle.mvn_doc.specs.declared.place.Place.TheVariants.{Metadata}
 use Rattle.mvn_metadata.specs.Document.{Document}
 use Rattle.mvn_metadata.specs.Form.{is_document}
 use Rattle.mvn_doc.specs.Place.{placed}
-use Rattle.mvn_doc.specs.Written.{text}
+use Rattle.mvn_metadata.specs.Written.{text}
 use Rattle.mvn_doc.proofs.LaidOut.{Lines, lines_of, placed_lines, placed_of}
 use Rattle.mvn_doc.proofs.LinesContent.{content, text_spelled}
 use Rattle.mvn_doc.proofs.LinesFit.{document_fits}
@@ -20,7 +19,7 @@ use Rattle.mvn_doc.proofs.LinesOutlined.{element_at, elements_of, outlined_conte
 use Rattle.mvn_doc.proofs.LinesPlaced.{placed_at, placed_inside}
 
 -- a text that is the plain spelling of a document, and what its content is read as
-read_spelled : (root name value text : List ℕ) (inner : Content) (es : List Element) → text ≡ spelled_document root name value inner → is_name root ≡ true → is_name name ≡ true → is_value value ≡ true → is_plain inner ≡ true → is_within (MAX_DEPTH - 1) inner ≡ true → trimmed (data_of inner) ≡ [] → outlined 1 inner ≡ es
+read_spelled : (root name value text : List ℕ) (inner : Content) (es : List Element) → text ≡ spelled_document root name value inner → is_name root ≡ true → is_name name ≡ true → is_value value ≡ true → is_plain inner ≡ true → is_within 31 inner ≡ true → trimmed (data_of inner) ≡ [] → outlined 1 inner ≡ es
     → outline root text ≡ Ok (element_at 1 root [] ∷ es)
 read_spelled root name value text inner es is e f g plain within gone same =
     ap (outline root) is ∙ outline-spelled root name value inner e f g plain within

@@ -1,5 +1,5 @@
 -- What fits a path is text.
-use Rattle.std.proofs.Common.{◌≡◌, ℕ, Bool, true, false, ◌&&◌, List, [], ◌∷◌, ◌++◌, ◌+◌, ◌-◌, ◌<◌, refl, sym, subst, ap, ◌∙◌, arith, length, take, drop}
+use Rattle.std.proofs.Common.{◌≡◌, ℕ, Bool, true, false, ◌&&◌, List, ◌++◌, ◌+◌, ◌-◌, ◌<◌, refl, sym, subst, ap, ◌∙◌, arith, length, take, drop}
 use Rattle.std.specs.List.{list_all, starts_with}
 use Rattle.std.proofs.lemmas.Bool.{eqb-true, ltb-false, ltb-true}
 use Rattle.std.proofs.lemmas.List.{get_or-drop, get_or-take}
@@ -9,28 +9,15 @@ use Rattle.std.specs.Str.{IsUtf8}
 use Rattle.std.proofs.lemmas.Str.{IsUtf8-from_ascii}
 use Rattle.std.proofs.lemmas.Bool.Decides.{nat_tests}
 use Rattle.mvn_coords.specs.FileName.{base_of, number_of}
-use Rattle.mvn_coords.specs.Segment.{is_artifact, is_group_segment, is_path_byte, is_segment, is_version_directory}
-use Rattle.mvn_metadata.specs.Form.{is_artifact_name, is_base_version, is_classifier, is_classifier_byte, is_extension, is_version}
-use Rattle.std.specs.Prelude.{zero, suc, slice_index, nat_eq, nat_lt, nat_le, not, bytes_eq, codes, Some, None, if◌then◌else◌, is_some, ◌==◌}
+use Rattle.mvn_coords.specs.Segment.{are_artifact_bytes, is_path_byte, is_segment, fits_version}
+use Rattle.mvn_coords.specs.Segment.{is_artifact, is_version_directory}
+use Rattle.mvn_metadata.specs.Form.{is_base_version, is_classifier, is_classifier_byte, is_extension}
+use Rattle.std.specs.Prelude.{slice_index, nat_eq, nat_lt, nat_le, not, bytes_eq, codes, Some, None, if◌then◌else◌, is_some, ◌==◌}
 use Rattle.std.proofs.Common.{lit<}
 use Rattle.std.specs.Char.{is_ascii_digit}
 use Rattle.mvn_doc.specs.Picked.{fitting}
 use Rattle.mvn_metadata.proofs.Bools.{first, second, list_all_weaker}
-
-path_byte_small : (b : ℕ) → is_path_byte b ≡ true → b < 128
-path_byte_small b h = grind (arith, nat_tests)
-
-each_small : (bs : List ℕ) → list_all is_path_byte bs ≡ true → (i : ℕ) → slice_index bs i < 128
-each_small [] h i = lit< tt
-each_small (b ∷ bs) h zero = path_byte_small b (first (is_path_byte b) (list_all is_path_byte bs) h)
-each_small (b ∷ bs) h (suc i) = each_small bs (second (is_path_byte b) (list_all is_path_byte bs) h) i
-
-pub path_bytes_utf8 : (bs : List ℕ) → list_all is_path_byte bs ≡ true → IsUtf8 bs
-path_bytes_utf8 bs h = IsUtf8-from_ascii bs (each_small bs h)
-
-pub segment_utf8 : (s : List ℕ) → is_segment s ≡ true → IsUtf8 s
-segment_utf8 s h =
-    path_bytes_utf8 s (second (nat_lt 0 (length s) && nat_le (length s) 255 && not (bytes_eq s (codes ".")) && not (bytes_eq s (codes ".."))) (list_all is_path_byte s) h)
+use Rattle.mvn_metadata.proofs.Utf8Facts.{each_small, false_test, path_bytes_utf8, segment_utf8}
 
 pub digit_plain : (b : ℕ) → is_ascii_digit b ≡ true → is_path_byte b ≡ true
 digit_plain b h = grind (arith, nat_tests)
@@ -46,14 +33,14 @@ fails test bs utf8 none =
       | false ↦ λ _. refl
     ] refl
 
-pub version_utf8 : (bs : List ℕ) → is_version bs ≡ true → IsUtf8 bs
-version_utf8 bs h = segment_utf8 bs (first (is_segment bs) (is_version_directory bs) h)
+pub version_utf8 : (bs : List ℕ) → is_version_directory bs ≡ true → IsUtf8 bs
+version_utf8 bs h = segment_utf8 bs (first (is_segment bs) (fits_version bs) h)
 
 pub base_version_utf8 : (bs : List ℕ) → is_base_version bs ≡ true → IsUtf8 bs
-base_version_utf8 bs h = version_utf8 bs (first (is_version bs) (is_some (base_of bs)) h)
+base_version_utf8 bs h = version_utf8 bs (first (is_version_directory bs) (is_some (base_of bs)) h)
 
-pub artifact_utf8 : (bs : List ℕ) → is_artifact_name bs ≡ true → IsUtf8 bs
-artifact_utf8 bs h = segment_utf8 bs (first (is_segment bs) (is_artifact bs) h)
+pub artifact_utf8 : (bs : List ℕ) → is_artifact bs ≡ true → IsUtf8 bs
+artifact_utf8 bs h = segment_utf8 bs (first (is_segment bs) (are_artifact_bytes bs) h)
 
 pub extension_utf8 : (bs : List ℕ) → is_extension bs ≡ true → IsUtf8 bs
 extension_utf8 bs h = path_bytes_utf8 bs (second (nat_lt 0 (length bs) && nat_le (length bs) 255) (list_all is_path_byte bs) h)
@@ -81,7 +68,7 @@ segment_plain s h =
     second (nat_lt 0 (length s) && nat_le (length s) 255 && not (bytes_eq s (codes ".")) && not (bytes_eq s (codes ".."))) (list_all is_path_byte s) h
 
 base_segment : (s : List ℕ) → is_base_version s ≡ true → is_segment s ≡ true
-base_segment s h = first (is_segment s) (is_version_directory s) (first (is_version s) (is_some (base_of s)) h)
+base_segment s h = first (is_segment s) (fits_version s) (first (is_version_directory s) (is_some (base_of s)) h)
 
 front_plain : (bs : List ℕ) → list_all is_path_byte (bs ++ codes "-SNAPSHOT") ≡ true → list_all is_path_byte bs ≡ true
 front_plain bs h = first (list_all is_path_byte bs) (list_all is_path_byte (codes "-SNAPSHOT")) (sym (list_all-append is_path_byte bs (codes "-SNAPSHOT")) ∙ h)
@@ -101,13 +88,6 @@ time_utf8 bs h =
     (each_small (drop 9 bs) (list_all_weaker is_ascii_digit is_path_byte (drop 9 bs) digit_plain (second (sized && dotted && day) clock h))))
 
 -- ---- what is no text is nothing else
-false_test : (b : Bool) → ¬ (b ≡ true) → b ≡ false
-false_test true h = absurd (h refl)
-false_test false h = refl
-
-pub no_group_part : (bs : List ℕ) → ¬ (IsUtf8 bs) → (is_segment bs && is_group_segment bs) ≡ false
-no_group_part bs none = false_test (is_segment bs && is_group_segment bs) (λ e. none (segment_utf8 bs (first (is_segment bs) (is_group_segment bs) e)))
-
 pub no_number : (bs : List ℕ) → ¬ (IsUtf8 bs) → number_of bs ≡ None
 no_number bs none =
     let sized = nat_lt 0 (length bs) && nat_le (length bs) 9 in

@@ -7,14 +7,15 @@ use Rattle.std.proofs.lemmas.Bool.{and_from, eqb-true, eqb-false, le-leb, leb-tr
 use Rattle.std.proofs.lemmas.List.Folds.{list_all-append}
 use Rattle.mvn_coords.specs.Civil.{CivilTime, decimal, digits, is_civil, text_of_time, time_of}
 use Rattle.mvn_coords.specs.FileName.{is_build_number, number_of}
-use Rattle.mvn_coords.specs.Layout.{without_zeros}
+use Rattle.byte_cuts.specs.Cuts.{significant}
 use Rattle.mvn_coords.proofs.Digits.{decimal-digits, length-digits}
 use Rattle.mvn_coords.proofs.StampLaws.{exact_text}
 use Rattle.mvn_metadata.specs.declared.pair.SnapshotBuild.{SnapshotBuild}
 use Rattle.mvn_metadata.specs.Form.{is_base_version, is_build, is_entry, is_classifier, is_extension, is_fit}
 use Rattle.mvn_metadata.specs.Merge.{Entry}
 use Rattle.mvn_doc.specs.Picked.{build_by, build_value, cut_onto, snapshot_build_behind, snapshot_build_by, snapshot_build_of, last_cut, moment_of}
-use Rattle.mvn_doc.specs.Written.{build_version, moment_text, number_text}
+use Rattle.mvn_coords.specs.Layout.{text_of_number}
+use Rattle.mvn_metadata.specs.Written.{build_version, moment_text}
 use Rattle.mvn_metadata.proofs.Bools.{both, first, second}
 
 -- ---- digits
@@ -28,32 +29,32 @@ digit_plain : (x : ℕ) → is_ascii_digit (48 + x % 10) ≡ true
 digit_plain x = and_from _ _ (le-leb 48 (48 + x % 10) (omega arith)) (le-leb (48 + x % 10) 57 (omega arith))
 
 -- ---- a number without leading zeros
-all_without_zeros : (p : ℕ → Bool) (ds : List ℕ) → list_all p ds ≡ true → list_all p (without_zeros ds) ≡ true
-all_without_zeros p [] h = refl
-all_without_zeros p (d ∷ ds) h =
-    elim (d == 48) as (λ b. list_all p (if b then without_zeros ds else d ∷ ds) ≡ true) [
-      | true ↦ all_without_zeros p ds (second (p d) (list_all p ds) h)
+all_significant : (p : ℕ → Bool) (ds : List ℕ) → list_all p ds ≡ true → list_all p (significant ds) ≡ true
+all_significant p [] h = refl
+all_significant p (d ∷ ds) h =
+    elim (d == 48) as (λ b. list_all p (if b then significant ds else d ∷ ds) ≡ true) [
+      | true ↦ all_significant p ds (second (p d) (list_all p ds) h)
       | false ↦ h
     ]
 
-decimal-without_zeros : (ds : List ℕ) → decimal (without_zeros ds) ≡ decimal ds
-decimal-without_zeros [] = refl
-decimal-without_zeros (d ∷ ds) =
-    elim (d == 48) as (λ b. (d == 48) ≡ b → decimal (if b then without_zeros ds else d ∷ ds) ≡ decimal (d ∷ ds)) [
-      | true ↦ λ e. decimal-without_zeros ds ∙ sym (ap (λ c. decimal (c ∷ ds)) (eqb-true d 48 e))
+decimal-significant : (ds : List ℕ) → decimal (significant ds) ≡ decimal ds
+decimal-significant [] = refl
+decimal-significant (d ∷ ds) =
+    elim (d == 48) as (λ b. (d == 48) ≡ b → decimal (if b then significant ds else d ∷ ds) ≡ decimal (d ∷ ds)) [
+      | true ↦ λ e. decimal-significant ds ∙ sym (ap (λ c. decimal (c ∷ ds)) (eqb-true d 48 e))
       | false ↦ λ _. refl
     ] refl
 
-length-without_zeros : (ds : List ℕ) → length (without_zeros ds) ≤ length ds
-length-without_zeros [] = omega arith
-length-without_zeros (d ∷ ds) =
-    let rest = length-without_zeros ds in
-    elim (d == 48) as (λ b. length (if b then without_zeros ds else d ∷ ds) ≤ suc (length ds)) [ true ↦ omega arith | false ↦ omega arith ]
+length-significant : (ds : List ℕ) → length (significant ds) ≤ length ds
+length-significant [] = omega arith
+length-significant (d ∷ ds) =
+    let rest = length-significant ds in
+    elim (d == 48) as (λ b. length (if b then significant ds else d ∷ ds) ≤ suc (length ds)) [ true ↦ omega arith | false ↦ omega arith ]
 
-no_zero_first : (ds : List ℕ) → starts_with eqb (without_zeros ds) (codes "0") ≡ false
+no_zero_first : (ds : List ℕ) → starts_with eqb (significant ds) (codes "0") ≡ false
 no_zero_first [] = refl
 no_zero_first (d ∷ ds) =
-    elim (d == 48) as (λ b. (d == 48) ≡ b → starts_with eqb (if b then without_zeros ds else d ∷ ds) (codes "0") ≡ false) [
+    elim (d == 48) as (λ b. (d == 48) ≡ b → starts_with eqb (if b then significant ds else d ∷ ds) (codes "0") ≡ false) [
       | true ↦ λ _. no_zero_first ds
       | false ↦ λ e. ap (λ b. b && true) (ne_eqb 48 d (λ q. eqb-false d 48 e (sym q)))
     ] refl
@@ -62,20 +63,20 @@ filled : (run : List ℕ) → 1 ≤ decimal run → 0 < length run
 filled [] h = absurd (omega arith)
 filled (d ∷ ds) h = omega arith
 
-number_from : (ds : List ℕ) (n : ℕ) → length ds ≡ 9 → list_all is_ascii_digit ds ≡ true → decimal ds ≡ n → 1 ≤ n → number_of (without_zeros ds) ≡ Some n
+number_from : (ds : List ℕ) (n : ℕ) → length ds ≡ 9 → list_all is_ascii_digit ds ≡ true → decimal ds ≡ n → 1 ≤ n → number_of (significant ds) ≡ Some n
 number_from ds n nine plain value some =
-    let run = without_zeros ds in
-    let same : decimal run ≡ n = decimal-without_zeros ds ∙ value in
+    let run = significant ds in
+    let same : decimal run ≡ n = decimal-significant ds ∙ value in
     let long : nat_lt 0 (length run) ≡ true = lt-ltb 0 (length run) (filled run (omega arith)) in
-    let short : nat_le (length run) 9 ≡ true = le-leb (length run) 9 (omega (arith, length-without_zeros ds)) in
-    let each = all_without_zeros is_ascii_digit ds plain in
+    let short : nat_le (length run) 9 ≡ true = le-leb (length run) 9 (omega (arith, length-significant ds)) in
+    let each = all_significant is_ascii_digit ds plain in
     let start : not (starts_with eqb run (codes "0")) ≡ true = ap not (no_zero_first ds) in
     let test = both _ (not (starts_with eqb run (codes "0")))
     (both (nat_lt 0 (length run) && nat_le (length run) 9) (list_all is_ascii_digit run)
     (both (nat_lt 0 (length run)) (nat_le (length run) 9) long short) each) start in
     ap (λ b. cond b (Some (decimal run)) None) test ∙ ap Some same
 
-pub number_again : (n : ℕ) → is_build_number n ≡ true → number_of (number_text n) ≡ Some n
+pub number_again : (n : ℕ) → is_build_number n ≡ true → number_of (text_of_number n) ≡ Some n
 number_again n h =
     let some : 1 ≤ n = leb-true 1 n (first (nat_le 1 n) (nat_le n 999_999_999) h) in
     let small : n ≤ 999_999_999 = leb-true n 999_999_999 (second (nat_le 1 n) (nat_le n 999_999_999) h) in
@@ -133,8 +134,8 @@ time_no_dash t =
     (each_digit no_dash digit_no_dash 4 t.year) (each_digit no_dash digit_no_dash 2 t.month) (each_digit no_dash digit_no_dash 2 t.day) refl
     (each_digit no_dash digit_no_dash 2 t.hour) (each_digit no_dash digit_no_dash 2 t.minute) (each_digit no_dash digit_no_dash 2 t.second)
 
-number_no_dash : (n : ℕ) → list_all no_dash (number_text n) ≡ true
-number_no_dash n = all_without_zeros no_dash (digits 9 n) (each_digit no_dash digit_no_dash 9 n)
+number_no_dash : (n : ℕ) → list_all no_dash (text_of_number n) ≡ true
+number_no_dash n = all_significant no_dash (digits 9 n) (each_digit no_dash digit_no_dash 9 n)
 
 value_from : (base time number : List ℕ) (stamp : CivilTime) (n : ℕ) → list_all no_dash time ≡ true → list_all no_dash number ≡ true → time_of time ≡ Some stamp → number_of number ≡ Some n → is_base_version (base ++ codes "-SNAPSHOT") ≡ true
     → build_value (base ++ 45 ∷ (time ++ 45 ∷ number)) ≡ Some (record { base = base; build = record { stamp = stamp; number = n } })
@@ -172,5 +173,5 @@ build_value_again e h =
     let p = entry_parts e h in
     let t = e.1.build.stamp in
     let n = e.1.build.number in
-    value_from e.1.base (text_of_time t) (number_text n) t n (time_no_dash t) (number_no_dash n)
+    value_from e.1.base (text_of_time t) (text_of_number n) t n (time_no_dash t) (number_no_dash n)
     (time_again t (first (is_civil t) (is_build_number n) p.build)) (number_again n (second (is_civil t) (is_build_number n) p.build)) p.base

@@ -1,5 +1,4 @@
 pub mod Place
-pub mod Written
 pub mod Picked
 pub mod Reading
 pub mod Sheet

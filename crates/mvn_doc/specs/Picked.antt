@@ -9,7 +9,8 @@ use Rattle.mvn_metadata.specs.declared.pair.SnapshotBuild.{SnapshotBuild}
 use Rattle.mvn_doc.specs.declared.place.Place.{Place}
 use Rattle.mvn_doc.specs.declared.place.Place.TheVariants.{GroupId, ArtifactId, BaseVersion, LastUpdated, Version, Timestamp, BuildNumber, SnapshotVersion, Classifier, Extension, Value}
 use Rattle.mvn_metadata.specs.Document.{Document, with_version, with_build}
-use Rattle.mvn_metadata.specs.Form.{is_group, is_artifact_name, is_version, is_base_version, is_classifier, is_extension}
+use Rattle.mvn_coords.specs.Segment.{is_artifact, is_version_directory}
+use Rattle.mvn_metadata.specs.Form.{is_group, is_base_version, is_classifier, is_extension}
 use Rattle.mvn_metadata.specs.Merge.{Entry}
 use Rattle.mvn_doc.specs.Place.{Placed, is_at}
 
@@ -24,7 +25,7 @@ abbrev pub group_in : List Placed → Option (List ℕ)
 group_in ps = option_and_then (fitting is_group) (first_at GroupId ps)
 
 abbrev pub artifact_in : List Placed → Option (List ℕ)
-artifact_in ps = option_and_then (fitting is_artifact_name) (first_at ArtifactId ps)
+artifact_in ps = option_and_then (fitting is_artifact) (first_at ArtifactId ps)
 
 abbrev pub base_in : List Placed → Option (List ℕ)
 base_in ps = option_and_then (fitting is_base_version) (first_at BaseVersion ps)
@@ -37,7 +38,7 @@ abbrev pub moment_in : List Placed → Option CivilTime
 moment_in ps = option_and_then moment_of (first_at LastUpdated ps)
 
 abbrev pub versions_in : List Placed → List (List ℕ)
-versions_in ps = map (λ p. p.text) (filter (λ p. is_at p.place Version && is_version p.text) ps)
+versions_in ps = map (λ p. p.text) (filter (λ p. is_at p.place Version && is_version_directory p.text) ps)
 
 -- the build that `snapshot` names, where both parts fit
 abbrev pub build_by : Option CivilTime → Option ℕ → Option BuildOf

@@ -8,7 +8,7 @@ ghost use Rattle.mvn_doc.specs.Picked.{document_in};
 ghost use Rattle.mvn_doc.specs.Reading.{reading};
 ghost use Rattle.mvn_doc.specs.Tree.{places};
 ghost use Rattle.mvn_doc.specs.Worked as worked;
-ghost use Rattle.mvn_doc.specs.Written.{text};
+ghost use Rattle.mvn_metadata.specs.Written.{text};
 
 /// The texts that are read are those that write a tree of elements whose root is `metadata` (XML 1.0, sections 2.1 and
 /// 3.1), and what is read is what the tree's elements tell at their places.

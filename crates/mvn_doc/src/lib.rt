@@ -11,9 +11,5 @@ mod sizes;
 mod value;
 mod writing;
 
-pub use mvn_metadata::{
-    Doc, Entries, Listing, NoMemory, Pair, SnapshotBuild, Versions, empty, is_base_version,
-    is_classifier, is_entry, is_extension, is_version, merge, settle,
-};
 pub use reading::{DocFault, read};
 pub use writing::write;

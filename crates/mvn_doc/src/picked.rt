@@ -165,11 +165,18 @@ pub(crate) fn document(alloc: Global, placed: &[Placed<'_>]) -> Result<Doc, NoMe
     let artifact = artifact(alloc, placed)?;
     match base(alloc, placed)? {
         Some(base) => {
-            let listing = Listing::Snapshot(base, build(placed), Entries::new(alloc));
+            let listing = Listing::Snapshot {
+                base,
+                newest: build(placed),
+                entries: Entries::new(alloc),
+            };
             with_entries(alloc, Doc::new(group, artifact, listing), placed)
         }
         None => {
-            let listing = Listing::Artifact(Versions::new(alloc), moment(placed));
+            let listing = Listing::Artifact {
+                versions: Versions::new(alloc),
+                updated: moment(placed),
+            };
             with_versions(alloc, Doc::new(group, artifact, listing), placed)
         }
     }

@@ -4,8 +4,8 @@ use mvn_metadata::{Doc, Entries, Listing, Versions};
 /// About how many bytes the text of a document has: a guess that spares growing.
 pub(crate) fn text_size(doc: &Doc) -> usize {
     let lines = match doc.listing() {
-        Listing::Artifact(versions, _) => versions_size(versions),
-        Listing::Snapshot(base, _, entries) => entries_size(entries, base.as_str().len()),
+        Listing::Artifact { versions, .. } => versions_size(versions),
+        Listing::Snapshot { base, entries, .. } => entries_size(entries, base.as_str().len()),
     };
     lines.saturating_add(1024)
 }

@@ -1,5 +1,5 @@
 //! The values of a document: which text fits where.
-ghost use Rattle.std.specs.Prelude.{◌≡◌, ◌&&◌, MatchOption, IfOk, IfSome, IsTrue};
+ghost use Rattle.std.specs.Prelude.{◌≡◌, MatchOption, IfOk, IfSome, IsTrue};
 ghost use Rattle.std.specs.Option.{option_copied, option_map};
 ghost use Rattle.std.specs.Str.{IsUtf8};
 ghost use Rattle.mvn_coords.specs.Civil.{time_of};
@@ -8,9 +8,9 @@ ghost use Rattle.mvn_coords.specs.Segment as segment;
 ghost use Rattle.mvn_metadata.specs.Form as form;
 ghost use Rattle.mvn_doc.specs.Picked as picked;
 
-use mvn_coords::{Build, Stamp, build_number, is_artifact, is_group_segment, is_segment};
+use mvn_coords::{Build, Stamp, build_number, is_artifact, is_version_directory};
 use mvn_metadata::{
-    NoMemory, SnapshotBuild, is_base, is_base_version, is_classifier, is_extension, is_version,
+    NoMemory, SnapshotBuild, is_base, is_base_version, is_classifier, is_extension, is_group,
 };
 use std::alloc::Global;
 use std::str;
@@ -28,10 +28,14 @@ fn text_of(bytes: &[u8]) -> Option<&str>
 
 /// The text, where it is a version directory.
 pub(crate) fn version(bytes: &[u8]) -> Option<&str>
-    ensures { option_copied result ≡ picked.fitting form.is_version bytes.now }
+    ensures { option_copied result ≡ picked.fitting segment.is_version_directory bytes.now }
 {
     let text = text_of(bytes)?;
-    if is_version(text) { Some(text) } else { None }
+    if is_version_directory(text) {
+        Some(text)
+    } else {
+        None
+    }
 }
 
 /// The text, where it is a version directory X-SNAPSHOT.
@@ -48,23 +52,10 @@ pub(crate) fn base_version(bytes: &[u8]) -> Option<&str>
 
 /// The text, where it is an artifact.
 pub(crate) fn artifact(bytes: &[u8]) -> Option<&str>
-    ensures { option_copied result ≡ picked.fitting form.is_artifact_name bytes.now }
+    ensures { option_copied result ≡ picked.fitting segment.is_artifact bytes.now }
 {
     let text = text_of(bytes)?;
-    if is_segment(text) && is_artifact(text) {
-        Some(text)
-    } else {
-        None
-    }
-}
-
-fn is_group_part(bytes: &[u8]) -> bool
-    ensures { result ≡ (segment.is_segment bytes.now && segment.is_group_segment bytes.now) }
-{
-    match text_of(bytes) {
-        Some(text) => is_segment(text) && is_group_segment(text),
-        None => false,
-    }
+    if is_artifact(text) { Some(text) } else { None }
 }
 
 /// The bytes, where they are group segments with `.` between them.
@@ -72,12 +63,6 @@ pub(crate) fn group(bytes: &[u8]) -> Option<&[u8]>
     ensures { option_copied result ≡ picked.fitting form.is_group bytes.now }
 {
     if is_group(bytes) { Some(bytes) } else { None }
-}
-
-fn is_group(bytes: &[u8]) -> bool
-    ensures { result ≡ form.is_group bytes.now }
-{
-    bytes.split(|b| *b == b'.').all(|part| is_group_part(part))
 }
 
 /// The text, where it is a classifier or has no bytes.
@@ -173,7 +158,7 @@ fn based(alloc: Global, base: &[u8], build: Build) -> Result<Option<SnapshotBuil
     ensures { IfOk result (λ h. h ≡ picked.snapshot_build_of base.now (Some build)) }
 {
     match text_of(base) {
-        Some(base) if is_base(alloc, base)? => {
+        Some(base) if is_base(base) => {
             let base = Text::new(alloc, base)?;
             Ok(Some(SnapshotBuild { base, build }))
         }

@@ -1,11 +1,10 @@
 //! The one written form of a document (Maven repository metadata 1.1.0).
-ghost use Rattle.std.specs.Prelude.{◌≡◌, length, take, drop, ◌+◌, ◌%◌, ◌++◌, ◌∷◌, [], IfOk, codes};
+ghost use Rattle.std.specs.Prelude.{◌≡◌, length, take, drop, ◌++◌, ◌∷◌, [], IfOk, codes};
 ghost use Rattle.std.specs.List.{flat_map};
 ghost use Rattle.std.specs.Option.{option_copied, option_map};
-ghost use Rattle.mvn_coords.specs.Civil.{digits};
-ghost use Rattle.mvn_coords.specs.Layout.{text_of_build, without_zeros};
+ghost use Rattle.mvn_coords.specs.Layout.{text_of_build};
 ghost use Rattle.mvn_doc.specs.Sheet.{Adds};
-ghost use Rattle.mvn_doc.specs.Written as written;
+ghost use Rattle.mvn_metadata.specs.Written as written;
 
 use crate::sheet::Sheet;
 use crate::sizes::text_size;
@@ -115,57 +114,6 @@ fn moment_line(out: &mut Sheet, margin: &str, name: &str, stamp: Stamp)
     close_tag(out, name);
 }
 
-/// The nine last decimal digits of a number.
-fn nine_digits(number: u32) -> [u8; 9]
-    ensures { result ≡ digits 9 number }
-{
-    let (low, high) = (number, number / 10 / 10 / 10 / 10);
-    [
-        digit(high / 10 / 10 / 10 / 10),
-        digit(high / 10 / 10 / 10),
-        digit(high / 10 / 10),
-        digit(high / 10),
-        digit(high),
-        digit(low / 10 / 10 / 10),
-        digit(low / 10 / 10),
-        digit(low / 10),
-        digit(low),
-    ]
-}
-
-fn digit(number: u32) -> u8
-    ensures { result ≡ 48 + number % 10 }
-{
-    b'0' + (number % 10) as u8
-}
-
-fn significant(mut digits: &[u8]) -> &[u8]
-    ensures { result.now ≡ without_zeros digits.entry.now }
-{
-    while let [b'0', rest @ ..] = digits {
-        digits = rest;
-    }
-    digits
-}
-
-/// A number without leading zeros, on a line of its own.
-fn number_line(out: &mut Sheet, margin: &str, name: &str, number: u32)
-    ensures { Adds out.old out.new (written.element margin.now name.now (written.number_text number)) }
-{
-    let digits = nine_digits(number);
-    element(out, margin, name, significant(&digits));
-}
-
-/// A build's timestamp and number, with `-` between.
-fn build(out: &mut Sheet, build: Build)
-    ensures { Adds out.old out.new (text_of_build build) }
-{
-    out.put(&build.stamp().text());
-    out.word("-");
-    let digits = nine_digits(build.number());
-    out.put(significant(&digits));
-}
-
 fn updated(out: &mut Sheet, stamp: Option<Stamp>)
     ensures { Adds out.old out.new (written.updated_line stamp) }
 {
@@ -178,8 +126,12 @@ fn listing(out: &mut Sheet, listing: &Listing)
     ensures { Adds out.old out.new (written.listing_lines listing.now) }
 {
     match listing {
-        Listing::Artifact(versions, updated) => artifact(out, versions, *updated),
-        Listing::Snapshot(base, newest, entries) => {
+        Listing::Artifact { versions, updated } => artifact(out, versions, *updated),
+        Listing::Snapshot {
+            base,
+            newest,
+            entries,
+        } => {
             element(out, "  ", "version", base.as_str().as_bytes());
             snapshot(out, newest, entries);
         }
@@ -243,7 +195,8 @@ fn newest_lines(out: &mut Sheet, newest: &Option<Build>)
     if let Some(build) = newest {
         open_line(out, "    ", "snapshot");
         element(out, "      ", "timestamp", &build.stamp().text());
-        number_line(out, "      ", "buildNumber", build.number());
+        let number = build.number_text();
+        element(out, "      ", "buildNumber", number.as_bytes());
         close_line(out, "    ", "snapshot");
     }
 }
@@ -292,7 +245,7 @@ fn value_line(out: &mut Sheet, margin: &str, name: &str, snapshot: &SnapshotBuil
     open_tag(out, name);
     out.word(snapshot.base.as_str());
     out.word("-");
-    build(out, snapshot.build);
+    out.put(snapshot.build.text().as_bytes());
     close_tag(out, name);
 }
 

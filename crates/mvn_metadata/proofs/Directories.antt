@@ -8,13 +8,14 @@ use borrow.Author.Tests.{eqb-true}
 use Rattle.mvn_coords.specs.FileName.{base_of, ◌>>=◌}
 use Rattle.mvn_coords.specs.Layout.{Directory, file, document, all_groups, artifact_directory, directory, directory_of, file_of, named, snapshot_directory, text_of_document}
 use Rattle.mvn_coords.specs.Path.{IsDirectory}
-use Rattle.mvn_coords.specs.Segment.{Segment, is_artifact, is_group_byte, is_group_segment, is_segment, is_version_directory, path_of_levels}
-use Rattle.mvn_coords.proofs.Laws.{passes}
+use Rattle.mvn_coords.specs.Segment.{Segment, are_artifact_bytes, is_group_byte, are_group_bytes, is_segment, fits_version, path_of_levels}
+use Rattle.mvn_coords.proofs.ExactPaths.{passes}
 use Rattle.mvn_coords.proofs.Levels.{filled}
 use Rattle.mvn_coords.proofs.Results.{bound, chosen, ok_same}
 use Rattle.mvn_coords.specs.declared.fault.PathFault.TheVariants as fault
 use Rattle.mvn_metadata.specs.Document.{dotted}
-use Rattle.mvn_metadata.specs.Form.{is_artifact_name, is_base_version, is_fit, is_group, is_version}
+use Rattle.mvn_coords.specs.Segment.{is_artifact, is_version_directory}
+use Rattle.mvn_metadata.specs.Form.{is_base_version, is_fit, is_group}
 use Rattle.mvn_metadata.proofs.Bools.{both, first, second}
 
 abbrev dot : ℕ → Bool
@@ -59,25 +60,25 @@ split_joined (b ∷ bs) rest h =
     ∙ ap (λ t. cond t ([] ∷ slice_split dot (map swapped (bs ++ 47 ∷ rest))) (onto_first b (slice_split dot (map swapped (bs ++ 47 ∷ rest))))) (no_dot b here)
     ∙ ap (onto_first b) more
 
-split_dotted : (s : Segment) (ss : List Segment) → list_all is_group_segment (s ∷ ss) ≡ true → slice_split dot (map swapped (join_with_byte 47 (s ∷ ss))) ≡ s ∷ ss
-split_dotted s [] h = split_segment s (first (is_group_segment s) true h)
+split_dotted : (s : Segment) (ss : List Segment) → list_all are_group_bytes (s ∷ ss) ≡ true → slice_split dot (map swapped (join_with_byte 47 (s ∷ ss))) ≡ s ∷ ss
+split_dotted s [] h = split_segment s (first (are_group_bytes s) true h)
 split_dotted s (t ∷ ts) h =
-    split_joined s (join_with_byte 47 (t ∷ ts)) (first (is_group_segment s) (list_all is_group_segment (t ∷ ts)) h)
-    ∙ ap (λ rest. s ∷ rest) (split_dotted t ts (second (is_group_segment s) (list_all is_group_segment (t ∷ ts)) h))
+    split_joined s (join_with_byte 47 (t ∷ ts)) (first (are_group_bytes s) (list_all are_group_bytes (t ∷ ts)) h)
+    ∙ ap (λ rest. s ∷ rest) (split_dotted t ts (second (are_group_bytes s) (list_all are_group_bytes (t ∷ ts)) h))
 
-all_both : (ss : List Segment) → list_all is_segment ss ≡ true → list_all is_group_segment ss ≡ true → list_all (λ s. is_segment s && is_group_segment s) ss ≡ true
+all_both : (ss : List Segment) → list_all is_segment ss ≡ true → list_all are_group_bytes ss ≡ true → list_all (λ s. is_segment s && are_group_bytes s) ss ≡ true
 all_both [] g h = refl
 all_both (s ∷ ss) g h =
-    both (is_segment s && is_group_segment s) (list_all (λ s. is_segment s && is_group_segment s) ss)
-    (both (is_segment s) (is_group_segment s) (first (is_segment s) (list_all is_segment ss) g) (first (is_group_segment s) (list_all is_group_segment ss) h))
-    (all_both ss (second (is_segment s) (list_all is_segment ss) g) (second (is_group_segment s) (list_all is_group_segment ss) h))
+    both (is_segment s && are_group_bytes s) (list_all (λ s. is_segment s && are_group_bytes s) ss)
+    (both (is_segment s) (are_group_bytes s) (first (is_segment s) (list_all is_segment ss) g) (first (are_group_bytes s) (list_all are_group_bytes ss) h))
+    (all_both ss (second (is_segment s) (list_all is_segment ss) g) (second (are_group_bytes s) (list_all are_group_bytes ss) h))
 
-dotted_fits : (ss : List Segment) → list_all is_segment ss ≡ true → list_all is_group_segment ss ≡ true → is_fit is_group (dotted (join_with_byte 47 ss)) ≡ true
+dotted_fits : (ss : List Segment) → list_all is_segment ss ≡ true → list_all are_group_bytes ss ≡ true → is_fit is_group (dotted (join_with_byte 47 ss)) ≡ true
 dotted_fits [] g h = refl
 dotted_fits (s ∷ ss) g h =
     let text = map swapped (join_with_byte 47 (s ∷ ss)) in
     elim (nat_lt 0 (length (join_with_byte 47 (s ∷ ss)))) as (λ b. is_fit is_group (if b then Some text else None) ≡ true) [
-      | true ↦ ap (list_all (λ s. is_segment s && is_group_segment s)) (split_dotted s ss h) ∙ all_both (s ∷ ss) g h
+      | true ↦ ap (list_all (λ s. is_segment s && are_group_bytes s)) (split_dotted s ss h) ∙ all_both (s ∷ ss) g h
       | false ↦ refl
     ]
 
@@ -92,32 +93,32 @@ all_reversed p ss h = all_onto p ss [] h refl
 -- ---- a directory of segments
 pub record FitsDirectory (d : Directory) : Type 0 where
   pub group : is_fit is_group (dotted d.group) ≡ true
-  pub artifact : is_artifact_name d.artifact ≡ true
+  pub artifact : is_artifact d.artifact ≡ true
   pub version : is_fit is_base_version d.version ≡ true
 
 group_fits : (gs : List Segment) → list_all is_segment gs ≡ true → all_groups gs ≡ true → is_fit is_group (dotted (path_of_levels gs)) ≡ true
-group_fits gs g h = dotted_fits (reverse gs) (all_reversed is_segment gs g) (all_reversed is_group_segment gs h)
+group_fits gs g h = dotted_fits (reverse gs) (all_reversed is_segment gs g) (all_reversed are_group_bytes gs h)
 
 artifact_fits : (artifact : Segment) (gs : List Segment) (d : Directory) → artifact_directory artifact gs ≡ Ok d → list_all is_segment (artifact ∷ gs) ≡ true → FitsDirectory d
 artifact_fits artifact gs d h g =
-    let b = chosen (all_groups gs && is_artifact artifact) (Ok (directory (path_of_levels gs) artifact None)) fault.BadSegment d h in
+    let b = chosen (all_groups gs && are_artifact_bytes artifact) (Ok (directory (path_of_levels gs) artifact None)) fault.BadSegment d h in
     subst FitsDirectory (ok_same (directory (path_of_levels gs) artifact None) d b.value) (record {
-      group = group_fits gs (second (is_segment artifact) (list_all is_segment gs) g) (first (all_groups gs) (is_artifact artifact) b.test);
-      artifact = both (is_segment artifact) (is_artifact artifact) (first (is_segment artifact) (list_all is_segment gs) g) (second (all_groups gs) (is_artifact artifact) b.test);
+      group = group_fits gs (second (is_segment artifact) (list_all is_segment gs) g) (first (all_groups gs) (are_artifact_bytes artifact) b.test);
+      artifact = both (is_segment artifact) (are_artifact_bytes artifact) (first (is_segment artifact) (list_all is_segment gs) g) (second (all_groups gs) (are_artifact_bytes artifact) b.test);
       version = refl;
     })
 
 snapshot_fits : (version artifact : Segment) (gs : List Segment) (d : Directory) → snapshot_directory version artifact gs ≡ Ok d → is_some (base_of version) ≡ true → list_all is_segment (version ∷ artifact ∷ gs) ≡ true → FitsDirectory d
 snapshot_fits version artifact gs d h based g =
-    let b = chosen (all_groups gs && is_artifact artifact && is_version_directory version) (Ok (directory (path_of_levels gs) artifact (Some version))) fault.BadSegment d h in
-    let names = first (all_groups gs && is_artifact artifact) (is_version_directory version) b.test in
+    let b = chosen (all_groups gs && are_artifact_bytes artifact && fits_version version) (Ok (directory (path_of_levels gs) artifact (Some version))) fault.BadSegment d h in
+    let names = first (all_groups gs && are_artifact_bytes artifact) (fits_version version) b.test in
     let below = second (is_segment version) (list_all is_segment (artifact ∷ gs)) g in
     subst FitsDirectory (ok_same (directory (path_of_levels gs) artifact (Some version)) d b.value) (record {
-      group = group_fits gs (second (is_segment artifact) (list_all is_segment gs) below) (first (all_groups gs) (is_artifact artifact) names);
-      artifact = both (is_segment artifact) (is_artifact artifact) (first (is_segment artifact) (list_all is_segment gs) below) (second (all_groups gs) (is_artifact artifact) names);
-      version = both (is_version version) (is_some (base_of version))
-          (both (is_segment version) (is_version_directory version) (first (is_segment version) (list_all is_segment (artifact ∷ gs)) g)
-          (second (all_groups gs && is_artifact artifact) (is_version_directory version) b.test)) based;
+      group = group_fits gs (second (is_segment artifact) (list_all is_segment gs) below) (first (all_groups gs) (are_artifact_bytes artifact) names);
+      artifact = both (is_segment artifact) (are_artifact_bytes artifact) (first (is_segment artifact) (list_all is_segment gs) below) (second (all_groups gs) (are_artifact_bytes artifact) names);
+      version = both (is_version_directory version) (is_some (base_of version))
+          (both (is_segment version) (fits_version version) (first (is_segment version) (list_all is_segment (artifact ∷ gs)) g)
+          (second (all_groups gs && are_artifact_bytes artifact) (fits_version version) b.test)) based;
     })
 
 directory_fits : (above : List Segment) (d : Directory) → directory_of above ≡ Ok d → list_all is_segment above ≡ true → FitsDirectory d

@@ -17,7 +17,8 @@ use Rattle.mvn_version.specs.Order.{list_cmp}
 use Rattle.mvn_metadata.specs.declared.listing.Listing.{Listing}
 use Rattle.mvn_metadata.specs.declared.listing.Listing.TheVariants.{Artifact, Snapshot}
 use Rattle.mvn_metadata.specs.Document.{Document, dotted, greatest, is_of, joined, latest_time, newest_build, nothing, of_kind, settled, with_build, with_update, with_version}
-use Rattle.mvn_metadata.specs.Form.{is_artifact_name, is_base_version, is_build, is_document, is_classifier, is_extension, is_entry, is_fit, is_group, is_listing, is_reached, is_rising, is_version}
+use Rattle.mvn_coords.specs.Segment.{is_artifact, is_version_directory}
+use Rattle.mvn_metadata.specs.Form.{is_base_version, is_build, is_document, is_classifier, is_extension, is_entry, is_fit, is_group, is_listing, is_reached, is_rising}
 use Rattle.mvn_metadata.specs.Merge.{Entry, with_versions, with_entries}
 use Rattle.mvn_metadata.specs.Order.{build_cmp, build_cmp_total, pair_cmp, time_cmp}
 use Rattle.mvn_metadata.proofs.Bools.{both, first, second, list_all_filter, list_all_weaker}
@@ -29,23 +30,23 @@ use Rattle.mvn_metadata.proofs.MergeLemmas.{is_rising-with_versions, list_all-wi
 
 -- the parts of the form of what an artifact's document lists
 pub record ListsVersions (vs : List (List ℕ)) (t : Option CivilTime) : Type 0 where
-  pub each : list_all is_version vs ≡ true
+  pub each : list_all is_version_directory vs ≡ true
   pub rising : is_rising list_cmp vs ≡ true
   pub updated : is_fit is_civil t ≡ true
 
 pub versions_parts : (vs : List (List ℕ)) (t : Option CivilTime) → is_listing (Artifact vs t) ≡ true → ListsVersions vs t
 versions_parts vs t h =
-    let front = first (list_all is_version vs && is_rising list_cmp vs) (is_fit is_civil t) h in
+    let front = first (list_all is_version_directory vs && is_rising list_cmp vs) (is_fit is_civil t) h in
     record {
-      each = first (list_all is_version vs) (is_rising list_cmp vs) front;
-      rising = second (list_all is_version vs) (is_rising list_cmp vs) front;
-      updated = second (list_all is_version vs && is_rising list_cmp vs) (is_fit is_civil t) h;
+      each = first (list_all is_version_directory vs) (is_rising list_cmp vs) front;
+      rising = second (list_all is_version_directory vs) (is_rising list_cmp vs) front;
+      updated = second (list_all is_version_directory vs && is_rising list_cmp vs) (is_fit is_civil t) h;
     }
 
 pub versions_whole : (vs : List (List ℕ)) (t : Option CivilTime) → ListsVersions vs t → is_listing (Artifact vs t) ≡ true
 versions_whole vs t p =
-    both (list_all is_version vs && is_rising list_cmp vs) (is_fit is_civil t)
-    (both (list_all is_version vs) (is_rising list_cmp vs) p.each p.rising) p.updated
+    both (list_all is_version_directory vs && is_rising list_cmp vs) (is_fit is_civil t)
+    (both (list_all is_version_directory vs) (is_rising list_cmp vs) p.each p.rising) p.updated
 
 -- and of a snapshot directory's
 pub record ListsBuilds (b : List ℕ) (n : Option BuildOf) (es : List Entry) : Type 0 where
@@ -139,7 +140,7 @@ is_listing-joined (Artifact vs t) (Artifact ws u) g h =
     let p = versions_parts vs t g in
     let q = versions_parts ws u h in
     versions_whole (with_versions vs ws) (latest_time t u) (record {
-      each = list_all-with_versions is_version vs ws p.each q.each;
+      each = list_all-with_versions is_version_directory vs ws p.each q.each;
       rising = is_rising-with_versions vs ws p.rising;
       updated = is_fit-greatest time_cmp is_civil t u p.updated q.updated;
     })
@@ -162,11 +163,11 @@ is_listing-joined (Snapshot b n es) (Snapshot c m fs) g h =
 -- a document keeps its form where what it lists does
 pub is_document-listing : (d : Document) (l : Listing) → is_listing l ≡ true → is_document d ≡ true → is_document (record d { listing = l }) ≡ true
 is_document-listing d l g h =
-    let front = is_fit is_group d.group && is_fit is_artifact_name d.artifact in
+    let front = is_fit is_group d.group && is_fit is_artifact d.artifact in
     both front (is_listing l) (first front (is_listing d.listing) h) g
 
 pub listing_of : (d : Document) → is_document d ≡ true → is_listing d.listing ≡ true
-listing_of d h = second (is_fit is_group d.group && is_fit is_artifact_name d.artifact) (is_listing d.listing) h
+listing_of d h = second (is_fit is_group d.group && is_fit is_artifact d.artifact) (is_listing d.listing) h
 
 -- ---- a document of a directory
 below_filter : (k : Pair) (t : Entry → Bool) (es : List Entry) → below_all pair_cmp k es ≡ true → below_all pair_cmp k (filter t es) ≡ true
@@ -206,16 +207,16 @@ is_listing-of_kind (Some v) (Snapshot b n es) g h =
 pub is_document-settled : (d : Document) (directory : Directory) → IsDirectory directory → is_listing d.listing ≡ true → is_document (settled d directory) ≡ true
 is_document-settled d directory rule h =
     let f = fits_directory directory rule in
-    both (is_fit is_group (dotted directory.group) && is_artifact_name directory.artifact) (is_listing (of_kind directory.version d.listing))
-    (both (is_fit is_group (dotted directory.group)) (is_artifact_name directory.artifact) f.group f.artifact)
+    both (is_fit is_group (dotted directory.group) && is_artifact directory.artifact) (is_listing (of_kind directory.version d.listing))
+    (both (is_fit is_group (dotted directory.group)) (is_artifact directory.artifact) f.group f.artifact)
     (is_listing-of_kind directory.version d.listing f.version h)
 
 -- ---- one more version, moment or build
-pub is_listing-with_version : (l : Listing) (v : List ℕ) → is_version v ≡ true → is_listing l ≡ true → is_listing (with_version l v) ≡ true
+pub is_listing-with_version : (l : Listing) (v : List ℕ) → is_version_directory v ≡ true → is_listing l ≡ true → is_listing (with_version l v) ≡ true
 is_listing-with_version (Artifact vs t) v g h =
     let p = versions_parts vs t h in
     versions_whole (insert_key list_cmp vs v) t (record {
-      each = list_all-insert_key list_cmp is_version vs v g p.each;
+      each = list_all-insert_key list_cmp is_version_directory vs v g p.each;
       rising = is_rising-insert_key list_cmp_total vs v p.rising;
       updated = p.updated;
     })

@@ -44,10 +44,10 @@ joined (Snapshot base newest entries) (Snapshot _ newer others) =
     Snapshot base (newest_build newest newer) (with_entries entries others)
 joined (Snapshot base newest entries) (Artifact _ _) = Snapshot base newest entries
 
--- the document is an artifact's, and not a snapshot directory's
-abbrev pub is_artifact : Listing → Bool
-is_artifact (Artifact _ _) = true
-is_artifact (Snapshot _ _ _) = false
+-- the versions of an artifact are listed, and not the files of a snapshot directory
+abbrev pub lists_versions : Listing → Bool
+lists_versions (Artifact _ _) = true
+lists_versions (Snapshot _ _ _) = false
 
 -- nothing of the same kind
 abbrev pub nothing : Listing → Listing

@@ -6,7 +6,7 @@ use Rattle.std.specs.declared.cmp.Ordering.{Ordering}
 use Rattle.std.specs.FinMap.Entries.{is_sorted}
 use Rattle.mvn_coords.specs.Civil.{is_civil}
 use Rattle.mvn_coords.specs.FileName.{BuildOf, is_build_number, base_of}
-use Rattle.mvn_coords.specs.Segment.{is_segment, is_group_segment, is_artifact, is_version_directory, is_path_byte}
+use Rattle.mvn_coords.specs.Segment.{is_group_segment, is_artifact, is_version_directory, is_path_byte}
 use Rattle.mvn_version.specs.Order.{list_cmp}
 use Rattle.mvn_metadata.specs.declared.listing.Listing.{Listing}
 use Rattle.mvn_metadata.specs.declared.listing.Listing.TheVariants.{Artifact, Snapshot}
@@ -21,18 +21,11 @@ is_fit test (Some value) = test value
 
 -- group segments with `.` between them
 abbrev pub is_group : List ℕ → Bool
-is_group text = list_all (λ s. is_segment s && is_group_segment s) (slice_split (λ b. b == 46) text)
-
-abbrev pub is_artifact_name : List ℕ → Bool
-is_artifact_name text = is_segment text && is_artifact text
-
--- a version directory
-abbrev pub is_version : List ℕ → Bool
-is_version text = is_segment text && is_version_directory text
+is_group text = list_all is_group_segment (slice_split (λ b. b == 46) text)
 
 -- X-SNAPSHOT, a version directory
 abbrev pub is_base_version : List ℕ → Bool
-is_base_version text = is_version text && is_some (base_of text)
+is_base_version text = is_version_directory text && is_some (base_of text)
 
 abbrev pub is_classifier_byte : ℕ → Bool
 is_classifier_byte b = is_path_byte b && not (b == 46)
@@ -65,10 +58,10 @@ is_rising cmp (k ∷ ks) = list_all (λ q. is_lt (cmp k q)) ks && is_rising cmp 
 -- versions are distinct and in order; pairs are distinct and in order, and none has a build above the newest
 abbrev pub is_listing : Listing → Bool
 is_listing (Artifact versions updated) =
-    list_all is_version versions && is_rising list_cmp versions && is_fit is_civil updated
+    list_all is_version_directory versions && is_rising list_cmp versions && is_fit is_civil updated
 is_listing (Snapshot base newest entries) =
     is_base_version base && is_fit is_build newest && list_all is_entry entries && is_sorted pair_cmp entries
     && list_all (λ e. is_reached newest e.1.build) entries
 
 abbrev pub is_document : Document → Bool
-is_document d = is_fit is_group d.group && is_fit is_artifact_name d.artifact && is_listing d.listing
+is_document d = is_fit is_group d.group && is_fit is_artifact d.artifact && is_listing d.listing

@@ -2,3 +2,4 @@ pub mod Order
 pub mod Merge
 pub mod Document
 pub mod Form
+pub mod Written

@@ -5,6 +5,7 @@ ghost use Rattle.mvn_metadata.specs.Document.{joined, latest_time, merged, newes
 
 use crate::pair::compare_builds;
 use crate::{Entries, Listing, NoMemory, Pair, SnapshotBuild, Versions};
+use mvn_coords::laws::stamp_is_civil;
 use mvn_coords::{Build, Stamp};
 use mvn_version::Version;
 use std::alloc::Global;
@@ -83,11 +84,15 @@ fn nothing(alloc: Global, listing: &Listing) -> Result<Listing, NoMemory>
     ensures { IfOk result (λ l. l ≡ nothing listing.now) }
 {
     match listing {
-        Listing::Artifact(_, _) => Ok(Listing::Artifact(Versions::new(alloc), None)),
-        Listing::Snapshot(base, _, _) => {
-            let base = base.copied(alloc)?;
-            Ok(Listing::Snapshot(base, None, Entries::new(alloc)))
-        }
+        Listing::Artifact { .. } => Ok(Listing::Artifact {
+            versions: Versions::new(alloc),
+            updated: None,
+        }),
+        Listing::Snapshot { base, .. } => Ok(Listing::Snapshot {
+            base: base.copied(alloc)?,
+            newest: None,
+            entries: Entries::new(alloc),
+        }),
     }
 }
 
@@ -96,23 +101,51 @@ fn joined(alloc: Global, listing: Listing, other: &Listing) -> Result<Listing, N
     ensures { IfOk result (λ l. l ≡ joined listing other.now) }
 {
     match (listing, other) {
-        (Listing::Artifact(mut versions, updated), Listing::Artifact(others, later)) => {
+        (
+            Listing::Artifact {
+                mut versions,
+                updated,
+            },
+            Listing::Artifact {
+                versions: others,
+                updated: later,
+            },
+        ) => {
             versions.add_all(alloc, others)?;
-            Ok(Listing::Artifact(versions, latest_time(updated, *later)))
+            let updated = latest_time(updated, *later);
+            Ok(Listing::Artifact { versions, updated })
         }
-        (Listing::Snapshot(base, newest, mut entries), Listing::Snapshot(_, newer, others)) => {
+        (
+            Listing::Snapshot {
+                base,
+                newest,
+                mut entries,
+            },
+            Listing::Snapshot {
+                newest: newer,
+                entries: others,
+                ..
+            },
+        ) => {
             entries.add_all(alloc, others)?;
-            Ok(Listing::Snapshot(base, newest_build(newest, *newer), entries))
+            let newest = newest_build(newest, *newer);
+            Ok(Listing::Snapshot {
+                base,
+                newest,
+                entries,
+            })
         }
         (listing, _) => Ok(listing),
     }
 }
 
 impl Doc {
-    ghost use Rattle.mvn_metadata.specs.Form.{is_document, is_entry, is_listing, is_version};
+    ghost use Rattle.mvn_coords.specs.Segment.{is_version_directory};
+    ghost use Rattle.mvn_metadata.specs.Form.{is_document, is_entry, is_listing};
 
-    /// The document with these parts, which have the form of a document: the group with `.` between its segments, in
-    /// ASCII, the artifact, and what is listed.
+    /// The document with these parts, which have the form of a document: a group (`is_group`), an artifact
+    /// (`mvn_coords::is_artifact`), and what is listed; this has the form where it lists nothing, or only what
+    /// `with_version`, `with_update` and `with_build` add.
     pub fn new(group: Option<Bytes>, artifact: Option<Text>, listing: Listing) -> Doc
         requires { IsTrue (is_document (record { group = group; artifact = artifact; listing = listing })) }
         ensures { result ≡ record { group = group; artifact = artifact; listing = listing } }
@@ -191,7 +224,7 @@ impl Doc {
     /// The document with one more version (a version directory of the layout). A snapshot directory's document lists
     /// none and stays as it is.
     pub fn with_version(self, version: Version) -> Result<Doc, NoMemory>
-        requires { IsTrue (is_version version) }
+        requires { IsTrue (is_version_directory version) }
         ensures { IfOk result (λ d. d ≡ record self { listing = with_version self.listing version }) }
     {
         let Doc {
@@ -216,8 +249,7 @@ impl Doc {
             artifact,
             listing,
         } = self;
-        // A stamp's text says of it that it is a civil time.
-        let _text = moment.text();
+        stamp_is_civil(moment);
         let listing = with_update(listing, moment);
         Doc {
             group,
@@ -250,11 +282,14 @@ fn with_version(listing: Listing, version: Version) -> Result<Listing, NoMemory>
     ensures { IfOk result (λ l. l ≡ with_version listing version) }
 {
     match listing {
-        Listing::Artifact(mut versions, updated) => {
+        Listing::Artifact {
+            mut versions,
+            updated,
+        } => {
             versions.add(version)?;
-            Ok(Listing::Artifact(versions, updated))
+            Ok(Listing::Artifact { versions, updated })
         }
-        Listing::Snapshot(base, newest, entries) => Ok(Listing::Snapshot(base, newest, entries)),
+        listing => Ok(listing),
     }
 }
 
@@ -262,10 +297,11 @@ fn with_update(listing: Listing, moment: Stamp) -> Listing
     ensures { result ≡ with_update listing moment }
 {
     match listing {
-        Listing::Artifact(versions, updated) => {
-            Listing::Artifact(versions, latest_time(updated, Some(moment)))
-        }
-        Listing::Snapshot(base, newest, entries) => Listing::Snapshot(base, newest, entries),
+        Listing::Artifact { versions, updated } => Listing::Artifact {
+            versions,
+            updated: latest_time(updated, Some(moment)),
+        },
+        listing => listing,
     }
 }
 
@@ -273,11 +309,19 @@ fn with_build(listing: Listing, pair: Pair, snapshot: SnapshotBuild) -> Result<L
     ensures { IfOk result (λ l. l ≡ with_build listing (pair, snapshot)) }
 {
     match listing {
-        Listing::Artifact(versions, updated) => Ok(Listing::Artifact(versions, updated)),
-        Listing::Snapshot(base, newest, mut entries) => {
+        Listing::Snapshot {
+            base,
+            newest,
+            mut entries,
+        } => {
             let newest = newest_build(newest, Some(snapshot.build));
             entries.add(pair, snapshot)?;
-            Ok(Listing::Snapshot(base, newest, entries))
+            Ok(Listing::Snapshot {
+                base,
+                newest,
+                entries,
+            })
         }
+        listing => Ok(listing),
     }
 }

@@ -1,8 +1,6 @@
 //! The entries of a snapshot directory's document.
 ghost use Rattle.std.specs.Prelude.{◌≡◌, ◌↔◌, ◌++◌, [], IsTrue, OnOk, OnErr, bytes_eq, codes, filter};
-ghost use Rattle.mvn_coords.specs.FileName.{behind};
 ghost use Rattle.mvn_metadata.specs.Document.{is_of};
-ghost use Rattle.std.specs.Option.{option_copied};
 ghost use Rattle.mvn_metadata.specs.Merge.{is_newer, with_entries, with_entry};
 ghost use Rattle.mvn_metadata.specs.Order.{pair_cmp};
 ghost use Rattle.std.specs.Map.{lookup};
@@ -10,6 +8,7 @@ ghost use Rattle.std.specs.BTreeMap.{is_at};
 
 use crate::pair::compare_builds;
 use crate::{NoMemory, Pair, SnapshotBuild};
+use byte_cuts::text::behind;
 use std::alloc::Global;
 use std::cmp::Ordering;
 use std::collections::BTreeMap;
@@ -104,11 +103,4 @@ fn is_in(base: &str, directory: &str) -> bool
         Some(rest) => rest == "-SNAPSHOT",
         None => false,
     }
-}
-
-// What is left of a text behind a front.
-fn behind<'a>(front: &str, text: &'a str) -> Option<&'a str>
-    ensures { option_copied result ≡ behind front.now text.now }
-{
-    text.strip_prefix(front)
 }

@@ -1,30 +1,41 @@
 //! Tests of the values that a document may have.
-ghost use Rattle.std.specs.Prelude.{◌≡◌, ◌++◌, IfOk, codes, is_some};
+ghost use Rattle.std.specs.Prelude.{◌≡◌, ◌++◌, codes, is_some};
 ghost use Rattle.std.specs.List.{list_all};
 ghost use Rattle.mvn_coords.specs.FileName.{base_of};
+ghost use Rattle.mvn_coords.specs.Segment.{is_group_segment};
 ghost use Rattle.mvn_metadata.specs.Form as spec;
 
-use crate::{NoMemory, Pair, SnapshotBuild};
-use mvn_coords::{are_path_bytes, is_path_byte, is_segment, is_version_directory};
-use std::alloc::Global;
+use crate::{Pair, SnapshotBuild};
+use mvn_coords::laws::build_is_fit;
+use mvn_coords::{are_path_bytes, is_path_byte, is_version_directory};
+use std::str;
 
-/// Whether a text is a version directory of the Maven 2 repository layout: a segment of at most 128 bytes, and neither
-/// `SNAPSHOT` nor `-SNAPSHOT`.
-pub fn is_version(text: &str) -> bool
-    ensures { result ≡ spec.is_version text.now }
+/// Whether bytes are a group with `.` between its segments, which are 1 to 255 letters, digits, `_` and `-`.
+pub fn is_group(bytes: &[u8]) -> bool
+    ensures { result ≡ spec.is_group bytes.now }
 {
-    is_segment(text) && is_version_directory(text)
+    bytes.split(|b| *b == b'.').all(|part| is_group_part(part))
+}
+
+fn is_group_part(bytes: &[u8]) -> bool
+    ensures { result ≡ is_group_segment bytes.now }
+{
+    match str::from_utf8(bytes) {
+        Ok(text) => mvn_coords::is_group_segment(text),
+        Err(_) => false,
+    }
 }
 
 /// Whether a text is a version directory X-SNAPSHOT.
 pub fn is_base_version(text: &str) -> bool
     ensures { result ≡ spec.is_base_version text.now }
 {
-    is_version(text) && is_snapshot(text)
+    is_version_directory(text) && has_base(text)
 }
 
+/// Whether a version directory is X-SNAPSHOT, for some X.
 #[tactic(auto, using(std::proofs::lemmas::Str::Pattern::ends_text))]
-fn is_snapshot(text: &str) -> bool
+fn has_base(text: &str) -> bool
     ensures { result ≡ is_some (base_of text.now) }
 {
     text.len() > 9 && text.ends_with("-SNAPSHOT")
@@ -58,30 +69,19 @@ pub fn is_extension(text: &str) -> bool
 
 /// Whether a pair and its build fit a document: classifier, extension, and a base X whose X-SNAPSHOT is a version
 /// directory.
-pub fn is_entry(alloc: Global, pair: &Pair, snapshot: &SnapshotBuild) -> Result<bool, NoMemory>
-    ensures { IfOk result (λ b. b ≡ spec.is_entry (pair.now, snapshot.now)) }
+pub fn is_entry(pair: &Pair, snapshot: &SnapshotBuild) -> bool
+    ensures { result ≡ spec.is_entry (pair.now, snapshot.now) }
 {
-    let is_based = is_base(alloc, snapshot.base.as_str())?;
-    let is_built = is_build(snapshot);
-    let is_named = is_classifier(pair.classifier.as_str()) && is_extension(pair.extension.as_str());
-    Ok(is_named && is_based && is_built)
+    build_is_fit(snapshot.build);
+    is_classifier(pair.classifier.as_str())
+        && is_extension(pair.extension.as_str())
+        && is_base(snapshot.base.as_str())
 }
 
-/// Whether X-SNAPSHOT is a version directory, for this X.
-pub fn is_base(alloc: Global, base: &str) -> Result<bool, NoMemory>
-    ensures { IfOk result (λ b. b ≡ spec.is_base_version (base.now ++ codes "-SNAPSHOT")) }
+/// Whether X-SNAPSHOT is a version directory, for this X: 1 to 119 bytes of `A-Z a-z 0-9 . _ + -`.
+#[tactic(auto, using(crate::proofs::Bases::base_told))]
+pub fn is_base(base: &str) -> bool
+    ensures { result ≡ spec.is_base_version (base.now ++ codes "-SNAPSHOT") }
 {
-    let mut version = String::from_str(alloc, base)?;
-    version.push_str("-SNAPSHOT")?;
-    Ok(is_base_version(version.as_str()))
-}
-
-// A build of the program always is one: what its stamp and its number say brings the facts.
-fn is_build(snapshot: &SnapshotBuild) -> bool
-    ensures { result ≡ spec.is_build snapshot.now.build }
-{
-    let stamp = snapshot.build.stamp();
-    let _text = stamp.text();
-    let _number = snapshot.build.number();
-    true
+    !base.is_empty() && base.len() <= 119 && are_path_bytes(base)
 }

@@ -2,7 +2,7 @@
 ghost use Rattle.std.specs.Prelude.{◌≡◌, List, [], ◌∷◌, Some, IsTrue};
 ghost use Rattle.std.specs.FinMap.Entries.{find, is_sorted};
 ghost use Rattle.mvn_metadata.specs.declared.pair.Pair.{Pair};
-ghost use Rattle.mvn_metadata.specs.Document.{Document, is_artifact, merge, merged, newest_snapshot_build};
+ghost use Rattle.mvn_metadata.specs.Document.{Document, lists_versions, merge, merged, newest_snapshot_build};
 ghost use Rattle.mvn_metadata.specs.Merge.{Entry, with_entries};
 ghost use Rattle.mvn_metadata.specs.Order.{pair_cmp};
 ghost use Rattle.mvn_metadata.specs.Form.{is_document};
@@ -13,7 +13,7 @@ pub fn merge_laws()
     ensures alone { (d : Document) → IsTrue (is_document d) → merge (d ∷ []) ≡ Some d }
     ensures idempotent { (d : Document) → IsTrue (is_document d) → merged d d ≡ d }
     ensures associative { (d e f : Document) → IsTrue (is_document d) → IsTrue (is_document e) → IsTrue (is_document f)
-        → is_artifact d.listing ≡ is_artifact e.listing → is_artifact e.listing ≡ is_artifact f.listing
+        → lists_versions d.listing ≡ lists_versions e.listing → lists_versions e.listing ≡ lists_versions f.listing
         → merged d (merged e f) ≡ merged (merged d e) f }
     ensures newest { (q : Pair) (es fs : List Entry) → IsTrue (is_sorted pair_cmp fs)
         → find pair_cmp q (with_entries es fs) ≡ newest_snapshot_build (find pair_cmp q es) (find pair_cmp q fs) }

@@ -14,7 +14,7 @@ mod versions;
 
 pub use doc::Doc;
 pub use entries::Entries;
-pub use form::{is_base, is_base_version, is_classifier, is_entry, is_extension, is_version};
+pub use form::{is_base, is_base_version, is_classifier, is_entry, is_extension, is_group};
 pub use listing::Listing;
 pub use merging::merge;
 pub use pair::{Pair, SnapshotBuild};

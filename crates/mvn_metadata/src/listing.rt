@@ -7,8 +7,15 @@ use texts::Text;
 #[derive(Drop)]
 pub enum Listing {
     /// The versions of an artifact, and when they last changed.
-    Artifact(Versions, Option<Stamp>),
+    Artifact {
+        versions: Versions,
+        updated: Option<Stamp>,
+    },
     /// The files of a snapshot directory: its base version, the newest build, and per classifier and extension the
     /// newest one.
-    Snapshot(Text, Option<Build>, Entries),
+    Snapshot {
+        base: Text,
+        newest: Option<Build>,
+        entries: Entries,
+    },
 }

@@ -5,6 +5,7 @@ ghost use Rattle.mvn_metadata.specs.Document.{blank, dotted, of_kind, settled};
 
 use crate::{Doc, Entries, Listing, NoMemory, Versions};
 use mvn_coords::Dir;
+use mvn_coords::laws::directory_is_ruled;
 use std::alloc::Global;
 use texts::{Bytes, Text};
 
@@ -17,8 +18,7 @@ pub fn settle(alloc: Global, doc: Doc, dir: &Dir<'_>) -> Result<Doc, NoMemory>
     let listing = of_kind(alloc, dir.version(), doc.into_listing())?;
     let group = dotted(alloc, dir.group())?;
     let artifact = Text::new(alloc, dir.artifact())?;
-    // A path says of its directory that it is one.
-    let _path = dir.path();
+    directory_is_ruled(dir);
     Ok(Doc::new(group, Some(artifact), listing))
 }
 
@@ -26,7 +26,10 @@ pub fn settle(alloc: Global, doc: Doc, dir: &Dir<'_>) -> Result<Doc, NoMemory>
 pub fn empty(alloc: Global, dir: &Dir<'_>) -> Result<Doc, NoMemory>
     ensures { IfOk result (λ d. d ≡ settled blank dir.now) }
 {
-    let listing = Listing::Artifact(Versions::new(alloc), None);
+    let listing = Listing::Artifact {
+        versions: Versions::new(alloc),
+        updated: None,
+    };
     settle(alloc, Doc::new(None, None, listing), dir)
 }
 
@@ -54,20 +57,33 @@ fn with_dots(alloc: Global, group: &[u8]) -> Result<Vec<u8>, NoMemory>
 fn of_kind(alloc: Global, version: Option<&str>, listing: Listing) -> Result<Listing, NoMemory>
     ensures { IfOk result (λ l. l ≡ of_kind (option_copied version.entry) listing) }
 {
-    match version {
-        None => match listing {
-            Listing::Artifact(versions, updated) => Ok(Listing::Artifact(versions, updated)),
-            Listing::Snapshot(_, _, _) => Ok(Listing::Artifact(Versions::new(alloc), None)),
-        },
-        Some(version) => {
-            let base = Text::new(alloc, version)?;
-            match listing {
-                Listing::Artifact(_, _) => Ok(Listing::Snapshot(base, None, Entries::new(alloc))),
-                Listing::Snapshot(_, newest, mut entries) => {
-                    entries.keep_of(version);
-                    Ok(Listing::Snapshot(base, newest, entries))
-                }
-            }
+    let Some(version) = version else {
+        return Ok(match listing {
+            Listing::Snapshot { .. } => Listing::Artifact {
+                versions: Versions::new(alloc),
+                updated: None,
+            },
+            listing => listing,
+        });
+    };
+    let base = Text::new(alloc, version)?;
+    match listing {
+        Listing::Artifact { .. } => Ok(Listing::Snapshot {
+            base,
+            newest: None,
+            entries: Entries::new(alloc),
+        }),
+        Listing::Snapshot {
+            newest,
+            mut entries,
+            ..
+        } => {
+            entries.keep_of(version);
+            Ok(Listing::Snapshot {
+                base,
+                newest,
+                entries,
+            })
         }
     }
 }

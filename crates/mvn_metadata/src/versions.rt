@@ -51,7 +51,7 @@ impl Versions {
         ensures { OnOk result (self.new ≡ with_versions self.old versions.now) }
     {
         for version in versions.set.iter() {
-            self.add(Version::parse(alloc, version.as_str())?)?;
+            self.add(version.copied(alloc)?)?;
         }
         Ok(())
     }
@@ -74,25 +74,22 @@ impl Versions {
     pub fn latest(&self) -> Option<&str>
         ensures { option_copied result ≡ latest self.now }
     {
-        let mut last = None;
-        for version in self.set.iter() {
-            last = Some(version.as_str());
-        }
-        last
+        let version = self.set.iter().next_back()?;
+        Some(version.as_str())
     }
 
     /// The last version that does not end in `-SNAPSHOT`.
     pub fn release(&self) -> Option<&str>
         ensures { option_copied result ≡ release self.now }
     {
-        let mut last = None;
-        for version in self.set.iter() {
+        let mut versions = self.set.iter();
+        'back: while let Some(version) = versions.next_back() {
             let text = version.as_str();
             if !is_snapshot(text) {
-                last = Some(text);
+                return Some(text);
             }
         }
-        last
+        None
     }
 }
 

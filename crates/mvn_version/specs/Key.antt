@@ -2,6 +2,7 @@
 use Rattle.std.specs.Prelude.{ℕ, Bool, true, false, ◌&&◌, ◌||◌, not, ◌==◌, List, [], ◌∷◌, map, filter, length, if◌then◌else◌, bytes_eq, codes}
 use Rattle.std.specs.Char.{is_ascii_digit}
 use Rattle.std.specs.List.{list_all}
+use Rattle.byte_cuts.specs.Cuts.{significant}
 use Rattle.mvn_version.specs.declared.token.Mark.{Mark}
 use Rattle.mvn_version.specs.declared.token.Mark.TheVariants.{Dot, Dash, Seam}
 use Rattle.mvn_version.specs.Token.{Token, folded, is_dot, is_seam, tokens}
@@ -67,11 +68,6 @@ abbrev pub number_rank : Mark → ℕ
 number_rank Dot = 10
 number_rank Dash = 9
 number_rank Seam = 9
-
--- the digits of a number without leading zeros
-abbrev pub significant : List ℕ → List ℕ
-significant [] = []
-significant (d ∷ ds) = if d == 48 then significant ds else d ∷ ds
 
 -- An element is a list: its rank, and then what tells elements of one rank apart, for a number the count of its digits
 -- and the digits, for a word 0 and the bytes. The named words of one rank are alike.

@@ -1,12 +1,14 @@
 //! The elements of a key.
 
-ghost use Rattle.std.specs.Prelude.{◌≡◌, IfOk, bytes_eq, map, reverse};
+ghost use Rattle.std.specs.Prelude.{◌≡◌, IfOk, map, reverse};
+ghost use Rattle.byte_cuts.specs.Cuts.{significant};
 ghost use Rattle.mvn_version.specs.Element.{rank_number, shown};
-ghost use Rattle.mvn_version.specs.Key.{element, elements, full_word, is_number, is_release, is_zero, number, significant, word, word_rank};
+ghost use Rattle.mvn_version.specs.Key.{element, elements, full_word, is_number, is_release, is_zero, number, word, word_rank};
 ghost use Rattle.mvn_version.specs.Order.{end_mark, ended};
 ghost use Rattle.mvn_version.specs.Token.{shown as shown_token};
 
 use crate::token::{Mark, Token};
+use byte_cuts::bytes::{is, significant};
 use std::alloc::{AllocError, Global};
 
 /// The kinds of a key's elements, in rising order.
@@ -34,6 +36,30 @@ pub struct Element {
     pub text: Vec<u8>,
 }
 
+impl Element {
+    /// Another copy of the element.
+    fn copied(&self, alloc: Global) -> Result<Element, AllocError>
+        ensures { IfOk result (λ e. shown e ≡ shown self.now) }
+    {
+        Ok(Element {
+            rank: self.rank,
+            digits: self.digits,
+            text: Vec::from_slice(alloc, &self.text)?,
+        })
+    }
+}
+
+/// Another copy of elements.
+pub fn copied(alloc: Global, elements: &[Element]) -> Result<Vec<Element>, AllocError>
+    ensures { IfOk result (λ v. map shown v.items ≡ map shown elements.now) }
+{
+    let mut copies = Vec::with_capacity(alloc, elements.len())?;
+    for element in elements {
+        copies.push(element.copied(alloc)?)?;
+    }
+    Ok(copies)
+}
+
 fn is_number(text: &[u8]) -> bool
     ensures { result ≡ is_number text.now }
 {
@@ -44,12 +70,6 @@ fn is_zero(text: &[u8]) -> bool
     ensures { result ≡ is_zero text.now }
 {
     text.iter().all(|c| *c == b'0')
-}
-
-fn is(text: &[u8], word: &[u8]) -> bool
-    ensures { result ≡ bytes_eq text.now word.now }
-{
-    text == word
 }
 
 fn is_release(word: &[u8]) -> bool
@@ -89,15 +109,6 @@ fn word_rank(word: &[u8]) -> Rank
     } else {
         Rank::Word
     }
-}
-
-fn significant(mut digits: &[u8]) -> &[u8]
-    ensures { result.now ≡ significant digits.entry.now }
-{
-    while let [b'0', rest @ ..] = digits {
-        digits = rest;
-    }
-    digits
 }
 
 // The element that stands where a key has ended.

@@ -8,7 +8,7 @@ ghost use Rattle.std.specs.Ordering.{as_partial_cmp};
 ghost use Rattle.mvn_version.specs.Laws.{bytes_eq_ties, list_cmp_total};
 ghost use Rattle.mvn_version.specs.Order.{list_cmp, version_cmp};
 
-use crate::element::{Element, elements};
+use crate::element::{Element, copied, elements};
 use crate::token::{folded, tokens};
 use std::alloc::{AllocError, Global};
 use std::cmp::Ordering;
@@ -46,6 +46,15 @@ impl Version {
         let tokens = tokens(alloc, &folded)?;
         let elements = elements(alloc, &tokens)?;
         let text = String::from_str(alloc, text)?;
+        Ok(Version { text, elements })
+    }
+
+    /// Another copy of the version, whose text is not parsed anew.
+    pub fn copied(&self, alloc: Global) -> Result<Version, NoMemory>
+        ensures { IfOk result (λ v. v ≡ self.now) }
+    {
+        let elements = copied(alloc, &self.elements)?;
+        let text = String::from_str(alloc, self.text.as_str())?;
         Ok(Version { text, elements })
     }
 

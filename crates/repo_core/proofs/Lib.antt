@@ -1,7 +1,6 @@
 mod HostedLemmas
 mod ListLemmas
-mod LookLemmas
 mod NumberLemmas
-mod PutLemmas
+mod PutReplies
 mod RowLemmas
-mod TurnLemmas
+mod Turning

@@ -1,6 +1,7 @@
 -- Lists of numbers: what is left once one is taken out.
 use Rattle.std.proofs.Common.{◌≡◌, ℕ, ◌+◌, ◌≤◌, ◌==◌, Bool, true, false, not, ◌||◌, cond, List, [], ◌∷◌, length, IsTrue, refl, arith}
-use Rattle.repo_model.specs.State.{without_number, is_among}
+use Rattle.repo_model.specs.State.{is_among}
+use Rattle.repo_model.specs.Effect.{without_number}
 
 length-cond : (b : Bool) (m : ℕ) (kept ms : List ℕ) → length kept ≤ length ms → length (cond b (m ∷ kept) kept) ≤ length (m ∷ ms)
 length-cond true m kept ms h = omega arith

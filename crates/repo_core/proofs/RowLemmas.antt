@@ -1,35 +1,46 @@
 -- Rows in byte order of path: where a new one stands.
-use Rattle.std.proofs.Common.{◌≡◌, ℕ, ◌+◌, ◌<◌, Bool, true, false, if◌then◌else◌, List, [], ◌∷◌, ◌++◌, map, take, drop, get_or, set, insert, length, refl, ap, append_assoc, ◌∙◌, arith, ◌≤◌, is_ge, Ordering}
+use Rattle.std.proofs.Common.{◌≡◌, ℕ, ◌+◌, ◌<◌, Bool, true, false, if◌then◌else◌, List, [], ◌∷◌, ◌++◌, map, take, drop, get_or, set, insert, length, refl, sym, ap, append_assoc, ◌∙◌, arith, ◌≤◌, is_ge, Ordering}
 use Rattle.std.specs.Str.{bytes_eq}
-use Rattle.std.specs.Ordering.{nat_cmp, match_ordering}
+use Rattle.std.specs.Ordering.{nat_cmp, match_ordering, ordering_reverse, is_le}
 use Rattle.std.specs.declared.cmp.Ordering.TheVariants.{Less, Equal, Greater}
-use Rattle.std.specs.Cmp.Lexicographic.{slice_cmp}
+use Rattle.std.specs.Cmp.Lexicographic.{slice_cmp, nat_list_cmp_total}
 use Rattle.std.proofs.lemmas.List.{drop_more, take_more, take-map, drop-map, map-append, append-nil, take_all, drop_all, get_or_default}
 use Rattle.std.proofs.lemmas.List.Edits.{map_over_more}
 use Rattle.outside.specs.declared.stores.Held.{Ghosts}
 use Rattle.repo_model.specs.Data as plain
-use Rattle.repo_model.specs.State.{with_row, list_again, relisted}
+use Rattle.repo_model.specs.State.{change_where, is_row}
+use Rattle.repo_model.specs.Effect.{with_row, list_again}
 use Rattle.repo_core.specs.declared.rows.Row.{Row}
 use Rattle.repo_core.specs.declared.rows.Phase.TheVariants.{Listed}
 use Rattle.repo_core.specs.Rows.{shown_row, shown_rows}
 
-match_ordering-ge : {X : Type 0} (o : Ordering) (below here : X) → true ≡ is_ge o → match_ordering o below here here ≡ here
-match_ordering-ge Less below here h = cc
-match_ordering-ge Equal below here h = refl
-match_ordering-ge Greater below here h = refl
+-- a row's path that is not below the new one's: the new row stands in front
+match_ordering-le : (o : Ordering) (new row : plain.Row) (rows : List plain.Row) → true ≡ is_le o → match_ordering o (new ∷ row ∷ rows) (new ∷ row ∷ rows) (row ∷ with_row new rows) ≡ new ∷ row ∷ rows
+match_ordering-le Less new row rows h = refl
+match_ordering-le Equal new row rows h = refl
+match_ordering-le Greater new row rows h = cc
+
+turned-ge : (a b : List ℕ) → true ≡ is_ge (slice_cmp nat_cmp a b) → true ≡ is_le (slice_cmp nat_cmp b a)
+turned-ge a b h = h ∙ ge-le (slice_cmp nat_cmp a b) ∙ sym (ap is_le (nat_list_cmp_total.antisymm b a)) where
+  ge-le : (o : Ordering) → is_ge o ≡ is_le (ordering_reverse o)
+  ge-le Less = refl
+  ge-le Equal = refl
+  ge-le Greater = refl
+
+turned-below : (a b : List ℕ) → false ≡ is_ge (slice_cmp nat_cmp a b) → slice_cmp nat_cmp b a ≡ Greater
+turned-below a b h = nat_list_cmp_total.antisymm b a ∙ below (slice_cmp nat_cmp a b) h where
+  below : (o : Ordering) → false ≡ is_ge o → ordering_reverse o ≡ Greater
+  below Less h = refl
+  below Equal h = cc
+  below Greater h = cc
 
 -- before a row that is not below it
 with_row-ge : (new row : plain.Row) (rows : List plain.Row) → true ≡ is_ge (slice_cmp nat_cmp row.path new.path) → with_row new (row ∷ rows) ≡ new ∷ row ∷ rows
-with_row-ge new row rows h = match_ordering-ge (slice_cmp nat_cmp row.path new.path) (row ∷ with_row new rows) (new ∷ row ∷ rows) h
-
-match_ordering-below : {X : Type 0} (o : Ordering) (below here : X) → false ≡ is_ge o → match_ordering o below here here ≡ below
-match_ordering-below Less below here h = refl
-match_ordering-below Equal below here h = cc
-match_ordering-below Greater below here h = cc
+with_row-ge new row rows h = match_ordering-le (slice_cmp nat_cmp new.path row.path) new row rows (turned-ge row.path new.path h)
 
 -- after a row that is below it
 with_row-below : (new row : plain.Row) (rows : List plain.Row) → false ≡ is_ge (slice_cmp nat_cmp row.path new.path) → with_row new (row ∷ rows) ≡ row ∷ with_row new rows
-with_row-below new row rows h = match_ordering-below (slice_cmp nat_cmp row.path new.path) (row ∷ with_row new rows) (new ∷ row ∷ rows) h
+with_row-below new row rows h = ap (λ o. match_ordering o (new ∷ row ∷ rows) (new ∷ row ∷ rows) (row ∷ with_row new rows)) (turned-below row.path new.path h)
 
 -- the place that was found, the rows before it being below
 pub insert-place : {X : Type 0} {G : Ghosts X} (rows : List (Row X G)) (i : ℕ) (d : Row X G) (new : plain.Row) → i < length rows → true ≡ is_ge (slice_cmp nat_cmp (get_or rows i d).path new.path) → shown_rows (take i rows) ++ with_row new (shown_rows (drop i rows)) ≡ with_row new (shown_rows rows) → insert (shown_rows rows) i new ≡ with_row new (shown_rows rows)
@@ -65,7 +76,7 @@ shown_row-cond : {X : Type 0} {G : Ghosts X} (b : Bool) (moment : ℕ) (row : Ro
 shown_row-cond true moment row = refl
 shown_row-cond false moment row = refl
 
-pub shown_rows-again : {X : Type 0} {G : Ghosts X} (path : List ℕ) (moment : ℕ) (rows : List (Row X G)) → shown_rows (map (again path moment) rows) ≡ relisted path moment (shown_rows rows)
+pub shown_rows-again : {X : Type 0} {G : Ghosts X} (path : List ℕ) (moment : ℕ) (rows : List (Row X G)) → shown_rows (map (again path moment) rows) ≡ change_where (is_row path) (list_again moment) (shown_rows rows)
 shown_rows-again path moment [] = refl
 shown_rows-again path moment (row ∷ rows) =
     ap (λ r. r ∷ shown_rows (map (again path moment) rows)) (shown_row-cond (bytes_eq row.path path) moment row)
@@ -88,7 +99,7 @@ pub again-kept : {X : Type 0} {G : Ghosts X} (path : List ℕ) (moment : ℕ) (x
 again-kept path moment xs ys zs i d h same front test change = again-more path moment xs ys zs i d false h same front test change
 
 -- all rows were looked at
-pub again-all : {X : Type 0} {G : Ghosts X} (path : List ℕ) (moment : ℕ) (xs ys : List (Row X G)) (i : ℕ) → length xs ≤ i → ys ≡ map (again path moment) (take i xs) ++ drop i xs → shown_rows ys ≡ relisted path moment (shown_rows xs)
+pub again-all : {X : Type 0} {G : Ghosts X} (path : List ℕ) (moment : ℕ) (xs ys : List (Row X G)) (i : ℕ) → length xs ≤ i → ys ≡ map (again path moment) (take i xs) ++ drop i xs → shown_rows ys ≡ change_where (is_row path) (list_again moment) (shown_rows xs)
 again-all path moment xs ys i h front =
     let all : map (again path moment) (take i xs) ++ drop i xs ≡ map (again path moment) xs = rw (take_all i xs h, drop_all i xs h, append-nil (map (again path moment) xs)) in
     ap shown_rows (front ∙ all) ∙ shown_rows-again path moment xs

@@ -1,7 +1,6 @@
-pub mod Hosted
-pub mod Kinds
-pub mod Numbers
 pub mod Rows
-pub mod Shown
+pub mod Hosted
+pub mod Numbers
 pub mod Turn
 pub mod Whole
+pub mod CoreTurn

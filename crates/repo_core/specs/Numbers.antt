@@ -1,7 +1,7 @@
 -- The blob numbers of the program as the machine's plain data.
 use Rattle.std.specs.Prelude.{◌+◌, ◌≤◌, map, vec_len, vec_capacity}
-use Rattle.repo_model.specs.Command.{number_end}
 use Rattle.repo_model.specs.State as state
+use Rattle.repo_model.specs.State.{number_end}
 use Rattle.repo_core.specs.declared.yard.Lease.{Lease}
 use Rattle.repo_core.specs.declared.yard.Yard.TheInside.{Inside}
 
@@ -15,6 +15,7 @@ shown_yard yard = record {
   condemned = yard.condemned.items;
   next_draft = yard.next_draft;
   next_lease = yard.next_lease;
+  next_session = 1;
 }
 
 -- each draft has its place among the garbage, and the next numbers stay in range

@@ -1,11 +1,12 @@
 -- Rows as the machine's plain data, and what putting a blob does to them.
-use Rattle.std.specs.Prelude.{◌≡◌, ◌⊎◌, ℕ, List, map}
+use Rattle.std.specs.Prelude.{ℕ, List, [], map, Option}
 use Rattle.outside.specs.declared.stores.Held.{Ghosts}
 use Rattle.repo_model.specs.Data as plain
-use Rattle.repo_model.specs.State.{Yard, with_row, leased, kept_draft, condemned_draft, relisted as listed_again}
+use Rattle.repo_model.specs.State.{Yard, change_where, is_row}
+use Rattle.repo_model.specs.Effect.{with_row, new_row, list_again, without_draft, yard_after, lends, drops}
 use Rattle.repo_model.specs.Reply.{Reply, file, created, relisted, same, taken, no_memory}
-use Rattle.repo_model.specs.Step.{new_row}
-use Rattle.repo_core.specs.Shown.{shown_parcel}
+use Rattle.repo_model.specs.Shown.{shown_parcel}
+use Rattle.repo_model.specs.Turn.{put_at}
 use Rattle.repo_core.specs.declared.rows.Phase.{Phase}
 use Rattle.repo_core.specs.declared.rows.Phase.TheVariants.{Listed, Fading}
 use Rattle.repo_core.specs.declared.rows.PutOutcome.{PutOutcome}
@@ -35,23 +36,23 @@ shown_outcome Relisted = relisted
 shown_outcome (Taken kept sent) = taken kept sent
 shown_outcome NoMemory = no_memory
 
--- the reply that is due, or want of memory
-abbrev pub IsReply : Reply → Reply → Type 0
-IsReply due reply = (reply ≡ due) ⊎ (reply ≡ no_memory)
+-- the reply that is due to a put where that is the row at its path; it depends on nothing else
+abbrev pub put_due : plain.Blob → Option plain.Row → Reply
+put_due blob found = (put_at [] [] 0 blob 0 found).reply
 
 -- the rows once a blob was put at a path and that was the reply
-abbrev pub rows_after : List ℕ → plain.Blob → ℕ → Reply → List plain.Row → List plain.Row
-rows_after path blob moment created rows = with_row (new_row path blob moment) rows
-rows_after path blob moment relisted rows = listed_again path moment rows
-rows_after path blob moment _ rows = rows
+abbrev pub rows_put : List ℕ → plain.Blob → ℕ → Reply → List plain.Row → List plain.Row
+rows_put path blob moment created rows = with_row (new_row path blob moment) rows
+rows_put path blob moment relisted rows = change_where (is_row path) (list_again moment) rows
+rows_put path blob moment _ rows = rows
 
 -- the numbers of blobs once a file was looked at and that was the reply
-abbrev pub lent : Reply → Yard → Yard
-lent (file lease blob) yard = leased blob.number yard
-lent _ yard = yard
+abbrev pub yard_looked : Reply → Yard → Yard
+yard_looked (file lease blob) yard = yard_after (lends blob.number) yard
+yard_looked _ yard = yard
 
 -- the numbers of blobs once a put was over: its draft is a row's blob, or garbage, or still a draft
-abbrev pub settled : ℕ → PutOutcome → Yard → Yard
-settled draft Created yard = kept_draft draft yard
-settled draft NoMemory yard = yard
-settled draft _ yard = condemned_draft draft yard
+abbrev pub yard_put : ℕ → PutOutcome → Yard → Yard
+yard_put draft Created yard = without_draft draft yard
+yard_put draft NoMemory yard = yard
+yard_put draft _ yard = yard_after (drops draft) yard

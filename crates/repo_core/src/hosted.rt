@@ -1,17 +1,18 @@
 //! The hosted repositories: which kinds of files they take, and their rows.
-ghost use Rattle.std.specs.Prelude.{◌≡◌, ◌<◌, [], true, length, map, slice_index_or, slice_set, IsSome, IfOk};
-ghost use Rattle.std.specs.Option.{option_map, option_map_or};
-ghost use Rattle.repo_model.specs.Step.{put_reply};
-ghost use Rattle.repo_model.specs.Command.{policy_of, both};
-ghost use Rattle.repo_model.specs.State.{row_at, rows_of, with_rows, empty_hosted};
-ghost use Rattle.repo_model.specs.File.{file_kind, is_taken};
-ghost use Rattle.repo_core.specs.Kinds.{shown_kind};
-ghost use Rattle.repo_core.specs.Hosted.{shown_policies, shown_repos};
-ghost use Rattle.repo_core.specs.Rows.{shown_row, shown_rows, shown_outcome, IsReply, rows_after};
-ghost use Rattle.repo_core.specs.Shown.{shown_policy, shown_print, shown_parcel};
+ghost use Rattle.std.specs.Prelude.{◌≡◌, ◌&&◌, ◌<◌, length, map, find, is_some, bytes_eq, slice_index_or, slice_set, IsTrue, IfOk};
+ghost use Rattle.std.specs.Option.{option_map};
+ghost use Rattle.std.specs.List.{list_any};
+ghost use Rattle.repo_model.specs.Command.{is_file_path, is_fit};
+ghost use Rattle.repo_model.specs.Paths.{file_at, takes};
+ghost use Rattle.repo_model.specs.State.{row_at, is_repository, new_hosted};
+ghost use Rattle.repo_model.specs.Shown.{shown_parcel};
+ghost use Rattle.repo_core.specs.Whole.{shown_policy};
+ghost use Rattle.repo_core.specs.Hosted.{shown_policies, shown_repo, shown_repos, rows_in, with_rows};
+ghost use Rattle.repo_core.specs.Rows.{shown_row, shown_rows, shown_outcome, put_due, rows_put};
+ghost use Rattle.repo_core.specs.Turn.{IsDueOr};
 
-use crate::kinds::{FileKind, kind_of_file};
 use crate::rows::{self, PutOutcome, Row};
+use mvn_coords::{Kind, kind_of};
 use outside::{Held, NoMemory, Parcel};
 use std::alloc::Global;
 use texts::Text;
@@ -31,14 +32,25 @@ pub struct Repo<H: Held> {
     pub rows: Vec<Row<H>>,
 }
 
+// Whether the file that a path names is a unique snapshot's; none where it names no file (Maven 2 repository layout).
+fn is_snapshot_at(path: &str) -> Option<bool>
+    ensures { result ≡ option_map (λ c. is_some c.build) (file_at path.now) }
+{
+    let Ok(Kind::File(file)) = kind_of(path) else {
+        return None;
+    };
+    Some(file.is_snapshot())
+}
+
 impl Policy {
-    /// Whether files of the kind are taken.
-    fn takes(&self, kind: FileKind) -> bool
-        ensures { result ≡ is_taken (shown_policy self.now) (shown_kind kind) }
+    /// Whether the file of the path is taken.
+    fn takes(&self, path: &str) -> bool
+        ensures { result ≡ takes (shown_policy self.now) path.now }
     {
-        match kind {
-            FileKind::Release => self.releases,
-            FileKind::Snapshot => self.snapshots,
+        match is_snapshot_at(path) {
+            Some(true) => self.snapshots,
+            Some(false) => self.releases,
+            None => false,
         }
     }
 
@@ -57,7 +69,7 @@ impl Policy {
 /// The hosted repositories without rows.
 pub fn empty_repos<H: Held>(alloc: Global, hosted: &[Policy]) -> Result<Vec<Repo<H>>, NoMemory>
     ensures policies { IfOk result (λ repos. shown_policies repos.items ≡ map shown_policy hosted.now) }
-    ensures rows { IfOk result (λ repos. shown_repos repos.items ≡ map empty_hosted (map shown_policy hosted.now)) }
+    ensures rows { IfOk result (λ repos. shown_repos repos.items ≡ map new_hosted (map shown_policy hosted.now)) }
 {
     let mut repos = Vec::new(alloc);
     for policy in hosted {
@@ -71,17 +83,17 @@ pub fn empty_repos<H: Held>(alloc: Global, hosted: &[Policy]) -> Result<Vec<Repo
 
 // The repository of an id.
 fn repo_at<'a, H: Held>(repos: &'a [Repo<H>], id: &str) -> Option<&'a Repo<H>>
-    ensures policy { option_map (λ repo. shown_policy repo.now.policy) result ≡ policy_of id.now (shown_policies repos.now) }
-    ensures rows { option_map_or (λ repo. shown_rows repo.now.rows.items) result [] ≡ rows_of id.now (shown_repos repos.now) }
+    ensures policy { option_map (λ repo. shown_policy repo.now.policy) result ≡ find (λ rule. bytes_eq rule.id id.now) (shown_policies repos.now) }
+    ensures repo { option_map (λ repo. shown_repo repo.now) result ≡ find (is_repository id.now) (shown_repos repos.now) }
 {
     repos.iter().find(|repo| repo.policy.id.as_str() == id)
 }
 
 // The place of the repository of an id, which is there.
 fn place_of<H: Held>(repos: &[Repo<H>], id: &str) -> usize
-    requires { IsSome (policy_of id.now (shown_policies repos.now)) }
+    requires { IsTrue (list_any (is_repository id.now) (shown_repos repos.now)) }
     ensures bound { result < length repos.now }
-    ensures rows { (repo : _) → shown_rows (slice_index_or repos.now result repo).rows.items ≡ rows_of id.now (shown_repos repos.now) }
+    ensures rows { (repo : _) → shown_rows (slice_index_or repos.now result repo).rows.items ≡ rows_in id.now (shown_repos repos.now) }
     ensures change { (repo : _) → repo.policy ≡ (slice_index_or repos.now result repo).policy
         → shown_repos (slice_set repos.now result repo) ≡ with_rows id.now (shown_rows repo.rows.items) (shown_repos repos.now) }
     ensures policies { (repo : _) → repo.policy ≡ (slice_index_or repos.now result repo).policy
@@ -97,7 +109,7 @@ fn place_of<H: Held>(repos: &[Repo<H>], id: &str) -> usize
 
 /// The row at a path of the repository of an id.
 pub fn row_of<'a, H: Held>(repos: &'a [Repo<H>], id: &str, path: &str) -> Option<&'a Row<H>>
-    ensures { option_map (λ row. shown_row row.now) result ≡ row_at path.now (rows_of id.now (shown_repos repos.now)) }
+    ensures { option_map (λ row. shown_row row.now) result ≡ row_at path.now (rows_in id.now (shown_repos repos.now)) }
 {
     let repo = repo_at(repos, id)?;
     rows::row_at(&repo.rows, path)
@@ -111,10 +123,10 @@ pub fn put<H: Held>(
     parcel: Parcel<H>,
     moment: u64,
 ) -> PutOutcome
-    requires { IsSome (policy_of id.now (shown_policies repos.old.items)) }
-    ensures reply { IsReply (put_reply (shown_print parcel) (row_at path (rows_of id.now (shown_repos repos.old.items)))) (shown_outcome result) }
+    requires { IsTrue (list_any (is_repository id.now) (shown_repos repos.old.items)) }
+    ensures reply { IsDueOr (put_due (shown_parcel parcel) (row_at path (rows_in id.now (shown_repos repos.old.items)))) (shown_outcome result) }
     ensures rows { shown_repos repos.new.items ≡ with_rows id.now
-        (rows_after path (shown_parcel parcel) moment (shown_outcome result) (rows_of id.now (shown_repos repos.old.items))) (shown_repos repos.old.items) }
+        (rows_put path (shown_parcel parcel) moment (shown_outcome result) (rows_in id.now (shown_repos repos.old.items))) (shown_repos repos.old.items) }
     ensures policies { shown_policies repos.new.items ≡ shown_policies repos.old.items }
 {
     let place = place_of(repos, id);
@@ -123,17 +135,18 @@ pub fn put<H: Held>(
 
 /// Whether the repository of an id is there, and the path names a file.
 pub fn knows<H: Held>(repos: &[Repo<H>], id: &str, path: &str) -> bool
-    ensures { result ≡ both (policy_of id.now (shown_policies repos.now)) (file_kind path.now) (λ policy kind. true) }
+    ensures { result ≡ (is_some (find (λ rule. bytes_eq rule.id id.now) (shown_policies repos.now)) && is_file_path path.now) }
 {
-    repo_at(repos, id).is_some() && kind_of_file(path).is_some()
+    repo_at(repos, id).is_some() && is_snapshot_at(path).is_some()
 }
 
-/// Whether the repository of an id is there and takes files of the path's kind.
+/// Whether the repository of an id is there and takes the file of the path.
 pub fn takes<H: Held>(repos: &[Repo<H>], id: &str, path: &str) -> bool
-    ensures { result ≡ both (policy_of id.now (shown_policies repos.now)) (file_kind path.now) is_taken }
+    ensures rule { result ≡ is_fit (λ rule. takes rule path.now) (find (λ rule. bytes_eq rule.id id.now) (shown_policies repos.now)) }
+    ensures repo { result ≡ is_fit (λ h. takes h.rule path.now) (find (is_repository id.now) (shown_repos repos.now)) }
 {
-    match (repo_at(repos, id), kind_of_file(path)) {
-        (Some(repo), Some(kind)) => repo.policy.takes(kind),
-        _ => false,
+    match repo_at(repos, id) {
+        Some(repo) => repo.policy.takes(path),
+        None => false,
     }
 }

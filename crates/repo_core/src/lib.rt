@@ -1,16 +1,14 @@
 //! The repository itself, for one thread: one call is one turn of the machine that `repo_model` defines.
 #![tactic(auto)]
 
-mod command;
+mod asking;
 mod hosted;
-mod kinds;
 mod machine;
-mod reply;
+mod repository;
 mod rows;
 mod turn;
 mod yard;
 
-pub use command::Command;
 pub use hosted::Policy;
-pub use machine::Core;
-pub use reply::Reply;
+pub use repo_model::{Command, Reply};
+pub use repository::Core;

@@ -1,25 +1,24 @@
-//! The repository: each call is one turn.
-ghost use Rattle.std.specs.Prelude.{◌≡◌, Some, IsTrue};
+//! The parts of the repository, and one turn of them.
+ghost use Rattle.std.specs.Prelude.{◌≡◌, IsTrue};
 ghost use Rattle.repo_model.specs.State.{is_among};
-ghost use Rattle.repo_model.specs.Step.{look_reply};
-ghost use Rattle.repo_core.specs.Rows.{shown_row, shown_outcome, IsReply, lent, settled};
-ghost use Rattle.repo_core.specs.Shown.{shown_reply};
+ghost use Rattle.repo_model.specs.Shown.{shown_reply};
+ghost use Rattle.repo_model.specs.Turn.{shows, is_file};
+ghost use Rattle.repo_core.specs.Rows.{shown_row, shown_outcome, yard_looked, yard_put};
+ghost use Rattle.repo_core.specs.Turn.{IsDueOr};
 
-use crate::command::Command;
 use crate::hosted::{self, Policy, Repo, empty_repos, knows, row_of, takes};
-use crate::reply::Reply;
 use crate::rows::{PutOutcome, Row};
 use crate::turn::next_moment;
 use crate::yard::Yard;
 use outside::{Clock, Held, NoMemory, Parcel};
-use repo_model::NUMBER_END;
+use repo_model::{Command, NUMBER_END, Reply};
 use std::alloc::Global;
 use std::marker::Model;
 use texts::Text;
 
-/// The repository: hosted repositories with their rows, the blob numbers, a clock, and how many calls there were.
+/// Hosted repositories with their rows, the blob numbers, a clock, and how many calls there were.
 #[derive(Drop)]
-pub struct Core<C: Clock, H: Held> {
+pub struct Machine<C: Clock, H: Held> {
     repos: Vec<Repo<H>>,
     max_file: u64,
     yard: Yard,
@@ -28,22 +27,25 @@ pub struct Core<C: Clock, H: Held> {
     calls: u64,
 }
 
-impl<C: Clock, H: Held> Model for Core<C, H> {
+impl<C: Clock, H: Held> Model for Machine<C, H> {
     ghost use Rattle.std.specs.Prelude.{◌≤◌};
-    ghost use Rattle.repo_model.specs.Step.{latest_moment};
-    ghost use Rattle.repo_core.specs.Whole.{Whole};
+    ghost use Rattle.std.specs.Prelude.{[]};
+    ghost use Rattle.repo_model.specs.History.{latest_moment};
+    ghost use Rattle.repo_core.specs.Whole.{Whole, plain_settings};
 
     ghost Value = { Whole };
 
     ghost use Rattle.repo_core.specs.Hosted.{shown_policies, shown_repos};
 
     ghost view = { λ c. record {
-      settings = record { hosted = shown_policies c.repos.items; max_file = c.max_file };
+      settings = plain_settings (shown_policies c.repos.items) c.max_file;
       state = record {
         hosted = shown_repos c.repos.items;
+        sessions = [];
         yard = c.yard;
         last = c.last;
         clock = C.moments c.clock;
+        faults = 0;
       };
       calls = c.calls;
     } };
@@ -51,13 +53,15 @@ impl<C: Clock, H: Held> Model for Core<C, H> {
     ghost invariant = { λ c. c.last ≤ latest_moment };
 }
 
-impl<C: Clock, H: Held> Core<C, H> {
-    ghost use Rattle.std.specs.Prelude.{◌≡◌, ◌+◌, min, map, IfOk, IfErr, IsTrue};
+impl<C: Clock, H: Held> Machine<C, H> {
+    ghost use Rattle.std.specs.Prelude.{◌≡◌, ◌+◌, min, map, [], IfOk, IfErr, IsTrue};
     ghost use Rattle.outside.specs.Faults.{last_count};
     ghost use Rattle.repo_model.specs.State.{opening};
-    ghost use Rattle.repo_model.specs.Command.{meets, look, may_put, put, drop_draft};
+    ghost use Rattle.repo_model.specs.Data.{repository};
+    ghost use Rattle.repo_model.specs.Command.{can_be_asked, look, may_put, put, drop_draft};
     ghost use Rattle.repo_model.specs.History.{Fits, after};
-    ghost use Rattle.repo_core.specs.Shown.{shown_policy, shown_parcel, shown_command, shown_reply, entry_of};
+    ghost use Rattle.repo_model.specs.Shown.{shown_parcel, shown_command, shown_reply, entry_of};
+    ghost use Rattle.repo_core.specs.Whole.{shown_policy, plain_settings};
     ghost use Rattle.repo_core.specs.Turn.{Turned};
 
     /// A repository without rows, of these hosted repositories. A file has at most `max_file` bytes.
@@ -68,14 +72,14 @@ impl<C: Clock, H: Held> Core<C, H> {
         hosted: &[Policy],
         max_file: u64,
         clock: C,
-    ) -> Result<Core<C, H>, (NoMemory, C)>
-        ensures settings { IfOk result (λ core. core.settings ≡ record { hosted = map shown_policy hosted.now; max_file = max_file }) }
+    ) -> Result<Machine<C, H>, (NoMemory, C)>
+        ensures settings { IfOk result (λ core. core.settings ≡ plain_settings (map shown_policy hosted.now) max_file) }
         ensures state { IfOk result (λ core. core.state ≡ opening core.settings (C.moments clock)) }
         ensures calls { IfOk result (λ core. core.calls ≡ 0) }
         ensures err { IfErr result (λ error. error.1 ≡ clock) }
     {
         match empty_repos(alloc, hosted) {
-            Ok(repos) => Ok(Core {
+            Ok(repos) => Ok(Machine {
                 repos,
                 max_file,
                 yard: Yard::new(alloc),
@@ -93,9 +97,9 @@ impl<C: Clock, H: Held> Core<C, H> {
     /// state, and leaves the state that the machine says. `Done` and `Drop` take no memory. Where memory is
     /// wanting, nothing changes but the moment.
     pub fn call(&mut self, command: Command<H>) -> Reply<H>
-        requires { IsTrue (meets self.old.settings (shown_command command)) }
-        ensures fits { Fits self.old.settings self.old.state (entry_of command self.new.state.last result) }
-        ensures after { self.new.state ≡ after self.old.state (entry_of command self.new.state.last result) }
+        requires { IsTrue (can_be_asked self.old.settings (shown_command command)) }
+        ensures fits { Fits self.old.settings self.old.state (entry_of command self.new.state.last result 0) }
+        ensures after { self.new.state ≡ after self.old.settings self.old.state (entry_of command self.new.state.last result 0) }
         ensures settings { self.new.settings ≡ self.old.settings }
         ensures calls { self.new.calls ≡ min (self.old.calls + 1) last_count }
     {
@@ -108,7 +112,7 @@ impl<C: Clock, H: Held> Core<C, H> {
     /// path that names a file, and the repository takes files of the path's kind where it is a `Put`, whose
     /// parcel has the draft's number and at most 2^63 - 1 bytes.
     pub fn fits(&self, command: &Command<H>) -> bool
-        ensures { result ≡ meets self.now.settings (shown_command command.now) }
+        ensures { result ≡ can_be_asked self.now.settings (shown_command command.now) }
     {
         match command {
             Command::Look { repo, path } | Command::MayPut { repo, path } => knows(
@@ -141,7 +145,7 @@ impl<C: Clock, H: Held> Core<C, H> {
     pub fn end(self) -> C
         ensures { C.moments result ≡ self.state.clock }
     {
-        let Core {
+        let Machine {
             repos: _,
             max_file: _,
             yard: _,
@@ -154,7 +158,7 @@ impl<C: Clock, H: Held> Core<C, H> {
 
     // The answer at the turn's moment.
     fn answer(&mut self, command: Command<H>) -> Reply<H>
-        requires { IsTrue (meets self.old.settings (shown_command command)) }
+        requires { IsTrue (can_be_asked self.old.settings (shown_command command)) }
         ensures { Turned self.old self.new (shown_command command) (shown_reply result) }
     {
         match command {
@@ -175,7 +179,8 @@ impl<C: Clock, H: Held> Core<C, H> {
     }
 
     fn look(&mut self, repo: &str, path: &str) -> Reply<H>
-        ensures { Turned self.old self.new (look repo.now path.now) (shown_reply result) }
+        requires { IsTrue (can_be_asked self.old.settings (look repo.now path.now [])) }
+        ensures { Turned self.old self.new (look repo.now path.now []) (shown_reply result) }
     {
         let Some(row) = row_of(&self.repos, repo, path) else {
             return Reply::Missed;
@@ -184,7 +189,7 @@ impl<C: Clock, H: Held> Core<C, H> {
     }
 
     fn may_put(&mut self, repo: &str, path: &str) -> Reply<H>
-        ensures { Turned self.old self.new (may_put repo.now path.now) (shown_reply result) }
+        ensures { Turned self.old self.new (may_put (repository repo.now) path.now) (shown_reply result) }
     {
         if !takes(&self.repos, repo, path) {
             return Reply::KindRefused;
@@ -199,7 +204,7 @@ impl<C: Clock, H: Held> Core<C, H> {
     }
 
     fn put(&mut self, repo: &str, path: Text, draft: u64, parcel: Parcel<H>) -> Reply<H>
-        requires { IsTrue (meets self.old.settings (put repo.now path draft (shown_parcel parcel))) }
+        requires { IsTrue (can_be_asked self.old.settings (put repo.now path draft (shown_parcel parcel))) }
         ensures { Turned self.old self.new (put repo.now path draft (shown_parcel parcel)) (shown_reply result) }
     {
         if !self.yard.is_draft(draft) {
@@ -222,8 +227,8 @@ impl<C: Clock, H: Held> Core<C, H> {
 
 // The answer where the file is there: its blob, lent.
 fn lend<H: Held>(yard: &mut Yard, row: &Row<H>) -> Reply<H>
-    ensures reply { IsReply (look_reply yard.old.next_lease (Some (shown_row row.now))) (shown_reply result) }
-    ensures yard { yard.new ≡ lent (shown_reply result) yard.old }
+    ensures reply { IsDueOr (shows yard.old.next_lease (is_file (shown_row row.now).blob)).reply (shown_reply result) }
+    ensures yard { yard.new ≡ yard_looked (shown_reply result) yard.old }
 {
     if yard.is_out_of_leases() {
         return Reply::Spent;
@@ -240,7 +245,7 @@ fn lend<H: Held>(yard: &mut Yard, row: &Row<H>) -> Reply<H>
 // A put is over: what becomes of its draft.
 fn settle(yard: &mut Yard, draft: u64, outcome: &PutOutcome)
     requires { IsTrue (is_among draft yard.old.drafts) }
-    ensures { yard.new ≡ settled draft outcome.now yard.old }
+    ensures { yard.new ≡ yard_put draft outcome.now yard.old }
 {
     match outcome {
         PutOutcome::Created => yard.keep(draft),

@@ -2,10 +2,11 @@
 ghost use Rattle.std.specs.Prelude.{◌≡◌, ◌≤◌, length, insert, OnOk, OnErr};
 ghost use Rattle.std.specs.Option.{option_map};
 ghost use Rattle.repo_model.specs.Data as plain;
-ghost use Rattle.repo_model.specs.State.{row_at, with_row, relisted};
-ghost use Rattle.repo_model.specs.Step.{put_reply};
-ghost use Rattle.repo_core.specs.Rows.{shown_row, shown_rows, shown_outcome, IsReply, rows_after};
-ghost use Rattle.repo_core.specs.Shown.{shown_print, shown_parcel};
+ghost use Rattle.repo_model.specs.State.{row_at, change_where, is_row};
+ghost use Rattle.repo_model.specs.Effect.{with_row, list_again};
+ghost use Rattle.repo_model.specs.Shown.{shown_print, shown_parcel};
+ghost use Rattle.repo_core.specs.Rows.{shown_row, shown_rows, shown_outcome, put_due, rows_put};
+ghost use Rattle.repo_core.specs.Turn.{IsDueOr};
 
 use outside::{Held, NoMemory, Parcel};
 use repo_model::Print;
@@ -84,7 +85,7 @@ fn add<H: Held>(rows: &mut Vec<Row<H>>, row: Row<H>) -> Result<(), NoMemory>
 
 // Lists the row at a path again, accepted at that moment.
 fn list_again<H: Held>(rows: &mut [Row<H>], path: &str, moment: u64)
-    ensures { shown_rows rows.new ≡ relisted path.now moment (shown_rows rows.old) }
+    ensures { shown_rows rows.new ≡ change_where (is_row path.now) (list_again moment) (shown_rows rows.old) }
 {
     for row in rows.iter_mut() {
         if row.path.as_str() == path {
@@ -101,9 +102,9 @@ pub fn put<H: Held>(
     parcel: Parcel<H>,
     moment: u64,
 ) -> PutOutcome
-    ensures reply { IsReply (put_reply (shown_print parcel) (row_at path (shown_rows rows.old.items))) (shown_outcome result) }
+    ensures reply { IsDueOr (put_due (shown_parcel parcel) (row_at path (shown_rows rows.old.items))) (shown_outcome result) }
     ensures rows { shown_rows rows.new.items
-        ≡ rows_after path (shown_parcel parcel) moment (shown_outcome result) (shown_rows rows.old.items) }
+        ≡ rows_put path (shown_parcel parcel) moment (shown_outcome result) (shown_rows rows.old.items) }
 {
     let outcome = outcome_of(rows, path.as_str(), print_of(&parcel));
     match outcome {
@@ -129,7 +130,7 @@ pub fn put<H: Held>(
 
 // What putting a blob of a fingerprint at a path does where memory is not wanting.
 fn outcome_of<H: Held>(rows: &[Row<H>], path: &str, sent: Print) -> PutOutcome
-    ensures { shown_outcome result ≡ put_reply sent (row_at path.now (shown_rows rows.now)) }
+    ensures { (blob : plain.Blob) → blob.print ≡ sent → shown_outcome result ≡ put_due blob (row_at path.now (shown_rows rows.now)) }
 {
     let Some(row) = row_at(rows, path) else {
         return PutOutcome::Created;

@@ -2,7 +2,7 @@
 ghost use Rattle.std.specs.Prelude.{◌≡◌, ◌≤◌, max, min, IfSome};
 ghost use Rattle.std.specs.Option.{option_map};
 ghost use Rattle.outside.specs.Moments.{moments_after};
-ghost use Rattle.repo_model.specs.Step.{latest_moment};
+ghost use Rattle.repo_model.specs.History.{latest_moment};
 
 use mvn_coords::Stamp;
 use outside::Clock;

@@ -1,7 +1,7 @@
 //! The numbers of blobs: drawn, lent, and given up.
 ghost use Rattle.std.specs.Prelude.{◌≡◌, ◌==◌, ◌≤◌, false, [], length, vec_len, insert, IsTrue, IfOk, OnErr};
-ghost use Rattle.repo_model.specs.Command.{number_end};
-ghost use Rattle.repo_model.specs.State.{is_among, with_number, without_number, condemned_draft, kept_draft, drawn_draft, leased, given_back};
+ghost use Rattle.repo_model.specs.State.{is_among, number_end};
+ghost use Rattle.repo_model.specs.Effect.{yard_after, draws, drops, lends, returns, with_number, without_number, without_draft};
 
 use outside::NoMemory;
 use repo_model::NUMBER_END;
@@ -42,7 +42,7 @@ impl Model for Yard {
 impl Yard {
     /// No number is drawn yet.
     pub fn new(alloc: Global) -> Yard
-        ensures { result ≡ record { drafts = []; leases = []; condemned = []; next_draft = 1; next_lease = 1 } }
+        ensures { result ≡ record { drafts = []; leases = []; condemned = []; next_draft = 1; next_lease = 1; next_session = 1 } }
     {
         Yard {
             drafts: Vec::new(alloc),
@@ -78,7 +78,7 @@ impl Yard {
     pub fn draw(&mut self) -> Result<u64, NoMemory>
         requires { (self.old.next_draft == number_end) ≡ false }
         ensures number { IfOk result (λ number. number ≡ self.old.next_draft) }
-        ensures drawn { IfOk result (λ _. self.new ≡ drawn_draft self.old) }
+        ensures drawn { IfOk result (λ _. self.new ≡ yard_after draws self.old) }
         ensures err { OnErr result (self.new ≡ self.old) }
     {
         let number = self.next_draft;
@@ -90,7 +90,7 @@ impl Yard {
 
     /// A draft becomes a row's blob.
     pub fn keep(&mut self, draft: u64)
-        ensures { self.new ≡ kept_draft draft self.old }
+        ensures { self.new ≡ without_draft draft self.old }
     {
         take_out(&mut self.drafts, draft);
     }
@@ -98,7 +98,7 @@ impl Yard {
     /// A draft becomes garbage.
     pub fn condemn(&mut self, draft: u64)
         requires { IsTrue (is_among draft self.old.drafts) }
-        ensures { self.new ≡ condemned_draft draft self.old }
+        ensures { self.new ≡ yard_after (drops draft) self.old }
     {
         take_out(&mut self.drafts, draft);
         let place = place_of(&self.condemned, draft);
@@ -110,7 +110,7 @@ impl Yard {
     pub fn lease(&mut self, blob: u64) -> Result<u64, NoMemory>
         requires { (self.old.next_lease == number_end) ≡ false }
         ensures number { IfOk result (λ number. number ≡ self.old.next_lease) }
-        ensures leased { IfOk result (λ _. self.new ≡ leased blob self.old) }
+        ensures leased { IfOk result (λ _. self.new ≡ yard_after (lends blob) self.old) }
         ensures err { OnErr result (self.new ≡ self.old) }
     {
         let number = self.next_lease;
@@ -121,7 +121,7 @@ impl Yard {
 
     /// Gives a lease back, where there is one of that number.
     pub fn give_back(&mut self, lease: u64)
-        ensures { self.new ≡ given_back lease self.old }
+        ensures { self.new ≡ yard_after (returns lease) self.old }
     {
         self.leases.retain(|held| held.number != lease);
     }

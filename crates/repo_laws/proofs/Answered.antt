@@ -1,23 +1,23 @@
 -- What replies say: a command gets one of its own, refusals change nothing, and all is determined but for want of memory and failing records.
 use native.Mathlib.Omega.{arith}
-use Rattle.std.proofs.Common.{◌≡◌, ◌≢◌, ℕ, Bool, true, false, cond, List, [], ◌∷◌, ◌++◌, length, map, Option, Some, None, refl, sym, ◌∙◌, ap, subst, eqb-true}
+use Rattle.std.proofs.Common.{◌≡◌, ◌≢◌, ℕ, true, false, ◌&&◌, List, [], ◌∷◌, ◌++◌, map, Option, Some, None, refl, sym, ◌∙◌, ap, subst, eqb-true}
 use Rattle.std.specs.Prelude.{◌==◌, ◌↔◌, ◌<◌, IsTrue, nat_le, count_by, if◌then◌else◌}
 use Rattle.std.specs.List.{AllZip}
 use Rattle.std.proofs.lemmas.Bool.{eq-eqb, false≢true, leb-true, leb-false}
 use Rattle.mvn_coords.specs.Kind.{kind}
-use Rattle.repo_model.specs.declared.session.SessionResult.TheVariants.{Aborted, Done}
+use Rattle.repo_model.specs.declared.session.SessionResult.TheVariants.{Aborted}
 use Rattle.mvn_digest.specs.Digests.{digests_of}
-use Rattle.repo_model.specs.Data.{Blob, Hosted, Staged, Session, repository}
+use Rattle.repo_model.specs.Data.{Blob, Hosted, Staged, Session, repository, session}
 use Rattle.repo_model.specs.Settings.{Settings}
 use Rattle.repo_model.specs.Paths.{takes}
-use Rattle.repo_model.specs.State.{State, hosted_of, rows_of, is_open, is_among, number_end, most_sessions}
-use Rattle.repo_model.specs.Effect.{Effect, draws, drops, discards, lends, opens, ends, with_effects}
+use Rattle.repo_model.specs.State.{State, hosted_of, open_of, rows_of, is_open, is_among, number_end, most_sessions}
+use Rattle.repo_model.specs.Effect.{draws, drops, discards, lends, opens, ends, with_effects}
 use Rattle.repo_model.specs.Command.{Command, look, done, may_put, drop_draft, open_session, is_fit}
-use Rattle.repo_model.specs.Reply.{Reply, file, text, doc, missed, given_back, draft, dropped, opened, spent, kind_refused, sessions_full, no_memory, store_fault, is_free, can_get, takes_memory}
-use Rattle.repo_model.specs.Turn.{Turn, turn, says, draws_or_spent, draws_draft, in_repository, Seen, is_file, is_text, is_doc, is_nothing, seen_at, shows}
-use Rattle.repo_model.specs.History.{Entry, IsReply, due, wants_memory, failed, Fits, ticked, commits, effects_of, after, Legal, end}
-use Rattle.repo_laws.specs.Replies.{is_refusal, given_up, may_change_rows, takes_at, AsksAlike}
-use Rattle.repo_laws.proofs.Cases.{Case, lends_file, no_lease, shows_text, shows_doc, misses, takes_back, gives_draft, no_more_drafts, makes_row, has_same, lists_again, gives_up, opens_one, stages_one, stage_same, deploys, aborts, unlists_nothing, unlists, collects, turn-case}
+use Rattle.repo_model.specs.Reply.{Reply, file, text, doc, missed, given_back, draft, dropped, opened, spent, kind_refused, no_session, session_full, sessions_full, no_memory, store_fault, is_free, can_get, takes_memory}
+use Rattle.repo_model.specs.Turn.{Turn, turn, says, draws_or_spent, draws_draft, in_repository, may_put_in, has_room, Seen, is_file, is_text, is_doc, is_nothing, seen_at, shows}
+use Rattle.repo_model.specs.History.{Entry, IsReply, due, wants_memory, failed, Fits, ticked, commits, effects_of, after, Legal}
+use Rattle.repo_laws.specs.Replies.{is_refusal, given_up, may_change_rows, takes_at, takes_in, AsksAlike}
+use Rattle.repo_laws.proofs.Cases.{Case, lends_file, shows_text, shows_doc, misses, takes_back, gives_draft, makes_row, has_same, lists_again, gives_up, opens_one, stages_one, stage_same, deploys, aborts, unlists, collects, turn-case}
 
 module _ (settings : Settings) (s : State) (now : ℕ) where
   case-can_get : (c : Command) (t : Turn) → Case settings s now c t → can_get c t.reply ≡ true
@@ -115,6 +115,7 @@ pub entry-rows : (settings : Settings) (old : State) (e : Entry) → Fits settin
 entry-rows settings old e fits still = by fits.reply where
   none : is_free e.reply ≡ true → (after settings old e).hosted ≡ old.hosted
   none free = ap (λ es. (with_effects (ticked old e.moment e.faults) es).hosted) (free-none settings old e free)
+
   by : IsReply settings old e → (after settings old e).hosted ≡ old.hosted
   by (due is _) =
       ap (λ es. (with_effects (ticked old e.moment e.faults) es).hosted) (due-all settings old e (ap is_free is ∙ no-free settings old e.moment e.command))
@@ -124,9 +125,6 @@ entry-rows settings old e fits still = by fits.reply where
   by (failed is _ _) = none (ap is_free is)
 
 -- giving up is never refused
-records-none : (settings : Settings) (s : State) (now : ℕ) (c : Command) (t : Turn) → turn settings s now c ≡ t → commits c t.effects ≡ false → IsTrue (commits c (turn settings s now c).effects) → ⊥
-records-none settings s now c t is none commits_so = false≢true (sym none ∙ ap (λ (u : Turn). commits c u.effects) (sym is) ∙ commits_so)
-
 pub lease-given_back : (settings : Settings) (old : State) (e : Entry) (lease : ℕ) → Fits settings old e → e.command ≡ done lease → e.reply ≡ given_back
 lease-given_back settings old e lease fits is_done = by fits.reply where
   by : IsReply settings old e → e.reply ≡ given_back
@@ -138,6 +136,7 @@ pub draft-dropped : (settings : Settings) (old : State) (e : Entry) (n : ℕ) �
 draft-dropped settings old e n fits is_drop = by fits.reply where
   none : commits (drop_draft n) (turn settings old e.moment (drop_draft n)).effects ≡ false
   none = elim (is_among n old.yard.drafts) as (λ b. commits (drop_draft n) (if b then drops n ∷ [] else []) ≡ false) [ true ↦ refl | false ↦ refl ]
+
   by : IsReply settings old e → e.reply ≡ dropped
   by (due is _) = is ∙ ap (λ c. (turn settings old e.moment c).reply) is_drop
   by (wants_memory is takes _) = absurd (false≢true (ap takes_memory (sym is_drop) ∙ takes))
@@ -193,6 +192,29 @@ pub drafts-spent : (settings : Settings) (s : State) (now : ℕ) (repo path : Li
     → ((turn settings s now (may_put (repository repo) path)).reply ≡ spent) ↔ (IsTrue (takes_at repo path s) × (s.yard.next_draft ≡ number_end))
 drafts-spent settings s now repo path = spends-in s.yard.next_draft path (hosted_of repo s)
 
+spends-staged : (s : State) (path : List ℕ) (found : Option Session)
+    → ((may_put_in s path found).reply ≡ spent) ↔ (IsTrue (is_fit (λ one. takes_at one.repo path s && has_room path one.staged) found) × (s.yard.next_draft ≡ number_end))
+spends-staged s path None = ((λ is. absurd (let e : no_session ≡ spent = is in cc)), (λ both. absurd (false≢true both.0)))
+spends-staged s path (Some one) = by (hosted_of one.repo s) where
+  by : (found : Option Hosted) → ((in_repository path found (if has_room path one.staged then draws_draft s.yard.next_draft else says session_full)).reply ≡ spent)
+      ↔ (IsTrue (is_fit (λ h. takes h.rule path) found && has_room path one.staged) × (s.yard.next_draft ≡ number_end))
+  by None = ((λ is. absurd (let e : kind_refused ≡ spent = is in cc)), (λ both. absurd (false≢true both.0)))
+  by (Some h) =
+      elim (takes h.rule path)
+      as (λ b. ((if b then (if has_room path one.staged then draws_draft s.yard.next_draft else says session_full) else says kind_refused).reply ≡ spent)
+      ↔ (IsTrue (b && has_room path one.staged) × (s.yard.next_draft ≡ number_end))) [
+        | true ↦ elim (has_room path one.staged)
+            as (λ b. ((if b then draws_draft s.yard.next_draft else says session_full).reply ≡ spent) ↔ (IsTrue b × (s.yard.next_draft ≡ number_end))) [
+              | true ↦ ((λ is. (refl, (draft-spent s.yard.next_draft).0 is)), (λ both. (draft-spent s.yard.next_draft).1 both.1))
+              | false ↦ ((λ is. absurd (let e : session_full ≡ spent = is in cc)), (λ both. absurd (false≢true both.0)))
+            ]
+        | false ↦ ((λ is. absurd (let e : kind_refused ≡ spent = is in cc)), (λ both. absurd (false≢true both.0)))
+      ]
+
+pub staged-spent : (settings : Settings) (s : State) (now n : ℕ) (path : List ℕ)
+    → ((turn settings s now (may_put (session n) path)).reply ≡ spent) ↔ (IsTrue (takes_in n path s) × (s.yard.next_draft ≡ number_end))
+staged-spent settings s now n path = spends-staged s path (open_of n s)
+
 shows-spent : (next : ℕ) (seen : Seen) → ((shows next seen).reply ≡ spent) ↔ (((blob : Blob) × (seen ≡ is_file blob)) × (next ≡ number_end))
 shows-spent next (is_file blob) =
     elim (next == number_end)
@@ -222,7 +244,7 @@ sessions-spent settings s now repo =
     let next = s.yard.next_session in
     elim (nat_le most_sessions many)
     as (λ b. nat_le most_sessions many ≡ b
-        → ((if b then says sessions_full else draws_or_spent next (record { reply = opened next; effects = opens next repo ∷ [] })).reply ≡ spent) ↔ ((many < most_sessions) × (next ≡ number_end))) [
+    → ((if b then says sessions_full else draws_or_spent next (record { reply = opened next; effects = opens next repo ∷ [] })).reply ≡ spent) ↔ ((many < most_sessions) × (next ≡ number_end))) [
       | true ↦ λ full. ((λ is. absurd (let e : sessions_full ≡ spent = is in cc)), (λ both. absurd (omega (arith, leb-true most_sessions many full, both.0))))
       | false ↦ λ few. ((λ is. (leb-false most_sessions many few, (opens-spent next repo).0 is)), (λ both. (opens-spent next repo).1 both.1))
     ] refl
@@ -235,6 +257,7 @@ draft-below settings old e n fits says_it = by fits.reply where
       let same : old.yard.next_draft ≡ n = let both : draft old.yard.next_draft ≡ draft n = is in cc in
       (sym same, λ last. false≢true (sym more ∙ eq-eqb old.yard.next_draft number_end (same ∙ last)))
   by_case c t case is = absurd (cc)
+
   by : IsReply settings old e → (n ≡ old.yard.next_draft) × (n ≢ number_end)
   by (due is _) = by_case e.command (turn settings old e.moment e.command) (turn-case settings old e.moment e.command) (sym is ∙ says_it)
   by (wants_memory is _ _) = absurd (let x : draft n ≡ no_memory = sym says_it ∙ is in cc)

@@ -15,7 +15,7 @@ use Rattle.repo_model.specs.Effect.{Effect, draws, drops, creates, stages, deliv
 use Rattle.repo_model.specs.May.{May}
 use Rattle.repo_laws.specs.Sound.{IsBelow, AreByPath, RowsApart}
 use Rattle.repo_laws.proofs.Lists.{all-then}
-use Rattle.repo_laws.proofs.Releases.{is_itself, same_path, other_path}
+use Rattle.repo_laws.proofs.Releases.{is_itself, other_path}
 use Rattle.repo_laws.proofs.Rows.{rows_in}
 
 -- a path that is below another is not that one
@@ -107,7 +107,7 @@ hosted-keeps P at f (h ∷ hosted) keeps all =
     let Kept : List Row → Type 0 = λ rows. P rows → P (f rows) in
     elim (is_repository at h)
     as (λ b. Kept (option_map_or (λ (g : Hosted). g.rows) (cond b (Some h) (find (is_repository at) hosted)) [])
-        → AllByRecursion (λ (g : Hosted). P g.rows) (cond b (record h { rows = f h.rows } ∷ hosted) (h ∷ change_first (is_repository at) (λ g. record g { rows = f g.rows }) hosted))) [
+    → AllByRecursion (λ (g : Hosted). P g.rows) (cond b (record h { rows = f h.rows } ∷ hosted) (h ∷ change_first (is_repository at) (λ g. record g { rows = f g.rows }) hosted))) [
       | true ↦ λ here. (here all.0, all.1)
       | false ↦ λ later. (all.0, hosted-keeps P at f hosted later all.1)
     ] keeps

@@ -1,6 +1,6 @@
 -- Each turn by what it comes to: one case for each reply that a command can get.
-use Rattle.std.proofs.Common.{◌≡◌, ℕ, Bool, true, false, List, [], ◌∷◌, ◌++◌, length, map, Option, Some, None, Result, Ok, Err, refl}
-use Rattle.std.specs.Prelude.{◌==◌, nat_le, count_by, if◌then◌else◌, bytes_eq, find}
+use Rattle.std.proofs.Common.{◌≡◌, ℕ, Bool, true, false, List, [], ◌∷◌, ◌++◌, length, Option, Some, None, Result, Ok, Err, refl}
+use Rattle.std.specs.Prelude.{◌==◌, nat_le, count_by, if◌then◌else◌, bytes_eq}
 use Rattle.std.specs.Option.{option_map}
 use Rattle.mvn_coords.specs.Kind.{kind}
 use Rattle.mvn_coords.specs.declared.kind.Kind.{Kind}
@@ -11,16 +11,17 @@ use Rattle.mvn_digest.specs.Digests.{digests_of}
 use Rattle.repo_model.specs.declared.print.Print.{Print}
 use Rattle.repo_model.specs.declared.session.SessionResult.{SessionResult}
 use Rattle.repo_model.specs.declared.session.SessionResult.TheVariants.{Aborted, Done}
-use Rattle.repo_model.specs.Data.{Blob, Row, Phase, listed, fading, Hosted, Staged, Session, Place, repository, session, is_same_print}
+use Rattle.repo_model.specs.Data.{Blob, Row, Phase, listed, fading, Hosted, Session, Place, repository, session, is_same_print}
 use Rattle.repo_model.specs.Settings.{Settings}
 use Rattle.repo_model.specs.Paths.{takes}
-use Rattle.repo_model.specs.State.{State, Yard, hosted_of, row_at, rows_of, session_of, open_of, is_open, is_among, number_end, most_sessions}
-use Rattle.repo_model.specs.Effect.{Effect, draws, drops, creates, stages, relists, forgets, lends, returns, opens, ends, with_effects}
+use Rattle.repo_model.specs.State.{State, hosted_of, row_at, rows_of, session_of, open_of, is_open, is_among, number_end, most_sessions}
+use Rattle.repo_model.specs.Effect.{Effect, draws, drops, creates, stages, relists, lends, returns, opens, ends, with_effects}
 use Rattle.repo_model.specs.Command.{Command, look, done, may_put, put, put_side, put_doc, drop_draft, open_session, stage, commit, abort, unlist, collect, status}
-use Rattle.repo_model.specs.Reply.{Reply, file, text, doc, missed, given_back, kind_refused, draft, no_draft, taken, same, relisted, created, not_there, differs, agreed, noted, dropped, no_session, sessions_full, opened, session_full, staged, offends, missing_pom, ended, unlisted, collected, counts, spent}
+use Rattle.repo_model.specs.Reply.{Reply, file, text, doc, missed, given_back, kind_refused, draft, no_draft, taken, same, relisted, created, not_there, differs, agreed, noted, dropped, no_session, sessions_full, opened, session_full, staged, offends, missing_pom, ended, unlisted, spent}
 use Rattle.repo_model.specs.Purge.{due_rows, fade_all, expire_all}
 use Rattle.repo_model.specs.Deploy.{Offence, offence, without_pom, deliver_all, discard_all}
-use Rattle.repo_model.specs.Turn.{Turn, says, draws_or_spent, Seen, is_file, is_text, is_doc, is_nothing, seen_at, shows, in_repository, has_room, draws_draft, may_put_in, put_again, put_at, compared, judged, side_of, with_open, staged_at, stage_at, stage_in, commit_by, commit_of, abort_of, unlist_of, unlent, collect_of, counts_of, turn}
+use Rattle.repo_model.specs.Turn.{Turn, says, draws_or_spent, Seen, is_file, is_text, is_doc, is_nothing, seen_at, shows, in_repository, has_room, draws_draft, may_put_in, put_again, put_at, compared, judged, with_open, staged_at, stage_at, stage_in, commit_by, commit_of, abort_of, unlist_of, collect_of, counts_of, turn}
+use Rattle.mvn_digest.specs.Sides.{side_of}
 
 -- a reply and the effects with it
 abbrev pub does : Reply → List Effect → Turn
@@ -119,9 +120,9 @@ module _ (settings : Settings) (s : State) (now : ℕ) where
   put-case repo path n blob (Some row) among =
       if-case (put repo path n blob) (is_same_print row.blob.print blob.print) (put_again repo path n now row.phase) (does (taken row.blob.print blob.print) (drops n ∷ []))
       (λ _. again row.phase) (λ _. has_other repo path n blob row.blob.print among) where
-    again : (phase : Phase) → Is (put repo path n blob) (put_again repo path n now phase)
-    again listed = has_same repo path n blob among
-    again (fading since) = lists_again repo path n blob among
+        again : (phase : Phase) → Is (put repo path n blob) (put_again repo path n now phase)
+        again listed = has_same repo path n blob among
+        again (fading since) = lists_again repo path n blob among
 
   compared-case : (place : Place) (path said : List ℕ) (found : Option (List ℕ)) → Is (put_side place path said) (compared said found)
   compared-case place path said None = side_alone place path said

@@ -11,7 +11,7 @@ use Rattle.mvn_coords.specs.Layout.{Coordinates, Directory, text_of}
 use Rattle.mvn_digest.specs.declared.digests.Digests.{Digests}
 use Rattle.mvn_digest.specs.Digests.{digests_of}
 use Rattle.mvn_metadata.specs.Document.{Document}
-use Rattle.mvn_doc.specs.Written as written
+use Rattle.mvn_metadata.specs.Written as written
 use Rattle.repo_model.specs.Data.{Blob, Row, Phase, listed, fading}
 use Rattle.repo_model.specs.Settings.{Settings}
 use Rattle.repo_model.specs.Paths.{file_at, file_in, stands_in}
@@ -20,7 +20,8 @@ use Rattle.repo_model.specs.State.{State, row_at, rows_of, number_end}
 use Rattle.repo_model.specs.Effect.{lends, recorded}
 use Rattle.repo_model.specs.Command.{look, is_file_path}
 use Rattle.repo_model.specs.Reply.{Reply, file, text, doc, missed, spent, no_memory, store_fault, is_free}
-use Rattle.repo_model.specs.Turn.{Turn, turn, says, draws_or_spent, shows, seen_at, or_nothing, is_file, is_text, is_doc, Seen, document_text, side_text}
+use Rattle.repo_model.specs.Turn.{Turn, turn, says, draws_or_spent, shows, seen_at, or_nothing, is_file, is_text, is_doc, Seen, document_text}
+use Rattle.mvn_digest.specs.Sides.{side_text}
 use Rattle.repo_model.specs.History.{Entry, IsReply, due, wants_memory, failed, Fits, commits, effects_of, after, Legal, end}
 use Rattle.repo_laws.specs.Laws.{Stands, LastsFrom}
 use Rattle.repo_laws.specs.Sound.{AreNamedApart, Sound}

@@ -34,7 +34,7 @@ count-take n (suc k) (m ∷ ms) =
     let is : ℕ → Bool = λ i. i == n in
     omega (arith, count-cons is m (take k ms), count-cons is m ms, count-take n k ms)
 
-not-among-counts : (n : ℕ) (ms : List ℕ) → is_among n ms ≡ false → count_of n ms ≡ 0
+pub not-among-counts : (n : ℕ) (ms : List ℕ) → is_among n ms ≡ false → count_of n ms ≡ 0
 not-among-counts n [] none = refl
 not-among-counts n (m ∷ ms) none =
     let (here, later) = or_parts (m == n) (is_among n ms) none in

@@ -1,14 +1,14 @@
 -- Leases have numbers of their own, and garbage stands in rising order, whatever effects are made.
 use native.Mathlib.Omega.{arith}
-use Rattle.std.proofs.Common.{◌≡◌, ◌≤◌, ◌<◌, ◌+◌, ℕ, Bool, true, false, not, cond, List, [], ◌∷◌, ◌++◌, refl, sym, ◌∙◌, ap, subst, eqb-true}
-use Rattle.std.specs.Prelude.{◌==◌, nat_lt, filter, count_by}
+use Rattle.std.proofs.Common.{◌≡◌, ◌≤◌, ◌+◌, ℕ, Bool, true, false, not, cond, List, [], ◌∷◌, refl, ap, eqb-true}
+use Rattle.std.specs.Prelude.{◌==◌, nat_lt, filter}
 use Rattle.std.specs.List.{AllByRecursion}
-use Rattle.std.proofs.lemmas.Bool.{eq-eqb, ne_eqb, ltb-true, ltb-false, false≢true}
+use Rattle.std.proofs.lemmas.Bool.{ne_eqb, ltb-true, ltb-false}
 use Rattle.repo_model.specs.State.{State, Lease, is_among}
-use Rattle.repo_model.specs.Effect.{Effect, draws, drops, creates, stages, delivers, discards, relists, fades, expires, forgets, lends, returns, opens, ends, with_number, with_effect}
+use Rattle.repo_model.specs.Effect.{Effect, draws, drops, discards, expires, forgets, lends, returns, with_number, with_effect}
 use Rattle.repo_laws.specs.Laws.{leases_of}
 use Rattle.repo_laws.specs.Sound.{LentOnce, AreRising}
-use Rattle.repo_laws.proofs.Counts.{one_if, count-cons, count-push, count-filter}
+use Rattle.repo_laws.proofs.Counts.{one_if, count-push, count-filter}
 use Rattle.repo_laws.proofs.Lists.{all-then}
 
 -- no more leases of any number
@@ -44,8 +44,8 @@ lent-more s blob old =
           omega (arith, count 0, zero, old.none);
       begun = omega arith;
     } where
-  eq-of : (n : ℕ) → (s.yard.next_lease == n) ≡ true → s.yard.next_lease ≡ n
-  eq-of n is = eqb-true s.yard.next_lease n is
+      eq-of : (n : ℕ) → (s.yard.next_lease == n) ≡ true → s.yard.next_lease ≡ n
+      eq-of n is = eqb-true s.yard.next_lease n is
 
 pub leases-kept : (s : State) (e : Effect) → LentOnce s → LentOnce (with_effect s e)
 leases-kept s (lends blob) old = lent-more s blob old

@@ -1,5 +1,5 @@
 -- What all effects but a few have, the effects of each turn have: only Done returns a lease, and only Collect forgets garbage.
-use Rattle.std.proofs.Common.{◌≡◌, ℕ, Bool, true, false, List, [], ◌∷◌, ◌++◌, map, length, Option, Some, None, refl}
+use Rattle.std.proofs.Common.{◌≡◌, ℕ, List, [], ◌∷◌, ◌++◌, map, length, Option, Some, None, refl}
 use Rattle.std.specs.Prelude.{filter}
 use Rattle.std.specs.List.{AllByRecursion, flat_map}
 use Rattle.repo_model.specs.declared.session.SessionResult.{SessionResult}

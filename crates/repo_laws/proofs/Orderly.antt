@@ -2,7 +2,6 @@
 use native.Mathlib.Omega.{arith}
 use Rattle.std.proofs.Common.{◌≡◌, ◌≤◌, ℕ, Bool, true, false, not, cond, ◌||◌, List, [], ◌∷◌, ◌++◌, map, Some, None, refl, sym, ◌∙◌, ap, subst}
 use Rattle.std.specs.Prelude.{filter, find, bytes_eq, is_some}
-use Rattle.std.specs.Option.{option_map_or}
 use Rattle.std.specs.List.{AllByRecursion, list_any}
 use Rattle.std.specs.Ordering.{nat_cmp, match_ordering}
 use Rattle.std.specs.declared.cmp.Ordering.TheVariants.{Less, Equal, Greater}
@@ -11,14 +10,14 @@ use Rattle.std.proofs.lemmas.Bool.{false≢true}
 use Rattle.std.proofs.lemmas.Option.{none-some}
 use Rattle.repo_model.specs.Data.{Row, Hosted, Staged, Session}
 use Rattle.repo_model.specs.Settings.{Rule, Settings}
-use Rattle.repo_model.specs.State.{State, Yard, change_where, change_first, is_repository, is_row, is_staged, is_open_at, row_at, rows_of, number_end}
-use Rattle.repo_model.specs.Effect.{Effect, draws, drops, creates, stages, delivers, discards, relists, fades, expires, forgets, lends, returns, opens, ends, with_row, new_row, list_again, fade, with_staged, without_row, without_staged, new_session, hosted_after, repo_of, rows_after, in_repo, with_effect}
+use Rattle.repo_model.specs.State.{State, Yard, change_first, is_repository, is_row, is_staged, is_open_at, number_end}
+use Rattle.repo_model.specs.Effect.{Effect, draws, drops, creates, stages, delivers, discards, relists, fades, expires, forgets, lends, returns, opens, ends, with_staged, without_staged, new_session, hosted_after, repo_of, rows_after, in_repo, with_effect}
 use Rattle.repo_model.specs.May.{May}
 use Rattle.repo_model.specs.Command.{is_there}
 use Rattle.repo_laws.specs.Laws.{AreApart}
 use Rattle.repo_laws.specs.Sound.{RowsApart, IsInOrder, Sound}
 use Rattle.repo_laws.proofs.ByPath.{rows-kept}
-use Rattle.repo_laws.proofs.Releases.{is_itself, other_path, with_row-elsewhere}
+use Rattle.repo_laws.proofs.Releases.{is_itself, other_path}
 
 -- what passes no test before a filter, passes none after it
 none-filter : {X : Type 0} (p q : X → Bool) (xs : List X) → find p xs ≡ None → find p (filter q xs) ≡ None
@@ -141,9 +140,9 @@ module _ (settings : Settings) (grace now : ℕ) (s : State) where
       first-keeps (IsInOrder settings) (is_open_at n) (λ session. record session { staged = with_staged new session.staged }) s.sessions one all found (there, with_staged-apart new one.staged free apart)
   sessions-kept (delivers n repo path blob moment) rules may all = without-ordered n path may.0 all may.3
   sessions-kept (discards n path draft) rules may all = without-ordered n path may.0 all may.2
-  sessions-kept (opens n repo) rules may all = push-ordered (new_session n repo) s.sessions all (sym (there-as-set settings s repo rules) ∙ may.2, tt)
+  sessions-kept (opens n repo) rules may all = push-ordered (new_session n repo) s.sessions all (λ _. sym (there-as-set settings s repo rules) ∙ may.2, tt)
   sessions-kept (ends n outcome) rules may all =
-      first-keeps (IsInOrder settings) (is_open_at n) (λ session. record session { ended = Some outcome }) s.sessions may.0 all may.1 (found-has (IsInOrder settings) (is_open_at n) s.sessions may.0 all may.1)
+      first-keeps (IsInOrder settings) (is_open_at n) (λ session. record session { ended = Some outcome }) s.sessions may.0 all may.1 (λ is. cc, (found-has (IsInOrder settings) (is_open_at n) s.sessions may.0 all may.1).1)
   sessions-kept (creates repo path blob moment) rules may all = all
   sessions-kept (relists repo path moment) rules may all = all
   sessions-kept (fades repo path moment) rules may all = all

@@ -1,29 +1,26 @@
 -- Who was answered a file can read it until the lease is given back.
-use Rattle.std.proofs.Common.{◌≡◌, ℕ, Bool, true, false, not, cond, ◌&&◌, ◌||◌, List, [], ◌∷◌, ◌++◌, map, Option, Some, None, Result, Ok, Err, refl, sym, ◌∙◌, ap, subst, eqb-true, option_map}
-use Rattle.std.specs.Prelude.{◌==◌, nat_le, filter, count_by, bytes_eq, if◌then◌else◌}
-use Rattle.std.specs.List.{AllByRecursion, list_any, flat_map}
+use native.Mathlib.Omega.{arith}
+use Rattle.std.proofs.Common.{◌≡◌, ℕ, Bool, true, false, not, cond, ◌&&◌, ◌||◌, List, [], ◌∷◌, ◌++◌, refl, sym, ◌∙◌, ap, subst, eqb-true}
+use Rattle.std.specs.Prelude.{◌==◌, filter, count_by, if◌then◌else◌}
+use Rattle.std.specs.List.{AllByRecursion, list_any}
 use Rattle.std.proofs.lemmas.Bool.{false≢true, and_parts, and_from, or_left, or_right, eq-eqb, ne_eqb, false_from_ne_true}
-use Rattle.mvn_coords.specs.Kind.{kind}
-use Rattle.mvn_coords.specs.declared.kind.Kind.{Kind}
-use Rattle.mvn_coords.specs.declared.kind.Kind.TheVariants.{File, FileSide, Doc, DocSide}
-use Rattle.mvn_coords.specs.declared.fault.PathFault.{PathFault}
-use Rattle.mvn_coords.specs.Layout.{text_of}
-use Rattle.repo_model.specs.declared.session.SessionResult.{SessionResult}
-use Rattle.repo_model.specs.Data.{Blob, Row, Phase, listed, fading, repository, session, Hosted, Staged, Session, is_same_print}
+use Rattle.repo_model.specs.Data.{Blob, Hosted}
 use Rattle.repo_model.specs.Settings.{Settings}
-use Rattle.repo_model.specs.Paths.{takes}
-use Rattle.repo_model.specs.State.{State, Lease, hosted_of, is_open, session_of, open_of, rows_of, row_at, is_among, number_end, most_sessions}
+use Rattle.repo_model.specs.State.{State, Lease, is_among}
 use Rattle.repo_model.specs.Effect.{Effect, draws, drops, creates, stages, delivers, discards, relists, fades, expires, forgets, lends, returns, opens, ends, with_effect, with_effects}
-use Rattle.repo_model.specs.Command.{Command, look, done, may_put, put, put_side, put_doc, drop_draft, open_session, stage, commit, abort, unlist, collect, status}
-use Rattle.repo_model.specs.Reply.{Reply, file, text, doc, missed, spent, same, relisted, taken, created, no_draft, staged, session_full, kind_refused, agreed, differs, sessions_full, opened, noted, no_memory, store_fault, is_free}
-use Rattle.repo_model.specs.Purge.{due_rows, expire_all, expired_of, is_over, most_rows}
-use Rattle.repo_model.specs.Deploy.{Offence, offence, without_pom, deliver_at, deliver_again, deliver_all, discard_all}
-use Rattle.repo_model.specs.Turn.{Turn, turn, says, draws_or_spent, Seen, is_file, is_text, is_doc, is_nothing, shows, seen_at, in_repository, has_room, draws_draft, may_put_in, put_again, put_at, compared, judged, side_of, with_open, staged_at, stage_at, stage_in, commit_by, commit_of, abort_of, unlist_of, unlent}
-use Rattle.repo_model.specs.History.{Entry, Fits, IsReply, due, wants_memory, failed, ticked, effects_of, after, Legal}
+use Rattle.repo_model.specs.Command.{Command, done, collect}
+use Rattle.repo_model.specs.Reply.{file, is_free}
+use Rattle.repo_model.specs.Purge.{expire_all}
+use Rattle.repo_model.specs.Turn.{Turn, turn, unlent}
+use Rattle.repo_model.specs.History.{Entry, Fits, ticked, after, Legal}
 use Rattle.repo_laws.specs.Sound.{AreNamedApart}
 use Rattle.repo_laws.specs.Closed.{given_out, IsLentAs, ReadsOn, ReadersLast}
 use Rattle.repo_laws.proofs.Making.{Common, all-expired, turn-makes}
 use Rattle.repo_laws.proofs.Turns.{unlent-has}
+use Rattle.repo_laws.proofs.Answered.{reply-determined, state-determined, lease-given_back}
+use Rattle.repo_laws.proofs.Cases.{Case, lends_file, turn-case}
+use Rattle.repo_laws.proofs.Counts.{one_if, count-cons}
+use Rattle.repo_laws.specs.Laws.{leases_of}
 use Rattle.repo_laws.proofs.Untouched.{only-collect, collects, cleared, among-has}
 
 module _ (lease : ℕ) where
@@ -37,9 +34,18 @@ module _ (lease : ℕ) where
 
   most-quiet : Common (λ e. gives_back e ≡ false)
   most-quiet = record {
-    draws_so = refl; drops_so = λ n. refl; creates_so = λ repo path blob moment. refl; stages_so = λ n path blob. refl;
-    delivers_so = λ n repo path blob moment. refl; discards_so = λ n path draft. refl; relists_so = λ repo path moment. refl;
-    fades_so = λ repo path moment. refl; expires_so = λ repo path blob. refl; lends_so = λ blob. refl; opens_so = λ n repo. refl; ends_so = λ n result. refl;
+    draws_so = refl;
+    drops_so = λ n. refl;
+    creates_so = λ repo path blob moment. refl;
+    stages_so = λ n path blob. refl;
+    delivers_so = λ n repo path blob moment. refl;
+    discards_so = λ n path draft. refl;
+    relists_so = λ repo path moment. refl;
+    fades_so = λ repo path moment. refl;
+    expires_so = λ repo path blob. refl;
+    lends_so = λ blob. refl;
+    opens_so = λ n repo. refl;
+    ends_so = λ n result. refl;
   }
 
   expire-quiet : (grace now : ℕ) (hosted : List Hosted) → Quiet (expire_all grace now hosted)
@@ -106,7 +112,7 @@ module _ (lease n : ℕ) where
   lent-through [] s quiet lent = lent
   lent-through (e ∷ es) s quiet lent = lent-through es (with_effect s e) quiet.1 (lent-then s e quiet.0 lent)
 
-  lent-entry : (settings : Settings) (s : State) (e : Entry) → (e.command ≡ done lease → ⊥) → IsLentAs lease n s → IsLentAs lease n (after settings s e)
+  pub lent-entry : (settings : Settings) (s : State) (e : Entry) → (e.command ≡ done lease → ⊥) → IsLentAs lease n s → IsLentAs lease n (after settings s e)
   lent-entry settings s e other lent =
       elim (is_free e.reply) as (λ b. IsLentAs lease n (with_effects (ticked s e.moment e.faults) (if b then [] else (turn settings s e.moment e.command).effects))) [
         | true ↦ lent
@@ -131,45 +137,49 @@ module _ (lease n : ℕ) where
     reads-on [] s legal lent = lent
     reads-on (e ∷ entries) s legal lent = (lent, not-given s e legal.0 lent, (λ other. reads-on entries (after settings s e) legal.1 (lent-entry settings s e other lent)))
 
--- a file that is shown is lent
-file-lent : (s : State) (repo path : List ℕ) (k : Result Kind PathFault) (lease : ℕ) (blob : Blob)
-    → file lease blob ≡ (shows s.yard.next_lease (seen_at (rows_of repo s) path k)).reply
-    → (lease ≡ s.yard.next_lease) × ((shows s.yard.next_lease (seen_at (rows_of repo s) path k)).effects ≡ lends blob.number ∷ [])
-file-lent s repo path k lease blob = shown (seen_at (rows_of repo s) path k) where
-  shown : (seen : Seen) → file lease blob ≡ (shows s.yard.next_lease seen).reply → (lease ≡ s.yard.next_lease) × ((shows s.yard.next_lease seen).effects ≡ lends blob.number ∷ [])
-  shown (is_file b) is =
-      let next = s.yard.next_lease in
-      let given : Turn = record { reply = file next b; effects = lends b.number ∷ [] } in
-      elim (next == number_end) as (λ last. file lease blob ≡ (if last then says spent else given).reply → (lease ≡ next) × ((if last then says spent else given).effects ≡ lends blob.number ∷ [])) [
-        | true ↦ λ no_way. absurd (let x : file lease blob ≡ spent = no_way in cc)
-        | false ↦ λ same.
-            let one : file lease blob ≡ file next b = same in
-            let lease_is : lease ≡ next = cc in
-            let blob_is : blob ≡ b = cc in
-            (lease_is, ap (λ (x : Blob). lends x.number ∷ []) (sym blob_is))
-      ] is
-  shown (is_text bytes) is = absurd (let x : file lease blob ≡ text bytes = is in cc)
-  shown (is_doc bytes) is = absurd (let x : file lease blob ≡ (shows s.yard.next_lease (is_doc bytes)).reply = is in cc)
-  shown is_nothing is = absurd (let x : file lease blob ≡ missed = is in cc)
+-- a file is answered with a lease on its blob
+case-lent : (settings : Settings) (s : State) (now lease : ℕ) (blob : Blob) (c : Command) (t : Turn) → Case settings s now c t → t.reply ≡ file lease blob
+    → (s.yard.next_lease ≡ lease) × (t.effects ≡ lends blob.number ∷ [])
+case-lent settings s now lease blob c t (lends_file repo path tried b more is) answered =
+    let one : file s.yard.next_lease b ≡ file lease blob = answered in
+    let lease_is : s.yard.next_lease ≡ lease = cc in
+    let blob_is : b ≡ blob = cc in
+    (lease_is, ap (λ (x : Blob). lends x.number ∷ []) blob_is)
+case-lent settings s now lease blob c t case answered = absurd (cc)
+
+pub answered-lent : (settings : Settings) (s : State) (e : Entry) (lease : ℕ) (blob : Blob) → Fits settings s e → e.reply ≡ file lease blob → IsLentAs lease blob.number (after settings s e)
+answered-lent settings s e lease blob fits says_it =
+    let bound : is_free e.reply ≡ false = ap is_free says_it in
+    let next = s.yard.next_lease in
+    let (lease_is, lends_it) = case-lent settings s e.moment lease blob e.command (turn settings s e.moment e.command) (turn-case settings s e.moment e.command)
+    (sym (reply-determined settings s e fits bound) ∙ says_it) in
+    subst (λ t. IsLentAs lease blob.number t) (sym (state-determined settings s e bound))
+    (subst (λ es. IsLentAs lease blob.number (with_effects (ticked s e.moment e.faults) es)) (sym lends_it)
+    (any-last (is_it lease blob.number) s.yard.leases (record { number = next; blob = blob.number })
+    (and_from (next == lease) (blob.number == blob.number) (eq-eqb next lease lease_is) (eq-eqb blob.number blob.number refl))))
 
 module _ (settings : Settings) (apart : AreNamedApart settings.hosted) where
-  answered-lent : (s : State) (e : Entry) (repo path tried : List ℕ) (lease : ℕ) (blob : Blob) → IsReply settings s e → e.command ≡ look repo path tried → e.reply ≡ file lease blob
-      → IsLentAs lease blob.number (after settings s e)
-  answered-lent s e repo path tried lease blob (due is _) looks says_it =
-      let next = s.yard.next_lease in
-      let (lease_is, lends_it) = file-lent s repo path (kind path) lease blob (sym says_it ∙ is ∙ ap (λ c. (turn settings s e.moment c).reply) looks) in
-      let effects_are : effects_of settings s e ≡ lends blob.number ∷ [] =
-      ap (λ r. if is_free r then [] else (turn settings s e.moment e.command).effects) says_it ∙ ap (λ c. (turn settings s e.moment c).effects) looks ∙ lends_it in
-      subst (λ es. IsLentAs lease blob.number (with_effects (ticked s e.moment e.faults) es)) (sym effects_are)
-      (any-last (is_it lease blob.number) s.yard.leases (record { number = next; blob = blob.number })
-      (and_from (next == lease) (blob.number == blob.number) (eq-eqb next lease (sym lease_is)) (eq-eqb blob.number blob.number refl)))
-  answered-lent s e repo path tried lease blob (wants_memory is _ _) looks says_it = absurd (let x : file lease blob ≡ no_memory = sym says_it ∙ is in cc)
-  answered-lent s e repo path tried lease blob (failed is _ _) looks says_it = absurd (let x : file lease blob ≡ store_fault = sym says_it ∙ is in cc)
-
   pub readers-last : (entries : List Entry) (s : State) → Legal settings s entries → ReadersLast settings s entries
   readers-last [] s legal = tt
   readers-last (e ∷ entries) s legal = (
     (λ repo path tried lease blob looks says_it.
-        reads-on lease blob.number settings apart entries (after settings s e) legal.1 (answered-lent s e repo path tried lease blob legal.0.reply looks says_it)),
+        reads-on lease blob.number settings apart entries (after settings s e) legal.1 (answered-lent settings s e lease blob legal.0 says_it)),
     readers-last entries (after settings s e) legal.1,
   )
+
+-- a filter leaves none of what it takes out
+none-left : {X : Type 0} (p : X → Bool) (xs : List X) → count_by p (filter (λ x. not (p x)) xs) ≡ 0
+none-left p [] = refl
+none-left {X} p (x ∷ xs) =
+    let rest = filter (λ (y : X). not (p y)) xs in
+    let none = none-left p xs in
+    elim (p x) as (λ b. p x ≡ b → count_by p (cond (not b) (x ∷ rest) rest) ≡ 0) [
+      | true ↦ λ _. none
+      | false ↦ λ is. let zero : one_if (p x) ≡ 0 = ap one_if is in omega (arith, count-cons p x rest, zero, none)
+    ] refl
+
+pub none-lent : (settings : Settings) (s : State) (e : Entry) (lease : ℕ) → Fits settings s e → e.command ≡ done lease → leases_of (after settings s e) lease ≡ 0
+none-lent settings s e lease fits is =
+    ap (λ (t : State). leases_of t lease) (state-determined settings s e (ap is_free (lease-given_back settings s e lease fits is)))
+    ∙ ap (λ c. leases_of (with_effects (ticked s e.moment e.faults) (turn settings s e.moment c).effects) lease) is
+    ∙ none-left (λ (l : Lease). l.number == lease) s.yard.leases

@@ -1,7 +1,7 @@
 -- No blob number is lost: it stands somewhere from when it is drawn until a Collect gives it out.
 use native.Mathlib.Omega.{arith}
 use Rattle.std.proofs.Common.{◌≡◌, ◌≤◌, ◌<◌, ◌+◌, ℕ, Bool, true, false, not, cond, ◌||◌, ◌⊎◌, inl, inr, List, [], ◌∷◌, ◌++◌, length, Some, None, refl, sym, ◌∙◌, ap, subst, eqb-true}
-use Rattle.std.specs.Prelude.{◌==◌, nat_lt, IsTrue, count_by, filter, find, if◌then◌else◌}
+use Rattle.std.specs.Prelude.{◌==◌, nat_lt, count_by, filter, find, if◌then◌else◌}
 use Rattle.std.specs.Option.{option_map_or}
 use Rattle.std.specs.List.{AllByRecursion, list_any}
 use Rattle.std.proofs.lemmas.Bool.{eq-eqb, ne_eqb, false≢true, ltb-true, ltb-false}
@@ -10,10 +10,10 @@ use Rattle.std.proofs.lemmas.List.Sums.{sum_by_push}
 use Rattle.repo_model.specs.Data.{Row, Hosted, Staged, Session}
 use Rattle.repo_model.specs.Settings.{Settings}
 use Rattle.repo_model.specs.State.{State, change_where, change_first, is_repository, is_row, is_staged, is_open_at, rows_of, is_among}
-use Rattle.repo_model.specs.Effect.{Effect, draws, drops, creates, stages, delivers, discards, relists, fades, expires, forgets, lends, returns, opens, ends, with_number, without_number, with_row, new_row, list_again, fade, with_staged, without_row, without_staged, new_session, with_effect, with_effects}
+use Rattle.repo_model.specs.Effect.{Effect, draws, drops, creates, stages, delivers, discards, relists, fades, expires, forgets, lends, returns, opens, ends, without_number, with_row, new_row, list_again, fade, with_staged, without_row, without_staged, new_session, with_effect, with_effects}
 use Rattle.repo_model.specs.May.{May, AllMay}
 use Rattle.repo_model.specs.Command.{Command, look, collect}
-use Rattle.repo_model.specs.Reply.{Reply, is_free, collected}
+use Rattle.repo_model.specs.Reply.{is_free, collected}
 use Rattle.repo_model.specs.Purge.{expire_all}
 use Rattle.repo_model.specs.Turn.{turn, unlent}
 use Rattle.repo_model.specs.History.{Entry, IsReply, due, wants_memory, failed, Fits, ticked, effects_of, after, Legal, end}
@@ -21,7 +21,7 @@ use Rattle.repo_laws.specs.Laws.{count_of, rows_with, staged_with, places_of, Ar
 use Rattle.repo_laws.specs.Sound.{AreNamedApart, RowsApart, IsInOrder, Sound, OnePlace}
 use Rattle.repo_laws.specs.Closed.{given_out, all_given_out}
 use Rattle.repo_laws.proofs.Rows.{rows_in}
-use Rattle.repo_laws.proofs.Counts.{one_if, count-cons, count-push, count-filter, none-goes, row-goes, count-with_number, count-without_number, among-counts, count-with_row, count-with_staged, count-change_where, names, stages_it, rows_with-cons, staged_with-cons, rows-counted-back}
+use Rattle.repo_laws.proofs.Counts.{one_if, count-cons, count-push, none-goes, row-goes, count-with_number, among-counts, count-with_row, count-with_staged, count-change_where, names, stages_it, rows_with-cons, staged_with-cons, rows-counted-back}
 use Rattle.repo_laws.proofs.Places.{rows-apart, one-place-kept}
 use Rattle.repo_laws.proofs.Lists.{all-then}
 use Rattle.repo_laws.proofs.Releases.{same_path}
@@ -39,18 +39,18 @@ one-out k n ms once =
       | true ↦ λ is. omega (arith, once)
       | false ↦ λ is. omega (arith, others is ms)
     ] refl where
-  others : (n == k) ≡ false → (ms : List ℕ) → count_of k (without_number n ms) ≡ count_of k ms
-  others is [] = refl
-  others is (m ∷ ms) =
-      let rest = others is ms in
-      let here = count-cons (λ i. i == k) m ms in
-      elim (m == n)
-      as (λ b. (m == n) ≡ b → count_of k (cond (not b) (m ∷ without_number n ms) (without_number n ms)) ≡ count_of k (m ∷ ms)) [
-        | true ↦ λ same.
-            let zero : one_if (m == k) ≡ 0 = ap (λ i. one_if (i == k)) (eqb-true m n same) ∙ ap one_if is in
-            omega (arith, here, zero, rest)
-        | false ↦ λ _. omega (arith, here, count-cons (λ i. i == k) m (without_number n ms), rest)
-      ] refl
+      others : (n == k) ≡ false → (ms : List ℕ) → count_of k (without_number n ms) ≡ count_of k ms
+      others is [] = refl
+      others is (m ∷ ms) =
+          let rest = others is ms in
+          let here = count-cons (λ i. i == k) m ms in
+          elim (m == n)
+          as (λ b. (m == n) ≡ b → count_of k (cond (not b) (m ∷ without_number n ms) (without_number n ms)) ≡ count_of k (m ∷ ms)) [
+            | true ↦ λ same.
+                let zero : one_if (m == k) ≡ 0 = ap (λ i. one_if (i == k)) (eqb-true m n same) ∙ ap one_if is in
+                omega (arith, here, zero, rest)
+            | false ↦ λ _. omega (arith, here, count-cons (λ i. i == k) m (without_number n ms), rest)
+          ] refl
 
 -- the one file that is staged at a path goes, and no other
 file-goes : (p : Staged → Bool) (path : List ℕ) (files : List Staged) (file : Staged) → AreApart files → find (is_staged path) files ≡ Some file
@@ -99,7 +99,7 @@ module _ (n : ℕ) (at : List ℕ) (f : List Row → List Row) where
       let before = rows_with-cons n h hosted in
       elim (is_repository at h)
       as (λ c. (c || list_any (is_repository at) hosted) ≡ true → Gains a b (option_map_or (λ (g : Hosted). g.rows) (cond c (Some h) (find (is_repository at) hosted)) [])
-          → rows_with n (h ∷ hosted) + a ≤ rows_with n (cond c (changed h ∷ hosted) (h ∷ change_first (is_repository at) changed hosted)) + b) [
+      → rows_with n (h ∷ hosted) + a ≤ rows_with n (cond c (changed h ∷ hosted) (h ∷ change_first (is_repository at) changed hosted)) + b) [
         | true ↦ λ _ now. omega (arith, before, rows_with-cons n (changed h) hosted, now)
         | false ↦ λ later now. omega (arith, before, rows_with-cons n h (change_first (is_repository at) changed hosted), rows-gained a b hosted later now)
       ] there here
@@ -160,20 +160,20 @@ module _ (grace now : ℕ) (s : State) (n : ℕ) (once : places_of s n ≤ 1) wh
         | true ↦ λ among. omega (arith, once)
         | false ↦ λ is. omega (arith, unforgotten is s.yard.condemned)
       ] refl where
-    unforgotten : is_among n blobs ≡ false → (ms : List ℕ) → count_of n ms ≤ count_of n (filter (λ m. not (is_among m blobs)) ms)
-    unforgotten is [] = omega arith
-    unforgotten is (m ∷ ms) =
-        let rest = unforgotten is ms in
-        let kept : List ℕ = filter (λ k. not (is_among k blobs)) ms in
-        let here = count-cons (λ i. i == n) m ms in
-        elim (is_among m blobs)
-        as (λ b. is_among m blobs ≡ b → count_of n (m ∷ ms) ≤ count_of n (cond (not b) (m ∷ kept) kept)) [
-          | true ↦ λ among.
-              let other : (m == n) ≡ false = ne_eqb m n (λ same. false≢true (sym is ∙ ap (λ k. is_among k blobs) (sym same) ∙ among)) in
-              let zero : one_if (m == n) ≡ 0 = ap one_if other in
-              omega (arith, here, zero, rest)
-          | false ↦ λ _. omega (arith, here, count-cons (λ i. i == n) m kept, rest)
-        ] refl
+        unforgotten : is_among n blobs ≡ false → (ms : List ℕ) → count_of n ms ≤ count_of n (filter (λ m. not (is_among m blobs)) ms)
+        unforgotten is [] = omega arith
+        unforgotten is (m ∷ ms) =
+            let rest = unforgotten is ms in
+            let kept : List ℕ = filter (λ k. not (is_among k blobs)) ms in
+            let here = count-cons (λ i. i == n) m ms in
+            elim (is_among m blobs)
+            as (λ b. is_among m blobs ≡ b → count_of n (m ∷ ms) ≤ count_of n (cond (not b) (m ∷ kept) kept)) [
+              | true ↦ λ among.
+                  let other : (m == n) ≡ false = ne_eqb m n (λ same. false≢true (sym is ∙ ap (λ k. is_among k blobs) (sym same) ∙ among)) in
+                  let zero : one_if (m == n) ≡ 0 = ap one_if other in
+                  omega (arith, here, zero, rest)
+              | false ↦ λ _. omega (arith, here, count-cons (λ i. i == n) m kept, rest)
+            ] refl
   places-stay (lends blob) rows files may = omega arith
   places-stay (returns lease) rows files may = omega arith
   places-stay (opens m repo) rows files may =
@@ -201,13 +201,13 @@ module _ (settings : Settings) (grace now n : ℕ) where
             let new : 0 < places_of (with_effect s e) n = just-drawn e (ltb-false n s.yard.next_draft is) below in
             omega (arith, new)
       ] refl where
-    just-drawn : (e : Effect) → s.yard.next_draft ≤ n → n < (with_effect s e).yard.next_draft → 0 < places_of (with_effect s e) n
-    just-drawn draws up below =
-        let same : s.yard.next_draft ≡ n = omega arith in
-        let one : one_if (s.yard.next_draft == n) ≡ 1 = ap one_if (eq-eqb s.yard.next_draft n same) in
-        omega (arith, one, count-push (λ m. m == n) s.yard.drafts s.yard.next_draft)
-    just-drawn (drops m) up below = absurd (omega arith)
-    just-drawn e up below = absurd (omega arith)
+        just-drawn : (e : Effect) → s.yard.next_draft ≤ n → n < (with_effect s e).yard.next_draft → 0 < places_of (with_effect s e) n
+        just-drawn draws up below =
+            let same : s.yard.next_draft ≡ n = omega arith in
+            let one : one_if (s.yard.next_draft == n) ≡ 1 = ap one_if (eq-eqb s.yard.next_draft n same) in
+            omega (arith, one, count-push (λ m. m == n) s.yard.drafts s.yard.next_draft)
+        just-drawn (drops m) up below = absurd (omega arith)
+        just-drawn e up below = absurd (omega arith)
 
   -- so through effects that forget nothing
   stood-effects : (es : List Effect) (s : State) (given : ℕ) → Sound settings s → OnePlace s → AllMay grace now s es → AllByRecursion (λ e. forgotten_by e ≡ []) es → Stood given s → Stood given (with_effects s es)
@@ -219,9 +219,18 @@ module _ (settings : Settings) (grace now n : ℕ) where
 
 none-forgotten : Common (λ e. forgotten_by e ≡ [])
 none-forgotten = record {
-  draws_so = refl; drops_so = λ n. refl; creates_so = λ repo path blob moment. refl; stages_so = λ n path blob. refl;
-  delivers_so = λ n repo path blob moment. refl; discards_so = λ n path draft. refl; relists_so = λ repo path moment. refl;
-  fades_so = λ repo path moment. refl; expires_so = λ repo path blob. refl; lends_so = λ blob. refl; opens_so = λ n repo. refl; ends_so = λ n result. refl;
+  draws_so = refl;
+  drops_so = λ n. refl;
+  creates_so = λ repo path blob moment. refl;
+  stages_so = λ n path blob. refl;
+  delivers_so = λ n repo path blob moment. refl;
+  discards_so = λ n path draft. refl;
+  relists_so = λ repo path moment. refl;
+  fades_so = λ repo path moment. refl;
+  expires_so = λ repo path blob. refl;
+  lends_so = λ blob. refl;
+  opens_so = λ n repo. refl;
+  ends_so = λ n result. refl;
 }
 
 all-may-split : (grace now : ℕ) (es fs : List Effect) (s : State) → AllMay grace now s (es ++ fs) → AllMay grace now s es × AllMay grace now (with_effects s es) fs
@@ -296,10 +305,10 @@ module _ (settings : Settings) (apart : AreNamedApart settings.hosted) (n : ℕ)
           | inl is_collect ↦ by is_collect fits.reply
           | inr other ↦ other-entry other
         ] where
-      by : e.command ≡ collect → IsReply settings s e → Then (after settings s e)
-      by is_collect (due is _) = collect-entry is_collect is
-      by is_collect (wants_memory is _ _) = free-entry (ap is_free is)
-      by is_collect (failed is _ _) = free-entry (ap is_free is)
+          by : e.command ≡ collect → IsReply settings s e → Then (after settings s e)
+          by is_collect (due is _) = collect-entry is_collect is
+          by is_collect (wants_memory is _ _) = free-entry (ap is_free is)
+          by is_collect (failed is _ _) = free-entry (ap is_free is)
 
   -- at the end of a history each number that was drawn stands somewhere, or was given out
   pub stood-through : (entries : List Entry) (s : State) (given : ℕ) → Sound settings s → OnePlace s → Legal settings s entries → (n < s.yard.next_draft → 0 < n → 0 < places_of s n + given)

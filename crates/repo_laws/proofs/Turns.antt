@@ -22,7 +22,8 @@ use Rattle.repo_model.specs.Command.{Command, look, done, may_put, put, put_side
 use Rattle.repo_model.specs.Reply.{file, draft, kind_refused, session_full, no_draft, taken, agreed, differs, noted, staged, sessions_full, opened, spent}
 use Rattle.repo_model.specs.Purge.{expire_all}
 use Rattle.repo_model.specs.Deploy.{offence, without_pom}
-use Rattle.repo_model.specs.Turn.{Turn, says, draws_or_spent, is_file, is_text, is_doc, shows, seen_at, or_nothing, document_text, side_text, in_repository, has_room, draws_draft, may_put_in, put_again, put_at, compared, judged, side_of, with_open, staged_at, stage_at, stage_in, commit_by, commit_of, abort_of, unlent, collect_of, turn}
+use Rattle.repo_model.specs.Turn.{Turn, says, draws_or_spent, is_file, is_text, is_doc, shows, seen_at, or_nothing, document_text, in_repository, has_room, draws_draft, may_put_in, put_again, put_at, compared, judged, with_open, staged_at, stage_at, stage_in, commit_by, commit_of, abort_of, unlent, collect_of, turn}
+use Rattle.mvn_digest.specs.Sides.{side_text, side_of}
 use Rattle.repo_laws.specs.Laws.{AreApart}
 use Rattle.repo_laws.specs.Sound.{AreNamedApart, IsInOrder, Sound}
 use Rattle.repo_laws.proofs.ByPath.{all-apart}
@@ -182,7 +183,7 @@ module _ (grace now : ℕ) where
         elim one.ended as (λ ended. one.ended ≡ ended → Can s (f one ended)) [
           | None ↦ λ is.
               let (there, apart) = found-has (IsInOrder settings) (is_session n) s.sessions one sound.sessions known in
-              going one (open-too n s.sessions one known is) apart (there-as-set settings s one.repo sound.rules ∙ there)
+              going one (open-too n s.sessions one known is) apart (there-as-set settings s one.repo sound.rules ∙ there is)
           | (Some outcome) ↦ λ _. over one outcome
         ] refl)
 

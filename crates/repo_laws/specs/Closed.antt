@@ -20,7 +20,7 @@ use Rattle.repo_model.specs.Purge.{is_same_build}
 use Rattle.repo_model.specs.State.{State, Lease, rows_of, is_among, number_end}
 use Rattle.repo_model.specs.Command.{Command, look, done, collect, is_file_path}
 use Rattle.repo_model.specs.Reply.{Reply, file, text, collected, spent, no_memory, is_free}
-use Rattle.repo_model.specs.Turn.{side_text}
+use Rattle.mvn_digest.specs.Sides.{side_text}
 use Rattle.repo_model.specs.History.{Entry, after}
 use Rattle.repo_laws.specs.Laws.{places_of, Stands}
 

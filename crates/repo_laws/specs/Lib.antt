@@ -3,3 +3,8 @@ pub mod Replies
 pub mod Sound
 pub mod Closed
 pub mod Worked
+pub mod Holds
+pub mod Numbered
+pub mod Items
+pub mod Staged
+pub mod Histories

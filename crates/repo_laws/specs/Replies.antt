@@ -1,12 +1,12 @@
 -- Words of the laws on replies: refusals and what they give up, replies that may change rows, entries that ask alike, and the moments of a history.
-use Rattle.std.specs.Prelude.{◌≡◌, ◌↔◌, ℕ, Bool, true, false, List, [], ◌∷◌, map, Option, Some, None}
+use Rattle.std.specs.Prelude.{◌≡◌, ◌↔◌, ℕ, Bool, true, false, ◌&&◌, List, [], ◌∷◌, map}
 use Rattle.repo_model.specs.declared.session.SessionResult.TheVariants.{Done}
-use Rattle.repo_model.specs.Data.{Hosted}
 use Rattle.repo_model.specs.Paths.{takes}
-use Rattle.repo_model.specs.State.{State, hosted_of}
+use Rattle.repo_model.specs.State.{State, hosted_of, open_of}
 use Rattle.repo_model.specs.Effect.{Effect, drops}
 use Rattle.repo_model.specs.Command.{Command, put, stage, is_fit}
 use Rattle.repo_model.specs.Reply.{Reply, missed, kind_refused, no_draft, taken, not_there, differs, no_session, sessions_full, session_full, offends, missing_pom, spent, no_memory, store_fault, relisted, created, ended, unlisted, collected}
+use Rattle.repo_model.specs.Turn.{has_room}
 use Rattle.repo_model.specs.History.{Entry}
 
 -- the replies that refuse a command
@@ -47,6 +47,10 @@ may_change_rows reply = false
 -- a repository is there and takes the file of a path
 abbrev pub takes_at : List ℕ → List ℕ → State → Bool
 takes_at repo path s = is_fit (λ h. takes h.rule path) (hosted_of repo s)
+
+-- a session is open, its repository takes the file of a path, and the path is staged or there is room for it
+abbrev pub takes_in : ℕ → List ℕ → State → Bool
+takes_in n path s = is_fit (λ one. takes_at one.repo path s && has_room path one.staged) (open_of n s)
 
 -- the same command at the same moment; memory is wanted in both or in neither, and the records fail alike
 pub record AsksAlike (one other : Entry) : Type 0 where

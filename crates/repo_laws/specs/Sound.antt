@@ -9,6 +9,7 @@ use Rattle.repo_model.specs.Settings.{Rule, Settings}
 use Rattle.repo_model.specs.State.{State, Lease, row_at, number_end}
 use Rattle.repo_model.specs.Command.{is_there}
 use Rattle.repo_model.specs.History.{latest_moment}
+use Rattle.repo_laws.specs.Numbered.{Numbered}
 use Rattle.repo_laws.specs.Laws.{FadingAreSnapshots, AreApart, places_of, leases_of, rows_with, count_of}
 
 -- no later rule has the id of an earlier one
@@ -30,11 +31,11 @@ abbrev pub RowsApart : List Row → Type 0
 RowsApart [] = Unit {0}
 RowsApart (row ∷ rows) = (row_at row.path rows ≡ None) × RowsApart rows
 
--- a session's repository is there, and no path is staged twice
+-- an open session's repository is there, and no path is staged twice
 abbrev pub IsInOrder : Settings → Session → Type 0
-IsInOrder settings one = IsTrue (is_there one.repo settings) × AreApart one.staged
+IsInOrder settings one = (one.ended ≡ None → IsTrue (is_there one.repo settings)) × AreApart one.staged
 
--- a state in order: the repositories of the settings, their rows in byte order of path, sessions of repositories that are there, numbers up to their end
+-- a state in order: the repositories of the settings, their rows in byte order of path, open sessions of repositories that are there, numbers up to their end
 pub record Sound (settings : Settings) (s : State) : Type 0 where
   pub rules : map (λ h. h.rule) s.hosted ≡ settings.hosted
   pub rows : AllByRecursion (λ (h : Hosted). AreByPath h.rows) s.hosted
@@ -68,6 +69,7 @@ pub record IsSound (settings : Settings) (s : State) : Type 0 where
   pub order : Sound settings s
   pub places : OnePlace s
   pub leases : LentOnce s
+  pub sessions : Numbered s
   pub condemned : AreRising s.yard.condemned
   pub fading : FadingAreSnapshots s
   pub last : s.last ≤ latest_moment

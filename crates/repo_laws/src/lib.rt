@@ -3,6 +3,10 @@
 //! No function here has code: its contract is the law.
 #![tactic(auto)]
 
-pub mod kept;
-pub mod laws;
-mod worked;
+pub mod deployed;
+pub mod documents;
+pub mod numbers;
+pub mod replies;
+pub mod states;
+pub mod tables;
+pub mod worked;

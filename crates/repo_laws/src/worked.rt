@@ -1,16 +1,33 @@
 //! Worked cases of the machine.
-ghost use Rattle.std.specs.Prelude.{◌≡◌, None, Some, option_map};
-ghost use Rattle.mvn_doc.specs.Written as written;
-ghost use Rattle.repo_model.specs.Calendar.{civil_of};
+ghost use Rattle.std.specs.Prelude.{◌≡◌, ◌++◌, List, None, Some, option_map};
+ghost use Rattle.mvn_coords.specs.Calendar.{civil_of};
+ghost use Rattle.mvn_coords.specs.Layout.{Directory};
+ghost use Rattle.mvn_metadata.specs.Written as written;
 ghost use Rattle.repo_model.specs.Document.{document};
 ghost use Rattle.repo_model.specs.State.{State, opening, rows_of};
-ghost use Rattle.repo_model.specs.History.{Legal, end};
-ghost use Rattle.repo_laws.specs.Worked.{shop, purged, deployed, releases, artifact, artifact_text};
+ghost use Rattle.repo_model.specs.History.{Entry, Legal, end};
+ghost use Rattle.repo_laws.specs.Worked.{shop, snapshots, artifact, builds, artifact_text, builds_text, pom_text};
+ghost use Rattle.repo_laws.specs.Histories.{two_builds, faded, purged, read_to_its_end, listed_again, still_there, deployed, refused};
 
 /// The worked histories are legal.
 pub fn worked_histories()
+    ensures two_builds { Legal shop (opening shop None) two_builds }
     ensures purged { Legal shop (opening shop None) purged }
+    ensures read_to_its_end { Legal shop (opening shop None) read_to_its_end }
+    ensures listed_again { Legal shop (opening shop None) (listed_again ++ still_there) }
     ensures deployed { Legal shop (opening shop None) deployed }
-    ensures leap { civil_of 1_709_208_000 ≡ record { year = 2024; month = 2; day = 29; hour = 12; minute = 0; second = 0 } }
-    ensures document { option_map written.text (document artifact (rows_of releases (end shop (opening shop None) deployed))) ≡ Some artifact_text }
+    ensures refused { Legal shop (opening shop None) refused }
+{}
+
+/// The documents that they leave have these texts.
+pub fn worked_documents()
+    ensures builds { option_map written.text (document builds (rows_of snapshots (end shop (opening shop None) two_builds))) ≡ Some builds_text }
+    ensures artifact { option_map written.text (document artifact (rows_of snapshots (end shop (opening shop None) two_builds))) ≡ Some artifact_text }
+    ensures faded { option_map written.text (document builds (rows_of snapshots (end shop (opening shop None) faded))) ≡ Some pom_text }
+    ensures listed_again { option_map written.text (document builds (rows_of snapshots (end shop (opening shop None) listed_again))) ≡ Some builds_text }
+{}
+
+/// The civil time of a moment on a leap day.
+pub fn worked_moments()
+    ensures { civil_of 1_709_208_000 ≡ record { year = 2024; month = 2; day = 29; hour = 12; minute = 0; second = 0 } }
 {}

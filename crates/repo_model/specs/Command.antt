@@ -4,8 +4,7 @@ use Rattle.mvn_coords.specs.Kind.{kind}
 use Rattle.mvn_coords.specs.declared.kind.Kind.{Kind}
 use Rattle.mvn_coords.specs.declared.kind.Kind.TheVariants.{FileSide, DocSide, Doc}
 use Rattle.mvn_coords.specs.declared.fault.PathFault.{PathFault}
-use Rattle.mvn_coords.specs.declared.fault.Side.{Side}
-use Rattle.mvn_coords.specs.declared.fault.Side.TheVariants.{Sha1, Md5}
+use Rattle.mvn_digest.specs.Sides.{digest_size}
 use Rattle.repo_model.specs.Data.{Blob, Place, repository, session}
 use Rattle.repo_model.specs.Settings.{Rule, Settings}
 use Rattle.repo_model.specs.Paths.{takes, file_at}
@@ -59,15 +58,10 @@ abbrev pub names_something : Result Kind PathFault → Bool
 names_something (Ok k) = true
 names_something (Err fault) = false
 
--- the bytes of a digest (FIPS 180-4, section 1; RFC 1321, section 3.5)
-abbrev pub digest_bytes : Side → ℕ
-digest_bytes Sha1 = 20
-digest_bytes Md5 = 16
-
 -- a digest of the side that the path names
 abbrev pub is_digest : Result Kind PathFault → List ℕ → Bool
-is_digest (Ok (FileSide c side)) said = length said == digest_bytes side
-is_digest (Ok (DocSide d side)) said = length said == digest_bytes side
+is_digest (Ok (FileSide c side)) said = length said == digest_size side
+is_digest (Ok (DocSide d side)) said = length said == digest_size side
 is_digest _ said = false
 
 abbrev pub names_document : Result Kind PathFault → Bool
@@ -92,3 +86,12 @@ meets settings (open_session repo) = is_there repo settings
 meets settings (stage at path n blob) = is_file_path path && is_parcel n blob
 meets settings (unlist repo) = is_there repo settings
 meets settings command = true
+
+-- what the program asks so far: it looks at files alone, at no side file and no document
+abbrev pub is_asked_so_far : Command → Bool
+is_asked_so_far (look repo path tried) = is_file_path path
+is_asked_so_far command = true
+
+-- a command that may be asked
+abbrev pub can_be_asked : Settings → Command → Bool
+can_be_asked settings command = meets settings command && is_asked_so_far command

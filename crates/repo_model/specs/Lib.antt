@@ -1,6 +1,5 @@
 pub mod Settings
 pub mod Data
-pub mod Calendar
 pub mod Paths
 pub mod Document
 pub mod State

@@ -5,14 +5,11 @@ use Rattle.std.specs.List.{list_any}
 use Rattle.mvn_coords.specs.Kind.{kind}
 use Rattle.mvn_coords.specs.declared.kind.Kind.{Kind}
 use Rattle.mvn_coords.specs.declared.kind.Kind.TheVariants.{File, FileSide, Doc, DocSide}
-use Rattle.mvn_coords.specs.declared.fault.Side.{Side}
-use Rattle.mvn_coords.specs.declared.fault.Side.TheVariants.{Sha1, Md5}
 use Rattle.mvn_coords.specs.declared.fault.PathFault.{PathFault}
 use Rattle.mvn_coords.specs.Layout.{Directory, text_of}
-use Rattle.mvn_digest.specs.declared.digests.Digests.{Digests}
 use Rattle.mvn_digest.specs.Digests.{digests_of}
-use Rattle.mvn_digest.specs.Hex.{hex_text}
-use Rattle.mvn_doc.specs.Written as written
+use Rattle.mvn_digest.specs.Sides.{side_of, side_text}
+use Rattle.mvn_metadata.specs.Written as written
 use Rattle.repo_model.specs.declared.session.SessionResult.{SessionResult}
 use Rattle.repo_model.specs.declared.session.SessionResult.TheVariants.{Aborted, Done}
 use Rattle.repo_model.specs.Data.{Blob, Row, Phase, listed, fading, repository, session, Hosted, Staged, Session, is_same_print}
@@ -43,13 +40,6 @@ pub data Seen : Type 0 where
   is_text : List ℕ → Seen
   is_doc : List ℕ → Seen
   is_nothing : Seen
-
-abbrev pub side_of : Digests → Side → List ℕ
-side_of digests Sha1 = digests.sha1
-side_of digests Md5 = digests.md5
-
-abbrev pub side_text : Side → Digests → List ℕ
-side_text side digests = hex_text (side_of digests side)
 
 abbrev pub or_nothing : {A : Type 0} → (A → Seen) → Option A → Seen
 or_nothing f None = is_nothing

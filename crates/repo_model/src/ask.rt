@@ -1,6 +1,6 @@
 //! Whoever takes commands.
 ghost use Rattle.std.specs.Prelude.{◌≡◌, ℕ, IsTrue};
-ghost use Rattle.repo_model.specs.Command.{Command as Asked, meets};
+ghost use Rattle.repo_model.specs.Command.{Command as Asked, can_be_asked};
 ghost use Rattle.repo_model.specs.Reply.{Reply as Answered};
 ghost use Rattle.repo_model.specs.Settings.{Settings};
 ghost use Rattle.repo_model.specs.State.{State};
@@ -37,7 +37,7 @@ pub trait Ask {
     /// One turn.
     fn ask(&mut self, call: Self::Call) -> Self::Given
         requires ready { ready self.old }
-        requires meets { IsTrue (meets (settings self.old) (asked call)) }
+        requires meets { IsTrue (can_be_asked (settings self.old) (asked call)) }
         ensures turn { (moment faults : ℕ)
             × asks self.old (record { command = asked call; moment = moment; reply = answered result; faults = faults }) self.new }
         ensures ready { ready self.new }

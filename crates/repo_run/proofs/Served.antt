@@ -1,38 +1,35 @@
 -- A replay's first connection, from what the server says of the stream: its history, its bytes, its status.
-use Rattle.std.proofs.Common.{◌≡◌, ℕ, true, false, ◌+◌, ◌*◌, ◌≤◌, arith, length, List, [], Option, Some, inl, inr, refl, sym, subst, ap, ◌∙◌}
+use Rattle.std.proofs.Common.{◌≡◌, ℕ, ◌+◌, ◌*◌, ◌≤◌, arith, length, List, [], Option, Some, None, inl, inr, refl, sym, subst, ap, ◌∙◌}
 use Rattle.std.specs.Prelude.{min}
 use Rattle.outside.specs.Faults.{last_count}
 use Rattle.outside.specs.Moments.{Moments}
 use Rattle.outside.specs.Told.{in_front}
 use Rattle.repo_core.specs.Whole.{Whole}
-use Rattle.repo_model.specs.State.{opening}
-use Rattle.repo_server.specs.declared.outcomes.End.{End}
-use Rattle.repo_server.specs.declared.outcomes.End.TheVariants.{Closed, TornRequest, TurnLimit, SourceFault, SinkFault}
-use Rattle.repo_server.specs.CoreTurn.{CoreTurn}
-use Rattle.repo_server.specs.Endings.{EndsByCause}
-use Rattle.repo_server.specs.LeftBehind.{IsDrawn}
-use Rattle.repo_server.specs.Releases.{ServesReleases, releases_alone}
-use Rattle.repo_server.specs.Plain.{repository}
-use Rattle.repo_server.specs.Serving.{Serves}
-use Rattle.repo_server.specs.declared.streams.TheConstants.{TURNS}
-use Rattle.repo_server.specs.Machine.{with_entries}
-use Rattle.repo_server.proofs.Bound.{serves-most}
-use Rattle.repo_server.proofs.CoreTurns.{state_of, calls_of, core-is_machine, core-counts}
-use Rattle.repo_server.proofs.Endings.{serves-shows}
-use Rattle.repo_server.proofs.LeftBehind.{stream-left}
-use Rattle.repo_server.proofs.OwnDrafts.{none-missed}
-use Rattle.repo_server.proofs.PlayedFrom.{as-played, played-up-to}
-use Rattle.repo_server.proofs.Recorded.{leads-counted, leads-legal, serves-recorded}
-use Rattle.repo_server.proofs.Told.{opening-told}
-use Rattle.repo_run.specs.FirstConnection.{ServesFirst, port_failed, none_left, one_served}
+use Rattle.repo_model.specs.History.{Entry, Legal, end}
+use Rattle.repo_model.specs.State.{State, opening}
+use Rattle.repo_course.specs.declared.limits.TheConstants.{TURNS}
+use Rattle.repo_course.specs.declared.outcomes.End.{End}
+use Rattle.repo_course.specs.declared.outcomes.End.TheVariants.{Closed, TornRequest, TurnLimit, SourceFault, SinkFault}
+use Rattle.repo_course.specs.Meets.{ServesReleases}
+use Rattle.repo_course.specs.Serving.{Serves}
+use Rattle.course_laws.specs.AsPlayed.{StoodStill}
+use Rattle.course_laws.specs.Endings.{EndsByCause}
+use Rattle.course_laws.specs.LeftBehind.{IsDrawn}
+use Rattle.course_laws.specs.Releases.{releases_alone, releases_rule}
+use Rattle.course_laws.proofs.Endings.{serves_few, serves_shows}
+use Rattle.course_laws.proofs.LeftBehind.{serves_leaves}
+use Rattle.course_laws.proofs.PlayedStream.{as-played, stream-upto}
+use Rattle.course_laws.proofs.Told.{opening-told}
+use Rattle.repo_run.proofs.Alone.{core_alone, core_counted, no_records}
+use Rattle.repo_run.specs.FirstConnection.{Makes, ServesFirst, port_failed, none_left, one_served}
 use Rattle.repo_run.specs.Replay.{AllTold, Finishes, IsReplayed, Replays, Reports, ReportsFirst, counts, opened}
 use Rattle.repo_run.specs.Replay as replay
 use Rattle.repo_run.specs.Status.{Counts, HasStatus, done, source_failed, sink_failed, out_failed, memory_wanted}
-use Rattle.repo_run.specs.Surroundings.{Connection, DeskState, Output, world_at}
+use Rattle.repo_run.specs.Surroundings.{Connection, DeskState, Output, outside_at}
 
 pub opened-serves : (core : Whole) (clock : Option Moments) → core ≡ opened clock → ServesReleases core.settings
 opened-serves core clock is =
-    let found : ServesReleases releases_alone = (record { id = repository; releases = true; snapshots = false }, refl, refl) in
+    let found : ServesReleases releases_alone = (releases_rule, refl, refl) in
     subst (λ (w : Whole). ServesReleases w.settings) (sym is) found
 
 same-counts : (old new : Connection) (out out' : Output) → new.read_faults ≡ old.read_faults → new.write_faults ≡ old.write_faults
@@ -49,53 +46,67 @@ finished calls ending old new out out' status r w (inl a) = done (same-counts ol
 finished calls ending old new out out' status r w (inr (inl a)) = out_failed r w a.0.2 a.1
 finished calls ending old new out out' status r w (inr (inr a)) = memory_wanted r w a.1
 
-pub has-status : (calls : ℕ) (ending : End) (old new : Connection) (out out' : Output) (status : ℕ)
-    → EndsByCause ending old.read_faults old.write_faults new.read_faults new.write_faults → Reports ending calls out out' status
+pub has-status : (calls : ℕ) (ending : End) (old new : Connection) (out out' : Output) (status : ℕ) (input input' : Option (List ℕ)) (faults faults' : ℕ)
+    → EndsByCause ending (outside_at input old faults) (outside_at input' new faults') → Reports ending calls out out' status
     → HasStatus (counts old out) (counts new out') status
-has-status calls SourceFault old new out out' status ends told = source_failed ends.0 ends.1 told.1
-has-status calls SinkFault old new out out' status ends told = sink_failed ends.0 ends.1 (ap (λ (o : Output). o.faults) told.0) told.1
-has-status calls Closed old new out out' status ends told = finished calls Closed old new out out' status ends.0 ends.1 told
-has-status calls TornRequest old new out out' status ends told = finished calls TornRequest old new out out' status ends.0 ends.1 told
-has-status calls TurnLimit old new out out' status ends told = finished calls TurnLimit old new out out' status ends.0 ends.1 told
+has-status calls SourceFault old new out out' status input input' faults faults' ends told = source_failed ends.0 ends.1 told.1
+has-status calls SinkFault old new out out' status input input' faults faults' ends told = sink_failed ends.0 ends.1 (ap (λ (o : Output). o.faults) told.0) told.1
+has-status calls Closed old new out out' status input input' faults faults' ends told = finished calls Closed old new out out' status ends.0 ends.1 told
+has-status calls TornRequest old new out out' status input input' faults faults' ends told = finished calls TornRequest old new out out' status ends.0 ends.1 told
+has-status calls TurnLimit old new out out' status input input' faults faults' ends told = finished calls TurnLimit old new out out' status ends.0 ends.1 told
 
 -- so few calls are all counted
 all-counted : (calls made : ℕ) → calls ≡ min (0 + made) last_count → made ≤ 0 + 3 * TURNS → calls ≡ made
 all-counted calls made counted few = omega arith
 
+-- a stream that begins with nothing read ahead
+pub nothing_held : (told : Option (List ℕ)) → in_front [] told ≡ told
+nothing_held None = refl
+nothing_held (Some bytes) = refl
+
 module _ (tells : Type 0) where
-  pub is-replayed : (clock clock' : Option Moments) (old new : Connection) (faults faults' : ℕ) (core : Whole) (held : List ℕ) (ending : End)
-      → Serves (CoreTurn releases_alone) tells TURNS (world_at (opened clock) old.left old faults) (world_at core (in_front held new.left) new faults') ending
+  pub is-replayed : (clock clock' : Option Moments) (old new : Connection) (faults faults' : ℕ) (core : Whole) (held : List ℕ) (ending : End) (entries : List Entry)
+      → Makes (opened clock) entries core
+      → Serves tells TURNS entries (outside_at (in_front [] old.left) old faults) (outside_at (in_front held new.left) new faults') ending
       → clock' ≡ core.state.clock → IsReplayed tells clock clock' old new faults faults' ending core.calls
-  is-replayed clock clock' old new faults faults' core held ending served clock-is =
-      let turns = CoreTurn releases_alone in
-      let before = world_at (opened clock) old.left old faults in
-      let after = world_at core (in_front held new.left) new faults' in
-      let all = serves-recorded turns tells TURNS before after ending served in
-      let led = leads-legal turns releases_alone state_of (core-is_machine releases_alone) all.0 (opened clock) core all.1 in
+  is-replayed clock clock' old new faults faults' core held ending entries made begun clock-is =
+      let before = outside_at old.left old faults in
+      let after = outside_at (in_front held new.left) new faults' in
+      let served = subst (λ (input : Option (List ℕ)). Serves tells TURNS entries (outside_at input old faults) after ending) (nothing_held old.left) begun in
+      let alone = core_alone entries (opened clock) core made in
       let drawn : IsDrawn (opened clock).state.yard = record { drafts = tt; leases = tt } in
-      let left = stream-left turns tells releases_alone state_of (core-is_machine releases_alone) TURNS before after ending drawn served in
+      let left = serves_leaves tells releases_alone TURNS entries (opened clock).state drawn alone.legal before after ending served in
+      let yard = ap (λ (s : State). s.yard) alone.ends in
+      let none = sym (ap (λ (s : State). s.faults) alone.ends) ∙ no_records entries (opened clock) core refl made in
+      let stood : StoodStill 0 (end releases_alone (opening releases_alone clock) entries).faults = (none, omega (arith, none)) in
       record {
-        entries = all.0;
+        entries = entries;
         core = core;
         held = held;
-        serves = all.2 [];
-        legal = led.0;
-        state = led.1;
+        serves = served;
+        made = made;
+        legal = alone.legal;
+        state = alone.ends;
         clock_is = clock-is;
-        counted = all-counted core.calls (length all.0)
-            (leads-counted turns calls_of (core-counts releases_alone) all.0 (opened clock) core (omega arith) all.1)
-            (serves-most turns tells TURNS (with_entries [] before) (with_entries all.0 after) ending (all.2 []));
-        nothing_left = (left.drafts, left.leases);
-        drafts_found = none-missed tells releases_alone TURNS before after ending all.0 (all.2 []);
-        ends = serves-shows turns tells TURNS before after ending served;
+        counted = all-counted core.calls (length entries) (core_counted entries (opened clock) core (omega arith) made)
+            (serves_few tells TURNS entries before after ending served);
+        nothing_left = (ap (λ y. y.drafts) yard ∙ left.nothing.drafts, ap (λ y. y.leases) yard ∙ left.nothing.leases);
+        drafts_found = left.found;
+        ends = serves_shows tells TURNS entries before after ending served;
         played = λ moments input taken told calm.
-            played-up-to releases_alone tells told.blobs_tell TURNS (opening releases_alone (Some moments)) input taken
-            (opening-told releases_alone (Some moments)) refl before after ending
-            (record { state = ap (opening releases_alone) told.clock_is; input_is = told.left_is; output_is = told.taken_is }) calm served;
+            let start = opening releases_alone (Some moments) in
+            stream-upto releases_alone tells told.blobs_tell TURNS entries start
+            (subst (λ (c : Option Moments). Legal releases_alone (opening releases_alone c) entries) told.clock_is alone.legal)
+            (subst (λ (c : Option Moments). StoodStill 0 (end releases_alone (opening releases_alone c) entries).faults) told.clock_is stood)
+            before after ending input taken
+            (record { input_is = told.left_is; output_is = told.taken_is; rows = opening-told releases_alone (Some moments); clock = refl }) calm served;
         faultless = λ moments input taken told calm.
-            as-played releases_alone tells told.blobs_tell TURNS (opening releases_alone (Some moments)) input taken
-            (opening-told releases_alone (Some moments)) refl before after ending
-            (record { state = ap (opening releases_alone) told.clock_is; input_is = told.left_is; output_is = told.taken_is }) calm served;
+            let start = opening releases_alone (Some moments) in
+            as-played releases_alone tells told.blobs_tell TURNS entries start
+            (subst (λ (c : Option Moments). Legal releases_alone (opening releases_alone c) entries) told.clock_is alone.legal)
+            (subst (λ (c : Option Moments). StoodStill 0 (end releases_alone (opening releases_alone c) entries).faults) told.clock_is stood)
+            before after ending input taken
+            (record { input_is = told.left_is; output_is = told.taken_is; rows = opening-told releases_alone (Some moments); clock = refl }) calm served;
       }
 
   module _ {X : Type 0} (connection_of : X → Connection) (clock clock' : Option Moments) (old new : DeskState X) (out out' : Output) (status : ℕ) where
@@ -112,10 +123,9 @@ module _ (tells : Type 0) where
         let last = subst (λ (e : Option End). ReportsFirst e core'.calls out out' status) ends told in
         replay.none_left at-end desk (clock-is ∙ ap (λ (w : Whole). w.state.clock) same ∙ ap (λ (w : Whole). w.state.clock) is)
         (subst (λ (n : ℕ). Reports Closed n out out' status) (ap (λ (w : Whole). w.calls) same ∙ ap (λ (w : Whole). w.calls) is) last)
-    replays core core' ended is (one_served link link' left held faults ending took desk served ends) clock-is told =
+    replays core core' ended is (one_served link link' left held faults ending entries took desk makes served ends) clock-is told =
         let last = subst (λ (e : Option End). ReportsFirst e core'.calls out out' status) ends told in
-        let opens = subst (λ (w : Whole). Serves (CoreTurn w.settings) tells TURNS
-        (world_at w (connection_of link).left (connection_of link) old.blob_faults) (world_at core' (in_front held (connection_of link').left) (connection_of link') faults) ending) is served in
-        let all = is-replayed clock clock' (connection_of link) (connection_of link') old.blob_faults faults core' held ending opens clock-is in
+        let made = subst (λ (w : Whole). Makes w entries core') is makes in
+        let all = is-replayed clock clock' (connection_of link) (connection_of link') old.blob_faults faults core' held ending entries made served clock-is in
         replay.one_served link link' left faults ending core'.calls took desk all last
-        (has-status core'.calls ending (connection_of link) (connection_of link') out out' status all.ends last)
+        (has-status core'.calls ending (connection_of link) (connection_of link') out out' status _ _ old.blob_faults faults all.ends last)

@@ -1,9 +1,9 @@
 -- The lines that a run prints (the project's own texts).
 use Rattle.std.specs.Prelude.{ℕ, List, ◌++◌, codes}
 use Rattle.std.specs.Fmt.{decimal}
-use Rattle.repo_server.specs.declared.outcomes.End.{End}
-use Rattle.repo_server.specs.declared.outcomes.End.TheVariants.{Closed, TornRequest, TurnLimit, SourceFault, SinkFault}
-use Rattle.repo_server.specs.Answers.{line}
+use Rattle.repo_course.specs.declared.outcomes.End.{End}
+use Rattle.repo_course.specs.declared.outcomes.End.TheVariants.{Closed, TornRequest, TurnLimit, SourceFault, SinkFault}
+use Rattle.repo_course.specs.Answers.{line}
 
 abbrev pub words_line : List ℕ
 words_line = line (codes "mvnrepod: words")

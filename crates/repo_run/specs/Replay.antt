@@ -1,5 +1,6 @@
 -- A replay: the first connection of a desk is served by a repository that begins empty, and given back.
-use Rattle.std.specs.Prelude.{◌≡◌, ◌≢◌, ◌⊎◌, ℕ, List, [], ◌∷◌, length, All, Option, Some, None}
+use Rattle.std.specs.List.{AllByRecursion}
+use Rattle.std.specs.Prelude.{◌≡◌, ◌≢◌, ◌⊎◌, ℕ, List, [], ◌∷◌, length, Option, Some, None}
 use Rattle.outside.specs.Faults.{Rose}
 use Rattle.outside.specs.Moments.{Moments}
 use Rattle.outside.specs.Told.{behind, in_front, IsAtEnd}
@@ -7,21 +8,20 @@ use Rattle.repo_model.specs.State.{opening}
 use Rattle.repo_model.specs.Reply.{no_draft}
 use Rattle.repo_model.specs.History.{Entry, Legal, end}
 use Rattle.repo_core.specs.Whole.{Whole}
-use Rattle.repo_server.specs.declared.outcomes.End.{End}
-use Rattle.repo_server.specs.declared.outcomes.End.TheVariants.{Closed, SourceFault, SinkFault}
-use Rattle.repo_server.specs.CoreTurn.{CoreTurn}
-use Rattle.repo_server.specs.Endings.{EndsByCause}
-use Rattle.repo_server.specs.Faultless.{Played, first_scene, play_stream}
-use Rattle.repo_server.specs.AsPlayed.{IsAsPlayed, IsPlayedUpTo, NoFaults, StoodStill}
-use Rattle.repo_server.specs.Machine.{with_entries, with_history}
-use Rattle.repo_server.specs.Serving.{Serves}
-use Rattle.repo_server.specs.Releases.{releases_alone}
+use Rattle.repo_course.specs.declared.limits.TheConstants.{TURNS}
+use Rattle.repo_course.specs.declared.outcomes.End.{End}
+use Rattle.repo_course.specs.declared.outcomes.End.TheVariants.{Closed, SourceFault, SinkFault}
+use Rattle.repo_course.specs.Serving.{Serves}
+use Rattle.course_laws.specs.AsPlayed.{IsAsPlayed, IsPlayedUpTo, NoFaults, StoodStill}
+use Rattle.course_laws.specs.Endings.{EndsByCause}
+use Rattle.course_laws.specs.Faultless.{Played, first_scene, play_stream}
+use Rattle.course_laws.specs.Releases.{releases_alone}
 use Rattle.repo_run.specs.declared.actions.Action.{Action}
 use Rattle.repo_run.specs.declared.actions.Action.TheVariants.{Replay, Nothing}
-use Rattle.repo_server.specs.declared.streams.TheConstants.{TURNS}
+use Rattle.repo_run.specs.FirstConnection.{Makes}
 use Rattle.repo_run.specs.Lines.{words_line, input_line, memory_line, ending_line}
 use Rattle.repo_run.specs.Status.{HasStatus, Counts}
-use Rattle.repo_run.specs.Surroundings.{Connection, DeskState, Output, PrintsWhole, PrintsPart, Prints, world_at}
+use Rattle.repo_run.specs.Surroundings.{Connection, DeskState, Output, PrintsWhole, PrintsPart, Prints, outside_at}
 
 -- the repository before its first call, with these moments to come
 abbrev pub opened : Option Moments → Whole
@@ -44,22 +44,22 @@ pub record IsReplayed (tells : Type 0) (clock clock' : Option Moments) (old new 
   -- the repository in the end, and the bytes that were read ahead and not used
   pub core : Whole
   pub held : List ℕ
-  pub serves : Serves (with_history (CoreTurn releases_alone)) tells TURNS
-      (with_entries [] (world_at (opened clock) old.left old faults)) (with_entries entries (world_at core (in_front held new.left) new faults')) ending
+  pub serves : Serves tells TURNS entries (outside_at old.left old faults) (outside_at (in_front held new.left) new faults') ending
+  pub made : Makes (opened clock) entries core
   pub legal : Legal releases_alone (opening releases_alone clock) entries
-  pub state : core.state ≡ end (opening releases_alone clock) entries
+  pub state : core.state ≡ end releases_alone (opening releases_alone clock) entries
   pub clock_is : clock' ≡ core.state.clock
   pub counted : calls ≡ length entries
   -- no draft and no lease stands in the end, and no call was told that its draft is not there
   pub nothing_left : (core.state.yard.drafts ≡ []) × (core.state.yard.leases ≡ [])
-  pub drafts_found : All (λ (e : Entry). e.reply ≢ no_draft) entries
-  pub ends : EndsByCause ending old.read_faults old.write_faults new.read_faults new.write_faults
+  pub drafts_found : AllByRecursion (λ (e : Entry). e.reply ≢ no_draft) entries
+  pub ends : EndsByCause ending (outside_at old.left old faults) (outside_at (in_front held new.left) new faults')
   -- where no blob failed, what was taken is what is answered if nothing fails, up to some place
   pub played : (moments : Moments) (input before : List ℕ) → AllTold tells clock old moments input before → StoodStill faults faults'
-      → IsPlayedUpTo before (answers moments input) (world_at (opened clock) old.left old faults) (world_at core (in_front held new.left) new faults') ending
+      → IsPlayedUpTo before (answers moments input) (outside_at old.left old faults) (outside_at (in_front held new.left) new faults') ending
   -- and all of it where nothing failed
   pub faultless : (moments : Moments) (input before : List ℕ) → AllTold tells clock old moments input before
-      → NoFaults (world_at (opened clock) old.left old faults) (world_at core (in_front held new.left) new faults')
+      → NoFaults (outside_at old.left old faults) (outside_at (in_front held new.left) new faults')
       → IsAsPlayed before (answers moments input) new.taken ending
 
 -- a stream is over: its line, or the part of it that was printed, or that there was no memory for it

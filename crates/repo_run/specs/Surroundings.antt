@@ -2,7 +2,7 @@
 use Rattle.std.specs.Prelude.{◌≡◌, ◌⊎◌, ℕ, ◌<◌, List, ◌∷◌, length, take, Option}
 use Rattle.outside.specs.Faults.{Rose}
 use Rattle.outside.specs.Told.{behind}
-use Rattle.repo_server.specs.World.{World, world}
+use Rattle.repo_course.specs.Serving.{Outside}
 
 -- what a connection tells of itself
 pub record Connection : Type 0 where
@@ -54,5 +54,11 @@ FirstOnly Related (old ∷ olds) (new ∷ news) = Related old new × (news ≡ o
 FirstOnly Related olds news = ⊥
 
 -- what a server sees of a connection and its desk, with these bytes not yet used
-abbrev pub world_at : {A : Type 0} → A → Option (List ℕ) → Connection → ℕ → World A
-world_at machine input c blob_faults = world machine input c.taken c.read_faults c.write_faults blob_faults
+abbrev pub outside_at : Option (List ℕ) → Connection → ℕ → Outside
+outside_at input c blob_faults = record {
+  input = input;
+  output = c.taken;
+  read_faults = c.read_faults;
+  write_faults = c.write_faults;
+  blob_faults = blob_faults;
+}

@@ -1,20 +1,21 @@
 //! A run of the program: its words, its one connection, its line and its status.
 ghost use Rattle.std.specs.Prelude.{◌≡◌, ◌<◌, map, vec_len, IfOk, IfErr, MatchBool};
 ghost use Rattle.std.specs.String.{string_bytes};
-ghost use Rattle.repo_server.specs.Held.{AllTell};
+ghost use Rattle.repo_course.specs.Meets.{ServesReleases};
+ghost use Rattle.repo_course.specs.Serving.{AllTell};
 ghost use Rattle.repo_run.specs.FirstConnection.{ServesFirst};
 ghost use Rattle.repo_run.specs.Lines.{end_name, ending_line};
 ghost use Rattle.repo_run.specs.Replay.{Finishes, Replays, Reports, Runs, ReportsFirst, opened};
 ghost use Rattle.repo_run.specs.Status.{MatchAction};
 ghost use Rattle.repo_run.specs.Surroundings.{FirstOnly, Prints, PrintsPart, PrintsWhole, connection, desk_state, output};
 ghost use Rattle.repo_run.specs.Words.{action_of};
-ghost use Rattle.repo_server.specs.Releases.{ServesReleases};
 
 use crate::actions::Action;
 use crate::words::wanted;
 use outside::{Blobs, Clock, Held, NoMemory, Port, Sink, write_all};
 use repo_core::{Core, Policy};
-use repo_server::{End, LONGEST_BODY, REPOSITORY, serve_stream};
+use repo_course::{End, LONGEST_BODY, REPOSITORY};
+use repo_server::serve_stream;
 use std::alloc::{AllocError, Global};
 use texts::Text;
 

@@ -1,100 +1,98 @@
--- One turn of a stream by what its call gave, and a stream by its turns.
-use Rattle.std.proofs.Common.{◌≡◌, ◌≢◌, ◌⊎◌, ℕ, suc, ◌+◌, ◌-◌, ◌<◌, ◌==◌, Bool, true, false, List, Option, Some, None, IfSome, MatchOption, Result, Ok, Err, inl, inr, ap, arith, refl, subst, sym, ◌∙◌}
+-- What a stream comes to by what was read, and a stream by its turns.
+use Rattle.std.proofs.Common.{◌≡◌, ◌≢◌, ◌⊎◌, ℕ, suc, ◌+◌, ◌-◌, ◌<◌, ◌==◌, Bool, true, false, List, [], ◌++◌, Option, Some, None, IfOk, IfNone, IfSome, OnErr, Result, Ok, Err, inl, inr, arith, refl, subst, sym, ◌∙◌}
 use Rattle.std.specs.Option.{option_map}
 use Rattle.std.proofs.lemmas.Bool.Decides.{eqb_tells}
 use Rattle.http_wire.specs.declared.faults.HeadFault.{HeadFault}
 use Rattle.http_wire.specs.declared.faults.WireFault.{WireFault}
-use Rattle.http_wire.specs.declared.faults.WireFault.TheVariants.{SourceFault}
-use Rattle.http_wire.specs.Front.{Front, Bad, Whole, front}
+use Rattle.http_wire.specs.declared.faults.WireFault.TheVariants as wire
+use Rattle.http_wire.specs.Front.{Front, Clean, Cut, Bad, Whole, front}
 use Rattle.http_wire.specs.Head.{Head}
-use Rattle.http_wire.specs.Stream.{BeginsWithHead}
+use Rattle.http_wire.specs.Stream.{BeginsWith, BeginsWithHead, CountsFaults}
 use Rattle.repo_model.specs.History.{Entry}
-use Rattle.repo_server.specs.declared.outcomes.End.{End}
-use Rattle.repo_server.specs.declared.outcomes.End.TheVariants as stream
-use Rattle.repo_server.specs.Answers.{bad_head_answer}
-use Rattle.repo_server.specs.Course.{course}
-use Rattle.repo_server.specs.Plain.{Plain, plain}
-use Rattle.repo_server.specs.Serving.{Begins, Follows, IsBehindHead, IsHead, IsRefused, IsRequest, IsServed, Says, Serves, Turn, refused, served, starved}
-use Rattle.repo_server.specs.World.{World, world}
-
--- the head is not plain
-pub served_refused : {A : Type 0} (Asks : A → Entry → A → Type 0) (tells : Type 0) (judged : Option Plain) (last : Bool) (old new : World A) (end : Option End)
-    → None ≡ judged → Says bad_head_answer (Some stream.Closed) old new end → IsServed Asks tells judged last old new end
-served_refused Asks tells judged last old new end same said =
-    subst (λ (j : Option Plain). IsServed Asks tells j last old new end) same (inl said)
-
--- the head is plain
-pub served_course : {A : Type 0} (Asks : A → Entry → A → Type 0) (tells : Type 0) (judged : Option Plain) (request : Plain) (last : Bool) (old new : World A) (end : Option End)
-    → Some request ≡ judged → Follows Asks tells (course request last) old new end → IsServed Asks tells judged last old new end
-served_course Asks tells judged request last old new end same follows =
-    subst (λ (j : Option Plain). IsServed Asks tells j last old new end) same (inl follows)
+use Rattle.repo_course.specs.Acts.{Starts}
+use Rattle.repo_course.specs.Acts as act
+use Rattle.repo_course.specs.Course.{Course, course_of}
+use Rattle.repo_course.specs.declared.outcomes.End.{End}
+use Rattle.repo_course.specs.declared.outcomes.End.TheVariants as stream
+use Rattle.repo_course.specs.Plain.{Plain, plain}
+use Rattle.repo_course.specs.Serving.{Begins, IsBehindHead, IsHead, IsRefused, IsWhole, Opens, clean, torn, failed, starved, refused, served, Outside, Serves, Turn}
+use Rattle.repo_server.proofs.Sources.{not_failed}
 
 -- what the stream begins with, once its head was taken
 begins : (P : Front → Type 0) (head : Head) (in0 in1 : Option (List ℕ)) → option_map front in0 ≡ option_map (λ rest. Whole head rest) in1
     → ((rest : List ℕ) → in1 ≡ Some rest → P (Whole head rest)) → Begins in0 P
 begins P head None in1 same holds = tt
-begins P head (Some bytes) None same holds = (cc)
+begins P head (Some bytes) None same holds = absurd (cc)
 begins P head (Some bytes) (Some rest) same holds =
     let there : front bytes ≡ Whole head rest = (cc) in
     subst P (sym there) (holds rest refl)
 
-turn_judged : {A : Type 0} (Asks : A → Entry → A → Type 0) (tells : Type 0) (last : Bool) (head : Head) (in1 : Option (List ℕ)) (old new : World A) (end : Option End) (judged : Option Plain)
-    → plain head ≡ judged → option_map front old.input ≡ option_map (λ rest. Whole head rest) in1
-    → MatchOption judged (Says bad_head_answer (Some stream.Closed) (record old { input = in1 }) new end) (λ request. Follows Asks tells (course request last) (record old { input = in1 }) new end)
-    → Turn Asks tells last old new end
-turn_judged Asks tells last head in1 old new end None is_refused same said =
-    refused (record old { input = in1 }) (begins IsRefused head old.input in1 same (λ rest there. is_refused))
-    (inr (in1, begins (IsBehindHead in1) head old.input in1 same (λ rest there. there), refl)) said
-turn_judged Asks tells last head in1 old new end (Some request) is_plain same follows =
-    served request in1 (begins (IsRequest request in1) head old.input in1 same (λ rest there. (is_plain, there))) follows
-
--- a head was taken, and served
-pub turn_of_head : {A : Type 0} (Asks : A → Entry → A → Type 0) (tells : Type 0) (last : Bool) (head : Head) (in1 : Option (List ℕ)) (old new : World A) (end : Option End)
-    → option_map front old.input ≡ option_map (λ rest. Whole head rest) in1
-    → IsServed Asks tells (plain head) last (record old { input = in1 }) new end
-    → Turn Asks tells last old new end
-turn_of_head Asks tells last head in1 old new end same (inl matched) = turn_judged Asks tells last head in1 old new end (plain head) refl same matched
-turn_of_head Asks tells last head in1 old new end same (inr said) =
-    starved (record old { input = in1 }) (begins IsHead head old.input in1 same (λ rest there. tt))
-    (inr (in1, begins (IsBehindHead in1) head old.input in1 same (λ rest there. there), refl)) said
-
--- the source did not fail
-abbrev pub IsNoFailure : {T : Type 0} → Result T WireFault → Type 0
-IsNoFailure (Err SourceFault) = ⊥
-IsNoFailure result = Unit {0}
-
-pub not_failed : {T : Type 0} (result : Result T WireFault) → IsNoFailure result → result ≢ Err SourceFault
-not_failed result holds same = subst IsNoFailure same holds
-
--- nothing was used
-pub stands : {A : Type 0} (m : A) (in0 in1 t0 t1 : Option (List ℕ)) (r0 r1 w0 w1 b : ℕ) → in1 ≡ in0 → t1 ≡ t0 → r1 ≡ r0 → w1 ≡ w0
-    → world m in1 t1 r1 w1 b ≡ world m in0 t0 r0 w0 b
-stands m in0 in1 t0 t1 r0 r1 w0 w1 b same_input same_taken same_reads same_writes =
-    λ i. world m (same_input i) (same_taken i) (same_reads i) (same_writes i) b
-
--- what holds of a world whose source alone was read
-pub from_read : {A : Type 0} (P : World A → Type 0) (m : A) (in1 t0 t1 : Option (List ℕ)) (r0 r1 w0 w1 b : ℕ) → t1 ≡ t0 → r1 ≡ r0 → w1 ≡ w0
-    → P (world m in1 t1 r1 w1 b) → P (world m in1 t0 r0 w0 b)
-from_read P m in1 t0 t1 r0 r1 w0 w1 b same_taken same_reads same_writes here =
-    subst (λ (w : ℕ). P (world m in1 t0 r0 w b)) same_writes
-    (subst (λ (r : ℕ). P (world m in1 t0 r w1 b)) same_reads (subst (λ (t : Option (List ℕ)). P (world m in1 t r1 w1 b)) same_taken here))
-
--- the stream begins with a whole head
-pub begins_head : (bytes : Option (List ℕ)) → BeginsWithHead bytes → Begins bytes IsHead
+begins_head : (bytes : Option (List ℕ)) → BeginsWithHead bytes → Begins bytes IsHead
 begins_head None there = tt
 begins_head (Some all) there = subst IsHead (sym there.2) tt
 
--- the stream begins with a head that is refused
-pub begins_refused : (bytes : Option (List ℕ)) (fault : HeadFault) → IfSome bytes (λ all. front all ≡ Bad fault) → Begins bytes IsRefused
+begins_refused : (bytes : Option (List ℕ)) (fault : HeadFault) → IfSome bytes (λ all. front all ≡ Bad fault) → Begins bytes IsRefused
 begins_refused None fault is = tt
 begins_refused (Some all) fault is = subst IsRefused (sym is) tt
 
+-- what reading a head tells of the outside before and then
+pub record IsRead (read : Result (Option Head) WireFault) (old new : Outside) : Type 0 where
+  pub request : IfOk read (λ given. IfSome given (λ head. option_map front old.input ≡ option_map (λ rest. Whole head rest) new.input))
+  pub clean : IfOk read (λ given. IfNone given (BeginsWith old.input Clean))
+  pub torn : read ≡ Err wire.Torn → BeginsWith old.input Cut
+  pub refused : (fault : HeadFault) → read ≡ Err (wire.Refused fault) → BeginsWith old.input (Bad fault)
+  pub memory : read ≡ Err wire.NoMemory → BeginsWithHead old.input
+  pub faults : CountsFaults old.read_faults new.read_faults read
+  pub kept_at_end : IfOk read (λ given. IfNone given (new.input ≡ old.input))
+  pub kept : OnErr read (new.input ≡ old.input)
+  pub output : new.output ≡ old.output
+  pub write_faults : new.write_faults ≡ old.write_faults
+  pub blob_faults : new.blob_faults ≡ old.blob_faults
+
+module _ (last : Bool) (c : Course) (old new : Outside) where
+  -- the source alone was read
+  read_on : (input : Option (List ℕ)) (faults : ℕ) → new.input ≡ input → new.read_faults ≡ faults
+      → new.output ≡ old.output → new.write_faults ≡ old.write_faults → new.blob_faults ≡ old.blob_faults
+      → new ≡ record old { input = input; read_faults = faults }
+  read_on input faults i f o w b = λ k. record { input = i k; output = o k; read_faults = f k; write_faults = w k; blob_faults = b k }
+
+  opens_head : (head : Head) (judged : Option Plain) → plain head ≡ judged → option_map front old.input ≡ option_map (λ rest. Whole head rest) new.input
+      → new ≡ record old { input = new.input } → c ≡ course_of judged last → Opens last old new c
+  opens_head head None judged came on is =
+      refused (begins IsRefused head old.input new.input came (λ rest there. judged))
+      (inr (new.input, begins (IsBehindHead new.input) head old.input new.input came (λ rest there. there), on)) is
+  opens_head head (Some request) judged came on is =
+      served head request new.input judged (begins (IsWhole head new.input) head old.input new.input came (λ rest there. (refl, there))) on is
+
+  pub opens_read : (read : Result (Option Head) WireFault) → IsRead read old new → Starts read last c → Opens last old new c
+  opens_read (Ok (Some head)) r (act.due is) =
+      let on = read_on new.input old.read_faults refl (r.faults.kept (not_failed (Ok (Some head)) tt)) r.output r.write_faults r.blob_faults in
+      opens_head head (plain head) refl r.request on is
+  opens_read (Ok (Some head)) r (act.starved h came is) =
+      let on = read_on new.input old.read_faults refl (r.faults.kept (not_failed (Ok (Some head)) tt)) r.output r.write_faults r.blob_faults in
+      starved (begins IsHead head old.input new.input r.request (λ rest there. tt))
+      (inr (new.input, begins (IsBehindHead new.input) head old.input new.input r.request (λ rest there. there), on)) is
+  opens_read (Ok None) r (act.due is) =
+      clean r.clean (read_on old.input old.read_faults r.kept_at_end (r.faults.kept (not_failed (Ok None) tt)) r.output r.write_faults r.blob_faults) is
+  opens_read (Err wire.Torn) r (act.due is) =
+      torn (r.torn refl) (read_on old.input old.read_faults r.kept (r.faults.kept (not_failed (Err wire.Torn) tt)) r.output r.write_faults r.blob_faults) is
+  opens_read (Err wire.SourceFault) r (act.due is) =
+      failed new.read_faults (r.faults.raised refl) (read_on old.input new.read_faults r.kept refl r.output r.write_faults r.blob_faults) is
+  opens_read (Err (wire.Refused fault)) r (act.due is) =
+      refused (begins_refused old.input fault (r.refused fault refl))
+      (inl (read_on old.input old.read_faults r.kept (r.faults.kept (not_failed (Err (wire.Refused fault)) tt)) r.output r.write_faults r.blob_faults)) is
+  opens_read (Err wire.NoMemory) r (act.due is) =
+      starved (begins_head old.input (r.memory refl))
+      (inl (read_on old.input old.read_faults r.kept (r.faults.kept (not_failed (Err wire.NoMemory) tt)) r.output r.write_faults r.blob_faults)) is
+  opens_read (Ok None) r (act.starved h came is) = absurd (cc)
+  opens_read (Err fault) r (act.starved h came is) = absurd (cc)
+
 -- one more request may come
-pub one_less : (limit count : ℕ) → count < limit → limit - count ≡ suc (limit - (count + 1))
+one_less : (limit count : ℕ) → count < limit → limit - count ≡ suc (limit - (count + 1))
 one_less limit count below = omega arith
 
 -- the last one is that behind which no other may come
-pub is_last : (limit count : ℕ) → count < limit → (count + 1 == limit) ≡ (limit - (count + 1) == 0)
+is_last : (limit count : ℕ) → count < limit → (count + 1 == limit) ≡ (limit - (count + 1) == 0)
 is_last limit count below = decide (eqb_tells (count + 1) limit) (eqb_tells (limit - (count + 1)) 0)
   where
     decide : ((count + 1 == limit) ≡ true × (count + 1 ≡ limit)) ⊎ ((count + 1 == limit) ≡ false × (count + 1 ≢ limit))
@@ -105,26 +103,27 @@ is_last limit count below = decide (eqb_tells (count + 1) limit) (eqb_tells (lim
     decide (inl one) (inr other) = absurd (other.1 (omega (arith, one.1)))
     decide (inr one) (inl other) = absurd (one.1 (omega (arith, other.1)))
 
--- the stream goes on behind a turn
-pub goes_on : {A : Type 0} (Asks : A → Entry → A → Type 0) (tells : Type 0) (limit count : ℕ) (old mid final : World A) (ending : End) → count < limit
-    → Turn Asks tells (count + 1 == limit) old mid None → Serves Asks tells (limit - (count + 1)) mid final ending
-    → Serves Asks tells (limit - count) old final ending
-unfolding Serves
-goes_on Asks tells limit count old mid final ending below turn rest =
-    let here = subst (λ (last : Bool). Turn Asks tells last old mid None) (is_last limit count below) turn in
-    let more : Serves Asks tells (suc (limit - (count + 1))) old final ending = inr (mid, here, rest) in
-    subst (λ (n : ℕ). Serves Asks tells n old final ending) (sym (one_less limit count below)) more
+module _ (tells : Type 0) (limit count : ℕ) (below : count < limit) where
+  -- the stream goes on behind a turn
+  pub goes_on : (first later : List Entry) (old mid final : Outside) (ending : End)
+      → Turn tells (count + 1 == limit) first old mid None → Serves tells (limit - (count + 1)) later mid final ending
+      → Serves tells (limit - count) (first ++ later) old final ending
+  unfolding Serves
+  goes_on first later old mid final ending turn rest =
+      let here = subst (λ (last : Bool). Turn tells last first old mid None) (is_last limit count below) turn in
+      let more : Serves tells (suc (limit - (count + 1))) (first ++ later) old final ending = inr (first, later, mid, refl, here, rest) in
+      subst (λ (n : ℕ). Serves tells n (first ++ later) old final ending) (sym (one_less limit count below)) more
 
--- the stream ends with a turn
-pub ends_with : {A : Type 0} (Asks : A → Entry → A → Type 0) (tells : Type 0) (limit count : ℕ) (old final : World A) (ending : End) → count < limit
-    → Turn Asks tells (count + 1 == limit) old final (Some ending) → Serves Asks tells (limit - count) old final ending
-unfolding Serves
-ends_with Asks tells limit count old final ending below turn =
-    let here = subst (λ (last : Bool). Turn Asks tells last old final (Some ending)) (is_last limit count below) turn in
-    let more : Serves Asks tells (suc (limit - (count + 1))) old final ending = inl here in
-    subst (λ (n : ℕ). Serves Asks tells n old final ending) (sym (one_less limit count below)) more
+  -- the stream ends with a turn
+  pub ends_with : (entries : List Entry) (old final : Outside) (ending : End)
+      → Turn tells (count + 1 == limit) entries old final (Some ending) → Serves tells (limit - count) entries old final ending
+  unfolding Serves
+  ends_with entries old final ending turn =
+      let here = subst (λ (last : Bool). Turn tells last entries old final (Some ending)) (is_last limit count below) turn in
+      let more : Serves tells (suc (limit - (count + 1))) entries old final ending = inl here in
+      subst (λ (n : ℕ). Serves tells n entries old final ending) (sym (one_less limit count below)) more
 
 -- no more requests may come
-pub ends_here : {A : Type 0} (Asks : A → Entry → A → Type 0) (tells : Type 0) (old : World A) → Serves Asks tells 0 old old stream.TurnLimit
+pub ends_here : (tells : Type 0) (old : Outside) → Serves tells 0 [] old old stream.TurnLimit
 unfolding Serves
-ends_here Asks tells old = (refl, refl)
+ends_here tells old = (refl, refl, refl)

@@ -1,15 +1,1 @@
-pub mod Plain
-pub mod Releases
-pub mod Answers
-pub mod Course
-pub mod World
-pub mod Serving
-pub mod Held
-pub mod Faultless
-pub mod CoreTurn
-pub mod Machine
-pub mod AsPlayed
-pub mod LeftBehind
-pub mod Recorded
-pub mod Worked
-pub mod Endings
+pub mod Written

@@ -1,20 +1,21 @@
 // What is left in the core where something fails.
 ghost use Rattle.std.specs.Prelude.{IfOk};
-ghost use Rattle.repo_server.specs.Releases.{ServesReleases};
+ghost use Rattle.repo_course.specs.Meets.{ServesReleases};
 
 use crate::exchanges::{GET_LAST, PLAIN, PUT_ABC, Parts, Script};
 use crate::runs::desk_of;
 use outside::{MemHeld, ScriptClock};
-use repo_core::{Command, Core, Reply};
+use repo_core::Core;
+use repo_course::End;
+use repo_model::{Command, Reply};
 use repo_run::{core_of, serve_first};
-use repo_server::End;
 use std::alloc::{AllocError, Global};
 use std::test::Fail;
 use texts::Text;
 
 type Told = (Option<End>, u64, u64);
 
-type MemCore = Core<ScriptClock, MemHeld>;
+pub type MemCore = Core<ScriptClock, MemHeld>;
 
 /// The look at the file of the worked requests.
 fn look_of(alloc: Global) -> Result<Command<MemHeld>, AllocError> {
@@ -35,7 +36,7 @@ fn number_of(core: &mut MemCore, look: Command<MemHeld>) -> u64 {
 }
 
 /// The core of `replay`, before its first call.
-fn opened(alloc: Global) -> Result<MemCore, AllocError>
+pub fn opened(alloc: Global) -> Result<MemCore, AllocError>
     ensures { IfOk result (λ core. ServesReleases core.settings) }
 {
     match core_of(alloc, ScriptClock::stepping(alloc, 0, 0)) {

@@ -7,4 +7,6 @@ mod cores;
 #[cfg(test)]
 mod exchanges;
 #[cfg(test)]
+mod lock_step;
+#[cfg(test)]
 mod runs;

@@ -20,10 +20,10 @@ use Rattle.turn_lock.proofs.Steps.{gives_turn}
 use Rattle.turn_lock.proofs.CallerSteps.{accounts_named}
 
 -- the step that gives the turn back, after the two that came before it
-pub gives_back : {T C R F : Type 0} (turned : T → C → R → T → Type 0) (turns : Turns T C R F) (slots : ℕ) (t0 t1 t2 : Token (Slot C R T) (View C R T)) (word : ℕ) (call : C) (reply : R) (told : Slot C R T)
+pub gives_back : {T C R : Type 0} (turned : T → C → R → T → Type 0) (turns : Turns T C R) (slots : ℕ) (t0 t1 t2 : Token (Slot C R T) (View C R T)) (word : ℕ) (call : C) (reply : R) (told : Slot C R T)
     → IsSeatOf turned turns (record { token = t0 }) → HasTurn turned turns t0 t1 word → TookTurn turned turns t1 t2 call reply told
     → Allows (Lawful turned (opening turns)) slots t2.id t2.me 0 (λ n. either (eqb n (word + 1)) (word + 2) n) (λ _ w. Gives (step slots 0 (word + 1) (word + 2) (some told)) t2.me w)
-gives_back {T} {C} {R} {F} turned turns slots t0 t1 t2 word call reply told free took turn =
+gives_back {T} {C} {R} turned turns slots t0 t1 t2 word call reply told free took turn =
     let held : t2.me.0 ≡ holding t0.me.0 t1.me.0.seen = turn.view ∙ took.view in
     let same_seen : t2.me.0.seen ≡ t1.me.0.seen = ap (λ v. v.seen) turn.view in
     let two : (word + 1) + 1 ≡ word + 2 = omega arith in
@@ -38,7 +38,7 @@ gives_back {T} {C} {R} {F} turned turns slots t0 t1 t2 word call reply told free
     (subst (λ (x : C). turned (end_of (opening turns) t1.me.0.seen) x turn.answered.value turn.after) (sym turn.call_is)
     (subst (λ (x : R). turned (end_of (opening turns) t1.me.0.seen) call x turn.after) (sym turn.reply_is) turn.turn)))))
 
-module _ {T C R F : Type 0} (turned : T → C → R → T → Type 0) (turns : Turns T C R F) (t0 t1 t2 t3 : Token (Slot C R T) (View C R T))
+module _ {T C R : Type 0} (turned : T → C → R → T → Type 0) (turns : Turns T C R) (t0 t1 t2 t3 : Token (Slot C R T) (View C R T))
     (word : ℕ) (call : C) (reply : R) (told : Slot C R T) (free : IsSeatOf turned turns (record { token = t0 })) (took : HasTurn turned turns t0 t1 word) (turn : TookTurn turned turns t1 t2 call reply told)
     (place : t3.table_id ≡ t2.table_id)
     (gives : Sound t3.me.0 × (t3.me ≡ (gave t2.me.0 (record { by = t2.me.0.number; call = turn.asked.value; reply = turn.answered.value; after = turn.after }), []))) where

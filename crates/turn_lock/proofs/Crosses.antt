@@ -26,14 +26,14 @@ token_crosses C R T t = search (sendable, seat_send, slot_crosses) depth 30
 pub note_crosses : (C R T : RattleType) → IsSend T → IsSend (NoteToken.the_row C R T)
 note_crosses C R T t = search (sendable, seat_send, slot_crosses) depth 30
 
-pub turns_shared : (T C R F : RattleType) (g : Ghosts T.Denot C.Denot R.Denot F.Denot) → IsSend T → IsSync (Turns.the_row T C R F g)
-turns_shared T C R F g t =
-    let fields : IsSync (Turns.the_field T C R F g).row =
-    struct_sync (shape (Turns.the_type T C R F g)) (table_sync (Slot.the_row C R T) (View.the_row C R T) (Snapshot.the_row T) (Law.the_row T) Global.the_row (LawRule.ghosts T C R F g LawRule.no_dict) Allocator.ghosts (slot_crosses C R T t) (search (sendable, crosses) depth 20) (search (sendable, crosses) depth 20) (search (sendable, crosses) depth 20), tt) in
-    recorded_sync (Turns.the_field T C R F g).row _ _ (Turns.the_type T C R F g).to_one fields
+pub turns_shared : (T C R : RattleType) (g : Ghosts T.Denot C.Denot R.Denot) → IsSend T → IsSync (Turns.the_row T C R g)
+turns_shared T C R g t =
+    let fields : IsSync (Turns.the_field T C R g).row =
+    struct_sync (shape (Turns.the_type T C R g)) (table_sync (Slot.the_row C R T) (View.the_row C R T) (Snapshot.the_row T) (Law.the_row T) Global.the_row (LawRule.ghosts T C R g LawRule.no_dict) Allocator.ghosts (slot_crosses C R T t) (search (sendable, crosses) depth 20) (search (sendable, crosses) depth 20) (search (sendable, crosses) depth 20), (search (sendable, crosses) depth 20, tt)) in
+    recorded_sync (Turns.the_field T C R g).row _ _ (Turns.the_type T C R g).to_one fields
 
-pub turns_cross : (T C R F : RattleType) (g : Ghosts T.Denot C.Denot R.Denot F.Denot) → IsSend T → IsSend (Turns.the_row T C R F g)
-turns_cross T C R F g t =
-    let fields : IsSend (Turns.the_field T C R F g).row =
-    struct_send (shape (Turns.the_type T C R F g)) (table_send (Slot.the_row C R T) (View.the_row C R T) (Snapshot.the_row T) (Law.the_row T) Global.the_row (LawRule.ghosts T C R F g LawRule.no_dict) Allocator.ghosts (slot_crosses C R T t) (search (sendable, crosses) depth 20) (search (sendable, crosses) depth 20), tt) in
-    recorded_send (Turns.the_field T C R F g).row _ _ (Turns.the_type T C R F g).to_one fields
+pub turns_cross : (T C R : RattleType) (g : Ghosts T.Denot C.Denot R.Denot) → IsSend T → IsSend (Turns.the_row T C R g)
+turns_cross T C R g t =
+    let fields : IsSend (Turns.the_field T C R g).row =
+    struct_send (shape (Turns.the_type T C R g)) (table_send (Slot.the_row C R T) (View.the_row C R T) (Snapshot.the_row T) (Law.the_row T) Global.the_row (LawRule.ghosts T C R g LawRule.no_dict) Allocator.ghosts (slot_crosses C R T t) (search (sendable, crosses) depth 20) (search (sendable, crosses) depth 20), (search (sendable, crosses) depth 20, tt)) in
+    recorded_send (Turns.the_field T C R g).row _ _ (Turns.the_type T C R g).to_one fields

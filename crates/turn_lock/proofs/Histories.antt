@@ -28,7 +28,7 @@ module _ {C R T : Type 0} where
       (λ is. let b = eq-eqb y.by k is in rw b (ap (λ l. y ∷ l) (entries_by-other k ys e apart)))
       (λ no. let b = ne_eqb y.by k no in rw b (entries_by-other k ys e apart))
 
-  entries_by-append : (k : ℕ) (log more : List (Entry C R T)) → entries_by k (log ++ more) ≡ entries_by k log ++ entries_by k more
+  pub entries_by-append : (k : ℕ) (log more : List (Entry C R T)) → entries_by k (log ++ more) ≡ entries_by k log ++ entries_by k more
   entries_by-append k [] more = refl
   entries_by-append k (y ∷ ys) more =
       dite (ℕ_discrete y.by k)
@@ -58,6 +58,9 @@ module _ {C R T : Type 0} where
 
   pub begins_more : (log more seen : List (Entry C R T)) → BeginsWith log seen → BeginsWith (log ++ more) seen
   begins_more log more seen begins = (begins.0 ++ more, ap (λ l. l ++ more) begins.1 ∙ append_assoc seen begins.0 more)
+
+  pub begins_then : (log middle seen : List (Entry C R T)) → BeginsWith log middle → BeginsWith middle seen → BeginsWith log seen
+  begins_then log middle seen begins before = (before.0 ++ begins.0, begins.1 ∙ ap (λ l. l ++ begins.0) before.1 ∙ append_assoc seen before.0 begins.0)
 
   pub times-append : (k : ℕ) (ps qs : List (ℕ × List (Entry C R T))) → times k (ps ++ qs) ≡ times k ps + times k qs
   times-append k [] qs = omega arith

@@ -1,6 +1,5 @@
 -- The one slot that a token holds.
 use Rattle.std.proofs.Common.{◌≡◌, ℕ, List, [], ◌∷◌, sym, ap, ◌∙◌}
-use Rattle.atomic_table.specs.Table.{rest}
 use Rattle.turn_lock.specs.declared.view.Slot.{Slot}
 use Rattle.turn_lock.specs.declared.view.Slot.TheVariants.{Home}
 
@@ -14,7 +13,3 @@ module _ {C R T : Type 0} where
   -- what was found in the slot is what the token held there
   pub found : (held : List (ℕ × Slot C R T)) (x y : T) (more : List (ℕ × Slot C R T)) → held ≡ (0, Home x) ∷ [] → held ≡ (0, Home y) ∷ more → x ≡ y
   found held x y more is was = same_home x y (ap (λ (p : ℕ × Slot C R T). p.1) (same_first (0, Home x) (0, Home y) [] more (sym is ∙ was)))
-
-  -- two exchanges leave the second value
-  pub left_there : (held out back : List (ℕ × Slot C R T)) (a b c : Slot C R T) → held ≡ (0, a) ∷ [] → out ≡ (0, b) ∷ rest held → back ≡ (0, c) ∷ rest out → back ≡ (0, c) ∷ []
-  left_there held out back a b c is was now = now ∙ ap (λ (l : List (ℕ × Slot C R T)). (0, c) ∷ rest l) was ∙ ap (λ (l : List (ℕ × Slot C R T)). (0, c) ∷ rest l) is

@@ -10,3 +10,5 @@ mod Ends
 mod PartSteps
 mod Steps
 mod Seating
+mod Whole
+mod Joining

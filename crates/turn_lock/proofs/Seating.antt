@@ -27,7 +27,7 @@ module _ {C R T : Type 0} where
   below_alone : (p : ℕ × List (Entry C R T)) → AllBelow (p.0 + 1) (p ∷ [])
   below_alone p k above = times_else k p [] (λ is. omega arith)
 
-module _ {T C R F : Type 0} (turned : T → C → R → T → Type 0) (turns : Turns T C R F) where
+module _ {T C R : Type 0} (turned : T → C → R → T → Type 0) (turns : Turns T C R) where
   -- the seat that drew a number, and split a seat off with it
   pub splits_off : (t0 t1 t2 made : Token (Slot C R T) (View C R T)) (amount : ℕ) → 0 < amount → amount < t0.me.0.parts → IsSeatOf turned turns (record { token = t0 })
       → t1.table_id ≡ t0.table_id → Draws t0.me t1.me

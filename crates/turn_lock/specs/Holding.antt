@@ -13,7 +13,7 @@ use Rattle.turn_lock.specs.Seats.{opening, number, seen, mine, joined, given, pa
 use Rattle.turn_lock.specs.Views.{holding}
 
 -- a token of a seat that does not have the turn
-pub record IsFree {T C R F : Type 0} (turns : Turns T C R F) (token : Token (Slot C R T) (View C R T)) : Type 0 where
+pub record IsFree {T C R : Type 0} (turns : Turns T C R) (token : Token (Slot C R T) (View C R T)) : Type 0 where
   pub place : token.table_id ≡ turns.table.shared.table_id
   pub alone : token.me.1 ≡ []
   pub named : token.me.0.named ≡ true
@@ -22,13 +22,13 @@ pub record IsFree {T C R F : Type 0} (turns : Turns T C R F) (token : Token (Slo
   pub from : token.me.0.opening ≡ Some (opening turns)
 
 -- the token holds the object as the history that it has seen leaves it
-pub record HoldsEnd {T C R F : Type 0} (steps : T → C → R → T → Type 0) (turns : Turns T C R F) (token : Token (Slot C R T) (View C R T)) : Type 0 where
+pub record HoldsEnd {T C R : Type 0} (steps : T → C → R → T → Type 0) (turns : Turns T C R) (token : Token (Slot C R T) (View C R T)) : Type 0 where
   pub place : token.table_id ≡ turns.table.shared.table_id
   pub legal : Legal steps (opening turns) token.me.0.seen
   pub thing : token.me.1 ≡ (0, Home (end_of (opening turns) token.me.0.seen)) ∷ []
 
 -- the token that was free has the turn now, at this word, and has seen the history as far as it goes
-pub record HasTurn {T C R F : Type 0} (steps : T → C → R → T → Type 0) (turns : Turns T C R F) (old new : Token (Slot C R T) (View C R T)) (word : ℕ) : Type 0 where
+pub record HasTurn {T C R : Type 0} (steps : T → C → R → T → Type 0) (turns : Turns T C R) (old new : Token (Slot C R T) (View C R T)) (word : ℕ) : Type 0 where
   pub holds : HoldsEnd steps turns new
   pub view : new.me.0 ≡ holding old.me.0 new.me.0.seen
   pub grows : BeginsWith new.me.0.seen old.me.0.seen
@@ -36,7 +36,7 @@ pub record HasTurn {T C R F : Type 0} (steps : T → C → R → T → Type 0) (
   pub room : word < 2 ^ 63
 
 -- the object is at home as the turn left it, and the slot tells what was asked and answered
-pub record TookTurn {T C R F : Type 0} (steps : T → C → R → T → Type 0) (turns : Turns T C R F) (old new : Token (Slot C R T) (View C R T)) (call : C) (reply : R) (told : Slot C R T) : Type 0 where
+pub record TookTurn {T C R : Type 0} (steps : T → C → R → T → Type 0) (turns : Turns T C R) (old new : Token (Slot C R T) (View C R T)) (call : C) (reply : R) (told : Slot C R T) : Type 0 where
   pub place : new.table_id ≡ turns.table.shared.table_id
   pub view : new.me.0 ≡ old.me.0
   pub after : T
@@ -49,7 +49,7 @@ pub record TookTurn {T C R F : Type 0} (steps : T → C → R → T → Type 0) 
   pub told_is : told ≡ Told asked answered
 
 -- the seat has taken the token in, and has seen the history as far as it goes
-pub record Merged {T C R F : Type 0} (steps : T → C → R → T → Type 0) (turns : Turns T C R F) (old : Seat C R T) (token : Token (Slot C R T) (View C R T)) (new : Seat C R T) : Type 0 where
+pub record Merged {T C R : Type 0} (steps : T → C → R → T → Type 0) (turns : Turns T C R) (old : Seat C R T) (token : Token (Slot C R T) (View C R T)) (new : Seat C R T) : Type 0 where
   pub seat : IsSeatOf steps turns new
   pub saw : BeginsWith (seen new) (seen old)
   pub saw_other : BeginsWith (seen new) token.me.0.seen
@@ -60,7 +60,7 @@ pub record Merged {T C R F : Type 0} (steps : T → C → R → T → Type 0) (t
   pub same_mine : mine new ≡ mine old
 
 -- A seat was split off with this amount. Its number is none of those that were known to be given
-pub record SplitsOff {T C R F : Type 0} (steps : T → C → R → T → Type 0) (turns : Turns T C R F) (old new made : Seat C R T) (amount : ℕ) : Type 0 where
+pub record SplitsOff {T C R : Type 0} (steps : T → C → R → T → Type 0) (turns : Turns T C R) (old new made : Seat C R T) (amount : ℕ) : Type 0 where
   pub seat : IsSeatOf steps turns new
   pub same : Same old new
   pub left : parts_of new + amount ≡ parts_of old

@@ -15,6 +15,7 @@ use std::alloc::{AllocError, Global};
 use std::marker::Brand;
 use std::snapshot::Snapshot;
 use std::sync::Wait;
+use std::sync::atomic::AtomicU64;
 
 /// The right to call an object in turn with others. It has no bytes, and may go to another thread where the object may.
 #[derive(Drop)]
@@ -48,7 +49,13 @@ impl<T: Thing> Turns<T> {
         let first = Snapshot::of(&thing);
         slots.push_reserved(Slot::Home(thing));
         match Table::new(alloc, &[0], slots, &first) {
-            Ok((table, token)) => Ok((Turns { table }, SeatToken { token })),
+            Ok((table, token)) => Ok((
+                Turns {
+                    table,
+                    sleepers: AtomicU64::new(0),
+                },
+                SeatToken { token },
+            )),
             Err(Refused { mut slots }) => {
                 let Some(Slot::Home(thing)) = slots.pop() else {
                     unreachable!()
@@ -77,7 +84,7 @@ impl<T: Thing> SeatToken<T::Call, T::Reply, T> {
         let Slot::Told(_, _) = told else {
             unreachable!()
         };
-        shared.wake_one(0);
+        hold::wake(turns);
         reply
     }
 
@@ -133,13 +140,13 @@ impl<T: Thing> SeatToken<T::Call, T::Reply, T> {
     }
 }
 
-/// Ends the history, and gives the object as its last call left it, and the number of all calls. The seat has all parts: every other seat was joined and every note learnt, so every call is that of one of its callers. It takes no memory.
+/// Ends the history, and gives the object as its last call left it, and the number of all calls. The seat has all parts: every other seat was joined and every note learnt, so every call is that of one of its callers, and what the seat has seen is the whole history. It takes no memory.
 pub fn close<T: Thing>(turns: Turns<T>, seat: Seat<T>) -> (T, u64)
     requires seat { IsSeatOf (IsStep T.fixed T.may_ask T.turned) turns seat }
     requires parts { parts_of seat ≡ 2 ^ 64 }
     ensures { Closes (IsStep T.fixed T.may_ask T.turned) turns seat result.0 result.1 }
 {
-    let Turns { table } = turns;
+    let Turns { table, sleepers: _ } = turns;
     let SeatToken { token } = seat;
     let mut closed = table.close_with(token);
     let calls = closed.word(0) / 2;

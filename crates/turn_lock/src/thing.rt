@@ -6,8 +6,9 @@ pub trait Thing {
     type Call;
     /// What is answered.
     type Reply;
-    /// The part of the object that no turn changes, as its settings.
-    type Fixed;
+
+    /// The type of the part of the object that no turn changes, as its settings.
+    ghost Fixed: { Type 0 };
 
     /// The part of the object that no turn changes.
     ghost fixed: { Self → Self.Fixed };

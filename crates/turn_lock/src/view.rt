@@ -36,10 +36,8 @@ pub struct View<C, R, T> {
 /// What lies in the object's slot, or is told in its stead by the step that gives the turn back.
 #[derive(Drop)]
 pub enum Slot<C, R, T> {
-    /// The object.
+    /// The object. It stays there while it is asked, so that a call copies nothing of it.
     Home(T),
-    /// What the holder leaves there while it has the object.
-    Away,
     /// What was asked and answered. It is told by the step that gives the turn back, and never lies in the slot.
     Told(Snapshot<C>, Snapshot<R>),
 }

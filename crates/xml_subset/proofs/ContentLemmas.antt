@@ -5,7 +5,6 @@ use Rattle.std.specs.List.{list_all}
 use Rattle.std.proofs.lemmas.Bool.Decides.{nat_tests}
 use Rattle.std.proofs.lemmas.List.{append-nil}
 use Rattle.std.proofs.lemmas.Slice.Eq.{bytes_eq-Decides}
-use Rattle.xml_subset.specs.declared.document.TheConstants.{MAX_DEPTH}
 use Rattle.xml_subset.specs.Content.{Content, Nothing, Data, Reference, Remark, Leaf, Node, data_of, is_blank, is_document, is_within, outlined, written}
 use Rattle.xml_subset.specs.Cut.{is_white, trimmed}
 use Rattle.xml_subset.specs.Document.{begun_behind, fault, may_stand, open_behind}
@@ -84,10 +83,10 @@ and_assoc : (a b c : Bool) → (a && (b && c)) ≡ ((a && b) && c)
 and_assoc true b c = refl
 and_assoc false b c = refl
 
-room_left : (n levels : ℕ) → n + suc levels ≡ 32 → nat_lt n MAX_DEPTH ≡ true
+room_left : (n levels : ℕ) → n + suc levels ≡ 32 → nat_lt n 32 ≡ true
 room_left n levels e = grind (arith, nat_tests)
 
-no_room : (n : ℕ) → n + 0 ≡ 32 → nat_lt n MAX_DEPTH ≡ false
+no_room : (n : ℕ) → n + 0 ≡ 32 → nat_lt n 32 ≡ false
 no_room n e = grind (arith, nat_tests)
 
 -- inside an element

@@ -6,7 +6,8 @@ use Rattle.std.specs.Option.{option_map_or}
 use Rattle.std.proofs.lemmas.List.{append-nil}
 use Rattle.std.proofs.lemmas.Slice.Eq.{bytes_eq-Decides}
 use Rattle.xml_subset.specs.Content.{Content, Nothing, Data, Reference, Remark, Leaf, Node, Writes, is_document, outlined, written}
-use Rattle.xml_subset.specs.Cut.{after, behind, without_white}
+use Rattle.byte_cuts.specs.Cuts.{behind}
+use Rattle.xml_subset.specs.Cut.{after, without_white}
 use Rattle.xml_subset.specs.Document.{fault, judged, may_stand, outline, outline_behind, without_declaration, without_mark}
 use Rattle.xml_subset.specs.Element.{Element, elements}
 use Rattle.xml_subset.specs.Name.{name}

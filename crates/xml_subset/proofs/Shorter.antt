@@ -3,7 +3,8 @@ use Rattle.std.proofs.Common.{ℕ, zero, suc, ◌≡◌, ◌==◌, ◌≤◌, �
 use Rattle.std.specs.Prelude.{IfSome, take_while}
 use Rattle.std.specs.List.{starts_with, prefix_len, position_or_len, before_first}
 use Rattle.std.specs.Option.{option_map, option_map_or, unwrap_or}
-use Rattle.xml_subset.specs.Cut.{after, begins, behind, is_white, or_else, without_white, ◌>>=◌}
+use Rattle.byte_cuts.specs.Cuts.{behind}
+use Rattle.xml_subset.specs.Cut.{after, begins, is_white, or_else, without_white, ◌>>=◌}
 use Rattle.xml_subset.specs.Document.{declaration_behind, without_declaration, without_mark}
 use Rattle.xml_subset.specs.Name.{is_name_byte, is_name_start, name}
 use Rattle.xml_subset.specs.Reference.{numbered, predefined, reference}

@@ -1,5 +1,5 @@
 -- The plain spelling of content is cut into the tokens of the content.
-use Rattle.std.proofs.Common.{ℕ, ◌≡◌, ◌+◌, ◌∙◌, ap, sym, refl, Bool, true, false, cond, not, ◌&&◌, ◌||◌, ◌==◌, List, [], ◌∷◌, ◌++◌, length, take, drop, map, Option, Some, None, Ok, ◌-◌, arith, nat_eq, codes}
+use Rattle.std.proofs.Common.{ℕ, ◌≡◌, ◌+◌, ◌∙◌, ap, sym, refl, Bool, true, false, cond, not, ◌&&◌, ◌||◌, ◌==◌, List, [], ◌∷◌, ◌++◌, length, take, drop, map, Option, Some, None, Ok, arith, nat_eq, codes}
 use Rattle.std.specs.Prelude.{take_while}
 use Rattle.std.specs.List.{list_all, prefix_len}
 use Rattle.std.proofs.lemmas.Bool.Decides.{nat_tests}
@@ -7,8 +7,8 @@ use Rattle.std.proofs.lemmas.List.{append-nil, drop_at, take_at}
 use Rattle.std.proofs.lemmas.Slice.Eq.{bytes_eq-Decides}
 use Rattle.xml_subset.specs.Content.{Content, Nothing, Data, Reference, Remark, Leaf, Node, data_of, is_document, is_within, outlined, written}
 use Rattle.xml_subset.specs.Document.{outline}
-use Rattle.xml_subset.specs.declared.document.TheConstants.{MAX_DEPTH}
-use Rattle.xml_subset.specs.Cut.{begins, behind, or_else, trimmed, without_white, ◌>>=◌}
+use Rattle.byte_cuts.specs.Cuts.{behind}
+use Rattle.xml_subset.specs.Cut.{begins, or_else, trimmed, without_white, ◌>>=◌}
 use Rattle.xml_subset.specs.Name.{is_name_byte, is_name_start, name}
 use Rattle.xml_subset.specs.Spelling.{attribute_text, begins_with_data, is_name, is_plain, is_value, spelled, spelled_document}
 use Rattle.xml_subset.specs.Tag.{attribute, tag_end, tag_rest, value}
@@ -214,7 +214,7 @@ abbrev pub document_of : List ℕ → Content → Content
 document_of root inner = Data (10 ∷ []) (Node root inner (Data (10 ∷ []) Nothing))
 
 -- the plain spelling of a document is read as the document
-pub outline-spelled : (root n v : List ℕ) (inner : Content) → is_name root ≡ true → is_name n ≡ true → is_value v ≡ true → is_plain inner ≡ true → is_within (MAX_DEPTH - 1) inner ≡ true
+pub outline-spelled : (root n v : List ℕ) (inner : Content) → is_name root ≡ true → is_name n ≡ true → is_value v ≡ true → is_plain inner ≡ true → is_within 31 inner ≡ true
     → outline root (spelled_document root n v inner) ≡ Ok (record { depth = 1; name = root; text = trimmed (data_of inner) } ∷ outlined 1 inner)
 outline-spelled root n v inner e f g plain within =
     let close = 60 ∷ 47 ∷ (root ++ 62 ∷ 10 ∷ []) in

@@ -1,7 +1,6 @@
 -- Documents as trees (XML 1.0, sections 2.1, 3 and 3.1: `document`, `element` and `content`), in tokens.
-use Rattle.std.specs.Prelude.{◌≡◌, ℕ, zero, suc, ◌-◌, Bool, true, false, ◌&&◌, IsTrue, List, [], ◌∷◌, ◌++◌, map, bytes_eq, encode_utf8, Some}
+use Rattle.std.specs.Prelude.{◌≡◌, ℕ, zero, suc, Bool, true, false, ◌&&◌, IsTrue, List, [], ◌∷◌, ◌++◌, map, bytes_eq, encode_utf8, Some}
 use Rattle.std.specs.List.{list_all}
-use Rattle.xml_subset.specs.declared.document.TheConstants.{MAX_DEPTH}
 use Rattle.xml_subset.specs.Cut.{is_white, trimmed}
 use Rattle.xml_subset.specs.Document.{without_declaration, without_mark}
 use Rattle.xml_subset.specs.Element.{Element}
@@ -67,14 +66,14 @@ is_blank (Remark more) = is_blank more
 is_blank (Leaf name more) = false
 is_blank (Node name inner more) = false
 
--- one element, of this name and of at most MAX_DEPTH levels, among white space and comments
+-- one element, of this name and of at most 32 levels, among white space and comments
 abbrev pub is_document : List ℕ → Content → Bool
 is_document root Nothing = false
 is_document root (Data bytes more) = list_all is_white bytes && is_document root more
 is_document root (Reference c more) = false
 is_document root (Remark more) = is_document root more
 is_document root (Leaf name more) = bytes_eq name root && is_blank more
-is_document root (Node name inner more) = bytes_eq name root && (is_within (MAX_DEPTH - 1) inner && is_blank more)
+is_document root (Node name inner more) = bytes_eq name root && (is_within 31 inner && is_blank more)
 
 -- Behind the mark and the declaration, the text is written in the tokens of this document.
 abbrev pub Writes : List ℕ → List ℕ → Content → Type 0

@@ -1,6 +1,6 @@
 -- White space, and cuts at the front of a text (XML 1.0, section 2.3).
-use Rattle.std.specs.Prelude.{ℕ, Bool, false, ◌||◌, ◌==◌, nat_eq, List, [], ◌∷◌, length, drop, reverse, Option, Some, None, if◌then◌else◌}
-use Rattle.std.specs.List.{starts_with}
+use Rattle.std.specs.Prelude.{ℕ, Bool, false, ◌||◌, ◌==◌, List, [], ◌∷◌, reverse, Option, Some, None, if◌then◌else◌}
+use Rattle.byte_cuts.specs.Cuts.{behind}
 
 infixl 10 ◌>>=◌
 abbrev pub ◌>>=◌ : {A B : Type 0} → Option A → (A → Option B) → Option B
@@ -29,10 +29,6 @@ without_white (c ∷ text) = if is_white c then without_white text else c ∷ te
 -- the text without the white space at both ends
 abbrev pub trimmed : List ℕ → List ℕ
 trimmed text = reverse (without_white (reverse (without_white text)))
-
--- what follows the mark, where the text begins with it
-abbrev pub behind : List ℕ → List ℕ → Option (List ℕ)
-behind mark text = if starts_with nat_eq text mark then Some (drop (length mark) text) else None
 
 -- what follows the first place of the mark
 abbrev pub after : List ℕ → List ℕ → Option (List ℕ)

@@ -3,17 +3,17 @@
 use Rattle.std.specs.Prelude.{◌≡◌, ℕ, ◌-◌, Bool, true, false, not, ◌&&◌, nat_lt, List, [], ◌∷◌, length, drop, map, codes, bytes_eq, Option, Some, None, Result, Ok, Err, if◌then◌else◌}
 use Rattle.std.specs.List.{list_all}
 use Rattle.std.specs.Option.{unwrap_or}
-use Rattle.xml_subset.specs.declared.document.TheConstants.{MAX_DEPTH}
 use Rattle.xml_subset.specs.declared.document.XmlFault.{XmlFault}
 use Rattle.xml_subset.specs.declared.document.XmlFault.TheVariants.{Malformed, NoMemory}
-use Rattle.xml_subset.specs.Cut.{after, begins, behind, is_white}
+use Rattle.byte_cuts.specs.Cuts.{behind}
+use Rattle.xml_subset.specs.Cut.{after, begins, is_white}
 use Rattle.xml_subset.specs.Element.{Element, elements}
 use Rattle.xml_subset.specs.Token.{Token, Placed, Text, Character, Comment, Open, Empty, Close, Broken, End, tokens}
 
 -- an element of this name may begin, where these are open, the innermost first, and where one has begun before or not
 abbrev pub may_begin : List ℕ → List (List ℕ) → Bool → List ℕ → Bool
 may_begin root [] begun name = not begun && bytes_eq name root
-may_begin root (n ∷ names) begun name = nat_lt (length (n ∷ names)) MAX_DEPTH
+may_begin root (n ∷ names) begun name = nat_lt (length (n ∷ names)) 32
 
 -- The token may stand there. Outside the root only white space and comments may, and close tags match.
 abbrev pub may_stand : List ℕ → List (List ℕ) → Bool → Token → Bool

@@ -5,7 +5,8 @@ use Rattle.std.specs.Option.{option_map_or}
 use Rattle.std.specs.Char.{is_digit}
 use Rattle.std.specs.Str.Parse.{digits_value}
 use lib.Utf8.{scalar}
-use Rattle.xml_subset.specs.Cut.{behind, or_else, ◌>>=◌}
+use Rattle.byte_cuts.specs.Cuts.{behind}
+use Rattle.xml_subset.specs.Cut.{or_else, ◌>>=◌}
 
 -- the character of a number: any but 0, the surrogates and what is above 0x10FFFF
 abbrev pub character : ℕ → Option ℕ

@@ -2,7 +2,8 @@
 use Rattle.std.specs.Prelude.{ℕ, zero, suc, Bool, true, false, ◌||◌, ◌==◌, List, [], ◌∷◌, drop, codes, Option, None, if◌then◌else◌}
 use Rattle.std.specs.Option.{option_map}
 use Rattle.std.specs.List.{position_or_len}
-use Rattle.xml_subset.specs.Cut.{begins, behind, is_white, or_else, without_white, ◌>>=◌}
+use Rattle.byte_cuts.specs.Cuts.{behind}
+use Rattle.xml_subset.specs.Cut.{begins, is_white, or_else, without_white, ◌>>=◌}
 use Rattle.xml_subset.specs.Name.{name}
 
 -- what follows the value, up to this quote; `<` may not stand in it

@@ -2,7 +2,8 @@
 use Rattle.std.specs.Prelude.{ℕ, zero, suc, Bool, not, ◌||◌, ◌==◌, List, [], ◌∷◌, length, drop, take_while, codes, Option, Some, None, if◌then◌else◌}
 use Rattle.std.specs.List.{prefix_len}
 use Rattle.std.specs.Option.{option_map, option_map_or}
-use Rattle.xml_subset.specs.Cut.{after, behind, without_white, ◌>>=◌}
+use Rattle.byte_cuts.specs.Cuts.{behind}
+use Rattle.xml_subset.specs.Cut.{after, without_white, ◌>>=◌}
 use Rattle.xml_subset.specs.Name.{name}
 use Rattle.xml_subset.specs.Reference.{reference}
 use Rattle.xml_subset.specs.Tag.{tag_rest}

@@ -6,6 +6,8 @@ ghost use Rattle.std.specs.List.{list_all, prefix_len};
 ghost use Rattle.xml_subset.specs.Cut as spec;
 ghost use Rattle.xml_subset.specs.Name as spec_name;
 
+use byte_cuts::bytes::behind;
+
 fn is_white(byte: u8) -> bool
     ensures { result ≡ spec.is_white byte }
 {
@@ -58,13 +60,6 @@ pub(crate) fn trimmed(text: &[u8]) -> &[u8]
     ensures { result.now ≡ spec.trimmed text.now }
 {
     without_white_end(without_white(text))
-}
-
-/// What follows a mark that the text begins with.
-pub(crate) fn behind<'a>(mark: &[u8], text: &'a [u8]) -> Option<&'a [u8]>
-    ensures { option_copied result ≡ spec.behind mark.now text.now }
-{
-    text.strip_prefix(mark)
 }
 
 /// What follows the first place of a mark.

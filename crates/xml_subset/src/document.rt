@@ -6,9 +6,10 @@ ghost use Rattle.xml_subset.specs.Document.{IsFaultOf, outline, outline_behind, 
 ghost use Rattle.xml_subset.specs.Element.{shown};
 ghost use Rattle.xml_subset.specs.declared.document.XmlFault.TheVariants.{Malformed};
 
-use crate::cut::{after, begins_white, behind};
+use crate::cut::{after, begins_white};
 use crate::token::first_token;
 use crate::tree::Tree;
+use byte_cuts::bytes::behind;
 use std::alloc::{AllocError, Global};
 
 /// The greatest depth of an element; the root has depth 1.

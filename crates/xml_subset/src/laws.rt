@@ -1,6 +1,6 @@
 //! What holds of the definitions for all texts, and worked texts, as contracts of functions that do nothing.
 
-ghost use Rattle.std.specs.Prelude.{◌≡◌, ℕ, List, [], ◌∷◌, ◌-◌, IsTrue, codes, Ok, Err};
+ghost use Rattle.std.specs.Prelude.{◌≡◌, ℕ, List, [], ◌∷◌, IsTrue, codes, Ok, Err};
 ghost use Rattle.xml_subset.specs.Content.{Content, Writes, data_of, is_within, outlined};
 ghost use Rattle.xml_subset.specs.Cut.{trimmed};
 ghost use Rattle.xml_subset.specs.Document.{outline};
@@ -19,7 +19,7 @@ pub fn tree_laws()
 /// A document that is spelled plainly, with its declaration, is read as it is.
 pub fn spelling_law()
     ensures { (root name value : List ℕ) (inner : Content)
-        → IsTrue (is_name root) → IsTrue (is_name name) → IsTrue (is_value value) → IsTrue (is_plain inner) → IsTrue (is_within (MAX_DEPTH - 1) inner)
+        → IsTrue (is_name root) → IsTrue (is_name name) → IsTrue (is_value value) → IsTrue (is_plain inner) → IsTrue (is_within 31 inner)
         → outline root (spelled_document root name value inner)
         ≡ Ok (record { depth = 1; name = root; text = trimmed (data_of inner) } ∷ outlined 1 inner) }
 {}
@@ -40,4 +40,9 @@ pub fn worked_documents()
         ≡ Ok (record { depth = 1; name = codes "metadata"; text = [] } ∷ []) }
     ensures own_text { outline (codes "a") (codes "<?xml version='1.0'?><a> x<!-- c --><b> y </b>&#x7a; </a> ")
         ≡ Ok (record { depth = 1; name = codes "a"; text = codes "xz" } ∷ record { depth = 2; name = codes "b"; text = codes "y" } ∷ []) }
+{}
+
+/// The greatest depth of an element.
+pub fn limits()
+    ensures depth { MAX_DEPTH ≡ 32 }
 {}

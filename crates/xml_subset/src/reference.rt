@@ -5,7 +5,7 @@ ghost use Rattle.std.specs.Option.{option_map};
 ghost use Rattle.std.specs.List.{position_or_len};
 ghost use Rattle.xml_subset.specs.Reference as spec;
 
-use crate::cut::behind;
+use byte_cuts::bytes::behind;
 
 /// The most digits of a number.
 const DIGITS: usize = 8;

@@ -5,7 +5,8 @@ ghost use Rattle.std.specs.Option.{option_copied, option_map};
 ghost use Rattle.std.specs.List.{position_or_len};
 ghost use Rattle.xml_subset.specs.Tag as spec;
 
-use crate::cut::{begins_white, behind, name, without_white};
+use crate::cut::{begins_white, name, without_white};
+use byte_cuts::bytes::behind;
 
 /// How many bytes stand before the first quote or `<`.
 fn value_len(quote: u8, text: &[u8]) -> usize

@@ -6,9 +6,10 @@ ghost use Rattle.std.specs.List.{prefix_len};
 ghost use Rattle.xml_subset.specs.Token as spec;
 ghost use Rattle.xml_subset.specs.Token.{shown};
 
-use crate::cut::{after, behind, name, without_white};
+use crate::cut::{after, name, without_white};
 use crate::reference::reference;
 use crate::tag::tag_rest;
+use byte_cuts::bytes::behind;
 
 /// A token of a text.
 #[derive(Clone, Copy)]

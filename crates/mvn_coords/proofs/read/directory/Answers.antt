@@ -9,7 +9,7 @@ use Rattle.mvn_coords.proofs.read.directory.Goals as goal
 
 pub new-requires-clause-rule : goal.new-requires-clause-rule
 new-requires-clause-rule c =
-    let found = one_directory (levels c.args.path.now) c.args.path.now c.in_default.ensures (sym c.is_artifact.ensures ∙ c.if-not-is_artifact.false) in
+    let found = one_directory (levels c.args.path.now) c.args.path.now c.in_default.ensures (sym c.are_artifact_bytes.ensures ∙ c.if-not-are_artifact_bytes.false) in
     (keeps_directory c.args.document.now c.args.path.now (directory [] c.args.path.now None) c.requires.plain c.requires.below found).0
 
 -- the segments that were cut

@@ -1,7 +1,7 @@
 use Rattle.std.proofs.Common.{◌∙◌, sym, arith, length}
 use Rattle.std.proofs.lemmas.Bool.{lt-ltb, le-ltb}
 use Rattle.mvn_coords.proofs.Judged.{kind_empty, kind_long, kind_bad, kind_side, kind_cut}
-use Rattle.mvn_coords.proofs.Laws.{is_cut, plain_cut, path_kept}
+use Rattle.mvn_coords.proofs.ExactPaths.{is_cut, plain_cut, path_kept}
 use Rattle.mvn_coords.proofs.read.kind_of.Goals as goal
 
 pub returns-then-is_empty-clause-kind : goal.returns-then-is_empty-clause-kind

@@ -1,6 +1,6 @@
 use Rattle.std.proofs.Common.{ap}
 use Rattle.std.specs.Prelude.{codes}
-use Rattle.mvn_doc.specs.Written.{element_if}
+use Rattle.mvn_metadata.specs.Written.{element_if}
 use Rattle.mvn_doc.proofs.TextLemmas.{then, same}
 use Rattle.mvn_doc.proofs.writing.artifact.Goals as goal
 

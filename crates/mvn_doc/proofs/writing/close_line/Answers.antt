@@ -1,5 +1,5 @@
 use Rattle.std.proofs.Common.{[], ◌∷◌}
-use Rattle.mvn_doc.specs.Written.{close_tag}
+use Rattle.mvn_metadata.specs.Written.{close_tag}
 use Rattle.mvn_doc.proofs.TextLemmas.{line_end}
 use Rattle.mvn_doc.proofs.writing.close_line.Goals as goal
 

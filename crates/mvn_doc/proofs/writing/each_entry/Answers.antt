@@ -1,4 +1,4 @@
-use Rattle.mvn_doc.specs.Written.{entry_lines}
+use Rattle.mvn_metadata.specs.Written.{entry_lines}
 use Rattle.mvn_doc.proofs.TextLemmas.{one_more}
 use Rattle.mvn_doc.proofs.writing.each_entry.Goals as goal
 

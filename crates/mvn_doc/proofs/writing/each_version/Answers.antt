@@ -1,6 +1,6 @@
 use Rattle.std.proofs.Common.{ap, ◌∙◌}
 use Rattle.std.specs.Prelude.{codes}
-use Rattle.mvn_doc.specs.Written.{element, version_line}
+use Rattle.mvn_metadata.specs.Written.{element, version_line}
 use Rattle.mvn_doc.proofs.TextLemmas.{one_more, same}
 use Rattle.mvn_doc.proofs.writing.each_version.Goals as goal
 

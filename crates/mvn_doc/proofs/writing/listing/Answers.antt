@@ -1,6 +1,6 @@
 use Rattle.std.proofs.Common.{sym, ap, ◌∙◌}
 use Rattle.std.specs.Prelude.{codes}
-use Rattle.mvn_doc.specs.Written.{element, listing_lines}
+use Rattle.mvn_metadata.specs.Written.{element, listing_lines}
 use Rattle.mvn_doc.proofs.TextLemmas.{then, same}
 use Rattle.mvn_doc.proofs.writing.listing.Goals as goal
 

@@ -1,5 +1,5 @@
 use Rattle.std.proofs.Common.{[], ◌∷◌, ◌++◌, take, drop, ap, List, ℕ, length}
-use Rattle.mvn_doc.specs.Written.{close_tag}
+use Rattle.mvn_metadata.specs.Written.{close_tag}
 use Rattle.mvn_doc.proofs.TextLemmas.{line_end, then, same}
 use Rattle.mvn_doc.proofs.writing.moment_line.Goals as goal
 

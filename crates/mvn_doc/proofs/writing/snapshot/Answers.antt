@@ -1,5 +1,5 @@
 use Rattle.std.proofs.Common.{ap}
-use Rattle.mvn_doc.specs.Written.{updated_line}
+use Rattle.mvn_metadata.specs.Written.{updated_line}
 use Rattle.mvn_doc.proofs.TextLemmas.{then, same}
 use Rattle.mvn_doc.proofs.writing.snapshot.Goals as goal
 

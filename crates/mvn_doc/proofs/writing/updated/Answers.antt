@@ -1,5 +1,5 @@
 use Rattle.std.proofs.Common.{sym, ap}
-use Rattle.mvn_doc.specs.Written.{updated_line}
+use Rattle.mvn_metadata.specs.Written.{updated_line}
 use Rattle.mvn_doc.proofs.TextLemmas.{same}
 use Rattle.mvn_doc.proofs.writing.updated.Goals as goal
 

@@ -1,6 +1,6 @@
 use Rattle.std.proofs.Common.{[], ◌∷◌, ap}
 use Rattle.std.specs.Prelude.{codes}
-use Rattle.mvn_doc.specs.Written.{close_tag, element_if, listing_lines}
+use Rattle.mvn_metadata.specs.Written.{close_tag, element_if, listing_lines}
 use Rattle.mvn_doc.proofs.TextLemmas.{line_end, then, same}
 use Rattle.mvn_doc.proofs.writing.whole.Goals as goal
 

@@ -16,4 +16,4 @@ new-requires-2 c =
     c.in_ok-listing.ensures ∙ (λ i. of_kind (c.version.ensures i) (c.into_listing.ensures.listing i)) in
     let same : made ≡ settled d directory = λ i. record { group = group i; artifact = Some (artifact i); listing = listing i } in
     let form : is_listing d.listing ≡ true = ap is_listing (sym c.into_listing.ensures.listing) ∙ c.into_listing.ensures.form in
-    ap is_document same ∙ is_document-settled d directory c.path-path.ensures.rule form
+    ap is_document same ∙ is_document-settled d directory c.directory_is_ruled.ensures form

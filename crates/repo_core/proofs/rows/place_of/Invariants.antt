@@ -1,6 +1,6 @@
 use Rattle.std.proofs.Common.{◌≡◌, ◌++◌, take, drop}
 use Rattle.repo_model.specs.Data as plain
-use Rattle.repo_model.specs.State.{with_row}
+use Rattle.repo_model.specs.Effect.{with_row}
 use Rattle.repo_core.specs.Rows.{shown_rows}
 use Rattle.repo_core.proofs.rows.place_of.Given as goal
 

@@ -1,5 +1,5 @@
 use Rattle.std.proofs.Common.{◌≡◌, ◌++◌, take, drop}
-use Rattle.repo_model.specs.State.{with_number}
+use Rattle.repo_model.specs.Effect.{with_number}
 use Rattle.repo_core.proofs.yard.place_of.Given as goal
 
 -- the numbers before the place stay in front

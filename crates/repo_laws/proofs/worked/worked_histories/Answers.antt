@@ -1,21 +1,28 @@
-use Rattle.std.proofs.Common.{rules, refl}
+use Rattle.std.proofs.Common.{rules}
 use Rattle.mvn_coords.specs.Path.{parts_of}
-use Rattle.repo_model.specs.Calendar.{civil_of}
 use Rattle.repo_model.specs.History.{due}
 use Rattle.repo_laws.proofs.worked.worked_histories.Goals as goal
+
+pub returns-clause-two_builds : goal.returns-clause-two_builds
+unfolding parts_of
+returns-clause-two_builds c = search (rules, due)
 
 pub returns-clause-purged : goal.returns-clause-purged
 unfolding parts_of
 returns-clause-purged c = search (rules, due)
 
+pub returns-clause-read_to_its_end : goal.returns-clause-read_to_its_end
+unfolding parts_of
+returns-clause-read_to_its_end c = search (rules, due)
+
+pub returns-clause-listed_again : goal.returns-clause-listed_again
+unfolding parts_of
+returns-clause-listed_again c = search (rules, due)
+
 pub returns-clause-deployed : goal.returns-clause-deployed
 unfolding parts_of
 returns-clause-deployed c = search (rules, due)
 
-pub returns-clause-leap : goal.returns-clause-leap
-unfolding civil_of
-returns-clause-leap c = refl
-
-pub returns-clause-document : goal.returns-clause-document
-unfolding parts_of civil_of
-returns-clause-document c = refl
+pub returns-clause-refused : goal.returns-clause-refused
+unfolding parts_of
+returns-clause-refused c = search (rules, due)

@@ -1,6 +1,6 @@
 -- The repository opens empty, serves the first desk's first connection, and the line tells how it ended.
 use Rattle.std.proofs.Common.{ℕ, ◌<◌, subst}
-use Rattle.repo_server.specs.Held.{AllTell}
+use Rattle.repo_course.specs.Serving.{AllTell}
 use Rattle.repo_run.specs.Replay.{Replays, ReportsFirst}
 use Rattle.repo_run.specs.Surroundings.{connection, desk_state, output}
 use Rattle.repo_run.proofs.Desks.{first-set}

@@ -10,10 +10,11 @@ returns-in-Ok-Some g c =
     let next = c.in-Ok-Some.ensures in
     let back = c.back.ensures in
     let taken = rw c.in-Ok-Some.field-0-is at next.given in
-    one_served c.in-Ok-Some.link c.serve_stream-end.new.stream (g.P.Port.left c.next.new.self) c.serve_stream-end.ensures.serves.0
-    (g.B.Blobs.faults c.serve_stream-end.new.blobs) c.serve_stream-end.result taken
+    let s = c.serve_stream-end.ensures.serves in
+    one_served c.in-Ok-Some.link c.serve_stream-end.new.stream (g.P.Port.left c.next.new.self) s.0
+    (g.B.Blobs.faults c.serve_stream-end.new.blobs) c.serve_stream-end.result s.1 taken
     (same_desk _ _ _ _ _ _ _ back.left (back.given_back ∙ ap (λ t. behind t (c.serve_stream-end.new.stream ∷ [])) next.given_back) (back.faults ∙ next.cause))
-    c.serve_stream-end.ensures.serves.1 refl
+    s.2 s.4 refl
 
 pub returns-in-Err : goal.returns-in-Err
 returns-in-Err g c =

@@ -1,25 +1,28 @@
--- A body that was given whole is stored, and no other.
-use Rattle.std.proofs.Common.{◌∙◌, Err, Ok, None, ℕ, ap, sym}
-use Rattle.http_wire.specs.declared.faults.WireFault.TheVariants.{Torn}
-use Rattle.http_wire.specs.Stream.{unread}
-use Rattle.repo_server.specs.World.{nobody, world}
-use Rattle.repo_server.proofs.StreamSteps.{not_failed}
+-- A body that was given whole is stored.
+use Rattle.std.proofs.Common.{◌∙◌, ℕ, Ok, ap, sym, subst}
+use Rattle.outside.specs.Told.{in_front}
+use Rattle.repo_course.specs.Acts.{shown_stored}
+use Rattle.repo_course.specs.Serving.{AllTell, Outside, Takes, outside}
+use Rattle.repo_server.proofs.Sources.{not_failed}
 use Rattle.repo_server.proofs.files.take_body.Goals as goal
 
 pub returns-in-Ok-clause-takes : goal.returns-in-Ok-clause-takes
 returns-in-Ok-clause-takes g c =
     let e = c.in-Ok.ensures in
-    let input = unread c.body.new.self (g.S.Tells.left c.body.new.source) in
-    let same = c.as_slice.ensures.value in
-    rw (e.given, e.faults.kept (not_failed (Ok c.in-Ok.body) tt), sym same, sym e.length, sym c.as_slice.ensures.len)
-    (c.store_body.ensures.takes input (g.S.Tells.read_faults c.args.source.now))
-
-pub returns-in-Err-Torn-clause-takes : goal.returns-in-Err-Torn-clause-takes
-returns-in-Err-Torn-clause-takes g c =
-    let e = c.in-Err-Torn.ensures in
-    let is = ap Err c.in-Err-Torn.field-0-is in
-    let input = unread c.body.new.self (g.S.Tells.left c.body.new.source) in (
-      e.torn is,
-      (input, ap (λ (reads : ℕ). world nobody input None reads 0 (g.B.Blobs.faults c.args.blobs.now)) (e.faults.kept (λ same. not_failed (Err Torn) tt (sym is ∙ same)))),
-      e.torn_rest is,
-    )
+    let o = outside g.S.Tells c.body.new.self c.body.new.source 0 in
+    let new = outside g.S.Tells c.body.new.self c.body.new.source (g.B.Blobs.faults c.store_body.new.blobs) in
+    let given = ap (λ b. in_front b o.input) c.as_slice.ensures.value ∙ sym e.given in
+    let reads = e.faults.kept (not_failed (Ok c.in-Ok.body) tt) in
+    let counts = c.as_slice.ensures.len ∙ e.length in
+    subst (λ (p : ℕ × Outside). Takes (AllTell g.B.Held.Held.bytes) c.args.draft p.0 (shown_stored c.store_body.result) p.1 new)
+    (λ i. (
+      counts i,
+      record {
+        input = given i;
+        output = e.taken i;
+        read_faults = reads i;
+        write_faults = e.write_faults i;
+        blob_faults = g.B.Blobs.faults c.args.blobs.now;
+      },
+    ))
+    (c.store_body.ensures o)

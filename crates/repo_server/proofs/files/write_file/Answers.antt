@@ -1,30 +1,49 @@
 -- A sink that fails has taken a front of the head and the file's bytes.
-use Rattle.std.proofs.Common.{refl}
-use Rattle.repo_server.proofs.Sends.{cut_in_head, cut_in_bytes, sent_whole}
+use Rattle.std.proofs.Common.{◌∙◌, ◌++◌, ℕ, ap, subst, take}
+use Rattle.http_wire.specs.Stream.{unread}
+use Rattle.outside.specs.Faults.{Rose}
+use Rattle.outside.specs.Told.{behind}
+use Rattle.outside.proofs.ToldLemmas.{behind-behind}
+use Rattle.repo_server.proofs.Fronts.{front_of_head, front_of_bytes}
 use Rattle.repo_server.proofs.files.write_file.Goals as goal
 
-pub returns-in-Err-write_all-clause-sends : goal.returns-in-Err-write_all-clause-sends
-returns-in-Err-write_all-clause-sends g c = λ blob blobs told.
+pub returns-in-Err-write_all : goal.returns-in-Err-write_all
+returns-in-Err-write_all g c blob held blobs told =
     let head = c.in-Ok.ensures in
     let file = c.in-Err-write_all.ensures in
-    cut_in_bytes blob c.args.head.now c.args.bytes.now file.part.0
-    (g.O.Tells.taken c.args.sink.now) (g.O.Tells.taken c.write_all.new.sink) (g.O.Tells.taken c.write_all-in-Ok.new.sink)
-    (g.O.Tells.write_faults c.args.sink.now) (g.O.Tells.write_faults c.write_all.new.sink) (g.O.Tells.write_faults c.write_all-in-Ok.new.sink) blobs blobs
-    told head.whole head.cause file.cause file.part.2 refl
+    let part = take file.part.0 c.args.bytes.now in
+    let faults = g.O.Tells.write_faults c.write_all-in-Ok.new.sink in
+    let taken = file.part.2 ∙ ap (λ t. behind t part) head.whole ∙ behind-behind (g.O.Tells.taken c.args.sink.now) c.args.head.now part in (
+      faults,
+      c.args.bytes.now,
+      c.args.head.now ++ part,
+      subst (λ (n : ℕ). Rose n faults) head.cause file.cause,
+      told,
+      front_of_bytes file.part.0 c.args.head.now c.args.bytes.now,
+      λ i. record {
+        input = unread held ((file.left ∙ head.left) i);
+        output = taken i;
+        read_faults = (file.read_faults ∙ head.read_faults) i;
+        write_faults = faults;
+        blob_faults = blobs;
+      },
+    )
 
-pub returns-in-Err-clause-sends : goal.returns-in-Err-clause-sends
-returns-in-Err-clause-sends g c = λ blob blobs told.
-    let part = c.in-Err.ensures.part in
-    cut_in_head blob c.args.head.now c.args.bytes.now part.0
-    (g.O.Tells.taken c.args.sink.now) (g.O.Tells.taken c.write_all.new.sink)
-    (g.O.Tells.write_faults c.args.sink.now) (g.O.Tells.write_faults c.write_all.new.sink) blobs blobs
-    told c.in-Err.ensures.cause part.2 refl
-
-pub returns-in-Ok-write_all-clause-sends : goal.returns-in-Ok-write_all-clause-sends
-returns-in-Ok-write_all-clause-sends g c = λ blob blobs told.
-    let head = c.in-Ok.ensures in
-    let file = c.in-Ok-write_all.ensures in
-    sent_whole blob c.args.head.now c.args.bytes.now
-    (g.O.Tells.taken c.args.sink.now) (g.O.Tells.taken c.write_all.new.sink) (g.O.Tells.taken c.write_all-in-Ok.new.sink)
-    (g.O.Tells.write_faults c.args.sink.now) (g.O.Tells.write_faults c.write_all.new.sink) (g.O.Tells.write_faults c.write_all-in-Ok.new.sink) blobs
-    told head.whole head.cause file.whole file.cause
+pub returns-in-Err : goal.returns-in-Err
+returns-in-Err g c blob held blobs told =
+    let e = c.in-Err.ensures in
+    let faults = g.O.Tells.write_faults c.write_all.new.sink in (
+      faults,
+      c.args.bytes.now,
+      take e.part.0 c.args.head.now,
+      e.cause,
+      told,
+      front_of_head e.part.0 c.args.head.now c.args.bytes.now,
+      λ i. record {
+        input = unread held (e.left i);
+        output = e.part.2 i;
+        read_faults = e.read_faults i;
+        write_faults = faults;
+        blob_faults = blobs;
+      },
+    )

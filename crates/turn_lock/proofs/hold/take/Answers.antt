@@ -10,7 +10,7 @@ compare_exchange-found-requires g c =
     let m = c.loop.token.me in (
       i.2 ∙ r.place,
       (let n = c.args.turns.now.sized.0 in omega arith),
-      takes_turn (IsStep g.T.Thing.fixed g.T.Thing.may_ask g.T.Thing.turned) c.args.turns.now.table.shared.key.value c.args.turns.now.table.shared.table_id.slots c.loop.token.id m c.peek-word.result
+      takes_turn (IsStep g.T.Thing.fixed g.T.Thing.may_ask g.T.Thing.turned) c.args.turns.now.table.shared.key.value c.args.turns.now.table.shared.table_id.slots c.loop.token.id m c.look-word.result
           (ap (λ x. x.1) i.3 ∙ r.alone)
           (let e = ap (λ x. x.0.parts) i.3 in let a = r.alive in omega arith)
           (ap (λ x. x.0.named) i.3 ∙ r.named)

@@ -1,9 +1,9 @@
-use Rattle.std.proofs.Common.{◌≡◌, ℕ, List, fold, Some}
-use Rattle.std.specs.Option.{option_copied}
-use Rattle.std.specs.Prelude.{if◌then◌else◌}
-use Rattle.mvn_metadata.specs.Document.{is_snapshot, release}
+use Rattle.std.proofs.Common.{◌≡◌, length}
+use Rattle.mvn_metadata.specs.Document.{release}
 use Rattle.mvn_metadata.proofs.versions.Versions.release.Given as goal
 
-abbrev pub invariant-loop-version : goal.invariant-loop-version
-invariant-loop-version l =
-    fold (λ last (v : List ℕ). if is_snapshot v then last else Some v) (option_copied l.last) l.version-iterator ≡ release l.self
+abbrev pub invariant-back : goal.invariant-back
+invariant-back l = release l.versions ≡ release l.self
+
+abbrev pub decreases-back : goal.decreases-back
+decreases-back l = length l.versions

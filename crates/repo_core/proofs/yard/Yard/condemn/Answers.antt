@@ -1,5 +1,6 @@
 use Rattle.std.proofs.Common.{◌≡◌, length, vec_len, is_ok, IsTrue, ap, arith}
-use Rattle.repo_model.specs.State.{is_among, without_number}
+use Rattle.repo_model.specs.State.{is_among}
+use Rattle.repo_model.specs.Effect.{without_number}
 use Rattle.repo_core.proofs.NumberLemmas.{shorter_without_number, cond-le}
 use Rattle.repo_core.proofs.yard.Yard.condemn.Goals as goal
 

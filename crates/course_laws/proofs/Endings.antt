@@ -1,0 +1,192 @@
+-- The count of the side whose failure ended a stream rose, and no other count of its sides; and few commands were asked.
+use Rattle.std.proofs.Common.{◌≡◌, ◌⊎◌, ℕ, zero, suc, ◌*◌, ◌≤◌, Bool, inl, inr, List, [], ◌∷◌, length, Option, Some, None, Ok, Err, arith, sym, subst, ap, ◌∙◌, length-append}
+use Rattle.std.specs.Prelude.{◌==◌}
+use Rattle.http_wire.specs.Answer.{shown}
+use Rattle.http_wire.specs.declared.answers.Answer.{Answer}
+use Rattle.outside.specs.Faults.{Rose}
+use Rattle.repo_model.specs.Command.{Command}
+use Rattle.repo_model.specs.Data.{Blob}
+use Rattle.repo_model.specs.History.{Entry}
+use Rattle.repo_model.specs.Reply.{Reply}
+use Rattle.repo_course.specs.Answers.{file_answer}
+use Rattle.repo_course.specs.Course.{Course, Stored, asks, takes, sends, says, stops}
+use Rattle.repo_course.specs.declared.outcomes.End.{End}
+use Rattle.repo_course.specs.declared.outcomes.End.TheVariants as stream
+use Rattle.repo_course.specs.declared.outcomes.Sent.{Sent}
+use Rattle.repo_course.specs.declared.outcomes.Sent.TheVariants as sent
+use Rattle.repo_course.specs.declared.outcomes.Took.TheVariants as took
+use Rattle.repo_course.specs.declared.said.Said.{Said}
+use Rattle.repo_course.specs.Serving.{Follows, Opens, clean, torn, failed, starved, refused, served, Outside, ReadsOn, Says, whole, memory, cut, Sends, Serves, Takes, Turn, UsesHead}
+use Rattle.course_laws.specs.Duties.{Early, by_memory, by_side, IsCalm, Keeps, MayAsk, SaysFor, Stand, StopsFor, stand_after, stand_sent, stand_stored}
+use Rattle.course_laws.specs.Endings.{EndsByCause, NoneRose}
+use Rattle.course_laws.proofs.Kept.{opened_early, opens-keeps, reply-goes, standing}
+
+-- where a course stands, and how it ends, in the counts since the turn began
+abbrev Caused : Option Early → Outside → Outside → Type 0
+Caused (Some (by_side end)) old now = EndsByCause end old now
+Caused early old now = NoneRose old now
+
+abbrev Shows : Option End → Outside → Outside → Type 0
+Shows None old new = NoneRose old new
+Shows (Some end) old new = EndsByCause end old new
+
+-- seen from an earlier world, and to a later one, with the same counts
+from_same : (end : End) (old mid new : Outside) → NoneRose old mid → EndsByCause end mid new → EndsByCause end old new
+from_same stream.Closed old mid new n e = (e.0 ∙ n.0, e.1 ∙ n.1)
+from_same stream.TornRequest old mid new n e = (e.0 ∙ n.0, e.1 ∙ n.1)
+from_same stream.TurnLimit old mid new n e = (e.0 ∙ n.0, e.1 ∙ n.1)
+from_same stream.SourceFault old mid new n e = (subst (λ (k : ℕ). Rose k new.read_faults) n.0 e.0, e.1 ∙ n.1)
+from_same stream.SinkFault old mid new n e = (e.0 ∙ n.0, subst (λ (k : ℕ). Rose k new.write_faults) n.1 e.1)
+
+to_same : (early : Option Early) (old mid new : Outside) → Caused early old mid → NoneRose mid new → Caused early old new
+to_same None old mid new c n = (n.0 ∙ c.0, n.1 ∙ c.1)
+to_same (Some by_memory) old mid new c n = (n.0 ∙ c.0, n.1 ∙ c.1)
+to_same (Some (by_side stream.Closed)) old mid new c n = (n.0 ∙ c.0, n.1 ∙ c.1)
+to_same (Some (by_side stream.TornRequest)) old mid new c n = (n.0 ∙ c.0, n.1 ∙ c.1)
+to_same (Some (by_side stream.TurnLimit)) old mid new c n = (n.0 ∙ c.0, n.1 ∙ c.1)
+to_same (Some (by_side stream.SourceFault)) old mid new c n = (subst (λ (k : ℕ). Rose old.read_faults k) (sym n.0) c.0, n.1 ∙ c.1)
+to_same (Some (by_side stream.SinkFault)) old mid new c n = (n.0 ∙ c.0, subst (λ (k : ℕ). Rose old.write_faults k) (sym n.1) c.1)
+
+-- an outside whose reading and writing sides count as before
+counts : (old new : Outside) {input output : Option (List ℕ)} {blobs : ℕ}
+    → new ≡ record { input = input; output = output; read_faults = old.read_faults; write_faults = old.write_faults; blob_faults = blobs } → NoneRose old new
+counts old new is = (ap (λ (o : Outside). o.read_faults) is, ap (λ (o : Outside). o.write_faults) is)
+
+asks_caused : (command : Command) (reply : Reply) (s : Stand) (old mid : Outside) → MayAsk command s → Caused s.early old mid
+    → Caused (stand_after command reply s).early old mid
+asks_caused command reply s old mid may c = pick (reply-goes command reply s may)
+  where
+    pick : ((stand_after command reply s).early ≡ s.early) ⊎ ((s.early ≡ None) × ((stand_after command reply s).early ≡ Some by_memory))
+        → Caused (stand_after command reply s).early old mid
+    pick (inl same) = subst (λ e. Caused e old mid) (sym same) c
+    pick (inr wanted) = subst (λ e. Caused e old mid) (sym wanted.1) (subst (λ e. Caused e old mid) wanted.0 c)
+
+takes_caused : (tells : Type 0) (draft count : ℕ) (stored : Stored) (s : Stand) (old mid new : Outside) → s.early ≡ None → NoneRose old mid
+    → Takes tells draft count stored mid new → Caused (stand_stored stored s).early old new
+takes_caused tells draft count (Ok blob) s old mid new none n t =
+    subst (λ e. Caused e old new) (sym none) (to_same None old mid new n (counts mid _ t.1.3))
+takes_caused tells draft count (Err took.Torn) s old mid new none n t = to_same None old mid new n (counts mid _ t.1.1)
+takes_caused tells draft count (Err took.SourceFault) s old mid new none n t = (
+  subst (λ (k : ℕ). Rose k new.read_faults) n.0 (subst (λ (k : ℕ). Rose mid.read_faults k) (sym (ap (λ (o : Outside). o.read_faults) t.2.1)) t.1),
+  ap (λ (o : Outside). o.write_faults) t.2.1 ∙ n.1,
+)
+takes_caused tells draft count (Err took.BlobFault) s old mid new none n t =
+    subst (λ e. Caused e old new) (sym none) (to_same None old mid new n (counts mid _ t.3.3))
+takes_caused tells draft count (Err took.NoMemory) s old mid new none n (inl t) = to_same None old mid new n (counts mid _ t)
+takes_caused tells draft count (Err took.NoMemory) s old mid new none n (inr t) = to_same None old mid new n (counts mid _ t.1.3)
+
+sends_caused : (blob : Blob) (head : List ℕ) (result : Sent) (s : Stand) (old mid new : Outside) → s.early ≡ None → NoneRose old mid
+    → Sends blob head result mid new → Caused (stand_sent result s).early old new
+sends_caused blob head sent.Whole s old mid new none n t =
+    subst (λ e. Caused e old new) (sym none) (to_same None old mid new n (counts mid _ t.2))
+sends_caused blob head sent.BlobFault s old mid new none n t =
+    subst (λ e. Caused e old new) (sym none) (to_same None old mid new n (counts mid _ t.2))
+sends_caused blob head sent.SinkFault s old mid new none n t = (
+  ap (λ (o : Outside). o.read_faults) t.6 ∙ n.0,
+  subst (λ (k : ℕ). Rose k new.write_faults) n.1 (subst (λ (k : ℕ). Rose mid.write_faults k) (sym (ap (λ (o : Outside). o.write_faults) t.6)) t.3),
+)
+sends_caused blob head sent.NoMemory s old mid new none n t = to_same None old mid new n (counts mid _ t)
+
+calm_shows : (end : Option End) (old new : Outside) → IsCalm end → NoneRose old new → Shows end old new
+calm_shows None old new calm n = n
+calm_shows (Some stream.Closed) old new calm n = n
+calm_shows (Some stream.TornRequest) old new calm n = absurd calm
+calm_shows (Some stream.TurnLimit) old new calm n = absurd calm
+calm_shows (Some stream.SourceFault) old new calm n = absurd calm
+calm_shows (Some stream.SinkFault) old new calm n = absurd calm
+
+says_shows : (answer : Answer) (next end : Option End) (old mid new : Outside) → IsCalm next → NoneRose old mid → Says answer next mid new end → Shows end old new
+says_shows answer next end old mid new calm n (whole is ends) =
+    subst (λ e. Shows e old new) (sym ends) (calm_shows next old new calm (to_same None old mid new n (counts mid _ is)))
+says_shows answer next end old mid new calm n (memory is ends) =
+    subst (λ e. Shows e old new) (sym ends) (to_same None old mid new n (counts mid _ is))
+says_shows answer next end old mid new calm n (cut faults all part rose which front is ends) =
+    subst (λ e. Shows e old new) (sym ends) (
+      ap (λ (o : Outside). o.read_faults) is ∙ n.0,
+      subst (λ (k : ℕ). Rose k new.write_faults) n.1 (subst (λ (k : ℕ). Rose mid.write_faults k) (sym (ap (λ (o : Outside). o.write_faults) is)) rose),
+    )
+
+says_for : (early : Option Early) (answer : Answer) (said : Said) (close : Bool) (next end : Option End) (old mid new : Outside) → SaysFor early said close next
+    → Caused early old mid → Says answer next mid new end → Shows end old new
+says_for None answer said close next end old mid new for n said_is = says_shows answer next end old mid new for.1 n said_is
+says_for (Some by_memory) answer said close next end old mid new for n said_is =
+    says_shows answer next end old mid new (subst (λ e. IsCalm e) (sym for.2) tt) n said_is
+says_for (Some (by_side side)) answer said close next end old mid new for n said_is = absurd for
+
+stops_for : (early : Option Early) (next end : Option End) (old mid new : Outside) → StopsFor early next → Caused early old mid → new ≡ mid → end ≡ next
+    → Shows end old new
+stops_for early next end old mid new for c is ends = subst (λ e. Shows e old new) (sym ends) (pick early for (to_same early old mid new c (counts mid _ is)))
+  where
+    pick : (early : Option Early) → StopsFor early next → Caused early old new → Shows next old new
+    pick None for c = calm_shows next old new for c
+    pick (Some by_memory) for c = absurd for
+    pick (Some (by_side side)) for c = subst (λ e. Shows e old new) (sym for) c
+
+uses_reads : (old new : Outside) → UsesHead old new → ReadsOn old new
+uses_reads old new (inl still) = (old.input, still)
+uses_reads old new (inr t) = (t.0, t.2)
+
+opens_caused : (last : Bool) (old new : Outside) (c : Course) (o : Opens last old new c) → Caused (opened_early o) old new
+opens_caused last old new c (clean begins still is) = counts old _ still
+opens_caused last old new c (torn begins still is) = counts old _ still
+opens_caused last old new c (failed faults rose still is) =
+    (subst (λ (k : ℕ). Rose old.read_faults k) (sym (ap (λ (o : Outside). o.read_faults) still)) rose, ap (λ (o : Outside). o.write_faults) still)
+opens_caused last old new c (starved begins uses is) = counts old _ (uses_reads old new uses).1
+opens_caused last old new c (refused begins uses is) = counts old _ (uses_reads old new uses).1
+opens_caused last old new c (served head request rest judged begins reads is) = counts old _ reads
+
+module _ (tells : Type 0) where
+  follows_shows : (c : Course) (n : ℕ) (s : Stand) → Keeps c n s → (entries : List Entry) (old mid new : Outside) (end : Option End) → Caused s.early old mid
+      → Follows tells c entries mid new end → Shows end old new
+  follows_shows (asks command next) zero s k [] old mid new end c f = absurd f
+  follows_shows (asks command next) zero s k (e ∷ entries) old mid new end c f = absurd k
+  follows_shows (asks command next) (suc n) s k [] old mid new end c f = absurd f
+  follows_shows (asks command next) (suc n) s k (e ∷ entries) old mid new end c f =
+      let s1 = stand_after command e.reply s in
+      follows_shows (next e.reply) n s1 (k.1 e.reply) entries old mid new end (asks_caused command e.reply s old mid k.0 c) f.1
+  follows_shows (takes draft count next) n s k entries old mid new end c f =
+      follows_shows (next f.0) n (stand_stored f.0 s) (k.2 f.0) entries old f.1 new end
+      (takes_caused tells draft count f.0 s old mid f.1 k.1 (subst (λ e. Caused e old mid) k.1 c) f.2) f.3
+  follows_shows (sends blob close next) n s k entries old mid new end c f =
+      follows_shows (next f.0) n (stand_sent f.0 s) (k.2 f.0) entries old f.1 new end
+      (sends_caused blob (shown (file_answer blob close)) f.0 s old mid f.1 k.1 (subst (λ e. Caused e old mid) k.1 c) f.2) f.3
+  follows_shows (says said close next) n s k entries old mid new end c f = says_for s.early _ said close next end old mid new k.1 c f.1
+  follows_shows (stops next) n s k entries old mid new end c f = stops_for s.early next end old mid new k.1 c f.1 f.2
+
+  turn_shows : (last : Bool) (entries : List Entry) (old new : Outside) (end : Option End) → Turn tells last entries old new end → Shows end old new
+  turn_shows last entries old new end t =
+      follows_shows t.0 3 (standing (opened_early t.2)) (opens-keeps last old t.1 t.0 t.2) entries old t.1 new end (opens_caused last old t.1 t.0 t.2) t.3
+
+  pub serves_shows : (n : ℕ) (entries : List Entry) (old new : Outside) (end : End) → Serves tells n entries old new end → EndsByCause end old new
+  unfolding Serves
+  serves_shows zero entries old new end t = subst (λ (e : End). EndsByCause e old new) (sym t.2) (counts old _ t.1)
+  serves_shows (suc left) entries old new end (inl turn) = turn_shows (left == 0) entries old new (Some end) turn
+  serves_shows (suc left) entries old new end (inr t) =
+      from_same end old t.2 new (turn_shows (left == 0) t.0 old t.2 None t.4) (serves_shows left t.1 t.2 new end t.5)
+
+  -- each request makes at most three commands
+  follows_few : (c : Course) (n : ℕ) (s : Stand) → Keeps c n s → (entries : List Entry) (old new : Outside) (end : Option End)
+      → Follows tells c entries old new end → length entries ≤ n
+  follows_few (asks command next) zero s k [] old new end f = absurd f
+  follows_few (asks command next) zero s k (e ∷ entries) old new end f = absurd k
+  follows_few (asks command next) (suc n) s k [] old new end f = absurd f
+  follows_few (asks command next) (suc n) s k (e ∷ entries) old new end f =
+      let less = follows_few (next e.reply) n (stand_after command e.reply s) (k.1 e.reply) entries old new end f.1 in omega arith
+  follows_few (takes draft count next) n s k entries old new end f =
+      follows_few (next f.0) n (stand_stored f.0 s) (k.2 f.0) entries f.1 new end f.3
+  follows_few (sends blob close next) n s k entries old new end f = follows_few (next f.0) n (stand_sent f.0 s) (k.2 f.0) entries f.1 new end f.3
+  follows_few (says said close next) n s k entries old new end f = let none = ap length f.0 in omega arith
+  follows_few (stops next) n s k entries old new end f = let none = ap length f.0 in omega arith
+
+  turn_few : (last : Bool) (entries : List Entry) (old new : Outside) (end : Option End) → Turn tells last entries old new end → length entries ≤ 3
+  turn_few last entries old new end t =
+      follows_few t.0 3 (standing (opened_early t.2)) (opens-keeps last old t.1 t.0 t.2) entries t.1 new end t.3
+
+  pub serves_few : (n : ℕ) (entries : List Entry) (old new : Outside) (end : End) → Serves tells n entries old new end → length entries ≤ 3 * n
+  unfolding Serves
+  serves_few zero entries old new end t = let none = ap length t.0 in omega arith
+  serves_few (suc left) entries old new end (inl turn) = let few = turn_few (left == 0) entries old new (Some end) turn in omega arith
+  serves_few (suc left) entries old new end (inr t) =
+      let few = turn_few (left == 0) t.0 old t.2 None t.4 in
+      let rest = serves_few left t.1 t.2 new end t.5 in
+      let all = ap length t.3 ∙ length-append t.0 t.1 in omega arith

@@ -1,0 +1,11 @@
+pub mod Kept
+pub mod Endings
+pub mod Yards
+pub mod LeftBehind
+pub mod Complete
+pub mod Counts
+pub mod Told
+pub mod Early
+pub mod PlayedCourse
+pub mod PlayedStream
+pub mod OnLiterals

@@ -1,0 +1,306 @@
+-- A course is followed as it is played, up to where memory is wanted or the source or the sink fails, if nothing else fails.
+use Rattle.std.proofs.Common.{◌≡◌, ℕ, zero, suc, ◌≤◌, ◌<◌, Bool, arith, inl, inr, List, [], ◌∷◌, ◌++◌, length, drop, Option, Some, None, Ok, Err, IsTrue, refl, sym, subst, ap, ◌∙◌, append_assoc, append-nil, length-append}
+use Rattle.std.specs.Prelude.{IsSome, IfSome, unwrap_or}
+use Rattle.std.proofs.lemmas.Bool.{false≢true, lt-ltb, le-ltb}
+use Rattle.std.proofs.lemmas.Option.{none-some}
+use Rattle.std.proofs.Math.Seq.{drop-append_seam, take-append_seam}
+use Rattle.outside.specs.Faults.{Rose}
+use Rattle.outside.specs.Told.{IsWhereTold, behind, in_front}
+use Rattle.http_wire.specs.Answer.{shown}
+use Rattle.repo_model.specs.Command.{Command, look, done, may_put, put, drop_draft}
+use Rattle.repo_model.specs.Data.{Blob}
+use Rattle.repo_model.specs.History.{Entry, Legal, after, due, wants_memory, failed, end as end_of}
+use Rattle.repo_model.specs.Reply.{Reply, file, missed, spent, draft, kind_refused, created, same, relisted, taken, no_draft, no_memory, store_fault, takes_memory}
+use Rattle.repo_model.specs.Settings.{Settings}
+use Rattle.repo_model.specs.State.{State}
+use Rattle.repo_course.specs.Answers.{answer_of, file_answer}
+use Rattle.repo_course.specs.Course.{Course, Stored, asks, takes, sends, says, stops}
+use Rattle.repo_course.specs.declared.outcomes.End.{End}
+use Rattle.repo_course.specs.declared.outcomes.End.TheVariants as stream
+use Rattle.repo_course.specs.declared.outcomes.Sent.{Sent}
+use Rattle.repo_course.specs.declared.outcomes.Sent.TheVariants as sent
+use Rattle.repo_course.specs.declared.outcomes.Took.TheVariants as took
+use Rattle.repo_course.specs.declared.said.Said.{Said}
+use Rattle.repo_course.specs.Serving.{Follows, Outside, Says, Sends, Takes, print_of, writes}
+use Rattle.course_laws.specs.AsPlayed.{RowsTold}
+use Rattle.course_laws.specs.Duties.{by_memory, by_side, Keeps, MayAsk, Stand, asked_draft, has_put, looked, stand_after, stand_sent, stand_stored}
+use Rattle.course_laws.specs.Faultless.{Scene, due_entry, play, taken_body}
+use Rattle.course_laws.proofs.Counts.{Calm, Grew, follows-grew, not-risen, sends-grew, takes-grew}
+use Rattle.course_laws.proofs.Early.{Outcome, Ready, early-before, ends-early, no-more, outcome-before, plays-early, says-early, says-memory, sink-failed, source-failed, wrote-outcome}
+use Rattle.course_laws.proofs.Told.{CommandTold, ReplyTold, after-told, clock-stays, due-is, faults-are, faults-grow, moment-is, reply-told}
+
+-- what is told is these bytes, where it is told
+told-is : (bytes : Option (List ℕ)) (body : List ℕ) → IsWhereTold bytes body → IsSome bytes → bytes ≡ Some body
+told-is None body is some = absurd (false≢true some)
+told-is (Some them) body is some = ap Some is
+
+bytes-are : (o : Option (List ℕ)) (bytes : List ℕ) → IsSome o → IsWhereTold o bytes → unwrap_or o [] ≡ bytes
+bytes-are None bytes some is = absurd (false≢true some)
+bytes-are (Some told) bytes some is = is
+
+-- the bytes in front of what is left
+front-of : (input body : List ℕ) (rest : Option (List ℕ)) → Some input ≡ in_front body rest
+    → (r : List ℕ) × (rest ≡ Some r) × (input ≡ body ++ r)
+front-of input body None is = absurd (cc)
+front-of input body (Some r) is = (r, refl, cc)
+
+blob-is : (blob : Blob) (number : ℕ) (body : List ℕ) → blob.number ≡ number → blob.bytes ≡ Some body → blob.print ≡ print_of body
+    → record { number = number; bytes = Some body; print = print_of body } ≡ blob
+blob-is blob n body number bytes print = λ i. record { number = sym number i; bytes = sym bytes i; print = sym print i }
+
+taken-whole : (n count : ℕ) (body rest : List ℕ) (blob : Blob) → length body ≡ count → blob.number ≡ n → blob.bytes ≡ Some body
+    → blob.print ≡ print_of body → taken_body n count (body ++ rest) ≡ Ok blob
+taken-whole n count body rest blob long number bytes print =
+    subst (λ c. taken_body n c (body ++ rest) ≡ Ok blob) long
+    (rw (le-ltb (length (body ++ rest)) (length body) (omega (arith, length-append body rest)), take-append_seam body rest)
+    (ap Ok (blob-is blob n body number bytes print)))
+
+taken-torn : (n count : ℕ) (input : List ℕ) → length input < count → taken_body n count input ≡ Err took.Torn
+taken-torn n count input short = rw (lt-ltb (length input) count short)
+
+-- the blob in hand is told
+
+abbrev pub InHandTold : Option Blob → Type 0
+InHandTold None = Unit {0}
+InHandTold (Some blob) = IsSome blob.bytes
+
+reply-in-hand : (c : Command) (reply : Reply) (s : Stand) → MayAsk c s → ReplyTold reply → InHandTold s.blob → InHandTold (stand_after c reply s).blob
+reply-in-hand (look repo path tried) reply s may told hand = looks reply told
+  where
+    looks : (reply : Reply) → ReplyTold reply → InHandTold (looked reply s).blob
+    looks (file lease blob) told = told
+    looks missed told = hand
+    looks spent told = hand
+    looks _ told = hand
+reply-in-hand (done lease) reply s may told hand = hand
+reply-in-hand (may_put place path) reply s may told hand = draws reply
+  where
+    draws : (reply : Reply) → InHandTold (asked_draft reply s).blob
+    draws (draft n) = hand
+    draws kind_refused = hand
+    draws spent = hand
+    draws _ = hand
+reply-in-hand (put repo path n blob) reply s may told hand = puts reply
+  where
+    puts : (reply : Reply) → InHandTold (has_put reply s).blob
+    puts created = hand
+    puts same = hand
+    puts relisted = hand
+    puts (taken kept given) = hand
+    puts no_draft = hand
+    puts store_fault = hand
+    puts _ = hand
+reply-in-hand (drop_draft n) reply s may told hand = hand
+reply-in-hand _ reply s may told hand = absurd may
+
+command-in-hand : (c : Command) (s : Stand) → MayAsk c s → InHandTold s.blob → CommandTold c
+command-in-hand (put repo path n blob) s may hand = subst (λ b. InHandTold b) may.2 hand
+command-in-hand _ s may hand = tt
+
+-- a command that memory was wanted for
+memory-early : (c : Command) (s : Stand) → MayAsk c s → IsTrue (takes_memory c) → (stand_after c no_memory s).early ≡ Some by_memory
+memory-early (look repo path tried) s may can = refl
+memory-early (done lease) s may can = absurd (false≢true can)
+memory-early (may_put place path) s may can = refl
+memory-early (put repo path n blob) s may can = refl
+memory-early (drop_draft n) s may can = absurd (false≢true can)
+memory-early _ s may can = absurd may
+
+-- a count that rose in the middle would be higher in the end
+risen : {P : Type 0} (before faults last : ℕ) → Rose before faults → faults ≤ last → Calm before last → P
+risen before faults last rose le calm = absurd (not-risen before faults rose (let h = calm.0 in omega arith) calm.1)
+
+module _ (settings : Settings) (tells : Type 0) (witness : tells) where
+  abbrev pub at : State → List ℕ → Scene
+  at st input = record { state = st; input = input }
+
+  abbrev Plays : Course → Type 0
+  Plays c = (n : ℕ) (s : Stand) → Keeps c n s → InHandTold s.blob → (entries : List Entry) (st : State) → Legal settings st entries
+      → Calm st.faults (end_of settings st entries).faults → (old new : Outside) (end : Option End) (input before : List ℕ) → Ready old st input before
+      → Calm old.blob_faults new.blob_faults → Follows tells c entries old new end
+      → Outcome before (play settings c (at st input)) old new (end_of settings st entries) end
+
+  asks-play : (command : Command) (next : Reply → Course) → ((reply : Reply) → Plays (next reply)) → Plays (asks command next)
+  asks-play command next ih zero s k hand [] st legal calm old new end input before ready quiet f = absurd f
+  asks-play command next ih zero s k hand (e ∷ entries) st legal calm old new end input before ready quiet f = absurd k
+  asks-play command next ih (suc n) s k hand [] st legal calm old new end input before ready quiet f = absurd f
+  asks-play command next ih (suc n) s k hand (e ∷ entries) st legal calm old new end input before ready quiet f =
+      let fits = legal.0 in
+      let st1 = after settings st e in
+      let up = fits.faults in
+      let is_up = faults-are settings st e in
+      let more = faults-grow settings entries st1 legal.1 in
+      let calm-end = calm.0 in
+      let calm-most = calm.1 in
+      let stood : e.faults ≡ st.faults = omega arith in
+      let calm1 : Calm st1.faults (end_of settings st1 entries).faults = (omega arith, omega arith) in
+      elim fits.reply [
+        | due replied did ↦
+            let d = due_entry settings st command in
+            let is : e ≡ d = due-is settings st e command f.0 (moment-is st e.moment ready.clock fits.moment) stood replied in
+            let told = command-in-hand command s k.0 hand in
+            let state-is : st1 ≡ after settings st d = ap (λ (x : Entry). after settings st x) is in
+            let ready1 : Ready old st1 input before = record {
+              input_is = ready.input_is;
+              output_is = ready.output_is;
+              rows = subst (λ (x : State). RowsTold x) (sym state-is) (after-told settings st ready.rows command s k.0 told);
+              clock = clock-stays settings st e ready.clock;
+            } in
+            let reply-is : e.reply ≡ d.reply = ap (λ (x : Entry). x.reply) is in
+            let hand1 = reply-in-hand command d.reply s k.0 (reply-told settings st ready.rows command s k.0 told) hand in
+            let follows = subst (λ r. Follows tells (next r) entries old new end) reply-is f.1 in
+            subst (λ (x : State). Outcome before (play settings (next d.reply) (at x input)) old new (end_of settings st1 entries) end) state-is
+            (ih d.reply n (stand_after command d.reply s) (k.1 d.reply) hand1 entries st1 legal.1 calm1 old new end input before ready1 quiet follows)
+        | wants_memory replied can did ↦
+            let early = memory-early command s k.0 (subst (λ c. IsTrue (takes_memory c)) f.0 can) in
+            let follows = subst (λ r. Follows tells (next r) entries old new end) replied f.1 in
+            inr (says-memory old new end before _
+            (ends-early tells (next no_memory) n (stand_after command no_memory s) by_memory (k.1 no_memory) early entries old new end follows) ready.output_is)
+        | failed replied can rose ↦ risen st.faults e.faults (end_of settings st1 entries).faults rose (omega arith) calm
+      ]
+
+  takes-play : (number count : ℕ) (next : Stored → Course) → ((stored : Stored) → Plays (next stored)) → (stored : Stored) (n : ℕ) (s : Stand)
+      → Keeps (takes number count next) n s → InHandTold s.blob → (entries : List Entry) (st : State) → Legal settings st entries → Calm st.faults (end_of settings st entries).faults
+      → (old mid new : Outside) (end : Option End) (input before : List ℕ) → Ready old st input before → Calm old.blob_faults new.blob_faults
+      → Grew old mid → Grew mid new → Takes tells number count stored old mid → Follows tells (next stored) entries mid new end
+      → Outcome before (play settings (takes number count next) (at st input)) old new (end_of settings st entries) end
+  takes-play number count next ih (Ok blob) n s k hand entries st legal calm old mid new end input before ready quiet first grows cause follows =
+      let body = cause.0 in
+      let got = front-of input body cause.1.0 (sym ready.input_is ∙ cause.1.2) in
+      let o : Outside = record old { input = Some got.0 } in
+      let mid-is : mid ≡ o = cause.1.3 ∙ ap (λ i. record old { input = i }) got.1 in
+      let some = cause.5 witness in
+      let told = told-is blob.bytes body cause.4 some in
+      let ready' : Ready o st got.0 before = record {
+        input_is = refl;
+        output_is = ready.output_is;
+        rows = ready.rows;
+        clock = ready.clock;
+      } in
+      let done = ih (Ok blob) n (stand_stored (Ok blob) s) (k.2 (Ok blob)) some entries st legal calm o new end got.0 before ready' quiet
+      (subst (λ m. Follows tells (next (Ok blob)) entries m new end) mid-is follows) in
+      let whole-is : taken_body number count input ≡ Ok blob =
+      ap (taken_body number count) got.2 ∙ taken-whole number count body got.0 blob cause.1.1 cause.2 told cause.3 in
+      let rest-is : drop count input ≡ got.0 = (λ i. drop (sym cause.1.1 i) (got.2 i)) ∙ drop-append_seam body got.0 in
+      subst (λ (p : Stored × List ℕ). Outcome before (play settings (next p.0) (at st p.1)) old new (end_of settings st entries) end)
+      (λ i. (sym whole-is i, sym rest-is i))
+      (outcome-before before _ old o new _ end (record { reads = omega arith; writes = omega arith; blobs = omega arith }) done)
+  takes-play number count next ih (Err took.Torn) n s k hand entries st legal calm old mid new end input before ready quiet first grows cause follows =
+      let short = subst (λ o. IfSome o (λ bytes. length bytes < count)) ready.input_is cause.0 in
+      let s1 = stand_stored (Err took.Torn) s in
+      let last = ends-early tells (next (Err took.Torn)) n s1 (by_side stream.TornRequest) (k.2 (Err took.Torn)) refl entries mid new end follows in
+      let scene : Scene = at st (drop count input) in
+      let played = plays-early settings (next (Err took.Torn)) n s1 stream.TornRequest (k.2 (Err took.Torn)) refl scene in
+      let done : Outcome before (play settings (next (Err took.Torn)) scene) old new (end_of settings st entries) end = inl record {
+        output = ap (λ o. o.output) last.0 ∙ ap (λ o. o.output) cause.1.1 ∙ ready.output_is
+            ∙ ap Some (sym (append-nil before) ∙ ap (λ b. before ++ b) (sym played.0));
+        ends = last.1 ∙ sym played.1;
+        goes = λ none. absurd (none-some stream.TornRequest (sym none ∙ last.1));
+      } in
+      subst (λ r. Outcome before (play settings (next r) scene) old new (end_of settings st entries) end) (sym (taken-torn number count input short)) done
+  takes-play number count next ih (Err took.SourceFault) n s k hand entries st legal calm old mid new end input before ready quiet first grows cause follows =
+      let last = ends-early tells (next (Err took.SourceFault)) n (stand_stored (Err took.SourceFault) s) (by_side stream.SourceFault) (k.2 (Err took.SourceFault)) refl entries mid new end follows in
+      inr (no-more before _ [] old new end (_, refl)
+      (ap (λ o. o.output) last.0 ∙ ap (λ o. o.output) cause.2.1 ∙ ready.output_is ∙ ap Some (sym (append-nil before)))
+      (source-failed old new end last.1
+      (subst (λ m. Rose old.read_faults m) (sym (ap (λ o. o.read_faults) last.0 ∙ ap (λ o. o.read_faults) cause.2.1)) cause.1)))
+  takes-play number count next ih (Err took.BlobFault) n s k hand entries st legal calm old mid new end input before ready quiet first grows cause follows =
+      risen old.blob_faults cause.0 new.blob_faults cause.2 (subst (λ m. m ≤ new.blob_faults) (ap (λ o. o.blob_faults) cause.3.3) grows.blobs) quiet
+  takes-play number count next ih (Err took.NoMemory) n s k hand entries st legal calm old mid new end input before ready quiet first grows cause follows =
+      let said = ends-early tells (next (Err took.NoMemory)) n (stand_stored (Err took.NoMemory) s) by_memory (k.2 (Err took.NoMemory)) refl entries mid new end follows in
+      inr (early-before before _ old mid new end first (says-memory mid new end before _ said (kept cause ∙ ready.output_is)))
+    where
+      kept : Takes tells number count (Err took.NoMemory) old mid → mid.output ≡ old.output
+      kept (inl still) = ap (λ o. o.output) still
+      kept (inr t) = ap (λ o. o.output) t.1.3
+
+  sends-play : (blob : Blob) (close : Bool) (next : Sent → Course) → ((result : Sent) → Plays (next result)) → (result : Sent) (n : ℕ) (s : Stand)
+      → Keeps (sends blob close next) n s → InHandTold s.blob → (entries : List Entry) (st : State) → Legal settings st entries → Calm st.faults (end_of settings st entries).faults
+      → (old mid new : Outside) (end : Option End) (input before : List ℕ) → Ready old st input before → Calm old.blob_faults new.blob_faults
+      → Grew old mid → Grew mid new → Sends blob (shown (file_answer blob close)) result old mid → Follows tells (next result) entries mid new end
+      → Outcome before (play settings (sends blob close next) (at st input)) old new (end_of settings st entries) end
+  sends-play blob close next ih sent.Whole n s k hand entries st legal calm old mid new end input before ready quiet first grows cause follows =
+      let head = shown (file_answer blob close) in
+      let bytes = bytes-are blob.bytes cause.0 (subst (λ b. InHandTold b) k.0 hand) cause.1 in
+      let all = head ++ unwrap_or blob.bytes [] in
+      let o = writes all old in
+      let mid-is : mid ≡ o = cause.2 ∙ ap (λ b. writes (head ++ b) old) (sym bytes) in
+      let ready' : Ready o st input (before ++ all) = record {
+        input_is = ready.input_is;
+        output_is = ap (λ out. behind out all) ready.output_is;
+        rows = ready.rows;
+        clock = ready.clock;
+      } in
+      wrote-outcome before all (play settings (next sent.Whole) (at st input)) old new (end_of settings st entries) end
+      (outcome-before (before ++ all) _ old o new _ end (record { reads = omega arith; writes = omega arith; blobs = omega arith })
+      (ih sent.Whole n s (k.2 sent.Whole) hand entries st legal calm o new end input (before ++ all) ready' quiet
+      (subst (λ m. Follows tells (next sent.Whole) entries m new end) mid-is follows)))
+  sends-play blob close next ih sent.BlobFault n s k hand entries st legal calm old mid new end input before ready quiet first grows cause follows =
+      risen old.blob_faults cause.0 new.blob_faults cause.1 (subst (λ m. m ≤ new.blob_faults) (ap (λ o. o.blob_faults) cause.2) grows.blobs) quiet
+  sends-play blob close next ih sent.SinkFault n s k hand entries st legal calm old mid new end input before ready quiet first grows cause follows =
+      let head = shown (file_answer blob close) in
+      let last = ends-early tells (next sent.SinkFault) n (stand_sent sent.SinkFault s) (by_side stream.SinkFault) (k.2 sent.SinkFault) refl entries mid new end follows in
+      let bytes = bytes-are blob.bytes cause.1 (subst (λ b. InHandTold b) k.0 hand) cause.4 in
+      let more = (play settings (next sent.Whole) (at st input)).written in
+      inr (no-more before _ cause.2 old new end (
+        cause.5.0 ++ more,
+        ap (λ b. (head ++ b) ++ more) bytes ∙ ap (λ b. b ++ more) cause.5.1 ∙ append_assoc cause.2 cause.5.0 more,
+      )
+      (ap (λ o. o.output) last.0 ∙ ap (λ o. o.output) cause.6 ∙ ap (λ o. behind o cause.2) ready.output_is)
+      (sink-failed old new end last.1
+      (subst (λ m. Rose old.write_faults m) (sym (ap (λ o. o.write_faults) last.0 ∙ ap (λ o. o.write_faults) cause.6)) cause.3)))
+  sends-play blob close next ih sent.NoMemory n s k hand entries st legal calm old mid new end input before ready quiet first grows cause follows =
+      let said = ends-early tells (next sent.NoMemory) n (stand_sent sent.NoMemory s) by_memory (k.2 sent.NoMemory) refl entries mid new end follows in
+      inr (early-before before _ old mid new end first (says-memory mid new end before _ said (ap (λ o. o.output) cause ∙ ready.output_is)))
+
+  -- an answer at the end of a turn, or nothing written there
+  says-play : (said : Said) (close : Bool) (next : Option End) (st : State) (old new : Outside) (end : Option End) (input before : List ℕ) → Ready old st input before
+      → Says (answer_of said close) next old new end → Outcome before (play settings (says said close next) (at st input)) old new st end
+  says-play said close next st old new end input before ready said-it =
+      elim (says-early (answer_of said close) next old new end before said-it ready.output_is) [
+        | inl w ↦ inl record {
+          output = w.1;
+          ends = w.2;
+          goes = λ none. record {
+            ready = subst (λ o. Ready o st input (before ++ shown (answer_of said close))) (sym w.0)
+                (record {
+                  input_is = ready.input_is;
+                  output_is = ap (λ o. behind o (shown (answer_of said close))) ready.output_is;
+                  rows = ready.rows;
+                  clock = ready.clock;
+                });
+            state = refl;
+          };
+        }
+        | inr m ↦ inr m
+      ]
+
+  stops-play : (next : Option End) (st : State) (old new : Outside) (end : Option End) (input before : List ℕ) → Ready old st input before
+      → new ≡ old → end ≡ next → Outcome before (play settings (stops next) (at st input)) old new st end
+  stops-play next st old new end input before ready still ends =
+      let out = ready.output_is ∙ ap Some (sym (append-nil before)) in
+      inl record {
+        output = ap (λ o. o.output) still ∙ out;
+        ends = ends;
+        goes = λ none. record {
+          ready = subst (λ o. Ready o st input (before ++ [])) (sym still)
+              (record { input_is = ready.input_is; output_is = out; rows = ready.rows; clock = ready.clock });
+          state = refl;
+        };
+      }
+
+  pub course-play : (c : Course) → Plays c
+  course-play (asks command next) n s k hand entries st legal calm old new end input before ready quiet f =
+      asks-play command next (λ r. course-play (next r)) n s k hand entries st legal calm old new end input before ready quiet f
+  course-play (takes number count next) n s k hand entries st legal calm old new end input before ready quiet f =
+      takes-play number count next (λ r. course-play (next r)) f.0 n s k hand entries st legal calm old f.1 new end input before ready quiet
+      (takes-grew tells number count f.0 old f.1 f.2) (follows-grew tells (next f.0) entries f.1 new end f.3) f.2 f.3
+  course-play (sends blob close next) n s k hand entries st legal calm old new end input before ready quiet f =
+      sends-play blob close next (λ r. course-play (next r)) f.0 n s k hand entries st legal calm old f.1 new end input before ready quiet
+      (sends-grew blob (shown (file_answer blob close)) f.0 old f.1 f.2) (follows-grew tells (next f.0) entries f.1 new end f.3) f.2 f.3
+  course-play (says said close next) n s k hand entries st legal calm old new end input before ready quiet f =
+      subst (λ (es : List Entry). Outcome before (play settings (says said close next) (at st input)) old new (end_of settings st es) end) (sym f.0)
+      (says-play said close next st old new end input before ready f.1)
+  course-play (stops next) n s k hand entries st legal calm old new end input before ready quiet f =
+      subst (λ (es : List Entry). Outcome before (play settings (stops next) (at st input)) old new (end_of settings st es) end) (sym f.0)
+      (stops-play next st old new end input before ready f.1 f.2)

@@ -1,0 +1,239 @@
+-- A turn keeps the bytes of each file's blob told, where those of the blob that it puts are, and the clock; and where nothing
+-- failed its entry is the one that is due.
+use Rattle.std.proofs.Common.{◌≡◌, ℕ, ◌≤◌, ◌==◌, Bool, true, false, List, [], ◌∷◌, Option, Some, None, Result, Ok, Err, arith, refl, sym, subst, ◌∙◌, map}
+use Rattle.std.specs.Prelude.{IsSome, MatchOption, if◌then◌else◌, filter, find, min, max}
+use Rattle.std.specs.List.{AllByRecursion}
+use Rattle.std.specs.Option.{option_map, option_map_or}
+use Rattle.std.proofs.lemmas.Bool.{false≢true}
+use Rattle.std.specs.Ordering.{nat_cmp, match_ordering}
+use Rattle.std.specs.declared.cmp.Ordering.{Ordering}
+use Rattle.std.specs.declared.cmp.Ordering.TheVariants.{Less, Equal, Greater}
+use Rattle.std.specs.Cmp.Lexicographic.{slice_cmp}
+use Rattle.outside.specs.Moments.{Moments, moments_after}
+use Rattle.mvn_coords.specs.declared.fault.PathFault.{PathFault}
+use Rattle.mvn_coords.specs.declared.kind.Kind.{Kind}
+use Rattle.mvn_coords.specs.declared.kind.Kind.TheVariants.{File, FileSide, Doc, DocSide}
+use Rattle.mvn_coords.specs.Kind.{kind}
+use Rattle.mvn_coords.specs.Layout.{text_of}
+use Rattle.mvn_digest.specs.Digests.{digests_of}
+use Rattle.mvn_digest.specs.Sides.{side_text}
+use Rattle.repo_model.specs.Command.{Command, look, done, may_put, put, drop_draft}
+use Rattle.repo_model.specs.Data.{Blob, Hosted, Phase, Row, fading, listed, is_same_print, repository}
+use Rattle.repo_model.specs.Effect.{Effect, creates, delivers, relists, fades, expires, draws, drops, lends, in_repo, rows_after, repo_of, with_effect, with_effects, with_row, list_again, fade, new_row}
+use Rattle.repo_model.specs.History.{Entry, Legal, MomentFits, after, effects_of, end, latest_moment, ticked}
+use Rattle.repo_model.specs.Paths.{takes}
+use Rattle.repo_model.specs.Reply.{Reply, draft, file, is_free, kind_refused, no_draft, spent, taken}
+use Rattle.repo_model.specs.Settings.{Rule, Settings}
+use Rattle.repo_model.specs.State.{State, change_first, change_where, hosted_of, is_among, is_repository, is_row, new_hosted, number_end, opening, row_at, rows_of}
+use Rattle.repo_model.specs.Turn.{Turn, document_text, draws_draft, in_repository, is_doc, is_file, is_text, or_nothing, put_again, put_at, says, seen_at, shows, turn}
+use Rattle.course_laws.specs.AsPlayed.{RowsTold}
+use Rattle.course_laws.specs.Duties.{MayAsk, Stand}
+use Rattle.course_laws.specs.Faultless.{due_entry, moment_now}
+
+abbrev pub IsTold : Row → Type 0
+IsTold row = IsSome row.blob.bytes
+
+abbrev AllTold : List Row → Type 0
+AllTold rows = AllByRecursion IsTold rows
+
+-- lists
+
+changed : {X : Type 0} (P : X → Type 0) (test : X → Bool) (f : X → X) → ((x : X) → P x → P (f x)) → (xs : List X) → AllByRecursion P xs
+    → AllByRecursion P (change_where test f xs)
+changed P test f keeps [] all = tt
+changed P test f keeps (x ∷ xs) all =
+    (elim (test x) as (λ b. P (if b then f x else x)) [ true ↦ keeps x all.0 | false ↦ all.0 ], changed P test f keeps xs all.1)
+
+changed-first : {X : Type 0} (P : X → Type 0) (test : X → Bool) (f : X → X) → ((x : X) → P x → P (f x)) → (xs : List X) → AllByRecursion P xs
+    → AllByRecursion P (change_first test f xs)
+changed-first P test f keeps [] all = tt
+changed-first P test f keeps (x ∷ xs) all =
+    elim (test x) as (λ b. AllByRecursion P (if b then f x ∷ xs else x ∷ change_first test f xs)) [
+      | true ↦ (keeps x all.0, all.1)
+      | false ↦ (all.0, changed-first P test f keeps xs all.1)
+    ]
+
+found : {X : Type 0} (P : X → Type 0) (test : X → Bool) (xs : List X) (x : X) → AllByRecursion P xs → find test xs ≡ Some x → P x
+found P test [] x all is = absurd (cc)
+found P test (y ∷ ys) x all is =
+    elim (test y) as (λ b. (if b then Some y else find test ys) ≡ Some x → P x) [
+      | true ↦ λ here. subst P (cc) all.0
+      | false ↦ λ later. found P test ys x all.1 later
+    ] is
+
+filtered : {X : Type 0} (P : X → Type 0) (test : X → Bool) (xs : List X) → AllByRecursion P xs → AllByRecursion P (filter test xs)
+filtered P test [] all = tt
+filtered P test (x ∷ xs) all =
+    elim (test x) as (λ b. AllByRecursion P (if b then x ∷ filter test xs else filter test xs)) [
+      | true ↦ (all.0, filtered P test xs all.1)
+      | false ↦ filtered P test xs all.1
+    ]
+
+placed : (new row : Row) (rows : List Row) → IsTold new → AllTold (row ∷ rows) → AllTold (with_row new rows) → (o : Ordering)
+    → AllTold (match_ordering o (new ∷ row ∷ rows) (new ∷ row ∷ rows) (row ∷ with_row new rows))
+placed new row rows told all rest Less = (told, all)
+placed new row rows told all rest Equal = (told, all)
+placed new row rows told all rest Greater = (all.0, rest)
+
+with-row-told : (new : Row) (rows : List Row) → IsTold new → AllTold rows → AllTold (with_row new rows)
+with-row-told new [] told all = (told, tt)
+with-row-told new (row ∷ rows) told all =
+    placed new row rows told all (with-row-told new rows told all.1) (slice_cmp nat_cmp new.path row.path)
+
+-- effects
+
+-- the blob of a new row is told
+abbrev EffectTold : Effect → Type 0
+EffectTold (creates repo path blob moment) = IsSome blob.bytes
+EffectTold (delivers n repo path blob moment) = IsSome blob.bytes
+EffectTold effect = Unit {0}
+
+rows-told : (e : Effect) → EffectTold e → (rows : List Row) → AllTold rows → AllTold (rows_after e rows)
+rows-told (creates repo path blob moment) told rows all = with-row-told (new_row path blob moment) rows told all
+rows-told (delivers n repo path blob moment) told rows all = with-row-told (new_row path blob moment) rows told all
+rows-told (relists repo path moment) told rows all = changed IsTold _ (list_again moment) (λ row is. is) rows all
+rows-told (fades repo path moment) told rows all = changed IsTold _ (fade moment) (λ row is. is) rows all
+rows-told (expires repo path blob) told rows all = filtered IsTold _ rows all
+rows-told effect told rows all = all
+
+repo-told : (repo : Option (List ℕ)) (f : List Row → List Row) → ((rows : List Row) → AllTold rows → AllTold (f rows)) → (hosted : List Hosted)
+    → AllByRecursion (λ (h : Hosted). AllTold h.rows) hosted → AllByRecursion (λ (h : Hosted). AllTold h.rows) (in_repo repo f hosted)
+repo-told None f keeps hosted all = all
+repo-told (Some repo) f keeps hosted all =
+    changed-first (λ (h : Hosted). AllTold h.rows) (is_repository repo) (λ h. record h { rows = f h.rows }) (λ h is. keeps h.rows is) hosted all
+
+effects-told : (es : List Effect) (s : State) → AllByRecursion EffectTold es → RowsTold s → RowsTold (with_effects s es)
+effects-told [] s tells all = all
+effects-told (e ∷ es) s tells all = effects-told es (with_effect s e) tells.1 (repo-told (repo_of e) (rows_after e) (rows-told e tells.0) s.hosted all)
+
+effects-clock : (es : List Effect) (s : State) → (with_effects s es).clock ≡ s.clock
+effects-clock [] s = refl
+effects-clock (e ∷ es) s = effects-clock es (with_effect s e)
+
+effects-faults : (es : List Effect) (s : State) → (with_effects s es).faults ≡ s.faults
+effects-faults [] s = refl
+effects-faults (e ∷ es) s = effects-faults es (with_effect s e)
+
+-- the blob that a command puts, and the one that a reply lends
+abbrev pub CommandTold : Command → Type 0
+CommandTold (put repo path n blob) = IsSome blob.bytes
+CommandTold command = Unit {0}
+
+abbrev pub ReplyTold : Reply → Type 0
+ReplyTold (file lease blob) = IsSome blob.bytes
+ReplyTold reply = Unit {0}
+
+-- a turn of a command that a course may ask
+abbrev Tells : Turn → Type 0
+Tells t = AllByRecursion EffectTold t.effects × ReplyTold t.reply
+
+either : (b : Bool) (t u : Turn) → Tells t → Tells u → Tells (if b then t else u)
+either true t u one other = one
+either false t u one other = other
+
+module _ (settings : Settings) (s : State) (told : RowsTold s) where
+  rows-of : (repo : List ℕ) → AllTold (rows_of repo s)
+  rows-of repo =
+      elim (hosted_of repo s) as (λ o. hosted_of repo s ≡ o → AllTold (option_map_or (λ (h : Hosted). h.rows) o [])) [
+        | None ↦ λ is. tt
+        | Some h ↦ λ is. found (λ (h : Hosted). AllTold h.rows) (is_repository repo) s.hosted h told is
+      ] refl
+
+  look-tells : (next : ℕ) (path : List ℕ) (rows : List Row) → AllTold rows → (k : Result Kind PathFault) → Tells (shows next (seen_at rows path k))
+  look-tells next path rows all (Ok (File c)) =
+      elim (row_at path rows) as (λ o. row_at path rows ≡ o → Tells (shows next (or_nothing (λ (row : Row). is_file row.blob) o))) [
+        | None ↦ λ is. (tt, tt)
+        | Some row ↦ λ is.
+            let lent : Turn = record { reply = file next row.blob; effects = lends row.blob.number ∷ [] } in
+            either (next == number_end) (says spent) lent (tt, tt) ((tt, tt), found IsTold (is_row path) rows row all is)
+      ] refl
+  look-tells next path rows all (Ok (FileSide c side)) =
+      elim (row_at (text_of c) rows) as (λ o. Tells (shows next (or_nothing (λ (row : Row). is_text (side_text side row.blob.print.digests)) o)))
+      [ None ↦ (tt, tt) | Some row ↦ (tt, tt) ]
+  look-tells next path rows all (Ok (Doc d)) =
+      elim (document_text d rows) as (λ o. Tells (shows next (or_nothing is_doc o))) [ None ↦ (tt, tt) | Some bytes ↦ (tt, tt) ]
+  look-tells next path rows all (Ok (DocSide d side)) =
+      elim (document_text d rows) as (λ o. Tells (shows next (or_nothing (λ bytes. is_text (side_text side (digests_of bytes))) o)))
+      [ None ↦ (tt, tt) | Some bytes ↦ (tt, tt) ]
+  look-tells next path rows all (Err fault) = (tt, tt)
+
+  may_put-tells : (path : List ℕ) (next : ℕ) (o : Option Hosted) → Tells (in_repository path o (draws_draft next))
+  may_put-tells path next None = (tt, tt)
+  may_put-tells path next (Some h) =
+      let drawn : Turn = record { reply = draft next; effects = draws ∷ [] } in
+      either (takes h.rule path) (draws_draft next) (says kind_refused) (either (next == number_end) (says spent) drawn (tt, tt) ((tt, tt), tt)) (tt, tt)
+
+  put-tells : (repo path : List ℕ) (n : ℕ) (blob : Blob) (moment : ℕ) → IsSome blob.bytes → (o : Option Row) → Tells (put_at repo path n blob moment o)
+  put-tells repo path n blob moment some None = ((some, tt), tt)
+  put-tells repo path n blob moment some (Some row) =
+      let other : Turn = record { reply = taken row.blob.print blob.print; effects = drops n ∷ [] } in
+      either (is_same_print row.blob.print blob.print) (put_again repo path n moment row.phase) other (again row.phase) ((tt, tt), tt)
+    where
+      again : (phase : Phase) → Tells (put_again repo path n moment phase)
+      again listed = ((tt, tt), tt)
+      again (fading since) = ((tt, (tt, tt)), tt)
+
+  turn-tells : (c : Command) (x : Stand) (moment : ℕ) → MayAsk c x → CommandTold c → Tells (turn settings s moment c)
+  turn-tells (look repo path tried) x moment may some = look-tells s.yard.next_lease path (rows_of repo s) (rows-of repo) (kind path)
+  turn-tells (done lease) x moment may some = ((tt, tt), tt)
+  turn-tells (may_put (repository repo) path) x moment may some = may_put-tells path s.yard.next_draft (hosted_of repo s)
+  turn-tells (put repo path n blob) x moment may some =
+      either (is_among n s.yard.drafts) (put_at repo path n blob moment (row_at path (rows_of repo s))) (says no_draft)
+      (put-tells repo path n blob moment some (row_at path (rows_of repo s))) (tt, tt)
+  turn-tells (drop_draft n) x moment may some =
+      elim (is_among n s.yard.drafts) as (λ b. AllByRecursion EffectTold (if b then drops n ∷ [] else []) × Unit {0}) [ true ↦ ((tt, tt), tt) | false ↦ (tt, tt) ]
+  turn-tells _ x moment may some = absurd may
+
+  pub reply-told : (c : Command) (x : Stand) → MayAsk c x → CommandTold c → ReplyTold (due_entry settings s c).reply
+  reply-told c x may some = (turn-tells c x (moment_now s) may some).1
+
+  pub after-told : (c : Command) (x : Stand) → MayAsk c x → CommandTold c → RowsTold (after settings s (due_entry settings s c))
+  after-told c x may some =
+      let t = turn settings s (moment_now s) c in
+      elim (is_free t.reply) as (λ b. RowsTold (with_effects (ticked s (moment_now s) s.faults) (if b then [] else t.effects))) [
+        | true ↦ told
+        | false ↦ effects-told t.effects (ticked s (moment_now s) s.faults) (turn-tells c x (moment_now s) may some).0 told
+      ]
+
+pub clock-stays : (settings : Settings) (s : State) (e : Entry) → IsSome s.clock → IsSome (after settings s e).clock
+clock-stays settings s e told =
+    subst (λ (o : Option Moments). IsSome o) (sym (effects-clock (effects_of settings s e) (ticked s e.moment e.faults))) (stays s.clock told)
+  where
+    stays : (o : Option Moments) → IsSome o → IsSome (option_map moments_after o)
+    stays None told = absurd (false≢true told)
+    stays (Some clock) told = refl
+
+pub faults-are : (settings : Settings) (s : State) (e : Entry) → (after settings s e).faults ≡ e.faults
+faults-are settings s e = effects-faults (effects_of settings s e) (ticked s e.moment e.faults)
+
+-- the count of the records never falls
+pub faults-grow : (settings : Settings) (entries : List Entry) (s : State) → Legal settings s entries → s.faults ≤ (end settings s entries).faults
+faults-grow settings [] s legal = omega arith
+faults-grow settings (e ∷ entries) s legal =
+    let one = legal.0.faults in
+    let is = faults-are settings s e in
+    let rest = faults-grow settings entries (after settings s e) legal.1 in omega arith
+
+-- a clock that tells leaves no choice of the moment
+pub moment-is : (s : State) (moment : ℕ) → IsSome s.clock → MomentFits s moment → moment ≡ moment_now s
+moment-is s moment told fits = pick ((s.last ≤ moment) × (moment ≤ latest_moment)) s.clock told fits
+  where
+    pick : (Any : Type 0) (o : Option Moments) → IsSome o → MatchOption o Any (λ clock. moment ≡ max s.last (min latest_moment (clock.next)))
+        → moment ≡ option_map_or (λ (clock : Moments). max s.last (min latest_moment clock.next)) o s.last
+    pick Any None told fits = absurd (false≢true told)
+    pick Any (Some clock) told fits = fits
+
+-- where the reply is due, and the records did not fail, so is the entry
+pub due-is : (settings : Settings) (s : State) (e : Entry) (c : Command) → e.command ≡ c → e.moment ≡ moment_now s → e.faults ≡ s.faults
+    → e.reply ≡ (turn settings s e.moment e.command).reply → e ≡ due_entry settings s c
+due-is settings s e c command moment faults reply =
+    let replied = reply ∙ (λ i. (turn settings s (moment i) (command i)).reply) in
+    λ i. record { command = command i; moment = moment i; reply = replied i; faults = faults i }
+
+no-rows : (rules : List Rule) → AllByRecursion (λ (h : Hosted). AllTold h.rows) (map new_hosted rules)
+no-rows [] = tt
+no-rows (rule ∷ rules) = (tt, no-rows rules)
+
+-- before the first turn there is no file
+pub opening-told : (settings : Settings) (clock : Option Moments) → RowsTold (opening settings clock)
+opening-told settings clock = no-rows settings.hosted

@@ -1,0 +1,253 @@
+-- What a course holds stands in the yard beside what stood before it, turn by turn.
+use Rattle.std.proofs.Common.{◌≡◌, ◌≢◌, ◌⊎◌, ℕ, ◌<◌, ◌≤◌, ◌==◌, ◌||◌, ◌&&◌, Bool, true, false, not, if◌then◌else◌, List, [], ◌∷◌, ◌++◌, filter, Option, Some, None, inl, inr, ap, arith, refl, subst, sym, ◌∙◌, IsTrue}
+use Rattle.std.specs.Prelude.{nat_lt}
+use Rattle.std.proofs.lemmas.Bool.Decides.{eqb_tells}
+use Rattle.repo_model.specs.Command.{Command, look, done, may_put, put, drop_draft, is_fit, is_parcel, rule_of}
+use Rattle.repo_model.specs.Data.{Blob, Hosted, Phase, Row, fading, listed, is_same_print, repository}
+use Rattle.repo_model.specs.Effect.{Effect, draws, drops, lends, returns, with_effects}
+use Rattle.repo_model.specs.History.{Fits, IsReply, due, wants_memory, failed, after, commits, ticked}
+use Rattle.repo_model.specs.Paths.{takes}
+use Rattle.repo_model.specs.Reply.{Reply, draft, dropped, file, given_back, is_free, kind_refused, no_draft, spent, taken}
+use Rattle.repo_model.specs.Settings.{Settings}
+use Rattle.repo_model.specs.State.{Lease, State, Yard, hosted_of, is_among, number_end, row_at, rows_of}
+use Rattle.repo_model.specs.Turn.{Seen, Turn, draws_draft, in_repository, is_doc, is_file, is_nothing, is_text, put_again, put_at, says, seen_at, shows}
+use Rattle.mvn_coords.specs.Kind.{kind}
+use Rattle.course_laws.specs.Duties.{MayAsk, Stand, asked_draft, has_put, looked, stand_after}
+use Rattle.course_laws.specs.LeftBehind.{IsDrawn, NumbersAreBelow}
+
+-- the numbers below one that is not below itself
+not_below : (n m : ℕ) → m < n → (m == n) ≡ false
+not_below n m below = pick (eqb_tells m n)
+  where
+    pick : ((m == n) ≡ true × (m ≡ n)) ⊎ ((m == n) ≡ false × (m ≢ n)) → (m == n) ≡ false
+    pick (inl is) = absurd (omega (arith, is.1))
+    pick (inr is) = is.0
+
+is_itself : (n : ℕ) → (n == n) ≡ true
+is_itself n = pick (eqb_tells n n)
+  where
+    pick : ((n == n) ≡ true × (n ≡ n)) ⊎ ((n == n) ≡ false × (n ≢ n)) → (n == n) ≡ true
+    pick (inl is) = is.0
+    pick (inr is) = absurd (is.1 refl)
+
+-- a number that stands behind smaller ones is taken away again
+taken_away : {X : Type 0} (number : X → ℕ) (next n : ℕ) (x : X) (xs : List X) → number x ≡ n → next ≤ n → NumbersAreBelow number next xs
+    → filter (λ y. not (number y == n)) (xs ++ x ∷ []) ≡ xs
+taken_away number next n x [] is up below = rw (is, is_itself n) refl
+taken_away number next n x (y ∷ ys) is up below =
+    rw (not_below n (number y) (let here = below.0 in omega arith)) (ap (λ zs. y ∷ zs) (taken_away number next n x ys is up below.1))
+
+-- a number stands among those behind which it was put
+stands_last : (n : ℕ) (ns : List ℕ) → is_among n (ns ++ n ∷ []) ≡ true
+stands_last n [] = rw (is_itself n) refl
+stands_last n (m ∷ ms) = rw (stands_last n ms) (or-true (m == n))
+  where
+    or-true : (b : Bool) → (b || true) ≡ true
+    or-true true = refl
+    or-true false = refl
+
+-- the draft and the lease that a course holds stand behind those that stood before it
+abbrev pub OwnDraft : Yard → Option ℕ → List ℕ → Type 0
+OwnDraft before None drafts = drafts ≡ before.drafts
+OwnDraft before (Some n) drafts = (drafts ≡ before.drafts ++ n ∷ []) × (before.next_draft ≤ n)
+
+abbrev pub OwnLease : Yard → Option ℕ → List Lease → Type 0
+OwnLease before None leases = leases ≡ before.leases
+OwnLease before (Some n) leases = (blob : ℕ) × (leases ≡ before.leases ++ record { number = n; blob = blob } ∷ []) × (before.next_lease ≤ n)
+
+pub record Holding (before : Yard) (draft lease : Option ℕ) (now : Yard) : Type 0 where
+  pub drafts : OwnDraft before draft now.drafts
+  pub leases : OwnLease before lease now.leases
+  pub next_draft : before.next_draft ≤ now.next_draft
+  pub next_lease : before.next_lease ≤ now.next_lease
+
+-- what a turn did whose reply came to the course
+abbrev done_by : Turn → List Effect
+done_by t = if is_free t.reply then [] else t.effects
+
+module _ (before : Yard) (drawn : IsDrawn before) where
+  abbrev pub Holds : Stand → Yard → Type 0
+  Holds s now = Holding before s.draft s.lease now
+
+  -- what is held behind a turn, and the reply is not that a draft is missing
+  abbrev Goes : (Reply → Stand) → State → Turn → Type 0
+  Goes put_by st t = Holds (put_by t.reply) (with_effects st (done_by t)).yard × (t.reply ≢ no_draft)
+
+  look-goes : (s : Stand) (st : State) → s.lease ≡ None → Holds s st.yard → (seen : Seen) → Goes (λ r. looked r s) st (shows st.yard.next_lease seen)
+  look-goes s st none h (is_file blob) =
+      let leases : OwnLease before None st.yard.leases = subst (λ l. OwnLease before l st.yard.leases) none h.leases in
+      let next = st.yard.next_lease in
+      elim (next == number_end) as (λ b. Goes (λ r. looked r s) st (if b then says spent else record { reply = file next blob; effects = lends blob.number ∷ [] })) [
+        | true ↦ (h, λ is. cc)
+        | false ↦ (
+          record {
+            drafts = h.drafts;
+            leases = (blob.number, ap (λ ls. ls ++ record { number = next; blob = blob.number } ∷ []) leases, h.next_lease);
+            next_draft = h.next_draft;
+            next_lease = let here = h.next_lease in omega arith;
+          },
+          λ is. cc,
+        )
+      ]
+  look-goes s st none h (is_text bytes) = (h, λ is. cc)
+  look-goes s st none h (is_doc bytes) = (h, λ is. cc)
+  look-goes s st none h is_nothing = (h, λ is. cc)
+
+  draws-goes : (s : Stand) (st : State) → s.draft ≡ None → Holds s st.yard → Goes (λ r. asked_draft r s) st (draws_draft st.yard.next_draft)
+  draws-goes s st none h =
+      let drafts : OwnDraft before None st.yard.drafts = subst (λ d. OwnDraft before d st.yard.drafts) none h.drafts in
+      let next = st.yard.next_draft in
+      elim (next == number_end) as (λ b. Goes (λ r. asked_draft r s) st (if b then says spent else record { reply = draft next; effects = draws ∷ [] })) [
+        | true ↦ (h, λ is. cc)
+        | false ↦ (
+          record {
+            drafts = (ap (λ ns. ns ++ next ∷ []) drafts, h.next_draft);
+            leases = h.leases;
+            next_draft = let here = h.next_draft in omega arith;
+            next_lease = h.next_lease;
+          },
+          λ is. cc,
+        )
+      ]
+
+  may_put-goes : (s : Stand) (st : State) (path : List ℕ) → s.draft ≡ None → Holds s st.yard → (found : Option Hosted)
+      → Goes (λ r. asked_draft r s) st (in_repository path found (draws_draft st.yard.next_draft))
+  may_put-goes s st path none h None = (h, λ is. cc)
+  may_put-goes s st path none h (Some here) =
+      elim (takes here.rule path) as (λ b. Goes (λ r. asked_draft r s) st (if b then draws_draft st.yard.next_draft else says kind_refused)) [
+        | true ↦ draws-goes s st none h
+        | false ↦ (h, λ is. cc)
+      ]
+
+  -- a draft that is held is there, and may be given up
+  own-there : (n : ℕ) (now : Yard) → OwnDraft before (Some n) now.drafts → is_among n now.drafts ≡ true
+  own-there n now own = ap (is_among n) own.0 ∙ stands_last n before.drafts
+
+  own-gone : (n : ℕ) (now : Yard) → OwnDraft before (Some n) now.drafts → filter (λ m. not (m == n)) now.drafts ≡ before.drafts
+  own-gone n now own =
+      ap (filter (λ m. not (m == n))) own.0 ∙ taken_away (λ (m : ℕ). m) before.next_draft n n before.drafts refl own.1 drawn.drafts
+
+  given-up : (s : Stand) (n : ℕ) (now later : Yard) → s.draft ≡ Some n → Holds s now → later.drafts ≡ filter (λ m. not (m == n)) now.drafts
+      → later.leases ≡ now.leases → later.next_draft ≡ now.next_draft → later.next_lease ≡ now.next_lease → Holding before None s.lease later
+  given-up s n now later is h drafts leases next_draft next_lease =
+      let own : OwnDraft before (Some n) now.drafts = subst (λ d. OwnDraft before d now.drafts) is h.drafts in
+      record {
+        drafts = drafts ∙ own-gone n now own;
+        leases = keep s.lease h.leases;
+        next_draft = let here = h.next_draft in omega arith;
+        next_lease = let here = h.next_lease in omega arith;
+      }
+    where
+      keep : (lease : Option ℕ) → OwnLease before lease now.leases → OwnLease before lease later.leases
+      keep None own = leases ∙ own
+      keep (Some lease) own = (own.0, leases ∙ own.1, own.2)
+
+  put-goes : (s : Stand) (st : State) (repo path : List ℕ) (n : ℕ) (blob : Blob) (moment : ℕ) → s.draft ≡ Some n → blob.number ≡ n → Holds s st.yard → (found : Option Row)
+      → Goes (λ r. has_put r s) st (put_at repo path n blob moment found)
+  put-goes s st repo path n blob moment is number h None =
+      (given-up s n st.yard _ is h (ap (λ k. filter (λ m. not (m == k)) st.yard.drafts) number) refl refl refl, λ is. cc)
+  put-goes s st repo path n blob moment is number h (Some row) =
+      elim (is_same_print row.blob.print blob.print)
+      as (λ b. Goes (λ r. has_put r s) st (if b then put_again repo path n moment row.phase else record { reply = taken row.blob.print blob.print; effects = drops n ∷ [] })) [
+        | true ↦ again row.phase
+        | false ↦ (given-up s n st.yard _ is h refl refl refl refl, λ is. cc)
+      ]
+    where
+      again : (phase : Phase) → Goes (λ r. has_put r s) st (put_again repo path n moment phase)
+      again listed = (given-up s n st.yard _ is h refl refl refl refl, λ is. cc)
+      again (fading since) = (given-up s n st.yard _ is h refl refl refl refl, λ is. cc)
+
+  there-goes : (s : Stand) (st : State) (repo path : List ℕ) (n : ℕ) (blob : Blob) (moment : ℕ) → s.draft ≡ Some n → blob.number ≡ n → Holds s st.yard → (found : Option Row)
+      → Goes (λ r. has_put r s) st (if is_among n st.yard.drafts then put_at repo path n blob moment found else says no_draft)
+  there-goes s st repo path n blob moment is number h found =
+      let own : OwnDraft before (Some n) st.yard.drafts = subst (λ d. OwnDraft before d st.yard.drafts) is h.drafts in
+      subst (λ b. Goes (λ r. has_put r s) st (if b then put_at repo path n blob moment found else says no_draft)) (sym (own-there n st.yard own))
+      (put-goes s st repo path n blob moment is number h found)
+
+  drop-goes : (s : Stand) (st : State) (n : ℕ) → s.draft ≡ Some n → Holds s st.yard
+      → Goes (λ r. record s { draft = None }) st (record { reply = dropped; effects = if is_among n st.yard.drafts then drops n ∷ [] else [] })
+  drop-goes s st n is h =
+      let own : OwnDraft before (Some n) st.yard.drafts = subst (λ d. OwnDraft before d st.yard.drafts) is h.drafts in
+      subst (λ b. Goes (λ r. record s { draft = None }) st (record { reply = dropped; effects = if b then drops n ∷ [] else [] })) (sym (own-there n st.yard own))
+      (given-up s n st.yard _ is h refl refl refl refl, λ is. cc)
+
+  done-goes : (s : Stand) (st : State) (lease : ℕ) → s.lease ≡ Some lease → Holds s st.yard
+      → Goes (λ r. record s { lease = None }) st (record { reply = given_back; effects = returns lease ∷ [] })
+  done-goes s st lease is h =
+      let own : OwnLease before (Some lease) st.yard.leases = subst (λ l. OwnLease before l st.yard.leases) is h.leases in (
+        record {
+          drafts = h.drafts;
+          leases = ap (filter (λ (l : Lease). not (l.number == lease))) own.1
+              ∙ taken_away (λ (l : Lease). l.number) before.next_lease lease (record { number = lease; blob = own.0 }) before.leases refl own.2 drawn.leases;
+          next_draft = h.next_draft;
+          next_lease = h.next_lease;
+        },
+        λ is. cc,
+      )
+
+  -- an entry of a command that the course may ask
+  abbrev pub Steps : Settings → Stand → State → Command → ℕ → Reply → ℕ → Type 0
+  Steps settings s st c moment reply faults =
+      Holds (stand_after c reply s) (after settings st (record { command = c; moment = moment; reply = reply; faults = faults })).yard × (reply ≢ no_draft)
+
+  number-is : (a : Bool) (n : ℕ) (blob : Blob) → IsTrue (a && is_parcel n blob) → blob.number ≡ n
+  number-is a n blob holds = pick (eqb_tells blob.number n)
+    where
+      pick : ((blob.number == n) ≡ true × (blob.number ≡ n)) ⊎ ((blob.number == n) ≡ false × (blob.number ≢ n)) → blob.number ≡ n
+      pick (inl is) = is.1
+      pick (inr is) = absurd (clash a (blob.number == n) (nat_lt blob.print.length number_end) holds is.0)
+        where
+          clash : (a b c : Bool) → IsTrue (a && (b && c)) → b ≡ false → ⊥
+          clash true true c holds is = cc
+          clash true false c holds is = cc
+          clash false b c holds is = cc
+
+  pub step : (settings : Settings) (s : Stand) (st : State) (c : Command) (moment : ℕ) (reply : Reply) (faults : ℕ) → MayAsk c s → Holds s st.yard
+      → Fits settings st (record { command = c; moment = moment; reply = reply; faults = faults }) → Steps settings s st c moment reply faults
+  step settings s st (look repo path tried) moment reply faults may h fits = pick fits.reply
+    where
+      pick : IsReply settings st (record { command = look repo path tried; moment = moment; reply = reply; faults = faults })
+          → Steps settings s st (look repo path tried) moment reply faults
+      pick (due is did) =
+          subst (λ r. Steps settings s st (look repo path tried) moment r faults) (sym is)
+          (look-goes s (ticked st moment faults) may.0 h (seen_at (rows_of repo st) path (kind path)))
+      pick (wants_memory is can did) = subst (λ r. Steps settings s st (look repo path tried) moment r faults) (sym is) (h, λ is. cc)
+      pick (failed is can rose) = subst (λ r. Steps settings s st (look repo path tried) moment r faults) (sym is) (h, λ is. cc)
+  step settings s st (done lease) moment reply faults may h fits = pick fits.reply
+    where
+      pick : IsReply settings st (record { command = done lease; moment = moment; reply = reply; faults = faults }) → Steps settings s st (done lease) moment reply faults
+      pick (due is did) = subst (λ r. Steps settings s st (done lease) moment r faults) (sym is) (done-goes s (ticked st moment faults) lease may h)
+      pick (wants_memory is can did) = absurd (cc)
+      pick (failed is can rose) = absurd (cc)
+  step settings s st (may_put (repository repo) path) moment reply faults may h fits = pick fits.reply
+    where
+      pick : IsReply settings st (record { command = may_put (repository repo) path; moment = moment; reply = reply; faults = faults })
+          → Steps settings s st (may_put (repository repo) path) moment reply faults
+      pick (due is did) =
+          subst (λ r. Steps settings s st (may_put (repository repo) path) moment r faults) (sym is)
+          (may_put-goes s (ticked st moment faults) path may.0 h (hosted_of repo st))
+      pick (wants_memory is can did) = subst (λ r. Steps settings s st (may_put (repository repo) path) moment r faults) (sym is) (h, λ is. cc)
+      pick (failed is can rose) = subst (λ r. Steps settings s st (may_put (repository repo) path) moment r faults) (sym is) (h, λ is. cc)
+  step settings s st (put repo path n blob) moment reply faults may h fits = pick fits.reply
+    where
+      number : blob.number ≡ n
+      number = number-is (is_fit (λ rule. takes rule path) (rule_of repo settings)) n blob fits.condition
+
+      pick : IsReply settings st (record { command = put repo path n blob; moment = moment; reply = reply; faults = faults })
+          → Steps settings s st (put repo path n blob) moment reply faults
+      pick (due is did) =
+          subst (λ r. Steps settings s st (put repo path n blob) moment r faults) (sym is)
+          (there-goes s (ticked st moment faults) repo path n blob moment may.0 number h (row_at path (rows_of repo st)))
+      pick (wants_memory is can did) = subst (λ r. Steps settings s st (put repo path n blob) moment r faults) (sym is) (h, λ is. cc)
+      pick (failed is can rose) = subst (λ r. Steps settings s st (put repo path n blob) moment r faults) (sym is) (h, λ is. cc)
+  step settings s st (drop_draft n) moment reply faults may h fits = pick fits.reply
+    where
+      never : (b : Bool) → IsTrue (commits (drop_draft n) (if b then drops n ∷ [] else [])) → ⊥
+      never true is = cc
+      never false is = cc
+
+      pick : IsReply settings st (record { command = drop_draft n; moment = moment; reply = reply; faults = faults }) → Steps settings s st (drop_draft n) moment reply faults
+      pick (due is did) = subst (λ r. Steps settings s st (drop_draft n) moment r faults) (sym is) (drop-goes s (ticked st moment faults) n may h)
+      pick (wants_memory is can did) = absurd (cc)
+      pick (failed is can rose) = absurd (never (is_among n st.yard.drafts) can)
+  step settings s st _ moment reply faults may h fits = absurd may

@@ -1,0 +1,19 @@
+use Rattle.std.proofs.Common.{◌≡◌, ◌⊎◌, ℕ, List, Option, inl, inr, sym, ◌∙◌}
+use Rattle.repo_course.specs.declared.outcomes.End.{End}
+use Rattle.repo_course.specs.Serving.{AllTell}
+use Rattle.course_laws.specs.AsPlayed.{IsAsPlayed, in_full, wants_memory, WantedMemory}
+use Rattle.course_laws.specs.Faultless.{Played}
+use Rattle.course_laws.proofs.PlayedStream.{as-played}
+use Rattle.course_laws.proofs.laws.faultless_runs_agree.Goals as goal
+
+agree : (before : List ℕ) (p : Played End) (one other : Option (List ℕ)) (end end' : End) → IsAsPlayed before p one end → IsAsPlayed before p other end'
+    → ((one ≡ other) × (end ≡ end')) ⊎ WantedMemory before one ⊎ WantedMemory before other
+agree before p one other end end' (in_full out ends) (in_full out' ends') = inl (out ∙ sym out', ends ∙ sym ends')
+agree before p one other end end' (wants_memory front is out ends) _ = inr (inl (front, out))
+agree before p one other end end' (in_full out ends) (wants_memory front is out' ends') = inr (inr (front, out'))
+
+pub returns : goal.returns
+returns g c settings told n start input before entries others old new old' new' ending ending' legal records begins calm served legal' records' begins' calm' served' =
+    agree before _ new.output new'.output ending ending'
+    (as-played settings (AllTell g.H.Held.bytes) told n entries start legal records old new ending input before begins calm served)
+    (as-played settings (AllTell g.H.Held.bytes) told n others start legal' records' old' new' ending' input before begins' calm' served')

@@ -1,0 +1,8 @@
+pub mod Duties
+pub mod Endings
+pub mod LeftBehind
+pub mod Complete
+pub mod Faultless
+pub mod AsPlayed
+pub mod Releases
+pub mod Worked

@@ -1,0 +1,106 @@
+ghost use Rattle.std.specs.Prelude.{◌≡◌, ◌≢◌, ◌⊎◌, ℕ, ◌*◌, ◌≤◌, Bool, length, List, ◌++◌, Option};
+ghost use Rattle.std.specs.List.{AllByRecursion};
+ghost use Rattle.outside.specs.Moments.{Moments};
+ghost use Rattle.http_wire.specs.Head.{Head};
+ghost use Rattle.repo_course.specs.Course.{course_of};
+ghost use Rattle.repo_course.specs.Plain.{plain};
+ghost use Rattle.repo_course.specs.declared.outcomes.End.{End};
+ghost use Rattle.repo_course.specs.Serving.{AllTell, Outside, Serves};
+ghost use Rattle.repo_model.specs.History.{Entry, Legal, end};
+ghost use Rattle.repo_model.specs.Reply.{no_draft};
+ghost use Rattle.repo_model.specs.Settings.{Settings};
+ghost use Rattle.repo_model.specs.State.{State, opening};
+ghost use Rattle.course_laws.specs.AsPlayed.{BeginsAt, IsAsPlayed, IsPlayedUpTo, NoFaults, RowsTold, StoodStill, WantedMemory};
+ghost use Rattle.course_laws.specs.Complete.{IsComplete};
+ghost use Rattle.course_laws.specs.Endings.{EndsByCause};
+ghost use Rattle.course_laws.specs.Faultless.{play_stream};
+ghost use Rattle.course_laws.specs.Worked.{IsAnswered, abc_200, bad_head_400, created_201, delete, last_get, not_there_404, nothing_200, put_abc, put_nothing, same_200, taken_409};
+ghost use Rattle.course_laws.specs.LeftBehind.{IsDrawn, LeavesNothing};
+
+use outside::Held;
+
+/// A stream ends by a failure of its source or of its sink exactly where that side's count rose, which is then the only
+/// one of the two that did; a count at the end of its type leaves it open.
+pub fn ends_have_their_causes<H: Held>()
+    ensures { (n : ℕ) (entries : List Entry) (old new : Outside) (ending : End) →
+        Serves (AllTell H.bytes) n entries old new ending → EndsByCause ending old new }
+{}
+
+/// A request makes at most three commands.
+pub fn calls_are_few<H: Held>()
+    ensures { (n : ℕ) (entries : List Entry) (old new : Outside) (ending : End) →
+        Serves (AllTell H.bytes) n entries old new ending → length entries ≤ 3 * n }
+{}
+
+/// A stream that is served alone leaves no draft and no lease behind: each draft that a course was given was put or given
+/// up, and each lease was given back, on every way out. The drafts and leases that stood before, of other callers, stand as
+/// they did.
+pub fn nothing_is_left_behind<H: Held>()
+    ensures { (settings : Settings) (n : ℕ) (entries : List Entry) (start : State) (old new : Outside) (ending : End) → IsDrawn start.yard
+        → Legal settings start entries → Serves (AllTell H.bytes) n entries old new ending → LeavesNothing start.yard (end settings start entries).yard }
+{}
+
+/// A stream that is served alone finds each draft of its own: no call of it is answered NoDraft.
+pub fn own_drafts_are_there<H: Held>()
+    ensures { (settings : Settings) (n : ℕ) (entries : List Entry) (start : State) (old new : Outside) (ending : End) → IsDrawn start.yard
+        → Legal settings start entries → Serves (AllTell H.bytes) n entries old new ending → AllByRecursion (λ (e : Entry). e.reply ≢ no_draft) entries }
+{}
+
+/// Each course that a head comes to has an answer for each reply that its commands can get: unless memory was wanted, it does
+/// not end in want of memory.
+pub fn courses_are_complete()
+    ensures { (settings : Settings) (head : Head) (last : Bool) → IsComplete settings (course_of (plain head) last) }
+{}
+
+/// Where no blob failed, and the records did not, a stream that is served alone has taken what is played from the machine's
+/// state and the input, up to some place: all of it, or up to where the source or the sink failed, by which it ended, or up
+/// to where memory was wanted. Only the answer that says so may stand behind that. The blobs tell their bytes, and so do the
+/// files that stand there, the clock, the input and the output.
+pub fn broken_is_a_front<H: Held>()
+    ensures { (settings : Settings) → AllTell H.bytes →
+        (n : ℕ) (entries : List Entry) (start : State) (old new : Outside) (ending : End) (input before : List ℕ) →
+        Legal settings start entries → StoodStill start.faults (end settings start entries).faults →
+        BeginsAt start input before old → StoodStill old.blob_faults new.blob_faults →
+        Serves (AllTell H.bytes) n entries old new ending →
+        let played = play_stream settings n (record { state = start; input = input }) in
+        IsPlayedUpTo before played old new ending }
+{}
+
+/// Where nothing failed, such a stream has taken exactly what is played, and ended as that does; or, from where memory was
+/// wanted, the answer that says so, and it was closed.
+pub fn faultless_is_played<H: Held>()
+    ensures { (settings : Settings) → AllTell H.bytes →
+        (n : ℕ) (entries : List Entry) (start : State) (old new : Outside) (ending : End) (input before : List ℕ) →
+        Legal settings start entries → StoodStill start.faults (end settings start entries).faults →
+        BeginsAt start input before old → NoFaults old new →
+        Serves (AllTell H.bytes) n entries old new ending →
+        let played = play_stream settings n (record { state = start; input = input }) in
+        IsAsPlayed before played new.output ending }
+{}
+
+/// Before its first turn a repository has no files, so each file that stands there is told.
+pub fn first_files_are_told()
+    ensures { (settings : Settings) (clock : Option Moments) → RowsTold (opening settings clock) }
+{}
+
+/// What a stream without faults has taken is a function of the machine's state, the clock's moments in it, and the input:
+/// two such streams have taken the same bytes and ended alike, unless one of them wanted memory.
+pub fn faultless_runs_agree<H: Held>()
+    ensures { (settings : Settings) → AllTell H.bytes →
+        (n : ℕ) (start : State) (input before : List ℕ) (entries others : List Entry) (old new other_old other_new : Outside) (ending other_ending : End) →
+        Legal settings start entries → StoodStill start.faults (end settings start entries).faults →
+        BeginsAt start input before old → NoFaults old new → Serves (AllTell H.bytes) n entries old new ending →
+        Legal settings start others → StoodStill start.faults (end settings start others).faults →
+        BeginsAt start input before other_old → NoFaults other_old other_new → Serves (AllTell H.bytes) n others other_old other_new other_ending →
+        ((new.output ≡ other_new.output) × (ending ≡ other_ending))
+        ⊎ WantedMemory before new.output ⊎ WantedMemory before other_new.output }
+{}
+
+/// Worked exchanges, from an empty repository and whatever the clock tells.
+pub fn worked_exchanges()
+    ensures put_and_get { IsAnswered (put_abc ++ last_get) (created_201 ++ abc_200) }
+    ensures put_again { IsAnswered (put_abc ++ put_abc ++ put_nothing ++ last_get) (created_201 ++ same_200 ++ taken_409 ++ abc_200) }
+    ensures put_nothing { IsAnswered (put_nothing ++ last_get) (created_201 ++ nothing_200) }
+    ensures not_there { IsAnswered last_get not_there_404 }
+    ensures not_plain { IsAnswered delete bad_head_400 }
+{}

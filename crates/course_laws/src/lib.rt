@@ -1,0 +1,12 @@
+//! The laws of served streams. No function here has code: its contract is the law.
+//!
+//! What a course owes is one predicate of `specs/Duties.antt`; the laws on drafts, leases, ends and counts follow from it.
+#![tactic(auto)]
+
+mod laws;
+
+pub use laws::{
+    broken_is_a_front, calls_are_few, courses_are_complete, ends_have_their_causes,
+    faultless_is_played, faultless_runs_agree, first_files_are_told, nothing_is_left_behind,
+    own_drafts_are_there, worked_exchanges,
+};

@@ -1,5 +1,0 @@
-use Rattle.mvn_coords.proofs.StampLaws.{exact_text}
-use Rattle.mvn_coords.proofs.stamp.exact_stamps.Goals as goal
-
-pub returns : goal.returns
-returns c = exact_text

@@ -1,5 +1,0 @@
-use Rattle.mvn_coords.proofs.Cuts.{before_strip}
-use Rattle.mvn_coords.proofs.text.before.Goals as goal
-
-pub returns : goal.returns
-returns c = before_strip c.args.end.now c.args.text.now c.strip_suffix.result c.strip_suffix.ensures.cases

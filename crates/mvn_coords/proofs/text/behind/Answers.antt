@@ -1,5 +1,0 @@
-use Rattle.mvn_coords.proofs.Cuts.{behind_strip}
-use Rattle.mvn_coords.proofs.text.behind.Goals as goal
-
-pub returns : goal.returns
-returns c = behind_strip c.args.front.now c.args.text.now c.strip_prefix.result c.strip_prefix.ensures.cases

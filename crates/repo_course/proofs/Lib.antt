@@ -1,0 +1,3 @@
+pub mod JudgedLemmas
+pub mod Commands
+pub mod Starting

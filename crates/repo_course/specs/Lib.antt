@@ -1,0 +1,7 @@
+pub mod Plain
+pub mod Answers
+pub mod Course
+pub mod Meets
+pub mod Acts
+pub mod Serving
+pub mod Asking

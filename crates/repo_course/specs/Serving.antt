@@ -1,0 +1,166 @@
+-- How a stream is served: for each request the steps of its course, one after another, each with the causes of its result.
+use Rattle.std.specs.Prelude.{◌≡◌, ℕ, zero, suc, ◌<◌, ◌⊎◌, ◌==◌, Bool, List, [], ◌∷◌, ◌++◌, length, Option, Some, None, IfSome, IsSome, Ok, Err}
+use Rattle.outside.specs.declared.tells.Tells.{Ghosts}
+use Rattle.outside.specs.Faults.{Rose}
+use Rattle.outside.specs.Told.{in_front, behind, IsAtEnd, IsWhereTold}
+use Rattle.mvn_digest.specs.Digests.{digests_of}
+use Rattle.http_wire.specs.declared.answers.Answer.{Answer}
+use Rattle.http_wire.specs.Answer.{shown}
+use Rattle.http_wire.specs.Front.{Front, Clean, Cut, Bad, Whole, front}
+use Rattle.http_wire.specs.Head.{Head}
+use Rattle.http_wire.specs.Stream.{unread}
+use Rattle.repo_model.specs.declared.print.Print.{Print}
+use Rattle.repo_model.specs.Data.{Blob}
+use Rattle.repo_model.specs.History.{Entry}
+use Rattle.repo_course.specs.declared.outcomes.End.{End}
+use Rattle.repo_course.specs.declared.outcomes.End.TheVariants as stream
+use Rattle.repo_course.specs.declared.outcomes.Sent.{Sent}
+use Rattle.repo_course.specs.declared.outcomes.Sent.TheVariants as sent
+use Rattle.repo_course.specs.declared.outcomes.Took.TheVariants as took
+use Rattle.repo_course.specs.Plain.{Plain, plain}
+use Rattle.repo_course.specs.Answers.{answer_of, file_answer, memory_answer}
+use Rattle.repo_course.specs.Course.{Course, Stored, asks, takes, sends, says, stops, course, bad_head, without_memory}
+
+-- what a server sees of its surroundings while it serves a stream
+pub record Outside : Type 0 where
+  -- the bytes of the stream that are not used yet, and those that it has taken, where told
+  pub input : Option (List ℕ)
+  pub output : Option (List ℕ)
+  -- how often its two sides and the blobs have failed
+  pub read_faults : ℕ
+  pub write_faults : ℕ
+  pub blob_faults : ℕ
+
+-- what is seen of a stream that tells this, some of whose bytes are held
+abbrev pub outside : {X : Type 0} → Ghosts X → List ℕ → X → ℕ → Outside
+outside G held stream blob_faults = record {
+  input = unread held (G.left stream);
+  output = G.taken stream;
+  read_faults = G.read_faults stream;
+  write_faults = G.write_faults stream;
+  blob_faults = blob_faults;
+}
+
+-- these bytes written too
+abbrev pub writes : List ℕ → Outside → Outside
+writes bytes o = record o { output = behind o.output bytes }
+
+-- each blob in use tells its bytes
+abbrev pub AllTell : {X : Type 0} → (X → Option (List ℕ)) → Type 0
+AllTell {X} bytes = (held : X) → IsSome (bytes held)
+
+-- the bytes are a front of the whole
+abbrev pub IsFrontOf : List ℕ → List ℕ → Type 0
+IsFrontOf part whole = (rest : List ℕ) × (whole ≡ part ++ rest)
+
+-- only the bytes not yet used are others
+abbrev pub ReadsOn : Outside → Outside → Type 0
+ReadsOn old new = (rest : Option (List ℕ)) × (new ≡ record old { input = rest })
+
+abbrev pub print_of : List ℕ → Print
+print_of body = record { length = length body; digests = digests_of body }
+
+-- The next `count` bytes were used as a body.
+abbrev pub ReadsBody : ℕ → List ℕ → Outside → Outside → Type 0
+ReadsBody count body old new =
+    (rest : Option (List ℕ)) × (length body ≡ count) × (old.input ≡ in_front body rest) × (new ≡ record old { input = rest })
+
+-- What comes of taking a body. Where the blobs tell their bytes, the stored one tells the body's. A torn body is read to the
+-- end of the stream; of one that the source failed to give, less than the whole is gone.
+abbrev pub Takes : Type 0 → ℕ → ℕ → Stored → Outside → Outside → Type 0
+Takes tells draft count (Ok blob) old new =
+    (body : List ℕ) × ReadsBody count body old new
+    × (blob.number ≡ draft) × (blob.print ≡ print_of body) × IsWhereTold blob.bytes body × (tells → IsSome blob.bytes)
+Takes tells draft count (Err took.Torn) old new =
+    IfSome old.input (λ bytes. length bytes < count) × ReadsOn old new × IsAtEnd new.input
+Takes tells draft count (Err took.SourceFault) old new =
+    (faults : ℕ) × Rose old.read_faults faults × ReadsOn (record old { read_faults = faults }) new
+    × ((gone : List ℕ) × (length gone < count) × (old.input ≡ in_front gone new.input))
+Takes tells draft count (Err took.BlobFault) old new =
+    (faults : ℕ) × (body : List ℕ) × Rose old.blob_faults faults × ReadsBody count body (record old { blob_faults = faults }) new
+Takes tells draft count (Err took.NoMemory) old new = (new ≡ old) ⊎ ((body : List ℕ) × ReadsBody count body old new)
+
+-- What comes of sending a file behind a head.
+abbrev pub Sends : Blob → List ℕ → Sent → Outside → Outside → Type 0
+Sends blob head sent.Whole old new =
+    (bytes : List ℕ) × IsWhereTold blob.bytes bytes × (new ≡ writes (head ++ bytes) old)
+Sends blob head sent.BlobFault old new =
+    (faults : ℕ) × Rose old.blob_faults faults × (new ≡ record old { blob_faults = faults })
+Sends blob head sent.SinkFault old new =
+    (faults : ℕ) × (bytes part : List ℕ) × Rose old.write_faults faults × IsWhereTold blob.bytes bytes
+    × IsFrontOf part (head ++ bytes) × (new ≡ writes part (record old { write_faults = faults }))
+Sends blob head sent.NoMemory old new = new ≡ old
+
+-- An answer is written whole, or want of memory is answered in its place, or the sink fails and has taken a part.
+pub data Says (answer : Answer) (next : Option End) (old new : Outside) (end : Option End) : Type 0 where
+  whole : new ≡ writes (shown answer) old → end ≡ next → Says answer next old new end
+  memory : new ≡ writes (shown memory_answer) old → end ≡ Some stream.Closed → Says answer next old new end
+  cut : (faults : ℕ) (all part : List ℕ) → Rose old.write_faults faults
+      → (all ≡ shown answer) ⊎ (all ≡ shown memory_answer) → IsFrontOf part all
+      → new ≡ writes part (record old { write_faults = faults }) → end ≡ Some stream.SinkFault → Says answer next old new end
+
+-- A course is followed to its end, and these are the entries of its commands: each once, in order, and no other. Whoever
+-- answered them does not matter.
+abbrev pub Follows : Type 0 → Course → List Entry → Outside → Outside → Option End → Type 0
+Follows tells (asks command next) [] old new end = ⊥
+Follows tells (asks command next) (entry ∷ entries) old new end = (entry.command ≡ command) × Follows tells (next entry.reply) entries old new end
+Follows tells (takes draft count next) entries old new end =
+    (stored : Stored) × (mid : Outside) × Takes tells draft count stored old mid × Follows tells (next stored) entries mid new end
+Follows tells (sends blob close next) entries old new end =
+    (result : Sent) × (mid : Outside) × Sends blob (shown (file_answer blob close)) result old mid × Follows tells (next result) entries mid new end
+Follows tells (says said close next) entries old new end = (entries ≡ []) × Says (answer_of said close) next old new end
+Follows tells (stops next) entries old new end = (entries ≡ []) × (new ≡ old) × (end ≡ next)
+
+-- the stream begins with this, where it tells its bytes
+abbrev pub Begins : Option (List ℕ) → (Front → Type 0) → Type 0
+Begins input P = IfSome input (λ bytes. P (front bytes))
+
+-- a whole head comes
+abbrev pub IsHead : Front → Type 0
+IsHead (Whole head rest) = Unit {0}
+IsHead _ = ⊥
+
+-- no plain request comes
+abbrev pub IsRefused : Front → Type 0
+IsRefused (Whole head rest) = plain head ≡ None
+IsRefused (Bad fault) = Unit {0}
+IsRefused _ = ⊥
+
+-- this whole head comes, and then the rest
+abbrev pub IsWhole : Head → Option (List ℕ) → Front → Type 0
+IsWhole head rest (Whole what behind) = (what ≡ head) × (rest ≡ Some behind)
+IsWhole head rest _ = ⊥
+
+-- the whole head that comes is used
+abbrev pub IsBehindHead : Option (List ℕ) → Front → Type 0
+IsBehindHead rest (Whole head behind) = rest ≡ Some behind
+IsBehindHead rest _ = ⊥
+
+-- nothing is used, or the whole head that comes
+abbrev pub UsesHead : Outside → Outside → Type 0
+UsesHead old new =
+    (new ≡ old) ⊎ ((rest : Option (List ℕ)) × Begins old.input (IsBehindHead rest) × (new ≡ record old { input = rest }))
+
+-- What comes of reading a head: the course behind it, and the outside then. Where the stream ends before a whole head, or the
+-- source fails before one, no byte is used.
+pub data Opens (last : Bool) (old new : Outside) (c : Course) : Type 0 where
+  clean : Begins old.input (λ what. what ≡ Clean) → new ≡ old → c ≡ stops (Some stream.Closed) → Opens last old new c
+  torn : Begins old.input (λ what. what ≡ Cut) → new ≡ old → c ≡ stops (Some stream.TornRequest) → Opens last old new c
+  failed : (faults : ℕ) → Rose old.read_faults faults → new ≡ record old { read_faults = faults }
+      → c ≡ stops (Some stream.SourceFault) → Opens last old new c
+  starved : Begins old.input IsHead → UsesHead old new → c ≡ without_memory → Opens last old new c
+  refused : Begins old.input IsRefused → UsesHead old new → c ≡ bad_head → Opens last old new c
+  served : (head : Head) (request : Plain) (rest : Option (List ℕ)) → plain head ≡ Some request → Begins old.input (IsWhole head rest)
+      → new ≡ record old { input = rest } → c ≡ course request last → Opens last old new c
+
+-- One request of a stream, or its end. It says how the stream ends, or that it goes on.
+abbrev pub Turn : Type 0 → Bool → List Entry → Outside → Outside → Option End → Type 0
+Turn tells last entries old new end = (c : Course) × (mid : Outside) × Opens last old mid c × Follows tells c entries mid new end
+
+-- A stream of at most so many requests is served.
+unfoldable pub Serves : Type 0 → ℕ → List Entry → Outside → Outside → End → Type 0
+Serves tells zero entries old new end = (entries ≡ []) × (new ≡ old) × (end ≡ stream.TurnLimit)
+Serves tells (suc left) entries old new end =
+    Turn tells (left == 0) entries old new (Some end)
+    ⊎ ((first rest : List Entry) × (mid : Outside) × (entries ≡ first ++ rest)
+    × Turn tells (left == 0) first old mid None × Serves tells left rest mid new end)

@@ -1,0 +1,246 @@
+-- Which items fit, and what stands where after one that fits.
+use Rattle.std.proofs.Common.{◌≡◌, ◌<◌, ℕ, Bool, true, false, not, cond, ◌&&◌, List, [], ◌∷◌, Option, Some, None, refl, sym, ◌∙◌, ap, subst, option_map, eqb-true}
+use Rattle.std.specs.Prelude.{◌==◌, ◌↔◌, nat_lt, IsTrue, filter, find, bytes_eq, is_none, if◌then◌else◌}
+use Rattle.std.specs.Option.{option_or}
+use Rattle.std.specs.List.{AllByRecursion}
+use Rattle.std.specs.Ordering.{match_ordering}
+use Rattle.std.specs.Cmp.{tied_itself}
+use Rattle.std.specs.declared.cmp.Ordering.TheVariants.{Less, Equal, Greater}
+use Rattle.std.proofs.lemmas.Bool.{false≢true, and_parts, and_from, false_from_ne_true, lt-ltb}
+use Rattle.std.proofs.lemmas.List.Folds.{find-append}
+use Rattle.repo_model.specs.declared.print.Print.{Print}
+use Rattle.repo_model.specs.declared.item.Item.{Item}
+use Rattle.repo_model.specs.declared.item.Item.TheVariants.{HostedPut, Faded, Relisted, Removed, CachedFile, CachedDoc, SessionOpened, SessionEnded}
+use Rattle.repo_model.specs.declared.session.SessionResult.{SessionResult}
+use Rattle.repo_model.specs.Data.{Row, Phase, listed, fading}
+use Rattle.repo_model.specs.Document.{is_listed}
+use Rattle.repo_model.specs.Paths.{is_snapshot_path}
+use Rattle.repo_model.specs.Effect.{list_again, fade}
+use Rattle.repo_model.specs.Tables.{Tables, RecordedRow, RecordedDocument, RecordedSession, place_cmp, is_recorded, recorded_at, recorded_row, with_recorded, with_document, change_recorded, is_session, names_blob, is_listed_row, is_fading_row, is_open_session, item_on, fits_on}
+use Rattle.repo_laws.specs.Items.{is_place, is_of_row, is_of_file, is_of_document, is_of_session, document_at, row_then, file_then, document_then, session_then}
+use Rattle.repo_laws.proofs.Releases.{same_path, is_itself}
+use Rattle.repo_laws.proofs.Lists.{found-passes, all-then, all-list_all}
+use Rattle.repo_laws.proofs.HoldingLists.{find-changed, find-change-elsewhere, find-gone, find-gone-elsewhere, none-any}
+use Rattle.repo_laws.proofs.HoldingOrder.{documents-order, free-there, all-below, same-place}
+use Rattle.repo_laws.proofs.HoldingRows.{find-new, find-others, other-place}
+use Rattle.repo_laws.proofs.HoldingSessions.{none-recorded}
+
+-- which items fit
+off : (b : Bool) → not b ≡ true → b ≡ false
+off true is = absurd (false≢true is)
+off false is = refl
+
+none-is : {X : Type 0} (found : Option X) → is_none found ≡ true → found ≡ None
+none-is None is = refl
+none-is (Some x) is = absurd (false≢true is)
+
+pub put-fits : (free named : Bool) (found : Option Row) → free ≡ is_none found → (IsTrue (free && not named)) ↔ ((found ≡ None) × (named ≡ false))
+put-fits free named found same = (
+  λ fits. let (free_is, named_is) = and_parts free (not named) fits in (none-is found (sym same ∙ free_is), off named named_is),
+  λ both. and_from free (not named) (same ∙ ap is_none both.0) (ap not both.1),
+)
+
+listed-is : (phase : Phase) → is_listed phase ≡ true → phase ≡ listed
+listed-is listed is = refl
+listed-is (fading since) is = absurd (false≢true is)
+
+fading-is : (phase : Phase) → not (is_listed phase) ≡ true → (since : ℕ) × (phase ≡ fading since)
+fading-is listed is = absurd (false≢true is)
+fading-is (fading since) is = (since, refl)
+
+pub faded-fits : (t : Tables) (repo path : List ℕ) (moment : ℕ) → IsTrue (fits_on t (Faded repo path moment))
+    ↔ (IsTrue (is_snapshot_path path) × ((row : Row) × (recorded_at repo path t.hosted ≡ Some row) × (row.phase ≡ listed)))
+faded-fits t repo path moment = (
+  λ fits.
+      let (snapshot, shown) = and_parts (is_snapshot_path path) (is_listed_row (recorded_at repo path t.hosted)) fits in
+      (snapshot, by (recorded_at repo path t.hosted) shown),
+  λ both.
+      let (snapshot, there) = both in
+      let (row, found, shown) = there in
+      and_from (is_snapshot_path path) (is_listed_row (recorded_at repo path t.hosted)) snapshot (ap is_listed_row found ∙ ap is_listed shown),
+) where
+  by : (found : Option Row) → is_listed_row found ≡ true → (row : Row) × (found ≡ Some row) × (row.phase ≡ listed)
+  by None is = absurd (false≢true is)
+  by (Some row) is = (row, refl, listed-is row.phase is)
+
+pub fading-fits : (found : Option Row) → IsTrue (is_fading_row found) ↔ ((row : Row) × (since : ℕ) × (found ≡ Some row) × (row.phase ≡ fading since))
+fading-fits found = (
+  by found,
+  λ there. let (row, since, is, fades_since) = there in ap is_fading_row is ∙ ap (λ phase. not (is_listed phase)) fades_since,
+) where
+  by : (one : Option Row) → is_fading_row one ≡ true → (row : Row) × (since : ℕ) × (one ≡ Some row) × (row.phase ≡ fading since)
+  by None is = absurd (false≢true is)
+  by (Some row) is = let (since, fades_since) = fading-is row.phase is in (row, since, refl, fades_since)
+
+pub opened-fits : (t : Tables) (n : ℕ) → IsTrue (fits_on t (SessionOpened n)) ↔ AllByRecursion (λ (one : RecordedSession). one.number < n) t.sessions
+opened-fits t n = (
+  all-below n t.sessions,
+  λ all. all-list_all (λ (one : RecordedSession). nat_lt one.number n) t.sessions
+      (all-then (λ (one : RecordedSession). one.number < n) (λ one. nat_lt one.number n ≡ true) (λ one below. lt-ltb one.number n below) t.sessions all),
+)
+
+pub ended-fits : (t : Tables) (n : ℕ) (result : SessionResult) → IsTrue (fits_on t (SessionEnded n result)) ↔ (find (is_session n) t.sessions ≡ Some (record { number = n; result = None }))
+ended-fits t n result = (
+  λ fits.
+      elim (find (is_session n) t.sessions)
+      as (λ found. find (is_session n) t.sessions ≡ found → is_open_session found ≡ true → found ≡ Some (record { number = n; result = None })) [
+        | None ↦ λ _ is. absurd (false≢true is)
+        | (Some one) ↦ λ found is.
+            let numbered : one.number ≡ n = eqb-true one.number n (found-passes (is_session n) t.sessions one found) in
+            let open_still : one.result ≡ None = none-is one.result is in
+            let one_is : one ≡ record { number = n; result = None } = λ i. record { number = numbered i; result = open_still i } in
+            ap Some one_is
+      ] refl fits,
+  λ is. ap is_open_session is,
+)
+
+-- one place is another
+apart-places : (repo path id at : List ℕ) → is_place repo path id at ≡ false → repo ≡ id → path ≡ at → ⊥
+apart-places repo path id at other repos paths =
+    false≢true (sym other ∙ and_from (bytes_eq repo id) (bytes_eq path at) (ap (λ r. bytes_eq r id) repos ∙ is_itself id) (ap (λ p. bytes_eq p at) paths ∙ is_itself at))
+
+module _ (rows : List RecordedRow) (repo path id at : List ℕ) where
+  put-then : (blob : ℕ) (print : Print) (accepted : ℕ) → is_none (recorded_at repo path rows) ≡ true
+      → recorded_at id at (with_recorded (recorded_row repo path blob print accepted) rows) ≡ (if is_place repo path id at then Some (recorded_row repo path blob print accepted).row else recorded_at id at rows)
+  put-then blob print accepted free =
+      let new : RecordedRow = recorded_row repo path blob print accepted in
+      elim (is_place repo path id at)
+      as (λ b. is_place repo path id at ≡ b → recorded_at id at (with_recorded new rows) ≡ (if b then Some new.row else recorded_at id at rows)) [
+        | true ↦ λ is.
+            let (repos, paths) = and_parts (bytes_eq repo id) (bytes_eq path at) is in
+            let none : find (is_recorded id at) rows ≡ None =
+            subst (λ (r : List ℕ). find (is_recorded r at) rows ≡ None) (same_path repo id repos) (subst (λ (p : List ℕ). find (is_recorded repo p) rows ≡ None) (same_path path at paths) (free-there repo path rows free)) in
+            ap (option_map (λ (r : RecordedRow). r.row)) (find-new (is_recorded id at) new rows is none)
+        | false ↦ λ other. ap (option_map (λ (r : RecordedRow). r.row)) (find-others (is_recorded id at) new rows other)
+      ] refl
+
+  changed-then : (f : Row → Row) → ((r : Row) → (f r).path ≡ r.path) → recorded_at id at (change_recorded repo path f rows) ≡ (if is_place repo path id at then option_map f (recorded_at id at rows) else recorded_at id at rows)
+  changed-then f keeps =
+      let g : RecordedRow → RecordedRow = λ r. record r { row = f r.row } in
+      elim (is_place repo path id at)
+      as (λ b. is_place repo path id at ≡ b → recorded_at id at (change_recorded repo path f rows) ≡ (if b then option_map f (recorded_at id at rows) else recorded_at id at rows)) [
+        | true ↦ λ is.
+            let (repos, paths) = and_parts (bytes_eq repo id) (bytes_eq path at) is in
+            subst (λ (r : List ℕ). recorded_at r at (change_recorded repo path f rows) ≡ option_map f (recorded_at r at rows)) (same_path repo id repos)
+            (subst (λ (p : List ℕ). recorded_at repo p (change_recorded repo path f rows) ≡ option_map f (recorded_at repo p rows)) (same_path path at paths)
+            (ap (option_map (λ (r : RecordedRow). r.row)) (find-changed (is_recorded repo path) g (λ r. ap (λ p. bytes_eq r.repo repo && bytes_eq p path) (keeps r.row)) rows) ∙ of-found (find (is_recorded repo path) rows)))
+        | false ↦ λ other.
+            ap (option_map (λ (r : RecordedRow). r.row))
+            (find-change-elsewhere (is_recorded id at) (is_recorded repo path) g (other-place repo path id at (apart-places repo path id at other)) (λ r. ap (λ p. bytes_eq r.repo id && bytes_eq p at) (keeps r.row)) rows)
+      ] refl where
+        of-found : (found : Option RecordedRow) → option_map (λ (r : RecordedRow). r.row) (option_map (λ (r : RecordedRow). record r { row = f r.row }) found) ≡ option_map f (option_map (λ (r : RecordedRow). r.row) found)
+        of-found None = refl
+        of-found (Some r) = refl
+
+  gone-then : recorded_at id at (filter (λ r. not (is_recorded repo path r)) rows) ≡ (if is_place repo path id at then None else recorded_at id at rows)
+  gone-then =
+      elim (is_place repo path id at)
+      as (λ b. is_place repo path id at ≡ b → recorded_at id at (filter (λ r. not (is_recorded repo path r)) rows) ≡ (if b then None else recorded_at id at rows)) [
+        | true ↦ λ is.
+            let (repos, paths) = and_parts (bytes_eq repo id) (bytes_eq path at) is in
+            subst (λ (r : List ℕ). recorded_at r at (filter (λ x. not (is_recorded repo path x)) rows) ≡ None) (same_path repo id repos)
+            (subst (λ (p : List ℕ). recorded_at repo p (filter (λ x. not (is_recorded repo path x)) rows) ≡ None) (same_path path at paths)
+            (ap (option_map (λ (r : RecordedRow). r.row)) (find-gone (is_recorded repo path) rows)))
+        | false ↦ λ other. ap (option_map (λ (r : RecordedRow). r.row)) (find-gone-elsewhere (is_recorded id at) (is_recorded repo path) (other-place repo path id at (apart-places repo path id at other)) rows)
+      ] refl
+
+pub rows-then : (t : Tables) (item : Item) (id at : List ℕ) → IsTrue (fits_on t item)
+    → recorded_at id at (item_on t item).hosted ≡ (if is_of_row id at item then row_then item (recorded_at id at t.hosted) else recorded_at id at t.hosted)
+rows-then t (HostedPut repo path blob print accepted) id at fits =
+    put-then t.hosted repo path id at blob print accepted (and_parts (is_none (recorded_at repo path t.hosted)) (not (names_blob blob t)) fits).0
+rows-then t (Faded repo path moment) id at fits = changed-then t.hosted repo path id at (fade moment) (λ r. refl)
+rows-then t (Relisted repo path accepted) id at fits = changed-then t.hosted repo path id at (list_again accepted) (λ r. refl)
+rows-then t (Removed repo path) id at fits = gone-then t.hosted repo path id at
+rows-then t (CachedFile repo path blob print accepted) id at fits = refl
+rows-then t (CachedDoc repo path checked document) id at fits = refl
+rows-then t (SessionOpened n) id at fits = refl
+rows-then t (SessionEnded n result) id at fits = refl
+
+pub files-then : (t : Tables) (item : Item) (id at : List ℕ) → IsTrue (fits_on t item)
+    → recorded_at id at (item_on t item).cached ≡ (if is_of_file id at item then file_then item (recorded_at id at t.cached) else recorded_at id at t.cached)
+files-then t (CachedFile repo path blob print accepted) id at fits =
+    put-then t.cached repo path id at blob print accepted (and_parts (is_none (recorded_at repo path t.cached)) (not (names_blob blob t)) fits).0
+files-then t (HostedPut repo path blob print accepted) id at fits = refl
+files-then t (Faded repo path moment) id at fits = refl
+files-then t (Relisted repo path accepted) id at fits = refl
+files-then t (Removed repo path) id at fits = refl
+files-then t (CachedDoc repo path checked document) id at fits = refl
+files-then t (SessionOpened n) id at fits = refl
+files-then t (SessionEnded n result) id at fits = refl
+
+-- documents
+document-then : (new : RecordedDocument) (id at : List ℕ) (documents : List RecordedDocument)
+    → document_at id at (with_document new documents) ≡ (if is_place new.repo new.path id at then Some new else document_at id at documents)
+document-then new id at [] = refl
+document-then new id at (d ∷ documents) =
+    let rest = document-then new id at documents in
+    elim (place_cmp new.repo new.path d.repo d.path)
+    as (λ o. place_cmp new.repo new.path d.repo d.path ≡ o → document_at id at (match_ordering o (new ∷ d ∷ documents) (new ∷ documents) (d ∷ with_document new documents)) ≡ (if is_place new.repo new.path id at then Some new else document_at id at (d ∷ documents))) [
+      | Less ↦ λ _. refl
+      | Equal ↦ λ same.
+          let (repos, paths) = same-place new.repo new.path d.repo d.path same in
+          let alike : is_place d.repo d.path id at ≡ is_place new.repo new.path id at = ap (λ r. is_place r d.path id at) (sym repos) ∙ ap (λ p. is_place new.repo p id at) (sym paths) in
+          elim (is_place new.repo new.path id at)
+          as (λ b. is_place d.repo d.path id at ≡ b → cond b (Some new) (document_at id at documents) ≡ cond b (Some new) (cond (is_place d.repo d.path id at) (Some d) (document_at id at documents))) [
+            | true ↦ λ _. refl
+            | false ↦ λ other. rw other refl
+          ] alike
+      | Greater ↦ λ behind.
+          elim (is_place d.repo d.path id at)
+          as (λ b. is_place d.repo d.path id at ≡ b → cond b (Some d) (document_at id at (with_document new documents)) ≡ cond (is_place new.repo new.path id at) (Some new) (cond b (Some d) (document_at id at documents))) [
+            | true ↦ λ is.
+                let (repos, paths) = and_parts (bytes_eq d.repo id) (bytes_eq d.path at) is in
+                let other : is_place new.repo new.path id at ≡ false = false_from_ne_true (is_place new.repo new.path id at) (λ new_is.
+                let (new_repos, new_paths) = and_parts (bytes_eq new.repo id) (bytes_eq new.path at) new_is in
+                let same_repo : new.repo ≡ d.repo = same_path new.repo id new_repos ∙ sym (same_path d.repo id repos) in
+                let same_paths : new.path ≡ d.path = same_path new.path at new_paths ∙ sym (same_path d.path at paths) in
+                let tied : place_cmp new.repo new.path d.repo d.path ≡ Equal =
+                ap (λ r. place_cmp r new.path d.repo d.path) same_repo ∙ ap (λ p. place_cmp d.repo p d.repo d.path) same_paths ∙ tied_itself documents-order d in
+                let wrong : Greater ≡ Equal = sym behind ∙ tied in cc) in
+                rw other refl
+            | false ↦ λ _. rest
+          ] refl
+    ] refl
+
+pub documents-then : (t : Tables) (item : Item) (id at : List ℕ)
+    → document_at id at (item_on t item).documents ≡ (if is_of_document id at item then document_then item (document_at id at t.documents) else document_at id at t.documents)
+documents-then t (CachedDoc repo path checked document) id at = document-then (record { repo = repo; path = path; checked = checked; document = document }) id at t.documents
+documents-then t (HostedPut repo path blob print accepted) id at = refl
+documents-then t (Faded repo path moment) id at = refl
+documents-then t (Relisted repo path accepted) id at = refl
+documents-then t (Removed repo path) id at = refl
+documents-then t (CachedFile repo path blob print accepted) id at = refl
+documents-then t (SessionOpened n) id at = refl
+documents-then t (SessionEnded n result) id at = refl
+
+-- sessions
+pub sessions-then : (t : Tables) (item : Item) (n : ℕ) → IsTrue (fits_on t item)
+    → find (is_session n) (item_on t item).sessions ≡ (if is_of_session n item then session_then item (find (is_session n) t.sessions) else find (is_session n) t.sessions)
+sessions-then t (SessionOpened m) n fits =
+    let new : RecordedSession = record { number = m; result = None } in
+    find-append (is_session n) t.sessions (new ∷ [])
+    ∙ elim (m == n)
+    as (λ b. (m == n) ≡ b → option_or (find (is_session n) t.sessions) (cond b (Some new) None) ≡ (if b then Some new else find (is_session n) t.sessions)) [
+      | true ↦ λ is.
+          subst (λ (k : ℕ). option_or (find (is_session k) t.sessions) (Some new) ≡ Some new) (eqb-true m n is)
+          (ap (λ found. option_or found (Some new)) (none-any (is_session m) t.sessions (none-recorded m t.sessions (all-below m t.sessions fits))))
+      | false ↦ λ _. alone (find (is_session n) t.sessions)
+    ] refl where
+      alone : (found : Option RecordedSession) → option_or found None ≡ found
+      alone None = refl
+      alone (Some one) = refl
+sessions-then t (SessionEnded m result) n fits =
+    let telling : RecordedSession → RecordedSession = λ one. record one { result = Some result } in
+    elim (m == n)
+    as (λ b. (m == n) ≡ b → find (is_session n) (item_on t (SessionEnded m result)).sessions ≡ (if b then option_map telling (find (is_session n) t.sessions) else find (is_session n) t.sessions)) [
+      | true ↦ λ is.
+          subst (λ (k : ℕ). find (is_session k) (item_on t (SessionEnded m result)).sessions ≡ option_map telling (find (is_session k) t.sessions)) (eqb-true m n is)
+          (find-changed (is_session m) telling (λ x. refl) t.sessions)
+      | false ↦ λ other. find-change-elsewhere (is_session n) (is_session m) telling (λ x is. ap (λ k. k == n) (eqb-true x.number m is) ∙ other) (λ x. refl) t.sessions
+    ] refl
+sessions-then t (HostedPut repo path blob print accepted) n fits = refl
+sessions-then t (Faded repo path moment) n fits = refl
+sessions-then t (Relisted repo path accepted) n fits = refl
+sessions-then t (Removed repo path) n fits = refl
+sessions-then t (CachedFile repo path blob print accepted) n fits = refl
+sessions-then t (CachedDoc repo path checked document) n fits = refl

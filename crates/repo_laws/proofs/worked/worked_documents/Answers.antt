@@ -1,0 +1,20 @@
+use Rattle.std.proofs.Common.{refl}
+use Rattle.mvn_coords.specs.Path.{parts_of}
+use Rattle.mvn_coords.specs.Calendar.{civil_of, year_from, month_from}
+use Rattle.repo_laws.proofs.worked.worked_documents.Goals as goal
+
+pub returns-clause-builds : goal.returns-clause-builds
+unfolding parts_of civil_of year_from month_from
+returns-clause-builds c = refl
+
+pub returns-clause-artifact : goal.returns-clause-artifact
+unfolding parts_of civil_of year_from month_from
+returns-clause-artifact c = refl
+
+pub returns-clause-faded : goal.returns-clause-faded
+unfolding parts_of civil_of year_from month_from
+returns-clause-faded c = refl
+
+pub returns-clause-listed_again : goal.returns-clause-listed_again
+unfolding parts_of civil_of year_from month_from
+returns-clause-listed_again c = refl

@@ -1,0 +1,107 @@
+-- Worked histories: builds that fade, are read, go, and are listed again; sessions that are committed or refused.
+use Rattle.std.specs.Prelude.{ℕ, List, [], ◌∷◌, ◌++◌, map, codes}
+use Rattle.std.specs.List.{range_with_len}
+use Rattle.repo_model.specs.declared.session.SessionResult.TheVariants.{Aborted, Done}
+use Rattle.repo_model.specs.Data.{repository, session}
+use Rattle.repo_model.specs.Command.{look, done, may_put, put, open_session, stage, commit, abort, unlist, collect, status}
+use Rattle.repo_model.specs.Reply.{file, missed, given_back, draft, created, relisted, opened, sessions_full, no_session, staged, offends, missing_pom, ended, unlisted, collected, counts}
+use Rattle.repo_model.specs.History.{Entry}
+use Rattle.repo_laws.specs.Worked.{abc, letter_a, nothing, print_of_abc, print_of_nothing, at, snapshots, releases, jar_1, pom_1, pom_2, release_jar, next_jar, next_pom, later_jar}
+
+-- a build's jar and pom, and the pom of a newer build
+abbrev pub two_builds : List Entry
+two_builds =
+    at 1709208000 (may_put (repository snapshots) jar_1) (draft 1)
+    ∷ at 1709208000 (put snapshots jar_1 1 (abc 1)) created
+    ∷ at 1709208000 (may_put (repository snapshots) pom_1) (draft 2)
+    ∷ at 1709208000 (put snapshots pom_1 2 (abc 2)) created
+    ∷ at 1709208000 (may_put (repository snapshots) pom_2) (draft 3)
+    ∷ at 1709208000 (put snapshots pom_2 3 (abc 3)) created
+    ∷ []
+
+-- two builds, of which the older fades
+abbrev pub faded : List Entry
+faded =
+    at 1000 (may_put (repository snapshots) jar_1) (draft 1)
+    ∷ at 1000 (put snapshots jar_1 1 (abc 1)) created
+    ∷ at 1010 (may_put (repository snapshots) pom_2) (draft 2)
+    ∷ at 1010 (put snapshots pom_2 2 (abc 2)) created
+    ∷ at 2000 (unlist snapshots) (unlisted 1)
+    ∷ []
+
+-- it is read up to the grace, and gone behind it
+abbrev pub purged : List Entry
+purged =
+    faded
+    ++ at 2060 (look snapshots jar_1 []) (file 1 (abc 1))
+    ∷ at 2060 (done 1) given_back
+    ∷ at 2060 collect (collected 0 [])
+    ∷ at 2061 collect (collected 1 (1 ∷ []))
+    ∷ at 2061 (look snapshots jar_1 []) missed
+    ∷ []
+
+-- its blob stays while somebody reads it
+abbrev pub read_to_its_end : List Entry
+read_to_its_end =
+    faded
+    ++ at 2060 (look snapshots jar_1 []) (file 1 (abc 1))
+    ∷ at 2061 collect (collected 1 [])
+    ∷ at 2061 (look snapshots jar_1 []) missed
+    ∷ at 2061 (done 1) given_back
+    ∷ at 2062 collect (collected 0 (1 ∷ []))
+    ∷ []
+
+-- the same content is sent again, and the build is listed again
+abbrev pub listed_again : List Entry
+listed_again =
+    faded
+    ++ at 2030 (may_put (repository snapshots) jar_1) (draft 3)
+    ∷ at 2030 (put snapshots jar_1 3 (abc 3)) relisted
+    ∷ []
+
+abbrev pub still_there : List Entry
+still_there = at 2061 collect (collected 0 (3 ∷ [])) ∷ at 2061 (look snapshots jar_1 []) (file 1 (abc 1)) ∷ []
+
+-- a session that is not committed since one of its files is there with another content, and one that is
+abbrev pub deployed : List Entry
+deployed =
+    at 3000 (may_put (repository releases) release_jar) (draft 1)
+    ∷ at 3000 (put releases release_jar 1 (abc 1)) created
+    ∷ at 3000 (open_session releases) (opened 1)
+    ∷ at 3000 (may_put (session 1) next_jar) (draft 2)
+    ∷ at 3000 (stage 1 next_jar 2 (abc 2)) staged
+    ∷ at 3000 (may_put (session 1) next_pom) (draft 3)
+    ∷ at 3000 (stage 1 next_pom 3 (letter_a 3)) staged
+    ∷ at 3000 (may_put (session 1) release_jar) (draft 4)
+    ∷ at 3000 (stage 1 release_jar 4 (nothing 4)) staged
+    ∷ at 3010 (commit 1) (offends release_jar print_of_abc print_of_nothing)
+    ∷ at 3010 (look releases next_jar []) missed
+    ∷ at 3010 (abort 1) (ended Aborted)
+    ∷ at 3020 (open_session releases) (opened 2)
+    ∷ at 3020 (may_put (session 2) next_jar) (draft 5)
+    ∷ at 3020 (stage 2 next_jar 5 (abc 5)) staged
+    ∷ at 3020 (may_put (session 2) next_pom) (draft 6)
+    ∷ at 3020 (stage 2 next_pom 6 (letter_a 6)) staged
+    ∷ at 3020 status (counts 1 0 0 0 1)
+    ∷ at 3030 (commit 2) (ended (Done 2))
+    ∷ at 3030 (commit 2) (ended (Done 2))
+    ∷ at 3030 (look releases next_jar []) (file 1 (abc 5))
+    ∷ at 3030 collect (collected 0 (2 ∷ 3 ∷ 4 ∷ []))
+    ∷ at 3030 status (counts 3 0 0 0 0)
+    ∷ []
+
+-- the sessions of these numbers are opened
+abbrev pub opens_each : List ℕ → List Entry
+opens_each numbers = map (λ n. at 4000 (open_session releases) (opened n)) numbers
+
+-- a session without the pom of its version, one that was never opened, and one too many
+abbrev pub refused : List Entry
+refused =
+    at 4000 (open_session releases) (opened 1)
+    ∷ at 4000 (may_put (session 1) later_jar) (draft 1)
+    ∷ at 4000 (stage 1 later_jar 1 (abc 1)) staged
+    ∷ at 4000 (commit 1) (missing_pom (codes "org/acme/lib/3.0"))
+    ∷ at 4000 (commit 999) no_session
+    ∷ opens_each (range_with_len 2 63)
+    ++ at 4000 (open_session releases) sessions_full
+    ∷ []

@@ -1,0 +1,59 @@
+use Rattle.std.proofs.Common.{◌∙◌, [], ◌∷◌, ◌++◌, refl, sym, subst, List, append_assoc}
+use Rattle.repo_model.specs.History.{Entry}
+use Rattle.repo_model.specs.Shown.{shown_command, shown_reply}
+use Rattle.repo_course.specs.Acts.{after_reply, left_of}
+use Rattle.repo_course.specs.Course.{Course}
+use Rattle.repo_course.specs.Meets.{Meets}
+use Rattle.repo_course.specs.Serving.{AllTell, Follows, outside}
+use Rattle.repo_server.proofs.Entries.{asks_follows, leads_on, leads_one}
+use Rattle.repo_server.proofs.driver.follow.Goals as goal
+
+pub loop-act-init : goal.loop-act-init
+loop-act-init g c =
+    record { settings = refl; ready = c.requires.ready; meets = c.requires.meets; made = ([], refl, λ later final ending follows. follows) }
+
+pub loop-act-preserved-in-Ask : goal.loop-act-preserved-in-Ask
+loop-act-preserved-in-Ask g c =
+    let made = c.loop-act.invariant.made in
+    let t = c.ask-reply.ensures.turn in
+    let s = g.A.Ask.settings c.args.asker.now in
+    let reply = shown_reply c.ask-reply.result in
+    let entry : Entry =
+    record { command = g.A.Ask.asked c.in-Ask.command; moment = t.0; reply = g.A.Ask.answered c.ask-reply.result; faults = t.1 } in
+    let here : Meets s (left_of c.args.closing c.loop-act.act) = c.loop-act.invariant.meets in
+    let there = subst (λ act. Meets s (left_of c.args.closing act)) c.in-Ask.is here in
+    let now = outside g.T.Tells c.loop-act.wire c.loop-act.stream (g.B.Blobs.faults c.loop-act.blobs) in
+    let old = outside g.T.Tells c.args.wire.now c.args.stream.now (g.B.Blobs.faults c.args.blobs.now) in
+    let tells = AllTell g.B.Held.Held.bytes in
+    record {
+      settings = c.ask-reply.ensures.settings ∙ c.loop-act.invariant.settings;
+      ready = c.ask-reply.ensures.ready;
+      meets = subst (λ (course : Course). Meets s course) (sym c.after_reply-act.ensures.left) (there.1 reply);
+      made = (
+        made.0 ++ entry ∷ [],
+        leads_one g.A.Ask.asks made.0 entry c.args.asker.now c.loop-act.asker c.ask-reply.new.self made.1 t.2,
+        λ later final ending follows.
+            subst (λ (es : List Entry). Follows tells (left_of c.args.closing c.args.first) es old final ending) (sym (append_assoc made.0 (entry ∷ []) later))
+            (made.2 (entry ∷ later) final ending
+            (subst (λ act. Follows tells (left_of c.args.closing act) (entry ∷ later) now final ending) (sym c.in-Ask.is)
+            (asks_follows tells (shown_command c.in-Ask.command) (after_reply c.args.closing c.in-Ask.after) entry later reply
+            (left_of c.args.closing c.after_reply-act.result) now final ending
+            (c.requires.asked c.in-Ask.command) (c.requires.answered c.ask-reply.result) c.after_reply-act.ensures.left follows))),
+      );
+    }
+
+pub returns-in-Say-clause-follows : goal.returns-in-Say-clause-follows
+returns-in-Say-clause-follows g c =
+    let made = c.loop-act.invariant.made in (
+      made.0 ++ [],
+      leads_on g.A.Ask.asks made.0 [] _ c.loop-act.asker _ made.1 refl,
+      made.2 [] _ _ (rw c.in-Say.is (refl, c.say.ensures c.loop-act.wire (g.B.Blobs.faults c.loop-act.blobs))),
+    )
+
+pub returns-in-Stop-clause-follows : goal.returns-in-Stop-clause-follows
+returns-in-Stop-clause-follows g c =
+    let made = c.loop-act.invariant.made in (
+      made.0 ++ [],
+      leads_on g.A.Ask.asks made.0 [] _ c.loop-act.asker _ made.1 refl,
+      made.2 [] _ _ (rw c.in-Stop.is (refl, refl, refl)),
+    )
