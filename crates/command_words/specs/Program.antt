@@ -1,0 +1,28 @@
+-- The program's words as a command of `clap`: its subcommands and their arguments.
+use Rattle.std.specs.Prelude.{ℕ, true, List, Some, codes}
+use Rattle.clap.specs.Words.{App, Rule, new_app, new_rule, with_rule, with_subcommand}
+use Rattle.clap.specs.declared.builder.value_parser.ValueParser.TheVariants.{Unsigned}
+
+-- a command without words for help and its version
+abbrev pub without_help : App → App
+without_help a = record a { top = record a.top { disable_help_flag = true; disable_version_flag = true } }
+
+-- an option with a whole number up to a limit
+abbrev pub number : List ℕ → ℕ → Rule
+number name most = record (new_rule name) { long = Some name; parser = Some (Unsigned 0 most) }
+
+-- `replay SETTINGS [--at T] [--step S]`
+abbrev pub replay : App
+replay =
+    with_rule (with_rule (with_rule (without_help (new_app (codes "replay")))
+    (record (new_rule (codes "settings")) { required = true }))
+    (number (codes "at") 253402207200))
+    (number (codes "step") 86400)
+
+abbrev pub bare : App
+bare = without_help (new_app (codes "mvnrepod"))
+
+abbrev pub program : App
+program =
+    with_subcommand (record bare { top = record bare.top { no_binary_name = true; disable_help_subcommand = true; subcommand_required = true } })
+    replay.top

@@ -1,0 +1,50 @@
+-- What the words of a command line ask for.
+use Rattle.std.specs.Prelude.{◌≡◌, ◌≢◌, ℕ, ◌^◌, ◌-◌, Bool, true, false, if◌then◌else◌, List, [], ◌∷◌, Option, Some, None, codes}
+use Rattle.std.specs.Option.{option_map_or, option_and_then}
+use Rattle.std.specs.Str.{bytes_eq}
+use Rattle.std.specs.Str.Parse.{digits_value, without_leading_plus}
+use Rattle.clap.specs.ValueTests.{is_unsigned_in}
+use Rattle.clap.specs.Words.{Kinds, Row, Text, fault_of, first_of, subcommand_of}
+use Rattle.clap.specs.declared.error.ErrorKind.{ErrorKind}
+use Rattle.clap.specs.declared.error.ErrorKind.TheVariants.{OutOfMemory}
+use Rattle.command_words.specs.Program.{program}
+use Rattle.command_words.specs.declared.wanted.Wanted.{Wanted}
+use Rattle.command_words.specs.declared.wanted.Wanted.TheVariants.{Replay}
+use Rattle.command_words.specs.declared.wanted.WordsFault.{WordsFault}
+use Rattle.command_words.specs.declared.wanted.WordsFault.TheVariants.{Refused, NoMemory}
+
+-- the number that a text writes in decimal digits, `+` before them passed over
+abbrev pub number_of : Text → ℕ
+number_of text = if is_unsigned_in 0 (2 ^ 64 - 1) text then digits_value 10 (without_leading_plus text) else 0
+
+-- the value of an option, or 0 where it is left out
+abbrev pub number_at : Text → List Row → ℕ
+number_at id rows = option_map_or number_of (first_of id rows) 0
+
+abbrev pub text_at : Text → List Row → Text
+text_at id rows = option_map_or (λ text. text) (first_of id rows) []
+
+abbrev pub wanted_by : Text × List Row → Option Wanted
+wanted_by (name, rows) =
+    if bytes_eq name (codes "replay")
+    then Some (Replay (text_at (codes "settings") rows) (number_at (codes "at") rows) (number_at (codes "step") rows))
+    else None
+
+abbrev pub is_none_of : Kinds → Bool
+is_none_of [] = true
+is_none_of (kind ∷ kinds) = false
+
+-- the words are those of the program, and this is what its subcommand asks for
+abbrev pub wanted_of : List Text → Option Wanted
+wanted_of words =
+    if is_none_of (fault_of program words) then option_and_then wanted_by (subcommand_of program words) else None
+
+-- the words ask for nothing, unless memory was wanting
+abbrev pub IsFault : Option Wanted → WordsFault → Type 0
+IsFault wanted Refused = wanted ≡ None
+IsFault wanted NoMemory = Unit {0}
+
+-- an error of this kind is a refusal, unless memory was wanting
+abbrev pub IsKind : ErrorKind → WordsFault → Type 0
+IsKind kind Refused = kind ≢ OutOfMemory
+IsKind kind NoMemory = Unit {0}

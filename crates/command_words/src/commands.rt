@@ -1,0 +1,55 @@
+//! The program's words as a command of `clap`.
+ghost use Rattle.std.specs.Prelude.{◌≡◌, IfOk, false};
+ghost use Rattle.clap.specs.Words.{app_of, rule_of};
+ghost use Rattle.clap.specs.declared.Command.{out-Command as fields_of};
+ghost use Rattle.command_words.specs.Program as spec;
+
+use clap::builder::ValueParser;
+use clap::{Arg, Command};
+use std::alloc::{AllocError, Global};
+
+/// The greatest moment at which the clock may begin, 9999-12-30T22:00:00Z, and the greatest step of it, a day.
+const LAST_MOMENT: u64 = 253_402_207_200;
+
+const LONGEST_STEP: u64 = 86_400;
+
+/// The program, with a subcommand for each thing that it does. It has no words for help and its version.
+pub(crate) fn program<'a>(alloc: Global) -> Result<Command<'a>, AllocError>
+    ensures { IfOk result (λ command. (app_of command ≡ spec.program) × ((fields_of command).has_globals ≡ false)) }
+{
+    let replay = replay(alloc)?;
+    without_help(Command::new(alloc, "mvnrepod"))
+        .no_binary_name(true)
+        .disable_help_subcommand(true)
+        .subcommand_required(true)
+        .subcommand(replay)
+}
+
+fn replay<'a>(alloc: Global) -> Result<Command<'a>, AllocError>
+    ensures { IfOk result (λ command. (app_of command ≡ spec.replay) × ((fields_of command).has_globals ≡ false)) }
+{
+    let settings = Arg::new(alloc, "settings").required(true);
+    let at = number(alloc, "at", LAST_MOMENT);
+    let step = number(alloc, "step", LONGEST_STEP);
+    without_help(Command::new(alloc, "replay"))
+        .arg(settings)?
+        .arg(at)?
+        .arg(step)
+}
+
+fn without_help<'a>(command: Command<'a>) -> Command<'a>
+    ensures app { app_of result ≡ spec.without_help (app_of command.entry) }
+    ensures globals { (fields_of result).has_globals ≡ (fields_of command.entry).has_globals }
+{
+    command.disable_help_flag(true).disable_version_flag(true)
+}
+
+/// An option with a whole number up to a limit.
+fn number<'a>(alloc: Global, name: &'a str, most: u64) -> Arg<'a>
+    ensures rule { rule_of result ≡ spec.number name.entry.now most }
+    ensures local { result.global ≡ false }
+{
+    Arg::new(alloc, name)
+        .long(name)
+        .value_parser(ValueParser::Unsigned(0, most))
+}

@@ -1,0 +1,19 @@
+//! What words ask for.
+use texts::Text;
+
+/// What the program is asked to do.
+#[derive(Drop)]
+pub enum Wanted {
+    /// To answer the requests of standard input under these settings, its clock beginning at `at` and going on by `step`
+    /// seconds with each look at it.
+    Replay { settings: Text, at: u64, step: u64 },
+}
+
+/// Why words ask for nothing.
+#[derive(Clone, Copy, Debug, PartialEq, Eq)]
+pub enum WordsFault {
+    /// They are no words of the program.
+    Refused,
+    /// Memory was wanting.
+    NoMemory,
+}

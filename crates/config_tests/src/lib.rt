@@ -1,0 +1,19 @@
+//! Tests of `path_patterns` and `repo_config`: settings texts and what each is read as or refused for.
+#![tactic(auto)]
+
+#[cfg(test)]
+mod answers;
+#[cfg(test)]
+mod group_tables;
+#[cfg(test)]
+mod hosted_tables;
+#[cfg(test)]
+mod order;
+#[cfg(test)]
+mod patterns;
+#[cfg(test)]
+mod proxy_tables;
+#[cfg(test)]
+mod top_keys;
+#[cfg(test)]
+mod whole;

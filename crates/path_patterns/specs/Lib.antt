@@ -1,0 +1,5 @@
+pub mod Fault
+pub mod Matching
+pub mod Pattern
+pub mod Segments
+pub mod Verdict
