@@ -6,10 +6,11 @@ use Rattle.std.specs.Str.{bytes_eq}
 use Rattle.std.proofs.lemmas.Bool.{false≢true, and_parts, and_from, or_from, eqb-true, lt-ltb, le-leb, leb-true, ltb-true}
 use Rattle.std.proofs.lemmas.List.{take-append-drop}
 use Rattle.std.proofs.lemmas.List.Folds.{list_all-append}
-use Rattle.mvn_coords.specs.FileName.{◌>>=◌, BuildOf, Ending, base_of, before, behind, is_filled, is_dot, ending_in, ending_of, tail_of, tail_by, is_literal, numbered, number_in, number_of, digit_count}
+use Rattle.byte_cuts.specs.Cuts.{before, behind}
+use Rattle.mvn_coords.specs.FileName.{◌>>=◌, BuildOf, Ending, base_of, is_filled, is_dot, ending_in, ending_of, tail_of, tail_by, is_literal, numbered, number_in, number_of, digit_count}
 use Rattle.mvn_coords.specs.Layout.{Coordinates, Named, file, document, named, directory_of, file_of, may_stand, all_groups, with_ending, name_of, version_of, tail_text, text_of}
 use Rattle.mvn_coords.specs.Path.{IsFile, Parts, IsPlain}
-use Rattle.mvn_coords.specs.Segment.{Segment, levels, path_of_levels, is_artifact, is_path_byte, is_segment, is_version_directory}
+use Rattle.mvn_coords.specs.Segment.{Segment, levels, path_of_levels, is_artifact, is_path_byte, is_segment, fits_version, is_version_directory}
 use Rattle.mvn_coords.specs.declared.fault.PathFault.TheVariants as fault
 use Rattle.mvn_coords.proofs.Cuts.{slash, behind_some, before_some}
 use Rattle.mvn_coords.proofs.Endings.{ending_written}
@@ -17,7 +18,6 @@ use Rattle.mvn_coords.proofs.ExactPaths.{passes}
 use Rattle.mvn_coords.proofs.Files.{file_parts}
 use Rattle.mvn_coords.proofs.Levels.{Whole, below, path_of_levels-levels}
 use Rattle.mvn_coords.proofs.Results.{bound, chosen, chosen_some, ok_or_some, ok_same}
-use Rattle.mvn_metadata.specs.Form.{is_version}
 
 no_slash : (b : ℕ) → is_path_byte b ≡ true → slash b ≡ false
 no_slash b h =
@@ -56,7 +56,7 @@ pub record FileForm (c : Coordinates) : Type 0 where
   pub bytes : list_all is_path_byte (name_of c) ≡ true
   pub size : length (name_of c) ≤ 255
   pub directory : Whole c.directory
-  pub version : is_version c.directory ≡ true
+  pub version : is_version_directory c.directory ≡ true
   pub group : is_filled c.group ≡ true
   pub ending : Ending
   pub ended : ending_in c.artifact c.directory (name_of c) (base_of c.directory) ≡ Ok ending
@@ -93,7 +93,7 @@ file_form c h =
     let third = and_parts (is_segment p.group) _ second.1 in
     let stands = chosen (may_stand (p.group ∷ p.above) p.artifact p.directory) (ending_in p.artifact p.directory p.name (base_of p.directory) >>= λ e. Ok (with_ending (p.group ∷ p.above) p.artifact p.directory e)) fault.BadSegment c
         (sym (ap file_of p.split) ∙ is_file) in
-    let version = (and_parts _ (is_version_directory p.directory) stands.test).1 in
+    let version = (and_parts _ (fits_version p.directory) stands.test).1 in
     let one = below path p.name p.directory (p.artifact ∷ p.group ∷ p.above) p.split in
     let two = below one.0 p.directory p.artifact (p.group ∷ p.above) one.2 in
     let three = below two.0 p.artifact p.group p.above two.2 in
@@ -104,7 +104,7 @@ file_form c h =
       bytes = subst (λ t. list_all is_path_byte t ≡ true) name (q.plain.bytes p.name (p.directory ∷ p.artifact ∷ p.group ∷ p.above) p.split);
       size = subst (λ (t : List ℕ). length t ≤ 255) name (q.plain.size p.name (p.directory ∷ p.artifact ∷ p.group ∷ p.above) p.split);
       directory = subst Whole directory (path_bytes_whole p.directory (segment_bytes p.directory first.0));
-      version = subst (λ t. is_version t ≡ true) directory (and_from (is_segment p.directory) (is_version_directory p.directory) first.0 version);
+      version = subst (λ t. is_version_directory t ≡ true) directory (and_from (is_segment p.directory) (fits_version p.directory) first.0 version);
       group = subst (λ t. is_filled t ≡ true) group (filled_levels three.0 p.group p.above three.2 (segment_filled p.group third.0));
       ending = p.ending;
       ended = sym (λ i. ending_in (artifact i) (directory i) (name i) (base_of (directory i))) ∙ p.ended;

@@ -3,7 +3,7 @@ ghost use Rattle.std.specs.Prelude.{◌≡◌, ◌≤◌, ◌++◌, is_some, IfO
 ghost use Rattle.std.specs.Option.{option_copied, option_map};
 ghost use Rattle.mvn_coords.specs.Calendar.{civil_of};
 ghost use Rattle.mvn_coords.specs.FileName.{base_of};
-ghost use Rattle.mvn_metadata.specs.Document.{is_artifact, with_update, with_version};
+ghost use Rattle.mvn_metadata.specs.Document.{lists_versions, with_update, with_version};
 ghost use Rattle.repo_model.specs.Document.{document, with_build_of, with_coordinates};
 ghost use Rattle.repo_model.specs.History.{latest_moment};
 ghost use Rattle.repo_model.specs.Paths.{same_version, stands_in};
@@ -51,9 +51,9 @@ fn base_of<'a>(c: &Coord<'a>) -> Option<&'a str>
 }
 
 fn is_artifact(doc: &Doc) -> bool
-    ensures { result ≡ is_artifact doc.now.listing }
+    ensures { result ≡ lists_versions doc.now.listing }
 {
-    matches!(doc.listing(), Listing::Artifact(_, _))
+    matches!(doc.listing(), Listing::Artifact { .. })
 }
 
 /// The document with a file's version directory, accepted at a moment.

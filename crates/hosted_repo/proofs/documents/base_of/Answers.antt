@@ -1,8 +1,8 @@
 use Rattle.std.proofs.Common.{◌≡◌, ◌<◌, List, ℕ, cond, length, None, sym, ap, ◌∙◌, subst}
 use Rattle.std.specs.Prelude.{codes}
 use Rattle.std.proofs.lemmas.Bool.{lt-ltb}
-use Rattle.mvn_coords.specs.FileName.{before}
-use Rattle.mvn_coords.proofs.Cuts.{before_strip}
+use Rattle.byte_cuts.specs.Cuts.{before}
+use Rattle.byte_cuts.proofs.Strips.{before_strip}
 use Rattle.hosted_repo.proofs.documents.base_of.Goals as goal
 
 pub returns-then-dir-gt9 : goal.returns-then-dir-gt9

@@ -3,7 +3,8 @@ use Rattle.std.proofs.lemmas.Bool.{ne_eqb}
 use Rattle.std.proofs.lemmas.List.{get_or_default}
 use Rattle.std.proofs.lemmas.List.Folds.{list_any_none}
 use Rattle.std.proofs.lemmas.Str.Pattern.{split_parts}
-use Rattle.mvn_coords.proofs.Cuts.{behind_none, behind_some, behind_strip, slash}
+use Rattle.byte_cuts.proofs.Strips.{behind_strip}
+use Rattle.mvn_coords.proofs.Cuts.{behind_none, behind_some, slash}
 use Rattle.hosted_repo.specs.Walks.{IsStep, IsWalkOf}
 use Rattle.hosted_repo.proofs.Steps.{past}
 use Rattle.hosted_repo.proofs.walk.step_from.Goals as goal
