@@ -1,5 +1,5 @@
 -- The rows of a directory by their paths: how they stand below the directory's text.
-use Rattle.std.proofs.Common.{◌≡◌, ℕ, Bool, true, false, cond, ◌&&◌, List, [], ◌∷◌, ◌++◌, Option, Some, None, Result, Ok, Err, refl, sym, ap, ◌∙◌, subst, append_assoc, bytes_eq}
+use Rattle.std.proofs.Common.{◌≡◌, ℕ, true, cond, List, [], ◌∷◌, ◌++◌, Option, Some, None, Result, Ok, Err, refl, sym, ap, ◌∙◌, subst, append_assoc, bytes_eq}
 use Rattle.std.proofs.lemmas.Bool.{false≢true, and_parts}
 use Rattle.std.proofs.lemmas.List.{append-nil}
 use Rattle.std.proofs.lemmas.Slice.Eq.{bytes_eq-Decides}
@@ -15,7 +15,7 @@ use Rattle.mvn_coords.proofs.ExactPaths.{exact_path}
 use Rattle.mvn_coords.proofs.Levels.{Whole}
 use Rattle.mvn_coords.proofs.Results.{bound, ok_same}
 use Rattle.repo_model.specs.Paths.{file_at, file_in, stands_in, same_version}
-use Rattle.hosted_repo.proofs.PathForms.{FileForm, file_form, path_bytes_whole}
+use Rattle.hosted_repo.proofs.PathForms.{file_form, path_bytes_whole}
 
 -- a file's path is that of its coordinates
 file_of_kind : (path : List ℕ) (r : Result Kind PathFault) (c : Coordinates) → kind path ≡ r → file_in r ≡ Some c → kind path ≡ Ok (File c)

@@ -1,12 +1,12 @@
 -- A file of a snapshot directory has the form of a document's entry.
-use Rattle.std.proofs.Common.{◌≡◌, ℕ, ◌+◌, ◌<◌, ◌≤◌, suc, Bool, true, false, cond, not, ◌&&◌, List, [], ◌∷◌, ◌++◌, length, take, drop, Option, Some, None, Ok, Err, option_map, refl, sym, ap, ◌∙◌, subst, arith, append_assoc, length-append}
+use Rattle.std.proofs.Common.{◌≡◌, ℕ, ◌+◌, ◌≤◌, suc, Bool, true, false, cond, not, ◌&&◌, List, [], ◌∷◌, ◌++◌, length, take, drop, Option, Some, None, Ok, Err, option_map, refl, sym, ap, ◌∙◌, subst, arith, append_assoc, length-append}
 use Rattle.std.specs.Prelude.{codes, is_some, option_and_then}
 use Rattle.std.specs.List.{list_all, before_first, after_first, position_or_len, prefix_len}
 use Rattle.std.proofs.lemmas.Bool.{and_parts, and_from, le-leb}
 use Rattle.std.proofs.lemmas.List.{take-append-drop}
 use Rattle.std.proofs.lemmas.List.Folds.{list_all-append}
 use Rattle.byte_cuts.specs.Cuts.{before, behind}
-use Rattle.mvn_coords.specs.FileName.{◌>>=◌, BuildOf, Ending, base_of, is_filled, is_dot, ending_in, ending_of, tail_of, tail_by, is_literal, numbered, number_in, number_of, digit_count}
+use Rattle.mvn_coords.specs.FileName.{BuildOf, Ending, base_of, is_filled, is_dot, ending_in, ending_of, tail_of, tail_by, is_literal, numbered, number_in, number_of, digit_count}
 use Rattle.mvn_coords.specs.Civil.{time_of}
 use Rattle.std.specs.Option.{ok_or}
 use Rattle.mvn_coords.specs.Layout.{Coordinates}
@@ -16,10 +16,8 @@ use Rattle.mvn_coords.specs.declared.fault.PathFault.TheVariants as fault
 use Rattle.mvn_coords.proofs.Cuts.{behind_some, before_some}
 use Rattle.mvn_coords.proofs.Results.{bound, chosen_some, ok_or_some, ok_same, some_same}
 use Rattle.mvn_coords.specs.Segment.{is_version_directory}
-use Rattle.mvn_metadata.specs.Form.{is_base_version, is_build, is_classifier, is_classifier_byte, is_entry, is_extension}
-use Rattle.mvn_metadata.specs.declared.pair.Pair.{Pair}
-use Rattle.mvn_metadata.specs.declared.pair.SnapshotBuild.{SnapshotBuild}
-use Rattle.hosted_repo.proofs.PathForms.{FileForm, file_form}
+use Rattle.mvn_metadata.specs.Form.{is_base_version, is_build, is_classifier, is_entry, is_extension}
+use Rattle.hosted_repo.proofs.PathForms.{file_form}
 
 -- a name, and the part of it that tells classifier and extension
 record Tail (name : List ℕ) (e : Ending) : Type 0 where
@@ -151,5 +149,5 @@ entry_form c base b file based built =
     let cut = chosen_some _ (before (codes "-SNAPSHOT") c.directory) base based in
     let directory : c.directory ≡ base ++ codes "-SNAPSHOT" = before_some (codes "-SNAPSHOT") c.directory base cut.value in
     let version : is_base_version (base ++ codes "-SNAPSHOT") ≡ true =
-        subst (λ d. is_base_version d ≡ true) directory (and_from (is_version_directory c.directory) (is_some (base_of c.directory)) f.version (ap is_some based)) in
+    subst (λ d. is_base_version d ≡ true) directory (and_from (is_version_directory c.directory) (is_some (base_of c.directory)) f.version (ap is_some based)) in
     and_from _ _ (and_from _ _ (and_from _ _ classifier extension) version) built

@@ -1,5 +1,5 @@
 -- Rows in the entries of an ordered map.
-use Rattle.std.proofs.Common.{◌≡◌, ℕ, Bool, true, false, cond, List, [], ◌∷◌, map, Option, Some, None, option_map, String, Global, string_bytes, Bor, Ordering, Less, Equal, Greater, is_eq, nat_cmp, refl, sym, ◌∙◌, ap, subst, bytes_eq}
+use Rattle.std.proofs.Common.{◌≡◌, ℕ, Bool, true, false, cond, List, [], ◌∷◌, Option, Some, None, option_map, String, Global, string_bytes, Bor, Ordering, Less, Equal, Greater, is_eq, nat_cmp, refl, sym, ◌∙◌, ap, bytes_eq}
 use Rattle.std.proofs.lemmas.Map.Text.{is_eq-slice_cmp}
 use Rattle.std.proofs.lemmas.Slice.Eq.{bytes_eq-Decides}
 use Rattle.std.proofs.lemmas.Bool.{false_from_ne_true, both_ways}
@@ -55,8 +55,8 @@ module _ {X : Type 0} {G : Ghosts X} where
       ap (λ p. shown_rows (match_ordering (slice_cmp nat_cmp p (string_bytes e.0)) ((k, v) ∷ e ∷ es) ((e.0, v) ∷ es) (e ∷ insert_entry string_cmp es k v))) is
       ∙ elim (slice_cmp nat_cmp path (string_bytes e.0))
       as (λ o. slice_cmp nat_cmp path (string_bytes e.0) ≡ o →
-          shown_rows (match_ordering o ((k, v) ∷ e ∷ es) ((e.0, v) ∷ es) (e ∷ insert_entry string_cmp es k v))
-          ≡ match_ordering o (shown_at path v ∷ shown_entry e ∷ shown_rows es) (shown_at path v ∷ shown_entry e ∷ shown_rows es) (shown_entry e ∷ with_row (shown_at path v) (shown_rows es))) [
+      shown_rows (match_ordering o ((k, v) ∷ e ∷ es) ((e.0, v) ∷ es) (e ∷ insert_entry string_cmp es k v))
+      ≡ match_ordering o (shown_at path v ∷ shown_entry e ∷ shown_rows es) (shown_at path v ∷ shown_entry e ∷ shown_rows es) (shown_entry e ∷ with_row (shown_at path v) (shown_rows es))) [
         | Less ↦ λ h. ap (λ p. shown_at p v ∷ shown_entry e ∷ shown_rows es) is
         | Equal ↦ λ h. absurd (none-some (shown_entry e) (sym (sym (ap (λ b. cond b (Some (shown_entry e)) (row_at path (shown_rows es))) (here Equal h)) ∙ none)))
         | Greater ↦ λ h.

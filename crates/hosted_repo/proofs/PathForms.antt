@@ -1,23 +1,20 @@
 -- The path of a file: its directories and its name, and what each is made of.
-use Rattle.std.proofs.Common.{◌≡◌, ℕ, ◌<◌, ◌≤◌, Bool, true, false, cond, not, ◌&&◌, List, [], ◌∷◌, ◌++◌, length, take, drop, Option, Some, None, Ok, refl, sym, ap, ◌∙◌, subst, arith, eqb, append_assoc, length-append}
+use Rattle.std.proofs.Common.{◌≡◌, ℕ, ◌<◌, ◌≤◌, Bool, true, false, cond, not, List, [], ◌∷◌, ◌++◌, length, None, Ok, refl, sym, ap, ◌∙◌, subst, arith, append_assoc}
 use Rattle.std.specs.Prelude.{codes}
-use Rattle.std.specs.List.{list_all, list_any, before_first, after_first, position_or_len}
+use Rattle.std.specs.List.{list_all, list_any}
 use Rattle.std.specs.Str.{bytes_eq}
-use Rattle.std.proofs.lemmas.Bool.{false≢true, and_parts, and_from, or_from, eqb-true, lt-ltb, le-leb, leb-true, ltb-true}
-use Rattle.std.proofs.lemmas.List.{take-append-drop}
-use Rattle.std.proofs.lemmas.List.Folds.{list_all-append}
-use Rattle.byte_cuts.specs.Cuts.{before, behind}
-use Rattle.mvn_coords.specs.FileName.{◌>>=◌, BuildOf, Ending, base_of, is_filled, is_dot, ending_in, ending_of, tail_of, tail_by, is_literal, numbered, number_in, number_of, digit_count}
-use Rattle.mvn_coords.specs.Layout.{Coordinates, Named, file, document, named, directory_of, file_of, may_stand, all_groups, with_ending, name_of, version_of, tail_text, text_of}
-use Rattle.mvn_coords.specs.Path.{IsFile, Parts, IsPlain}
-use Rattle.mvn_coords.specs.Segment.{Segment, levels, path_of_levels, is_artifact, is_path_byte, is_segment, fits_version, is_version_directory}
+use Rattle.std.proofs.lemmas.Bool.{false≢true, and_parts, and_from, or_from, eqb-true, lt-ltb, ltb-true}
+use Rattle.mvn_coords.specs.FileName.{◌>>=◌, Ending, base_of, is_filled, ending_in}
+use Rattle.mvn_coords.specs.Layout.{Coordinates, Named, file, document, named, directory_of, file_of, may_stand, with_ending, name_of, version_of, tail_text, text_of}
+use Rattle.mvn_coords.specs.Path.{IsFile, Parts}
+use Rattle.mvn_coords.specs.Segment.{Segment, levels, path_of_levels, is_path_byte, is_segment, fits_version, is_version_directory}
 use Rattle.mvn_coords.specs.declared.fault.PathFault.TheVariants as fault
-use Rattle.mvn_coords.proofs.Cuts.{slash, behind_some, before_some}
+use Rattle.mvn_coords.proofs.Cuts.{slash}
 use Rattle.mvn_coords.proofs.Endings.{ending_written}
 use Rattle.mvn_coords.proofs.ExactPaths.{passes}
 use Rattle.mvn_coords.proofs.Files.{file_parts}
 use Rattle.mvn_coords.proofs.Levels.{Whole, below, path_of_levels-levels}
-use Rattle.mvn_coords.proofs.Results.{bound, chosen, chosen_some, ok_or_some, ok_same}
+use Rattle.mvn_coords.proofs.Results.{bound, chosen, ok_same}
 
 no_slash : (b : ℕ) → is_path_byte b ≡ true → slash b ≡ false
 no_slash b h =
@@ -92,7 +89,7 @@ file_form c h =
     let second = and_parts (is_segment p.artifact) _ first.1 in
     let third = and_parts (is_segment p.group) _ second.1 in
     let stands = chosen (may_stand (p.group ∷ p.above) p.artifact p.directory) (ending_in p.artifact p.directory p.name (base_of p.directory) >>= λ e. Ok (with_ending (p.group ∷ p.above) p.artifact p.directory e)) fault.BadSegment c
-        (sym (ap file_of p.split) ∙ is_file) in
+    (sym (ap file_of p.split) ∙ is_file) in
     let version = (and_parts _ (fits_version p.directory) stands.test).1 in
     let one = below path p.name p.directory (p.artifact ∷ p.group ∷ p.above) p.split in
     let two = below one.0 p.directory p.artifact (p.group ∷ p.above) one.2 in

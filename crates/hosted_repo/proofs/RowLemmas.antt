@@ -1,5 +1,5 @@
 -- Rows in byte order of path.
-use Rattle.std.proofs.Common.{Bor, ◌≡◌, ℕ, ◌+◌, ◌<◌, ◌≤◌, Bool, true, false, cond, not, ◌&&◌, List, [], ◌∷◌, ◌++◌, map, filter, fold, length, Option, Some, None, String, Global, string_bytes, Less, refl, sym, ap, ◌∙◌, subst, arith, length-append}
+use Rattle.std.proofs.Common.{Bor, ◌≡◌, ℕ, ◌+◌, ◌<◌, ◌≤◌, Bool, true, false, cond, ◌&&◌, List, [], ◌∷◌, ◌++◌, map, filter, length, Option, Some, String, Global, string_bytes, Less, refl, sym, ap, ◌∙◌, subst, arith, length-append}
 use Rattle.std.specs.List.{AllByRecursion}
 use Rattle.std.specs.List.Sorted.{IsStrictlySortedBy}
 use Rattle.std.specs.Map.{keys_of}
@@ -50,7 +50,7 @@ module _ {X : Type 0} {G : Ghosts X} where
   between-shown text (e ∷ es) =
       ap (λ b. shown_rows (cond b (e ∷ entries_between string_cmp (Included text) Unbounded es) (entries_between string_cmp (Included text) Unbounded es))) (and_true (is_le (string_cmp text e.0)))
       ∙ elim (is_le (string_cmp text e.0)) as (λ b. shown_rows (cond b (e ∷ entries_between string_cmp (Included text) Unbounded es) (entries_between string_cmp (Included text) Unbounded es))
-          ≡ cond b (shown_entry e ∷ rest_from (string_bytes text) (shown_rows es)) (rest_from (string_bytes text) (shown_rows es))) [
+      ≡ cond b (shown_entry e ∷ rest_from (string_bytes text) (shown_rows es)) (rest_from (string_bytes text) (shown_rows es))) [
         | true ↦ ap (λ r. shown_entry e ∷ r) (between-shown text es)
         | false ↦ between-shown text es
       ]
@@ -100,7 +100,7 @@ rest-rest text next (row ∷ rows) h =
       | false ↦ λ there.
           rest-rest text next rows h
           ∙ sym (ap (λ b. cond b (row ∷ rest_from next rows) (rest_from next rows))
-            (false_from_ne_true (is_le (cmp next row.path)) (λ up. both_ways (is_le (cmp text row.path)) there (UpTo-trans text next row.path h up))))
+          (false_from_ne_true (is_le (cmp next row.path)) (λ up. both_ways (is_le (cmp text row.path)) there (UpTo-trans text next row.path h up))))
     ] refl
 
 -- each row stands at or behind a path
@@ -131,10 +131,10 @@ pub rest-behind : (text next : List ℕ) (all front rows : List plain.Row) (row 
 rest-behind text next all front rows row up h is less =
     let rising : AreRising (front ++ row ∷ rows) = subst AreRising is (rising-filter (λ r. is_le (cmp text r.path)) all up) in
     let whole : rest_from next all ≡ rest_from next (row ∷ rows) =
-        sym (rest-rest text next all h) ∙ ap (rest_from next) is ∙ filter-append (λ (r : plain.Row). is_le (cmp next r.path)) front (row ∷ rows)
-        ∙ ap (λ r. r ++ rest_from next (row ∷ rows)) (front-gone next front rows row rising less) in
+    sym (rest-rest text next all h) ∙ ap (rest_from next) is ∙ filter-append (λ (r : plain.Row). is_le (cmp next r.path)) front (row ∷ rows)
+    ∙ ap (λ r. r ++ rest_from next (row ∷ rows)) (front-gone next front rows row rising less) in
     let gone : rest_from next (row ∷ rows) ≡ rest_from next rows =
-        ap (λ b. cond b (row ∷ rest_from next rows) (rest_from next rows)) (false_from_ne_true (is_le (cmp next row.path)) (not_before row.path next less)) in
+    ap (λ b. cond b (row ∷ rest_from next rows) (rest_from next rows)) (false_from_ne_true (is_le (cmp next row.path)) (not_before row.path next less)) in
     (whole, omega (arith, ap length (whole ∙ gone), length-rest next rows, ap length is, length-append front (row ∷ rows)))
 
 from-rest : (text : List ℕ) (rows : List plain.Row) → AreFrom text (rest_from text rows)
@@ -151,9 +151,10 @@ from-member text (first ∷ front) rows row h = from-member text front rows row 
 
 -- a row at which a walk stands is at or behind the text that it began at, and all left rows are at or behind the row
 pub stands-from : (text : List ℕ) (all front rows : List plain.Row) (row : plain.Row) → AreRising all → rest_from text all ≡ front ++ row ∷ rows → UpTo text row.path × AreFrom row.path (row ∷ rows)
-stands-from text all front rows row up is =
-    (from-member text front rows row (subst (AreFrom text) is (from-rest text all)),
-    from-first row rows (rising-behind front (row ∷ rows) (subst AreRising is (rising-filter (λ r. is_le (cmp text r.path)) all up))))
+stands-from text all front rows row up is = (
+  from-member text front rows row (subst (AreFrom text) is (from-rest text all)),
+  from-first row rows (rising-behind front (row ∷ rows) (subst AreRising is (rising-filter (λ r. is_le (cmp text r.path)) all up))),
+)
 
 -- the rows that a walk has behind it, the one that it meets, and the ones that are left
 pub met : {X : Type 0} {G : Ghosts X} (text : String Global) (es range begun front rest left : List (String Global × Row X G)) (o : Option (Bor (String Global) × Bor (Row X G))) (key : Bor (String Global)) (row : Bor (Row X G))
@@ -161,9 +162,10 @@ pub met : {X : Type 0} {G : Ghosts X} (text : String Global) (es range begun fro
     → (shown_rows rest ≡ shown_at (string_bytes key.now) row.now ∷ shown_rows left)
     × (rest_from (string_bytes text) (shown_rows es) ≡ shown_rows front ++ shown_at (string_bytes key.now) row.now ∷ shown_rows left)
 met text es range begun front rest left o key row is takes between start split =
-    let first : rest ≡ (key.now, row.now) ∷ left = subst (λ p. TakesFirst deref_pair rest p left) is takes in
-    (ap shown_rows first,
-    sym (between-shown text es) ∙ ap shown_rows (sym between ∙ sym start ∙ split ∙ ap (λ r. front ++ r) first) ∙ map-append shown_entry front ((key.now, row.now) ∷ left))
+    let first : rest ≡ (key.now, row.now) ∷ left = subst (λ p. TakesFirst deref_pair rest p left) is takes in (
+      ap shown_rows first,
+      sym (between-shown text es) ∙ ap shown_rows (sym between ∙ sym start ∙ split ∙ ap (λ r. front ++ r) first) ∙ map-append shown_entry front ((key.now, row.now) ∷ left),
+    )
 
 -- one more row behind those that a walk has behind it
 module _ {X : Type 0} {G : Ghosts X} where
@@ -180,4 +182,3 @@ module _ {X : Type 0} {G : Ghosts X} where
   pub turned : (es : List (String Global × Row X G)) (seen : List (Bor (String Global) × Bor (Row X G))) (begun rest left : List (String Global × Row X G)) (o : Option (Bor (String Global) × Bor (Row X G))) (key : Bor (String Global)) (row : Bor (Row X G))
       → begun ≡ es → Yields (TakesFirst deref_pair) begun seen rest → o ≡ Some (key, row) → TakesFirst deref_pair rest o left → length seen < length es
   turned es seen begun rest left o key row start yields is takes = (iter_turn deref_pair es seen begun rest left o start yields (key, row) is takes).0
-

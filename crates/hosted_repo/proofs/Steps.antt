@@ -2,12 +2,12 @@
 use Rattle.std.proofs.Common.{◌≡◌, ℕ, Bool, true, false, List, [], ◌∷◌, ◌++◌, Option, Some, None, Less, refl, sym, ap, ◌∙◌, subst, ◌⊎◌, inl, inr, ⊎_elim, append_assoc}
 use Rattle.std.specs.Prelude.{is_some}
 use Rattle.std.proofs.lemmas.Bool.{false≢true}
-use Rattle.mvn_coords.specs.Layout.{Directory, text_of_directory}
+use Rattle.mvn_coords.specs.Layout.{Directory}
 use Rattle.mvn_coords.proofs.Levels.{Whole}
 use Rattle.repo_model.specs.Paths.{file_at, stands_in}
 use Rattle.hosted_repo.specs.Walks.{IsWalkOf}
-use Rattle.hosted_repo.proofs.DirectoryForms.{Stands, stands, artifact_row, snapshot_row, base_of_directory}
-use Rattle.hosted_repo.proofs.TextLemmas.{cmp, UpTo, cmp-append, UpTo-append, append-UpTo, UpTo-front, UpTo-trans, UpTo-less, not_before, segment_behind, below_or_behind, behind_front}
+use Rattle.hosted_repo.proofs.DirectoryForms.{stands, artifact_row, snapshot_row}
+use Rattle.hosted_repo.proofs.TextLemmas.{cmp, UpTo, cmp-append, UpTo-append, append-UpTo, UpTo-front, UpTo-trans, not_before, segment_behind, below_or_behind, behind_front}
 
 some_version : (o : Option (List ℕ)) → true ≡ is_some o → (v : List ℕ) × (o ≡ Some v)
 some_version None h = absurd (false≢true (sym h))
@@ -111,7 +111,7 @@ module _ (base word version name : List ℕ) (whole : Whole version) where
   below_deeper q front rest b is up =
       to_path q (version ++ 47 ∷ (front ++ 48 ∷ [])) b (⊎_elim
       (λ inside. subst (λ v. UpTo (version ++ 47 ∷ (front ++ 48 ∷ [])) (v ++ 47 ∷ (word ++ b.rest))) (sym inside.1)
-        (append-UpTo version (47 ∷ (front ++ 48 ∷ [])) (47 ∷ (word ++ b.rest)) (segment_behind front rest (word ++ b.rest) b.whole (subst (λ n. UpTo n (word ++ b.rest)) is inside.0))))
+      (append-UpTo version (47 ∷ (front ++ 48 ∷ [])) (47 ∷ (word ++ b.rest)) (segment_behind front rest (word ++ b.rest) b.whole (subst (λ n. UpTo n (word ++ b.rest)) is inside.0))))
       (λ behind. UpTo-trans (version ++ 47 ∷ (front ++ 48 ∷ [])) (version ++ 48 ∷ []) (b.version ++ 47 ∷ (word ++ b.rest)) (within (front ++ 48 ∷ [])) behind)
       (sides q b up))
 

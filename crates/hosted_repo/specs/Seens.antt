@@ -1,5 +1,5 @@
 -- What a look at a repository gives, as the machine's plain data.
-use Rattle.std.specs.Prelude.{◌≡◌, Bool, true, false, Option, Some, None, Result, Ok, Err}
+use Rattle.std.specs.Prelude.{Bool, true, false, Option, Some, None, Result, Ok}
 use Rattle.outside.specs.declared.stores.Held.{Ghosts}
 use Rattle.mvn_coords.specs.declared.fault.PathFault.{PathFault}
 use Rattle.mvn_coords.specs.declared.kind.Kind.{Kind}

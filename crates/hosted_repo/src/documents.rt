@@ -64,7 +64,10 @@ fn with_version_of(alloc: Global, doc: Doc, c: &Coord<'_>, accepted: u64) -> Res
     // A file's path tells what its version directory is made of.
     let _path = c.path();
     let version = Version::parse(alloc, c.dir())?;
-    Ok(doc.with_version(version)?.with_update(Stamp::from_moment(accepted)))
+    Ok(
+        doc.with_version(version)?
+            .with_update(Stamp::from_moment(accepted)),
+    )
 }
 
 /// The document with a file's build.

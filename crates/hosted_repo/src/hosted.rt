@@ -14,14 +14,11 @@ ghost use Rattle.hosted_repo.specs.Rows.{fades, shown_at, rows_after_all};
 ghost use Rattle.hosted_repo.specs.Puts.{shown_put, GivesBack};
 ghost use Rattle.hosted_repo.specs.Seens.{shown_seen, is_of_document};
 
-use crate::NoMemory;
-use crate::documents;
-use crate::looks;
 use crate::put::{Put, Standing};
 use crate::row::Row;
-use crate::rows;
 use crate::rule::Rule;
 use crate::seen::Seen;
+use crate::{NoMemory, documents, looks, rows};
 use mvn_coords::{Dir, Kind};
 use mvn_metadata::Doc;
 use outside::{Held, Parcel};

@@ -95,7 +95,13 @@ impl Bench {
     }
 
     /// The length and the first and last bytes of a look's digests or text.
-    pub fn expect_file(&self, rt: &impl Abort, path: &str, sha1: &[u8], md5: &[u8]) -> Result<(), Fail> {
+    pub fn expect_file(
+        &self,
+        rt: &impl Abort,
+        path: &str,
+        sha1: &[u8],
+        md5: &[u8],
+    ) -> Result<(), Fail> {
         match self.repo.look(path)? {
             Some(Seen::File(parcel)) => {
                 assert_eq!(rt; parcel.digests.sha1_text().as_slice(), sha1);

@@ -54,7 +54,11 @@ fn builds_make_documents(rt: HostRuntime) -> Result<(), Fail> {
             "org/acme/lib/1.1-SNAPSHOT/lib-1.1-20240301.080000-2.pom",
         ],
     )?;
-    bench.expect_document(&rt, "org/acme/lib/1.1-SNAPSHOT/maven-metadata.xml", OF_SNAPSHOT)?;
+    bench.expect_document(
+        &rt,
+        "org/acme/lib/1.1-SNAPSHOT/maven-metadata.xml",
+        OF_SNAPSHOT,
+    )?;
     bench.expect_document(&rt, "org/acme/lib/maven-metadata.xml", OF_ARTIFACT)?;
     bench.expect_nothing(&rt, "org/acme/maven-metadata.xml")?;
     bench.expect_nothing(&rt, "org/maven-metadata.xml")?;
@@ -178,9 +182,21 @@ const DEEP_MD5: &[u8] = b"3cba8f77adcfd0e51884062fc5adb0ce";
 fn deeper_directories_stay_out(rt: HostRuntime) -> Result<(), Fail> {
     let mut bench = Bench::new(rt.alloc(), true, true)?;
     bench.fill(&rt, &DEEP)?;
-    bench.expect_document(&rt, "org/acme/deep/lib/1.1-SNAPSHOT/maven-metadata.xml", OF_DEEP)?;
+    bench.expect_document(
+        &rt,
+        "org/acme/deep/lib/1.1-SNAPSHOT/maven-metadata.xml",
+        OF_DEEP,
+    )?;
     // SHA-1 and MD5 of that text
-    bench.expect_side(&rt, "org/acme/deep/lib/1.1-SNAPSHOT/maven-metadata.xml.sha1", DEEP_SHA1)?;
-    bench.expect_side(&rt, "org/acme/deep/lib/1.1-SNAPSHOT/maven-metadata.xml.md5", DEEP_MD5)?;
+    bench.expect_side(
+        &rt,
+        "org/acme/deep/lib/1.1-SNAPSHOT/maven-metadata.xml.sha1",
+        DEEP_SHA1,
+    )?;
+    bench.expect_side(
+        &rt,
+        "org/acme/deep/lib/1.1-SNAPSHOT/maven-metadata.xml.md5",
+        DEEP_MD5,
+    )?;
     Ok(())
 }

@@ -75,6 +75,9 @@ fn rank_and_age_count(rt: HostRuntime) -> Result<(), Fail> {
     assert_eq!(rt; numbers(alloc, 1, 0, 1_000)?.as_slice(), &[10]);
     assert_eq!(rt; numbers(alloc, 1, 1, 1_000 + DAY)?.as_slice(), &[10]);
     assert_eq!(rt; numbers(alloc, 1, 1, 1_001 + DAY)?.as_slice(), &[1, 10]);
-    assert_eq!(rt; numbers(alloc, 0, 213_503_982_334_602, 2_000)?.as_slice(), &[]);
+    assert_eq!(rt;
+        numbers(alloc, 0, 213_503_982_334_602, 2_000)?.as_slice(),
+        &[]
+    );
     Ok(())
 }

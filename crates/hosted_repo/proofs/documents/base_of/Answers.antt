@@ -1,4 +1,4 @@
-use Rattle.std.proofs.Common.{◌≡◌, ◌<◌, List, ℕ, cond, length, None, sym, ap, ◌∙◌, subst}
+use Rattle.std.proofs.Common.{◌<◌, List, ℕ, cond, length, None, sym, ap, ◌∙◌, subst}
 use Rattle.std.specs.Prelude.{codes}
 use Rattle.std.proofs.lemmas.Bool.{lt-ltb}
 use Rattle.byte_cuts.specs.Cuts.{before}

@@ -1,6 +1,5 @@
-use Rattle.std.proofs.Common.{◌≡◌, ℕ, ◌∷◌, ◌++◌, [], List, Some, string_bytes, refl, sym, ap, ◌∙◌, subst}
+use Rattle.std.proofs.Common.{◌≡◌, ◌∷◌, ◌++◌, [], Some, string_bytes, refl, sym, ap, ◌∙◌, subst}
 use Rattle.std.specs.Prelude.{is_some}
-use Rattle.mvn_coords.specs.Layout.{text_of_directory}
 use Rattle.hosted_repo.specs.Rows.{shown_rows}
 use Rattle.hosted_repo.specs.Walks.{IsWalkOf}
 use Rattle.hosted_repo.proofs.TextLemmas.{UpTo}

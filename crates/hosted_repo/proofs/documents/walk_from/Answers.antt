@@ -1,7 +1,6 @@
-use Rattle.std.proofs.Common.{◌≡◌, ℕ, ◌∷◌, ◌++◌, List, Less, map, fold, string_bytes, true, sym, ap, ◌∙◌, subst}
+use Rattle.std.proofs.Common.{◌≡◌, ℕ, ◌∷◌, List, Less, map, fold, string_bytes, true, sym, ap, ◌∙◌, subst}
 use Rattle.std.specs.Map.Iter.{deref_pair}
 use Rattle.std.proofs.lemmas.Map.Iter.{rest_so_far}
-use Rattle.repo_model.specs.Data as plain
 use Rattle.repo_model.specs.Paths.{file_at, stands_in}
 use Rattle.hosted_repo.specs.Documents.{added}
 use Rattle.hosted_repo.specs.Rows.{shown_at, shown_rows}
@@ -24,7 +23,7 @@ returns-in-Past-clause-left g c =
     let left = c.next.new.self in
     let front = map deref_pair c.loop-path.yielded in
     let rows = met c.args.from.now es c.range-path-items.result c.into_iter-path-iterator.result front c.loop-path.path-iterator left c.next.result c.in-Some.path c.in-Some.row c.in-Some.is c.next.ensures.steps
-        (c.range-path-items.ensures.between tt) c.into_iter-path-iterator.ensures.into_iter_gives (rest_so_far deref_pair c.loop-path.yielded c.into_iter-path-iterator.result c.loop-path.path-iterator c.loop-path.yielded_by) in
+    (c.range-path-items.ensures.between tt) c.into_iter-path-iterator.ensures.into_iter_gives (rest_so_far deref_pair c.loop-path.yielded c.into_iter-path-iterator.result c.loop-path.path-iterator c.loop-path.yielded_by) in
     let at = stands-from (string_bytes c.args.from.now) (shown_rows es) (shown_rows front) (shown_rows left) (at_row) (rising-shown es c.range-path-items.ensures.ordered) rows.1 in
     let walk = subst (IsWalkOf d c.args.base.now c.args.word.now) (sym c.is_snapshot-is_snapshot.ensures) c.requires.walk in
     let begun = subst (UpTo c.args.base.now) (sym c.as_str.ensures.value) (UpTo-trans c.args.base.now (string_bytes c.args.from.now) (string_bytes c.in-Some.path.now) c.requires.from at.0) in
@@ -45,7 +44,7 @@ returns-in-To-clause-left g c =
     let left = c.next.new.self in
     let front = map deref_pair c.loop-path.yielded in
     let rows = met c.args.from.now es c.range-path-items.result c.into_iter-path-iterator.result front c.loop-path.path-iterator left c.next.result c.in-Some.path c.in-Some.row c.in-Some.is c.next.ensures.steps
-        (c.range-path-items.ensures.between tt) c.into_iter-path-iterator.ensures.into_iter_gives (rest_so_far deref_pair c.loop-path.yielded c.into_iter-path-iterator.result c.loop-path.path-iterator c.loop-path.yielded_by) in
+    (c.range-path-items.ensures.between tt) c.into_iter-path-iterator.ensures.into_iter_gives (rest_so_far deref_pair c.loop-path.yielded c.into_iter-path-iterator.result c.loop-path.path-iterator c.loop-path.yielded_by) in
     let rising = rising-shown es c.range-path-items.ensures.ordered in
     let at = stands-from from (shown_rows es) (shown_rows front) (shown_rows left) (at_row) rising rows.1 in
     let walk = subst (IsWalkOf d c.args.base.now c.args.word.now) (sym c.is_snapshot-is_snapshot.ensures) c.requires.walk in
@@ -70,7 +69,7 @@ returns-in-To-clause-next g c =
     let left = c.next.new.self in
     let front = map deref_pair c.loop-path.yielded in
     let rows = met c.args.from.now es c.range-path-items.result c.into_iter-path-iterator.result front c.loop-path.path-iterator left c.next.result c.in-Some.path c.in-Some.row c.in-Some.is c.next.ensures.steps
-        (c.range-path-items.ensures.between tt) c.into_iter-path-iterator.ensures.into_iter_gives (rest_so_far deref_pair c.loop-path.yielded c.into_iter-path-iterator.result c.loop-path.path-iterator c.loop-path.yielded_by) in
+    (c.range-path-items.ensures.between tt) c.into_iter-path-iterator.ensures.into_iter_gives (rest_so_far deref_pair c.loop-path.yielded c.into_iter-path-iterator.result c.loop-path.path-iterator c.loop-path.yielded_by) in
     let rising = rising-shown es c.range-path-items.ensures.ordered in
     let at = stands-from from (shown_rows es) (shown_rows front) (shown_rows left) (at_row) rising rows.1 in
     let walk = subst (IsWalkOf d c.args.base.now c.args.word.now) (sym c.is_snapshot-is_snapshot.ensures) c.requires.walk in

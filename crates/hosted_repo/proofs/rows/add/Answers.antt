@@ -1,5 +1,3 @@
-use Rattle.std.proofs.Common.{◌≡◌, ap, ◌∙◌, rules}
-use Rattle.hosted_repo.specs.Rows.{shown_rows}
 use Rattle.hosted_repo.proofs.MapLemmas.{inserted}
 use Rattle.hosted_repo.proofs.rows.add.Goals as goal
 

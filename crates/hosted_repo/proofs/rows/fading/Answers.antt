@@ -1,7 +1,7 @@
-use Rattle.std.proofs.Common.{◌≡◌, ℕ, ◌+◌, cond, map, length, sym, ap, ◌∙◌, arith, subst}
+use Rattle.std.proofs.Common.{◌+◌, cond, map, sym, ap, ◌∙◌, arith}
 use Rattle.std.specs.Prelude.{count_by}
 use Rattle.std.specs.Map.Iter.{deref_pair}
-use Rattle.std.proofs.lemmas.Map.Iter.{iter_turn, iter_end}
+use Rattle.std.proofs.lemmas.Map.Iter.{iter_end}
 use Rattle.hosted_repo.specs.Rows.{fades, shown_rows}
 use Rattle.hosted_repo.proofs.RowLemmas.{counted, counted_most, turned}
 use Rattle.hosted_repo.proofs.rows.fading.Goals as goal
@@ -15,7 +15,7 @@ overflow_add-count g c =
 pub loop-row-preserved : goal.loop-row-preserved
 loop-row-preserved g c =
     let more = counted c.loop-row.yielded c.in-Some.field-0-0 c.in-Some.row
-        ∙ ap (λ b. count_by fades (shown_rows (map deref_pair c.loop-row.yielded)) + cond b 1 0) (sym c.is_fading.ensures ∙ c.if-is_fading.false) in
+    ∙ ap (λ b. count_by fades (shown_rows (map deref_pair c.loop-row.yielded)) + cond b 1 0) (sym c.is_fading.ensures ∙ c.if-is_fading.false) in
     omega (arith, c.loop-row.invariant, more)
 
 pub returns : goal.returns

@@ -1,4 +1,4 @@
-use Rattle.std.proofs.Common.{◌≡◌, option_map, ap, ◌∙◌}
+use Rattle.std.proofs.Common.{option_map, ap, ◌∙◌}
 use Rattle.hosted_repo.specs.Rows.{shown_at}
 use Rattle.hosted_repo.proofs.MapLemmas.{found, option_map-copied}
 use Rattle.hosted_repo.proofs.rows.find.Goals as goal

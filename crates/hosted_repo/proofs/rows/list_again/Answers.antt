@@ -1,4 +1,4 @@
-use Rattle.std.proofs.Common.{◌≡◌, sym, ap, ◌∙◌, refl}
+use Rattle.std.proofs.Common.{sym, ap, ◌∙◌, refl}
 use Rattle.repo_model.specs.Effect.{list_again as again}
 use Rattle.hosted_repo.specs.Rows.{shown_rows}
 use Rattle.hosted_repo.proofs.MapLemmas.{rewritten, unwritten}

@@ -1,4 +1,4 @@
-use Rattle.std.proofs.Common.{◌≡◌, ℕ, ◌∷◌, ◌++◌, cond, false, drop, length, Option, Some, None, sym, ap, ◌∙◌, lit<, get_or, ◌<◌, ◌≢◌, Bor, List}
+use Rattle.std.proofs.Common.{ℕ, cond, drop, length, Option, Some, None, sym, ap, ◌∙◌, lit<, Bor, List}
 use Rattle.std.proofs.lemmas.Str.Pattern.{starts_text, split_parts}
 use Rattle.mvn_coords.proofs.Cuts.{behind_none}
 use Rattle.hosted_repo.proofs.TextLemmas.{behind_front, not_less}

@@ -1,4 +1,4 @@
-use Rattle.std.proofs.Common.{◌≡◌, ℕ, ◌∷◌, ◌++◌, List, Some, None, IfOk, get_or, sym, ap, ◌∙◌, subst, lit<}
+use Rattle.std.proofs.Common.{◌≡◌, ℕ, ◌++◌, List, Some, None, IfOk, get_or, sym, ap, ◌∙◌, subst, lit<}
 use Rattle.std.proofs.lemmas.Bool.{ne_eqb}
 use Rattle.std.proofs.lemmas.List.{get_or_default}
 use Rattle.std.proofs.lemmas.List.Folds.{list_any_none}
