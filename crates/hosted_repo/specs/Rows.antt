@@ -1,5 +1,5 @@
 -- Rows as the machine's plain data.
-use Rattle.std.specs.Prelude.{ℕ, Bool, not, List, [], ◌∷◌, map, String, string_bytes}
+use Rattle.std.specs.Prelude.{ℕ, ◌-◌, Bool, false, not, ◌&&◌, nat_lt, if◌then◌else◌, List, [], ◌∷◌, map, String, string_bytes}
 use Rattle.std.specs.declared.alloc.Global.{Global}
 use Rattle.outside.specs.declared.stores.Held.{Ghosts}
 use Rattle.repo_model.specs.Data as plain
@@ -37,3 +37,17 @@ rows_after_all (e ∷ effects) rows = rows_after_all effects (rows_after e rows)
 -- whether a row is unlisted
 abbrev pub fades : plain.Row → Bool
 fades row = not (is_listed row.phase)
+
+-- whether a row is unlisted since before a moment
+abbrev pub is_before : ℕ → plain.Phase → Bool
+is_before limit plain.listed = false
+is_before limit (plain.fading since) = nat_lt since limit
+
+abbrev pub goes : ℕ → ℕ → plain.Phase → Bool
+goes n limit phase = nat_lt 0 n && is_before limit phase
+
+-- the rows without the first n that are unlisted since before a moment
+abbrev pub without_first : ℕ → ℕ → List plain.Row → List plain.Row
+without_first n limit [] = []
+without_first n limit (row ∷ rows) =
+    if goes n limit row.phase then without_first (n - 1) limit rows else row ∷ without_first n limit rows

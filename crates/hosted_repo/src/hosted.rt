@@ -1,10 +1,11 @@
 //! A hosted repository.
-ghost use Rattle.std.specs.Prelude.{◌≡◌, ◌≤◌, ◌⊎◌, if◌then◌else◌, IfOk, OnErr, true, length, count_by};
+ghost use Rattle.std.specs.Prelude.{◌≡◌, ◌≤◌, ◌⊎◌, if◌then◌else◌, IfOk, OnErr, true, length, count_by, take};
 ghost use Rattle.std.specs.Option.{option_map};
 ghost use Rattle.mvn_coords.specs.Kind.{kind};
 ghost use Rattle.repo_model.specs.Document.{document};
 ghost use Rattle.repo_model.specs.History.{latest_moment};
 ghost use Rattle.repo_model.specs.Paths.{takes_file, file_in};
+ghost use Rattle.repo_model.specs.Purge.{expired_of};
 ghost use Rattle.repo_model.specs.Reply.{is_free, no_memory};
 ghost use Rattle.repo_model.specs.Shown.{shown_parcel};
 ghost use Rattle.repo_model.specs.State.{row_at, new_hosted};
@@ -124,5 +125,12 @@ impl<H: Held> Hosted<H> {
         ensures fading { result.1 ≡ count_by fades self.now.rows }
     {
         (self.rows.len() as u64, rows::fading(&self.rows))
+    }
+
+    /// Takes the first `count` rows away whose grace period, in seconds, is over at a moment.
+    pub fn drop_expired(&mut self, grace: u64, now: u64, count: u64)
+        ensures { self.new ≡ record self.old { rows = rows_after_all (take count (expired_of grace now self.old)) self.old.rows } }
+    {
+        rows::drop_first(&mut self.rows, now.saturating_sub(grace), count);
     }
 }

@@ -1,12 +1,15 @@
 //! Rows in an ordered map from path to row.
 ghost use Rattle.std.specs.Prelude.{◌≡◌, ◌≤◌, None, OnOk, OnErr, IfErr, count_by, not};
+ghost use Rattle.std.specs.List.Sorted.{IsStrictlySortedBy};
+ghost use Rattle.std.specs.Map.{keys_of};
 ghost use Rattle.std.specs.Option.{option_map};
+ghost use Rattle.std.specs.String.{string_cmp};
 ghost use Rattle.repo_model.specs.State.{row_at, change_where, is_row};
 ghost use Rattle.repo_model.specs.Effect.{with_row, new_row, list_again};
 ghost use Rattle.repo_model.specs.Document.{is_listed};
 ghost use Rattle.repo_model.specs.History.{latest_moment};
 ghost use Rattle.repo_model.specs.Shown.{shown_print, shown_parcel};
-ghost use Rattle.hosted_repo.specs.Rows.{fades, shown_at, shown_phase, shown_rows};
+ghost use Rattle.hosted_repo.specs.Rows.{fades, is_before, shown_at, shown_phase, shown_rows, without_first};
 ghost use Rattle.hosted_repo.specs.Puts.{standing};
 
 use crate::put::Standing;
@@ -109,4 +112,31 @@ fn is_fading(phase: Phase) -> bool
     ensures { result ≡ not (is_listed (shown_phase phase)) }
 {
     matches!(phase, Phase::Fading(_))
+}
+
+fn is_before(phase: Phase, limit: u64) -> bool
+    ensures { result ≡ is_before limit (shown_phase phase) }
+{
+    match phase {
+        Phase::Listed => false,
+        Phase::Fading(since) => since < limit,
+    }
+}
+
+/// Takes the first `count` rows away that are unlisted since before a moment.
+pub fn drop_first<H: Held>(rows: &mut BTreeMap<String, Row<H>>, limit: u64, count: u64)
+    ensures rows { shown_rows rows.new.entries ≡ without_first count limit (shown_rows rows.old.entries) }
+    ensures ordered { IsStrictlySortedBy string_cmp (keys_of rows.old.entries) }
+{
+    // Its contract says that the paths rise.
+    let _len = rows.len();
+    let mut left = count;
+    rows.retain(|_, row| {
+        if left > 0 && is_before(row.phase, limit) {
+            left -= 1;
+            false
+        } else {
+            true
+        }
+    });
 }

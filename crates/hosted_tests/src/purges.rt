@@ -2,6 +2,7 @@
 use mvn_coords::{Build, Stamp};
 use snapshot_purge::{Aged, Keep, due};
 use std::alloc::Global;
+use std::process::Abort;
 use std::test::Fail;
 
 // A build's timestamp and number, and when its files were accepted.
@@ -53,8 +54,8 @@ fn builds(alloc: Global) -> Result<Vec<Aged>, Fail> {
     Ok(builds)
 }
 
-// The numbers of the builds that are due.
-fn numbers(alloc: Global, count: u64, days: u64, now: u64) -> Result<Vec<u32>, Fail> {
+// The numbers of the builds that are due by a count and days at a moment.
+fn numbers(alloc: Global, [count, days, now]: [u64; 3]) -> Result<Vec<u32>, Fail> {
     let builds = builds(alloc)?;
     let mut numbers = Vec::new(alloc);
     for build in &due(alloc, builds.as_slice(), &Keep { count, days }, now)? {
@@ -63,21 +64,24 @@ fn numbers(alloc: Global, count: u64, days: u64, now: u64) -> Result<Vec<u32>, F
     Ok(numbers)
 }
 
+fn expect(rt: &impl Abort, alloc: Global, rule: [u64; 3], want: &[u32]) -> Result<(), Fail> {
+    let numbers = numbers(alloc, rule)?;
+    assert_eq!(rt; numbers.as_slice(), want);
+    Ok(())
+}
+
 #[test]
 fn rank_and_age_count(rt: HostRuntime) -> Result<(), Fail> {
     let alloc = rt.alloc();
     // the ranks are 2, 0 and 1
-    assert_eq!(rt; numbers(alloc, 0, 0, 2_000)?.as_slice(), &[1, 2, 10]);
-    assert_eq!(rt; numbers(alloc, 1, 0, 2_000)?.as_slice(), &[1, 10]);
-    assert_eq!(rt; numbers(alloc, 2, 0, 2_000)?.as_slice(), &[1]);
-    assert_eq!(rt; numbers(alloc, 3, 0, 2_000)?.as_slice(), &[]);
+    expect(&rt, alloc, [0, 0, 2_000], &[1, 2, 10])?;
+    expect(&rt, alloc, [1, 0, 2_000], &[1, 10])?;
+    expect(&rt, alloc, [2, 0, 2_000], &[1])?;
+    expect(&rt, alloc, [3, 0, 2_000], &[])?;
     // an age of so many days is not more than so many days
-    assert_eq!(rt; numbers(alloc, 1, 0, 1_000)?.as_slice(), &[10]);
-    assert_eq!(rt; numbers(alloc, 1, 1, 1_000 + DAY)?.as_slice(), &[10]);
-    assert_eq!(rt; numbers(alloc, 1, 1, 1_001 + DAY)?.as_slice(), &[1, 10]);
-    assert_eq!(rt;
-        numbers(alloc, 0, 213_503_982_334_602, 2_000)?.as_slice(),
-        &[]
-    );
+    expect(&rt, alloc, [1, 0, 1_000], &[10])?;
+    expect(&rt, alloc, [1, 1, 1_000 + DAY], &[10])?;
+    expect(&rt, alloc, [1, 1, 1_001 + DAY], &[1, 10])?;
+    expect(&rt, alloc, [0, 213_503_982_334_602, 2_000], &[])?;
     Ok(())
 }

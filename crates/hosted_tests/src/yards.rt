@@ -1,6 +1,7 @@
 // Numbers of blobs, leases and sessions.
 use blob_yard::{DrawFault, Yard};
 use std::alloc::Global;
+use std::process::Abort;
 use std::test::Fail;
 
 const LAST: u64 = 9_223_372_036_854_775_807;
@@ -36,6 +37,17 @@ fn collected(alloc: Global, yard: &mut Yard) -> Result<Vec<u64>, Fail> {
     Ok(out)
 }
 
+fn expect_collected(
+    rt: &impl Abort,
+    alloc: Global,
+    yard: &mut Yard,
+    want: &[u64],
+) -> Result<(), Fail> {
+    let out = collected(alloc, yard)?;
+    assert_eq!(rt; out.as_slice(), want);
+    Ok(())
+}
+
 #[test]
 fn drafts_come_into_use_or_are_given_up(rt: HostRuntime) -> Result<(), Fail> {
     let alloc = rt.alloc();
@@ -46,8 +58,8 @@ fn drafts_come_into_use_or_are_given_up(rt: HostRuntime) -> Result<(), Fail> {
     assert!(rt; yard.keep(1) && !yard.keep(1) && !yard.keep(3));
     assert!(rt; yard.drop_draft(2) && !yard.drop_draft(2) && !yard.drop_draft(1));
     assert!(rt; yard.is_kept(1) && !yard.is_kept(2) && !yard.is_draft(1));
-    assert_eq!(rt; collected(alloc, &mut yard)?.as_slice(), &[2]);
-    assert_eq!(rt; collected(alloc, &mut yard)?.as_slice(), &[]);
+    expect_collected(&rt, alloc, &mut yard, &[2])?;
+    expect_collected(&rt, alloc, &mut yard, &[])?;
     assert_eq!(rt; draft(&mut yard)?, 3);
     Ok(())
 }
@@ -61,11 +73,11 @@ fn lent_blobs_wait(rt: HostRuntime) -> Result<(), Fail> {
     assert_eq!(rt; lease(&mut yard, 7)?, 2);
     condemn(&mut yard, 7)?;
     condemn(&mut yard, 4)?;
-    assert_eq!(rt; collected(alloc, &mut yard)?.as_slice(), &[4]);
+    expect_collected(&rt, alloc, &mut yard, &[4])?;
     assert!(rt; yard.done(1) && !yard.done(1));
-    assert_eq!(rt; collected(alloc, &mut yard)?.as_slice(), &[]);
+    expect_collected(&rt, alloc, &mut yard, &[])?;
     assert!(rt; yard.done(2));
-    assert_eq!(rt; collected(alloc, &mut yard)?.as_slice(), &[7]);
+    expect_collected(&rt, alloc, &mut yard, &[7])?;
     Ok(())
 }
 
@@ -86,7 +98,7 @@ fn garbage_is_collected_by_100(rt: HostRuntime) -> Result<(), Fail> {
     assert_eq!(rt; first.len(), 100);
     assert_eq!(rt; first.first().copied(), Some(1));
     assert_eq!(rt; first.last().copied(), Some(100));
-    assert_eq!(rt; collected(alloc, &mut yard)?.as_slice(), &[101]);
+    expect_collected(&rt, alloc, &mut yard, &[101])?;
     Ok(())
 }
 

@@ -1,0 +1,21 @@
+use Rattle.std.proofs.Common.{◌≡◌, ◌-◌, List, take, sym, ap, ◌∙◌}
+use Rattle.repo_model.specs.Data as plain
+use Rattle.repo_model.specs.Purge.{expired_of}
+use Rattle.repo_model.specs.Settings.{Rule}
+use Rattle.hosted_repo.specs.Rows.{rows_after_all, shown_rows, without_first}
+use Rattle.hosted_repo.specs.Rules.{shown_rule}
+use Rattle.hosted_repo.proofs.Expiry.{dropped}
+use Rattle.hosted_repo.proofs.RowLemmas.{rising-shown}
+use Rattle.hosted_repo.proofs.hosted.Hosted.drop_expired.Goals as goal
+
+abbrev whole : Rule → List plain.Row → plain.Hosted
+whole rule rows = record { rule = rule; rows = rows }
+
+pub returns : goal.returns
+returns g c =
+    let y = c.self.inside in
+    let es = y.rows.entries in
+    ap (whole (shown_rule y.rule))
+    (c.drop_first.ensures.rows ∙ ap (λ limit. without_first c.args.count limit (shown_rows es)) c.saturating_sub.ensures
+    ∙ sym (dropped c.args.count c.args.grace c.args.now (shown_rule y.rule).id (shown_rows es) (rising-shown es c.drop_first.ensures.ordered)))
+    ∙ ap (λ (h : plain.Hosted). whole h.rule (rows_after_all (take c.args.count (expired_of c.args.grace c.args.now h)) h.rows)) c.self.view_is
