@@ -1,5 +1,5 @@
 -- Rows that go one after the other, and all at once.
-use Rattle.std.proofs.Common.{◌≡◌, ℕ, zero, suc, ◌+◌, ◌-◌, ◌<◌, Bool, true, false, cond, not, ◌&&◌, List, [], ◌∷◌, map, filter, take, Less, is_eq, bytes_eq, refl, sym, ap, ◌∙◌, arith}
+use Rattle.std.proofs.Common.{◌≡◌, ℕ, zero, suc, ◌-◌, true, false, cond, not, ◌&&◌, List, [], ◌∷◌, map, filter, take, is_eq, refl, sym, ap, ◌∙◌, arith}
 use Rattle.std.proofs.lemmas.Bool.{ltb_from_iff, ltb-true, lt-ltb}
 use Rattle.std.proofs.lemmas.Map.Text.{is_eq-slice_cmp}
 use Rattle.std.proofs.lemmas.Slice.Eq.{bytes_eq-Decides}
@@ -9,7 +9,6 @@ use Rattle.repo_model.specs.Purge.{is_over}
 use Rattle.hosted_repo.specs.Rows.{is_before, goes, without_first, rows_after_all}
 use Rattle.hosted_repo.proofs.MapLemmas.{same_test}
 use Rattle.hosted_repo.proofs.RowLemmas.{AreAfter, AreRising}
-use Rattle.hosted_repo.proofs.TextLemmas.{cmp}
 
 abbrev gone : ℕ → ℕ → List ℕ → List plain.Row → List Effect
 gone grace now repo rows = map (λ row. expires repo row.path row.blob.number) (filter (λ row. is_over grace now row.phase) rows)
@@ -39,7 +38,7 @@ first_stays (suc n) grace now repo row rows [] h = refl
 first_stays (suc n) grace now repo row rows (x ∷ more) h =
     elim (is_over grace now x.phase)
     as (λ b. rows_after_all (take (suc n) (map (λ r. expires repo r.path r.blob.number) (cond b (x ∷ filter (λ r. is_over grace now r.phase) more) (filter (λ r. is_over grace now r.phase) more)))) (row ∷ rows)
-        ≡ row ∷ rows_after_all (take (suc n) (map (λ r. expires repo r.path r.blob.number) (cond b (x ∷ filter (λ r. is_over grace now r.phase) more) (filter (λ r. is_over grace now r.phase) more)))) rows) [
+    ≡ row ∷ rows_after_all (take (suc n) (map (λ r. expires repo r.path r.blob.number) (cond b (x ∷ filter (λ r. is_over grace now r.phase) more) (filter (λ r. is_over grace now r.phase) more)))) rows) [
       | true ↦
           ap (λ b. rows_after_all (take n (gone grace now repo more)) (cond (not b) (row ∷ without_row x.path rows) (without_row x.path rows)))
           (sym (is_eq-slice_cmp row.path x.path) ∙ ap is_eq h.0)
@@ -64,8 +63,8 @@ dropped (suc n) grace now repo [] up = refl
 dropped (suc n) grace now repo (row ∷ rows) up =
     elim (is_over grace now row.phase)
     as (λ b. is_over grace now row.phase ≡ b
-        → rows_after_all (take (suc n) (map (λ r. expires repo r.path r.blob.number) (cond b (row ∷ filter (λ r. is_over grace now r.phase) rows) (filter (λ r. is_over grace now r.phase) rows)))) (row ∷ rows)
-        ≡ without_first (suc n) (now - grace) (row ∷ rows)) [
+    → rows_after_all (take (suc n) (map (λ r. expires repo r.path r.blob.number) (cond b (row ∷ filter (λ r. is_over grace now r.phase) rows) (filter (λ r. is_over grace now r.phase) rows)))) (row ∷ rows)
+    ≡ without_first (suc n) (now - grace) (row ∷ rows)) [
       | true ↦ λ is.
           ap (rows_after_all (take n (gone grace now repo rows))) (first_out row rows up.0)
           ∙ dropped n grace now repo rows up.1

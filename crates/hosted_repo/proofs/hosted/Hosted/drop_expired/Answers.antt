@@ -1,4 +1,4 @@
-use Rattle.std.proofs.Common.{◌≡◌, ◌-◌, List, take, sym, ap, ◌∙◌}
+use Rattle.std.proofs.Common.{List, take, sym, ap, ◌∙◌}
 use Rattle.repo_model.specs.Data as plain
 use Rattle.repo_model.specs.Purge.{expired_of}
 use Rattle.repo_model.specs.Settings.{Rule}
