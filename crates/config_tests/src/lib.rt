@@ -1,4 +1,4 @@
-//! Tests of `path_patterns` and `repo_config`: settings texts and what each is read as or refused for.
+//! Tests of `path_patterns`, `repo_config` and `command_words`: texts, and what each is read as or refused for.
 #![tactic(auto)]
 
 #[cfg(test)]
@@ -17,3 +17,5 @@ mod proxy_tables;
 mod top_keys;
 #[cfg(test)]
 mod whole;
+#[cfg(test)]
+mod words;

@@ -1,0 +1,77 @@
+//! Words of the command line.
+use command_words::{Wanted, WordsFault, read_words};
+use std::alloc::Global;
+use std::process::Abort;
+use std::test::Fail;
+
+// What words are read as: `settings at step`, or `refused`.
+fn read(alloc: Global, line: &str) -> Result<String, Fail> {
+    let mut words = Vec::new(alloc);
+    for word in line.split_whitespace() {
+        words.push(String::from_str(alloc, word)?)?;
+    }
+    match read_words(alloc, &words) {
+        Ok(Wanted::Replay { settings, at, step }) => {
+            let settings = settings.as_str();
+            Ok(format!(in alloc; "{settings} {at} {step}")?)
+        }
+        Err(WordsFault::Refused) => Ok(String::from_str(alloc, "refused")?),
+        Err(WordsFault::NoMemory) => Err(Fail::from("memory")),
+    }
+}
+
+fn expect(rt: &impl Abort, alloc: Global, table: &str) -> Result<(), Fail> {
+    for row in table.lines() {
+        if let Some((line, wanted)) = row.split_once(" => ") {
+            let found = read(alloc, line)?;
+            assert!(rt; found.as_str() == wanted, "{line}: {found}, not {wanted}");
+        }
+    }
+    Ok(())
+}
+
+const ACCEPTED: &str = "
+    replay s.toml => s.toml 0 0
+    replay s.toml --at 5 => s.toml 5 0
+    replay s.toml --at 1709208000 --step 60 => s.toml 1709208000 60
+    replay --step 1 s.toml => s.toml 0 1
+    replay --at=5 --step=6 s.toml => s.toml 5 6
+    replay s.toml --at +5 => s.toml 5 0
+    replay s.toml --at 007 => s.toml 7 0
+    replay s.toml --at 253402207200 => s.toml 253402207200 0
+    replay s.toml --step 86400 => s.toml 0 86400
+    replay -- --at => --at 0 0
+";
+
+const REFUSED: &str = "
+    => refused
+    replay => refused
+    replay s.toml t.toml => refused
+    replay s.toml --at => refused
+    replay s.toml --at x => refused
+    replay s.toml --at -1 => refused
+    replay s.toml --at 1.0 => refused
+    replay s.toml --at 253402207201 => refused
+    replay s.toml --step 86401 => refused
+    replay s.toml --at 1 --at 2 => refused
+    replay s.toml --until 1 => refused
+    replay s.toml -a 1 => refused
+    replay --help => refused
+    replay s.toml --version => refused
+    help => refused
+    --help => refused
+    --version => refused
+    Replay s.toml => refused
+    clean s.toml data => refused
+    s.toml replay => refused
+";
+
+#[test]
+fn words_that_are_accepted(rt: HostRuntime) -> Result<(), Fail> {
+    expect(&rt, rt.alloc(), ACCEPTED)
+}
+
+#[test]
+fn words_that_are_refused(rt: HostRuntime) -> Result<(), Fail> {
+    expect(&rt, rt.alloc(), REFUSED)
+}
