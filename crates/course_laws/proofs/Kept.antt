@@ -3,7 +3,7 @@ use Rattle.std.proofs.Common.{◌≡◌, ◌⊎◌, inl, inr, ℕ, suc, Bool, tr
 use Rattle.repo_model.specs.Command.{Command, look, done, may_put, put as puts, drop_draft}
 use Rattle.repo_model.specs.Data.{Blob, Place, repository, session}
 use Rattle.repo_model.specs.Reply.{Reply, file, missed, kind_refused, draft, no_draft, taken, same, relisted, created, spent, store_fault}
-use Rattle.repo_course.specs.Course.{Course, Stored, asks, after_look, after_may_put, after_put, after_send, after_take, course, end_of}
+use Rattle.repo_course.specs.Course.{Course, course_of, Stored, asks, after_look, after_may_put, after_put, after_send, after_take, course, end_of}
 use Rattle.repo_course.specs.declared.act.Closing.{Closing}
 use Rattle.repo_course.specs.declared.outcomes.End.TheVariants as stream
 use Rattle.repo_course.specs.declared.outcomes.Sent.{Sent}
@@ -70,6 +70,10 @@ may_put-keeps repo path length c reply = ((refl, refl), (refl, refl, refl))
 pub course-keeps : (request : Plain) (last : Bool) → Keeps (course request last) 3 at_first
 course-keeps (get path close) last = ((refl, refl), λ reply. look-keeps (record { close = close; last = last }) reply 1)
 course-keeps (put path length close) last = ((refl, refl), λ reply. may_put-keeps releases path length (record { close = close; last = last }) reply)
+
+pub judged-keeps : (judged : Option Plain) (last : Bool) → Keeps (course_of judged last) 3 at_first
+judged-keeps None last = ((refl, refl), (tt, tt))
+judged-keeps (Some request) last = course-keeps request last
 
 -- how a stream stands before the course that it comes to
 abbrev pub opened_early : {last : Bool} {old new : Outside} {c : Course} → Opens last old new c → Option Early

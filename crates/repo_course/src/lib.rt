@@ -7,6 +7,7 @@
 mod act;
 mod answer;
 mod judge;
+pub mod laws;
 mod limits;
 mod opening;
 mod outcomes;

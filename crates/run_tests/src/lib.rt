@@ -10,3 +10,5 @@ mod exchanges;
 mod lock_step;
 #[cfg(test)]
 mod runs;
+#[cfg(test)]
+mod texts;
