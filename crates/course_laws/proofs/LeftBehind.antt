@@ -39,17 +39,20 @@ still_drawn old new left drawn = record {
 
 -- what is left behind at the end of entries of which each finds its draft
 pub record Leaves (settings : Settings) (before : Yard) (entries : List Entry) (st : State) : Type 0 where
-  pub nothing : LeavesNothing before (end_of settings st entries).yard
+  pub nothing : IsDrawn before → LeavesNothing before (end_of settings st entries).yard
   pub found : AllByRecursion (λ (e : Entry). e.reply ≢ no_draft) entries
 
 module _ (tells : Type 0) (settings : Settings) where
-  module _ (before : Yard) (drawn : IsDrawn before) where
+  module _ (before : Yard) where
     ended : (s : Stand) (entries : List Entry) (st : State) → HoldsNothing s → Holding before s.draft s.lease st.yard → entries ≡ [] → Leaves settings before entries st
     ended s entries st none h is =
         let drafts : OwnDraft before None st.yard.drafts = subst (λ d. OwnDraft before d st.yard.drafts) none.0 h.drafts in
         let leases : OwnLease before None st.yard.leases = subst (λ l. OwnLease before l st.yard.leases) none.1 h.leases in
         subst (λ (es : List Entry). Leaves settings before es st) (sym is)
-        (record { nothing = record { drafts = drafts; leases = leases; next_draft = h.next_draft; next_lease = h.next_lease }; found = tt })
+        (record {
+          nothing = λ drawn. record { drafts = drafts drawn; leases = leases drawn; next_draft = h.next_draft; next_lease = h.next_lease };
+          found = tt;
+        })
 
     follows_leaves : (c : Course) (n : ℕ) (s : Stand) → Keeps c n s → (entries : List Entry) (st : State) → Legal settings st entries
         → Holding before s.draft s.lease st.yard → (old new : Outside) (end : Option End) → Follows tells c entries old new end → Leaves settings before entries st
@@ -57,7 +60,7 @@ module _ (tells : Type 0) (settings : Settings) where
     follows_leaves (asks command next) zero s k (e ∷ entries) st legal h old new end f = absurd k
     follows_leaves (asks command next) (suc n) s k [] st legal h old new end f = absurd f
     follows_leaves (asks command next) (suc n) s k (e ∷ entries) st legal h old new end f =
-        let now = step before drawn settings s st e.command e.moment e.reply e.faults (subst (λ c. MayAsk c s) (sym f.0) k.0) h legal.0 in
+        let now = step before settings s st e.command e.moment e.reply e.faults (subst (λ c. MayAsk c s) (sym f.0) k.0) h legal.0 in
         let held = subst (λ c. Holding before (stand_after c e.reply s).draft (stand_after c e.reply s).lease (after settings st e).yard) f.0 now.0 in
         let rest = follows_leaves (next e.reply) n (stand_after command e.reply s) (k.1 e.reply) entries (after settings st e) legal.1 held old new end f.1 in
         record { nothing = rest.nothing; found = (now.1, rest.found) }
@@ -68,11 +71,11 @@ module _ (tells : Type 0) (settings : Settings) where
     follows_leaves (says said close next) n s k entries st legal h old new end f = ended s entries st k.0 h f.0
     follows_leaves (stops next) n s k entries st legal h old new end f = ended s entries st k.0 h f.0
 
-  turn_leaves : (last : Bool) (entries : List Entry) (st : State) → IsDrawn st.yard → Legal settings st entries → (old new : Outside) (end : Option End)
+  turn_leaves : (last : Bool) (entries : List Entry) (st : State) → Legal settings st entries → (old new : Outside) (end : Option End)
       → Turn tells last entries old new end → Leaves settings st.yard entries st
-  turn_leaves last entries st drawn legal old new end t =
-      follows_leaves st.yard drawn t.0 3 (standing (opened_early t.2)) (opens-keeps last old t.1 t.0 t.2) entries st legal
-      (record { drafts = refl; leases = refl; next_draft = omega arith; next_lease = omega arith }) t.1 new end t.3
+  turn_leaves last entries st legal old new end t =
+      follows_leaves st.yard t.0 3 (standing (opened_early t.2)) (opens-keeps last old t.1 t.0 t.2) entries st legal
+      (record { drafts = λ drawn. refl; leases = λ drawn. refl; next_draft = omega arith; next_lease = omega arith }) t.1 new end t.3
 
   pub end_append : (x : State) (xs ys : List Entry) → end_of settings x (xs ++ ys) ≡ end_of settings (end_of settings x xs) ys
   end_append x [] ys = refl
@@ -86,21 +89,22 @@ module _ (tells : Type 0) (settings : Settings) where
   all_append P [] ys all more = more
   all_append P (x ∷ xs) ys all more = (all.0, all_append P xs ys all.1 more)
 
-  pub serves_leaves : (n : ℕ) (entries : List Entry) (st : State) → IsDrawn st.yard → Legal settings st entries → (old new : Outside) (end : End)
+  pub serves_leaves : (n : ℕ) (entries : List Entry) (st : State) → Legal settings st entries → (old new : Outside) (end : End)
       → Serves tells n entries old new end → Leaves settings st.yard entries st
   unfolding Serves
-  serves_leaves zero entries st drawn legal old new end t =
-      subst (λ (es : List Entry). Leaves settings st.yard es st) (sym t.0) (record { nothing = stays st.yard; found = tt })
-  serves_leaves (suc left) entries st drawn legal old new end (inl turn) = turn_leaves (left == 0) entries st drawn legal old new (Some end) turn
-  serves_leaves (suc left) entries st drawn legal old new end (inr t) =
+  serves_leaves zero entries st legal old new end t =
+      subst (λ (es : List Entry). Leaves settings st.yard es st) (sym t.0) (record { nothing = λ drawn. stays st.yard; found = tt })
+  serves_leaves (suc left) entries st legal old new end (inl turn) = turn_leaves (left == 0) entries st legal old new (Some end) turn
+  serves_leaves (suc left) entries st legal old new end (inr t) =
       let all = subst (λ (es : List Entry). Legal settings st es) t.3 legal in
       let cut = legal_cut st t.0 t.1 all in
       let mid = end_of settings st t.0 in
-      let first = turn_leaves (left == 0) t.0 st drawn cut.0 old t.2 None t.4 in
-      let rest = serves_leaves left t.1 mid (still_drawn st.yard mid.yard first.nothing drawn) cut.1 t.2 new end t.5 in
+      let first = turn_leaves (left == 0) t.0 st cut.0 old t.2 None t.4 in
+      let rest = serves_leaves left t.1 mid cut.1 t.2 new end t.5 in
       subst (λ (es : List Entry). Leaves settings st.yard es st) (sym t.3)
       (record {
-        nothing = subst (λ (x : State). LeavesNothing st.yard x.yard) (sym (end_append st t.0 t.1))
-            (both_left st.yard mid.yard (end_of settings mid t.1).yard first.nothing rest.nothing);
+        nothing = λ drawn. let left_so = first.nothing drawn in
+            subst (λ (x : State). LeavesNothing st.yard x.yard) (sym (end_append st t.0 t.1))
+            (both_left st.yard mid.yard (end_of settings mid t.1).yard left_so (rest.nothing (still_drawn st.yard mid.yard left_so drawn)));
         found = all_append (λ (e : Entry). e.reply ≢ no_draft) t.0 t.1 first.found rest.found;
       })

@@ -46,14 +46,15 @@ stands_last n (m ∷ ms) = rw (stands_last n ms) (or-true (m == n))
     or-true true = refl
     or-true false = refl
 
--- the draft and the lease that a course holds stand behind those that stood before it
+-- the draft and the lease that a course holds stand behind those that stood before it, if these are below the next ones to draw
 abbrev pub OwnDraft : Yard → Option ℕ → List ℕ → Type 0
-OwnDraft before None drafts = drafts ≡ before.drafts
-OwnDraft before (Some n) drafts = (drafts ≡ before.drafts ++ n ∷ []) × (before.next_draft ≤ n)
+OwnDraft before None drafts = IsDrawn before → drafts ≡ before.drafts
+OwnDraft before (Some n) drafts = (IsDrawn before → drafts ≡ before.drafts ++ n ∷ []) × (before.next_draft ≤ n) × (is_among n drafts ≡ true)
 
 abbrev pub OwnLease : Yard → Option ℕ → List Lease → Type 0
-OwnLease before None leases = leases ≡ before.leases
-OwnLease before (Some n) leases = (blob : ℕ) × (leases ≡ before.leases ++ record { number = n; blob = blob } ∷ []) × (before.next_lease ≤ n)
+OwnLease before None leases = IsDrawn before → leases ≡ before.leases
+OwnLease before (Some n) leases =
+    (blob : ℕ) × (IsDrawn before → leases ≡ before.leases ++ record { number = n; blob = blob } ∷ []) × (before.next_lease ≤ n)
 
 pub record Holding (before : Yard) (draft lease : Option ℕ) (now : Yard) : Type 0 where
   pub drafts : OwnDraft before draft now.drafts
@@ -65,7 +66,7 @@ pub record Holding (before : Yard) (draft lease : Option ℕ) (now : Yard) : Typ
 abbrev done_by : Turn → List Effect
 done_by t = if is_free t.reply then [] else t.effects
 
-module _ (before : Yard) (drawn : IsDrawn before) where
+module _ (before : Yard) where
   abbrev pub Holds : Stand → Yard → Type 0
   Holds s now = Holding before s.draft s.lease now
 
@@ -82,7 +83,7 @@ module _ (before : Yard) (drawn : IsDrawn before) where
         | false ↦ (
           record {
             drafts = h.drafts;
-            leases = (blob.number, ap (λ ls. ls ++ record { number = next; blob = blob.number } ∷ []) leases, h.next_lease);
+            leases = (blob.number, λ drawn. ap (λ ls. ls ++ record { number = next; blob = blob.number } ∷ []) (leases drawn), h.next_lease);
             next_draft = h.next_draft;
             next_lease = let here = h.next_lease in omega arith;
           },
@@ -101,7 +102,7 @@ module _ (before : Yard) (drawn : IsDrawn before) where
         | true ↦ (h, λ is. cc)
         | false ↦ (
           record {
-            drafts = (ap (λ ns. ns ++ next ∷ []) drafts, h.next_draft);
+            drafts = (λ drawn. ap (λ ns. ns ++ next ∷ []) (drafts drawn), h.next_draft, stands_last next st.yard.drafts);
             leases = h.leases;
             next_draft = let here = h.next_draft in omega arith;
             next_lease = h.next_lease;
@@ -121,26 +122,26 @@ module _ (before : Yard) (drawn : IsDrawn before) where
 
   -- a draft that is held is there, and may be given up
   own-there : (n : ℕ) (now : Yard) → OwnDraft before (Some n) now.drafts → is_among n now.drafts ≡ true
-  own-there n now own = ap (is_among n) own.0 ∙ stands_last n before.drafts
+  own-there n now own = own.2
 
-  own-gone : (n : ℕ) (now : Yard) → OwnDraft before (Some n) now.drafts → filter (λ m. not (m == n)) now.drafts ≡ before.drafts
-  own-gone n now own =
-      ap (filter (λ m. not (m == n))) own.0 ∙ taken_away (λ (m : ℕ). m) before.next_draft n n before.drafts refl own.1 drawn.drafts
+  own-gone : (n : ℕ) (now : Yard) → OwnDraft before (Some n) now.drafts → IsDrawn before → filter (λ m. not (m == n)) now.drafts ≡ before.drafts
+  own-gone n now own drawn =
+      ap (filter (λ m. not (m == n))) (own.0 drawn) ∙ taken_away (λ (m : ℕ). m) before.next_draft n n before.drafts refl own.1 drawn.drafts
 
   given-up : (s : Stand) (n : ℕ) (now later : Yard) → s.draft ≡ Some n → Holds s now → later.drafts ≡ filter (λ m. not (m == n)) now.drafts
       → later.leases ≡ now.leases → later.next_draft ≡ now.next_draft → later.next_lease ≡ now.next_lease → Holding before None s.lease later
   given-up s n now later is h drafts leases next_draft next_lease =
       let own : OwnDraft before (Some n) now.drafts = subst (λ d. OwnDraft before d now.drafts) is h.drafts in
       record {
-        drafts = drafts ∙ own-gone n now own;
+        drafts = λ drawn. drafts ∙ own-gone n now own drawn;
         leases = keep s.lease h.leases;
         next_draft = let here = h.next_draft in omega arith;
         next_lease = let here = h.next_lease in omega arith;
       }
     where
       keep : (lease : Option ℕ) → OwnLease before lease now.leases → OwnLease before lease later.leases
-      keep None own = leases ∙ own
-      keep (Some lease) own = (own.0, leases ∙ own.1, own.2)
+      keep None own = λ drawn. leases ∙ own drawn
+      keep (Some lease) own = (own.0, λ drawn. leases ∙ own.1 drawn, own.2)
 
   put-goes : (s : Stand) (st : State) (repo path : List ℕ) (n : ℕ) (blob : Blob) (moment : ℕ) → s.draft ≡ Some n → blob.number ≡ n → Holds s st.yard → (found : Option Row)
       → Goes (λ r. has_put r s) st (put_at repo path n blob moment found)
@@ -177,7 +178,7 @@ module _ (before : Yard) (drawn : IsDrawn before) where
       let own : OwnLease before (Some lease) st.yard.leases = subst (λ l. OwnLease before l st.yard.leases) is h.leases in (
         record {
           drafts = h.drafts;
-          leases = ap (filter (λ (l : Lease). not (l.number == lease))) own.1
+          leases = λ drawn. ap (filter (λ (l : Lease). not (l.number == lease))) (own.1 drawn)
               ∙ taken_away (λ (l : Lease). l.number) before.next_lease lease (record { number = lease; blob = own.0 }) before.leases refl own.2 drawn.leases;
           next_draft = h.next_draft;
           next_lease = h.next_lease;

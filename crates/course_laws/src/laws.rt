@@ -1,4 +1,4 @@
-ghost use Rattle.std.specs.Prelude.{◌≡◌, ◌≢◌, ◌⊎◌, ℕ, ◌*◌, ◌≤◌, Bool, length, List, ◌++◌, Option};
+ghost use Rattle.std.specs.Prelude.{◌≡◌, ◌≢◌, ◌⊎◌, ℕ, ◌*◌, ◌≤◌, Bool, length, List, ◌++◌, Option, Some};
 ghost use Rattle.std.specs.List.{AllByRecursion};
 ghost use Rattle.outside.specs.Moments.{Moments};
 ghost use Rattle.http_wire.specs.Head.{Head};
@@ -13,7 +13,7 @@ ghost use Rattle.repo_model.specs.State.{State, opening};
 ghost use Rattle.course_laws.specs.AsPlayed.{BeginsAt, IsAsPlayed, IsPlayedUpTo, NoFaults, RowsTold, StoodStill, WantedMemory};
 ghost use Rattle.course_laws.specs.Complete.{IsComplete};
 ghost use Rattle.course_laws.specs.Endings.{EndsByCause};
-ghost use Rattle.course_laws.specs.Faultless.{play_stream};
+ghost use Rattle.course_laws.specs.Faultless.{first_scene, play_stream};
 ghost use Rattle.course_laws.specs.Worked.{IsAnswered, abc_200, bad_head_400, created_201, delete, last_get, not_there_404, nothing_200, put_abc, put_nothing, same_200, taken_409};
 ghost use Rattle.course_laws.specs.LeftBehind.{IsDrawn, LeavesNothing};
 
@@ -42,7 +42,7 @@ pub fn nothing_is_left_behind<H: Held>()
 
 /// A stream that is served alone finds each draft of its own: no call of it is answered NoDraft.
 pub fn own_drafts_are_there<H: Held>()
-    ensures { (settings : Settings) (n : ℕ) (entries : List Entry) (start : State) (old new : Outside) (ending : End) → IsDrawn start.yard
+    ensures { (settings : Settings) (n : ℕ) (entries : List Entry) (start : State) (old new : Outside) (ending : End)
         → Legal settings start entries → Serves (AllTell H.bytes) n entries old new ending → AllByRecursion (λ (e : Entry). e.reply ≢ no_draft) entries }
 {}
 
@@ -81,6 +81,18 @@ pub fn faultless_is_played<H: Held>()
 /// Before its first turn a repository has no files, so each file that stands there is told.
 pub fn first_files_are_told()
     ensures { (settings : Settings) (clock : Option Moments) → RowsTold (opening settings clock) }
+{}
+
+/// The first stream of a repository, where no blob failed and the records did not: it has taken what is played, up to some
+/// place, and that is a function of the settings, the clock's moments and the input.
+pub fn first_stream_is_played<H: Held>()
+    ensures { (settings : Settings) → AllTell H.bytes →
+        (n : ℕ) (entries : List Entry) (clock : Moments) (old new : Outside) (ending : End) (input before : List ℕ) →
+        let start = opening settings (Some clock) in
+        Legal settings start entries → StoodStill 0 (end settings start entries).faults →
+        old.input ≡ Some input → old.output ≡ Some before → StoodStill old.blob_faults new.blob_faults →
+        Serves (AllTell H.bytes) n entries old new ending →
+        IsPlayedUpTo before (play_stream settings n (first_scene settings (Some clock) input)) old new ending }
 {}
 
 /// What a stream without faults has taken is a function of the machine's state, the clock's moments in it, and the input:

@@ -75,7 +75,8 @@ module _ (tells : Type 0) where
       let served = subst (λ (input : Option (List ℕ)). Serves tells TURNS entries (outside_at input old faults) after ending) (nothing_held old.left) begun in
       let alone = core_alone entries (opened clock) core made in
       let drawn : IsDrawn (opened clock).state.yard = record { drafts = tt; leases = tt } in
-      let left = serves_leaves tells releases_alone TURNS entries (opened clock).state drawn alone.legal before after ending served in
+      let left = serves_leaves tells releases_alone TURNS entries (opened clock).state alone.legal before after ending served in
+      let nothing = left.nothing drawn in
       let yard = ap (λ (s : State). s.yard) alone.ends in
       let none = sym (ap (λ (s : State). s.faults) alone.ends) ∙ no_records entries (opened clock) core refl made in
       let stood : StoodStill 0 (end releases_alone (opening releases_alone clock) entries).faults = (none, omega (arith, none)) in
@@ -90,7 +91,7 @@ module _ (tells : Type 0) where
         clock_is = clock-is;
         counted = all-counted core.calls (length entries) (core_counted entries (opened clock) core (omega arith) made)
             (serves_few tells TURNS entries before after ending served);
-        nothing_left = (ap (λ y. y.drafts) yard ∙ left.nothing.drafts, ap (λ y. y.leases) yard ∙ left.nothing.leases);
+        nothing_left = (ap (λ y. y.drafts) yard ∙ nothing.drafts, ap (λ y. y.leases) yard ∙ nothing.leases);
         drafts_found = left.found;
         ends = serves_shows tells TURNS entries before after ending served;
         played = λ moments input taken told calm.
