@@ -69,7 +69,7 @@ free-none settings s e free = ap (λ b. if b then [] else (turn settings s e.mom
 due-all : (settings : Settings) (s : State) (e : Entry) → is_free e.reply ≡ false → effects_of settings s e ≡ (turn settings s e.moment e.command).effects
 due-all settings s e bound = ap (λ b. if b then [] else (turn settings s e.moment e.command).effects) bound
 
-no-free : (settings : Settings) (s : State) (now : ℕ) (c : Command) → is_free (turn settings s now c).reply ≡ false
+pub no-free : (settings : Settings) (s : State) (now : ℕ) (c : Command) → is_free (turn settings s now c).reply ≡ false
 no-free settings s now c = free-case c (turn settings s now c) (turn-case settings s now c) where
   free-case : (c : Command) (t : Turn) → Case settings s now c t → is_free t.reply ≡ false
   free-case c t (unlists repo h) = refl

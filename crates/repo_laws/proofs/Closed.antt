@@ -1,7 +1,7 @@
 -- Each file that a served document names is answered up to the grace after that moment.
 use native.Mathlib.Omega.{arith}
 use Rattle.std.proofs.Common.{◌≡◌, ◌≤◌, ◌+◌, ℕ, Bool, true, false, not, ◌&&◌, List, [], ◌∷◌, length, Option, Some, None, Ok, Err, refl, sym, ◌∙◌, ap, subst, eqb-true, option_map}
-use Rattle.std.specs.Prelude.{◌==◌, if◌then◌else◌, is_some}
+use Rattle.std.specs.Prelude.{◌==◌, if◌then◌else◌, is_some, IsTrue}
 use Rattle.std.specs.List.{AllByRecursion}
 use Rattle.std.proofs.lemmas.Bool.{false≢true, and_parts}
 use Rattle.mvn_coords.specs.Kind.{kind}
@@ -127,6 +127,21 @@ module _ (settings : Settings) (apart : AreNamedApart settings.hosted) where
       let rises : s.last ≤ e.moment = moment-rises s e.moment legal.0.moment in
       let (answered, then_too) = answers-up-to entries (after settings s e) t repo path blob (sound-entry settings apart s e legal.0 sound) legal.1
       (in-time-entry s e t repo path blob legal.0 sound in_time) in
+      (((λ late. answers settings s e t repo path blob c legal.0 kind_is (stands (omega (arith, rises, late)))), answered), then_too)
+
+  -- the same from a state whose last moment may be earlier, as after a start, where the entries begin no earlier than a moment up to which it is known
+  pub answers-again : (e : Entry) (entries : List Entry) (s : State) (m t : ℕ) (repo path : List ℕ) (blob : Blob) → Sound settings s → Legal settings s (e ∷ entries) → m ≤ e.moment
+      → IsTrue (is_file_path path) → t ≤ m → (m ≤ t + settings.grace → Stands path blob t (rows_of repo s))
+      → AnswersUpTo (t + settings.grace) repo path blob settings s (e ∷ entries) × InTime t repo path blob (end settings s (e ∷ entries))
+  answers-again e entries s m t repo path blob sound legal rises is_file_too early stands =
+      let (c, kind_is) = kind-of-file path is_file_too in
+      let last_is = last-then s e in
+      let then_in : InTime t repo path blob (after settings s e) = (
+        is_file_too,
+        omega (arith, early, rises, last_is),
+        (λ late. stands-entry s e t repo path blob legal.0 sound (omega (arith, early, rises)) (omega (arith, late, last_is)) (stands (omega (arith, late, last_is, rises)))),
+      ) in
+      let (answered, then_too) = answers-up-to entries (after settings s e) t repo path blob (sound-entry settings apart s e legal.0 sound) legal.1 then_in in
       (((λ late. answers settings s e t repo path blob c legal.0 kind_is (stands (omega (arith, rises, late)))), answered), then_too)
 
   -- what a document names as it is served stands in time behind that entry

@@ -1,12 +1,12 @@
--- Worked histories: builds that fade, are read, go, and are listed again; sessions that are committed or refused.
+-- Worked histories: builds that fade, are read, go, and are listed again; sessions that are committed or refused; what is sent or staged once more.
 use Rattle.std.specs.Prelude.{ℕ, List, [], ◌∷◌, ◌++◌, map, codes}
 use Rattle.std.specs.List.{range_with_len}
 use Rattle.repo_model.specs.declared.session.SessionResult.TheVariants.{Aborted, Done}
 use Rattle.repo_model.specs.Data.{repository, session}
-use Rattle.repo_model.specs.Command.{look, done, may_put, put, open_session, stage, commit, abort, unlist, collect, status}
-use Rattle.repo_model.specs.Reply.{file, missed, given_back, draft, created, relisted, opened, sessions_full, no_session, staged, offends, missing_pom, ended, unlisted, collected, counts}
+use Rattle.repo_model.specs.Command.{look, done, may_put, put, put_side, put_doc, drop_draft, open_session, stage, commit, abort, unlist, collect, status}
+use Rattle.repo_model.specs.Reply.{file, text, missed, given_back, kind_refused, draft, no_draft, taken, same, created, relisted, not_there, differs, agreed, noted, dropped, opened, sessions_full, no_session, staged, offends, missing_pom, ended, unlisted, collected, counts}
 use Rattle.repo_model.specs.History.{Entry}
-use Rattle.repo_laws.specs.Worked.{abc, letter_a, nothing, print_of_abc, print_of_nothing, at, snapshots, releases, jar_1, pom_1, pom_2, release_jar, next_jar, next_pom, later_jar}
+use Rattle.repo_laws.specs.Worked.{abc, letter_a, nothing, print_of_abc, print_of_a, print_of_nothing, sha1_of_abc, sha1_of_nothing, sha1_text_of_abc, at, snapshots, releases, jar_1, pom_1, pom_2, jar_3, release_jar, release_pom, release_sources, other_jar, next_jar, next_pom, later_jar, sha1_file, artifact_document}
 
 -- a build's jar and pom, and the pom of a newer build
 abbrev pub two_builds : List Entry
@@ -104,4 +104,88 @@ refused =
     ∷ at 4000 (commit 999) no_session
     ∷ opens_each (range_with_len 2 63)
     ++ at 4000 (open_session releases) sessions_full
+    ∷ []
+
+-- what is sent once more: a file, another content in its place, side files that agree, differ or have no file, a document
+abbrev pub sent_again : List Entry
+sent_again =
+    at 1709208000 (may_put (repository releases) jar_1) kind_refused
+    ∷ at 1709208000 (may_put (repository snapshots) release_jar) kind_refused
+    ∷ at 1709208000 (may_put (repository releases) release_jar) (draft 1)
+    ∷ at 1709208000 (put releases release_jar 1 (abc 1)) created
+    ∷ at 1709208000 (put releases release_jar 1 (abc 1)) no_draft
+    ∷ at 1709208000 (may_put (repository releases) release_jar) (draft 2)
+    ∷ at 1709208010 (put releases release_jar 2 (abc 2)) same
+    ∷ at 1709208010 (may_put (repository releases) release_jar) (draft 3)
+    ∷ at 1709208010 (put releases release_jar 3 (nothing 3)) (taken print_of_abc print_of_nothing)
+    ∷ at 1709208010 (put_side (repository releases) (sha1_file release_jar) sha1_of_abc) agreed
+    ∷ at 1709208010 (put_side (repository releases) (sha1_file release_jar) sha1_of_nothing) (differs sha1_of_nothing sha1_of_abc)
+    ∷ at 1709208010 (put_side (repository releases) (sha1_file next_jar) sha1_of_abc) not_there
+    ∷ at 1709208010 (put_side (repository releases) (sha1_file artifact_document) sha1_of_nothing) agreed
+    ∷ at 1709208010 (put_doc (repository releases) artifact_document) noted
+    ∷ at 1709208010 (may_put (repository releases) other_jar) (draft 4)
+    ∷ at 1709208010 (put releases other_jar 4 (abc 4)) created
+    ∷ at 1709208010 (may_put (repository releases) next_jar) (draft 5)
+    ∷ at 1709208010 (drop_draft 5) dropped
+    ∷ at 1709208010 (drop_draft 5) dropped
+    ∷ at 1709208010 collect (collected 0 (2 ∷ 3 ∷ 5 ∷ []))
+    ∷ at 1709208010 (look releases release_jar []) (file 1 (abc 1))
+    ∷ at 1709208010 (look releases (sha1_file release_jar) []) (text sha1_text_of_abc)
+    ∷ []
+
+-- a build fades as a whole, behind the moment at which its last file was accepted, where its own directory has a newer one
+abbrev pub aged : List Entry
+aged =
+    at 980 (may_put (repository snapshots) jar_3) (draft 1)
+    ∷ at 980 (put snapshots jar_3 1 (abc 1)) created
+    ∷ at 990 (may_put (repository snapshots) pom_2) (draft 2)
+    ∷ at 990 (put snapshots pom_2 2 (abc 2)) created
+    ∷ at 1000 (may_put (repository snapshots) jar_1) (draft 3)
+    ∷ at 1000 (put snapshots jar_1 3 (abc 3)) created
+    ∷ at 1005 (may_put (repository snapshots) pom_1) (draft 4)
+    ∷ at 1005 (put snapshots pom_1 4 (abc 4)) created
+    ∷ at 1005 (unlist snapshots) (unlisted 0)
+    ∷ at 1006 (unlist releases) (unlisted 0)
+    ∷ at 1006 (unlist snapshots) (unlisted 2)
+    ∷ at 1006 status (counts 4 2 0 0 0)
+    ∷ at 1066 (look snapshots (sha1_file jar_1) []) (text sha1_text_of_abc)
+    ∷ at 1067 collect (collected 2 (3 ∷ 4 ∷ []))
+    ∷ at 1067 (look snapshots (sha1_file jar_1) []) missed
+    ∷ []
+
+-- what is staged once more; the first directory without its pom; a pom that is there already; what an ended session answers
+abbrev pub staged_again : List Entry
+staged_again =
+    at 5000 (may_put (repository releases) release_pom) (draft 1)
+    ∷ at 5000 (put releases release_pom 1 (letter_a 1)) created
+    ∷ at 5000 (open_session releases) (opened 1)
+    ∷ at 5000 (may_put (session 1) jar_1) kind_refused
+    ∷ at 5000 (may_put (session 1) release_sources) (draft 2)
+    ∷ at 5000 (stage 2 release_sources 2 (abc 2)) no_session
+    ∷ at 5000 (may_put (session 1) release_sources) (draft 3)
+    ∷ at 5000 (stage 1 release_sources 3 (abc 3)) staged
+    ∷ at 5000 (stage 1 release_sources 3 (abc 3)) no_draft
+    ∷ at 5000 (may_put (session 1) release_sources) (draft 4)
+    ∷ at 5000 (stage 1 release_sources 4 (abc 4)) same
+    ∷ at 5000 (may_put (session 1) release_sources) (draft 5)
+    ∷ at 5000 (stage 1 release_sources 5 (letter_a 5)) (taken print_of_abc print_of_a)
+    ∷ at 5000 (put_side (session 1) (sha1_file release_sources) sha1_of_abc) agreed
+    ∷ at 5000 (put_side (session 1) (sha1_file release_sources) sha1_of_nothing) (differs sha1_of_nothing sha1_of_abc)
+    ∷ at 5000 (put_side (session 1) (sha1_file release_pom) sha1_of_abc) not_there
+    ∷ at 5000 (put_doc (session 1) artifact_document) noted
+    ∷ at 5010 (commit 1) (ended (Done 1))
+    ∷ at 5010 (abort 1) (ended (Done 1))
+    ∷ at 5010 (put_doc (session 1) artifact_document) no_session
+    ∷ at 5010 (put_side (session 1) (sha1_file release_sources) sha1_of_abc) no_session
+    ∷ at 5010 (may_put (session 1) release_sources) no_session
+    ∷ at 5010 (look releases release_sources []) (file 1 (abc 3))
+    ∷ at 5020 (open_session releases) (opened 2)
+    ∷ at 5020 (may_put (session 2) later_jar) (draft 6)
+    ∷ at 5020 (stage 2 later_jar 6 (abc 6)) staged
+    ∷ at 5020 (may_put (session 2) next_jar) (draft 7)
+    ∷ at 5020 (stage 2 next_jar 7 (abc 7)) staged
+    ∷ at 5020 (commit 2) (missing_pom (codes "org/acme/lib/2.0"))
+    ∷ at 5020 (may_put (session 2) next_pom) (draft 8)
+    ∷ at 5020 (stage 2 next_pom 8 (letter_a 8)) staged
+    ∷ at 5020 (commit 2) (missing_pom (codes "org/acme/lib/3.0"))
     ∷ []

@@ -8,3 +8,4 @@ pub mod Numbered
 pub mod Items
 pub mod Staged
 pub mod Histories
+pub mod Faults

@@ -1,6 +1,8 @@
 -- Worked cases: their settings, blobs and paths, and what two directories' documents say.
-use Rattle.std.specs.Prelude.{ℕ, true, false, List, [], ◌∷◌, codes, Some, None}
+use Rattle.std.specs.Prelude.{ℕ, true, false, List, [], ◌∷◌, ◌++◌, codes, Some, None}
 use Rattle.mvn_coords.specs.Layout.{Directory}
+use Rattle.mvn_coords.specs.declared.fault.Side.TheVariants.{Sha1}
+use Rattle.mvn_digest.specs.Sides.{side_text}
 use Rattle.repo_model.specs.declared.print.Print.{Print}
 use Rattle.repo_model.specs.Data.{Blob}
 use Rattle.repo_model.specs.Settings.{Settings, daily}
@@ -49,13 +51,13 @@ abbrev pub shop : Settings
 shop = record {
   grace = 60;
   clean = 3600;
-  max_file = 1000;
+  max_file = 16777216;
   hosted =
       record { id = codes "releases"; releases = true; snapshots = false; keep_count = 1000; keep_days = 36500 }
       ∷ record { id = codes "snapshots"; releases = false; snapshots = true; keep_count = 1; keep_days = 0 }
       ∷ [];
   proxies =
-      record { id = codes "central"; host = codes "repo.test"; port = 8080; prefix = codes "/m2"; update = daily; negative_seconds = 300; allow = []; block = [] }
+      record { id = codes "central"; host = codes "repo.test"; port = 8080; prefix = codes "/m2"; update = daily; negative_seconds = 300; allow = codes "**" ∷ []; block = [] }
       ∷ [];
   groups = record { id = codes "public"; members = codes "releases" ∷ codes "snapshots" ∷ codes "central" ∷ [] } ∷ [];
 }
@@ -87,6 +89,35 @@ next_pom = codes "org/acme/lib/2.0/lib-2.0.pom"
 abbrev pub later_jar : List ℕ
 later_jar = codes "org/acme/lib/3.0/lib-3.0.jar"
 
+-- the digests that side files of these say
+abbrev pub sha1_of_abc : List ℕ
+sha1_of_abc = print_of_abc.digests.sha1
+
+abbrev pub sha1_text_of_abc : List ℕ
+sha1_text_of_abc = side_text Sha1 print_of_abc.digests
+
+abbrev pub sha1_of_nothing : List ℕ
+sha1_of_nothing = print_of_nothing.digests.sha1
+
+abbrev pub release_pom : List ℕ
+release_pom = codes "org/acme/lib/1.0/lib-1.0.pom"
+
+abbrev pub release_sources : List ℕ
+release_sources = codes "org/acme/lib/1.0/lib-1.0-sources.jar"
+
+abbrev pub other_jar : List ℕ
+other_jar = codes "org/other/lib/9.0/lib-9.0.jar"
+
+-- the newest of these builds, in another snapshot directory
+abbrev pub jar_3 : List ℕ
+jar_3 = codes "org/acme/lib/1.2-SNAPSHOT/lib-1.2-20240302.080000-3.jar"
+
+abbrev pub sha1_file : List ℕ → List ℕ
+sha1_file path = path ++ codes ".sha1"
+
+abbrev pub artifact_document : List ℕ
+artifact_document = codes "org/acme/lib/maven-metadata.xml"
+
 abbrev pub at : ℕ → Command → Reply → Entry
 at moment command reply = record { command = command; moment = moment; reply = reply; faults = 0 }
 
@@ -105,3 +136,6 @@ pom_text = codes "<?xml version=\"1.0\" encoding=\"UTF-8\"?>\n<metadata modelVer
 
 abbrev pub artifact_text : List ℕ
 artifact_text = codes "<?xml version=\"1.0\" encoding=\"UTF-8\"?>\n<metadata modelVersion=\"1.1.0\">\n  <groupId>org.acme</groupId>\n  <artifactId>lib</artifactId>\n  <versioning>\n    <latest>1.1-SNAPSHOT</latest>\n    <versions>\n      <version>1.1-SNAPSHOT</version>\n    </versions>\n    <lastUpdated>20240229120000</lastUpdated>\n  </versioning>\n</metadata>\n"
+
+abbrev pub release_text : List ℕ
+release_text = codes "<?xml version=\"1.0\" encoding=\"UTF-8\"?>\n<metadata modelVersion=\"1.1.0\">\n  <groupId>org.acme</groupId>\n  <artifactId>lib</artifactId>\n  <versioning>\n    <latest>1.0</latest>\n    <release>1.0</release>\n    <versions>\n      <version>1.0</version>\n    </versions>\n    <lastUpdated>20240229120000</lastUpdated>\n  </versioning>\n</metadata>\n"

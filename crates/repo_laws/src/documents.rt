@@ -1,5 +1,5 @@
 //! Each file that a served document names is answered up to the grace.
-ghost use Rattle.std.specs.Prelude.{◌≡◌, ℕ, ◌+◌, List, Result, Ok};
+ghost use Rattle.std.specs.Prelude.{◌≡◌, ℕ, ◌+◌, ◌≤◌, List, ◌∷◌, Result, Ok, IsTrue};
 ghost use Rattle.std.specs.List.{AllByRecursion};
 ghost use Rattle.mvn_coords.specs.Kind.{kind};
 ghost use Rattle.mvn_coords.specs.declared.kind.Kind.TheVariants.{Doc, DocSide};
@@ -12,16 +12,18 @@ ghost use Rattle.mvn_metadata.specs.Written as written;
 ghost use Rattle.repo_model.specs.Settings.{Settings};
 ghost use Rattle.repo_model.specs.Data.{Blob, Row};
 ghost use Rattle.repo_model.specs.State.{State, rows_of};
-ghost use Rattle.repo_model.specs.Command.{look};
+ghost use Rattle.repo_model.specs.Command.{look, is_file_path};
 ghost use Rattle.repo_model.specs.Reply.{doc, text};
 ghost use Rattle.mvn_digest.specs.Sides.{side_text};
 ghost use Rattle.repo_model.specs.History.{Entry, Fits, Legal, after, end};
+ghost use Rattle.repo_laws.specs.Laws.{Stands};
 ghost use Rattle.repo_laws.specs.Sound.{AreNamedApart, IsSound};
 ghost use Rattle.repo_laws.specs.Closed.{named, AnswersDocument, AnswersUpTo, StandsInTime, Closed};
 
 /// In every legal history from a sound state each file that a served document names is answered at its own address with its
 /// blob and digests, up to the grace after that moment, or memory is wanting, or no lease is left. It holds from any state on
-/// in which the file stands, so it can be carried across a restart.
+/// in which the file stands. After a start the last moment may be earlier than that of the document, so there it holds of entries
+/// that begin no earlier than the moment up to which the file is known to stand.
 pub fn served_names_are_answered()
     ensures history { (settings : Settings) (entries : List Entry) (s : State) → AreNamedApart settings.hosted → IsSound settings s
         → Legal settings s entries → Closed settings s entries }
@@ -31,6 +33,10 @@ pub fn served_names_are_answered()
     ensures from { (settings : Settings) (entries : List Entry) (s : State) (t : ℕ) (repo path : List ℕ) (blob : Blob) → AreNamedApart settings.hosted
         → IsSound settings s → Legal settings s entries → StandsInTime settings.grace t repo path blob s
         → AnswersUpTo (t + settings.grace) repo path blob settings s entries × StandsInTime settings.grace t repo path blob (end settings s entries) }
+    ensures again { (settings : Settings) (e : Entry) (entries : List Entry) (s : State) (m t : ℕ) (repo path : List ℕ) (blob : Blob) → AreNamedApart settings.hosted
+        → IsSound settings s → Legal settings s (e ∷ entries) → m ≤ e.moment → IsTrue (is_file_path path) → t ≤ m
+        → (m ≤ t + settings.grace → Stands path blob t (rows_of repo s))
+        → AnswersUpTo (t + settings.grace) repo path blob settings s (e ∷ entries) × StandsInTime settings.grace t repo path blob (end settings s (e ∷ entries)) }
 {}
 
 /// What is answered to a look at a document, or at a side file of one: the text of the document that the visible rows make, or

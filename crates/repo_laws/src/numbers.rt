@@ -4,7 +4,8 @@ ghost use Rattle.mvn_coords.specs.Kind.{kind};
 ghost use Rattle.outside.specs.Moments.{Moments};
 ghost use Rattle.repo_model.specs.Settings.{Settings};
 ghost use Rattle.repo_model.specs.Data.{Blob, repository, session};
-ghost use Rattle.repo_model.specs.State.{State, opening, rows_of, is_open, number_end, most_sessions};
+ghost use Rattle.repo_model.specs.State.{State, opening, rows_of, is_open, number_end, most_sessions, most_staged};
+ghost use Rattle.repo_model.specs.Purge.{most_rows};
 ghost use Rattle.repo_model.specs.Effect.{Effect, with_effect};
 ghost use Rattle.repo_model.specs.May.{May};
 ghost use Rattle.repo_model.specs.Command.{look, done, may_put, put, stage, drop_draft, open_session};
@@ -74,4 +75,11 @@ pub fn numbers_are_spent()
         ↔ (((blob : Blob) × (seen_at (rows_of repo s) path (kind path) ≡ is_file blob)) × (s.yard.next_lease ≡ number_end)) }
     ensures sessions { (settings : Settings) (s : State) (now : ℕ) (repo : List ℕ) →
         ((turn settings s now (open_session repo)).reply ≡ spent) ↔ ((count_by is_open s.sessions < most_sessions) × (s.yard.next_session ≡ number_end)) }
+{}
+
+/// The most sessions that are open, files that one of them stages, and rows of one turn.
+pub fn limits()
+    ensures sessions { most_sessions ≡ 64 }
+    ensures staged { most_staged ≡ 1_000 }
+    ensures rows { most_rows ≡ 1_000_000 }
 {}

@@ -1,5 +1,7 @@
 //! What replies say, and how far they are determined.
-ghost use Rattle.std.specs.Prelude.{false, true, ◌≡◌, ℕ, ◌≤◌, ◌↔◌, List, map, IsTrue, All};
+ghost use Rattle.std.specs.Prelude.{false, true, ◌≡◌, ℕ, ◌≤◌, ◌↔◌, min, max, List, Some, map, option_map, IsTrue, All};
+ghost use Rattle.outside.specs.Faults.{Rose};
+ghost use Rattle.outside.specs.Moments.{Moments, moments_after};
 ghost use Rattle.std.specs.List.Sorted.{IsNonDecreasing};
 ghost use Rattle.std.specs.List.{AllZip};
 ghost use Rattle.repo_model.specs.declared.print.Print.{Print};
@@ -8,9 +10,10 @@ ghost use Rattle.repo_model.specs.Data.{is_same_print};
 ghost use Rattle.repo_model.specs.State.{State};
 ghost use Rattle.repo_model.specs.Effect.{with_effects};
 ghost use Rattle.repo_model.specs.Command.{Command, done, drop_draft};
-ghost use Rattle.repo_model.specs.Reply.{given_back, dropped, is_free, can_get};
+ghost use Rattle.repo_model.specs.Reply.{given_back, dropped, store_fault, is_free, can_get};
 ghost use Rattle.repo_model.specs.Turn.{turn};
 ghost use Rattle.repo_model.specs.History.{Entry, Fits, Legal, effects_of, latest_moment, ticked, after, end};
+ghost use Rattle.repo_laws.specs.Faults.{is_store_fault, AsksRecords};
 ghost use Rattle.repo_laws.specs.Replies.{is_refusal, given_up, may_change_rows, AsksAlike, moments_of};
 
 /// The reply of a turn is one of those that its command can get.
@@ -53,6 +56,23 @@ pub fn moments_rise()
     ensures rising { (settings : Settings) (start : State) (entries : List Entry) → Legal settings start entries → IsNonDecreasing (moments_of start entries) }
     ensures capped { (settings : Settings) (start : State) (entries : List Entry) → Legal settings start entries → start.last ≤ latest_moment
         → All (λ moment. moment ≤ latest_moment) (moments_of start entries) }
+{}
+
+/// The records are said to have failed only where they were asked to commit and their count of faults rose; where they were
+/// asked and it rose, nothing else is replied.
+pub fn store_faults_have_a_cause()
+    ensures cause { (settings : Settings) (old : State) (e : Entry) → Fits settings old e → e.reply ≡ store_fault
+        → AsksRecords settings old e × Rose old.faults e.faults }
+    ensures others { (settings : Settings) (old : State) (e : Entry) → Fits settings old e → AsksRecords settings old e → is_store_fault e.reply ≡ false
+        → e.faults ≡ old.faults }
+{}
+
+/// Each turn reads the clock once: its moment is what the clock gives, up to the latest moment, but none before the last one.
+pub fn moments_are_the_clocks()
+    ensures told { (settings : Settings) (old : State) (e : Entry) (left : Moments) → Fits settings old e → old.clock ≡ Some left
+        → e.moment ≡ max old.last (min latest_moment left.next) }
+    ensures left { (settings : Settings) (old : State) (e : Entry) → (after settings old e).clock ≡ option_map moments_after old.clock }
+    ensures latest { latest_moment ≡ 253402207200 }
 {}
 
 /// Contents count as equal exactly where length and both digests are the same.

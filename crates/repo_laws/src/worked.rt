@@ -6,8 +6,8 @@ ghost use Rattle.mvn_metadata.specs.Written as written;
 ghost use Rattle.repo_model.specs.Document.{document};
 ghost use Rattle.repo_model.specs.State.{State, opening, rows_of};
 ghost use Rattle.repo_model.specs.History.{Entry, Legal, end};
-ghost use Rattle.repo_laws.specs.Worked.{shop, snapshots, artifact, builds, artifact_text, builds_text, pom_text};
-ghost use Rattle.repo_laws.specs.Histories.{two_builds, faded, purged, read_to_its_end, listed_again, still_there, deployed, refused};
+ghost use Rattle.repo_laws.specs.Worked.{shop, releases, snapshots, artifact, builds, artifact_text, builds_text, pom_text, release_text};
+ghost use Rattle.repo_laws.specs.Histories.{two_builds, faded, purged, read_to_its_end, listed_again, still_there, deployed, refused, sent_again, aged, staged_again};
 
 /// The worked histories are legal.
 pub fn worked_histories()
@@ -17,6 +17,9 @@ pub fn worked_histories()
     ensures listed_again { Legal shop (opening shop None) (listed_again ++ still_there) }
     ensures deployed { Legal shop (opening shop None) deployed }
     ensures refused { Legal shop (opening shop None) refused }
+    ensures sent_again { Legal shop (opening shop None) sent_again }
+    ensures aged { Legal shop (opening shop None) aged }
+    ensures staged_again { Legal shop (opening shop None) staged_again }
 {}
 
 /// The documents that they leave have these texts.
@@ -25,6 +28,8 @@ pub fn worked_documents()
     ensures artifact { option_map written.text (document artifact (rows_of snapshots (end shop (opening shop None) two_builds))) ≡ Some artifact_text }
     ensures faded { option_map written.text (document builds (rows_of snapshots (end shop (opening shop None) faded))) ≡ Some pom_text }
     ensures listed_again { option_map written.text (document builds (rows_of snapshots (end shop (opening shop None) listed_again))) ≡ Some builds_text }
+    ensures release { option_map written.text (document artifact (rows_of releases (end shop (opening shop None) sent_again))) ≡ Some release_text }
+    ensures none { document builds (rows_of releases (end shop (opening shop None) sent_again)) ≡ None }
 {}
 
 /// The civil time of a moment on a leap day.

@@ -18,3 +18,11 @@ returns-clause-faded c = refl
 pub returns-clause-listed_again : goal.returns-clause-listed_again
 unfolding parts_of civil_of year_from month_from
 returns-clause-listed_again c = refl
+
+pub returns-clause-release : goal.returns-clause-release
+unfolding parts_of civil_of year_from month_from
+returns-clause-release c = refl
+
+pub returns-clause-none : goal.returns-clause-none
+unfolding parts_of civil_of year_from month_from
+returns-clause-none c = refl

@@ -26,3 +26,15 @@ returns-clause-deployed c = search (rules, due)
 pub returns-clause-refused : goal.returns-clause-refused
 unfolding parts_of
 returns-clause-refused c = search (rules, due)
+
+pub returns-clause-sent_again : goal.returns-clause-sent_again
+unfolding parts_of
+returns-clause-sent_again c = search (rules, due)
+
+pub returns-clause-aged : goal.returns-clause-aged
+unfolding parts_of
+returns-clause-aged c = search (rules, due)
+
+pub returns-clause-staged_again : goal.returns-clause-staged_again
+unfolding parts_of
+returns-clause-staged_again c = search (rules, due)
