@@ -3,6 +3,8 @@
 #![tactic(auto)]
 
 #[cfg(test)]
+mod answers;
+#[cfg(test)]
 mod cores;
 #[cfg(test)]
 mod exchanges;
@@ -10,5 +12,3 @@ mod exchanges;
 mod lock_step;
 #[cfg(test)]
 mod runs;
-#[cfg(test)]
-mod texts;
