@@ -114,13 +114,8 @@ impl Bench {
 
     /// A look gives this text of a side file.
     pub fn expect_side(&self, rt: &impl Abort, path: &str, want: &[u8]) -> Result<(), Fail> {
-        match self.repo.look(path)? {
-            Some(Seen::Text(text)) => {
-                assert_eq!(rt; text.as_bytes(), want);
-                Ok(())
-            }
-            _ => Err("no side file")?,
-        }
+        assert!(rt; is_side(&self.repo.look(path)?, want));
+        Ok(())
     }
 
     /// A look gives this document.
@@ -138,5 +133,12 @@ impl Bench {
     pub fn expect_nothing(&self, rt: &impl Abort, path: &str) -> Result<(), Fail> {
         assert!(rt; self.repo.look(path)?.is_none());
         Ok(())
+    }
+}
+
+fn is_side(seen: &Option<Seen<'_, MemHeld>>, want: &[u8]) -> bool {
+    match seen {
+        Some(Seen::Text(text)) => text.as_bytes() == want,
+        _ => false,
     }
 }

@@ -1,3 +1,4 @@
 pub mod Desks
 pub mod Served
 pub mod Alone
+pub mod Drawn

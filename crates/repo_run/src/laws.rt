@@ -5,6 +5,9 @@ ghost use Rattle.repo_core.specs.Whole.{Whole};
 ghost use Rattle.repo_course.specs.declared.outcomes.End.{End};
 ghost use Rattle.repo_course.specs.Serving.{AllTell, Outside, Serves};
 ghost use Rattle.repo_model.specs.History.{Entry, Legal, end};
+ghost use Rattle.repo_model.specs.Settings.{Settings};
+ghost use Rattle.repo_model.specs.State.{State};
+ghost use Rattle.repo_laws.specs.Sound.{IsSound};
 ghost use Rattle.course_laws.specs.LeftBehind.{IsDrawn, LeavesNothing};
 ghost use Rattle.repo_run.specs.FirstConnection.{Makes};
 
@@ -23,4 +26,9 @@ pub fn turns_are_a_history()
 pub fn alone_nothing_is_left_behind<H: Held>()
     ensures { (n : ℕ) (entries : List Entry) (core core' : Whole) (old new : Outside) (ending : End) → IsDrawn core.state.yard →
         Makes core entries core' → Serves (AllTell H.bytes) n entries old new ending → LeavesNothing core.state.yard core'.state.yard }
+{}
+
+/// In a sound state, as the core keeps it, the drafts and the leases that stand are below the numbers to be drawn.
+pub fn sound_numbers_are_drawn()
+    ensures { (settings : Settings) (s : State) → IsSound settings s → IsDrawn s.yard }
 {}

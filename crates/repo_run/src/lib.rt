@@ -7,6 +7,6 @@ mod program;
 mod words;
 
 pub use actions::{Action, Wanted};
-pub use laws::{alone_nothing_is_left_behind, turns_are_a_history};
+pub use laws::{alone_nothing_is_left_behind, sound_numbers_are_drawn, turns_are_a_history};
 pub use program::{DONE, Desk, INPUT, NO_MEMORY, OUTPUT, REFUSED, Ran, core_of, run, serve_first};
 pub use words::wanted;
