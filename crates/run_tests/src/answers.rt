@@ -1,6 +1,6 @@
 // What is said, and the bytes of its answer.
 use repo_course::{Said, rendered};
-use std::test::{Fail, HostRuntime};
+use std::test::Fail;
 
 // What is said, whether it ends the connection, and the answer.
 static ANSWERS: [(Said, bool, &str); 11] = [
