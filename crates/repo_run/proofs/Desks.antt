@@ -12,3 +12,7 @@ pub first-set : {D : Type 0} (desks : List D) (old new : D) (R : D → D → Typ
     → FirstOnly R desks (set desks 0 new)
 first-set [] old new R some is related = absurd (omega arith)
 first-set (desk ∷ desks) old new R some is related = (subst (λ d. R d new) is related, refl)
+
+-- what relates the first desks so relates them otherwise too
+pub first-map : {D : Type 0} (R S : D → D → Type 0) → ((old new : D) → R old new → S old new) → (olds news : List D) → FirstOnly R olds news → FirstOnly S olds news
+first-map R S also (old ∷ olds) (new ∷ news) (related, same) = (also old new related, same)

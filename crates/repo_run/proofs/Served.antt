@@ -6,31 +6,25 @@ use Rattle.outside.specs.Moments.{Moments}
 use Rattle.outside.specs.Told.{in_front}
 use Rattle.repo_core.specs.Whole.{Whole}
 use Rattle.repo_model.specs.History.{Entry, Legal, end}
+use Rattle.repo_model.specs.Settings.{Settings}
 use Rattle.repo_model.specs.State.{State, opening}
 use Rattle.repo_course.specs.declared.limits.TheConstants.{TURNS}
 use Rattle.repo_course.specs.declared.outcomes.End.{End}
 use Rattle.repo_course.specs.declared.outcomes.End.TheVariants.{Closed, TornRequest, TurnLimit, SourceFault, SinkFault}
-use Rattle.repo_course.specs.Meets.{ServesReleases}
 use Rattle.repo_course.specs.Serving.{Serves}
 use Rattle.course_laws.specs.AsPlayed.{StoodStill}
 use Rattle.course_laws.specs.Endings.{EndsByCause}
 use Rattle.course_laws.specs.LeftBehind.{IsDrawn}
-use Rattle.course_laws.specs.Releases.{releases_alone, releases_rule}
 use Rattle.course_laws.proofs.Endings.{serves_few, serves_shows}
 use Rattle.course_laws.proofs.LeftBehind.{serves_leaves}
 use Rattle.course_laws.proofs.PlayedStream.{as-played, stream-upto}
 use Rattle.course_laws.proofs.Told.{opening-told}
 use Rattle.repo_run.proofs.Alone.{core_alone, core_counted, no_records}
 use Rattle.repo_run.specs.FirstConnection.{Makes, ServesFirst, port_failed, none_left, one_served}
-use Rattle.repo_run.specs.Replay.{AllTold, Finishes, IsReplayed, Replays, Reports, ReportsFirst, counts, opened}
+use Rattle.repo_run.specs.Replay.{AllTold, Finishes, IsReplayed, Reports, ReportsFirst, ServesWith, counts, opened}
 use Rattle.repo_run.specs.Replay as replay
 use Rattle.repo_run.specs.Status.{Counts, HasStatus, done, source_failed, sink_failed, out_failed, memory_wanted}
 use Rattle.repo_run.specs.Surroundings.{Connection, DeskState, Output, outside_at}
-
-pub opened-serves : (core : Whole) (clock : Option Moments) → core ≡ opened clock → ServesReleases core.settings
-opened-serves core clock is =
-    let found : ServesReleases releases_alone = (releases_rule, refl, refl) in
-    subst (λ (w : Whole). ServesReleases w.settings) (sym is) found
 
 same-counts : (old new : Connection) (out out' : Output) → new.read_faults ≡ old.read_faults → new.write_faults ≡ old.write_faults
     → out'.faults ≡ out.faults → counts new out' ≡ counts old out
@@ -64,22 +58,22 @@ pub nothing_held : (told : Option (List ℕ)) → in_front [] told ≡ told
 nothing_held None = refl
 nothing_held (Some bytes) = refl
 
-module _ (tells : Type 0) where
+module _ (tells : Type 0) (settings : Settings) where
   pub is-replayed : (clock clock' : Option Moments) (old new : Connection) (faults faults' : ℕ) (core : Whole) (held : List ℕ) (ending : End) (entries : List Entry)
-      → Makes (opened clock) entries core
-      → Serves tells TURNS entries (outside_at (in_front [] old.left) old faults) (outside_at (in_front held new.left) new faults') ending
-      → clock' ≡ core.state.clock → IsReplayed tells clock clock' old new faults faults' ending core.calls
+      → Makes (opened settings clock) entries core
+      → Serves settings tells TURNS entries (outside_at (in_front [] old.left) old faults) (outside_at (in_front held new.left) new faults') ending
+      → clock' ≡ core.state.clock → IsReplayed tells settings clock clock' old new faults faults' ending core.calls
   is-replayed clock clock' old new faults faults' core held ending entries made begun clock-is =
       let before = outside_at old.left old faults in
       let after = outside_at (in_front held new.left) new faults' in
-      let served = subst (λ (input : Option (List ℕ)). Serves tells TURNS entries (outside_at input old faults) after ending) (nothing_held old.left) begun in
-      let alone = core_alone entries (opened clock) core made in
-      let drawn : IsDrawn (opened clock).state.yard = record { drafts = tt; leases = tt } in
-      let left = serves_leaves tells releases_alone TURNS entries (opened clock).state alone.legal before after ending served in
+      let served = subst (λ (input : Option (List ℕ)). Serves settings tells TURNS entries (outside_at input old faults) after ending) (nothing_held old.left) begun in
+      let alone = core_alone entries (opened settings clock) core made in
+      let drawn : IsDrawn (opened settings clock).state.yard = record { drafts = tt; leases = tt } in
+      let left = serves_leaves tells settings TURNS entries (opened settings clock).state alone.legal before after ending served in
       let nothing = left.nothing drawn in
       let yard = ap (λ (s : State). s.yard) alone.ends in
-      let none = sym (ap (λ (s : State). s.faults) alone.ends) ∙ no_records entries (opened clock) core refl made in
-      let stood : StoodStill 0 (end releases_alone (opening releases_alone clock) entries).faults = (none, omega (arith, none)) in
+      let none = sym (ap (λ (s : State). s.faults) alone.ends) ∙ no_records entries (opened settings clock) core refl made in
+      let stood : StoodStill 0 (end settings (opening settings clock) entries).faults = (none, omega (arith, none)) in
       record {
         entries = entries;
         core = core;
@@ -89,33 +83,33 @@ module _ (tells : Type 0) where
         legal = alone.legal;
         state = alone.ends;
         clock_is = clock-is;
-        counted = all-counted core.calls (length entries) (core_counted entries (opened clock) core (omega arith) made)
-            (serves_few tells TURNS entries before after ending served);
+        counted = all-counted core.calls (length entries) (core_counted entries (opened settings clock) core (omega arith) made)
+            (serves_few tells settings TURNS entries before after ending served);
         nothing_left = (ap (λ y. y.drafts) yard ∙ nothing.drafts, ap (λ y. y.leases) yard ∙ nothing.leases);
         drafts_found = left.found;
-        ends = serves_shows tells TURNS entries before after ending served;
+        ends = serves_shows tells settings TURNS entries before after ending served;
         played = λ moments input taken told calm.
-            let start = opening releases_alone (Some moments) in
-            stream-upto releases_alone tells told.blobs_tell TURNS entries start
-            (subst (λ (c : Option Moments). Legal releases_alone (opening releases_alone c) entries) told.clock_is alone.legal)
-            (subst (λ (c : Option Moments). StoodStill 0 (end releases_alone (opening releases_alone c) entries).faults) told.clock_is stood)
+            let start = opening settings (Some moments) in
+            stream-upto settings tells told.blobs_tell TURNS entries start
+            (subst (λ (c : Option Moments). Legal settings (opening settings c) entries) told.clock_is alone.legal)
+            (subst (λ (c : Option Moments). StoodStill 0 (end settings (opening settings c) entries).faults) told.clock_is stood)
             before after ending input taken
-            (record { input_is = told.left_is; output_is = told.taken_is; rows = opening-told releases_alone (Some moments); clock = refl }) calm served;
+            (record { input_is = told.left_is; output_is = told.taken_is; rows = opening-told settings (Some moments); clock = refl }) calm served;
         faultless = λ moments input taken told calm.
-            let start = opening releases_alone (Some moments) in
-            as-played releases_alone tells told.blobs_tell TURNS entries start
-            (subst (λ (c : Option Moments). Legal releases_alone (opening releases_alone c) entries) told.clock_is alone.legal)
-            (subst (λ (c : Option Moments). StoodStill 0 (end releases_alone (opening releases_alone c) entries).faults) told.clock_is stood)
+            let start = opening settings (Some moments) in
+            as-played settings tells told.blobs_tell TURNS entries start
+            (subst (λ (c : Option Moments). Legal settings (opening settings c) entries) told.clock_is alone.legal)
+            (subst (λ (c : Option Moments). StoodStill 0 (end settings (opening settings c) entries).faults) told.clock_is stood)
             before after ending input taken
-            (record { input_is = told.left_is; output_is = told.taken_is; rows = opening-told releases_alone (Some moments); clock = refl }) calm served;
+            (record { input_is = told.left_is; output_is = told.taken_is; rows = opening-told settings (Some moments); clock = refl }) calm served;
       }
 
   module _ {X : Type 0} (connection_of : X → Connection) (clock clock' : Option Moments) (old new : DeskState X) (out out' : Output) (status : ℕ) where
     abbrev Replayed : Type 0
-    Replayed = Replays tells connection_of clock clock' old new out out' status
+    Replayed = ServesWith tells settings connection_of clock clock' old new out out' status
 
     -- what was served, with the line that tells it
-    pub replays : (core core' : Whole) (ended : Option End) → core ≡ opened clock → ServesFirst tells connection_of old new core core' ended
+    pub replays : (core core' : Whole) (ended : Option End) → core ≡ opened settings clock → ServesFirst tells settings connection_of old new core core' ended
         → clock' ≡ core'.state.clock → ReportsFirst ended core'.calls out out' status → Replayed
     replays core core' ended is (port_failed faults rose desk same ends) clock-is told =
         let last = subst (λ (e : Option End). ReportsFirst e core'.calls out out' status) ends told in

@@ -5,6 +5,7 @@ use Rattle.outside.specs.Told.{behind, in_front, IsAtEnd}
 use Rattle.repo_core.specs.Whole.{Whole}
 use Rattle.repo_core.specs.CoreTurn.{CoreTurn}
 use Rattle.repo_model.specs.History.{Entry}
+use Rattle.repo_model.specs.Settings.{Settings}
 use Rattle.repo_course.specs.Asking.{LeadsTo}
 use Rattle.repo_course.specs.declared.limits.TheConstants.{TURNS}
 use Rattle.repo_course.specs.declared.outcomes.End.{End}
@@ -17,12 +18,12 @@ abbrev pub Makes : Whole → List Entry → Whole → Type 0
 Makes old entries new = LeadsTo (λ (before : Whole) entry after. CoreTurn before.settings before entry after) old entries new
 
 -- What comes of it: the port fails, none is left, or one is served, of which the repository was in this state and is in that.
-pub data ServesFirst {X : Type 0} (tells : Type 0) (connection_of : X → Connection) (old new : DeskState X) (core core' : Whole) (result : Option End) : Type 0 where
+pub data ServesFirst {X : Type 0} (tells : Type 0) (settings : Settings) (connection_of : X → Connection) (old new : DeskState X) (core core' : Whole) (result : Option End) : Type 0 where
   port_failed : (faults : ℕ) → Rose old.port_faults faults → new ≡ record old { port_faults = faults } → core' ≡ core → result ≡ None
-      → ServesFirst tells connection_of old new core core' result
-  none_left : IsAtEnd old.left → new ≡ old → core' ≡ core → result ≡ Some Closed → ServesFirst tells connection_of old new core core' result
+      → ServesFirst tells settings connection_of old new core core' result
+  none_left : IsAtEnd old.left → new ≡ old → core' ≡ core → result ≡ Some Closed → ServesFirst tells settings connection_of old new core core' result
   one_served : (link link' : X) (left : Option (List X)) (held : List ℕ) (faults : ℕ) (ending : End) (entries : List Entry) → old.left ≡ in_front (link ∷ []) left
       → new ≡ record old { left = left; given_back = behind old.given_back (link' ∷ []); blob_faults = faults }
-      → Makes core entries core' → Serves tells TURNS entries
+      → Makes core entries core' → Serves settings tells TURNS entries
       (outside_at (in_front [] (connection_of link).left) (connection_of link) old.blob_faults) (outside_at (in_front held (connection_of link').left) (connection_of link') faults) ending
-      → result ≡ Some ending → ServesFirst tells connection_of old new core core' result
+      → result ≡ Some ending → ServesFirst tells settings connection_of old new core core' result

@@ -1,6 +1,7 @@
--- A replay: the first connection of a desk is served by a repository that begins empty, and given back.
+-- A replay: settings are read, the first connection of a desk is served by a repository of these that begins empty, and given back.
 use Rattle.std.specs.List.{AllByRecursion}
-use Rattle.std.specs.Prelude.{◌≡◌, ◌≢◌, ◌⊎◌, ℕ, List, [], ◌∷◌, length, Option, Some, None}
+use Rattle.std.specs.Prelude.{◌≡◌, ◌≢◌, ◌⊎◌, ℕ, List, [], ◌∷◌, length, Option, Some, None, Ok, Err, IfSome}
+use Rattle.std.specs.Option.{option_map}
 use Rattle.outside.specs.Faults.{Rose}
 use Rattle.outside.specs.Moments.{Moments}
 use Rattle.outside.specs.Told.{behind, in_front, IsAtEnd}
@@ -15,21 +16,23 @@ use Rattle.repo_course.specs.Serving.{Serves}
 use Rattle.course_laws.specs.AsPlayed.{IsAsPlayed, IsPlayedUpTo, NoFaults, StoodStill}
 use Rattle.course_laws.specs.Endings.{EndsByCause}
 use Rattle.course_laws.specs.Faultless.{Played, first_scene, play_stream}
-use Rattle.course_laws.specs.Releases.{releases_alone}
+use Rattle.repo_config.specs.Refusal.{IsFault, reading}
+use Rattle.repo_config.specs.declared.faults.SettingsFault.{SettingsFault}
+use Rattle.repo_model.specs.Settings.{Settings}
 use Rattle.repo_run.specs.declared.actions.Action.{Action}
 use Rattle.repo_run.specs.declared.actions.Action.TheVariants.{Replay, Nothing}
 use Rattle.repo_run.specs.FirstConnection.{Makes}
-use Rattle.repo_run.specs.Lines.{words_line, input_line, memory_line, ending_line}
+use Rattle.repo_run.specs.Lines.{words_line, input_line, memory_line, ending_line, fault_text, settings_line}
 use Rattle.repo_run.specs.Status.{HasStatus, Counts}
-use Rattle.repo_run.specs.Surroundings.{Connection, DeskState, Output, PrintsWhole, PrintsPart, Prints, outside_at}
+use Rattle.repo_run.specs.Surroundings.{Connection, DeskState, File, Output, PrintsWhole, PrintsPart, Prints, outside_at}
 
--- the repository before its first call, with these moments to come
-abbrev pub opened : Option Moments → Whole
-opened clock = record { settings = releases_alone; state = opening releases_alone clock; calls = 0 }
+-- the repository of these settings before its first call, with these moments to come
+abbrev pub opened : Settings → Option Moments → Whole
+opened settings clock = record { settings = settings; state = opening settings clock; calls = 0 }
 
--- what a connection is answered that gives these bytes, if nothing fails: a function of the moments and the bytes
-abbrev pub answers : Moments → List ℕ → Played End
-answers moments input = play_stream releases_alone TURNS (first_scene releases_alone (Some moments) input)
+-- what a connection is answered that gives these bytes, if nothing fails: a function of the settings, the moments and the bytes
+abbrev pub answers : Settings → Moments → List ℕ → Played End
+answers settings moments input = play_stream settings TURNS (first_scene settings (Some moments) input)
 
 -- all is told: the blobs' bytes, the clock's moments, the bytes that the connection gives, and those that it has taken
 pub record AllTold (tells : Type 0) (clock : Option Moments) (old : Connection) (moments : Moments) (input before : List ℕ) : Type 0 where
@@ -39,15 +42,15 @@ pub record AllTold (tells : Type 0) (clock : Option Moments) (old : Connection) 
   pub taken_is : old.taken ≡ Some before
 
 -- A connection is served by a repository that begins empty. Its calls, each once, in order and no other, are a legal history, as long as `calls`.
-pub record IsReplayed (tells : Type 0) (clock clock' : Option Moments) (old new : Connection) (faults faults' : ℕ) (ending : End) (calls : ℕ) : Type 0 where
+pub record IsReplayed (tells : Type 0) (settings : Settings) (clock clock' : Option Moments) (old new : Connection) (faults faults' : ℕ) (ending : End) (calls : ℕ) : Type 0 where
   pub entries : List Entry
   -- the repository in the end, and the bytes that were read ahead and not used
   pub core : Whole
   pub held : List ℕ
-  pub serves : Serves tells TURNS entries (outside_at old.left old faults) (outside_at (in_front held new.left) new faults') ending
-  pub made : Makes (opened clock) entries core
-  pub legal : Legal releases_alone (opening releases_alone clock) entries
-  pub state : core.state ≡ end releases_alone (opening releases_alone clock) entries
+  pub serves : Serves settings tells TURNS entries (outside_at old.left old faults) (outside_at (in_front held new.left) new faults') ending
+  pub made : Makes (opened settings clock) entries core
+  pub legal : Legal settings (opening settings clock) entries
+  pub state : core.state ≡ end settings (opening settings clock) entries
   pub clock_is : clock' ≡ core.state.clock
   pub counted : calls ≡ length entries
   -- no draft and no lease stands in the end, and no call was told that its draft is not there
@@ -56,11 +59,11 @@ pub record IsReplayed (tells : Type 0) (clock clock' : Option Moments) (old new 
   pub ends : EndsByCause ending (outside_at old.left old faults) (outside_at (in_front held new.left) new faults')
   -- where no blob failed, what was taken is what is answered if nothing fails, up to some place
   pub played : (moments : Moments) (input before : List ℕ) → AllTold tells clock old moments input before → StoodStill faults faults'
-      → IsPlayedUpTo before (answers moments input) (outside_at old.left old faults) (outside_at (in_front held new.left) new faults') ending
+      → IsPlayedUpTo before (answers settings moments input) (outside_at old.left old faults) (outside_at (in_front held new.left) new faults') ending
   -- and all of it where nothing failed
   pub faultless : (moments : Moments) (input before : List ℕ) → AllTold tells clock old moments input before
       → NoFaults (outside_at old.left old faults) (outside_at (in_front held new.left) new faults')
-      → IsAsPlayed before (answers moments input) new.taken ending
+      → IsAsPlayed before (answers settings moments input) new.taken ending
 
 -- a stream is over: its line, or the part of it that was printed, or that there was no memory for it
 abbrev pub Finishes : ℕ → End → Output → Output → ℕ → Type 0
@@ -80,27 +83,43 @@ abbrev pub ReportsFirst : Option End → ℕ → Output → Output → ℕ → T
 ReportsFirst (Some ending) calls old new status = Reports ending calls old new status
 ReportsFirst None calls old new status = Prints input_line old new × (status ≡ 6)
 
+-- why settings are refused, and that they are; or memory was wanting for the line, or for the reading itself
+abbrev pub Refuses : SettingsFault → Output → Output → ℕ → Type 0
+Refuses refusal old new status =
+    ((text : List ℕ) × (fault_text refusal ≡ Some text) × Prints (settings_line text) old new × (status ≡ 3))
+    ⊎ (Prints memory_line old new × (status ≡ 8))
+
 abbrev pub counts : Connection → Output → Counts
 counts c out = record { source = c.read_faults; sink = c.write_faults; out = out.faults }
 
--- A replay over a desk and a clock, and its line. `connection_of` is what a connection tells of itself.
-pub data Replays {X : Type 0} (tells : Type 0) (connection_of : X → Connection) (clock clock' : Option Moments) (old new : DeskState X) (out out' : Output) (status : ℕ) : Type 0 where
+-- A desk and a clock serve by settings, and a line tells it. `connection_of` is what a connection tells of itself.
+pub data ServesWith {X : Type 0} (tells : Type 0) (settings : Settings) (connection_of : X → Connection) (clock clock' : Option Moments) (old new : DeskState X) (out out' : Output) (status : ℕ) : Type 0 where
   -- memory was wanted before the port was asked
-  starved : new ≡ old → clock' ≡ clock → Prints memory_line out out' → status ≡ 8 → Replays tells connection_of clock clock' old new out out' status
+  starved : new ≡ old → clock' ≡ clock → Prints memory_line out out' → status ≡ 8 → ServesWith tells settings connection_of clock clock' old new out out' status
   port_failed : (faults : ℕ) → Rose old.port_faults faults → new ≡ record old { port_faults = faults } → clock' ≡ clock
-      → Prints input_line out out' → status ≡ 6 → Replays tells connection_of clock clock' old new out out' status
+      → Prints input_line out out' → status ≡ 6 → ServesWith tells settings connection_of clock clock' old new out out' status
   none_left : IsAtEnd old.left → new ≡ old → clock' ≡ clock → Reports Closed 0 out out' status
-      → Replays tells connection_of clock clock' old new out out' status
+      → ServesWith tells settings connection_of clock clock' old new out out' status
   -- the first connection was served, and given back in this state
   one_served : (link link' : X) (left : Option (List X)) (faults : ℕ) (ending : End) (calls : ℕ) → old.left ≡ in_front (link ∷ []) left
       → new ≡ record old { left = left; given_back = behind old.given_back (link' ∷ []); blob_faults = faults }
-      → IsReplayed tells clock clock' (connection_of link) (connection_of link') old.blob_faults faults ending calls
+      → IsReplayed tells settings clock clock' (connection_of link) (connection_of link') old.blob_faults faults ending calls
       → Reports ending calls out out' status → HasStatus (counts (connection_of link) out) (counts (connection_of link') out') status
-      → Replays tells connection_of clock clock' old new out out' status
+      → ServesWith tells settings connection_of clock clock' old new out out' status
+
+-- A replay, by what comes of reading its settings from a source: it fails, what it says is refused, or it says settings.
+pub data Replays {X : Type 0} (tells : Type 0) (connection_of : X → Connection) (source source' : File) (clock clock' : Option Moments) (old new : DeskState X) (out out' : Output) (status : ℕ) : Type 0 where
+  not_read : Rose source.faults source'.faults → new ≡ old → clock' ≡ clock → Prints input_line out out' → status ≡ 6
+      → Replays tells connection_of source source' clock clock' old new out out' status
+  refused : (refusal : SettingsFault) → source'.faults ≡ source.faults → IfSome source.left (λ text. IsFault (reading text) refusal) → new ≡ old → clock' ≡ clock
+      → Refuses refusal out out' status → Replays tells connection_of source source' clock clock' old new out out' status
+  accepted : (settings : Settings) → source'.faults ≡ source.faults → IfSome source.left (λ text. reading text ≡ Ok settings)
+      → ServesWith tells settings connection_of clock clock' old new out out' status
+      → Replays tells connection_of source source' clock clock' old new out out' status
 
 -- what a run does, by what its words ask for
-abbrev pub Runs : {X : Type 0} → Action → Type 0 → (X → Connection) → Option Moments → Option Moments → DeskState X → DeskState X → Output → Output → ℕ → Type 0
-Runs Replay tells connection_of clock clock' old new out out' status = Replays tells connection_of clock clock' old new out out' status
-Runs Nothing tells connection_of clock clock' old new out out' status =
-    (new ≡ old) × (clock' ≡ clock)
+abbrev pub Runs : {X : Type 0} → Action → Type 0 → (X → Connection) → File → File → Option Moments → Option Moments → DeskState X → DeskState X → Output → Output → ℕ → Type 0
+Runs Replay tells connection_of source source' clock clock' old new out out' status = Replays tells connection_of source source' clock clock' old new out out' status
+Runs Nothing tells connection_of source source' clock clock' old new out out' status =
+    (source' ≡ source) × (new ≡ old) × (clock' ≡ clock)
     × ((Prints words_line out out' × (status ≡ 2)) ⊎ (Prints memory_line out out' × (status ≡ 8)))

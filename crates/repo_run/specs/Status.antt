@@ -4,9 +4,9 @@ use Rattle.outside.specs.Faults.{Rose}
 use Rattle.repo_run.specs.declared.actions.Action.{Action}
 use Rattle.repo_run.specs.declared.actions.Action.TheVariants.{Replay, Nothing}
 
--- done, input, output or want of memory; and never 2
+-- done, settings that are refused, input, output or want of memory; and never 2
 abbrev pub IsStatusOfReplay : ℕ → Type 0
-IsStatusOfReplay status = (status ≡ 0) ⊎ ((status ≡ 6) ⊎ ((status ≡ 7) ⊎ (status ≡ 8)))
+IsStatusOfReplay status = (status ≡ 0) ⊎ ((status ≡ 3) ⊎ ((status ≡ 6) ⊎ ((status ≡ 7) ⊎ (status ≡ 8))))
 
 -- by what the words ask for; want of memory may stand in the place of a refusal
 abbrev pub MatchAction : Action → ℕ → Type 0

@@ -28,6 +28,14 @@ abbrev pub desk_state : {X : Type 0} → Option (List X) → Option (List X) →
 desk_state left given_back port_faults blob_faults =
     record { left = left; given_back = given_back; port_faults = port_faults; blob_faults = blob_faults }
 
+-- the source of the settings: the bytes that it has left, where told, and its count of faults
+pub record File : Type 0 where
+  pub left : Option (List ℕ)
+  pub faults : ℕ
+
+abbrev pub file : Option (List ℕ) → ℕ → File
+file left faults = record { left = left; faults = faults }
+
 -- what the lines of a run are printed on: the bytes that it has taken, and its count of faults
 pub record Output : Type 0 where
   pub taken : Option (List ℕ)

@@ -1,10 +1,16 @@
--- What the words of a command line ask for.
-use Rattle.std.specs.Prelude.{ℕ, List, [], ◌∷◌, if◌then◌else◌, codes}
-use Rattle.std.specs.Str.{bytes_eq}
+-- What the words of a command line ask for, as `clap` reads them.
+use Rattle.std.specs.Prelude.{ℕ, List, [], Option, Some, None}
+use Rattle.command_words.specs.Wanted.{wanted_of}
+use Rattle.command_words.specs.declared.wanted.Wanted as words
+use Rattle.command_words.specs.declared.wanted.Wanted.TheVariants as word
 use Rattle.repo_run.specs.declared.actions.Action.{Action}
 use Rattle.repo_run.specs.declared.actions.Action.TheVariants.{Replay, Nothing}
+use Rattle.repo_run.specs.declared.actions.Wanted.{Wanted}
 
--- the one word `replay`, and all else is refused
-abbrev pub action_of : List (List ℕ) → Action
-action_of (word ∷ []) = if bytes_eq word (codes "replay") then Replay else Nothing
-action_of words = Nothing
+-- words that are refused ask for nothing
+abbrev pub asked_by : Option words.Wanted → Wanted
+asked_by (Some (word.Replay settings at step)) = record { command = Replay; settings = settings; at = at; step = step }
+asked_by None = record { command = Nothing; settings = []; at = 0; step = 0 }
+
+abbrev pub asked : List (List ℕ) → Wanted
+asked words = asked_by (wanted_of words)

@@ -1,3 +1,5 @@
+use texts::Text;
+
 /// What the words of a command line ask for.
 #[derive(Clone, Copy, Debug, PartialEq, Eq)]
 pub enum Action {
@@ -7,8 +9,13 @@ pub enum Action {
     Nothing,
 }
 
-/// A command line that was read.
-#[derive(Clone, Copy, Debug, PartialEq, Eq)]
+/// A command line that was read. What the command does not have is empty or 0.
+#[derive(Drop)]
 pub struct Wanted {
     pub command: Action,
+    /// The path of the file with the settings.
+    pub settings: Text,
+    /// The moment at which the clock begins, in seconds since 1970 in UTC, and by how many seconds it goes on with each look.
+    pub at: u64,
+    pub step: u64,
 }

@@ -1,18 +1,46 @@
-//! Which action the words of the command line want.
+//! What the words of the command line ask for.
 ghost use Rattle.std.specs.Prelude.{◌≡◌, map, IfOk};
 ghost use Rattle.std.specs.String.{string_bytes};
-ghost use Rattle.repo_run.specs.Words.{action_of};
+ghost use Rattle.repo_run.specs.Words.{asked, asked_by};
 
 use crate::actions::{Action, Wanted};
+use command_words::{WordsFault, read_words};
 use outside::NoMemory;
+use std::alloc::{AllocError, Global};
+use texts::Text;
 
-/// Reads the words behind the program's name: the one word `replay`, and all else is refused.
-pub fn wanted(words: &[String]) -> Result<Wanted, NoMemory>
-    ensures { IfOk result (λ wanted. wanted.command ≡ action_of (map string_bytes words.now)) }
+fn nothing(alloc: Global) -> Wanted
+    ensures { result ≡ asked_by None }
 {
-    let command = match words {
-        [word] if word.as_str() == "replay" => Action::Replay,
-        _ => Action::Nothing,
-    };
-    Ok(Wanted { command })
+    Wanted {
+        command: Action::Nothing,
+        settings: Text::from_string(String::new(alloc)),
+        at: 0,
+        step: 0,
+    }
+}
+
+fn asked_by(words: command_words::Wanted) -> Wanted
+    ensures { result ≡ asked_by (Some words) }
+{
+    match words {
+        command_words::Wanted::Replay { settings, at, step } => Wanted {
+            command: Action::Replay,
+            settings,
+            at,
+            step,
+        },
+    }
+}
+
+/// Reads the words behind the program's name: `replay SETTINGS [--at T] [--step S]`, T up to 253402207200 and S up to 86400, and
+/// all else asks for nothing.
+pub fn wanted(alloc: Global, words: &[String]) -> Result<Wanted, NoMemory>
+    ensures { IfOk result (λ wanted. wanted ≡ asked (map string_bytes words.now)) }
+{
+    match read_words(alloc, words) {
+        Ok(words) => Ok(asked_by(words)),
+        Err(WordsFault::Refused) => Ok(nothing(alloc)),
+        Err(WordsFault::NoMemory) => Err(AllocError),
+    }
 }

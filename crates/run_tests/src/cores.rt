@@ -1,14 +1,15 @@
 // What is left in the core where something fails.
-ghost use Rattle.std.specs.Prelude.{IfOk};
-ghost use Rattle.repo_course.specs.Meets.{ServesReleases};
+ghost use Rattle.std.specs.Prelude.{◌≡◌, IfOk};
 
-use crate::exchanges::{GET_LAST, PLAIN, PUT_ABC, Parts, Script};
+use crate::exchanges::{PLAIN, Parts, SETTINGS, Script};
+use crate::literals::{GET_LAST, PUT_ABC};
 use crate::runs::desk_of;
 use outside::{MemHeld, ScriptClock};
+use repo_config::{Settings, read};
 use repo_core::Core;
 use repo_course::End;
 use repo_model::{Command, Reply};
-use repo_run::{core_of, serve_first};
+use repo_run::serve_first;
 use std::alloc::{AllocError, Global};
 use std::test::Fail;
 use texts::Text;
@@ -35,11 +36,20 @@ fn number_of(core: &mut MemCore, look: Command<MemHeld>) -> u64 {
     }
 }
 
-/// The core of `replay`, before its first call.
-pub fn opened(alloc: Global) -> Result<MemCore, AllocError>
-    ensures { IfOk result (λ core. ServesReleases core.settings) }
+/// The settings of the exchanges.
+pub fn settings(alloc: Global) -> Result<Settings, AllocError> {
+    match read(alloc, SETTINGS.as_bytes()) {
+        Ok(settings) => Ok(settings),
+        Err(_) => Err(AllocError),
+    }
+}
+
+/// A core of these settings, before its first call.
+pub fn opened(alloc: Global, settings: &Settings) -> Result<MemCore, AllocError>
+    ensures { IfOk result (λ core. core.settings ≡ settings.now) }
 {
-    match core_of(alloc, ScriptClock::stepping(alloc, 0, 0)) {
+    let own = settings.copied(alloc)?;
+    match Core::plain(alloc, own, ScriptClock::stepping(alloc, 0, 0)) {
         Ok(core) => Ok(core),
         Err((error, _)) => Err(error),
     }
@@ -52,8 +62,9 @@ fn served(
     script: Script,
 ) -> Result<(Option<End>, MemCore), AllocError> {
     let mut desk = desk_of(alloc, input, script, 4096)?;
-    let mut core = opened(alloc)?;
-    let end = serve_first(alloc, &mut desk, &mut core);
+    let settings = settings(alloc)?;
+    let mut core = opened(alloc, &settings)?;
+    let end = serve_first(alloc, &settings, &mut desk, &mut core);
     Ok((end, core))
 }
 

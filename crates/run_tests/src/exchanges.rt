@@ -1,7 +1,9 @@
 // The worked exchanges: what comes in, and what has to be answered.
+use crate::literals::{ABC, ABC_LAST, CREATED, GET, GET_LAST, NOT_THERE, PUT_ABC};
 
-pub const PUT_ABC: &str =
-    "PUT /repository/releases/org/acme/lib/1.0/lib-1.0.jar HTTP/1.1\r\nHost: x\r\nContent-Length: 3\r\n\r\nabc";
+/// The settings of the exchanges.
+pub const SETTINGS: &str =
+    "grace_seconds = 60\n[[hosted]]\nid = \"releases\"\nreleases = true\nsnapshots = false\n[[hosted]]\nid = \"snapshots\"\nreleases = false\nsnapshots = true\nkeep_count = 1\nkeep_days = 0\n[[proxy]]\nid = \"central\"\nhost = \"repo.test\"\nport = 8080\nprefix = \"/m2\"\nupdate = \"daily\"\nnegative_seconds = 300\n[[group]]\nid = \"public\"\nmembers = [\"releases\", \"snapshots\", \"central\"]\n";
 
 const PUT_NOTHING: &str =
     "PUT /repository/releases/org/acme/lib/1.0/lib-1.0.jar HTTP/1.1\r\nHost: x\r\nContent-Length: 0\r\n\r\n";
@@ -15,23 +17,8 @@ const PUT_TORN: &str =
 const PUT_OTHER_NAME: &str =
     "PUT /repository/releases/org/acme/lib/1.0/other-1.0.jar HTTP/1.1\r\nHost: x\r\nContent-Length: 3\r\n\r\nabc";
 
-pub const GET: &str =
-    "GET /repository/releases/org/acme/lib/1.0/lib-1.0.jar HTTP/1.1\r\nHost: x\r\n\r\n";
-
-pub const GET_LAST: &str =
-    "GET /repository/releases/org/acme/lib/1.0/lib-1.0.jar HTTP/1.1\r\nHost: x\r\nConnection: close\r\n\r\n";
-
 const DELETE: &str =
     "DELETE /repository/releases/org/acme/lib/1.0/lib-1.0.jar HTTP/1.1\r\nHost: x\r\n\r\n";
-
-pub const CREATED: &str =
-    "HTTP/1.1 201 Created\r\nContent-Type: text/plain\r\nContent-Length: 8\r\n\r\ncreated\n";
-
-const ABC: &str =
-    "HTTP/1.1 200 OK\r\nContent-Type: application/octet-stream\r\nContent-Length: 3\r\nX-Checksum-SHA1: a9993e364706816aba3e25717850c26c9cd0d89d\r\nX-Checksum-MD5: 900150983cd24fb0d6963f7d28e17f72\r\n\r\nabc";
-
-pub const ABC_LAST: &str =
-    "HTTP/1.1 200 OK\r\nContent-Type: application/octet-stream\r\nContent-Length: 3\r\nX-Checksum-SHA1: a9993e364706816aba3e25717850c26c9cd0d89d\r\nX-Checksum-MD5: 900150983cd24fb0d6963f7d28e17f72\r\nConnection: close\r\n\r\nabc";
 
 const LONG_HEAD: &str =
     "HTTP/1.1 200 OK\r\nContent-Type: application/octet-stream\r\nContent-Length: 70000\r\nX-Checksum-SHA1: 49dc0e9304ca87f2151de32f6c5291bf09c5e652\r\nX-Checksum-MD5: 0b21388e04a856f824a29c58d71c8d40\r\n\r\n";
@@ -43,9 +30,6 @@ const SAME: &str = "HTTP/1.1 200 OK\r\nContent-Type: text/plain\r\nContent-Lengt
 
 const TAKEN: &str =
     "HTTP/1.1 409 Conflict\r\nContent-Type: text/plain\r\nContent-Length: 168\r\n\r\ntaken kept 3 a9993e364706816aba3e25717850c26c9cd0d89d 900150983cd24fb0d6963f7d28e17f72 sent 0 da39a3ee5e6b4b0d3255bfef95601890afd80709 d41d8cd98f00b204e9800998ecf8427e\n";
-
-const NOT_THERE: &str =
-    "HTTP/1.1 404 Not Found\r\nContent-Type: text/plain\r\nContent-Length: 10\r\n\r\nnot-there\n";
 
 const NOT_THERE_LAST: &str =
     "HTTP/1.1 404 Not Found\r\nContent-Type: text/plain\r\nContent-Length: 10\r\nConnection: close\r\n\r\nnot-there\n";
@@ -62,6 +46,7 @@ pub type Parts = &'static [(usize, &'static str)];
 /// Which call of each object fails, if one does, and the room of both sinks.
 #[derive(Clone, Copy)]
 pub struct Script {
+    pub settings: Option<u64>,
     pub port: Option<u64>,
     pub reads: Option<u64>,
     pub blobs: Option<u64>,
@@ -71,6 +56,7 @@ pub struct Script {
 
 /// Nothing fails.
 pub const PLAIN: Script = Script {
+    settings: None,
     port: None,
     reads: None,
     blobs: None,
@@ -97,11 +83,12 @@ impl Pieces {
     }
 }
 
-/// A run of the program: its word, its input and the pieces that it comes in, and what the run has to write and
+/// A run of the program: its words, its settings, its input and the pieces that it comes in, and what the run has to write and
 /// to give.
 pub struct Exchange {
     pub name: &'static str,
-    pub word: &'static str,
+    pub words: &'static [&'static str],
+    pub settings: &'static str,
     pub input: Parts,
     pub pieces: Pieces,
     pub script: Script,
@@ -111,9 +98,10 @@ pub struct Exchange {
 }
 
 /// A replay of nothing.
-const REPLAY: Exchange = Exchange {
+pub const EXCHANGE: Exchange = Exchange {
     name: "nothing comes",
-    word: "replay",
+    words: &["replay", "settings.toml", "--at", "1709208000"],
+    settings: SETTINGS,
     input: &[],
     pieces: Pieces::WholeAndBytes,
     script: PLAIN,
@@ -129,21 +117,21 @@ static FILES: [Exchange; 4] = [
         input: &[(1, PUT_ABC), (1, GET_LAST)],
         answers: &[(1, CREATED), (1, ABC_LAST)],
         line: "calls 4 end Closed\n",
-        ..REPLAY
+        ..EXCHANGE
     },
     Exchange {
         name: "a release is never changed",
         input: &[(2, PUT_ABC), (1, PUT_NOTHING), (1, GET)],
         answers: &[(1, CREATED), (1, SAME), (1, TAKEN), (1, ABC)],
         line: "calls 8 end Closed\n",
-        ..REPLAY
+        ..EXCHANGE
     },
     Exchange {
         name: "an empty file is a file",
         input: &[(1, GET), (1, PUT_NOTHING), (1, GET)],
         answers: &[(1, NOT_THERE), (1, CREATED), (1, NOTHING)],
         line: "calls 5 end Closed\n",
-        ..REPLAY
+        ..EXCHANGE
     },
     Exchange {
         name: "a long file is put and got twice",
@@ -156,7 +144,7 @@ static FILES: [Exchange; 4] = [
             (7000, "aaaaaaaaaa"),
         ],
         line: "calls 6 end Closed\n",
-        ..REPLAY
+        ..EXCHANGE
     },
 ];
 
@@ -164,24 +152,12 @@ pub fn files() -> &'static [Exchange] {
     &FILES
 }
 
-static ENDS: [Exchange; 5] = [
+static ENDS: [Exchange; 9] = [
     Exchange {
         name: "a torn body is not stored",
         input: &[(1, PUT_TORN)],
         line: "calls 2 end TornRequest\n",
-        ..REPLAY
-    },
-    Exchange {
-        name: "a method that is not served ends the connection",
-        input: &[(1, DELETE)],
-        answers: &[(1, BAD_HEAD)],
-        ..REPLAY
-    },
-    Exchange {
-        name: "a path that is no release file ends the connection",
-        input: &[(1, PUT_OTHER_NAME)],
-        answers: &[(1, BAD_HEAD)],
-        ..REPLAY
+        ..EXCHANGE
     },
     Exchange {
         name: "a connection has a thousand requests",
@@ -189,16 +165,59 @@ static ENDS: [Exchange; 5] = [
         pieces: Pieces::Blocks,
         answers: &[(999, NOT_THERE), (1, NOT_THERE_LAST)],
         line: "calls 1000 end TurnLimit\n",
-        ..REPLAY
+        ..EXCHANGE
+    },
+    Exchange {
+        name: "words without settings are refused",
+        words: &["replay"],
+        line: "mvnrepod: words\n",
+        status: 2,
+        ..EXCHANGE
+    },
+    Exchange {
+        name: "a step of more than a day is refused",
+        words: &["replay", "settings.toml", "--step", "86401"],
+        line: "mvnrepod: words\n",
+        status: 2,
+        ..EXCHANGE
+    },
+    Exchange {
+        name: "a key that is unknown is refused",
+        settings: "grace = 1\n[[hosted]]\nid = \"releases\"\nreleases = true\nsnapshots = false\n",
+        input: &[(1, GET)],
+        line: "mvnrepod: settings Unknown grace\n",
+        status: 3,
+        ..EXCHANGE
+    },
+    Exchange {
+        name: "a text that is no TOML is refused",
+        settings: "grace_seconds =\n",
+        line: "mvnrepod: settings NotToml\n",
+        status: 3,
+        ..EXCHANGE
+    },
+    Exchange {
+        name: "a member that is not there is refused",
+        settings: "[[hosted]]\nid = \"a\"\nreleases = true\nsnapshots = false\n[[group]]\nid = \"g\"\nmembers = [\"x\"]\n",
+        line: "mvnrepod: settings NoMember x\n",
+        status: 3,
+        ..EXCHANGE
+    },
+    Exchange {
+        name: "settings without a repository are refused",
+        settings: "",
+        line: "mvnrepod: settings Range repositories\n",
+        status: 3,
+        ..EXCHANGE
     },
     Exchange {
         name: "other words are refused",
-        word: "serve",
+        words: &["serve"],
         input: &[(1, GET)],
         pieces: Pieces::Blocks,
         line: "mvnrepod: words\n",
         status: 2,
-        ..REPLAY
+        ..EXCHANGE
     },
 ];
 
@@ -206,7 +225,7 @@ pub fn ends() -> &'static [Exchange] {
     &ENDS
 }
 
-static FAULTS: [Exchange; 5] = [
+static FAULTS: [Exchange; 6] = [
     Exchange {
         name: "a sink that fails has a part",
         input: &[(1, PUT_ABC), (1, GET_LAST)],
@@ -215,7 +234,7 @@ static FAULTS: [Exchange; 5] = [
         answers: &[(1, CREATED), (1, "HTTP/1.1 200 OK\r\nConten")],
         line: "",
         status: 7,
-        ..REPLAY
+        ..EXCHANGE
     },
     Exchange {
         name: "a source that fails ends the run",
@@ -228,7 +247,7 @@ static FAULTS: [Exchange; 5] = [
         answers: &[(1, CREATED)],
         line: "mvnrepod: input\n",
         status: 6,
-        ..REPLAY
+        ..EXCHANGE
     },
     Exchange {
         name: "a blob that is not stored is told",
@@ -240,7 +259,18 @@ static FAULTS: [Exchange; 5] = [
         },
         answers: &[(1, BLOB_FAULT), (1, CREATED), (1, ABC)],
         line: "calls 6 end Closed\n",
-        ..REPLAY
+        ..EXCHANGE
+    },
+    Exchange {
+        name: "settings that can not be read end the run",
+        input: &[(1, GET_LAST)],
+        script: Script {
+            settings: Some(0),
+            ..PLAIN
+        },
+        line: "mvnrepod: input\n",
+        status: 6,
+        ..EXCHANGE
     },
     Exchange {
         name: "a port that fails ends the run",
@@ -252,7 +282,7 @@ static FAULTS: [Exchange; 5] = [
         },
         line: "mvnrepod: input\n",
         status: 6,
-        ..REPLAY
+        ..EXCHANGE
     },
     Exchange {
         name: "a line that is cut is told",
@@ -263,7 +293,7 @@ static FAULTS: [Exchange; 5] = [
         },
         line: "calls 0",
         status: 7,
-        ..REPLAY
+        ..EXCHANGE
     },
 ];
 

@@ -12,3 +12,17 @@ mod exchanges;
 mod lock_step;
 #[cfg(test)]
 mod runs;
+#[cfg(test)]
+mod continued;
+#[cfg(test)]
+mod judged;
+#[cfg(test)]
+mod lengths;
+#[cfg(test)]
+mod literals;
+#[cfg(test)]
+mod paths;
+#[cfg(test)]
+mod sides;
+#[cfg(test)]
+mod snapshots;

@@ -1,8 +1,8 @@
 // A stream in lock step: its second request comes only once the answer to the first was taken whole.
 ghost use Rattle.std.specs.Prelude.{◌≡◌};
 
-use crate::cores::opened;
-use crate::exchanges::{ABC_LAST, CREATED, GET_LAST, PUT_ABC};
+use crate::cores::{opened, settings};
+use crate::literals::{ABC_LAST, CREATED, GET_LAST, PUT_ABC};
 use outside::{Failed, FaultScript, MemBlobs, Sink, Source, Stream, Tells};
 use repo_course::End;
 use repo_server::serve_stream;
@@ -84,7 +84,8 @@ impl Stream for LockStep {}
 #[test]
 fn an_answer_is_written_before_the_next_request_comes(rt: HostRuntime) -> Result<(), Fail> {
     let alloc = rt.alloc();
-    let mut core = opened(alloc)?;
+    let settings = settings(alloc)?;
+    let mut core = opened(alloc, &settings)?;
     let mut blobs = MemBlobs::new(alloc, FaultScript::none(alloc));
     let mut stream = LockStep {
         given: 0,
@@ -92,7 +93,7 @@ fn an_answer_is_written_before_the_next_request_comes(rt: HostRuntime) -> Result
         right: true,
         faults: 0,
     };
-    let end = serve_stream(alloc, &mut core, &mut blobs, &mut stream);
+    let end = serve_stream(alloc, &settings, &mut core, &mut blobs, &mut stream);
     assert_eq!(rt; end, End::Closed);
     assert_eq!(rt; stream.taken, CREATED.len() + ABC_LAST.len());
     assert!(rt; stream.right);

@@ -1,7 +1,13 @@
 // The worked exchanges, each in the pieces that it names, and those where something fails.
 ghost use Rattle.std.specs.Prelude.{◌<◌, IfOk, vec_len};
 
+use crate::continued::continued;
 use crate::exchanges::{Exchange, Parts, Script, ends, faults, files};
+use crate::judged::judged;
+use crate::lengths::lengths;
+use crate::paths::paths;
+use crate::sides::sides;
+use crate::snapshots::snapshots;
 use outside::{
     Duplex, FaultScript, MemBlobs, MemLink, MemSink, MemSource, ScriptClock, ScriptPort,
 };
@@ -75,8 +81,19 @@ pub fn desk_of(
     Ok(Desk { port, blobs })
 }
 
-fn words_of(alloc: Global, word: &str) -> Result<Vec<String>, AllocError> {
-    Ok(vec![in alloc; String::from_str(alloc, word)?]?)
+fn words_of(alloc: Global, words: &[&str]) -> Result<Vec<String>, AllocError> {
+    let mut all = Vec::new(alloc);
+    for word in words {
+        all.push(String::from_str(alloc, word)?)?;
+    }
+    Ok(all)
+}
+
+/// The source of the settings of an exchange.
+fn settings_of(alloc: Global, exchange: &Exchange) -> Result<MemSource, AllocError> {
+    let faults = failing_at(alloc, exchange.script.settings)?;
+    let text = Vec::from_slice(alloc, exchange.settings.as_bytes())?;
+    Ok(MemSource::new(text, 1_000_000, faults))
 }
 
 /// A run that is over, and the sink that took its line.
@@ -120,13 +137,14 @@ fn desks_of(
     Ok(vec![in alloc; desk_of(alloc, input, script, most)?]?)
 }
 
-/// Runs the program with the word of an exchange, on one desk whose source gives so many bytes at most.
+/// Runs the program with the words and the settings of an exchange, its clock at 2024-02-29T12:00:00Z, on one desk whose source gives so many bytes at most.
 fn run_of(alloc: Global, exchange: &Exchange, most: usize) -> Result<Over, AllocError> {
-    let words = words_of(alloc, exchange.word)?;
+    let words = words_of(alloc, exchange.words)?;
+    let mut settings = settings_of(alloc, exchange)?;
     let mut out = MemSink::new(alloc, exchange.script.line_room, FaultScript::none(alloc))?;
     let desks = desks_of(alloc, exchange.input, exchange.script, most)?;
-    let clock = ScriptClock::stepping(alloc, 0, 0);
-    let ran = run(alloc, words.as_slice(), desks, clock, &mut out);
+    let clock = ScriptClock::stepping(alloc, 1_709_208_000, 0);
+    let ran = run(alloc, words.as_slice(), &mut settings, desks, clock, &mut out);
     Ok(Over { ran, out })
 }
 
@@ -147,7 +165,7 @@ fn wrong_pieces(alloc: Global, exchange: &Exchange) -> Result<Option<usize>, All
 
 /// The first exchange that does not go as it has to, and its pieces.
 fn first_wrong(alloc: Global) -> Result<Option<(&'static str, usize)>, AllocError> {
-    for exchanges in [files(), ends(), faults()] {
+    for exchanges in [files(), sides(), paths(), snapshots(), judged(), continued(), lengths(), ends(), faults()] {
         for exchange in exchanges {
             if let Some(most) = wrong_pieces(alloc, exchange)? {
                 return Ok(Some((exchange.name, most)));

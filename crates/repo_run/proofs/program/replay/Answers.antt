@@ -1,33 +1,10 @@
--- The repository opens empty, serves the first desk's first connection, and the line tells how it ended.
-use Rattle.std.proofs.Common.{ℕ, ◌<◌, subst}
-use Rattle.repo_course.specs.Serving.{AllTell}
-use Rattle.repo_run.specs.Replay.{Replays, ReportsFirst}
-use Rattle.repo_run.specs.Surroundings.{connection, desk_state, output}
-use Rattle.repo_run.proofs.Desks.{first-set}
-use Rattle.repo_run.proofs.Served.{opened-serves, replays}
+-- The settings are read, and served by.
+use Rattle.std.proofs.Common.{refl}
+use Rattle.repo_run.specs.Replay.{accepted}
+use Rattle.repo_run.proofs.Desks.{first-map}
 use Rattle.repo_run.proofs.program.replay.Goals as goal
 
-pub serve_first-ended-requires : goal.serve_first-ended-requires
-serve_first-ended-requires g c = opened-serves c.in-Ok.core (g.C.Clock.moments c.args.clock) c.in-Ok.ensures.ok
-
-pub returns : goal.returns
-returns g c =
-    let first = c.index_mut.result.now in
-    let last = c.serve_first-ended.new.desk in
-    let out = output (g.O.Tells.taken c.args.out.now) (g.O.Tells.write_faults c.args.out.now) in
-    let out' = output (g.O.Tells.taken c.report_first-status.new.out) (g.O.Tells.write_faults c.report_first-status.new.out) in
-    first-set c.args.desks.items first last
-    (λ old new. Replays (AllTell g.B.Held.Held.bytes)
-    (λ link. connection (g.P.Link.Tells.left link) (g.P.Link.Tells.taken link) (g.P.Link.Tells.read_faults link) (g.P.Link.Tells.write_faults link))
-    (g.C.Clock.moments c.args.clock) (g.C.Clock.moments c.end-clock.result)
-    (desk_state (g.P.Port.left old.port) (g.P.Port.given_back old.port) (g.P.Port.faults old.port) (g.B.Blobs.faults old.blobs))
-    (desk_state (g.P.Port.left new.port) (g.P.Port.given_back new.port) (g.P.Port.faults new.port) (g.B.Blobs.faults new.blobs))
-    out out' c.report_first-status.result)
-    (subst (λ (n : ℕ). 0 < n) c.args.desks.ok.0 c.requires) c.index_mut.ensures.value
-    (replays (AllTell g.B.Held.Held.bytes)
-    (λ link. connection (g.P.Link.Tells.left link) (g.P.Link.Tells.taken link) (g.P.Link.Tells.read_faults link) (g.P.Link.Tells.write_faults link))
-    (g.C.Clock.moments c.args.clock) (g.C.Clock.moments c.end-clock.result)
-    (desk_state (g.P.Port.left first.port) (g.P.Port.given_back first.port) (g.P.Port.faults first.port) (g.B.Blobs.faults first.blobs))
-    (desk_state (g.P.Port.left last.port) (g.P.Port.given_back last.port) (g.P.Port.faults last.port) (g.B.Blobs.faults last.blobs))
-    out out' c.report_first-status.result c.in-Ok.core c.serve_first-ended.new.core c.serve_first-ended.result c.in-Ok.ensures.ok c.serve_first-ended.ensures
-    c.end-clock.ensures (subst (λ (n : ℕ). ReportsFirst c.serve_first-ended.result n out out' c.report_first-status.result) c.calls.ensures c.report_first-status.ensures))
+pub returns-in-Ok : goal.returns-in-Ok
+returns-in-Ok g c =
+    let read = c.in-Ok.ensures in
+    first-map _ _ (λ old new served. accepted c.in-Ok.settings read.cause read.settings served) c.args.desks.items c.serve.result.desks.items c.serve.ensures
