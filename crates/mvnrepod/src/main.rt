@@ -3,10 +3,9 @@
 
 ghost use Rattle.std.specs.Prelude.{◌≡◌, ◌<◌, IfOk, vec_len};
 
-use outside::{
-    Blobs, Duplex, FaultScript, MemBlobs, NoMemory, Port, ReaderSource, ScriptClock, ScriptPort,
-    Sink, WriterSink,
-};
+use outside::{Blobs, Duplex, NoMemory, Port, Sink};
+use outside_memory::{FaultScript, MemBlobs, ScriptClock, ScriptPort};
+use outside_system::{ReaderSource, WriterSink};
 use repo_run::{Desk, NO_MEMORY, run};
 use std::alloc::Global;
 use std::env;

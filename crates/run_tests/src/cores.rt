@@ -4,7 +4,7 @@ ghost use Rattle.repo_course.specs.Meets.{ServesReleases};
 
 use crate::exchanges::{GET_LAST, PLAIN, PUT_ABC, Parts, Script};
 use crate::runs::desk_of;
-use outside::{MemHeld, ScriptClock};
+use outside_memory::{MemHeld, ScriptClock};
 use repo_core::Core;
 use repo_course::End;
 use repo_model::{Command, Reply};

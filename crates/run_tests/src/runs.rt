@@ -2,9 +2,8 @@
 ghost use Rattle.std.specs.Prelude.{◌<◌, IfOk, vec_len};
 
 use crate::exchanges::{Exchange, Parts, Script, ends, faults, files};
-use outside::{
-    Duplex, FaultScript, MemBlobs, MemLink, MemSink, MemSource, ScriptClock, ScriptPort,
-};
+use outside::Duplex;
+use outside_memory::{FaultScript, MemBlobs, MemLink, MemSink, MemSource, ScriptClock, ScriptPort};
 use repo_run::{Desk, Ran, run};
 use std::alloc::{AllocError, Global};
 use std::test::Fail;
