@@ -86,12 +86,3 @@ meets settings (open_session repo) = is_there repo settings
 meets settings (stage at path n blob) = is_file_path path && is_parcel n blob
 meets settings (unlist repo) = is_there repo settings
 meets settings command = true
-
--- what the program asks so far: it looks at files alone, at no side file and no document
-abbrev pub is_asked_so_far : Command → Bool
-is_asked_so_far (look repo path tried) = is_file_path path
-is_asked_so_far command = true
-
--- a command that may be asked
-abbrev pub can_be_asked : Settings → Command → Bool
-can_be_asked settings command = meets settings command && is_asked_so_far command

@@ -3,12 +3,16 @@ use Rattle.std.specs.Prelude.{ℕ, []}
 use Rattle.outside.specs.declared.parcels.Parcel.{Parcel}
 use Rattle.outside.specs.declared.stores.Held.{Ghosts}
 use Rattle.repo_model.specs.declared.print.Print.{Print}
-use Rattle.repo_model.specs.Data.{Blob, repository}
+use Rattle.repo_model.specs.Data as plain
+use Rattle.repo_model.specs.Data.{Blob}
+use Rattle.mvn_digest.specs.Sides.{bytes_in}
 use Rattle.repo_model.specs.Command as asked
 use Rattle.repo_model.specs.Reply as answered
 use Rattle.repo_model.specs.History.{Entry}
 use Rattle.repo_model.specs.declared.command.Command.{Command}
-use Rattle.repo_model.specs.declared.command.Command.TheVariants.{Look, Done, MayPut, Put, Drop}
+use Rattle.repo_model.specs.declared.command.Command.TheVariants.{Look, Done, MayPut, Put, PutSide, PutDoc, Drop, Status}
+use Rattle.repo_model.specs.declared.command.Place.{Place}
+use Rattle.repo_model.specs.declared.command.Place.TheVariants.{Repository, Session}
 use Rattle.repo_model.specs.declared.reply.Reply.{Reply}
 use Rattle.repo_model.specs.declared.reply.Reply.TheVariants as given
 
@@ -20,15 +24,24 @@ shown_print parcel = record { length = parcel.length; digests = parcel.digests }
 abbrev pub shown_parcel : {X : Type 0} {G : Ghosts X} → Parcel X G → Blob
 shown_parcel {X} {G} parcel = record { number = parcel.blob; bytes = G.bytes parcel.held; print = shown_print parcel }
 
+abbrev pub shown_place : Place → plain.Place
+shown_place (Repository id) = plain.repository id
+shown_place (Session number) = plain.session number
+
 abbrev pub shown_command : {X : Type 0} {G : Ghosts X} → Command X G → asked.Command
 shown_command (Look repo path) = asked.look repo path []
 shown_command (Done lease) = asked.done lease
-shown_command (MayPut repo path) = asked.may_put (repository repo) path
+shown_command (MayPut place path) = asked.may_put (shown_place place) path
 shown_command (Put repo path draft parcel) = asked.put repo path draft (shown_parcel parcel)
+shown_command (PutSide place path said) = asked.put_side (shown_place place) path (bytes_in said)
+shown_command (PutDoc place path) = asked.put_doc (shown_place place) path
 shown_command (Drop draft) = asked.drop_draft draft
+shown_command Status = asked.status
 
 abbrev pub shown_reply : {X : Type 0} {G : Ghosts X} → Reply X G → answered.Reply
 shown_reply (given.File lease parcel) = answered.file lease (shown_parcel parcel)
+shown_reply (given.Text text) = answered.text text
+shown_reply (given.Doc text digests) = answered.doc text digests
 shown_reply given.Missed = answered.missed
 shown_reply given.Done = answered.given_back
 shown_reply given.KindRefused = answered.kind_refused
@@ -38,7 +51,13 @@ shown_reply (given.Taken kept sent) = answered.taken kept sent
 shown_reply given.Same = answered.same
 shown_reply given.Relisted = answered.relisted
 shown_reply given.Created = answered.created
+shown_reply given.NotThere = answered.not_there
+shown_reply (given.Differs said kept) = answered.differs (bytes_in said) (bytes_in kept)
+shown_reply given.Agreed = answered.agreed
+shown_reply given.Noted = answered.noted
+shown_reply given.NoSession = answered.no_session
 shown_reply given.Dropped = answered.dropped
+shown_reply (given.Counts files fading cached documents sessions) = answered.counts files fading cached documents sessions
 shown_reply given.Spent = answered.spent
 shown_reply given.NoMemory = answered.no_memory
 

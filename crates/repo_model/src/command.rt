@@ -1,12 +1,20 @@
 //! What may be asked of the repository.
+use mvn_digest::Digest;
 use outside::{Held, Parcel};
 use texts::Text;
+
+/// Where a file is put: the hosted repository of an id, or the open deployment session of a number.
+#[derive(Drop)]
+pub enum Place {
+    Repository(Text),
+    Session(u64),
+}
 
 /// What a caller may ask of the repository in one turn. `repo` is the id of a hosted repository, `path` a path
 /// below it (Maven 2 repository layout).
 #[derive(Drop)]
 pub enum Command<H: Held> {
-    /// The file at a path, with a lease on its blob.
+    /// What is at a path: a file, with a lease on its blob; the text of a side file; or the document of a directory.
     Look {
         repo: Text,
         path: Text,
@@ -17,7 +25,7 @@ pub enum Command<H: Held> {
     },
     /// A draft, the number of a blob to store, for a file at a path.
     MayPut {
-        repo: Text,
+        place: Place,
         path: Text,
     },
     /// Makes the blob stored under a draft the file at a path.
@@ -27,8 +35,21 @@ pub enum Command<H: Held> {
         draft: u64,
         parcel: Parcel<H>,
     },
+    /// Compares the digest that a side file says with that of its file.
+    PutSide {
+        place: Place,
+        path: Text,
+        said: Digest,
+    },
+    /// A document was sent, which is not kept, since what is served is computed.
+    PutDoc {
+        place: Place,
+        path: Text,
+    },
     /// Gives a draft up.
     Drop {
         draft: u64,
     },
+    /// How much there is.
+    Status,
 }

@@ -13,7 +13,7 @@ mod reply;
 mod session;
 
 pub use ask::Ask;
-pub use command::Command;
+pub use command::{Command, Place};
 pub use item::Item;
 pub use numbers::NUMBER_END;
 pub use print::Print;

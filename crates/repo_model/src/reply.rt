@@ -1,13 +1,19 @@
 //! What the repository replies.
 use crate::print::Print;
+use mvn_digest::{Digest, Digests, SideText};
 use outside::{Held, Parcel};
+use texts::Bytes;
 
 /// What the repository answers.
 #[derive(Drop)]
 pub enum Reply<H: Held> {
     /// The file, its blob borrowed under the lease.
     File { lease: u64, parcel: Parcel<H> },
-    /// There is no file at the path.
+    /// The text of the side file.
+    Text(SideText),
+    /// The document of the directory as it is written, and its digests.
+    Doc { text: Bytes, digests: Digests },
+    /// There is nothing at the path.
     Missed,
     /// The lease is given back, or there was none of that number.
     Done,
@@ -25,8 +31,27 @@ pub enum Reply<H: Held> {
     Relisted,
     /// The blob is the file at the path.
     Created,
+    /// The side file's file is not there.
+    NotThere,
+    /// The side file says another digest than that of its file.
+    Differs { said: Digest, kept: Digest },
+    /// The side file says the digest of its file, or is that of a document.
+    Agreed,
+    /// The document was heard of.
+    Noted,
+    /// No deployment session is open under the number.
+    NoSession,
     /// The draft is given up, or there was none of that number.
     Dropped,
+    /// How many files of hosted repositories there are, and how many of them are unlisted; how many files and documents
+    /// proxies keep; and how many deployment sessions are open.
+    Counts {
+        files: u64,
+        fading: u64,
+        cached: u64,
+        documents: u64,
+        sessions: u64,
+    },
     /// The next number to draw is 2^63.
     Spent,
     /// There was no memory left for the turn.
