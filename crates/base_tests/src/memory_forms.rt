@@ -1,9 +1,7 @@
 // A port and a store in memory, through their traits.
 use mvn_digest::Hashes;
-use outside::{
-    BlobFault, Blobs, Duplex, Failed, FaultScript, MemBlobs, MemLink, MemSink, MemSource, Parcel,
-    Port, ScriptPort, write_all,
-};
+use outside::{BlobFault, Blobs, Duplex, Failed, Parcel, Port, write_all};
+use outside_memory::{FaultScript, MemBlobs, MemLink, MemSink, MemSource, ScriptPort};
 use std::alloc::{AllocError, Global};
 use std::test::Fail;
 

@@ -1,5 +1,6 @@
 // Sources and sinks over readers and writers of std, of which no contract tells the bytes.
-use outside::{Failed, ReaderSource, Sink, WriterSink, read_full, write_all};
+use outside::{Failed, Sink, read_full, write_all};
+use outside_system::{ReaderSource, WriterSink};
 use std::io;
 use std::io::{ErrorKind, Read, Write};
 

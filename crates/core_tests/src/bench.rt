@@ -2,7 +2,8 @@
 ghost use Rattle.std.specs.Prelude.{◌≡◌, IfOk};
 
 use mvn_digest::Hashes;
-use outside::{Blobs, FaultScript, MemBlobs, MemHeld, Parcel, ScriptClock};
+use outside::{Blobs, Parcel};
+use outside_memory::{FaultScript, MemBlobs, MemHeld, ScriptClock};
 use repo_core::{Command, Core, Policy, Reply};
 use repo_model::Print;
 use std::alloc::{AllocError, Global};

@@ -2,7 +2,8 @@
 use hosted_repo::{Hosted, Put, Rule, Seen};
 use mvn_coords::{Dir, Kind, kind_of};
 use mvn_digest::Hashes;
-use outside::{Blobs, FaultScript, MemBlobs, MemHeld, Parcel};
+use outside::{Blobs, Parcel};
+use outside_memory::{FaultScript, MemBlobs, MemHeld};
 use repo_model::Print;
 use std::alloc::Global;
 use std::process::Abort;

@@ -4,20 +4,15 @@
 //! Each is a trait. Its contract says what its object tells of itself, where it tells anything, and that a call
 //! answers `Failed` only where the object's count of faults rose in that call. A program that is generic over
 //! the traits can't raise a count, so it can't give up by itself.
-//!
-//! The forms in memory (`Mem..`, `Script..`) tell all there is to tell and fail where they are told to. The adapters of
-//! std's readers and writers count faults and tell no bytes; their own clauses say what is known of these.
 #![tactic(auto)]
 
 mod clocks;
 mod duplex;
 mod faults;
-mod memory;
 mod parcels;
 mod ports;
 mod sinks;
 mod sources;
-mod standard;
 mod stores;
 mod streams;
 mod tells;
@@ -25,14 +20,10 @@ mod tells;
 pub use clocks::Clock;
 pub use duplex::Duplex;
 pub use faults::{BlobFault, Failed, NoMemory};
-pub use memory::{
-    FaultScript, MemBlobs, MemHeld, MemLink, MemSink, MemSource, ScriptClock, ScriptPort,
-};
 pub use parcels::Parcel;
 pub use ports::Port;
 pub use sinks::{Sink, write_all};
 pub use sources::{Source, read_full};
-pub use standard::{ReaderSource, WriterSink};
 pub use stores::{Blobs, Held};
 pub use streams::Stream;
 pub use tells::Tells;

@@ -4,7 +4,7 @@ ghost use Rattle.std.specs.Prelude.{◌≡◌, IfOk};
 use crate::exchanges::{PLAIN, Parts, SETTINGS, Script};
 use crate::literals::{GET_LAST, PUT_ABC};
 use crate::runs::desk_of;
-use outside::{MemHeld, ScriptClock};
+use outside_memory::{MemHeld, ScriptClock};
 use repo_config::{Settings, read};
 use repo_core::Core;
 use repo_course::End;

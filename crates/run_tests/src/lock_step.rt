@@ -3,7 +3,8 @@ ghost use Rattle.std.specs.Prelude.{◌≡◌};
 
 use crate::cores::{opened, settings};
 use crate::literals::{ABC_LAST, CREATED, GET_LAST, PUT_ABC};
-use outside::{Failed, FaultScript, MemBlobs, Sink, Source, Stream, Tells};
+use outside::{Failed, Sink, Source, Stream, Tells};
+use outside_memory::{FaultScript, MemBlobs};
 use repo_course::End;
 use repo_server::serve_stream;
 use std::test::Fail;

@@ -8,9 +8,8 @@ use crate::lengths::lengths;
 use crate::paths::paths;
 use crate::sides::sides;
 use crate::snapshots::snapshots;
-use outside::{
-    Duplex, FaultScript, MemBlobs, MemLink, MemSink, MemSource, ScriptClock, ScriptPort,
-};
+use outside::Duplex;
+use outside_memory::{FaultScript, MemBlobs, MemLink, MemSink, MemSource, ScriptClock, ScriptPort};
 use repo_run::{Desk, Ran, run};
 use std::alloc::{AllocError, Global};
 use std::test::Fail;

@@ -2,7 +2,7 @@
 use crate::plain;
 use crate::streams::{said, source_of};
 use http_wire::Wire;
-use outside::MemSource;
+use outside_memory::MemSource;
 use std::alloc::{AllocError, Global};
 use std::test::Fail;
 

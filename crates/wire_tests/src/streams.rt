@@ -1,7 +1,7 @@
 // Streams written out, and what the calls of a wire give of them.
 use crate::plain;
 use http_wire::{HeadFault, Request, Wire, WireFault};
-use outside::{FaultScript, MemSource};
+use outside_memory::{FaultScript, MemSource};
 use std::alloc::{AllocError, Global};
 use std::test::Fail;
 
