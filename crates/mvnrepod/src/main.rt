@@ -3,7 +3,7 @@
 
 ghost use Rattle.std.specs.Prelude.{◌≡◌, ◌<◌, IfOk, vec_len};
 
-use outside::{Blobs, Duplex, NoMemory, Port, Sink, Source};
+use outside::{Blobs, Duplex, NoMemory, Port, Source};
 use outside_memory::{FaultScript, MemBlobs, MemLink, MemSource, ScriptClock, ScriptPort};
 use outside_system::{ReaderSource, WriterSink, file_source};
 use repo_run::{Action, Desk, NO_MEMORY, Wanted, run, wanted};
