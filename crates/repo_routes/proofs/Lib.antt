@@ -1,4 +1,5 @@
 pub mod KeptLemmas
+pub mod OnLiterals
 pub mod PathLemmas
 pub mod RouteLemmas
 pub mod RouterLemmas
