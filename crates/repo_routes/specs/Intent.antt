@@ -1,0 +1,26 @@
+-- What a request asks of the repository, as plain data (RFC 9110, section 9.3).
+use Rattle.std.specs.Prelude.{ℕ, Bool, List}
+use Rattle.mvn_coords.specs.declared.fault.Side.{Side}
+
+-- what a request asks for; a path is decoded, and a length is that of the request's body, in bytes
+pub data Intent : Type 0 where
+  -- GET or HEAD of a file, a document or a side file
+  reads : (repo path : List ℕ) → Intent
+  -- PUT of a file
+  puts_file : (repo path : List ℕ) (length : ℕ) → Intent
+  -- PUT of a side file
+  puts_side : (repo path : List ℕ) (side : Side) (length : ℕ) → Intent
+  -- PUT of a document
+  puts_document : (repo path : List ℕ) (length : ℕ) → Intent
+  -- GET or HEAD of the repository's counts
+  counts : Intent
+
+-- a request that is not refused
+pub record Judged : Type 0 where
+  pub intent : Intent
+  -- the answer has no body
+  pub head_only : Bool
+  -- the connection ends after the answer
+  pub close : Bool
+  -- the client waits for `100 Continue` before it sends the body
+  pub expects : Bool

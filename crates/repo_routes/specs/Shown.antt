@@ -1,0 +1,26 @@
+-- What clauses see of the requests that the program has.
+use Rattle.std.specs.Prelude.{Result, Ok, Err}
+use Rattle.repo_routes.specs.declared.intent.Intent as code
+use Rattle.repo_routes.specs.declared.intent.Intent.TheVariants as asked
+use Rattle.repo_routes.specs.declared.judging.Judged as judged
+use Rattle.repo_routes.specs.declared.judging.Refused.{Refused}
+use Rattle.repo_routes.specs.Intent.{Intent, Judged, reads, puts_file, puts_side, puts_document, counts}
+
+abbrev pub shown_intent : code.Intent → Intent
+shown_intent (asked.Read repo path) = reads repo path
+shown_intent (asked.PutFile repo path length) = puts_file repo path length
+shown_intent (asked.PutSide repo path side length) = puts_side repo path side length
+shown_intent (asked.PutDocument repo path length) = puts_document repo path length
+shown_intent asked.Status = counts
+
+abbrev pub shown_request : judged.Judged → Judged
+shown_request judged = record {
+  intent = shown_intent judged.intent;
+  head_only = judged.head_only;
+  close = judged.close;
+  expects = judged.expects;
+}
+
+abbrev pub shown_judged : Result judged.Judged Refused → Result Judged Refused
+shown_judged (Ok judged) = Ok (shown_request judged)
+shown_judged (Err refused) = Err refused

@@ -1,0 +1,154 @@
+//! What a path of a repository names, and how long a body may be put there.
+ghost use Rattle.std.specs.Prelude.{◌≡◌};
+ghost use Rattle.repo_routes.specs.Paths as spec;
+ghost use Rattle.repo_routes.specs.Shown.{shown_intent};
+ghost use Rattle.repo_routes.specs.Steps.{Gives, result_shown};
+
+use crate::fault::Fault;
+use crate::framing::is_put;
+use crate::intent::Intent;
+use crate::refusal::Refusal;
+use http_wire::Request;
+use mvn_coords::{Kind, PathFault, Side, kind_of};
+use percent_encoding::{DecodeError, percent_decode};
+use repo_config::Settings;
+use std::alloc::Global;
+use texts::Text;
+
+/// The longest body of a side file, in bytes.
+pub const LONGEST_SIDE: u64 = 1024;
+
+/// The longest body of a document, in bytes.
+pub const LONGEST_DOCUMENT: u64 = 1_048_576;
+
+/// What a path names, without its coordinates.
+#[derive(Clone, Copy)]
+pub(crate) enum Thing {
+    File,
+    Side(Side),
+    Document,
+}
+
+/// The refusal of a path that names nothing.
+#[tactic(auto, unfolding(crate::specs::Paths::path_refusal))]
+fn path_refusal(head: &Request, fault: PathFault) -> Refusal
+    ensures { result ≡ spec.path_refusal head.now fault }
+{
+    if is_put(head) {
+        Refusal::BadPath(fault)
+    } else {
+        Refusal::NoPath(fault)
+    }
+}
+
+/// The path without its escapes (RFC 3986, section 2.1).
+fn decoded(alloc: Global, head: &Request, written: &str) -> Result<Text, Fault>
+    ensures { Gives (λ path. path) (spec.decoded head.now written.now) result }
+{
+    match percent_decode(written.as_bytes()).decode_utf8(alloc) {
+        Ok(path) => Ok(Text::from_string(path.into_owned(alloc)?)),
+        Err(DecodeError::OutOfMemory) => Err(Fault::NoMemory),
+        Err(DecodeError::Utf8(_)) => {
+            let refusal = path_refusal(head, PathFault::BadSegment);
+            Err(Fault::Refused(refusal))
+        }
+    }
+}
+
+/// What a path names, or its refusal.
+#[tactic(auto, unfolding(crate::specs::Paths::thing_at))]
+fn thing_at(head: &Request, path: &str) -> Result<Thing, Refusal>
+    ensures { result ≡ spec.thing_at head.now path.now }
+{
+    match kind_of(path) {
+        Ok(Kind::File(_)) => Ok(Thing::File),
+        Ok(Kind::Doc(_)) => Ok(Thing::Document),
+        Ok(Kind::FileSide(_, side) | Kind::DocSide(_, side)) => Ok(Thing::Side(side)),
+        Err(fault) => Err(path_refusal(head, fault)),
+    }
+}
+
+/// The longest body that may be put there, in bytes.
+#[tactic(auto, unfolding(crate::specs::Paths::limit_of))]
+fn limit_of(settings: &Settings, thing: Thing) -> u64
+    ensures { result ≡ spec.limit_of settings.now thing }
+{
+    match thing {
+        Thing::File => settings.max_file(),
+        Thing::Document => LONGEST_DOCUMENT,
+        Thing::Side(_) => LONGEST_SIDE,
+    }
+}
+
+#[tactic(auto, unfolding(crate::specs::Paths::check_limit))]
+fn check_limit(limit: u64, length: u64) -> Result<(), Refusal>
+    ensures { result ≡ spec.check_limit limit length }
+{
+    if length <= limit {
+        Ok(())
+    } else {
+        Err(Refusal::TooLarge(limit))
+    }
+}
+
+fn put_of(repo: Text, path: Text, length: u64, thing: Thing) -> Intent
+    ensures { shown_intent result ≡ spec.put_of repo path length thing }
+{
+    match thing {
+        Thing::File => Intent::PutFile { repo, path, length },
+        Thing::Document => Intent::PutDocument { repo, path, length },
+        Thing::Side(side) => Intent::PutSide {
+            repo,
+            path,
+            side,
+            length,
+        },
+    }
+}
+
+/// The PUT of a body that is not too long.
+#[tactic(auto, unfolding(crate::specs::Paths::put_at))]
+fn put_at(settings: &Settings, repo: Text, path: Text, length: u64, thing: Thing) -> Result<Intent, Refusal>
+    ensures { result_shown shown_intent result ≡ spec.put_at settings.now repo path length thing }
+{
+    check_limit(limit_of(settings, thing), length)?;
+    Ok(put_of(repo, path, length, thing))
+}
+
+/// What a request asks for at a thing of a repository.
+#[tactic(auto, unfolding(crate::specs::Paths::asked_at))]
+fn asked_at(
+    settings: &Settings,
+    head: &Request,
+    length: u64,
+    repo: Text,
+    path: Text,
+    thing: Thing,
+) -> Result<Intent, Refusal>
+    ensures { result_shown shown_intent result ≡ spec.asked_at settings.now head.now length repo path thing }
+{
+    if is_put(head) {
+        put_at(settings, repo, path, length, thing)
+    } else {
+        Ok(Intent::Read { repo, path })
+    }
+}
+
+/// What a request asks for at a path of a repository, as written.
+#[tactic(auto, unfolding(crate::specs::Paths::intent_at))]
+pub(crate) fn intent_at(
+    alloc: Global,
+    settings: &Settings,
+    head: &Request,
+    length: u64,
+    repo: &str,
+    written: &str,
+) -> Result<Intent, Fault>
+    ensures { Gives shown_intent (spec.intent_at settings.now head.now length repo.now written.now) result }
+{
+    let path = decoded(alloc, head, written)?;
+    let thing = thing_at(head, path.as_str())?;
+    let repo = Text::new(alloc, repo)?;
+    let intent = asked_at(settings, head, length, repo, path, thing)?;
+    Ok(intent)
+}
