@@ -86,3 +86,11 @@ no_memory = record {
   close = true;
   body = codes "memory" ++ 10 ∷ [];
 }
+
+-- the same answer to HEAD: its head alone (RFC 9110, section 9.3.2)
+abbrev pub without_body : Answer → Answer
+without_body answer = record answer { body = [] }
+
+-- the interim answer that asks for the body of a request (RFC 9110, section 15.2.1)
+abbrev pub continue_bytes : List ℕ
+continue_bytes = codes "HTTP/1.1 100 Continue" ++ crlf_bytes ++ crlf_bytes

@@ -1,6 +1,6 @@
 //! An answer, and its bytes (RFC 9112, section 4).
 ghost use Rattle.std.specs.Prelude.{◌≡◌, IfOk};
-ghost use Rattle.http_wire.specs.Answer.{no_memory, shown};
+ghost use Rattle.http_wire.specs.Answer.{continue_bytes, no_memory, shown, without_body};
 
 use crate::lines::push_head;
 use mvn_digest::Digests;
@@ -77,4 +77,25 @@ pub fn no_memory_answer() -> &'static [u8]
     ensures { result.now ≡ shown no_memory }
 {
     NO_MEMORY.as_slice()
+}
+
+/// The same answer to HEAD: its head alone (RFC 9110, section 9.3.2).
+pub const NO_MEMORY_HEAD: &[u8; 101] =
+    b"HTTP/1.1 507 Insufficient Storage\r\nContent-Type: text/plain\r\nContent-Length: 7\r\nConnection: close\r\n\r\n";
+
+/// The bytes of the answer to HEAD where there is no memory for another. They take none.
+pub fn no_memory_head() -> &'static [u8]
+    ensures { result.now ≡ shown (without_body no_memory) }
+{
+    NO_MEMORY_HEAD.as_slice()
+}
+
+/// The interim answer that asks for the body of a request (RFC 9110, section 15.2.1).
+pub const CONTINUE: &[u8; 25] = b"HTTP/1.1 100 Continue\r\n\r\n";
+
+/// The bytes of the interim answer that asks for the body of a request. They take no memory.
+pub fn continue_answer() -> &'static [u8]
+    ensures { result.now ≡ continue_bytes }
+{
+    CONTINUE.as_slice()
 }

@@ -1,12 +1,24 @@
 -- The course of a request: the commands and the acts that it makes, one after another as their results come, and its answer.
-use Rattle.std.specs.Prelude.{ℕ, Bool, true, ◌||◌, nat_lt, if◌then◌else◌, List, [], Option, Some, None, Result, Ok, Err}
-use Rattle.http_wire.specs.declared.faults.WireFault.{WireFault}
-use Rattle.http_wire.specs.declared.faults.WireFault.TheVariants as wire
+use Rattle.std.specs.Prelude.{ℕ, Bool, true, false, ◌||◌, nat_lt, if◌then◌else◌, List, [], Option, Some, None, Result, Ok, Err}
+use Rattle.http_wire.specs.declared.faults.HeadFault.{HeadFault}
+use Rattle.http_wire.specs.declared.faults.HeadFault.TheVariants.{Broken, TooLong}
 use Rattle.http_wire.specs.Head.{Head}
+use Rattle.mvn_coords.specs.declared.fault.Side.{Side}
+use Rattle.mvn_digest.specs.Hex.{hex_text}
+use Rattle.mvn_digest.specs.Sides.{read_side}
+use Rattle.mvn_doc.specs.Reading.{reading}
+use Rattle.mvn_metadata.specs.Document.{Document}
 use Rattle.repo_model.specs.Data.{Blob, repository}
-use Rattle.repo_model.specs.Command.{Command, look, done, may_put, put, drop_draft}
-use Rattle.repo_model.specs.Reply.{Reply, file, missed, kind_refused, draft, no_draft, taken, same, relisted, created, spent, store_fault}
-use Rattle.repo_course.specs.declared.act.Closing.{Closing}
+use Rattle.repo_model.specs.Command.{Command, look, done, may_put, put, put_side, put_doc, drop_draft, status}
+use Rattle.repo_model.specs.Reply.{Reply, file, text, doc, missed, kind_refused, draft, no_draft, taken, same, relisted, created, not_there, differs, agreed, noted, counts, spent, store_fault}
+use Rattle.repo_routes.specs.Framing.{is_head}
+use Rattle.repo_routes.specs.Intent as judged
+use Rattle.repo_routes.specs.Intent.{Intent, Judged}
+use Rattle.repo_routes.specs.declared.judging.Refused.{Refused}
+use Rattle.repo_course.specs.Answers.{at_end}
+use Rattle.repo_course.specs.declared.manner.Manner.{Manner}
+use Rattle.repo_course.specs.declared.outcomes.Continued.{Continued}
+use Rattle.repo_course.specs.declared.outcomes.Continued.TheVariants as continued
 use Rattle.repo_course.specs.declared.outcomes.End.{End}
 use Rattle.repo_course.specs.declared.outcomes.End.TheVariants as stream
 use Rattle.repo_course.specs.declared.outcomes.Sent.{Sent}
@@ -14,105 +26,172 @@ use Rattle.repo_course.specs.declared.outcomes.Sent.TheVariants as sent
 use Rattle.repo_course.specs.declared.outcomes.Took.{Took}
 use Rattle.repo_course.specs.declared.outcomes.Took.TheVariants as took
 use Rattle.repo_course.specs.declared.said.Said.{Said}
-use Rattle.repo_course.specs.declared.said.Said.TheVariants.{BadHead, KindRefused, NotThere, Created, Same, Relisted, Taken, NoDraft, Spent, StoreFault, BlobFault, NoMemory}
-use Rattle.repo_course.specs.Plain.{Plain, get, put as put_request, plain, releases}
+use Rattle.repo_course.specs.declared.said.Said.TheVariants as said
 
--- what comes of taking a body: a stored blob, or none
+-- what comes of taking a file's body: a stored blob, or none
 abbrev pub Stored : Type 0
 Stored = Result Blob Took
+
+-- what comes of reading a small body: its bytes, or none
+abbrev pub Body : Type 0
+Body = Result (List ℕ) Took
 
 -- what comes next, and then what follows each result
 pub data Course : Type 0 where
   -- a command of the machine
   asks : Command → (Reply → Course) → Course
+  -- `100 Continue` is written
+  continues : (Continued → Course) → Course
   -- the body of a length is taken and stored under a draft
   takes : (draft length : ℕ) → (Stored → Course) → Course
-  -- the head of the answer with a file, which ends the connection or not, and the bytes of its blob are written
-  sends : Blob → (close : Bool) → (Sent → Course) → Course
-  -- an answer that says so, and that the connection ends or not; then the stream ends so, or goes on
-  says : Said → (close : Bool) → Option End → Course
+  -- the body of a length is read
+  reads : (length : ℕ) → (Body → Course) → Course
+  -- the head of the answer with a file is written, and the bytes of its blob where it is not the head alone
+  sends : Blob → Manner → (Sent → Course) → Course
+  -- an answer that says so; then the stream ends where the request or a body that was not read asks for it, or goes on
+  says : Said → Manner → Course
   -- nothing more is written; then the stream ends so, or goes on
   stops : Option End → Course
 
--- where the request or a body that was not read asks for it, the stream ends as `Closed`
-abbrev pub end_of : Bool → Option End
-end_of close = if close then Some stream.Closed else None
+-- how the stream ends behind an answer of this manner, if it does
+abbrev pub end_of : Manner → Option End
+end_of manner = if manner.close then Some stream.Closed else None
 
--- an answer, and the end of the stream where the request asks for it
-abbrev pub answers : Closing → Said → Course
-answers c said = says said (c.close || c.last) (end_of c.close)
-
-abbrev pub without_memory : Course
-without_memory = says NoMemory true (Some stream.Closed)
+abbrev pub without_memory : Manner → Course
+without_memory manner = says said.NoMemory (at_end manner.head_only)
 
 abbrev pub gives_up : ℕ → Course → Course
-gives_up n c = asks (drop_draft n) (λ reply. c)
+gives_up n course = asks (drop_draft n) (λ reply. course)
 
-abbrev pub after_send : Closing → Sent → Course
-after_send c sent.Whole = stops (end_of c.close)
-after_send c sent.BlobFault = answers c BlobFault
-after_send c sent.SinkFault = stops (Some stream.SinkFault)
-after_send c sent.NoMemory = without_memory
+-- what was to be written first was not, and nothing follows
+abbrev pub cut_off : Course
+cut_off = stops (Some stream.SinkFault)
+
+-- `100 Continue` was written, or was not and this follows in place of the body
+abbrev pub after_continue : (cut body : Course) → Continued → Course
+after_continue cut body continued.Written = body
+after_continue cut body continued.SinkFault = cut
+
+-- `100 Continue` before a body, where the client waits for it
+abbrev pub invites : Bool → (cut body : Course) → Course
+invites expects cut body = if expects then continues (after_continue cut body) else body
+
+-- the end of a file's answer, once its lease is given back
+abbrev pub after_send : Manner → Sent → Course
+after_send manner sent.Whole = stops (end_of manner)
+after_send manner sent.BlobFault = says said.BlobFault manner
+after_send manner sent.SinkFault = cut_off
+after_send manner sent.NoMemory = without_memory manner
 
 -- the file is sent, and its lease given back whatever came of it
-abbrev pub sends_file : Closing → ℕ → Blob → Course
-sends_file c lease blob = sends blob (c.close || c.last) (λ result. asks (done lease) (λ reply. after_send c result))
+abbrev pub sends_file : Manner → ℕ → Blob → Course
+sends_file manner lease blob = sends blob manner (λ result. asks (done lease) (λ reply. after_send manner result))
 
-abbrev pub after_look : Closing → Reply → Course
-after_look c (file lease blob) = sends_file c lease blob
-after_look c missed = answers c NotThere
-after_look c spent = answers c Spent
-after_look c reply = without_memory
+abbrev pub after_look : Manner → Reply → Course
+after_look manner (file lease blob) = sends_file manner lease blob
+after_look manner (text bytes) = says (said.Text bytes) manner
+after_look manner (doc bytes digests) = says (said.Doc bytes digests) manner
+after_look manner missed = says said.NotThere manner
+after_look manner spent = says said.Spent manner
+after_look manner reply = without_memory manner
 
-abbrev pub after_put : ℕ → Closing → Reply → Course
-after_put n c created = answers c Created
-after_put n c same = answers c Same
-after_put n c relisted = answers c Relisted
-after_put n c (taken kept sent) = answers c (Taken kept sent)
-after_put n c no_draft = gives_up n (answers c NoDraft)
-after_put n c store_fault = gives_up n (answers c StoreFault)
-after_put n c reply = gives_up n without_memory
+abbrev pub after_put : ℕ → Manner → Reply → Course
+after_put n manner created = says said.Created manner
+after_put n manner same = says said.Same manner
+after_put n manner relisted = says said.Relisted manner
+after_put n manner (taken kept given) = says (said.Taken kept given) manner
+after_put n manner no_draft = gives_up n (says said.NoDraft manner)
+after_put n manner store_fault = gives_up n (says said.StoreFault manner)
+after_put n manner reply = gives_up n (without_memory manner)
 
--- after a body that was not stored, and whose draft was given up
-abbrev pub after_fault : Closing → Took → Course
-after_fault c took.Torn = stops (Some stream.TornRequest)
-after_fault c took.SourceFault = stops (Some stream.SourceFault)
-after_fault c took.BlobFault = answers c BlobFault
-after_fault c took.NoMemory = without_memory
+-- a body that was not taken
+abbrev pub after_fault : Manner → Took → Course
+after_fault manner took.Torn = stops (Some stream.TornRequest)
+after_fault manner took.SourceFault = stops (Some stream.SourceFault)
+after_fault manner took.BlobFault = says said.BlobFault manner
+after_fault manner took.NoMemory = without_memory manner
 
-abbrev pub after_take : List ℕ → List ℕ → ℕ → Closing → Stored → Course
-after_take repo path n c (Ok blob) = asks (put repo path n blob) (after_put n c)
-after_take repo path n c (Err fault) = gives_up n (after_fault c fault)
+-- a file's body that is stored is put, and the draft of another is given up
+abbrev pub after_take : (repo path : List ℕ) → ℕ → Manner → Stored → Course
+after_take repo path n manner (Ok blob) = asks (put repo path n blob) (after_put n manner)
+after_take repo path n manner (Err fault) = gives_up n (after_fault manner fault)
 
 -- a body that is not read ends the connection
-abbrev pub with_unread : ℕ → Closing → Closing
-with_unread length c = record { close = c.close || nat_lt 0 length; last = c.last }
+abbrev pub with_unread : ℕ → Manner → Manner
+with_unread length manner = record manner { close = manner.close || nat_lt 0 length }
 
-abbrev pub after_may_put : List ℕ → List ℕ → ℕ → Closing → Reply → Course
-after_may_put repo path length c (draft n) = takes n length (after_take repo path n c)
-after_may_put repo path length c kind_refused = answers (with_unread length c) KindRefused
-after_may_put repo path length c spent = answers (with_unread length c) Spent
-after_may_put repo path length c reply = without_memory
+abbrev pub after_may_put : (repo path : List ℕ) → ℕ → Bool → Manner → Reply → Course
+after_may_put repo path length expects manner (draft n) =
+    invites expects (gives_up n cut_off) (takes n length (after_take repo path n manner))
+after_may_put repo path length expects manner kind_refused = says said.KindRefused (with_unread length manner)
+after_may_put repo path length expects manner spent = says said.Spent (with_unread length manner)
+after_may_put repo path length expects manner reply = without_memory manner
 
--- the course of a plain request, which may be the last of its connection
-abbrev pub course : Plain → Bool → Course
-course (get path close) last = asks (look releases path []) (after_look (record { close = close; last = last }))
-course (put_request path length close) last =
-    asks (may_put (repository releases) path) (after_may_put releases path length (record { close = close; last = last }))
+abbrev pub after_put_side : Manner → Reply → Course
+after_put_side manner agreed = says said.Agreed manner
+after_put_side manner (differs sent kept) = says (said.Differs (hex_text sent) (hex_text kept)) manner
+after_put_side manner not_there = says said.NotThere manner
+after_put_side manner reply = without_memory manner
 
--- the refusal of a head that is not plain
-abbrev pub bad_head : Course
-bad_head = says BadHead true (Some stream.Closed)
+-- the digest that a side file says is compared; a text that says none is refused
+abbrev pub compares : (repo path : List ℕ) → Manner → Option (List ℕ) → Course
+compares repo path manner (Some digest) = asks (put_side (repository repo) path digest) (after_put_side manner)
+compares repo path manner None = says said.NoDigest manner
 
-abbrev pub course_of : Option Plain → Bool → Course
-course_of None last = bad_head
-course_of (Some request) last = course request last
+abbrev pub after_side : (repo path : List ℕ) → Side → Manner → Body → Course
+after_side repo path side manner (Ok bytes) = compares repo path manner (read_side side bytes)
+after_side repo path side manner (Err fault) = after_fault manner fault
 
--- what follows the reading of a head
-abbrev pub after_read : Result (Option Head) WireFault → Bool → Course
-after_read (Ok None) last = stops (Some stream.Closed)
-after_read (Ok (Some head)) last = course_of (plain head) last
-after_read (Err wire.Torn) last = stops (Some stream.TornRequest)
-after_read (Err wire.SourceFault) last = stops (Some stream.SourceFault)
-after_read (Err (wire.Refused fault)) last = bad_head
-after_read (Err wire.NoMemory) last = without_memory
+abbrev pub after_put_doc : Manner → Reply → Course
+after_put_doc manner noted = says said.Noted manner
+after_put_doc manner reply = without_memory manner
+
+-- a document is told to the machine; a text that is none is refused by the place of its first fault
+abbrev pub notes : (repo path : List ℕ) → Manner → Result Document ℕ → Course
+notes repo path manner (Ok document) = asks (put_doc (repository repo) path) (after_put_doc manner)
+notes repo path manner (Err at) = says (said.NoDocument at) manner
+
+abbrev pub after_document : (repo path : List ℕ) → Manner → Body → Course
+after_document repo path manner (Ok bytes) = notes repo path manner (reading bytes)
+after_document repo path manner (Err fault) = after_fault manner fault
+
+abbrev pub after_status : Manner → Reply → Course
+after_status manner (counts files fading cached documents sessions) = says (said.Counts files fading cached documents sessions) manner
+after_status manner reply = without_memory manner
+
+-- the course by what a request asks for, which expects `100 Continue` before its body or not
+abbrev pub course_for : Manner → Bool → Intent → Course
+course_for manner expects (judged.reads repo path) = asks (look repo path []) (after_look manner)
+course_for manner expects (judged.puts_file repo path length) =
+    asks (may_put (repository repo) path) (after_may_put repo path length expects manner)
+course_for manner expects (judged.puts_side repo path side length) =
+    invites expects cut_off (reads length (after_side repo path side manner))
+course_for manner expects (judged.puts_document repo path length) =
+    invites expects cut_off (reads length (after_document repo path manner))
+course_for manner expects judged.counts = asks status (after_status manner)
+
+-- the course of a request, which may be the last of its connection
+abbrev pub course : Judged → Bool → Course
+course request last =
+    course_for (record { close = request.close; last = last; head_only = request.head_only }) request.expects request.intent
+
+-- the course of a request that is refused by its head
+abbrev pub refuses : Refused → Bool → Course
+refuses refused last =
+    says (said.Refused refused.refusal) (record { close = refused.close; last = last; head_only = refused.head_only })
+
+abbrev pub course_of : Result Judged Refused → Bool → Course
+course_of (Ok request) last = course request last
+course_of (Err refused) last = refuses refused last
+
+-- what is no request head, or too long a one
+abbrev pub head_said : HeadFault → Said
+head_said Broken = said.BadHead
+head_said TooLong = said.HeadTooLong
+
+abbrev pub refuses_head : HeadFault → Course
+refuses_head fault = says (head_said fault) (at_end false)
+
+-- memory was wanted for what a head says
+abbrev pub starves : Head → Course
+starves head = without_memory (at_end (is_head head))

@@ -1,25 +1,25 @@
--- The commands of a course can be asked, and the settings under which those of plain requests can.
-use Rattle.std.specs.Prelude.{◌≡◌, ℕ, IsTrue, Some, Ok, Err}
-use Rattle.repo_model.specs.Command.{can_be_asked, rule_of}
+-- That the commands of a course can be asked.
+use Rattle.std.specs.Prelude.{◌≡◌, ℕ, List, IsTrue, Ok, Err}
+use Rattle.repo_model.specs.Asking.{IsAnswerTo}
+use Rattle.repo_model.specs.Command.{meets}
 use Rattle.repo_model.specs.Reply.{Reply}
-use Rattle.repo_model.specs.Settings.{Rule, Settings}
+use Rattle.repo_model.specs.Settings.{Settings}
+use Rattle.repo_course.specs.declared.outcomes.Continued.{Continued}
 use Rattle.repo_course.specs.declared.outcomes.Sent.{Sent}
-use Rattle.repo_course.specs.Course.{Course, Stored, asks, takes, sends, says, stops}
-use Rattle.repo_course.specs.Plain.{releases}
+use Rattle.repo_course.specs.Course.{Body, Course, Stored, asks, continues, takes, reads, sends, says, stops}
 
 -- a body of this length, stored under this draft
-abbrev pub IsBody : ℕ → ℕ → Stored → Type 0
-IsBody draft count (Ok blob) = (blob.number ≡ draft) × (blob.print.length ≡ count)
-IsBody draft count (Err fault) = Unit {0}
+abbrev pub IsStored : ℕ → ℕ → Stored → Type 0
+IsStored draft count (Ok blob) = (blob.number ≡ draft) × (blob.print.length ≡ count)
+IsStored draft count (Err fault) = Unit {0}
 
--- each command that the course may come to can be asked
+-- each command that the course may come to can be asked, whatever answers its commands get
 abbrev pub Meets : Settings → Course → Type 0
-Meets settings (asks command next) = IsTrue (can_be_asked settings command) × ((reply : Reply) → Meets settings (next reply))
-Meets settings (takes draft count next) = (stored : Stored) → IsBody draft count stored → Meets settings (next stored)
-Meets settings (sends blob close next) = (result : Sent) → Meets settings (next result)
-Meets settings (says said close end) = Unit {0}
+Meets settings (asks command next) =
+    IsTrue (meets settings command) × ((reply : Reply) → IsAnswerTo settings command reply → Meets settings (next reply))
+Meets settings (continues next) = (result : Continued) → Meets settings (next result)
+Meets settings (takes draft count next) = (stored : Stored) → IsStored draft count stored → Meets settings (next stored)
+Meets settings (reads count next) = (body : Body) → Meets settings (next body)
+Meets settings (sends blob manner next) = (result : Sent) → Meets settings (next result)
+Meets settings (says said manner) = Unit {0}
 Meets settings (stops end) = Unit {0}
-
--- the settings have the repository, and it takes releases
-abbrev pub ServesReleases : Settings → Type 0
-ServesReleases settings = (rule : Rule) × (rule_of releases settings ≡ Some rule) × IsTrue rule.releases

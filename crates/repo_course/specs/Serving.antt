@@ -1,25 +1,29 @@
 -- How a stream is served: for each request the steps of its course, one after another, each with the causes of its result.
-use Rattle.std.specs.Prelude.{◌≡◌, ℕ, zero, suc, ◌<◌, ◌⊎◌, ◌==◌, Bool, List, [], ◌∷◌, ◌++◌, length, Option, Some, None, IfSome, IsSome, Ok, Err}
+use Rattle.std.specs.Prelude.{◌≡◌, ℕ, zero, suc, ◌<◌, ◌⊎◌, ◌==◌, Bool, true, false, List, [], ◌∷◌, ◌++◌, length, Option, Some, None, IfSome, IsSome, Ok, Err}
 use Rattle.outside.specs.declared.tells.Tells.{Ghosts}
 use Rattle.outside.specs.Faults.{Rose}
 use Rattle.outside.specs.Told.{in_front, behind, IsAtEnd, IsWhereTold}
 use Rattle.mvn_digest.specs.Digests.{digests_of}
 use Rattle.http_wire.specs.declared.answers.Answer.{Answer}
-use Rattle.http_wire.specs.Answer.{shown}
+use Rattle.http_wire.specs.Answer.{continue_bytes, shown}
+use Rattle.http_wire.specs.declared.faults.HeadFault.{HeadFault}
 use Rattle.http_wire.specs.Front.{Front, Clean, Cut, Bad, Whole, front}
 use Rattle.http_wire.specs.Head.{Head}
 use Rattle.http_wire.specs.Stream.{unread}
 use Rattle.repo_model.specs.declared.print.Print.{Print}
 use Rattle.repo_model.specs.Data.{Blob}
 use Rattle.repo_model.specs.History.{Entry}
+use Rattle.repo_model.specs.Settings.{Settings}
+use Rattle.repo_routes.specs.Judge.{judge}
+use Rattle.repo_course.specs.declared.outcomes.Continued.{Continued}
+use Rattle.repo_course.specs.declared.outcomes.Continued.TheVariants as continued
 use Rattle.repo_course.specs.declared.outcomes.End.{End}
 use Rattle.repo_course.specs.declared.outcomes.End.TheVariants as stream
 use Rattle.repo_course.specs.declared.outcomes.Sent.{Sent}
 use Rattle.repo_course.specs.declared.outcomes.Sent.TheVariants as sent
 use Rattle.repo_course.specs.declared.outcomes.Took.TheVariants as took
-use Rattle.repo_course.specs.Plain.{Plain, plain}
-use Rattle.repo_course.specs.Answers.{answer_of, file_answer, memory_answer}
-use Rattle.repo_course.specs.Course.{Course, Stored, asks, takes, sends, says, stops, course, bad_head, without_memory}
+use Rattle.repo_course.specs.Answers.{answer_of, at_end, file_answer, memory_answer}
+use Rattle.repo_course.specs.Course.{Body, Course, Stored, asks, continues, takes, reads, sends, says, stops, course_of, end_of, refuses_head, starves, without_memory}
 
 -- what a server sees of its surroundings while it serves a stream
 pub record Outside : Type 0 where
@@ -65,20 +69,25 @@ abbrev pub ReadsBody : ℕ → List ℕ → Outside → Outside → Type 0
 ReadsBody count body old new =
     (rest : Option (List ℕ)) × (length body ≡ count) × (old.input ≡ in_front body rest) × (new ≡ record old { input = rest })
 
--- What comes of taking a body. Where the blobs tell their bytes, the stored one tells the body's. A torn body is read to the
--- end of the stream; of one that the source failed to give, less than the whole is gone.
+-- What comes of reading a body. A torn body is read to the end of the stream; of one that the source failed to give, less than
+-- the whole is gone.
+abbrev pub Reads : ℕ → Body → Outside → Outside → Type 0
+Reads count (Ok body) old new = ReadsBody count body old new
+Reads count (Err took.Torn) old new = IfSome old.input (λ bytes. length bytes < count) × ReadsOn old new × IsAtEnd new.input
+Reads count (Err took.SourceFault) old new =
+    (faults : ℕ) × Rose old.read_faults faults × ReadsOn (record old { read_faults = faults }) new
+    × ((gone : List ℕ) × (length gone < count) × (old.input ≡ in_front gone new.input))
+Reads count (Err took.BlobFault) old new = ⊥
+Reads count (Err took.NoMemory) old new = (new ≡ old) ⊎ ((body : List ℕ) × ReadsBody count body old new)
+
+-- What comes of taking a body. Where the blobs tell their bytes, the stored one tells the body's.
 abbrev pub Takes : Type 0 → ℕ → ℕ → Stored → Outside → Outside → Type 0
 Takes tells draft count (Ok blob) old new =
     (body : List ℕ) × ReadsBody count body old new
     × (blob.number ≡ draft) × (blob.print ≡ print_of body) × IsWhereTold blob.bytes body × (tells → IsSome blob.bytes)
-Takes tells draft count (Err took.Torn) old new =
-    IfSome old.input (λ bytes. length bytes < count) × ReadsOn old new × IsAtEnd new.input
-Takes tells draft count (Err took.SourceFault) old new =
-    (faults : ℕ) × Rose old.read_faults faults × ReadsOn (record old { read_faults = faults }) new
-    × ((gone : List ℕ) × (length gone < count) × (old.input ≡ in_front gone new.input))
 Takes tells draft count (Err took.BlobFault) old new =
     (faults : ℕ) × (body : List ℕ) × Rose old.blob_faults faults × ReadsBody count body (record old { blob_faults = faults }) new
-Takes tells draft count (Err took.NoMemory) old new = (new ≡ old) ⊎ ((body : List ℕ) × ReadsBody count body old new)
+Takes tells draft count (Err fault) old new = Reads count (Err fault) old new
 
 -- What comes of sending a file behind a head.
 abbrev pub Sends : Blob → List ℕ → Sent → Outside → Outside → Type 0
@@ -91,24 +100,50 @@ Sends blob head sent.SinkFault old new =
     × IsFrontOf part (head ++ bytes) × (new ≡ writes part (record old { write_faults = faults }))
 Sends blob head sent.NoMemory old new = new ≡ old
 
+-- What comes of writing the head of a file's answer alone.
+abbrev pub SendsHead : List ℕ → Sent → Outside → Outside → Type 0
+SendsHead head sent.Whole old new = new ≡ writes head old
+SendsHead head sent.BlobFault old new = ⊥
+SendsHead head sent.SinkFault old new =
+    (faults : ℕ) × (part : List ℕ) × Rose old.write_faults faults × IsFrontOf part head
+    × (new ≡ writes part (record old { write_faults = faults }))
+SendsHead head sent.NoMemory old new = new ≡ old
+
+abbrev pub SendsAnswer : Bool → Blob → List ℕ → Sent → Outside → Outside → Type 0
+SendsAnswer true blob head result old new = SendsHead head result old new
+SendsAnswer false blob head result old new = Sends blob head result old new
+
+-- What comes of writing `100 Continue`.
+abbrev pub Continues : Continued → Outside → Outside → Type 0
+Continues continued.Written old new = new ≡ writes continue_bytes old
+Continues continued.SinkFault old new =
+    (faults : ℕ) × (part : List ℕ) × Rose old.write_faults faults × IsFrontOf part continue_bytes
+    × (new ≡ writes part (record old { write_faults = faults }))
+
 -- An answer is written whole, or want of memory is answered in its place, or the sink fails and has taken a part.
-pub data Says (answer : Answer) (next : Option End) (old new : Outside) (end : Option End) : Type 0 where
-  whole : new ≡ writes (shown answer) old → end ≡ next → Says answer next old new end
-  memory : new ≡ writes (shown memory_answer) old → end ≡ Some stream.Closed → Says answer next old new end
+pub data Says (answer memory_said : Answer) (next : Option End) (old new : Outside) (end : Option End) : Type 0 where
+  whole : new ≡ writes (shown answer) old → end ≡ next → Says answer memory_said next old new end
+  memory : new ≡ writes (shown memory_said) old → end ≡ Some stream.Closed → Says answer memory_said next old new end
   cut : (faults : ℕ) (all part : List ℕ) → Rose old.write_faults faults
-      → (all ≡ shown answer) ⊎ (all ≡ shown memory_answer) → IsFrontOf part all
-      → new ≡ writes part (record old { write_faults = faults }) → end ≡ Some stream.SinkFault → Says answer next old new end
+      → (all ≡ shown answer) ⊎ (all ≡ shown memory_said) → IsFrontOf part all
+      → new ≡ writes part (record old { write_faults = faults }) → end ≡ Some stream.SinkFault → Says answer memory_said next old new end
 
 -- A course is followed to its end, and these are the entries of its commands: each once, in order, and no other. Whoever
 -- answered them does not matter.
 abbrev pub Follows : Type 0 → Course → List Entry → Outside → Outside → Option End → Type 0
 Follows tells (asks command next) [] old new end = ⊥
 Follows tells (asks command next) (entry ∷ entries) old new end = (entry.command ≡ command) × Follows tells (next entry.reply) entries old new end
+Follows tells (continues next) entries old new end =
+    (result : Continued) × (mid : Outside) × Continues result old mid × Follows tells (next result) entries mid new end
 Follows tells (takes draft count next) entries old new end =
     (stored : Stored) × (mid : Outside) × Takes tells draft count stored old mid × Follows tells (next stored) entries mid new end
-Follows tells (sends blob close next) entries old new end =
-    (result : Sent) × (mid : Outside) × Sends blob (shown (file_answer blob close)) result old mid × Follows tells (next result) entries mid new end
-Follows tells (says said close next) entries old new end = (entries ≡ []) × Says (answer_of said close) next old new end
+Follows tells (reads count next) entries old new end =
+    (body : Body) × (mid : Outside) × Reads count body old mid × Follows tells (next body) entries mid new end
+Follows tells (sends blob manner next) entries old new end =
+    (result : Sent) × (mid : Outside) × SendsAnswer manner.head_only blob (shown (file_answer blob manner)) result old mid
+    × Follows tells (next result) entries mid new end
+Follows tells (says said manner) entries old new end =
+    (entries ≡ []) × Says (answer_of said manner) (memory_answer manner.head_only) (end_of manner) old new end
 Follows tells (stops next) entries old new end = (entries ≡ []) × (new ≡ old) × (end ≡ next)
 
 -- the stream begins with this, where it tells its bytes
@@ -120,47 +155,35 @@ abbrev pub IsHead : Front → Type 0
 IsHead (Whole head rest) = Unit {0}
 IsHead _ = ⊥
 
--- no plain request comes
-abbrev pub IsRefused : Front → Type 0
-IsRefused (Whole head rest) = plain head ≡ None
-IsRefused (Bad fault) = Unit {0}
-IsRefused _ = ⊥
-
 -- this whole head comes, and then the rest
 abbrev pub IsWhole : Head → Option (List ℕ) → Front → Type 0
 IsWhole head rest (Whole what behind) = (what ≡ head) × (rest ≡ Some behind)
 IsWhole head rest _ = ⊥
 
--- the whole head that comes is used
-abbrev pub IsBehindHead : Option (List ℕ) → Front → Type 0
-IsBehindHead rest (Whole head behind) = rest ≡ Some behind
-IsBehindHead rest _ = ⊥
-
--- nothing is used, or the whole head that comes
-abbrev pub UsesHead : Outside → Outside → Type 0
-UsesHead old new =
-    (new ≡ old) ⊎ ((rest : Option (List ℕ)) × Begins old.input (IsBehindHead rest) × (new ≡ record old { input = rest }))
-
--- What comes of reading a head: the course behind it, and the outside then. Where the stream ends before a whole head, or the
--- source fails before one, no byte is used.
-pub data Opens (last : Bool) (old new : Outside) (c : Course) : Type 0 where
-  clean : Begins old.input (λ what. what ≡ Clean) → new ≡ old → c ≡ stops (Some stream.Closed) → Opens last old new c
-  torn : Begins old.input (λ what. what ≡ Cut) → new ≡ old → c ≡ stops (Some stream.TornRequest) → Opens last old new c
+-- What comes of reading a head: the course behind it, and the outside then. Where the stream ends before a whole head, the
+-- source fails before one, or it is refused as none, no byte is used. Memory may be wanted to read it, or for what it says.
+pub data Opens (settings : Settings) (last : Bool) (old new : Outside) (c : Course) : Type 0 where
+  clean : Begins old.input (λ what. what ≡ Clean) → new ≡ old → c ≡ stops (Some stream.Closed) → Opens settings last old new c
+  torn : Begins old.input (λ what. what ≡ Cut) → new ≡ old → c ≡ stops (Some stream.TornRequest) → Opens settings last old new c
   failed : (faults : ℕ) → Rose old.read_faults faults → new ≡ record old { read_faults = faults }
-      → c ≡ stops (Some stream.SourceFault) → Opens last old new c
-  starved : Begins old.input IsHead → UsesHead old new → c ≡ without_memory → Opens last old new c
-  refused : Begins old.input IsRefused → UsesHead old new → c ≡ bad_head → Opens last old new c
-  served : (head : Head) (request : Plain) (rest : Option (List ℕ)) → plain head ≡ Some request → Begins old.input (IsWhole head rest)
-      → new ≡ record old { input = rest } → c ≡ course request last → Opens last old new c
+      → c ≡ stops (Some stream.SourceFault) → Opens settings last old new c
+  refused : (fault : HeadFault) → Begins old.input (λ what. what ≡ Bad fault) → new ≡ old → c ≡ refuses_head fault
+      → Opens settings last old new c
+  unread_head : Begins old.input IsHead → new ≡ old → c ≡ without_memory (at_end false) → Opens settings last old new c
+  starved : (head : Head) (rest : Option (List ℕ)) → Begins old.input (IsWhole head rest) → new ≡ record old { input = rest }
+      → c ≡ starves head → Opens settings last old new c
+  served : (head : Head) (rest : Option (List ℕ)) → Begins old.input (IsWhole head rest) → new ≡ record old { input = rest }
+      → c ≡ course_of (judge settings head) last → Opens settings last old new c
 
 -- One request of a stream, or its end. It says how the stream ends, or that it goes on.
-abbrev pub Turn : Type 0 → Bool → List Entry → Outside → Outside → Option End → Type 0
-Turn tells last entries old new end = (c : Course) × (mid : Outside) × Opens last old mid c × Follows tells c entries mid new end
+abbrev pub Turn : Settings → Type 0 → Bool → List Entry → Outside → Outside → Option End → Type 0
+Turn settings tells last entries old new end =
+    (c : Course) × (mid : Outside) × Opens settings last old mid c × Follows tells c entries mid new end
 
 -- A stream of at most so many requests is served.
-unfoldable pub Serves : Type 0 → ℕ → List Entry → Outside → Outside → End → Type 0
-Serves tells zero entries old new end = (entries ≡ []) × (new ≡ old) × (end ≡ stream.TurnLimit)
-Serves tells (suc left) entries old new end =
-    Turn tells (left == 0) entries old new (Some end)
+unfoldable pub Serves : Settings → Type 0 → ℕ → List Entry → Outside → Outside → End → Type 0
+Serves settings tells zero entries old new end = (entries ≡ []) × (new ≡ old) × (end ≡ stream.TurnLimit)
+Serves settings tells (suc left) entries old new end =
+    Turn settings tells (left == 0) entries old new (Some end)
     ⊎ ((first rest : List Entry) × (mid : Outside) × (entries ≡ first ++ rest)
-    × Turn tells (left == 0) first old mid None × Serves tells left rest mid new end)
+    × Turn settings tells (left == 0) first old mid None × Serves settings tells left rest mid new end)

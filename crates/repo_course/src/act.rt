@@ -1,60 +1,70 @@
 //! What a course does next, and what it then waits for.
-ghost use Rattle.std.specs.Prelude.{◌≡◌, ◌||◌, nat_lt};
-
-use crate::outcomes::{End, Sent, Took};
+use crate::manner::Manner;
+use crate::outcomes::{End, Sent};
 use crate::said::Said;
+use mvn_coords::Side;
 use outside::{Held, Parcel};
 use repo_model::Command;
 use texts::Text;
 
-/// What ends a connection behind a request: the client wants it, or it is the last request that it may make.
-#[derive(Clone, Copy, Debug)]
-pub struct Closing {
-    pub close: bool,
-    pub last: bool,
-}
-
-impl Closing {
-    /// Whether the answer ends the connection.
-    pub fn is_end(self) -> bool
-        ensures { result ≡ (self.close || self.last) }
-    {
-        self.close || self.last
-    }
-
-    /// The same before a body of `length` bytes that stays unread, which ends the connection too.
-    pub fn with_unread(self, length: u64) -> Closing
-        ensures { result ≡ record { close = self.close || nat_lt 0 length; last = self.last } }
-    {
-        Closing {
-            close: self.close || length > 0,
-            last: self.last,
-        }
-    }
-}
-
-/// The repository and the path that a command names.
+/// The body of a file, of `length` bytes, to be stored under a draft and put at its path.
 #[derive(Drop)]
-pub struct Place {
+pub struct FileBody {
     pub repo: Text,
     pub path: Text,
+    pub draft: u64,
+    pub length: u64,
+}
+
+/// What a small body is to be: the text of a side file, or a document.
+#[derive(Clone, Copy, Debug, PartialEq, Eq)]
+pub enum Form {
+    Side(Side),
+    Document,
+}
+
+/// A small body of `length` bytes, sent to a path.
+#[derive(Drop)]
+pub struct SmallBody {
+    pub repo: Text,
+    pub path: Text,
+    pub form: Form,
+    pub length: u64,
+}
+
+/// A body that a course is about to read.
+#[derive(Drop)]
+pub enum Coming {
+    File(FileBody),
+    Small(SmallBody),
 }
 
 /// What a course waits for once it has asked a command.
 #[derive(Drop)]
 pub enum After {
-    /// The file at a path.
+    /// What is at a path.
     Look,
     /// That the lease of a file that was sent is given back.
     Done(Sent),
-    /// A draft for a body of so many bytes.
-    MayPut { place: Place, length: u64 },
+    /// A draft for a body of so many bytes, which is asked for by `100 Continue` or not.
+    MayPut {
+        repo: Text,
+        path: Text,
+        length: u64,
+        expects: bool,
+    },
     /// That the blob stored under the draft is the file at its path.
     Put { draft: u64 },
-    /// That the draft of a body that was not stored is given up.
-    Fault(Took),
+    /// What the digest of a side file is beside that of its file.
+    PutSide,
+    /// That a document was heard of.
+    PutDoc,
+    /// How much there is.
+    Status,
     /// That a draft is given up, behind which the answer says so.
     Say(Said),
+    /// The same where the stream ends so.
+    Stop(End),
     /// The same where memory was wanted.
     NoMemory,
 }
@@ -64,23 +74,16 @@ pub enum After {
 pub enum Act<H: Held> {
     /// Asks the repository.
     Ask(Command<H>, After),
-    /// Takes the body and stores it under the draft.
-    Take {
-        place: Place,
-        draft: u64,
-        length: u64,
-    },
-    /// Sends the file that was lent.
-    Send {
-        lease: u64,
-        parcel: Parcel<H>,
-    },
-    /// Writes an answer; then the stream ends so, or goes on.
-    Say {
-        said: Said,
-        close: bool,
-        end: Option<End>,
-    },
+    /// Writes `100 Continue`, behind which the body is read.
+    Continue(Coming),
+    /// Takes the body of a file and stores it under its draft.
+    Take(FileBody),
+    /// Reads a small body.
+    Read(SmallBody),
+    /// Sends the file that was lent, or its head alone.
+    Send { lease: u64, parcel: Parcel<H> },
+    /// Writes an answer; then the stream ends, or goes on.
+    Say { said: Said, manner: Manner },
     /// Writes nothing more; then the stream ends so, or goes on.
     Stop(Option<End>),
 }

@@ -1,24 +1,27 @@
-//! The courses of requests as pure machines: which requests are served, which command or act comes next, and what is answered.
+//! The courses of requests as pure machines: which command or act comes next, and what is answered.
 //!
-//! [`start`] gives the first [`Act`] for what was read of a stream, and [`after_reply`], [`after_take`] and [`after_send`]
-//! the next one for each result. Each is what `specs/Course.antt` says, and nothing here touches the outside.
+//! [`start`] gives the first [`Act`] for what was read of a stream, and [`after_reply`], [`after_continue`], [`after_take`],
+//! [`after_read`] and [`after_send`] the next one for each result. Each is what `specs/Course.antt` says, and nothing here
+//! touches the outside.
 #![tactic(auto)]
 
 mod act;
 mod answer;
-mod judge;
+mod bodies;
 pub mod laws;
 mod limits;
+mod manner;
 mod opening;
 mod outcomes;
 mod said;
 mod steps;
 
-pub use act::{Act, After, Closing, Place};
+pub use act::{Act, After, Coming, FileBody, Form, SmallBody};
 pub use answer::{file_head, rendered};
-pub use judge::{Plain, judged};
-pub use limits::{LONGEST_BODY, REPOSITORY, TARGET_FRONT, TURNS};
+pub use bodies::{after_continue, after_read, after_take};
+pub use limits::TURNS;
+pub use manner::{Manner, end_of, is_end};
 pub use opening::start;
-pub use outcomes::{End, Sent, Took};
+pub use outcomes::{Continued, End, Sent, Took};
 pub use said::Said;
-pub use steps::{after_reply, after_send, after_take};
+pub use steps::{after_reply, after_send};

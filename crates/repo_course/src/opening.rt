@@ -1,112 +1,184 @@
 //! The first act for what was read of a stream.
-ghost use Rattle.std.specs.Prelude.{◌≡◌, ◌⊎◌, IfOk, IfSome, Option, Result};
+ghost use Rattle.std.specs.Prelude.{◌≡◌, ◌⊎◌, IfOk, Some, Ok};
 ghost use Rattle.http_wire.specs.Head.{Head};
-ghost use Rattle.repo_course.specs.declared.act.Closing.{Closing as AnyClosing};
+ghost use Rattle.repo_config.specs.Form.{IsSettings};
+ghost use Rattle.repo_routes.specs.Framing.{is_head};
+ghost use Rattle.repo_routes.specs.Intent.{reads, puts_file, puts_side, puts_document};
+ghost use Rattle.repo_routes.specs.Judge.{IsJudged, judge};
+ghost use Rattle.repo_routes.specs.Shown.{shown_intent, shown_request};
+ghost use Rattle.repo_course.specs.declared.manner.Manner.{Manner as AnyManner};
 ghost use Rattle.repo_course.specs.Acts.{left_of, Starts};
-ghost use Rattle.repo_course.specs.Course.{bad_head, course, course_of, stops, without_memory};
-ghost use Rattle.repo_course.specs.Meets.{Meets, ServesReleases};
-ghost use Rattle.repo_course.specs.Plain.{get, IsPlain, plain, put as put_request, releases};
-ghost use Rattle.repo_model.specs.Settings.{Settings};
+ghost use Rattle.repo_course.specs.Course.{course, course_for, course_of, refuses, refuses_head, starves, without_memory};
+ghost use Rattle.repo_course.specs.Meets.{Meets};
 
-use crate::act::{Act, After, Closing, Place};
-use crate::judge::{Plain, judged};
-use crate::limits::REPOSITORY;
+use crate::act::{Act, After, Coming, Form, SmallBody};
+use crate::manner::{Manner, at_end};
 use crate::outcomes::End;
 use crate::said::Said;
-use crate::steps::no_memory;
-use http_wire::{Request, WireFault};
+use crate::steps::{invite, no_memory, say};
+use http_wire::{HeadFault, Request, WireFault};
 use outside::Held;
-use repo_model::Command;
+use repo_config::Settings;
+use repo_model::{Command, Place};
+use repo_routes::{Intent, Judged, Refused, Routes, judge};
 use std::alloc::{AllocError, Global};
 use texts::Text;
 
-/// A path in the one repository.
-fn place_of(alloc: Global, path: &str) -> Result<Place, AllocError>
-    ensures repo { IfOk result (λ place. place.repo ≡ releases) }
-    ensures path { IfOk result (λ place. place.path ≡ path.now) }
+/// The first act of a PUT of a file. The second command of its course names the same place, of which there is a copy.
+fn may_put<H: Held>(
+    alloc: Global,
+    repo: Text,
+    path: Text,
+    length: u64,
+    expects: bool,
+) -> Result<Act<H>, AllocError>
+    ensures { IfOk result (λ act. (manner : AnyManner) → left_of manner act ≡ course_for manner expects (puts_file repo path length)) }
 {
-    let repo = Text::new(alloc, REPOSITORY)?;
-    let path = Text::new(alloc, path)?;
-    Ok(Place { repo, path })
-}
-
-/// The first act of a GET.
-fn look<H: Held>(alloc: Global, path: &str) -> Result<Act<H>, AllocError>
-    ensures { IfOk result (λ act. (closing : AnyClosing) → left_of closing act ≡ course (get path.now closing.close) closing.last) }
-{
-    let place = place_of(alloc, path)?;
-    let look = Command::Look {
-        repo: place.repo,
-        path: place.path,
-    };
-    Ok(Act::Ask(look, After::Look))
-}
-
-/// The first act of a PUT. The second command of its course names the same place, of which there is a copy.
-fn may_put<H: Held>(alloc: Global, path: &str, length: u64) -> Result<Act<H>, AllocError>
-    ensures { IfOk result (λ act. (closing : AnyClosing) → left_of closing act ≡ course (put_request path.now length closing.close) closing.last) }
-{
-    let first = place_of(alloc, path)?;
-    let place = place_of(alloc, path)?;
+    let repo_again = repo.copied(alloc)?;
+    let path_again = path.copied(alloc)?;
     let may_put = Command::MayPut {
-        repo: first.repo,
-        path: first.path,
+        place: Place::Repository(repo),
+        path,
     };
-    Ok(Act::Ask(may_put, After::MayPut { place, length }))
+    let after = After::MayPut {
+        repo: repo_again,
+        path: path_again,
+        length,
+        expects,
+    };
+    Ok(Act::Ask(may_put, after))
 }
 
-/// The refusal of a head that is not plain.
-fn refusal<H: Held>() -> Act<H>
-    ensures { (closing : AnyClosing) → left_of closing result ≡ bad_head }
+/// The first act of a request that is not refused.
+fn first_act<H: Held>(alloc: Global, intent: Intent, expects: bool) -> Result<Act<H>, AllocError>
+    ensures { IfOk result (λ act. (manner : AnyManner) → left_of manner act ≡ course_for manner expects (shown_intent intent)) }
 {
-    Act::Say {
-        said: Said::BadHead,
-        close: true,
-        end: Some(End::Closed),
+    match intent {
+        Intent::Read { repo, path } => Ok(Act::Ask(Command::Look { repo, path }, After::Look)),
+        Intent::PutFile { repo, path, length } => may_put(alloc, repo, path, length, expects),
+        Intent::PutSide {
+            repo,
+            path,
+            side,
+            length,
+        } => {
+            let form = Form::Side(side);
+            Ok(invite(
+                expects,
+                Coming::Small(SmallBody {
+                    repo,
+                    path,
+                    form,
+                    length,
+                }),
+            ))
+        }
+        Intent::PutDocument { repo, path, length } => {
+            let form = Form::Document;
+            Ok(invite(
+                expects,
+                Coming::Small(SmallBody {
+                    repo,
+                    path,
+                    form,
+                    length,
+                }),
+            ))
+        }
+        Intent::Status => Ok(Act::Ask(Command::Status, After::Status)),
     }
 }
 
-/// The first act of a plain request, or the refusal of one that is not plain. Where memory is wanting, that is the answer.
-fn open<H: Held>(alloc: Global, request: &Request, last: bool) -> (Closing, Act<H>)
-    ensures course { (left_of result.0 result.1 ≡ course_of (plain request.now) last) ⊎ (left_of result.0 result.1 ≡ without_memory) }
-    ensures kept { IfSome (plain request.now) IsPlain }
+/// Whether the request is a HEAD, whose answers have no body (RFC 9110, section 9.3.2).
+fn is_head(request: &Request) -> bool
+    ensures { result ≡ is_head request.now }
 {
-    match judged(request) {
-        None => (Closing { close: true, last }, refusal()),
-        Some(Plain::Get { path, close }) => match look(alloc, path) {
-            Ok(act) => (Closing { close, last }, act),
-            Err(_) => (Closing { close, last }, no_memory()),
-        },
-        Some(
-            Plain::Put {
-                path,
-                length,
-                close,
-            },
-        ) => match may_put(alloc, path, length) {
-            Ok(act) => (Closing { close, last }, act),
-            Err(_) => (Closing { close, last }, no_memory()),
-        },
+    request.method() == "HEAD"
+}
+
+/// The first act for a whole head: of its request's course, or its refusal.
+fn open<H: Held>(
+    alloc: Global,
+    settings: &Settings,
+    routes: &Option<Routes>,
+    request: &Request,
+    last: bool,
+) -> Result<(Manner, Act<H>), AllocError>
+    ensures course { IfOk result (λ r. left_of r.0 r.1 ≡ course_of (judge settings.now request.now) last) }
+    ensures meets { IfOk result (λ r. Meets settings.now (left_of r.0 r.1)) }
+{
+    settings.form();
+    let routes = routes.as_ref().ok_or(AllocError)?;
+    match judge(alloc, settings, routes, request)? {
+        Ok(judged) => {
+            let manner = Manner {
+                close: judged.close,
+                last,
+                head_only: judged.head_only,
+            };
+            let act = first_act(alloc, judged.intent, judged.expects)?;
+            Ok((manner, act))
+        }
+        Err(refused) => {
+            let manner = Manner {
+                close: refused.close,
+                last,
+                head_only: refused.head_only,
+            };
+            Ok((manner, say(Said::Refused(refused.refusal), manner)))
+        }
     }
 }
 
-/// The first act for what was read of a stream, and what ends the connection behind it: the first of the request's
-/// course, or the end of a stream that gave none.
+/// The same, or where memory was wanted the answer that says so.
+fn open_or_starve<H: Held>(
+    alloc: Global,
+    settings: &Settings,
+    routes: &Option<Routes>,
+    request: &Request,
+    last: bool,
+) -> (Manner, Act<H>)
+    ensures course { (left_of result.0 result.1 ≡ course_of (judge settings.now request.now) last)
+        ⊎ (left_of result.0 result.1 ≡ starves request.now) }
+    ensures meets { Meets settings.now (left_of result.0 result.1) }
+{
+    let manner = at_end(is_head(request));
+    match open(alloc, settings, routes, request, last) {
+        Ok(first) => first,
+        Err(_) => (manner, no_memory(manner)),
+    }
+}
+
+/// The answer to what is no request head, or too long a one.
+fn refuse_head<H: Held>(fault: HeadFault) -> Act<H>
+    ensures { (any : AnyManner) → left_of any result ≡ refuses_head fault }
+{
+    match fault {
+        HeadFault::Broken => say(Said::BadHead, at_end(false)),
+        HeadFault::TooLong => say(Said::HeadTooLong, at_end(false)),
+    }
+}
+
+/// The first act for what was read of a stream, and the manner of its answers: the first of the request's course, the
+/// refusal of its head, or the end of a stream that gave none. Where there are no routes, for which memory was wanted, or
+/// none is left to judge the head, that is the answer.
 pub fn start<H: Held>(
     alloc: Global,
+    settings: &Settings,
+    routes: &Option<Routes>,
     read: Result<Option<Request>, WireFault>,
     last: bool,
-) -> (Closing, Act<H>)
-    ensures course { Starts read last (left_of result.0 result.1) }
-    ensures meets { (settings : Settings) → ServesReleases settings → Meets settings (left_of result.0 result.1) }
+) -> (Manner, Act<H>)
+    ensures course { Starts settings.now read last (left_of result.0 result.1) }
+    ensures meets { Meets settings.now (left_of result.0 result.1) }
 {
     let act = match read {
-        Ok(Some(request)) => return open(alloc, &request, last),
+        Ok(Some(request)) => return open_or_starve(alloc, settings, routes, &request, last),
         Ok(None) => Act::Stop(Some(End::Closed)),
         Err(WireFault::Torn) => Act::Stop(Some(End::TornRequest)),
         Err(WireFault::SourceFault) => Act::Stop(Some(End::SourceFault)),
-        Err(WireFault::Refused(_)) => refusal(),
-        Err(WireFault::NoMemory) => no_memory(),
+        Err(WireFault::Refused(fault)) => refuse_head(fault),
+        Err(WireFault::NoMemory) => no_memory(at_end(false)),
     };
-    (Closing { close: true, last }, act)
+    (at_end(false), act)
 }

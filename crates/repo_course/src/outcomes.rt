@@ -13,28 +13,37 @@ pub enum End {
     SinkFault,
 }
 
+/// What came of writing `100 Continue`.
+#[derive(Clone, Copy, Debug, PartialEq, Eq)]
+pub enum Continued {
+    /// It was written.
+    Written,
+    /// The sink failed, and no more than a part was written.
+    SinkFault,
+}
+
 /// What came of sending a file.
 #[derive(Clone, Copy, Debug, PartialEq, Eq)]
 pub enum Sent {
-    /// The head and every byte of the file were written.
+    /// The head was written, and every byte of the file unless the head alone was asked for.
     Whole,
     /// The blob could not be read, and nothing was written.
     BlobFault,
     /// The sink failed, and no more than a part was written.
     SinkFault,
-    /// There was no memory to read the blob, and nothing was written.
+    /// There was no memory to read the blob or to make the head, and nothing was written.
     NoMemory,
 }
 
-/// Why no blob was made of a body.
+/// Why a body was not taken.
 #[derive(Clone, Copy, Debug, PartialEq, Eq)]
 pub enum Took {
     /// The stream ended before the body's last byte.
     Torn,
     /// The source failed.
     SourceFault,
-    /// The blob could not be stored. The body was read.
+    /// The blob could not be stored. The body was read. Never where a body is only read.
     BlobFault,
-    /// There was no memory for the body, or none to store it.
+    /// There was no memory for the body, or none to store it or to read what it says.
     NoMemory,
 }

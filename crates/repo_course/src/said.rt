@@ -1,14 +1,25 @@
+use mvn_digest::{Digests, SideText};
 use repo_model::Print;
+use repo_routes::Refusal;
+use texts::Bytes;
 
 /// What an answer says, whatever its bytes: the outcome of a request, or the cause of its refusal.
-#[derive(Clone, Copy, Debug)]
+#[derive(Drop)]
 pub enum Said {
-    /// The head is not plain.
+    /// A whole head that is no request head.
     BadHead,
+    /// A head that is too long, or has too many field lines.
+    HeadTooLong,
+    /// The request is refused by its head.
+    Refused(Refusal),
+    /// The text of a side file.
+    Text(SideText),
+    /// The document of a directory.
+    Doc { text: Bytes, digests: Digests },
+    /// There is nothing at the path, or nothing at that of the side file's file.
+    NotThere,
     /// The repository does not take files of the path's kind.
     KindRefused,
-    /// There is no file at the path.
-    NotThere,
     /// The body is the file at the path.
     Created,
     /// The path has a file of the same content.
@@ -17,6 +28,24 @@ pub enum Said {
     Relisted,
     /// The path has a file of another content.
     Taken { kept: Print, sent: Print },
+    /// The body of a side file says no digest of its side.
+    NoDigest,
+    /// The side file says the digest of its file, or is that of a document.
+    Agreed,
+    /// The side file says another digest than its file has; the digests as text.
+    Differs { said: SideText, kept: SideText },
+    /// The body is no document; the first fault is at this byte.
+    NoDocument { at: usize },
+    /// The document was heard of.
+    Noted,
+    /// How much there is.
+    Counts {
+        files: u64,
+        fading: u64,
+        cached: u64,
+        documents: u64,
+        sessions: u64,
+    },
     /// The number that the body was stored under is no draft.
     NoDraft,
     /// The next number to draw is 2^63.

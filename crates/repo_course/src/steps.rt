@@ -1,158 +1,227 @@
 //! A course's next act, by what the last one gave.
 ghost use Rattle.std.specs.Prelude.{◌≡◌, ◌<◌, ◌+◌};
-ghost use Rattle.repo_model.specs.Shown.{shown_reply};
-ghost use Rattle.repo_course.specs.declared.act.Closing.{Closing as AnyClosing};
-ghost use Rattle.repo_course.specs.Acts.{after_reply, left_of, rank_after, rank_of, shown_stored};
-ghost use Rattle.repo_course.specs.Course.{after_fault, after_look, after_may_put, after_put, after_send, after_take, answers, asks, end_of, without_memory};
+ghost use Rattle.mvn_digest.specs.Hex.{hex_text};
+ghost use Rattle.mvn_digest.specs.Sides.{bytes_in};
 ghost use Rattle.repo_model.specs.Command.{done};
+ghost use Rattle.repo_model.specs.Shown.{shown_reply};
+ghost use Rattle.repo_course.specs.declared.manner.Manner.{Manner as AnyManner};
+ghost use Rattle.repo_course.specs.Acts.{after_reply, left_of, left_of_body, left_uninvited, rank_after, rank_of};
+ghost use Rattle.repo_course.specs.Course.{after_look, after_may_put, after_put, after_put_doc, after_put_side, after_send, after_status, asks, invites, says, without_memory};
 
-use crate::act::{Act, After, Closing, Place};
+use crate::act::{Act, After, Coming, FileBody};
+use crate::manner::{Manner, at_end, end_of, with_unread};
 use crate::outcomes::{End, Sent, Took};
 use crate::said::Said;
+use mvn_coords::Side;
+use mvn_digest::{Digest, Digests, MD5_BYTES, SHA1_BYTES, SideText, side_text};
 use outside::{Held, Parcel};
 use repo_model::{Command, Reply};
+use texts::Text;
 
-fn end_of(close: bool) -> Option<End>
-    ensures { result ≡ end_of close }
-{
-    if close { Some(End::Closed) } else { None }
-}
-
-/// An answer that ends the connection as `ending` says.
-fn answer_in<H: Held>(ending: Closing, said: Said) -> Act<H>
-    ensures left { (closing : AnyClosing) → left_of closing result ≡ answers ending said }
+/// An answer in a manner.
+pub(crate) fn say<H: Held>(said: Said, manner: Manner) -> Act<H>
+    ensures left { (any : AnyManner) → left_of any result ≡ says said manner }
     ensures rank { rank_of result ≡ 0 }
 {
-    Act::Say {
-        said,
-        close: ending.is_end(),
-        end: end_of(ending.close),
-    }
+    Act::Say { said, manner }
 }
 
 /// The answer where memory was wanted.
-pub(crate) fn no_memory<H: Held>() -> Act<H>
-    ensures left { (closing : AnyClosing) → left_of closing result ≡ without_memory }
+pub(crate) fn no_memory<H: Held>(manner: Manner) -> Act<H>
+    ensures left { (any : AnyManner) → left_of any result ≡ without_memory manner }
     ensures rank { rank_of result ≡ 0 }
 {
     Act::Say {
         said: Said::NoMemory,
-        close: true,
-        end: Some(End::Closed),
+        manner: at_end(manner.head_only),
     }
 }
 
-fn after_look<H: Held>(closing: Closing, reply: Reply<H>) -> Act<H>
-    ensures left { left_of closing result ≡ after_look closing (shown_reply reply) }
+/// A body that is read, and before it `100 Continue` where the client waits for it.
+pub(crate) fn invite<H: Held>(expects: bool, coming: Coming) -> Act<H>
+    ensures left { (any : AnyManner) → left_of any result ≡ invites expects (left_uninvited coming) (left_of_body any coming) }
+    ensures rank { rank_of result < 7 }
+{
+    if expects {
+        return Act::Continue(coming);
+    }
+    match coming {
+        Coming::File(body) => Act::Take(body),
+        Coming::Small(body) => Act::Read(body),
+    }
+}
+
+fn after_look<H: Held>(manner: Manner, reply: Reply<H>) -> Act<H>
+    ensures left { left_of manner result ≡ after_look manner (shown_reply reply) }
     ensures shorter { rank_of result < 4 }
 {
     match reply {
         Reply::File { lease, parcel } => Act::Send { lease, parcel },
-        Reply::Missed => answer_in(closing, Said::NotThere),
-        Reply::Spent => answer_in(closing, Said::Spent),
-        _ => no_memory(),
+        Reply::Text(text) => say(Said::Text(text), manner),
+        Reply::Doc { text, digests } => say(Said::Doc { text, digests }, manner),
+        Reply::Missed => say(Said::NotThere, manner),
+        Reply::Spent => say(Said::Spent, manner),
+        _ => no_memory(manner),
     }
 }
 
-fn after_done<H: Held>(closing: Closing, sent: Sent) -> Act<H>
-    ensures left { left_of closing result ≡ after_send closing sent }
+fn after_done<H: Held>(manner: Manner, sent: Sent) -> Act<H>
+    ensures left { left_of manner result ≡ after_send manner sent }
     ensures rank { rank_of result ≡ 0 }
 {
     match sent {
-        Sent::Whole => Act::Stop(end_of(closing.close)),
-        Sent::BlobFault => answer_in(closing, Said::BlobFault),
+        Sent::Whole => Act::Stop(end_of(manner)),
+        Sent::BlobFault => say(Said::BlobFault, manner),
         Sent::SinkFault => Act::Stop(Some(End::SinkFault)),
-        Sent::NoMemory => no_memory(),
+        Sent::NoMemory => no_memory(manner),
     }
 }
 
-fn after_may_put<H: Held>(closing: Closing, place: Place, length: u64, reply: Reply<H>) -> Act<H>
-    ensures left { left_of closing result ≡ after_may_put place.repo place.path length closing (shown_reply reply) }
-    ensures shorter { rank_of result < 6 }
+fn after_may_put<H: Held>(
+    manner: Manner,
+    repo: Text,
+    path: Text,
+    length: u64,
+    expects: bool,
+    reply: Reply<H>,
+) -> Act<H>
+    ensures left { left_of manner result ≡ after_may_put repo path length expects manner (shown_reply reply) }
+    ensures shorter { rank_of result < 7 }
 {
-    let unread = closing.with_unread(length);
+    let unread = with_unread(manner, length);
     match reply {
-        Reply::Draft(draft) => Act::Take {
-            place,
-            draft,
-            length,
-        },
-        Reply::KindRefused => answer_in(unread, Said::KindRefused),
-        Reply::Spent => answer_in(unread, Said::Spent),
-        _ => no_memory(),
+        Reply::Draft(draft) => {
+            let body = FileBody {
+                repo,
+                path,
+                draft,
+                length,
+            };
+            invite(expects, Coming::File(body))
+        }
+        Reply::KindRefused => say(Said::KindRefused, unread),
+        Reply::Spent => say(Said::Spent, unread),
+        _ => no_memory(manner),
     }
 }
 
-fn after_put<H: Held>(closing: Closing, draft: u64, reply: Reply<H>) -> Act<H>
-    ensures left { left_of closing result ≡ after_put draft closing (shown_reply reply) }
+fn after_put<H: Held>(manner: Manner, draft: u64, reply: Reply<H>) -> Act<H>
+    ensures left { left_of manner result ≡ after_put draft manner (shown_reply reply) }
     ensures shorter { rank_of result < 3 }
 {
     match reply {
-        Reply::Created => answer_in(closing, Said::Created),
-        Reply::Same => answer_in(closing, Said::Same),
-        Reply::Relisted => answer_in(closing, Said::Relisted),
-        Reply::Taken { kept, sent } => answer_in(closing, Said::Taken { kept, sent }),
+        Reply::Created => say(Said::Created, manner),
+        Reply::Same => say(Said::Same, manner),
+        Reply::Relisted => say(Said::Relisted, manner),
+        Reply::Taken { kept, sent } => say(Said::Taken { kept, sent }, manner),
         Reply::NoDraft => Act::Ask(Command::Drop { draft }, After::Say(Said::NoDraft)),
         _ => Act::Ask(Command::Drop { draft }, After::NoMemory),
     }
 }
 
-fn after_fault<H: Held>(closing: Closing, fault: Took) -> Act<H>
-    ensures left { left_of closing result ≡ after_fault closing fault }
+/// A digest as text.
+fn digest_text(digest: Digest) -> SideText
+    ensures { result ≡ hex_text (bytes_in digest) }
+{
+    match digest {
+        Digest::Sha1(sha1) => side_text(
+            &Digests {
+                sha1,
+                md5: [0; MD5_BYTES],
+            },
+            Side::Sha1,
+        ),
+        Digest::Md5(md5) => side_text(
+            &Digests {
+                sha1: [0; SHA1_BYTES],
+                md5,
+            },
+            Side::Md5,
+        ),
+    }
+}
+
+fn after_put_side<H: Held>(manner: Manner, reply: Reply<H>) -> Act<H>
+    ensures left { left_of manner result ≡ after_put_side manner (shown_reply reply) }
     ensures rank { rank_of result ≡ 0 }
 {
-    match fault {
-        Took::Torn => Act::Stop(Some(End::TornRequest)),
-        Took::SourceFault => Act::Stop(Some(End::SourceFault)),
-        Took::BlobFault => answer_in(closing, Said::BlobFault),
-        Took::NoMemory => no_memory(),
+    match reply {
+        Reply::Agreed => say(Said::Agreed, manner),
+        Reply::Differs { said, kept } => {
+            let differs = Said::Differs {
+                said: digest_text(said),
+                kept: digest_text(kept),
+            };
+            say(differs, manner)
+        }
+        Reply::NotThere => say(Said::NotThere, manner),
+        _ => no_memory(manner),
+    }
+}
+
+fn after_put_doc<H: Held>(manner: Manner, reply: Reply<H>) -> Act<H>
+    ensures left { left_of manner result ≡ after_put_doc manner (shown_reply reply) }
+    ensures rank { rank_of result ≡ 0 }
+{
+    match reply {
+        Reply::Noted => say(Said::Noted, manner),
+        _ => no_memory(manner),
+    }
+}
+
+fn after_status<H: Held>(manner: Manner, reply: Reply<H>) -> Act<H>
+    ensures left { left_of manner result ≡ after_status manner (shown_reply reply) }
+    ensures rank { rank_of result ≡ 0 }
+{
+    match reply {
+        Reply::Counts {
+            files,
+            fading,
+            cached,
+            documents,
+            sessions,
+        } => {
+            let counts = Said::Counts {
+                files,
+                fading,
+                cached,
+                documents,
+                sessions,
+            };
+            say(counts, manner)
+        }
+        _ => no_memory(manner),
     }
 }
 
 /// What follows the reply that a course waited for.
-pub fn after_reply<H: Held>(closing: Closing, after: After, reply: Reply<H>) -> Act<H>
-    ensures left { left_of closing result ≡ after_reply closing after (shown_reply reply) }
+pub fn after_reply<H: Held>(manner: Manner, after: After, reply: Reply<H>) -> Act<H>
+    ensures left { left_of manner result ≡ after_reply manner after (shown_reply reply) }
     ensures shorter { rank_of result < rank_after after + 1 }
 {
     match after {
-        After::Look => after_look(closing, reply),
-        After::Done(sent) => after_done(closing, sent),
-        After::MayPut { place, length } => after_may_put(closing, place, length, reply),
-        After::Put { draft } => after_put(closing, draft, reply),
-        After::Fault(fault) => after_fault(closing, fault),
-        After::Say(said) => answer_in(closing, said),
-        After::NoMemory => no_memory(),
+        After::Look => after_look(manner, reply),
+        After::Done(sent) => after_done(manner, sent),
+        After::MayPut {
+            repo,
+            path,
+            length,
+            expects,
+        } => after_may_put(manner, repo, path, length, expects, reply),
+        After::Put { draft } => after_put(manner, draft, reply),
+        After::PutSide => after_put_side(manner, reply),
+        After::PutDoc => after_put_doc(manner, reply),
+        After::Status => after_status(manner, reply),
+        After::Say(said) => say(said, manner),
+        After::Stop(end) => Act::Stop(Some(end)),
+        After::NoMemory => no_memory(manner),
     }
 }
 
 /// What follows the sending of a file: its lease is given back, whatever came of it.
-pub fn after_send<H: Held>(closing: Closing, lease: u64, sent: Sent) -> Act<H>
-    ensures left { left_of closing result ≡ asks (done lease) (λ reply. after_send closing sent) }
+pub fn after_send<H: Held>(manner: Manner, lease: u64, sent: Sent) -> Act<H>
+    ensures left { left_of manner result ≡ asks (done lease) (λ reply. after_send manner sent) }
     ensures shorter { rank_of result < 3 }
 {
     Act::Ask(Command::Done { lease }, After::Done(sent))
-}
-
-/// What follows the taking of a body: it is put, or its draft given up.
-pub fn after_take<H: Held>(
-    closing: Closing,
-    place: Place,
-    draft: u64,
-    taken: Result<Parcel<H>, Took>,
-) -> Act<H>
-    ensures left { left_of closing result ≡ after_take place.repo place.path draft closing (shown_stored taken) }
-    ensures shorter { rank_of result < 5 }
-{
-    match taken {
-        Ok(parcel) => {
-            let put = Command::Put {
-                repo: place.repo,
-                path: place.path,
-                draft,
-                parcel,
-            };
-            Act::Ask(put, After::Put { draft })
-        }
-        Err(fault) => Act::Ask(Command::Drop { draft }, After::Fault(fault)),
-    }
 }
