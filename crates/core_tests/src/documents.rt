@@ -1,6 +1,6 @@
 // Documents of directories, computed from what was put.
 use crate::bench::{Ask, Bench, MIXED, Said, T};
-use outside::ScriptClock;
+use outside_memory::ScriptClock;
 use std::alloc::Global;
 use std::test::Fail;
 
