@@ -1,14 +1,33 @@
 // What the tests share: a core over memory, and commands and replies as plain values.
-ghost use Rattle.std.specs.Prelude.{◌≡◌, IfOk};
-
-use mvn_digest::Hashes;
+use mvn_digest::{Digest, Hashes};
 use outside::{Blobs, Parcel};
 use outside_memory::{FaultScript, MemBlobs, MemHeld, ScriptClock};
-use repo_core::{Command, Core, Policy, Reply};
+use repo_config::Settings;
+use repo_core::{Command, Core, Place, Reply};
 use repo_model::Print;
 use std::alloc::{AllocError, Global};
+use std::process::Abort;
 use std::test::Fail;
 use texts::Text;
+
+/// Repositories that take what their ids say, and keep all of their snapshots.
+pub const MIXED: &str = "max_file = 1000
+[[hosted]]
+id = \"releases\"
+releases = true
+snapshots = false
+[[hosted]]
+id = \"mixed\"
+releases = true
+snapshots = true
+[[hosted]]
+id = \"snapshots\"
+releases = false
+snapshots = true
+";
+
+/// 2024-02-29 12:00:00 UTC.
+pub const T: u64 = 1_709_208_000;
 
 /// A command in plain values.
 #[derive(Clone, Copy)]
@@ -18,6 +37,13 @@ pub enum Ask {
     MayPut(&'static str, &'static str),
     Put(&'static str, &'static str, u64, &'static [u8]),
     Drop(u64),
+    PutSide(&'static str, &'static str, Digest),
+    PutDoc(&'static str, &'static str),
+    Status,
+    // at a session
+    MayStage(u64, &'static str),
+    StageSide(u64, &'static str, Digest),
+    StageDoc(u64, &'static str),
 }
 
 /// A print's length and SHA-1, in hexadecimal.
@@ -40,6 +66,14 @@ pub enum Said {
     Same,
     Created,
     Dropped,
+    NotThere,
+    // what was said, and what is kept
+    Differs(Digest, Digest),
+    Agreed,
+    Noted,
+    NoSession,
+    // files, those that are unlisted, files and documents of proxies, sessions
+    Counts([u64; 5]),
     Other,
 }
 
@@ -78,7 +112,20 @@ fn value_of(reply: &Reply<MemHeld>) -> Said {
         Reply::Same => Said::Same,
         Reply::Created => Said::Created,
         Reply::Dropped => Said::Dropped,
-        Reply::Relisted | Reply::Spent | Reply::NoMemory => Said::Other,
+        Reply::NotThere => Said::NotThere,
+        Reply::Differs { said, kept } => Said::Differs(*said, *kept),
+        Reply::Agreed => Said::Agreed,
+        Reply::Noted => Said::Noted,
+        Reply::NoSession => Said::NoSession,
+        Reply::Counts {
+            files,
+            fading,
+            cached,
+            documents,
+            sessions,
+        } => Said::Counts([*files, *fading, *cached, *documents, *sessions]),
+        Reply::Text(_) | Reply::Doc { .. } | Reply::Relisted => Said::Other,
+        Reply::Spent | Reply::NoMemory => Said::Other,
     }
 }
 
@@ -90,24 +137,10 @@ pub struct Bench {
     blobs: MemBlobs,
 }
 
-fn policy(alloc: Global, id: &str, releases: bool, snapshots: bool) -> Result<Policy, AllocError>
-    ensures { IfOk result (λ policy. policy.id ≡ id.now) }
-{
-    Ok(Policy {
-        id: Text::new(alloc, id)?,
-        releases,
-        snapshots,
-    })
-}
-
-fn core_of(alloc: Global) -> Result<Core<ScriptClock, MemHeld>, AllocError> {
-    let releases = policy(alloc, "releases", true, false)?;
-    let mixed = policy(alloc, "mixed", true, true)?;
-    let snapshots = policy(alloc, "snapshots", false, true)?;
-    let clock = ScriptClock::stepping(alloc, 1_700_000_000, 1);
-    match Core::plain(alloc, &[releases, mixed, snapshots], 1_000, clock) {
-        Ok(core) => Ok(core),
-        Err((error, _)) => Err(error),
+fn settings_of(alloc: Global, text: &str) -> Result<Settings, Fail> {
+    match repo_config::read(alloc, text.as_bytes()) {
+        Ok(settings) => Ok(settings),
+        Err(_) => Err("settings")?,
     }
 }
 
@@ -122,20 +155,47 @@ fn look(alloc: Global, repo: &str, path: &str) -> Result<Command<MemHeld>, Alloc
     Ok(Command::Look { repo, path })
 }
 
-fn may_put(alloc: Global, repo: &str, path: &str) -> Result<Command<MemHeld>, AllocError> {
-    let (repo, path) = texts(alloc, repo, path)?;
-    Ok(Command::MayPut { repo, path })
+fn may_put(alloc: Global, place: Place, path: &str) -> Result<Command<MemHeld>, AllocError> {
+    let path = Text::new(alloc, path)?;
+    Ok(Command::MayPut { place, path })
+}
+
+fn put_side(
+    alloc: Global,
+    place: Place,
+    path: &str,
+    said: Digest,
+) -> Result<Command<MemHeld>, AllocError> {
+    let path = Text::new(alloc, path)?;
+    Ok(Command::PutSide { place, path, said })
+}
+
+fn put_doc(alloc: Global, place: Place, path: &str) -> Result<Command<MemHeld>, AllocError> {
+    let path = Text::new(alloc, path)?;
+    Ok(Command::PutDoc { place, path })
+}
+
+fn at(alloc: Global, repo: &str) -> Result<Place, AllocError> {
+    Ok(Place::Repository(Text::new(alloc, repo)?))
 }
 
 impl Bench {
     /// The repositories `releases`, `mixed` and `snapshots`, which take what their ids say. The clock goes on by a
     /// second each time that it is read.
     pub fn new(alloc: Global) -> Result<Bench, Fail> {
-        Ok(Bench {
-            alloc,
-            core: core_of(alloc)?,
-            blobs: MemBlobs::new(alloc, FaultScript::none(alloc)),
-        })
+        Bench::of(alloc, MIXED, ScriptClock::stepping(alloc, 1_700_000_000, 1))
+    }
+
+    /// The repositories of these settings, by this clock.
+    pub fn of(alloc: Global, settings: &str, clock: ScriptClock) -> Result<Bench, Fail> {
+        match Core::plain(alloc, settings_of(alloc, settings)?, clock) {
+            Ok(core) => Ok(Bench {
+                alloc,
+                core,
+                blobs: MemBlobs::new(alloc, FaultScript::none(alloc)),
+            }),
+            Err((error, _)) => Err(error)?,
+        }
     }
 
     /// A parcel of these bytes, stored under a number.
@@ -172,7 +232,19 @@ impl Bench {
             Ask::Done(lease) => Ok(Command::Done { lease }),
             Ask::Drop(draft) => Ok(Command::Drop { draft }),
             Ask::Look(repo, path) => Ok(look(self.alloc, repo, path)?),
-            Ask::MayPut(repo, path) => Ok(may_put(self.alloc, repo, path)?),
+            Ask::MayPut(repo, path) => Ok(may_put(self.alloc, at(self.alloc, repo)?, path)?),
+            Ask::PutSide(repo, path, said) => {
+                Ok(put_side(self.alloc, at(self.alloc, repo)?, path, said)?)
+            }
+            Ask::PutDoc(repo, path) => Ok(put_doc(self.alloc, at(self.alloc, repo)?, path)?),
+            Ask::MayStage(number, path) => {
+                Ok(may_put(self.alloc, Place::Session(number), path)?)
+            }
+            Ask::StageSide(number, path, said) => {
+                Ok(put_side(self.alloc, Place::Session(number), path, said)?)
+            }
+            Ask::StageDoc(number, path) => Ok(put_doc(self.alloc, Place::Session(number), path)?),
+            Ask::Status => Ok(Command::Status),
             Ask::Put(repo, path, draft, bytes) => self.put(repo, path, draft, bytes),
         }
     }
@@ -196,5 +268,75 @@ impl Bench {
     pub fn answer(&mut self, ask: Ask) -> Result<Said, Fail> {
         let command = self.command(ask)?;
         Ok(self.said(command))
+    }
+
+    /// The next command is answered so.
+    pub fn expect(&mut self, rt: &impl Abort, ask: Ask, want: Said) -> Result<(), Fail> {
+        assert!(rt; self.answer(ask)? == want);
+        Ok(())
+    }
+
+    // The reply to a look that meets its condition.
+    fn look(
+        &mut self,
+        rt: &impl Abort,
+        repo: &'static str,
+        path: &'static str,
+    ) -> Result<Reply<MemHeld>, Fail> {
+        let command = look(self.alloc, repo, path)?;
+        assert!(rt; self.core.fits(&command));
+        Ok(self.core.call(command))
+    }
+
+    /// A look gives this text of a side file.
+    pub fn expect_text(
+        &mut self,
+        rt: &impl Abort,
+        repo: &'static str,
+        path: &'static str,
+        want: &str,
+    ) -> Result<(), Fail> {
+        match self.look(rt, repo, path)? {
+            Reply::Text(text) => {
+                assert_eq!(rt; text.as_bytes(), want.as_bytes());
+                Ok(())
+            }
+            _ => Err("no text")?,
+        }
+    }
+
+    /// A look gives this document, and its digests.
+    pub fn expect_document(
+        &mut self,
+        rt: &impl Abort,
+        repo: &'static str,
+        path: &'static str,
+        want: &str,
+    ) -> Result<(), Fail> {
+        match self.look(rt, repo, path)? {
+            Reply::Doc { text, digests } => {
+                assert_eq!(rt; text.as_slice(), want.as_bytes());
+                assert_eq!(rt; digests.sha1_text(), seen_of(want.as_bytes()).sha1);
+                Ok(())
+            }
+            _ => Err("no document")?,
+        }
+    }
+
+    /// Puts bytes at paths that are free, under the drafts from `first` on.
+    pub fn fill(
+        &mut self,
+        rt: &impl Abort,
+        repo: &'static str,
+        first: u64,
+        paths: &[&'static str],
+        bytes: &'static [u8],
+    ) -> Result<(), Fail> {
+        for (n, path) in paths.iter().enumerate() {
+            let draft = first.wrapping_add(n as u64);
+            self.expect(rt, Ask::MayPut(repo, path), Said::Draft(draft))?;
+            self.expect(rt, Ask::Put(repo, path, draft, bytes), Said::Created)?;
+        }
+        Ok(())
     }
 }

@@ -66,11 +66,11 @@ static FIT: [(Ask, bool); 11] = [
     (Ask::Look("releases", BUILD), true),
     (
         Ask::Look("releases", "org/acme/lib/1.0/lib-1.0.jar.sha1"),
-        false,
+        true,
     ),
     (
         Ask::Look("releases", "org/acme/lib/maven-metadata.xml"),
-        false,
+        true,
     ),
     (Ask::MayPut("releases", "lib-1.0.jar"), false),
     (Ask::Put("releases", BUILD, 1, b"abc"), false),

@@ -7,6 +7,12 @@ mod bench;
 #[cfg(test)]
 mod cases;
 #[cfg(test)]
+mod documents;
+#[cfg(test)]
 mod generated;
 #[cfg(test)]
+mod kinds;
+#[cfg(test)]
 mod plain;
+#[cfg(test)]
+mod sides;

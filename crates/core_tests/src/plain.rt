@@ -62,6 +62,12 @@ impl Plain {
                 give_up(&mut self.drafts, draft);
                 Ok(Said::Dropped)
             }
+            Ask::PutDoc(_, _) => Ok(Said::Noted),
+            Ask::Status => Ok(Said::Counts([self.kept.len() as u64, 0, 0, 0, 0])),
+            Ask::MayStage(_, _) | Ask::StageSide(_, _, _) | Ask::StageDoc(_, _) => {
+                Ok(Said::NoSession)
+            }
+            Ask::PutSide(_, _, _) => Ok(Said::Other),
         }
     }
 

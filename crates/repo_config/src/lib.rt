@@ -1,6 +1,7 @@
 //! The settings of a repository: what a settings file may say, and what it says.
 #![tactic(auto)]
 
+mod copies;
 mod faults;
 mod forms;
 mod kinds;

@@ -3,12 +3,14 @@ ghost use Rattle.std.specs.Prelude.{◌≡◌, IfErr, IfOk, None, Ok, OnOk};
 ghost use Rattle.toml.specs.View.{table_view};
 ghost use Rattle.repo_config.specs.Refusal as spec;
 
+use crate::copies::copy_parts;
 use crate::faults::{SettingsFault, name_of};
 use crate::kinds::Walk;
 use crate::names::check_parts;
 use crate::parts::{Parts, parts_of};
 use crate::rules::{GroupRule, HostedRule, ProxyRule};
 use crate::walks::first_fault;
+use outside::NoMemory;
 use std::alloc::Global;
 use std::marker::Model;
 use toml::Table;
@@ -33,6 +35,15 @@ impl Model for Settings {
 
 impl Settings {
     ghost use Rattle.repo_config.specs.Form.{IsSettings};
+
+    /// The same settings in memory of their own.
+    pub fn copied(&self, alloc: Global) -> Result<Settings, NoMemory>
+        ensures { IfOk result (λ copy. copy ≡ self.now) }
+    {
+        Ok(Settings {
+            parts: copy_parts(alloc, &self.parts)?,
+        })
+    }
 
     /// Settings have their form.
     pub fn form(&self)

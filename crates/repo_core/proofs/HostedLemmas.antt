@@ -9,9 +9,7 @@ use Rattle.repo_model.specs.Data as plain
 use Rattle.repo_model.specs.Settings.{Rule}
 use Rattle.repo_model.specs.Command.{is_fit}
 use Rattle.repo_model.specs.State.{is_repository, new_hosted}
-use Rattle.repo_core.specs.declared.hosted.Policy.{Policy}
 use Rattle.repo_core.specs.Hosted.{rules_of, rows_in, with_rows}
-use Rattle.repo_core.specs.Whole.{shown_policy}
 use Rattle.repo_core.proofs.ListLemmas.{find-map}
 
 -- what holds at a place, which is that one, or is not
@@ -86,11 +84,11 @@ module _ (id : List ℕ) where
       ∙ subst (λ rs. take i repos ++ with_rows id new.rows rs ≡ with_rows id new.rows repos) rest (old.front new.rows)
 
 -- one more repository without rows
-pub repos-more : (hosted : List Policy) (repos : List plain.Hosted) (i : ℕ) (p : Policy) (repo : plain.Hosted) → i < length hosted → p ≡ get_or hosted i p → repo ≡ new_hosted (shown_policy p)
-    → repos ≡ map new_hosted (map shown_policy (take i hosted)) → repos ++ repo ∷ [] ≡ map new_hosted (map shown_policy (take (i + 1) hosted))
-repos-more hosted repos i p repo h at made before =
-    let more : take (i + 1) hosted ≡ take i hosted ++ get_or hosted i p ∷ [] = take_more hosted i p h in
-    rw (more, ← at, map-append shown_policy (take i hosted) (p ∷ []), map-append new_hosted (map shown_policy (take i hosted)) (shown_policy p ∷ []), before, made)
+pub repos-more : (told : List Rule) (repos : List plain.Hosted) (i : ℕ) (rule : Rule) (repo : plain.Hosted) → i < length told → rule ≡ get_or told i rule → repo ≡ new_hosted rule
+    → repos ≡ map new_hosted (take i told) → repos ++ repo ∷ [] ≡ map new_hosted (take (i + 1) told)
+repos-more told repos i rule repo h at made before =
+    let more : take (i + 1) told ≡ take i told ++ get_or told i rule ∷ [] = take_more told i rule h in
+    rw (more, ← at, map-append new_hosted (take i told) (rule ∷ []), before, made)
 
 found-there : (b r : Bool) (test : Rule → Bool) (rule : Rule) (rest : Option Rule) → is_fit test (cond b (Some rule) rest) ≡ true → (is_fit test rest ≡ true → r ≡ true) → (b || r) ≡ true
 found-there true r test rule rest h k = refl

@@ -1,5 +1,12 @@
+mod AnswerLemmas
+mod ConditionLemmas
+mod CountLemmas
+mod DraftLemmas
 mod HostedLemmas
 mod ListLemmas
+mod LookLemmas
+mod NameLemmas
 mod PutReplies
+mod SideLemmas
 mod Turning
 mod UseLemmas

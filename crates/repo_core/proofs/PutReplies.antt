@@ -60,7 +60,7 @@ rows-left repo path n now blob found h reply (inl is) =
       bound t is_bound = ap (λ b. if b then h else record h { rows = rows_after_all t.effects h.rows }) is_bound
 
 -- rows that are changed by what they are
-rows-by : (repo : List ℕ) (f : List Row → List Row) (hosted : List Hosted) → with_rows repo (f (rows_in repo hosted)) hosted ≡ change_first (is_repository repo) (λ h. record h { rows = f h.rows }) hosted
+pub rows-by : (repo : List ℕ) (f : List Row → List Row) (hosted : List Hosted) → with_rows repo (f (rows_in repo hosted)) hosted ≡ change_first (is_repository repo) (λ h. record h { rows = f h.rows }) hosted
 rows-by repo f [] = refl
 rows-by repo f (h ∷ hosted) =
     elim (is_repository repo h)
@@ -71,7 +71,7 @@ rows-by repo f (h ∷ hosted) =
       | false ↦ ap (λ hs. h ∷ hs) (rows-by repo f hosted)
     ]
 
-unchanged : (repo : List ℕ) (hosted : List Hosted) → change_first (is_repository repo) (λ h. record h { rows = h.rows }) hosted ≡ hosted
+pub unchanged : (repo : List ℕ) (hosted : List Hosted) → change_first (is_repository repo) (λ h. record h { rows = h.rows }) hosted ≡ hosted
 unchanged repo [] = refl
 unchanged repo (h ∷ hosted) =
     elim (is_repository repo h) as (λ b. cond b (record h { rows = h.rows } ∷ hosted) (h ∷ change_first (is_repository repo) (λ (g : Hosted). record g { rows = g.rows }) hosted) ≡ h ∷ hosted) [

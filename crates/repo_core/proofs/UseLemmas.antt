@@ -14,17 +14,17 @@ use Rattle.repo_model.specs.Reply.{Reply, created, relisted}
 use Rattle.repo_core.specs.Hosted.{AreInUse, rows_in, with_rows, rows_put}
 use Rattle.repo_core.specs.Numbers.{kept_put}
 
-abbrev IsUsed : List ℕ → Row → Type 0
+abbrev pub IsUsed : List ℕ → Row → Type 0
 IsUsed kept row = IsTrue (is_among row.blob.number kept)
 
-abbrev RowsUsed : List ℕ → List Row → Type 0
+abbrev pub RowsUsed : List ℕ → List Row → Type 0
 RowsUsed kept rows = AllByRecursion (IsUsed kept) rows
 
 found-by : (b : Bool) (kept : List ℕ) (row : Row) (rest : Option Row) (found : Row) → cond b (Some row) rest ≡ Some found → IsUsed kept row → (rest ≡ Some found → IsUsed kept found) → IsUsed kept found
 found-by true kept row rest found is here later = let same : row ≡ found = cc in subst (IsUsed kept) same here
 found-by false kept row rest found is here later = later is
 
-row-used : (kept path : List ℕ) (rows : List Row) (found : Row) → RowsUsed kept rows → row_at path rows ≡ Some found → IsUsed kept found
+pub row-used : (kept path : List ℕ) (rows : List Row) (found : Row) → RowsUsed kept rows → row_at path rows ≡ Some found → IsUsed kept found
 row-used kept path [] found used is = cc
 row-used kept path (row ∷ rows) found used is = found-by (is_row path row) kept row (row_at path rows) found is used.0 (row-used kept path rows found used.1)
 

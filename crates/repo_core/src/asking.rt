@@ -5,7 +5,8 @@ use repo_model::{Ask, Command, Reply};
 
 impl<C: Clock, H: Held> Ask for Core<C, H> {
     ghost use Rattle.std.specs.Prelude.{◌≡◌, ℕ, IsTrue, []};
-    ghost use Rattle.repo_model.specs.Command.{can_be_asked};
+    ghost use Rattle.repo_model.specs.Asking.{IsAnswerTo};
+    ghost use Rattle.repo_model.specs.Command.{meets};
     ghost use Rattle.repo_model.specs.Shown.{shown_command, shown_reply};
     ghost use Rattle.repo_core.specs.CoreTurn.{CoreTurn};
 
@@ -29,9 +30,10 @@ impl<C: Clock, H: Held> Ask for Core<C, H> {
 
     fn ask(&mut self, call: Command<H>) -> Reply<H>
         requires ready { Unit {0} }
-        requires meets { IsTrue (can_be_asked self.old.settings (shown_command call)) }
+        requires meets { IsTrue (meets self.old.settings (shown_command call)) }
         ensures turn { (moment faults : ℕ)
             × CoreTurn self.old.settings self.old (record { command = shown_command call; moment = moment; reply = shown_reply result; faults = faults }) self.new }
+        ensures answer { IsAnswerTo self.old.settings (shown_command call) (shown_reply result) }
         ensures ready { Unit {0} }
         ensures settings { self.new.settings ≡ self.old.settings }
     {

@@ -1,56 +1,48 @@
 //! The hosted repositories: which one is meant, which files it takes, and its rows.
-ghost use Rattle.std.specs.Prelude.{◌≡◌, ◌≤◌, ◌&&◌, ◌<◌, length, map, find, is_some, bytes_eq, slice_index_or, slice_set, IsTrue, IfOk};
+ghost use Rattle.std.specs.Prelude.{◌≡◌, ◌≤◌, ◌<◌, ◌^◌, length, map, find, is_some, count_by, sum_by, bytes_eq, slice_index_or, slice_set, IsTrue, IfOk};
 ghost use Rattle.std.specs.Option.{option_map};
 ghost use Rattle.std.specs.List.{list_any};
-ghost use Rattle.repo_model.specs.Command.{is_file_path, is_fit};
+ghost use Rattle.repo_model.specs.Command.{is_fit};
 ghost use Rattle.repo_model.specs.History.{latest_moment};
-ghost use Rattle.repo_model.specs.Paths.{file_in, takes};
+ghost use Rattle.repo_model.specs.Paths.{takes};
 ghost use Rattle.repo_model.specs.State.{row_at, is_repository, new_hosted};
 ghost use Rattle.repo_model.specs.Shown.{shown_parcel};
+ghost use Rattle.repo_model.specs.Turn.{seen_at};
 ghost use Rattle.hosted_repo.specs.Puts.{shown_put};
-ghost use Rattle.hosted_repo.specs.Rows.{shown_at};
+ghost use Rattle.hosted_repo.specs.Rows.{fades, shown_at};
 ghost use Rattle.hosted_repo.specs.Rules.{shown_rule};
+ghost use Rattle.hosted_repo.specs.Seens.{shown_seen};
 ghost use Rattle.mvn_coords.specs.Kind.{kind};
-ghost use Rattle.repo_core.specs.Whole.{shown_policy};
 ghost use Rattle.repo_core.specs.Hosted.{rules_of, rows_in, with_rows, put_due, rows_put};
 ghost use Rattle.repo_core.specs.Turn.{IsDueOr};
 
-use hosted_repo::{Hosted, Put, Row, Rule};
-use mvn_coords::{Kind, kind_of};
+use hosted_repo::{Hosted, Put, Row, Rule, Seen};
+use mvn_coords::kind_of;
 use outside::{Held, NoMemory, Parcel};
+use repo_config::HostedRule;
 use std::alloc::Global;
 use texts::Text;
 
-/// What a hosted repository takes: releases, snapshots or both.
-#[derive(Drop)]
-pub struct Policy {
-    pub id: Text,
-    pub releases: bool,
-    pub snapshots: bool,
+// The rule that the settings say.
+fn rule_of(alloc: Global, told: &HostedRule) -> Result<Rule, NoMemory>
+    ensures { IfOk result (λ rule. shown_rule rule ≡ told.now) }
+{
+    Ok(Rule {
+        id: Text::new(alloc, told.id())?,
+        releases: told.releases(),
+        snapshots: told.snapshots(),
+        keep_count: told.keep_count(),
+        keep_days: told.keep_days(),
+    })
 }
 
-impl Policy {
-    // The rule that keeps all of its snapshots.
-    fn rule(&self, alloc: Global) -> Result<Rule, NoMemory>
-        ensures { IfOk result (λ rule. shown_rule rule ≡ shown_policy self.now) }
-    {
-        Ok(Rule {
-            id: self.id.copied(alloc)?,
-            releases: self.releases,
-            snapshots: self.snapshots,
-            keep_count: 1_000,
-            keep_days: 36_500,
-        })
-    }
-}
-
-/// The hosted repositories without rows.
-pub fn empty_repos<H: Held>(alloc: Global, hosted: &[Policy]) -> Result<Vec<Hosted<H>>, NoMemory>
-    ensures { IfOk result (λ repos. repos.items ≡ map new_hosted (map shown_policy hosted.now)) }
+/// The hosted repositories of the settings, without rows.
+pub fn empty_repos<H: Held>(alloc: Global, rules: &[HostedRule]) -> Result<Vec<Hosted<H>>, NoMemory>
+    ensures { IfOk result (λ repos. repos.items ≡ map new_hosted rules.now) }
 {
     let mut repos = Vec::new(alloc);
-    for policy in hosted {
-        repos.push(Hosted::new(alloc, policy.rule(alloc)?))?;
+    for rule in rules {
+        repos.push(Hosted::new(alloc, rule_of(alloc, rule)?))?;
     }
     Ok(repos)
 }
@@ -79,11 +71,43 @@ fn place_of<H: Held>(repos: &[Hosted<H>], id: &str) -> usize
     unreachable!()
 }
 
+/// Whether a repository has the id.
+pub fn is_there<H: Held>(repos: &[Hosted<H>], id: &str) -> bool
+    ensures { result ≡ is_some (find (λ rule. bytes_eq rule.id id.now) (rules_of repos.now)) }
+{
+    repo_at(repos, id).is_some()
+}
+
+/// Whether the repository of an id is there and takes the file of the path.
+pub fn takes<H: Held>(repos: &[Hosted<H>], id: &str, path: &str) -> bool
+    ensures rule { result ≡ is_fit (λ rule. takes rule path.now) (find (λ rule. bytes_eq rule.id id.now) (rules_of repos.now)) }
+    ensures repo { result ≡ is_fit (λ h. takes h.rule path.now) (find (is_repository id.now) repos.now) }
+{
+    match (repo_at(repos, id), kind_of(path)) {
+        (Some(repo), Ok(kind)) => repo.may_put(&kind),
+        _ => false,
+    }
+}
+
 /// The row at a path of the repository of an id.
 pub fn row_of<'a, H: Held>(repos: &'a [Hosted<H>], id: &str, path: &str) -> Option<&'a Row<H>>
     ensures { option_map (λ row. shown_at path.now row.now) result ≡ row_at path.now (rows_in id.now repos.now) }
 {
     repo_at(repos, id)?.row(path)
+}
+
+/// What the repository of an id has at a path. Only a document or its side file takes memory.
+pub fn seen_in<'a, H: Held>(
+    repos: &'a [Hosted<H>],
+    id: &str,
+    path: &str,
+) -> Result<Option<Seen<'a, H>>, NoMemory>
+    ensures { IfOk result (λ s. shown_seen s ≡ seen_at (rows_in id.now repos.now) path.now (kind path.now)) }
+{
+    match repo_at(repos, id) {
+        Some(repo) => repo.look(path),
+        None => Ok(None),
+    }
 }
 
 /// Puts a stored blob at a path of the repository of an id, which is there.
@@ -104,20 +128,18 @@ pub fn put<H: Held>(
     repos[place].put(path, parcel, moment)
 }
 
-/// Whether the repository of an id is there, and the path names a file.
-pub fn knows<H: Held>(repos: &[Hosted<H>], id: &str, path: &str) -> bool
-    ensures { result ≡ (is_some (find (λ rule. bytes_eq rule.id id.now) (rules_of repos.now)) && is_file_path path.now) }
+/// How many rows the repositories have, and how many of them are unlisted.
+pub fn counts<H: Held>(repos: &[Hosted<H>]) -> (u64, u64)
+    requires { sum_by (λ h. length h.rows) repos.now < 2 ^ 64 }
+    ensures all { result.0 ≡ sum_by (λ h. length h.rows) repos.now }
+    ensures fading { result.1 ≡ sum_by (λ h. count_by fades h.rows) repos.now }
 {
-    repo_at(repos, id).is_some() && matches!(kind_of(path), Ok(Kind::File(_)))
-}
-
-/// Whether the repository of an id is there and takes the file of the path.
-pub fn takes<H: Held>(repos: &[Hosted<H>], id: &str, path: &str) -> bool
-    ensures rule { result ≡ is_fit (λ rule. takes rule path.now) (find (λ rule. bytes_eq rule.id id.now) (rules_of repos.now)) }
-    ensures repo { result ≡ is_fit (λ h. takes h.rule path.now) (find (is_repository id.now) repos.now) }
-{
-    match (repo_at(repos, id), kind_of(path)) {
-        (Some(repo), Ok(kind)) => repo.may_put(&kind),
-        _ => false,
+    let mut all = 0;
+    let mut fading = 0;
+    for repo in repos {
+        let (rows, unlisted) = repo.counts();
+        all += rows;
+        fading += unlisted;
     }
+    (all, fading)
 }

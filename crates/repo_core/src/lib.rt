@@ -2,11 +2,13 @@
 #![tactic(auto)]
 
 mod asking;
+mod conditions;
 mod hosted;
+mod looks;
 mod machine;
+mod puts;
 mod repository;
 mod turn;
 
-pub use hosted::Policy;
-pub use repo_model::{Command, Reply};
+pub use repo_model::{Command, Place, Reply};
 pub use repository::Core;

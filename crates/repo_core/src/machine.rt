@@ -1,26 +1,25 @@
 //! The parts of the repository, and one turn of them.
-ghost use Rattle.std.specs.Prelude.{◌≡◌, IsTrue};
-ghost use Rattle.hosted_repo.specs.Puts.{shown_put};
-ghost use Rattle.repo_model.specs.State.{is_among};
-ghost use Rattle.repo_model.specs.Shown.{shown_parcel, shown_reply};
-ghost use Rattle.repo_model.specs.Turn.{shows, is_file};
-ghost use Rattle.repo_core.specs.Numbers.{yard_looked, yard_put, kept_put};
-ghost use Rattle.repo_core.specs.Turn.{IsDueOr};
+ghost use Rattle.std.specs.Prelude.{◌≡◌};
 
-use crate::hosted::{self, Policy, empty_repos, knows, row_of, takes};
+use crate::conditions::{is_digest, is_file_path, is_place, names_document, names_something};
+use crate::hosted::{counts, empty_repos, is_there, put, takes};
+use crate::looks::look;
+use crate::puts::{compare_side, reply_of, settle};
 use crate::turn::next_moment;
 use blob_yard::{DrawFault, Yard};
-use hosted_repo::{Hosted, Put, Row, print_of};
+use hosted_repo::Hosted;
+use mvn_digest::Digest;
 use outside::{Clock, Held, NoMemory, Parcel};
-use repo_model::{Command, NUMBER_END, Reply};
+use repo_config::Settings;
+use repo_model::{Command, NUMBER_END, Place, Reply};
 use std::alloc::Global;
 use std::marker::Model;
 
-/// Hosted repositories with their rows, the blob numbers, a clock, and how many calls there were.
+/// Hosted repositories with their rows, the blob numbers, a clock, the settings, and how many calls there were.
 #[derive(Drop)]
 pub struct Machine<C: Clock, H: Held> {
+    settings: Settings,
     repos: Vec<Hosted<H>>,
-    max_file: u64,
     yard: Yard,
     last: u64,
     clock: C,
@@ -28,16 +27,16 @@ pub struct Machine<C: Clock, H: Held> {
 }
 
 impl<C: Clock, H: Held> Model for Machine<C, H> {
-    ghost use Rattle.std.specs.Prelude.{◌≤◌, []};
+    ghost use Rattle.std.specs.Prelude.{◌≡◌, ◌≤◌, []};
     ghost use Rattle.repo_model.specs.History.{latest_moment};
-    ghost use Rattle.repo_core.specs.Whole.{Whole, plain_settings};
+    ghost use Rattle.repo_core.specs.Whole.{Whole};
 
     ghost Value = { Whole };
 
     ghost use Rattle.repo_core.specs.Hosted.{rules_of, AreInUse};
 
     ghost view = { λ c. record {
-      settings = plain_settings (rules_of c.repos.items) c.max_file;
+      settings = c.settings;
       state = record {
         hosted = c.repos.items;
         sessions = [];
@@ -49,35 +48,40 @@ impl<C: Clock, H: Held> Model for Machine<C, H> {
       calls = c.calls;
     } };
 
-    ghost invariant = { λ c. record { moment : c.last ≤ latest_moment; blobs : AreInUse c.yard.kept c.repos.items } };
+    ghost invariant = { λ c. record {
+      moment : c.last ≤ latest_moment;
+      blobs : AreInUse c.yard.kept c.repos.items;
+      rules : rules_of c.repos.items ≡ c.settings.hosted;
+    } };
 }
 
 impl<C: Clock, H: Held> Machine<C, H> {
-    ghost use Rattle.std.specs.Prelude.{◌≡◌, ◌+◌, min, map, [], IfOk, IfErr, IsTrue};
+    ghost use Rattle.std.specs.Prelude.{◌≡◌, ◌+◌, min, [], IfOk, IfErr, IsTrue};
+    ghost use Rattle.mvn_digest.specs.Sides.{bytes_in};
     ghost use Rattle.outside.specs.Faults.{last_count};
     ghost use Rattle.repo_model.specs.State.{opening};
     ghost use Rattle.repo_model.specs.Data.{repository};
-    ghost use Rattle.repo_model.specs.Command.{can_be_asked, look, may_put, put, drop_draft};
+    ghost use Rattle.repo_model.specs.Command.{meets, look, may_put, put, put_side, drop_draft, status};
     ghost use Rattle.repo_model.specs.History.{Fits, after};
+    ghost use Rattle.repo_model.specs.Reply.{no_session};
     ghost use Rattle.repo_model.specs.Shown.{shown_parcel, shown_command, shown_reply, entry_of};
-    ghost use Rattle.repo_core.specs.Whole.{shown_policy, plain_settings};
     ghost use Rattle.repo_core.specs.Turn.{Turned};
+    ghost use Rattle.repo_core.specs.Whole.{IsOrderly};
 
-    /// A repository without rows, of these hosted repositories. A file has at most `max_file` bytes.
+    /// A repository without rows, by these settings.
     ///
     /// Where memory is wanting the clock comes back as it was.
     pub fn plain(
         alloc: Global,
-        hosted: &[Policy],
-        max_file: u64,
+        settings: Settings,
         clock: C,
     ) -> Result<Machine<C, H>, (NoMemory, C)>
-        ensures settings { IfOk result (λ core. core.settings ≡ plain_settings (map shown_policy hosted.now) max_file) }
-        ensures state { IfOk result (λ core. core.state ≡ opening core.settings (C.moments clock)) }
+        ensures settings { IfOk result (λ core. core.settings ≡ settings) }
+        ensures state { IfOk result (λ core. core.state ≡ opening settings (C.moments clock)) }
         ensures calls { IfOk result (λ core. core.calls ≡ 0) }
         ensures err { IfErr result (λ error. error.1 ≡ clock) }
     {
-        let repos = match empty_repos(alloc, hosted) {
+        let repos = match empty_repos(alloc, settings.hosted()) {
             Ok(repos) => repos,
             Err(error) => return Err((error, clock)),
         };
@@ -86,8 +90,8 @@ impl<C: Clock, H: Held> Machine<C, H> {
             Err(error) => return Err((error, clock)),
         };
         Ok(Machine {
+            settings,
             repos,
-            max_file,
             yard,
             last: 0,
             clock,
@@ -97,11 +101,12 @@ impl<C: Clock, H: Held> Machine<C, H> {
 
     /// One turn: reads the clock once, and answers the command.
     ///
-    /// The command meets its condition, as [`Core::fits`] tells. The turn is an entry that fits the machine's
-    /// state, and leaves the state that the machine says. `Done` and `Drop` take no memory. Where memory is
-    /// wanting, nothing changes but the moment.
+    /// The command meets its condition, as [`Machine::fits`] tells, and the state is in order. The turn is an entry that
+    /// fits the machine's state, and leaves the state that the machine says. `Done` and `Drop` take no memory. Where memory
+    /// is wanting, nothing changes but the moment.
     pub fn call(&mut self, command: Command<H>) -> Reply<H>
-        requires { IsTrue (can_be_asked self.old.settings (shown_command command)) }
+        requires meets { IsTrue (meets self.old.settings (shown_command command)) }
+        requires orderly { IsOrderly self.old }
         ensures fits { Fits self.old.settings self.old.state (entry_of command self.new.state.last result 0) }
         ensures after { self.new.state ≡ after self.old.settings self.old.state (entry_of command self.new.state.last result 0) }
         ensures settings { self.new.settings ≡ self.old.settings }
@@ -112,18 +117,19 @@ impl<C: Clock, H: Held> Machine<C, H> {
         self.answer(command)
     }
 
-    /// Whether a command meets its condition: a `Look`, a `MayPut` or a `Put` names a hosted repository and a
-    /// path that names a file, and the repository takes files of the path's kind where it is a `Put`, whose
-    /// parcel has the draft's number and at most 2^63 - 1 bytes.
+    /// Whether a command meets its condition: its repository is there, its path names what the command is about, and the
+    /// repository takes files of the path's kind where it is a `Put`, whose parcel has the draft's number and at most
+    /// 2^63 - 1 bytes; what a side file says is a digest of its side.
     pub fn fits(&self, command: &Command<H>) -> bool
-        ensures { result ≡ can_be_asked self.now.settings (shown_command command.now) }
+        ensures { result ≡ meets self.now.settings (shown_command command.now) }
     {
         match command {
-            Command::Look { repo, path } | Command::MayPut { repo, path } => knows(
-                &self.repos,
-                repo.as_str(),
-                path.as_str(),
-            ),
+            Command::Look { repo, path } => {
+                is_there(&self.repos, repo.as_str()) && names_something(path.as_str())
+            }
+            Command::MayPut { place, path } => {
+                is_place(&self.repos, place) && is_file_path(path.as_str())
+            }
             Command::Put {
                 repo,
                 path,
@@ -134,7 +140,13 @@ impl<C: Clock, H: Held> Machine<C, H> {
                     && parcel.blob == *draft
                     && parcel.length < NUMBER_END
             }
-            Command::Done { lease: _ } | Command::Drop { draft: _ } => true,
+            Command::PutSide { place, path, said } => {
+                is_place(&self.repos, place) && is_digest(path.as_str(), said)
+            }
+            Command::PutDoc { place, path } => {
+                is_place(&self.repos, place) && names_document(path.as_str())
+            }
+            Command::Done { lease: _ } | Command::Drop { draft: _ } | Command::Status => true,
         }
     }
 
@@ -150,8 +162,8 @@ impl<C: Clock, H: Held> Machine<C, H> {
         ensures { C.moments result ≡ self.state.clock }
     {
         let Machine {
+            settings: _,
             repos: _,
-            max_file: _,
             yard: _,
             last: _,
             clock,
@@ -160,9 +172,10 @@ impl<C: Clock, H: Held> Machine<C, H> {
         clock
     }
 
-    // The answer at the turn's moment.
+    // The answer at the turn's moment. There are no sessions.
     fn answer(&mut self, command: Command<H>) -> Reply<H>
-        requires { IsTrue (can_be_asked self.old.settings (shown_command command)) }
+        requires meets { IsTrue (meets self.old.settings (shown_command command)) }
+        requires orderly { IsOrderly self.old }
         ensures { Turned self.old self.new (shown_command command) (shown_reply result) }
     {
         match command {
@@ -171,25 +184,42 @@ impl<C: Clock, H: Held> Machine<C, H> {
                 self.yard.done(lease);
                 Reply::Done
             }
-            Command::MayPut { repo, path } => self.may_put(repo.as_str(), path.as_str()),
+            Command::MayPut { place, path } => match place {
+                Place::Repository(repo) => self.may_put(repo.as_str(), path.as_str()),
+                Place::Session(_) => self.refuse_session(),
+            },
             Command::Put {
                 repo,
                 path,
                 draft,
                 parcel,
             } => self.put(repo.as_str(), path.as_str(), draft, parcel),
+            Command::PutSide { place, path, said } => match place {
+                Place::Repository(repo) => self.put_side(repo.as_str(), path.as_str(), said),
+                Place::Session(_) => self.refuse_session(),
+            },
+            Command::PutDoc { place, path: _ } => match place {
+                Place::Repository(_) => Reply::Noted,
+                Place::Session(_) => self.refuse_session(),
+            },
             Command::Drop { draft } => self.drop_draft(draft),
+            Command::Status => self.status(),
         }
     }
 
+    // The answer at a session, of which there are none.
+    fn refuse_session(&self) -> Reply<H>
+        ensures reply { shown_reply result ≡ no_session }
+        ensures none { self.now.state.sessions ≡ [] }
+    {
+        let _ = &self.repos;
+        Reply::NoSession
+    }
+
     fn look(&mut self, repo: &str, path: &str) -> Reply<H>
-        requires { IsTrue (can_be_asked self.old.settings (look repo.now path.now [])) }
         ensures { Turned self.old self.new (look repo.now path.now []) (shown_reply result) }
     {
-        let Some(row) = row_of(&self.repos, repo, path) else {
-            return Reply::Missed;
-        };
-        lend(&mut self.yard, row)
+        look(&self.repos, &mut self.yard, repo, path)
     }
 
     fn may_put(&mut self, repo: &str, path: &str) -> Reply<H>
@@ -206,15 +236,21 @@ impl<C: Clock, H: Held> Machine<C, H> {
     }
 
     fn put(&mut self, repo: &str, path: &str, draft: u64, parcel: Parcel<H>) -> Reply<H>
-        requires { IsTrue (can_be_asked self.old.settings (put repo.now path.now draft (shown_parcel parcel))) }
+        requires { IsTrue (meets self.old.settings (put repo.now path.now draft (shown_parcel parcel))) }
         ensures { Turned self.old self.new (put repo.now path.now draft (shown_parcel parcel)) (shown_reply result) }
     {
         if !self.yard.is_draft(draft) {
             return Reply::NoDraft;
         }
-        let outcome = hosted::put(&mut self.repos, repo, path, parcel, self.last);
+        let outcome = put(&mut self.repos, repo, path, parcel, self.last);
         settle(&mut self.yard, draft, &outcome);
         reply_of(outcome)
+    }
+
+    fn put_side(&mut self, repo: &str, path: &str, said: Digest) -> Reply<H>
+        ensures { Turned self.old self.new (put_side (repository repo.now) path.now (bytes_in said)) (shown_reply result) }
+    {
+        compare_side(&self.repos, repo, path, said)
     }
 
     fn drop_draft(&mut self, draft: u64) -> Reply<H>
@@ -223,55 +259,18 @@ impl<C: Clock, H: Held> Machine<C, H> {
         self.yard.drop_draft(draft);
         Reply::Dropped
     }
-}
 
-// The answer where the file is there: its blob, lent.
-fn lend<H: Held>(yard: &mut Yard, row: &Row<H>) -> Reply<H>
-    requires { IsTrue (is_among row.now.parcel.blob yard.old.kept) }
-    ensures reply { IsDueOr (shows yard.old.yard.next_lease (is_file (shown_parcel row.now.parcel))).reply (shown_reply result) }
-    ensures yard { yard.new ≡ record yard.old { yard = yard_looked (shown_reply result) yard.old.yard } }
-{
-    let Ok(parcel) = row.parcel.share() else {
-        return Reply::NoMemory;
-    };
-    match yard.lease(parcel.blob) {
-        Ok(lease) => Reply::File { lease, parcel },
-        Err(DrawFault::Spent) => Reply::Spent,
-        Err(DrawFault::NoMemory) => Reply::NoMemory,
-    }
-}
-
-// A put is over: what becomes of its draft.
-fn settle<H: Held>(yard: &mut Yard, draft: u64, did: &Put<H>)
-    requires { IsTrue (is_among draft yard.old.yard.drafts) }
-    ensures { yard.new ≡ record {
-      yard = yard_put draft (shown_put did.now) yard.old.yard;
-      kept = kept_put draft (shown_put did.now) yard.old.kept;
-    } }
-{
-    match did {
-        Put::Created => {
-            yard.keep(draft);
+    fn status(&mut self) -> Reply<H>
+        requires { IsOrderly self.old }
+        ensures { Turned self.old self.new status (shown_reply result) }
+    {
+        let (files, fading) = counts(&self.repos);
+        Reply::Counts {
+            files,
+            fading,
+            cached: 0,
+            documents: 0,
+            sessions: 0,
         }
-        Put::NoMemory(_) => {}
-        Put::Same(_) | Put::Relisted(_) | Put::Taken { .. } => {
-            yard.drop_draft(draft);
-        }
-    }
-}
-
-// What a put replies.
-fn reply_of<H: Held>(did: Put<H>) -> Reply<H>
-    ensures { shown_reply result ≡ shown_put did }
-{
-    match did {
-        Put::Created => Reply::Created,
-        Put::Same(_) => Reply::Same,
-        Put::Relisted(_) => Reply::Relisted,
-        Put::Taken { kept, sent } => Reply::Taken {
-            kept,
-            sent: print_of(&sent),
-        },
-        Put::NoMemory(_) => Reply::NoMemory,
     }
 }

@@ -1,9 +1,9 @@
 //! The repository: each call is one turn of the machine, in a state that is sound.
 ghost use Rattle.std.specs.Prelude.{◌≡◌};
 
-use crate::hosted::Policy;
 use crate::machine::Machine;
 use outside::{Clock, Held, NoMemory};
+use repo_config::Settings;
 use repo_model::{Command, Reply};
 use std::alloc::Global;
 use std::marker::Model;
@@ -28,32 +28,28 @@ impl<C: Clock, H: Held> Model for Core<C, H> {
 }
 
 impl<C: Clock, H: Held> Core<C, H> {
-    ghost use Rattle.std.specs.Prelude.{◌≡◌, ◌+◌, min, map, IfOk, IfErr, IsTrue};
+    ghost use Rattle.std.specs.Prelude.{◌≡◌, ◌+◌, min, IfOk, IfErr, IsTrue};
     ghost use Rattle.outside.specs.Faults.{last_count};
+    ghost use Rattle.repo_model.specs.Asking.{IsAnswerTo};
     ghost use Rattle.repo_model.specs.State.{opening};
-    ghost use Rattle.repo_model.specs.Command.{can_be_asked};
+    ghost use Rattle.repo_model.specs.Command.{meets};
     ghost use Rattle.repo_model.specs.History.{Fits, after};
-    ghost use Rattle.repo_model.specs.Shown.{shown_command, entry_of};
+    ghost use Rattle.repo_model.specs.Shown.{shown_command, shown_reply, entry_of};
     ghost use Rattle.repo_laws.specs.Laws.{KeepsReleases};
-    ghost use Rattle.repo_laws.specs.Sound.{AreNamedApart, IsSound};
-    ghost use Rattle.repo_core.specs.Whole.{shown_policy, plain_settings};
+    ghost use Rattle.repo_laws.specs.Sound.{IsSound};
 
-    /// A repository without rows, of these hosted repositories, each of another id. A file has at most `max_file` bytes.
+    /// A repository without rows, by these settings.
     ///
     /// Where memory is wanting the clock comes back as it was.
-    pub fn plain(
-        alloc: Global,
-        hosted: &[Policy],
-        max_file: u64,
-        clock: C,
-    ) -> Result<Core<C, H>, (NoMemory, C)>
-        requires { AreNamedApart (map shown_policy hosted.now) }
-        ensures settings { IfOk result (λ core. core.settings ≡ plain_settings (map shown_policy hosted.now) max_file) }
-        ensures state { IfOk result (λ core. core.state ≡ opening core.settings (C.moments clock)) }
+    pub fn plain(alloc: Global, settings: Settings, clock: C) -> Result<Core<C, H>, (NoMemory, C)>
+        ensures settings { IfOk result (λ core. core.settings ≡ settings) }
+        ensures state { IfOk result (λ core. core.state ≡ opening settings (C.moments clock)) }
         ensures calls { IfOk result (λ core. core.calls ≡ 0) }
         ensures err { IfErr result (λ error. error.1 ≡ clock) }
     {
-        match Machine::plain(alloc, hosted, max_file, clock) {
+        // Their ids differ.
+        settings.form();
+        match Machine::plain(alloc, settings, clock) {
             Ok(machine) => Ok(Core { machine }),
             Err(error) => Err(error),
         }
@@ -61,13 +57,16 @@ impl<C: Clock, H: Held> Core<C, H> {
 
     /// One turn: reads the clock once, and answers the command.
     ///
-    /// The command can be asked, as [`Core::fits`] tells. The turn is an entry that fits the machine's state, and leaves the
-    /// state that the machine says. `Done` and `Drop` take no memory. Where memory is wanting, nothing changes but the
-    /// moment. The row of a release is there afterwards with every field as before.
+    /// The command meets its condition, as [`Core::fits`] tells. The turn is an entry that fits the machine's state, and
+    /// leaves the state that the machine says. A `Look`, a `MayPut`, a `Put`, `Status` and what is sent beside a file may
+    /// want memory; `Done` and `Drop` never do. Where memory is wanting, nothing changes but the moment. The row of a
+    /// release is there afterwards with every field as before. A draft for a file is given only where the repository takes
+    /// the file.
     pub fn call(&mut self, command: Command<H>) -> Reply<H>
-        requires { IsTrue (can_be_asked self.old.settings (shown_command command)) }
+        requires { IsTrue (meets self.old.settings (shown_command command)) }
         ensures fits { Fits self.old.settings self.old.state (entry_of command self.new.state.last result 0) }
         ensures after { self.new.state ≡ after self.old.settings self.old.state (entry_of command self.new.state.last result 0) }
+        ensures answer { IsAnswerTo self.old.settings (shown_command command) (shown_reply result) }
         ensures settings { self.new.settings ≡ self.old.settings }
         ensures calls { self.new.calls ≡ min (self.old.calls + 1) last_count }
         ensures releases { KeepsReleases self.old.state self.new.state }
@@ -76,10 +75,11 @@ impl<C: Clock, H: Held> Core<C, H> {
         self.machine.call(command)
     }
 
-    /// Whether a command can be asked: a `Look`, a `MayPut` or a `Put` names a hosted repository and a path that names a file,
-    /// and the repository takes the file where it is a `Put`, whose parcel has the draft's number and at most 2^63 - 1 bytes.
+    /// Whether a command meets its condition: its repository is there, its path names what the command is about, and the
+    /// repository takes files of the path's kind where it is a `Put`, whose parcel has the draft's number and at most
+    /// 2^63 - 1 bytes; what a side file says is a digest of its side.
     pub fn fits(&self, command: &Command<H>) -> bool
-        ensures { result ≡ can_be_asked self.now.settings (shown_command command.now) }
+        ensures { result ≡ meets self.now.settings (shown_command command.now) }
     {
         self.machine.fits(command)
     }

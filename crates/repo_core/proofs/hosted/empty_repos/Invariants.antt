@@ -1,8 +1,7 @@
 use Rattle.std.proofs.Common.{◌≡◌, map, take}
 use Rattle.repo_model.specs.State.{new_hosted}
-use Rattle.repo_core.specs.Whole.{shown_policy}
 use Rattle.repo_core.proofs.hosted.empty_repos.Given as goal
 
 -- the repositories so far
-abbrev pub invariant-loop-policy : goal.invariant-loop-policy
-invariant-loop-policy g l = l.repos.items ≡ map new_hosted (map shown_policy (take l.policy-index l.hosted))
+abbrev pub invariant-loop-rule : goal.invariant-loop-rule
+invariant-loop-rule g l = l.repos.items ≡ map new_hosted (take l.rule-index l.rules)

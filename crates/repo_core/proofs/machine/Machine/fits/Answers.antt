@@ -1,28 +1,31 @@
-use Rattle.std.proofs.Common.{◌≡◌, inl, inr, sym, ap, ◌∙◌, ◌&&◌}
+use Rattle.std.proofs.Common.{◌≡◌, sym, ap, ◌∙◌, ◌&&◌}
 use Rattle.std.specs.Prelude.{◌==◌, nat_lt}
-use Rattle.repo_model.specs.Command.{is_fit, is_there, is_file_path, rule_of}
+use Rattle.repo_model.specs.Command.{is_fit, is_there, rule_of}
 use Rattle.repo_model.specs.Paths.{takes}
 use Rattle.repo_model.specs.State.{number_end}
 use Rattle.repo_model.specs.Shown.{shown_parcel}
-use Rattle.repo_core.specs.Hosted.{rules_of}
-use Rattle.repo_core.specs.Whole.{plain_settings}
-use Rattle.repo_core.proofs.Turning.{can-look, can-may_put, can-put}
+use Rattle.repo_core.proofs.ConditionLemmas.{can-put, look-not, look-so}
 use Rattle.repo_core.proofs.machine.Machine.fits.Goals as goal
 use Rattle.repo_core.proofs.machine.Machine.fits.Goals.{then-takes, else-takes}
 
-pub returns-in-Look : goal.returns-in-Look
-returns-in-Look g c =
-    let settings = plain_settings (rules_of c.self.inside.repos.items) c.self.inside.max_file in
-    let known : c.knows.result ≡ (is_there c.in-Look.repo settings && is_file_path c.in-Look.path) = rw (c.deref-in-Look.ensures.value, c.as_str-in-Look.ensures, c.as_str-in-Look-2.ensures) at c.knows.ensures in
-    elim c.in-Look.is [
-      | inl is ↦ rw (← c.self.view_is, is) (known ∙ can-look settings c.in-Look.repo c.in-Look.path)
-      | inr is ↦ rw (← c.self.view_is, is) (known ∙ can-may_put settings c.in-Look.repo c.in-Look.path)
-    ]
+pub returns-then-is_there : goal.returns-then-is_there
+returns-then-is_there g c =
+    let settings = c.self.inside.settings in
+    let known : c.is_there.result ≡ is_there c.in-Look.repo settings = rw (c.deref.ensures.value, c.self.invariant.rules, c.as_str.ensures) at c.is_there.ensures in
+    rw (← c.self.view_is, c.in-Look.is)
+    (look-so settings c.in-Look.repo c.in-Look.path c.is_there.result known c.names_something.result c.if-is_there.true (rw c.as_str-then-is_there.ensures at c.names_something.ensures))
+
+pub returns-else-is_there : goal.returns-else-is_there
+returns-else-is_there g c =
+    let settings = c.self.inside.settings in
+    let known : c.is_there.result ≡ is_there c.in-Look.repo settings = rw (c.deref.ensures.value, c.self.invariant.rules, c.as_str.ensures) at c.is_there.ensures in
+    rw (← c.self.view_is, c.in-Look.is) (look-not settings c.in-Look.repo c.in-Look.path c.is_there.result known c.if-is_there.false)
 
 pub returns-then-parcel-draft : goal.returns-then-parcel-draft
 returns-then-parcel-draft g c =
-    let settings = plain_settings (rules_of c.self.inside.repos.items) c.self.inside.max_file in
-    let fit : c.takes.result ≡ is_fit (λ rule. takes rule c.in-Put.path) (rule_of c.in-Put.repo settings) = rw (c.deref.ensures.value, c.as_str.ensures, c.as_str-in-Put.ensures) at c.takes.ensures.rule in
+    let settings = c.self.inside.settings in
+    let fit : c.takes.result ≡ is_fit (λ rule. takes rule c.in-Put.path) (rule_of c.in-Put.repo settings) =
+    rw (c.deref-in-Put.ensures.value, c.self.invariant.rules, c.as_str-in-Put.ensures, c.as_str-in-Put-2.ensures) at c.takes.ensures.rule in
     let short = nat_lt c.in-Put.parcel.length number_end in
     let value : c.if-takes.value ≡ (is_fit (λ rule. takes rule c.in-Put.path) (rule_of c.in-Put.repo settings) && (c.in-Put.parcel.blob == c.in-Put.draft)) = elim c.if-takes.branch [
       | then-takes w ↦ w.value-is ∙ ap (λ f. f && (c.in-Put.parcel.blob == c.in-Put.draft)) (sym w.if-takes.true ∙ fit)
@@ -32,8 +35,9 @@ returns-then-parcel-draft g c =
 
 pub returns-else-parcel-draft : goal.returns-else-parcel-draft
 returns-else-parcel-draft g c =
-    let settings = plain_settings (rules_of c.self.inside.repos.items) c.self.inside.max_file in
-    let fit : c.takes.result ≡ is_fit (λ rule. takes rule c.in-Put.path) (rule_of c.in-Put.repo settings) = rw (c.deref.ensures.value, c.as_str.ensures, c.as_str-in-Put.ensures) at c.takes.ensures.rule in
+    let settings = c.self.inside.settings in
+    let fit : c.takes.result ≡ is_fit (λ rule. takes rule c.in-Put.path) (rule_of c.in-Put.repo settings) =
+    rw (c.deref-in-Put.ensures.value, c.self.invariant.rules, c.as_str-in-Put.ensures, c.as_str-in-Put-2.ensures) at c.takes.ensures.rule in
     let short = nat_lt c.in-Put.parcel.length number_end in
     let value : c.if-takes.value ≡ (is_fit (λ rule. takes rule c.in-Put.path) (rule_of c.in-Put.repo settings) && (c.in-Put.parcel.blob == c.in-Put.draft)) = elim c.if-takes.branch [
       | then-takes w ↦ w.value-is ∙ ap (λ f. f && (c.in-Put.parcel.blob == c.in-Put.draft)) (sym w.if-takes.true ∙ fit)

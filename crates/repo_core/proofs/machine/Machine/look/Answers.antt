@@ -1,23 +1,11 @@
-use Rattle.std.proofs.Common.{[], sym, ap, subst}
-use Rattle.std.specs.Prelude.{IsTrue}
-use Rattle.repo_model.specs.Command.{can_be_asked, look}
+use Rattle.std.proofs.Common.{ap}
 use Rattle.repo_model.specs.Shown.{shown_reply}
 use Rattle.blob_yard.specs.Numbers.{Numbers}
-use Rattle.hosted_repo.specs.Rows.{shown_at}
-use Rattle.repo_core.proofs.Turning.{turned-missed, turned-lent}
-use Rattle.repo_core.proofs.UseLemmas.{found-used}
+use Rattle.repo_core.proofs.LookLemmas.{turned-looked}
 use Rattle.repo_core.proofs.machine.Machine.look.Goals as goal
-
-pub lend-requires : goal.lend-requires
-lend-requires g c =
-    found-used c.self.inside.yard.kept c.args.repo.now c.args.path.now c.self.inside.repos.items (shown_at c.args.path.now c.in-Some.row.now) c.self.invariant.blobs (rw c.deref.ensures.value at c.in-Some.ensures)
-
-pub returns-in_default : goal.returns-in_default
-returns-in_default g c = turned-missed c.args.self.now c.args.repo.now c.args.path.now c.requires (rw (← c.self.view_is) (rw c.deref.ensures.value at c.in_default.ensures))
 
 pub returns : goal.returns
 returns g c =
-    let asked = subst (λ w. IsTrue (can_be_asked w.settings (look c.args.repo.now c.args.path.now []))) (sym c.self.view_is) c.requires in
     rw (← c.self.view_is)
-    (turned-lent _ c.args.repo.now c.args.path.now asked (shown_at c.args.path.now c.in-Some.row.now) (shown_reply c.lend.result) c.lend.new.yard.yard
-    (rw c.deref.ensures.value at c.in-Some.ensures) c.lend.ensures.reply (ap (λ (y : Numbers). y.yard) c.lend.ensures.yard))
+    (turned-looked _ c.args.repo.now c.args.path.now (shown_reply c.look.result) c.look.new.yard.yard
+    (rw c.deref.ensures.value at c.look.ensures.reply) (ap (λ (y : Numbers). y.yard) c.look.ensures.yard))

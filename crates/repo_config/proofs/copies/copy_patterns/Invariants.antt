@@ -1,0 +1,6 @@
+use Rattle.std.proofs.Common.{◌≡◌, take}
+use Rattle.repo_config.proofs.copies.copy_patterns.Given as goal
+
+-- those so far
+abbrev pub invariant-loop-text : goal.invariant-loop-text
+invariant-loop-text l = l.copy ≡ take l.text-index l.patterns
