@@ -9,3 +9,4 @@ pub mod Items
 pub mod Staged
 pub mod Histories
 pub mod Faults
+pub mod Causes

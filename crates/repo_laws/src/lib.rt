@@ -3,6 +3,7 @@
 //! No function here has code: its contract is the law.
 #![tactic(auto)]
 
+pub mod causes;
 pub mod deployed;
 pub mod documents;
 pub mod numbers;
