@@ -10,3 +10,6 @@ pub mod Staged
 pub mod Histories
 pub mod Faults
 pub mod Causes
+pub mod Described
+pub mod Collected
+pub mod InRange

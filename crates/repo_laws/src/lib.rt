@@ -8,6 +8,7 @@ pub mod deployed;
 pub mod documents;
 pub mod numbers;
 pub mod replies;
+pub mod restarts;
 pub mod states;
 pub mod tables;
 pub mod worked;
