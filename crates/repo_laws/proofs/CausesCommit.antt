@@ -158,7 +158,7 @@ lesser-one text best =
 abbrev HasLeast : List ℕ → List (List ℕ) → Type 0
 HasLeast best texts = (m : List ℕ) × (fold least (Some best) texts ≡ Some m) × Among m (best ∷ texts) × IsLeast m (best ∷ texts)
 
-has-least : (texts : List (List ℕ)) (best : List ℕ) → HasLeast best texts
+pub has-least : (texts : List (List ℕ)) (best : List ℕ) → HasLeast best texts
 has-least [] best = (best, refl, inl refl, (up-to-itself best, tt))
 has-least (text ∷ texts) best =
     let (m, is, among, below) = has-least texts (lesser text best) in
@@ -191,10 +191,10 @@ so-least (text ∷ texts) m among below =
 
 -- release directories without their poms
 module _ (rows : List Row) (files : List Staged) where
-  abbrev Bare : List ℕ → Option Coordinates → Type 0
+  abbrev pub Bare : List ℕ → Option Coordinates → Type 0
   Bare directory found = (c : Coordinates) × (found ≡ Some c) × (c.build ≡ None) × (version_directory_of c ≡ directory) × (has_pom rows files (pom_of c) ≡ false)
 
-  abbrev bare : Staged → List (List ℕ)
+  abbrev pub bare : Staged → List (List ℕ)
   bare file = bare_directory rows files (file_at file.path)
 
   no-build : (build : Option BuildOf) → is_some build ≡ false → build ≡ None
@@ -225,7 +225,7 @@ module _ (rows : List Row) (files : List Staged) where
       any-then (λ (f : Staged). Among directory (bare f)) (λ (f : Staged). Bare directory (file_at f.path)) (λ f. is-bare directory (file_at f.path)) files
       (any-flat (λ (other : List ℕ). other ≡ directory) bare files among)
 
-  so-lacks : (directory : List ℕ) → LacksPom rows files directory → Among directory (flat_map bare files)
+  pub so-lacks : (directory : List ℕ) → LacksPom rows files directory → Among directory (flat_map bare files)
   so-lacks directory lacks =
       flat-any (λ (other : List ℕ). other ≡ directory) bare files
       (any-then (λ (f : Staged). Bare directory (file_at f.path)) (λ (f : Staged). Among directory (bare f)) (λ f. bare-is directory (file_at f.path)) files lacks)

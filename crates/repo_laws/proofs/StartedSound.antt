@@ -26,6 +26,7 @@ use Rattle.repo_laws.proofs.HoldingBlobs.{counts-named, greatest-least}
 use Rattle.repo_laws.proofs.HoldingLists.{none-any, all-split, greatest-below, all-greatest}
 use Rattle.repo_laws.proofs.Lists.{all-then}
 use Rattle.repo_laws.proofs.Orderly.{there-as-set}
+use Rattle.repo_laws.proofs.Ranges.{range-fading, range-numbers, range-moments}
 use Rattle.repo_laws.proofs.Rows.{rows_in}
 use Rattle.repo_laws.proofs.Untouched.{among-has}
 use Rattle.repo_laws.proofs.Releases.{same_path, other_path, is_itself}
@@ -146,7 +147,7 @@ module _ (settings : Settings) (tells : ℕ → Option (List ℕ)) (stored : Lis
   one-place-started = record {
     drawn = λ n _. omega (arith, in-places n, order.blobs n);
     later = λ n up. not-named n (λ named. omega (arith, up, next-above settings tells stored clock faults t order range n named));
-    none = not-named 0 (λ named. omega (arith, (range.numbers 0 named).0));
+    none = not-named 0 (λ named. omega (arith, (range-numbers t range 0 named).0));
     begun = omega arith;
     lent = tt;
   }
@@ -180,8 +181,8 @@ module _ (settings : Settings) (tells : ℕ → Option (List ℕ)) (stored : Lis
       apart = apart-from t.sessions order.sessions;
     };
     condemned = tt;
-    fading = all-hosted tells (AllByRecursion FadesRightly) t.hosted (all-recorded tells FadesRightly (λ row so. so) t.hosted range.fading) settings.hosted;
-    last = greatest-least t latest_moment range.moments;
+    fading = all-hosted tells (AllByRecursion FadesRightly) t.hosted (all-recorded tells FadesRightly (λ row so. so) t.hosted (range-fading t range)) settings.hosted;
+    last = greatest-least t latest_moment (range-moments t range);
   }
 
 pub started-rows : (settings : Settings) (tells : ℕ → Option (List ℕ)) (stored : List ℕ) (clock : Option Moments) (faults : ℕ) (t : Tables) (repo path : List ℕ)

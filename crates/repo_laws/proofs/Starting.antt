@@ -30,6 +30,7 @@ use Rattle.repo_laws.proofs.CausesSession.{any-none}
 use Rattle.repo_laws.proofs.Lists.{all-then}
 use Rattle.repo_laws.proofs.Orderly.{found-has}
 use Rattle.repo_laws.proofs.Releases.{same_path}
+use Rattle.repo_laws.proofs.Ranges.{rows-named, range-bare, range-numbers}
 use Rattle.repo_laws.proofs.Rows.{rows_in}
 
 module _ (tells : ℕ → Option (List ℕ)) where
@@ -193,15 +194,6 @@ greatest-below-end (n ∷ numbers) m below =
       | false ↦ λ is. greatest-below-end numbers m below
     ] refl
 
--- a number that rows name is one of theirs
-row-named : (P : ℕ → Type 0) (n : ℕ) (rows : List RecordedRow) → AllByRecursion (λ (r : RecordedRow). P r.row.blob.number) rows → list_any (λ (r : RecordedRow). r.row.blob.number == n) rows ≡ true → P n
-row-named P n [] all there = absurd (false≢true there)
-row-named P n (r ∷ rows) all there =
-    elim (r.row.blob.number == n) as (λ b. (r.row.blob.number == n) ≡ b → (b || list_any (λ (x : RecordedRow). x.row.blob.number == n) rows) ≡ true → P n) [
-      | true ↦ λ is _. subst P (eqb-true r.row.blob.number n is) all.0
-      | false ↦ λ _ later. row-named P n rows all.1 later
-    ] refl there
-
 all-of-map : (P : ℕ → Type 0) (rows : List RecordedRow) → AllByRecursion P (map (λ (r : RecordedRow). r.row.blob.number) rows) → AllByRecursion (λ (r : RecordedRow). P r.row.blob.number) rows
 all-of-map P [] all = tt
 all-of-map P (r ∷ rows) all = (all.0, all-of-map P rows all.1)
@@ -209,11 +201,7 @@ all-of-map P (r ∷ rows) all = (all.0, all-of-map P rows all.1)
 pub named-has : (P : ℕ → Type 0) (n : ℕ) (t : Tables) → AllByRecursion P (blobs_named t) → IsTrue (names_blob n t) → P n
 named-has P n t all named =
     let each = all-split (λ (r : RecordedRow). P r.row.blob.number) t.hosted t.cached (all-of-map P (t.hosted ++ t.cached) all) in
-    elim (list_any (λ (r : RecordedRow). r.row.blob.number == n) t.hosted)
-    as (λ b. list_any (λ (r : RecordedRow). r.row.blob.number == n) t.hosted ≡ b → (b || list_any (λ (r : RecordedRow). r.row.blob.number == n) t.cached) ≡ true → P n) [
-      | true ↦ λ is _. row-named P n t.hosted each.0 is
-      | false ↦ λ _ later. row-named P n t.cached each.1 later
-    ] refl named
+    rows-named P n t each.0 each.1 named
 
 module _ (settings : Settings) (tells : ℕ → Option (List ℕ)) (stored : List ℕ) (clock : Option Moments) (faults : ℕ) (t : Tables) (order : InOrder t) (range : InRange t) where
   abbrev s : State
@@ -223,7 +211,7 @@ module _ (settings : Settings) (tells : ℕ → Option (List ℕ)) (stored : Lis
   pub next-above : (n : ℕ) → IsTrue (names_blob n t) → n < s.yard.next_draft
   next-above n named =
       let all = (all-split (λ k. k < number_end → k ≤ greatest_number (blobs_named t ++ stored)) (blobs_named t) stored (greatest-from (blobs_named t ++ stored) 0).1).0 in
-      let below = named-has (λ k. k < number_end → k ≤ greatest_number (blobs_named t ++ stored)) n t all named (range.numbers n named).1 in
+      let below = named-has (λ k. k < number_end → k ≤ greatest_number (blobs_named t ++ stored)) n t all named (range-numbers t range n named).1 in
       omega (arith, below)
 
   none-staged : (n : ℕ) (sessions : List Session) → AllByRecursion (λ (one : Session). one.staged ≡ []) sessions → staged_with n sessions ≡ 0
@@ -241,7 +229,7 @@ module _ (settings : Settings) (tells : ℕ → Option (List ℕ)) (stored : Lis
   pub started-held : Holds t s
   started-held = record {
     rows = λ repo path there.
-        held-rows tells repo path t.hosted range.bare
+        held-rows tells repo path t.hosted (range-bare t range)
         ∙ ap (option_map without_bytes) (sym (ap (row_at path) (rows-under tells repo t.hosted settings.hosted there) ∙ of-found tells repo path t.hosted));
     ended = λ n. results-from n t.sessions order.sessions;
     opened = λ n up. absurd (false≢true (sym (none-is-open n s.sessions closed-all) ∙ up));

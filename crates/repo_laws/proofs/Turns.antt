@@ -158,7 +158,7 @@ module _ (grace now : ℕ) where
       (λ _. tt)
 
   -- a known session that has not ended is the open one of its number
-  open-too : (n : ℕ) (sessions : List Session) (one : Session) → find (is_session n) sessions ≡ Some one → one.ended ≡ None → find (is_open_at one.number) sessions ≡ Some one
+  pub open-too : (n : ℕ) (sessions : List Session) (one : Session) → find (is_session n) sessions ≡ Some one → one.ended ≡ None → find (is_open_at one.number) sessions ≡ Some one
   open-too n sessions one known going =
       let numbered : one.number ≡ n = eqb-true one.number n (found-passes (is_session n) sessions one known) in
       subst (λ k. find (is_open_at k) sessions ≡ Some one) (sym numbered) (open-at sessions known) where

@@ -1,25 +1,28 @@
 -- Tables whose numbers and moments are in range, and runs of the machine one after another over the same tables.
-use Rattle.std.specs.Prelude.{◌≡◌, ℕ, ◌<◌, ◌≤◌, max, List, [], ◌∷◌, None, IsTrue}
+use Rattle.std.specs.Prelude.{◌≡◌, ℕ, ◌<◌, ◌≤◌, List, [], ◌∷◌, None}
 use Rattle.std.specs.List.{AllByRecursion}
 use Rattle.repo_model.specs.declared.item.Item.{Item}
 use Rattle.repo_model.specs.declared.item.Item.TheVariants.{HostedPut, Faded, Relisted, Removed, CachedFile, CachedDoc, SessionOpened, SessionEnded}
 use Rattle.repo_model.specs.Data.{Blob}
 use Rattle.repo_model.specs.Settings.{Settings}
 use Rattle.repo_model.specs.State.{State, number_end}
-use Rattle.repo_model.specs.Tables.{Tables, RecordedRow, RecordedSession, names_blob}
+use Rattle.repo_model.specs.Tables.{Tables, RecordedRow, RecordedDocument, RecordedSession}
 use Rattle.repo_model.specs.History.{Entry, latest_moment, Legal}
 use Rattle.repo_laws.specs.Laws.{FadesRightly}
 use Rattle.repo_laws.specs.Sound.{IsSound}
-use Rattle.repo_laws.specs.Holds.{AreUpTo, StandsFor, with_items, told}
+use Rattle.repo_laws.specs.Holds.{IsUpTo, StandsFor, with_items, told}
 use Rattle.repo_laws.specs.Closed.{AnswersUpTo}
 
--- what fades is a snapshot's; rows are recorded without bytes; numbers of blobs and sessions lie below 2 ^ 63, those of blobs above 0; and no moment is later than the latest
+-- a row is recorded without bytes, its blob's number lies above 0 and below 2 ^ 63, and its moments are no later than the latest
+abbrev pub IsRowInRange : RecordedRow → Type 0
+IsRowInRange r = (r.row.blob.bytes ≡ None) × (0 < r.row.blob.number) × (r.row.blob.number < number_end) × IsUpTo latest_moment r
+
+-- rows are so, and what fades is a snapshot's; numbers of sessions lie below 2 ^ 63; and no moment of a document is later than the latest
 pub record InRange (t : Tables) : Type 0 where
-  pub fading : AllByRecursion (λ (r : RecordedRow). FadesRightly r.row) t.hosted
-  pub bare : AllByRecursion (λ (r : RecordedRow). r.row.blob.bytes ≡ None) t.hosted
-  pub numbers : (n : ℕ) → IsTrue (names_blob n t) → (0 < n) × (n < number_end)
+  pub hosted : AllByRecursion (λ (r : RecordedRow). IsRowInRange r × FadesRightly r.row) t.hosted
+  pub cached : AllByRecursion IsRowInRange t.cached
+  pub documents : AllByRecursion (λ (d : RecordedDocument). d.checked ≤ latest_moment) t.documents
   pub sessions : AllByRecursion (λ (one : RecordedSession). one.number < number_end) t.sessions
-  pub moments : AreUpTo latest_moment t
 
 -- an item with such numbers and moments
 abbrev pub IsItemInRange : Item → Type 0

@@ -13,3 +13,4 @@ pub mod Causes
 pub mod Described
 pub mod Collected
 pub mod InRange
+pub mod Deployed
