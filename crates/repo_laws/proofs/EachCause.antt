@@ -1,16 +1,22 @@
 -- Each refusal has its cause, and comes where there is one.
-use Rattle.std.proofs.Common.{◌≡◌, ℕ, true, [], length, Option, Some, None, refl}
-use Rattle.std.specs.Prelude.{◌↔◌}
+use Rattle.std.proofs.Common.{◌≡◌, ◌⊎◌, inl, inr, ℕ, true, false, not, ◌||◌, [], length, Option, Some, None, refl, sym, ◌∙◌, ap}
+use Rattle.std.specs.Prelude.{◌↔◌, ◌==◌}
+use Rattle.std.proofs.lemmas.Bool.{false≢true}
 use Rattle.mvn_coords.specs.Kind.{kind}
 use Rattle.repo_model.specs.Data.{Hosted, repository, session}
 use Rattle.repo_model.specs.Settings.{Settings}
 use Rattle.repo_model.specs.State.{State, hosted_of, rows_of, session_of, open_of}
 use Rattle.repo_model.specs.Command.{Command, look, done, may_put, put, put_side, put_doc, drop_draft, open_session, stage, commit, abort, unlist, collect, status}
-use Rattle.repo_model.specs.Reply.{Reply, given_back, dropped, noted, no_session, unlisted}
+use Rattle.repo_model.specs.Effect.{recorded}
+use Rattle.repo_model.specs.Reply.{Reply, given_back, dropped, noted, no_session, created, relisted, opened, ended, unlisted, collected, no_memory, is_free}
 use Rattle.repo_model.specs.Purge.{due_rows}
 use Rattle.repo_model.specs.Turn.{turn, seen_at, unlist_of, counts_of}
+use Rattle.repo_model.specs.History.{Entry, IsReply, due, wants_memory, failed, Fits, is_collect, commits}
 use Rattle.repo_laws.specs.Causes.{Cause, DocRefused}
+use Rattle.repo_laws.specs.Holds.{can_record}
 use Rattle.repo_laws.specs.Replies.{is_refusal}
+use Rattle.repo_laws.proofs.Answered.{reply-determined}
+use Rattle.repo_laws.proofs.HoldingTurns.{refused-quiet}
 use Rattle.repo_laws.proofs.CausesPut.{no-refusal, look-caused, look-refused, may_put-caused, may_put-refused, put-caused, put-refused}
 use Rattle.repo_laws.proofs.CausesSession.{may_stage-caused, may_stage-refused, side-caused, side-refused, staged_side-caused, staged_side-refused, doc-caused, doc-refused, open-caused, open-refused, stage-caused, stage-refused}
 use Rattle.repo_laws.proofs.CausesCommit.{commit-caused, commit-refused, abort-caused, abort-refused}
@@ -62,3 +68,36 @@ module _ (settings : Settings) (s : State) (now : ℕ) where
 
   pub each-cause : (c : Command) (r : Reply) → is_refusal r ≡ true → ((turn settings s now c).reply ≡ r) ↔ Cause s c r
   each-cause c r refused = (caused c r refused, refused-so c r)
+
+-- ---- entries
+refusal-quiet : (r : Reply) → is_refusal r ≡ true → can_record r ≡ false
+refusal-quiet created refused = absurd (false≢true refused)
+refusal-quiet relisted refused = absurd (false≢true refused)
+refusal-quiet (opened n) refused = absurd (false≢true refused)
+refusal-quiet (ended result) refused = absurd (false≢true refused)
+refusal-quiet (unlisted n) refused = absurd (false≢true refused)
+refusal-quiet (collected expired blobs) refused = absurd (false≢true refused)
+refusal-quiet r refused = refl
+
+caused-elsewhere : (s : State) (c : Command) (r : Reply) → Cause s c r → is_collect c ≡ false
+caused-elsewhere s collect r cause = absurd cause
+caused-elsewhere s (look repo path tried) r cause = refl
+caused-elsewhere s c r cause = refl
+
+pub entry-cause : (settings : Settings) (old : State) (e : Entry) → Fits settings old e → is_free e.reply ≡ false → is_refusal e.reply ≡ true → Cause old e.command e.reply
+entry-cause settings old e fits bound refused = caused settings old e.moment e.command e.reply refused (sym (reply-determined settings old e fits bound))
+
+pub cause-entry : (settings : Settings) (old : State) (e : Entry) (r : Reply) → Fits settings old e → is_refusal r ≡ true → Cause old e.command r → (e.reply ≡ r) ⊎ (e.reply ≡ no_memory)
+cause-entry settings old e r fits refused cause = by fits.reply where
+  is : (turn settings old e.moment e.command).reply ≡ r
+  is = refused-so settings old e.moment e.command r cause
+
+  by : IsReply settings old e → (e.reply ≡ r) ⊎ (e.reply ≡ no_memory)
+  by (due due_is _) = inl (due_is ∙ is)
+  by (wants_memory wanting _ _) = inr wanting
+  by (failed _ commits_so _) =
+      let quiet = refused-quiet settings old e.moment e.command (ap can_record is ∙ refusal-quiet r refused) in
+      let none : commits e.command (turn settings old e.moment e.command).effects ≡ false =
+      ap (λ b. b || not (length (recorded (turn settings old e.moment e.command).effects) == 0)) (caused-elsewhere old e.command r cause)
+      ∙ ap (λ items. not (length items == 0)) quiet in
+      absurd (false≢true (sym none ∙ commits_so))
