@@ -1,18 +1,21 @@
 //! Which rows are to fade at a moment, each snapshot directory looked at once.
-ghost use Rattle.std.specs.Prelude.{◌≡◌, ◌<◌, ◌×◌, ◌++◌, ◌∷◌, [], true, length, slice_index_or, take, IfOk, OnOk, IfSome, string_bytes};
+ghost use Rattle.std.specs.Prelude.{◌≡◌, ◌<◌, ◌++◌, ◌∷◌, [], length, slice_index_or, IfOk, OnOk, IfSome, string_bytes};
 ghost use Rattle.std.specs.List.{All};
 ghost use Rattle.mvn_coords.specs.Layout.{text_of_directory};
 ghost use Rattle.repo_model.specs.Document.{listed_in};
-ghost use Rattle.repo_model.specs.Purge.{builds_of, snapshot_directory};
+ghost use Rattle.repo_model.specs.Paths.{stands_in};
+ghost use Rattle.repo_model.specs.Purge.{builds_of, is_due_at, snapshot_directory};
 ghost use Rattle.snapshot_purge.specs.Ages.{HaveSameBuilds};
 ghost use Rattle.hosted_repo.specs.Dues.{directory_of, with_build_of_row, is_due_row, IsRight};
 ghost use Rattle.hosted_repo.specs.Rows.{shown_at, shown_rows};
 ghost use Rattle.hosted_repo.specs.Rules.{shown_rule};
+ghost use Rattle.hosted_repo.specs.declared.dues.Known.{Known};
 
 use crate::NoMemory;
 use crate::row::{Phase, Row};
 use crate::rule::Rule;
-use mvn_coords::{Build, Coord, Kind, kind_of};
+use crate::walk::joined;
+use mvn_coords::{Coord, Kind, kind_of};
 use outside::Held;
 use snapshot_purge::{Ages, DueBuilds, Keep};
 use std::alloc::Global;
@@ -31,11 +34,11 @@ pub struct Known {
 
 /// Whether a file stands in a directory that is known.
 fn is_of(known: &Known, c: &Coord<'_>) -> bool
-    ensures { result ≡ true → directory_of known.now ≡ snapshot_directory c.now }
+    ensures { result ≡ stands_in (directory_of known.now) (Some c.now) }
 {
-    known.version.as_str() == c.dir()
-        && known.artifact.as_str() == c.artifact()
-        && known.group.as_str() == c.group()
+    c.group() == known.group.as_str()
+        && c.artifact() == known.artifact.as_str()
+        && known.version.as_str() == c.dir()
 }
 
 /// Where a file's directory stands among those that are known.
@@ -67,12 +70,9 @@ fn count_above(known: &[Known], path: &str) -> usize {
 fn base_of(alloc: Global, c: &Coord<'_>) -> Result<String, NoMemory>
     ensures { IfOk result (λ t. string_bytes t ≡ text_of_directory (snapshot_directory c.now) ++ 47 ∷ []) }
 {
+    // A file's path tells that its group has a byte.
     let _path = c.path();
-    let mut base = String::from_str(alloc, c.group())?;
-    base.push_str("/")?;
-    base.push_str(c.artifact())?;
-    base.push_str("/")?;
-    base.push_str(c.dir())?;
+    let mut base = joined(alloc, c.group(), "/", c.artifact(), "/", c.dir())?;
     base.push_str("/")?;
     Ok(base)
 }
@@ -119,11 +119,13 @@ fn ages_in<H: Held>(
     ensures { IfOk result (λ ages. HaveSameBuilds ages (builds_of (listed_in (snapshot_directory c.now) (shown_rows rows.now.entries)))) }
 {
     let mut ages = Ages::new(alloc);
+    let front = base.as_str();
     for (path, row) in rows.range(base..) {
-        if !path.as_str().starts_with(base.as_str()) {
+        let text = path.as_str();
+        if !text.starts_with(front) {
             return Ok(ages);
         }
-        add_row(&mut ages, c, path.as_str(), row)?;
+        add_row(&mut ages, c, text, row)?;
     }
     Ok(ages)
 }
@@ -179,8 +181,29 @@ fn place_once_known<H: Held>(
     let above = count_above(known.as_slice(), c.path());
     known.truncate(above);
     let place = known.len();
-    known.push(known_of(alloc, rows, rule, now, c)?)?;
+    let found = known_of(alloc, rows, rule, now, c)?;
+    known.push(found)?;
     Ok(place)
+}
+
+/// Whether a file is to fade at a moment, where it is visible.
+fn is_due_file<H: Held>(
+    alloc: Global,
+    rows: &BTreeMap<String, Row<H>>,
+    rule: &Rule,
+    now: u64,
+    known: &mut Vec<Known>,
+    c: &Coord<'_>,
+) -> Result<bool, NoMemory>
+    requires { All (IsRight (shown_rule rule.now) now (shown_rows rows.now.entries)) known.old.items }
+    ensures right { All (IsRight (shown_rule rule.now) now (shown_rows rows.now.entries)) known.new.items }
+    ensures due { IfOk result (λ b. b ≡ is_due_at (shown_rule rule.now) now (shown_rows rows.now.entries) (Some c.now)) }
+{
+    let Some(build) = c.build() else {
+        return Ok(false);
+    };
+    let place = place_once_known(alloc, rows, rule, now, known, c)?;
+    Ok(known[place].due.has(build))
 }
 
 /// Whether a row is visible and to fade at a moment.
@@ -203,9 +226,5 @@ pub fn is_due<H: Held>(
     let Ok(Kind::File(c)) = kind_of(path) else {
         return Ok(false);
     };
-    let Some(build) = c.build() else {
-        return Ok(false);
-    };
-    let place = place_once_known(alloc, rows, rule, now, known, &c)?;
-    Ok(known[place].due.has(build))
+    is_due_file(alloc, rows, rule, now, known, &c)
 }

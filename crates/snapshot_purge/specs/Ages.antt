@@ -1,5 +1,5 @@
 -- The builds of a snapshot directory in whatever order, each with the greatest moment at which a file of it was accepted.
-use Rattle.std.specs.Prelude.{◌≡◌, ℕ, List, [], ◌∷◌, map, sum_by, Option, Some, None, if◌then◌else◌}
+use Rattle.std.specs.Prelude.{◌≡◌, ℕ, max, List, [], ◌∷◌, map, sum_by, Option, Some, None, if◌then◌else◌}
 use Rattle.mvn_coords.specs.FileName.{BuildOf}
 use Rattle.repo_model.specs.Purge.{Aged, is_same_build}
 
@@ -18,3 +18,8 @@ age_of b (a ∷ builds) = if is_same_build b a.build then Some a.accepted else a
 pub record HaveSameBuilds (xs ys : List Aged) : Type 0 where
   pub sums : (f : Aged → ℕ) → sum_by f xs ≡ sum_by f ys
   pub ages : (b : BuildOf) → age_of b xs ≡ age_of b ys
+
+-- the later one of two moments, of which the first may be missing
+abbrev pub latest : Option ℕ → ℕ → ℕ
+latest None accepted = accepted
+latest (Some before) accepted = max before accepted

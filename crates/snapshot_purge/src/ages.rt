@@ -1,10 +1,11 @@
 //! The builds of a snapshot directory, file after file, and which of them are due.
 ghost use Rattle.std.specs.Prelude.{◌≡◌, [], IfOk, OnOk, OnErr};
 ghost use Rattle.std.specs.List.{list_any};
+ghost use Rattle.std.specs.Option.{option_copied};
 ghost use Rattle.mvn_coords.specs.FileName.{BuildOf};
 ghost use Rattle.repo_model.specs.Purge.{aged, due, is_same_build};
 ghost use Rattle.snapshot_purge.specs.Shown.{shown_builds};
-ghost use Rattle.snapshot_purge.specs.Ages.{HaveSameBuilds};
+ghost use Rattle.snapshot_purge.specs.Ages.{HaveSameBuilds, latest};
 
 use crate::NoMemory;
 use crate::builds::{Aged, Keep, due};
@@ -45,10 +46,7 @@ impl Ages {
         ensures ok { OnOk result (HaveSameBuilds self.new (aged accepted build self.old)) }
         ensures err { OnErr result (self.new ≡ self.old) }
     {
-        let newest = match self.builds.get(&build) {
-            Some(before) => accepted.max(*before),
-            None => accepted,
-        };
+        let newest = latest(self.builds.get(&build), accepted);
         self.builds.insert(build, newest)?;
         Ok(())
     }
@@ -59,9 +57,9 @@ impl Ages {
             ≡ list_any (is_same_build b) (due self.now rule.now.count rule.now.days now)) }
     {
         let builds = self.listed(alloc)?;
-        let mut builds = due(alloc, builds.as_slice(), rule, now)?;
-        builds.sort_unstable();
-        Ok(DueBuilds { builds })
+        let mut found = due(alloc, builds.as_slice(), rule, now)?;
+        found.sort_unstable();
+        Ok(DueBuilds { builds: found })
     }
 
     /// The builds in rising order.
@@ -76,6 +74,16 @@ impl Ages {
             })?;
         }
         Ok(builds)
+    }
+}
+
+/// The later one of two moments, of which the first may be missing.
+fn latest(before: Option<&u64>, accepted: u64) -> u64
+    ensures { result ≡ latest (option_copied before.entry) accepted }
+{
+    match before {
+        Some(before) => (*before).max(accepted),
+        None => accepted,
     }
 }
 
