@@ -56,14 +56,12 @@ fn place_of(known: &[Known], c: &Coord<'_>) -> Option<usize>
 
 /// How many of the first directories that are known lie above a path, one below the other.
 fn count_above(known: &[Known], path: &str) -> usize {
-    let mut count = 0;
-    for one in known {
+    for (i, one) in known.iter().enumerate() {
         if !path.starts_with(one.base.as_str()) {
-            return count;
+            return i;
         }
-        count += 1;
     }
-    count
+    known.len()
 }
 
 /// The path of a file's snapshot directory, and a slash.

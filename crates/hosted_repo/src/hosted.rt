@@ -164,7 +164,7 @@ impl<H: Held> Hosted<H> {
     pub fn expiring(&self, grace: u64, now: u64, most: u64) -> Result<Vec<Expired>, NoMemory>
         ensures { IfOk result (λ found. map (shown_expired self.now.rule.id) found.items ≡ take most (expired_of grace now self.now)) }
     {
-        purge::expired(self.alloc, &self.rows, now.saturating_sub(grace), most)
+        purge::expired_rows(self.alloc, &self.rows, now.saturating_sub(grace), most)
     }
 
     /// Takes the first `count` rows away whose grace period, in seconds, is over at a moment.

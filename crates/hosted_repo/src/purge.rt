@@ -41,8 +41,10 @@ pub fn due_paths<H: Held>(
         if paths.len() == MOST_ROWS {
             return Ok(paths);
         }
-        if is_due(alloc, rows, rule, now, &mut known, path.as_str(), row)? {
-            paths.push(path.clone()?)?;
+        let text = path.as_str();
+        if is_due(alloc, rows, rule, now, &mut known, text, row)? {
+            let copy = String::from_str(alloc, text)?;
+            paths.push(copy)?;
         }
     }
     Ok(paths)
@@ -58,7 +60,7 @@ pub fn fade_all<H: Held>(rows: &mut BTreeMap<String, Row<H>>, paths: &[String], 
 }
 
 /// The first rows that are unlisted since before a moment, at most so many.
-pub fn expired<H: Held>(
+pub fn expired_rows<H: Held>(
     alloc: Global,
     rows: &BTreeMap<String, Row<H>>,
     limit: u64,
@@ -73,9 +75,9 @@ pub fn expired<H: Held>(
             return Ok(found);
         }
         if is_before(row.phase, limit) {
-            let path = path.clone()?;
+            let copy = String::from_str(alloc, path.as_str())?;
             found.push(Expired {
-                path,
+                path: copy,
                 blob: row.parcel.blob,
             })?;
         }
