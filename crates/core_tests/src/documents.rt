@@ -72,7 +72,11 @@ fn builds_make_documents(rt: HostRuntime) -> Result<(), Fail> {
     // a document that is sent is not kept
     bench.expect(&rt, Ask::PutDoc("releases", artifact), Said::Noted)?;
     bench.expect(&rt, Ask::Look("releases", artifact), Said::Missed)?;
-    bench.expect(&rt, Ask::Look("snapshots", "org/acme/maven-metadata.xml"), Said::Missed)?;
+    bench.expect(
+        &rt,
+        Ask::Look("snapshots", "org/acme/maven-metadata.xml"),
+        Said::Missed,
+    )?;
     Ok(())
 }
 
@@ -144,9 +148,21 @@ fn neighbours_stay_out(rt: HostRuntime) -> Result<(), Fail> {
     bench.expect_document(&rt, "releases", "g/a/maven-metadata.xml", OF_A)?;
     bench.expect_document(&rt, "releases", "g/a/1/c/maven-metadata.xml", OF_C)?;
     bench.expect_document(&rt, "releases", "g/a-b/maven-metadata.xml", OF_A_B)?;
-    bench.expect(&rt, Ask::Look("releases", "g/maven-metadata.xml"), Said::Missed)?;
-    bench.expect(&rt, Ask::Look("releases", "g/a/1/maven-metadata.xml"), Said::Missed)?;
-    bench.expect(&rt, Ask::Look("mixed", "g/a/maven-metadata.xml"), Said::Missed)?;
+    bench.expect(
+        &rt,
+        Ask::Look("releases", "g/maven-metadata.xml"),
+        Said::Missed,
+    )?;
+    bench.expect(
+        &rt,
+        Ask::Look("releases", "g/a/1/maven-metadata.xml"),
+        Said::Missed,
+    )?;
+    bench.expect(
+        &rt,
+        Ask::Look("mixed", "g/a/maven-metadata.xml"),
+        Said::Missed,
+    )?;
     Ok(())
 }
 

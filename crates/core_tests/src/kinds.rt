@@ -29,7 +29,10 @@ static FAULTS: [(&str, PathFault); 9] = [
         "org/acme/lib/1.1-SNAPSHOT/lib-1.1-SNAPSHOT.jar",
         PathFault::LiteralSnapshot,
     ),
-    ("org/acme/lib/SNAPSHOT/lib-SNAPSHOT.jar", PathFault::LiteralSnapshot),
+    (
+        "org/acme/lib/SNAPSHOT/lib-SNAPSHOT.jar",
+        PathFault::BadSegment,
+    ),
 ];
 
 fn is_fault(path: &str, want: PathFault) -> bool {
@@ -91,7 +94,13 @@ fn documents_are_noted_and_not_kept(rt: HostRuntime) -> Result<(), Fail> {
 fn files_are_counted(rt: HostRuntime) -> Result<(), Fail> {
     let mut bench = Bench::new(rt.alloc())?;
     bench.expect(&rt, Ask::Status, Said::Counts([0, 0, 0, 0, 0]))?;
-    bench.fill(&rt, "releases", 1, &[JAR, "org/acme/lib/1.0/lib-1.0.pom"], b"abc")?;
+    bench.fill(
+        &rt,
+        "releases",
+        1,
+        &[JAR, "org/acme/lib/1.0/lib-1.0.pom"],
+        b"abc",
+    )?;
     bench.fill(&rt, "mixed", 3, &[JAR], b"abc")?;
     bench.expect(&rt, Ask::MayPut("mixed", BUILD), Said::Draft(4))?;
     bench.expect(&rt, Ask::Status, Said::Counts([3, 0, 0, 0, 0]))?;

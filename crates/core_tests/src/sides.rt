@@ -44,8 +44,17 @@ fn side_files_say_the_digests(rt: HostRuntime) -> Result<(), Fail> {
     bench.expect_text(&rt, "releases", POM_MD5, F)?;
     bench.expect(&rt, Ask::Look("mixed", JAR_SHA1), Said::Missed)?;
     // no lease was taken
-    bench.expect(&rt, Ask::Look("releases", "org/acme/lib/1.1/lib-1.1.jar"), Said::Missed)?;
-    assert!(rt; matches!(bench.answer(Ask::Look("releases", JAR))?, Said::File(1, 1, _)));
+    bench.expect(
+        &rt,
+        Ask::Look("releases", "org/acme/lib/1.1/lib-1.1.jar"),
+        Said::Missed,
+    )?;
+    assert!(rt;
+        matches!(
+            bench.answer(Ask::Look("releases", JAR))?,
+            Said::File(1, 1, _)
+        )
+    );
     Ok(())
 }
 
@@ -56,13 +65,24 @@ fn what_is_said_is_compared(rt: HostRuntime) -> Result<(), Fail> {
     let other = digest(OTHER, Side::Sha1)?;
     bench.expect(&rt, Ask::PutSide("releases", JAR_SHA1, a), Said::NotThere)?;
     bench.fill(&rt, "releases", 1, &[JAR], b"abc")?;
-    let said = digest("A9993E364706816ABA3E25717850C26C9CD0D89D  lib-1.0.jar", Side::Sha1)?;
+    let said = digest(
+        "A9993E364706816ABA3E25717850C26C9CD0D89D  lib-1.0.jar",
+        Side::Sha1,
+    )?;
     bench.expect(&rt, Ask::PutSide("releases", JAR_SHA1, said), Said::Agreed)?;
-    bench.expect(&rt, Ask::PutSide("releases", JAR_SHA1, other), Said::Differs(other, a))?;
+    bench.expect(
+        &rt,
+        Ask::PutSide("releases", JAR_SHA1, other),
+        Said::Differs(other, a),
+    )?;
     let said = digest("MD5 (x) = 900150983CD24FB0D6963F7D28E17F72", Side::Md5)?;
     bench.expect(&rt, Ask::PutSide("releases", JAR_MD5, said), Said::Agreed)?;
     let nothing = digest(F, Side::Md5)?;
-    bench.expect(&rt, Ask::PutSide("releases", JAR_MD5, nothing), Said::Differs(nothing, said))?;
+    bench.expect(
+        &rt,
+        Ask::PutSide("releases", JAR_MD5, nothing),
+        Said::Differs(nothing, said),
+    )?;
     bench.expect(&rt, Ask::PutSide("mixed", JAR_SHA1, a), Said::NotThere)?;
     bench.expect(&rt, Ask::PutSide("releases", POM_SHA1, a), Said::NotThere)?;
     // what was said changes nothing

@@ -99,14 +99,14 @@ module _ (grace now : ℕ) (one : Session) (rows : List Row) where
   found-first : (file : Staged) (files : List Staged) → find (is_staged file.path) (file ∷ files) ≡ Some file
   found-first file files = rw (is_itself file.path) refl
 
-  discarded : (t : State) (file : Staged) (files : List Staged) → find (is_staged file.path) files ≡ None → Ready t (file ∷ files) files
+  pub discarded : (t : State) (file : Staged) (files : List Staged) → find (is_staged file.path) files ≡ None → Ready t (file ∷ files) files
       → May grace now t (discards one.number file.path file.blob.number) × Ready (with_effect t (discards one.number file.path file.blob.number)) files files
   discarded t file files none ready = (
     (left (file ∷ files), file, ready.opened, found-first file files, refl),
     record { opened = opened-then t file files none ready.opened; there = ready.there; same = ready.same },
   )
 
-  delivered : (t : State) (file : Staged) (files : List Staged) → find (is_staged file.path) files ≡ None → Ready t (file ∷ files) files
+  pub delivered : (t : State) (file : Staged) (files : List Staged) → find (is_staged file.path) files ≡ None → Ready t (file ∷ files) files
       → row_at file.path (rows_of one.repo t) ≡ None
       → May grace now t (delivers one.number one.repo file.path file.blob now) × Ready (with_effect t (delivers one.number one.repo file.path file.blob now)) files files
   delivered t file files none ready free = (
@@ -119,7 +119,7 @@ module _ (grace now : ℕ) (one : Session) (rows : List Row) where
     },
   )
 
-  relisted : (t : State) (file : Staged) (files : List Staged) (row : Row) (since : ℕ) → find (is_staged file.path) files ≡ None → Ready t (file ∷ files) files
+  pub relisted : (t : State) (file : Staged) (files : List Staged) (row : Row) (since : ℕ) → find (is_staged file.path) files ≡ None → Ready t (file ∷ files) files
       → row_at file.path (rows_of one.repo t) ≡ Some row → row.phase ≡ fading since
       → May grace now t (relists one.repo file.path now) × Ready (with_effect t (relists one.repo file.path now)) (file ∷ files) files
   relisted t file files row since none ready found fades_since = (
@@ -166,7 +166,7 @@ module _ (grace now : ℕ) (one : Session) (rows : List Row) where
             ] refl
       ] refl
 
-all-same : (rows : List Row) (files : List Staged) → AllByRecursion (λ (file : Staged). row_at file.path rows ≡ row_at file.path rows) files
+pub all-same : (rows : List Row) (files : List Staged) → AllByRecursion (λ (file : Staged). row_at file.path rows ≡ row_at file.path rows) files
 all-same rows [] = tt
 all-same rows (file ∷ files) = (refl, all-same rows files)
 

@@ -9,7 +9,7 @@ use Rattle.repo_model.specs.Settings.{Settings}
 use Rattle.repo_model.specs.State.{State, Yard, Lease, is_among}
 use Rattle.repo_model.specs.Effect.{Effect, expires, forgets, with_effect, with_effects}
 use Rattle.repo_model.specs.Purge.{expire_all, expired_of, is_over, most_rows}
-use Rattle.repo_model.specs.Turn.{unlent}
+use Rattle.repo_model.specs.Turn.{most_collected, unlent}
 use Rattle.repo_model.specs.History.{Entry, Fits, after, Legal, end}
 use Rattle.repo_laws.specs.Laws.{places_of, count_of}
 use Rattle.repo_laws.specs.Sound.{AreNamedApart, Sound, OnePlace}
@@ -27,7 +27,7 @@ count-append n (m ∷ ms) ks =
     let is : ℕ → Bool = λ i. i == n in
     omega (arith, count-cons is m (ms ++ ks), count-cons is m ms, count-append n ms ks)
 
-count-take : (n k : ℕ) (ms : List ℕ) → count_of n (take k ms) ≤ count_of n ms
+pub count-take : (n k : ℕ) (ms : List ℕ) → count_of n (take k ms) ≤ count_of n ms
 count-take n zero ms = omega arith
 count-take n (suc k) [] = omega arith
 count-take n (suc k) (m ∷ ms) =
@@ -44,7 +44,7 @@ not-among-counts n (m ∷ ms) none =
 count-unlent : (n : ℕ) (yard : Yard) → count_of n (unlent yard) ≤ count_of n yard.condemned
 count-unlent n yard =
     let unleased : ℕ → Bool = λ m. not (list_any (λ (l : Lease). l.blob == m) yard.leases) in
-    omega (arith, count-take n 100 (filter unleased yard.condemned), count-filter (λ m. m == n) unleased yard.condemned)
+    omega (arith, count-take n most_collected (filter unleased yard.condemned), count-filter (λ m. m == n) unleased yard.condemned)
 
 -- what is given out was condemned
 forgets-counted : (t : State) (n : ℕ) → places_of (with_effect t (forgets (unlent t.yard))) n + count_of n (unlent t.yard) ≤ places_of t n

@@ -109,7 +109,7 @@ find-others q new (r ∷ rows) other =
       | Greater ↦ ap (λ found. cond (q r) (Some r) found) (find-others q new rows other)
     ]
 
-row-new : (new : Row) (rows : List Row) → row_at new.path rows ≡ None → row_at new.path (with_row new rows) ≡ Some new
+pub row-new : (new : Row) (rows : List Row) → row_at new.path rows ≡ None → row_at new.path (with_row new rows) ≡ Some new
 row-new new [] none = rw (is_itself new.path) refl
 row-new new (row ∷ rows) none =
     elim (is_row new.path row) as (λ b. is_row new.path row ≡ b → cond b (Some row) (row_at new.path rows) ≡ None → row_at new.path (with_row new (row ∷ rows)) ≡ Some new) [

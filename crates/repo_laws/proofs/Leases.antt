@@ -77,7 +77,7 @@ all-filter : (P : ℕ → Type 0) (q : ℕ → Bool) (ns : List ℕ) → AllByRe
 all-filter P q [] all = tt
 all-filter P q (n ∷ ns) all = elim (q n) as (λ b. AllByRecursion P (cond b (n ∷ filter q ns) (filter q ns))) [ true ↦ (all.0, all-filter P q ns all.1) | false ↦ all-filter P q ns all.1 ]
 
-filter-rising : (q : ℕ → Bool) (ns : List ℕ) → AreRising ns → AreRising (filter q ns)
+pub filter-rising : (q : ℕ → Bool) (ns : List ℕ) → AreRising ns → AreRising (filter q ns)
 filter-rising q [] rising = tt
 filter-rising q (n ∷ ns) rising =
     elim (q n) as (λ b. AreRising (cond b (n ∷ filter q ns) (filter q ns))) [ true ↦ (all-filter (λ m. n ≤ m) q ns rising.0, filter-rising q ns rising.1) | false ↦ filter-rising q ns rising.1 ]

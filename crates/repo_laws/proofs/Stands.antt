@@ -13,7 +13,7 @@ use Rattle.repo_laws.proofs.Rows.{rows-changed}
 use Rattle.repo_laws.proofs.Releases.{is_itself, with_row-elsewhere, change-elsewhere, without-elsewhere, same_path, other_path}
 
 -- the row at a path after the rows there were changed
-change-there : (path : List ℕ) (f : Row → Row) → ((r : Row) → (f r).path ≡ r.path) → (rows : List Row) (row : Row) → row_at path rows ≡ Some row
+pub change-there : (path : List ℕ) (f : Row → Row) → ((r : Row) → (f r).path ≡ r.path) → (rows : List Row) (row : Row) → row_at path rows ≡ Some row
     → row_at path (change_where (is_row path) f rows) ≡ Some (f row)
 change-there path f keeps [] row found = absurd (none-some row found)
 change-there path f keeps (first ∷ rows) row found =

@@ -22,7 +22,7 @@ use Rattle.repo_model.specs.Command.{Command, look, done, may_put, put, put_side
 use Rattle.repo_model.specs.Reply.{file, draft, kind_refused, session_full, no_draft, taken, agreed, differs, noted, staged, sessions_full, opened, spent}
 use Rattle.repo_model.specs.Purge.{expire_all}
 use Rattle.repo_model.specs.Deploy.{offence, without_pom}
-use Rattle.repo_model.specs.Turn.{Turn, says, draws_or_spent, is_file, is_text, is_doc, shows, seen_at, or_nothing, document_text, in_repository, has_room, draws_draft, may_put_in, put_again, put_at, compared, judged, with_open, staged_at, stage_at, stage_in, commit_by, commit_of, abort_of, unlent, collect_of, turn}
+use Rattle.repo_model.specs.Turn.{Turn, most_collected, says, draws_or_spent, is_file, is_text, is_doc, shows, seen_at, or_nothing, document_text, in_repository, has_room, draws_draft, may_put_in, put_again, put_at, compared, judged, with_open, staged_at, stage_at, stage_in, commit_by, commit_of, abort_of, unlent, collect_of, turn}
 use Rattle.mvn_digest.specs.Sides.{side_text, side_of}
 use Rattle.repo_laws.specs.Laws.{AreApart}
 use Rattle.repo_laws.specs.Sound.{AreNamedApart, IsInOrder, Sound}
@@ -44,7 +44,7 @@ among-all (n ∷ ns) = (
 pub unlent-has : (yard : Yard) → AllByRecursion (λ n. (is_among n yard.condemned ≡ true) × (not (list_any (λ (l : Lease). l.blob == n) yard.leases) ≡ true)) (unlent yard)
 unlent-has yard =
     let unleased : ℕ → Bool = λ n. not (list_any (λ (l : Lease). l.blob == n) yard.leases) in
-    all-take (λ n. (is_among n yard.condemned ≡ true) × (unleased n ≡ true)) 100 (filter unleased yard.condemned)
+    all-take (λ n. (is_among n yard.condemned ≡ true) × (unleased n ≡ true)) most_collected (filter unleased yard.condemned)
     (filter-has (λ n. is_among n yard.condemned ≡ true) unleased yard.condemned (among-all yard.condemned))
 
 none-any : {X : Type 0} (p : X → Bool) (xs : List X) → find p xs ≡ None → list_any p xs ≡ false
@@ -158,7 +158,7 @@ module _ (grace now : ℕ) where
       (λ _. tt)
 
   -- a known session that has not ended is the open one of its number
-  open-too : (n : ℕ) (sessions : List Session) (one : Session) → find (is_session n) sessions ≡ Some one → one.ended ≡ None → find (is_open_at one.number) sessions ≡ Some one
+  pub open-too : (n : ℕ) (sessions : List Session) (one : Session) → find (is_session n) sessions ≡ Some one → one.ended ≡ None → find (is_open_at one.number) sessions ≡ Some one
   open-too n sessions one known going =
       let numbered : one.number ≡ n = eqb-true one.number n (found-passes (is_session n) sessions one known) in
       subst (λ k. find (is_open_at k) sessions ≡ Some one) (sym numbered) (open-at sessions known) where

@@ -9,3 +9,8 @@ pub mod Items
 pub mod Staged
 pub mod Histories
 pub mod Faults
+pub mod Causes
+pub mod Described
+pub mod Collected
+pub mod InRange
+pub mod Deployed

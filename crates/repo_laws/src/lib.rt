@@ -3,10 +3,12 @@
 //! No function here has code: its contract is the law.
 #![tactic(auto)]
 
+pub mod causes;
 pub mod deployed;
 pub mod documents;
 pub mod numbers;
 pub mod replies;
+pub mod restarts;
 pub mod states;
 pub mod tables;
 pub mod worked;

@@ -1,5 +1,5 @@
 //! Numbers of blobs, leases and sessions.
-ghost use Rattle.std.specs.Prelude.{false, ◌≡◌, ◌≢◌, ℕ, ◌+◌, ◌<◌, ◌≤◌, ◌^◌, ◌⊎◌, ◌↔◌, List, Option, IsTrue, count_by};
+ghost use Rattle.std.specs.Prelude.{false, ◌≡◌, ◌≢◌, ℕ, ◌+◌, ◌<◌, ◌≤◌, ◌^◌, ◌⊎◌, ◌↔◌, List, Option, IsTrue, count_by, length};
 ghost use Rattle.mvn_coords.specs.Kind.{kind};
 ghost use Rattle.outside.specs.Moments.{Moments};
 ghost use Rattle.repo_model.specs.Settings.{Settings};
@@ -8,13 +8,14 @@ ghost use Rattle.repo_model.specs.State.{State, opening, rows_of, is_open, numbe
 ghost use Rattle.repo_model.specs.Purge.{most_rows};
 ghost use Rattle.repo_model.specs.Effect.{Effect, with_effect};
 ghost use Rattle.repo_model.specs.May.{May};
-ghost use Rattle.repo_model.specs.Command.{look, done, may_put, put, stage, drop_draft, open_session};
-ghost use Rattle.repo_model.specs.Reply.{file, spent, is_free};
-ghost use Rattle.repo_model.specs.Turn.{turn, seen_at, is_file};
+ghost use Rattle.repo_model.specs.Command.{look, done, may_put, put, stage, drop_draft, open_session, collect};
+ghost use Rattle.repo_model.specs.Reply.{file, spent, collected, is_free};
+ghost use Rattle.repo_model.specs.Turn.{turn, most_collected, seen_at, is_file};
 ghost use Rattle.repo_model.specs.History.{Entry, Fits, Legal, after, end};
 ghost use Rattle.repo_laws.specs.Laws.{places_of, leases_of, count_of};
 ghost use Rattle.repo_laws.specs.Sound.{AreNamedApart, IsSound};
 ghost use Rattle.repo_laws.specs.Closed.{IsGone, IsLentAs, all_given_out, Untouched, ReadersLast};
+ghost use Rattle.repo_laws.specs.Collected.{IsUnlent, IsFirstGarbage, cleared};
 ghost use Rattle.repo_laws.specs.Replies.{takes_at, takes_in};
 
 /// In every legal history from the opening state a blob number that was drawn stands in exactly one place (a draft, a row, a
@@ -77,9 +78,20 @@ pub fn numbers_are_spent()
         ((turn settings s now (open_session repo)).reply ≡ spent) ↔ ((count_by is_open s.sessions < most_sessions) × (s.yard.next_session ≡ number_end)) }
 {}
 
-/// The most sessions that are open, files that one of them stages, and rows of one turn.
+/// A Collect gives out the first of the garbage that nobody has borrowed, in rising order and each blob once. Where it gives out
+/// fewer than it may, all garbage that is left is borrowed.
+pub fn collect_gives_the_first()
+    ensures given { (settings : Settings) (old : State) (e : Entry) (expired : ℕ) (blobs : List ℕ) → AreNamedApart settings.hosted → IsSound settings old
+        → Fits settings old e → e.command ≡ collect → e.reply ≡ collected expired blobs → IsFirstGarbage (cleared settings e.moment old).yard blobs }
+    ensures left { (settings : Settings) (old : State) (e : Entry) (expired : ℕ) (blobs : List ℕ) → AreNamedApart settings.hosted → IsSound settings old
+        → Fits settings old e → e.command ≡ collect → e.reply ≡ collected expired blobs → length blobs < most_collected
+        → (n : ℕ) → IsUnlent n (after settings old e).yard → ⊥ }
+{}
+
+/// The most sessions that are open, files that one of them stages, rows of one turn, and blobs of one Collect.
 pub fn limits()
     ensures sessions { most_sessions ≡ 64 }
     ensures staged { most_staged ≡ 1_000 }
     ensures rows { most_rows ≡ 1_000_000 }
+    ensures collected { most_collected ≡ 100 }
 {}

@@ -14,3 +14,4 @@ pub mod History
 pub mod Tables
 pub mod Asking
 pub mod Shown
+pub mod Restart

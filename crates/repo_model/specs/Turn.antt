@@ -136,9 +136,13 @@ abbrev pub unlist_of : ℕ → Option Hosted → Turn
 unlist_of now None = says (unlisted 0)
 unlist_of now (Some h) = record { reply = unlisted (length (due_rows h.rule now h.rows)); effects = fade_all h now }
 
+-- the most blobs that one Collect gives out to be removed
+abbrev pub most_collected : ℕ
+most_collected = 100
+
 -- the first garbage that nobody has borrowed
 abbrev pub unlent : Yard → List ℕ
-unlent yard = take 100 (filter (λ n. not (list_any (λ (l : Lease). l.blob == n) yard.leases)) yard.condemned)
+unlent yard = take most_collected (filter (λ n. not (list_any (λ (l : Lease). l.blob == n) yard.leases)) yard.condemned)
 
 abbrev pub collect_of : List Effect → Yard → Turn
 collect_of expiring yard = record {

@@ -156,6 +156,6 @@ unfolding route_at is_word parameter
 table-routes s t status_row repository_row path =
     let word : seek 0 ((codes "/api/status", s) ∷ []) path ≡ cond (bytes_eq path (codes "/api/status")) (Some s) None = word-row (codes "/api/status") s path refl in
     let front : seek 0 ((codes "/repository/" ++ param_token ∷ 47 ∷ catch_all_token ∷ [], t) ∷ []) path ≡ option_and_then (λ rest. seek 0 (parameter t) rest) (behind (codes "/repository/") path) =
-        along (codes "/repository/") (param_token ∷ 47 ∷ catch_all_token ∷ []) t path refl ∙ ap (option_and_then (λ rest. seek 0 (parameter t) rest)) (strip-behind (codes "/repository/") path) in
+    along (codes "/repository/") (param_token ∷ 47 ∷ catch_all_token ∷ []) t path refl ∙ ap (option_and_then (λ rest. seek 0 (parameter t) rest)) (strip-behind (codes "/repository/") path) in
     ap value_of (apart _ _ s t path ∙ ap (λ found. or_else found (seek 0 ((codes "/repository/" ++ param_token ∷ 47 ∷ catch_all_token ∷ [], t) ∷ []) path)) word ∙ ap (or_else (cond (bytes_eq path (codes "/api/status")) (Some s) None)) front)
     ∙ status-by s (bytes_eq path (codes "/api/status")) _ (below_repository path) status_row (repository-found t (behind (codes "/repository/") path) repository_row)

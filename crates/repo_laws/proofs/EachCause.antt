@@ -1,0 +1,103 @@
+-- Each refusal has its cause, and comes where there is one.
+use Rattle.std.proofs.Common.{◌≡◌, ◌⊎◌, inl, inr, ℕ, true, false, not, ◌||◌, [], length, Option, Some, None, refl, sym, ◌∙◌, ap}
+use Rattle.std.specs.Prelude.{◌↔◌, ◌==◌}
+use Rattle.std.proofs.lemmas.Bool.{false≢true}
+use Rattle.mvn_coords.specs.Kind.{kind}
+use Rattle.repo_model.specs.Data.{Hosted, repository, session}
+use Rattle.repo_model.specs.Settings.{Settings}
+use Rattle.repo_model.specs.State.{State, hosted_of, rows_of, session_of, open_of}
+use Rattle.repo_model.specs.Command.{Command, look, done, may_put, put, put_side, put_doc, drop_draft, open_session, stage, commit, abort, unlist, collect, status}
+use Rattle.repo_model.specs.Effect.{recorded}
+use Rattle.repo_model.specs.Reply.{Reply, given_back, dropped, noted, no_session, created, relisted, opened, ended, unlisted, collected, no_memory, is_free}
+use Rattle.repo_model.specs.Purge.{due_rows}
+use Rattle.repo_model.specs.Turn.{turn, seen_at, unlist_of, counts_of}
+use Rattle.repo_model.specs.History.{Entry, IsReply, due, wants_memory, failed, Fits, is_collect, commits}
+use Rattle.repo_laws.specs.Causes.{Cause, DocRefused}
+use Rattle.repo_laws.specs.Holds.{can_record}
+use Rattle.repo_laws.specs.Replies.{is_refusal}
+use Rattle.repo_laws.proofs.Answered.{reply-determined}
+use Rattle.repo_laws.proofs.HoldingTurns.{refused-quiet}
+use Rattle.repo_laws.proofs.CausesPut.{no-refusal, look-caused, look-refused, may_put-caused, may_put-refused, put-caused, put-refused}
+use Rattle.repo_laws.proofs.CausesSession.{may_stage-caused, may_stage-refused, side-caused, side-refused, staged_side-caused, staged_side-refused, doc-caused, doc-refused, open-caused, open-refused, stage-caused, stage-refused}
+use Rattle.repo_laws.proofs.CausesCommit.{commit-caused, commit-refused, abort-caused, abort-refused}
+
+module _ (settings : Settings) (s : State) (now : ℕ) where
+  caused : (c : Command) (r : Reply) → is_refusal r ≡ true → (turn settings s now c).reply ≡ r → Cause s c r
+  caused (look repo path tried) r refused is = look-caused s repo path r refused (seen_at (rows_of repo s) path (kind path)) refl is
+  caused (done lease) r refused is = absurd (no-refusal given_back r refl is refused)
+  caused (may_put (repository repo) path) r refused is = may_put-caused s repo path r refused is
+  caused (may_put (session n) path) r refused is = may_stage-caused s n path r refused (open_of n s) refl is
+  caused (put repo path n blob) r refused is = put-caused s now repo path n blob r refused is
+  caused (put_side (repository repo) path said) r refused is = side-caused s (repository repo) path said tt r refused (kind path) refl is
+  caused (put_side (session n) path said) r refused is = staged_side-caused s n path said r refused (open_of n s) refl is
+  caused (put_doc (repository repo) path) r refused is = absurd (no-refusal noted r refl is refused)
+  caused (put_doc (session n) path) r refused is = doc-caused s n path [] r refused (open_of n s) refl is
+  caused (drop_draft n) r refused is = absurd (no-refusal dropped r refl is refused)
+  caused (open_session repo) r refused is = open-caused s repo r refused is
+  caused (stage at path n blob) r refused is = stage-caused s at path n blob r refused is
+  caused (commit n) r refused is = commit-caused s now n r refused (session_of n s) refl is
+  caused (abort n) r refused is = abort-caused s now n r refused (session_of n s) refl is
+  caused (unlist repo) r refused is = by (hosted_of repo s) is where
+    by : (found : Option Hosted) → (unlist_of now found).reply ≡ r → ⊥
+    by None e = no-refusal (unlisted 0) r refl e refused
+    by (Some h) e = no-refusal (unlisted (length (due_rows h.rule now h.rows))) r refl e refused
+  caused collect r refused is = absurd (no-refusal (turn settings s now collect).reply r refl is refused)
+  caused status r refused is = absurd (no-refusal (counts_of s) r refl is refused)
+
+  refused-so : (c : Command) (r : Reply) → Cause s c r → (turn settings s now c).reply ≡ r
+  refused-so (look repo path tried) r cause = look-refused s repo path r cause
+  refused-so (may_put (repository repo) path) r cause = may_put-refused s repo path r cause
+  refused-so (may_put (session n) path) r cause = may_stage-refused s n path r cause
+  refused-so (put repo path n blob) r cause = put-refused s now repo path n blob r cause
+  refused-so (put_side (repository repo) path said) r cause = side-refused s (repository repo) path said tt r cause
+  refused-so (put_side (session n) path said) r cause = staged_side-refused s n path said r cause
+  refused-so (put_doc (repository repo) path) r cause = none r cause where
+    none : (r : Reply) → DocRefused s (repository repo) r → noted ≡ r
+    none no_session cause = absurd cause
+    none r cause = absurd cause
+  refused-so (put_doc (session n) path) r cause = doc-refused s n path [] r cause
+  refused-so (open_session repo) r cause = open-refused s repo r cause
+  refused-so (stage at path n blob) r cause = stage-refused s at path n blob r cause
+  refused-so (commit n) r cause = commit-refused s now n r cause
+  refused-so (abort n) r cause = abort-refused s now n r cause
+  refused-so (done lease) r cause = absurd cause
+  refused-so (drop_draft n) r cause = absurd cause
+  refused-so (unlist repo) r cause = absurd cause
+  refused-so collect r cause = absurd cause
+  refused-so status r cause = absurd cause
+
+  pub each-cause : (c : Command) (r : Reply) → is_refusal r ≡ true → ((turn settings s now c).reply ≡ r) ↔ Cause s c r
+  each-cause c r refused = (caused c r refused, refused-so c r)
+
+-- ---- entries
+refusal-quiet : (r : Reply) → is_refusal r ≡ true → can_record r ≡ false
+refusal-quiet created refused = absurd (false≢true refused)
+refusal-quiet relisted refused = absurd (false≢true refused)
+refusal-quiet (opened n) refused = absurd (false≢true refused)
+refusal-quiet (ended result) refused = absurd (false≢true refused)
+refusal-quiet (unlisted n) refused = absurd (false≢true refused)
+refusal-quiet (collected expired blobs) refused = absurd (false≢true refused)
+refusal-quiet r refused = refl
+
+caused-elsewhere : (s : State) (c : Command) (r : Reply) → Cause s c r → is_collect c ≡ false
+caused-elsewhere s collect r cause = absurd cause
+caused-elsewhere s (look repo path tried) r cause = refl
+caused-elsewhere s c r cause = refl
+
+pub entry-cause : (settings : Settings) (old : State) (e : Entry) → Fits settings old e → is_free e.reply ≡ false → is_refusal e.reply ≡ true → Cause old e.command e.reply
+entry-cause settings old e fits bound refused = caused settings old e.moment e.command e.reply refused (sym (reply-determined settings old e fits bound))
+
+pub cause-entry : (settings : Settings) (old : State) (e : Entry) (r : Reply) → Fits settings old e → is_refusal r ≡ true → Cause old e.command r → (e.reply ≡ r) ⊎ (e.reply ≡ no_memory)
+cause-entry settings old e r fits refused cause = by fits.reply where
+  is : (turn settings old e.moment e.command).reply ≡ r
+  is = refused-so settings old e.moment e.command r cause
+
+  by : IsReply settings old e → (e.reply ≡ r) ⊎ (e.reply ≡ no_memory)
+  by (due due_is _) = inl (due_is ∙ is)
+  by (wants_memory wanting _ _) = inr wanting
+  by (failed _ commits_so _) =
+      let quiet = refused-quiet settings old e.moment e.command (ap can_record is ∙ refusal-quiet r refused) in
+      let none : commits e.command (turn settings old e.moment e.command).effects ≡ false =
+      ap (λ b. b || not (length (recorded (turn settings old e.moment e.command).effects) == 0)) (caused-elsewhere old e.command r cause)
+      ∙ ap (λ items. not (length items == 0)) quiet in
+      absurd (false≢true (sym none ∙ commits_so))

@@ -1,0 +1,263 @@
+-- Tables stay in range under what a turn records.
+use native.Mathlib.Omega.{arith}
+use Rattle.std.proofs.Common.{◌≡◌, ◌≤◌, ◌<◌, ◌+◌, ℕ, Bool, true, false, not, cond, ◌||◌, List, [], ◌∷◌, ◌++◌, Option, Some, None, refl, sym, ◌∙◌, ap, subst, eqb-true}
+use Rattle.std.specs.Prelude.{◌==◌, nat_lt, filter, find, count_by, if◌then◌else◌, IsTrue}
+use Rattle.std.specs.List.{AllByRecursion, list_any}
+use Rattle.std.specs.Ordering.{match_ordering}
+use Rattle.std.specs.declared.cmp.Ordering.TheVariants.{Less, Equal, Greater}
+use Rattle.std.proofs.lemmas.Bool.{false≢true, and_parts, eq-eqb, ltb-true, ltb-false}
+use Rattle.std.proofs.lemmas.Option.{none-some}
+use Rattle.repo_model.specs.declared.item.Item.{Item}
+use Rattle.repo_model.specs.declared.item.Item.TheVariants.{HostedPut, Faded, Relisted, Removed, CachedFile, CachedDoc, SessionOpened, SessionEnded}
+use Rattle.repo_model.specs.declared.print.Print.{Print}
+use Rattle.repo_model.specs.Data.{Blob, Row, listed, fading, Staged, Session}
+use Rattle.repo_model.specs.Paths.{is_snapshot_path}
+use Rattle.repo_model.specs.Settings.{Settings}
+use Rattle.repo_model.specs.State.{State, change_where, is_open_at, is_staged, number_end}
+use Rattle.repo_model.specs.Effect.{Effect, draws, drops, creates, stages, delivers, discards, relists, fades, expires, forgets, lends, returns, opens, ends, list_again, fade, with_effect, items_of, recorded}
+use Rattle.repo_model.specs.May.{May, AllMay}
+use Rattle.repo_model.specs.Tables.{Tables, RecordedRow, RecordedDocument, RecordedSession, no_tables, place_cmp, is_recorded, recorded_at, recorded_row, with_document, is_session, is_listed_row, names_blob, item_on, fits_on}
+use Rattle.repo_model.specs.History.{Entry, Fits, Legal, latest_moment, ticked, effects_of, after}
+use Rattle.repo_laws.specs.Laws.{FadesRightly, staged_with, places_of}
+use Rattle.repo_laws.specs.Sound.{AreNamedApart, Sound, OnePlace, IsSound}
+use Rattle.repo_laws.specs.Holds.{IsUpTo, AreUpTo, with_items, told}
+use Rattle.repo_laws.specs.InRange.{IsRowInRange, InRange, IsItemInRange}
+use Rattle.repo_laws.proofs.ByPath.{all-apart}
+use Rattle.repo_laws.proofs.Counts.{one_if, stages_it, count-cons, among-counts, staged_with-cons}
+use Rattle.repo_laws.proofs.Histories.{entry-may, one-place-ticked, sound-ticked}
+use Rattle.repo_laws.proofs.HoldingLists.{all-change_where, all-filter, all-push, all-join}
+use Rattle.repo_laws.proofs.HoldingOrder.{recorded-there, all-with_recorded}
+use Rattle.repo_laws.proofs.Keeping.{keeps-sound}
+use Rattle.repo_laws.proofs.Lists.{all-then}
+use Rattle.repo_laws.proofs.Moments.{last-after, last-capped}
+use Rattle.repo_laws.proofs.Orderly.{sound-kept}
+use Rattle.repo_laws.proofs.Places.{one-place-kept}
+
+-- a number that rows name is one of theirs
+row-named : (P : ℕ → Type 0) (n : ℕ) (rows : List RecordedRow) → AllByRecursion (λ (r : RecordedRow). P r.row.blob.number) rows → list_any (λ (r : RecordedRow). r.row.blob.number == n) rows ≡ true → P n
+row-named P n [] all there = absurd (false≢true there)
+row-named P n (r ∷ rows) all there =
+    elim (r.row.blob.number == n) as (λ b. (r.row.blob.number == n) ≡ b → (b || list_any (λ (x : RecordedRow). x.row.blob.number == n) rows) ≡ true → P n) [
+      | true ↦ λ is _. subst P (eqb-true r.row.blob.number n is) all.0
+      | false ↦ λ _ later. row-named P n rows all.1 later
+    ] refl there
+
+pub rows-named : (P : ℕ → Type 0) (n : ℕ) (t : Tables) → AllByRecursion (λ (r : RecordedRow). P r.row.blob.number) t.hosted → AllByRecursion (λ (r : RecordedRow). P r.row.blob.number) t.cached
+    → IsTrue (names_blob n t) → P n
+rows-named P n t hosted cached named =
+    elim (list_any (λ (r : RecordedRow). r.row.blob.number == n) t.hosted)
+    as (λ b. list_any (λ (r : RecordedRow). r.row.blob.number == n) t.hosted ≡ b → (b || list_any (λ (r : RecordedRow). r.row.blob.number == n) t.cached) ≡ true → P n) [
+      | true ↦ λ is _. row-named P n t.hosted hosted is
+      | false ↦ λ _ later. row-named P n t.cached cached later
+    ] refl named
+
+-- what tables in range are
+module _ (t : Tables) (range : InRange t) where
+  pub range-bare : AllByRecursion (λ (r : RecordedRow). r.row.blob.bytes ≡ None) t.hosted
+  range-bare = all-then (λ (r : RecordedRow). IsRowInRange r × FadesRightly r.row) (λ (r : RecordedRow). r.row.blob.bytes ≡ None) (λ r so. so.0.0) t.hosted range.hosted
+
+  pub range-fading : AllByRecursion (λ (r : RecordedRow). FadesRightly r.row) t.hosted
+  range-fading = all-then (λ (r : RecordedRow). IsRowInRange r × FadesRightly r.row) (λ (r : RecordedRow). FadesRightly r.row) (λ r so. so.1) t.hosted range.hosted
+
+  pub range-numbers : (n : ℕ) → IsTrue (names_blob n t) → (0 < n) × (n < number_end)
+  range-numbers n named =
+      rows-named (λ k. (0 < k) × (k < number_end)) n t
+      (all-then (λ (r : RecordedRow). IsRowInRange r × FadesRightly r.row) (λ (r : RecordedRow). (0 < r.row.blob.number) × (r.row.blob.number < number_end)) (λ r so. (so.0.1, so.0.2)) t.hosted range.hosted)
+      (all-then IsRowInRange (λ (r : RecordedRow). (0 < r.row.blob.number) × (r.row.blob.number < number_end)) (λ r so. (so.1, so.2)) t.cached range.cached) named
+
+  pub range-moments : AreUpTo latest_moment t
+  range-moments = (
+    all-then (λ (r : RecordedRow). IsRowInRange r × FadesRightly r.row) (IsUpTo latest_moment) (λ r so. so.0.3) t.hosted range.hosted,
+    all-then IsRowInRange (IsUpTo latest_moment) (λ r so. so.3) t.cached range.cached,
+    range.documents,
+  )
+
+-- ---- items
+all-changed : {X : Type 0} (P : X → Type 0) (q : X → Bool) (f : X → X) → ((x : X) → q x ≡ true → P x → P (f x)) → (xs : List X) → AllByRecursion P xs → AllByRecursion P (change_where q f xs)
+all-changed P q f so [] all = tt
+all-changed P q f so (x ∷ xs) all =
+    (elim (q x) as (λ b. q x ≡ b → P (if b then f x else x)) [ true ↦ λ is. so x is all.0 | false ↦ λ _. all.0 ] refl, all-changed P q f so xs all.1)
+
+all-with_document : (P : RecordedDocument → Type 0) (new : RecordedDocument) (documents : List RecordedDocument) → AllByRecursion P documents → P new → AllByRecursion P (with_document new documents)
+all-with_document P new [] all here = (here, tt)
+all-with_document P new (d ∷ documents) all here =
+    elim (place_cmp new.repo new.path d.repo d.path)
+    as (λ o. AllByRecursion P (match_ordering o (new ∷ d ∷ documents) (new ∷ documents) (d ∷ with_document new documents))) [
+      | Less ↦ (here, all)
+      | Equal ↦ (here, all.1)
+      | Greater ↦ (all.0, all-with_document P new documents all.1 here)
+    ]
+
+-- where an item lets a row fade, it is a snapshot's
+abbrev FadesSnapshot : Item → Type 0
+FadesSnapshot (Faded repo path moment) = is_snapshot_path path ≡ true
+FadesSnapshot item = Unit {0}
+
+new-in-range : (repo path : List ℕ) (blob : ℕ) (print : Print) (accepted : ℕ) → (0 < blob) × (blob < number_end) × (accepted ≤ latest_moment) → IsRowInRange (recorded_row repo path blob print accepted)
+new-in-range repo path blob print accepted (above, below, early) = (refl, above, below, (early, λ since is. absurd (let e : listed ≡ fading since = is in cc)))
+
+fades-to : (moment since : ℕ) → fading moment ≡ fading since → moment ≡ since
+fades-to moment since is = cc
+
+range-step : (t : Tables) (item : Item) → InRange t → IsItemInRange item → FadesSnapshot item → InRange (item_on t item)
+range-step t (HostedPut repo path blob print accepted) old so rightly = record {
+  hosted = all-with_recorded (λ (r : RecordedRow). IsRowInRange r × FadesRightly r.row) (recorded_row repo path blob print accepted) t.hosted old.hosted
+      (new-in-range repo path blob print accepted so, λ since is. absurd (let e : listed ≡ fading since = is in cc));
+  cached = old.cached;
+  documents = old.documents;
+  sessions = old.sessions;
+}
+range-step t (Faded repo path moment) old so rightly = record {
+  hosted = all-changed (λ (r : RecordedRow). IsRowInRange r × FadesRightly r.row) (is_recorded repo path) (λ r. record r { row = fade moment r.row })
+      (λ r is both.
+      (
+        (both.0.0, both.0.1, both.0.2, (both.0.3.0, λ since fades_since. subst (λ k. k ≤ latest_moment) (fades-to moment since fades_since) so)),
+        λ since _. ap is_snapshot_path (recorded-there repo path r is).1 ∙ rightly,
+      )) t.hosted old.hosted;
+  cached = old.cached;
+  documents = old.documents;
+  sessions = old.sessions;
+}
+range-step t (Relisted repo path accepted) old so rightly = record {
+  hosted = all-changed (λ (r : RecordedRow). IsRowInRange r × FadesRightly r.row) (is_recorded repo path) (λ r. record r { row = list_again accepted r.row })
+      (λ r is both.
+      (
+        (both.0.0, both.0.1, both.0.2, (so, λ since listed_so. absurd (let e : listed ≡ fading since = listed_so in cc))),
+        λ since listed_so. absurd (let e : listed ≡ fading since = listed_so in cc),
+      )) t.hosted old.hosted;
+  cached = old.cached;
+  documents = old.documents;
+  sessions = old.sessions;
+}
+range-step t (Removed repo path) old so rightly = record {
+  hosted = all-filter (λ (r : RecordedRow). IsRowInRange r × FadesRightly r.row) (λ r. not (is_recorded repo path r)) t.hosted old.hosted;
+  cached = old.cached;
+  documents = old.documents;
+  sessions = old.sessions;
+}
+range-step t (CachedFile repo path blob print accepted) old so rightly = record {
+  hosted = old.hosted;
+  cached = all-with_recorded IsRowInRange (recorded_row repo path blob print accepted) t.cached old.cached (new-in-range repo path blob print accepted so);
+  documents = old.documents;
+  sessions = old.sessions;
+}
+range-step t (CachedDoc repo path checked document) old so rightly = record {
+  hosted = old.hosted;
+  cached = old.cached;
+  documents = all-with_document (λ (d : RecordedDocument). d.checked ≤ latest_moment) (record { repo = repo; path = path; checked = checked; document = document }) t.documents old.documents so;
+  sessions = old.sessions;
+}
+range-step t (SessionOpened n) old so rightly = record {
+  hosted = old.hosted;
+  cached = old.cached;
+  documents = old.documents;
+  sessions = all-push (λ (one : RecordedSession). one.number < number_end) t.sessions (record { number = n; result = None }) old.sessions so;
+}
+range-step t (SessionEnded n result) old so rightly = record {
+  hosted = old.hosted;
+  cached = old.cached;
+  documents = old.documents;
+  sessions = all-change_where (λ (one : RecordedSession). one.number < number_end) (is_session n) (λ one. record one { result = Some result }) (λ one below. below) t.sessions old.sessions;
+}
+
+-- what fits lets no other row fade
+fits-rightly : (t : Tables) (item : Item) → fits_on t item ≡ true → FadesSnapshot item
+fits-rightly t (Faded repo path moment) fits = (and_parts (is_snapshot_path path) (is_listed_row (recorded_at repo path t.hosted)) fits).0
+fits-rightly t (HostedPut repo path blob print accepted) fits = tt
+fits-rightly t item fits = tt
+
+pub range-kept : (t : Tables) (item : Item) → InRange t → IsItemInRange item → IsTrue (fits_on t item) → InRange (item_on t item)
+range-kept t item old so fits = range-step t item old so (fits-rightly t item fits)
+
+pub no-tables-in-range : InRange no_tables
+no-tables-in-range = record { hosted = tt; cached = tt; documents = tt; sessions = tt }
+
+abbrev IsRight : Item → Type 0
+IsRight item = IsItemInRange item × FadesSnapshot item
+
+range-items : (items : List Item) (t : Tables) → AllByRecursion IsRight items → InRange t → InRange (with_items t items)
+range-items [] t all range = range
+range-items (item ∷ items) t all range = range-items items (item_on t item) all.1 (range-step t item range all.0.0 all.0.1)
+
+-- ---- effects
+file-some : (path : List ℕ) (files : List Staged) (file : Staged) → find (is_staged path) files ≡ Some file → 0 < count_by (stages_it file.blob.number) files
+file-some path [] file found = absurd (none-some file found)
+file-some path (x ∷ files) file found =
+    elim (is_staged path x) as (λ b. cond b (Some x) (find (is_staged path) files) ≡ Some file → 0 < count_by (stages_it file.blob.number) (x ∷ files)) [
+      | true ↦ λ here.
+          let same : x ≡ file = cc in
+          let one : one_if (stages_it file.blob.number x) ≡ 1 = ap one_if (eq-eqb x.blob.number file.blob.number (ap (λ (f : Staged). f.blob.number) same)) in
+          omega (arith, one, count-cons (stages_it file.blob.number) x files)
+      | false ↦ λ later. omega (arith, file-some path files file later, count-cons (stages_it file.blob.number) x files)
+    ] found
+
+staged-some : (m : ℕ) (path : List ℕ) (sessions : List Session) (one : Session) (file : Staged) → find (is_open_at m) sessions ≡ Some one → find (is_staged path) one.staged ≡ Some file
+    → 0 < staged_with file.blob.number sessions
+staged-some m path [] one file found is = absurd (none-some one found)
+staged-some m path (x ∷ sessions) one file found is =
+    elim (is_open_at m x) as (λ b. cond b (Some x) (find (is_open_at m) sessions) ≡ Some one → 0 < staged_with file.blob.number (x ∷ sessions)) [
+      | true ↦ λ here.
+          let same : x ≡ one = cc in
+          let some : 0 < count_by (stages_it file.blob.number) x.staged = file-some path x.staged file (ap (λ (y : Session). find (is_staged path) y.staged) same ∙ is) in
+          omega (arith, some, staged_with-cons file.blob.number x sessions)
+      | false ↦ λ later. omega (arith, staged-some m path sessions one file later is, staged_with-cons file.blob.number x sessions)
+    ] found
+
+placed-range : (s : State) (n : ℕ) → OnePlace s → s.yard.next_draft ≤ number_end → 0 < places_of s n → (0 < n) × (n < number_end)
+placed-range s n placed up some = (
+  elim (nat_lt 0 n) as (λ b. nat_lt 0 n ≡ b → 0 < n) [
+    | true ↦ λ is. ltb-true 0 n is
+    | false ↦ λ is.
+        let zero_so : 0 ≡ n = omega (arith, ltb-false 0 n is) in
+        let none : places_of s n ≡ 0 = subst (λ k. places_of s k ≡ 0) zero_so placed.none in
+        absurd (omega (arith, some, none))
+  ] refl,
+  elim (nat_lt n s.yard.next_draft) as (λ b. nat_lt n s.yard.next_draft ≡ b → n < number_end) [
+    | true ↦ λ is. omega (arith, ltb-true n s.yard.next_draft is, up)
+    | false ↦ λ is. absurd (omega (arith, some, placed.later n (ltb-false n s.yard.next_draft is)))
+  ] refl,
+)
+
+effect-right : (grace now : ℕ) (s : State) (e : Effect) → May grace now s e → now ≤ latest_moment → OnePlace s → s.yard.next_draft ≤ number_end → AllByRecursion IsRight (items_of e)
+effect-right grace now s (creates repo path blob moment) may early placed up =
+    let some = among-counts blob.number s.yard.drafts may.2 in
+    let (above, below) = placed-range s blob.number placed up (omega (arith, some)) in
+    (((above, below, omega (arith, may.0, early)), tt), tt)
+effect-right grace now s (delivers n repo path blob moment) may early placed up =
+    let (one, is_now, _, found, is, _) = may in
+    let some = staged-some n path s.sessions one (record { path = path; blob = blob }) found is in
+    let (above, below) = placed-range s blob.number placed up (omega (arith, some)) in
+    (((above, below, omega (arith, is_now, early)), tt), tt)
+effect-right grace now s (relists repo path moment) may early placed up = let (row, since, is_now, _, _) = may in ((omega (arith, is_now, early), tt), tt)
+effect-right grace now s (fades repo path moment) may early placed up = ((omega (arith, may.0, early), may.1), tt)
+effect-right grace now s (expires repo path blob) may early placed up = ((tt, tt), tt)
+effect-right grace now s (opens n repo) may early placed up = ((may.1, tt), tt)
+effect-right grace now s (ends n result) may early placed up = ((tt, tt), tt)
+effect-right grace now s draws may early placed up = tt
+effect-right grace now s (drops n) may early placed up = tt
+effect-right grace now s (stages n path blob) may early placed up = tt
+effect-right grace now s (discards n path draft) may early placed up = tt
+effect-right grace now s (forgets blobs) may early placed up = tt
+effect-right grace now s (lends blob) may early placed up = tt
+effect-right grace now s (returns lease) may early placed up = tt
+
+module _ (settings : Settings) (apart : AreNamedApart settings.hosted) where
+  effects-right : (now : ℕ) (es : List Effect) (s : State) → AllMay settings.grace now s es → now ≤ latest_moment → Sound settings s → OnePlace s → AllByRecursion IsRight (recorded es)
+  effects-right now [] s may early sound placed = tt
+  effects-right now (e ∷ es) s may early sound placed =
+      all-join IsRight (items_of e) (recorded es) (effect-right settings.grace now s e may.0 early placed sound.draft)
+      (effects-right now es (with_effect s e) may.1 early (sound-kept settings settings.grace now s e may.0 sound) (one-place-kept settings.grace now s e (all-apart s.hosted sound.rows) may.0 placed))
+
+  told-right : (entries : List Entry) (s : State) → Legal settings s entries → IsSound settings s → AllByRecursion IsRight (told settings s entries)
+  told-right [] s legal sound = tt
+  told-right (e ∷ entries) s legal sound =
+      let capped = last-capped settings s e sound.last legal.0 in
+      let early : e.moment ≤ latest_moment = omega (arith, capped, last-after settings s e) in
+      all-join IsRight (recorded (effects_of settings s e)) (told settings (after settings s e) entries)
+      (effects-right e.moment (effects_of settings s e) (ticked s e.moment e.faults) (entry-may settings apart s e sound.order legal.0) early (sound-ticked settings s e.moment e.faults sound.order)
+      (one-place-ticked s e.moment e.faults sound.places))
+      (told-right entries (after settings s e) legal.1 (keeps-sound settings apart s e sound legal.0))
+
+  -- what a history records keeps tables in range
+  pub range-history : (entries : List Entry) (s : State) (t : Tables) → Legal settings s entries → IsSound settings s → InRange t → InRange (with_items t (told settings s entries))
+  range-history entries s t legal sound range = range-items (told settings s entries) t (told-right entries s legal sound) range
