@@ -1,18 +1,22 @@
 -- The counts of faults never fall, so that where they stand still no fault happened.
-use Rattle.std.proofs.Common.{◌≡◌, ℕ, zero, suc, ◌≤◌, ◌<◌, Bool, List, [], ◌∷◌, inl, inr, Option, Some, None, Ok, Err, refl, sym, subst, arith}
+use Rattle.std.proofs.Common.{◌≡◌, ℕ, zero, suc, ◌≤◌, ◌<◌, Bool, true, false, List, [], ◌∷◌, inl, inr, Option, Some, None, Ok, Err, refl, sym, subst, arith}
 use Rattle.std.specs.Prelude.{◌==◌}
 use Rattle.outside.specs.Faults.{Rose, last_count}
 use Rattle.http_wire.specs.Answer.{shown}
 use Rattle.http_wire.specs.declared.answers.Answer.{Answer}
 use Rattle.repo_model.specs.Data.{Blob}
 use Rattle.repo_model.specs.History.{Entry}
-use Rattle.repo_course.specs.Answers.{answer_of, file_answer}
-use Rattle.repo_course.specs.Course.{Course, Stored, asks, takes, sends, says, stops}
+use Rattle.repo_model.specs.Settings.{Settings}
+use Rattle.repo_course.specs.Answers.{answer_of, file_answer, memory_answer}
+use Rattle.repo_course.specs.Course.{Body, Course, Stored, asks, continues, takes, reads, sends, says, stops, end_of}
+use Rattle.repo_course.specs.declared.outcomes.Continued.{Continued}
+use Rattle.repo_course.specs.declared.outcomes.Continued.TheVariants as continued
 use Rattle.repo_course.specs.declared.outcomes.End.{End}
 use Rattle.repo_course.specs.declared.outcomes.Sent.{Sent}
 use Rattle.repo_course.specs.declared.outcomes.Sent.TheVariants as sent
+use Rattle.repo_course.specs.declared.outcomes.Took.{Took}
 use Rattle.repo_course.specs.declared.outcomes.Took.TheVariants as took
-use Rattle.repo_course.specs.Serving.{Takes, Sends, Says, whole, memory, cut, Follows, Opens, clean, torn, failed, starved, refused, served, Outside, ReadsOn, Serves, Turn, UsesHead}
+use Rattle.repo_course.specs.Serving.{Continues, Reads, Takes, Sends, SendsAnswer, SendsHead, Says, whole, memory, cut, Follows, Opens, clean, torn, failed, refused, unread_head, starved, served, Outside, ReadsOn, Serves, Turn}
 
 -- no count fell
 pub record Grew (old new : Outside) : Type 0 where
@@ -50,67 +54,101 @@ from-is old mid new g is = subst (λ o. Grew old o) (sym is) g
 reads-grew : (old new : Outside) → ReadsOn old new → Grew old new
 reads-grew old new t = from-is old (record old { input = t.0 }) new (grew old (record old { input = t.0 }) refl refl refl) t.1
 
--- nothing was used, or a head
-pub uses-reads : (old new : Outside) → UsesHead old new → ReadsOn old new
-uses-reads old new (inl still) = (old.input, still)
-uses-reads old new (inr t) = (t.0, t.2)
+still-grew : (old new : Outside) → new ≡ old → Grew old new
+still-grew old new is = from-is old old new (grew old old refl refl refl) is
 
-pub takes-grew : (tells : Type 0) (number count : ℕ) (stored : Stored) (old new : Outside) → Takes tells number count stored old new → Grew old new
-takes-grew tells number count (Ok blob) old new t =
-    let mid : Outside = record old { input = t.1.0 } in from-is old mid new (grew old mid refl refl refl) t.1.3
-takes-grew tells number count (Err took.Torn) old new t = reads-grew old new t.1
-takes-grew tells number count (Err took.SourceFault) old new t =
+pub continues-grew : (result : Continued) (old new : Outside) → Continues result old new → Grew old new
+continues-grew continued.Written old new t = subst (λ o. Grew old o) (sym t) (grew old _ refl refl refl)
+continues-grew continued.SinkFault old new t =
+    subst (λ o. Grew old o) (sym t.4) (record { reads = omega arith; writes = t.2.0; blobs = omega arith })
+
+fault-grew : (count : ℕ) (fault : Took) (old new : Outside) → Reads count (Err fault) old new → Grew old new
+fault-grew count took.Torn old new t = reads-grew old new t.1
+fault-grew count took.SourceFault old new t =
     let mid : Outside = record old { read_faults = t.0 } in
     grew-then old mid new (record { reads = t.1.0; writes = omega arith; blobs = omega arith }) (reads-grew mid new t.2)
+fault-grew count took.BlobFault old new t = absurd t
+fault-grew count took.NoMemory old new (inl still) = reads-grew old new (old.input, still)
+fault-grew count took.NoMemory old new (inr t) = reads-grew old new (t.1.0, t.1.3)
+
+pub reads-body-grew : (count : ℕ) (body : Body) (old new : Outside) → Reads count body old new → Grew old new
+reads-body-grew count (Ok body) old new t = reads-grew old new (t.0, t.3)
+reads-body-grew count (Err fault) old new t = fault-grew count fault old new t
+
+pub takes-grew : (tells : Type 0) (number count : ℕ) (stored : Stored) (old new : Outside) → Takes tells number count stored old new → Grew old new
+takes-grew tells number count (Ok blob) old new t = reads-grew old new (t.1.0, t.1.3)
+takes-grew tells number count (Err took.Torn) old new t = fault-grew count took.Torn old new t
+takes-grew tells number count (Err took.SourceFault) old new t = fault-grew count took.SourceFault old new t
 takes-grew tells number count (Err took.BlobFault) old new t =
     let mid : Outside = record old { blob_faults = t.0; input = t.3.0 } in
     from-is old mid new (record { reads = omega arith; writes = omega arith; blobs = t.2.0 }) t.3.3
-takes-grew tells number count (Err took.NoMemory) old new (inl still) = reads-grew old new (old.input, still)
-takes-grew tells number count (Err took.NoMemory) old new (inr t) = reads-grew old new (t.1.0, t.1.3)
+takes-grew tells number count (Err took.NoMemory) old new t = fault-grew count took.NoMemory old new t
 
-pub sends-grew : (blob : Blob) (head : List ℕ) (result : Sent) (old new : Outside) → Sends blob head result old new → Grew old new
-sends-grew blob head sent.Whole old new t = subst (λ o. Grew old o) (sym t.2) (grew old _ refl refl refl)
-sends-grew blob head sent.BlobFault old new t =
+file-grew : (blob : Blob) (head : List ℕ) (result : Sent) (old new : Outside) → Sends blob head result old new → Grew old new
+file-grew blob head sent.Whole old new t = subst (λ o. Grew old o) (sym t.2) (grew old _ refl refl refl)
+file-grew blob head sent.BlobFault old new t =
     let mid : Outside = record old { blob_faults = t.0 } in
     from-is old mid new (record { reads = omega arith; writes = omega arith; blobs = t.1.0 }) t.2
-sends-grew blob head sent.SinkFault old new t =
+file-grew blob head sent.SinkFault old new t =
     subst (λ o. Grew old o) (sym t.6) (record { reads = omega arith; writes = t.3.0; blobs = omega arith })
-sends-grew blob head sent.NoMemory old new t = from-is old old new (grew old old refl refl refl) t
+file-grew blob head sent.NoMemory old new t = still-grew old new t
 
-says-grew : (answer : Answer) (next : Option End) (old new : Outside) (end : Option End) → Says answer next old new end → Grew old new
-says-grew answer next old new end (whole is ends) = subst (λ o. Grew old o) (sym is) (grew old _ refl refl refl)
-says-grew answer next old new end (memory is ends) = subst (λ o. Grew old o) (sym is) (grew old _ refl refl refl)
-says-grew answer next old new end (cut faults all part rose which front is ends) =
+head-grew : (head : List ℕ) (result : Sent) (old new : Outside) → SendsHead head result old new → Grew old new
+head-grew head sent.Whole old new t = subst (λ o. Grew old o) (sym t) (grew old _ refl refl refl)
+head-grew head sent.BlobFault old new t = absurd t
+head-grew head sent.SinkFault old new t =
+    subst (λ o. Grew old o) (sym t.4) (record { reads = omega arith; writes = t.2.0; blobs = omega arith })
+head-grew head sent.NoMemory old new t = still-grew old new t
+
+pub sends-grew : (head_only : Bool) (blob : Blob) (head : List ℕ) (result : Sent) (old new : Outside) → SendsAnswer head_only blob head result old new
+    → Grew old new
+sends-grew true blob head result old new t = head-grew head result old new t
+sends-grew false blob head result old new t = file-grew blob head result old new t
+
+pub says-grew : (answer memory_said : Answer) (next : Option End) (old new : Outside) (end : Option End) → Says answer memory_said next old new end
+    → Grew old new
+says-grew answer memory_said next old new end (whole is ends) = subst (λ o. Grew old o) (sym is) (grew old _ refl refl refl)
+says-grew answer memory_said next old new end (memory is ends) = subst (λ o. Grew old o) (sym is) (grew old _ refl refl refl)
+says-grew answer memory_said next old new end (cut faults all part rose which front is ends) =
     subst (λ o. Grew old o) (sym is) (record { reads = omega arith; writes = rose.0; blobs = omega arith })
 
-pub opens-grew : (last : Bool) (old new : Outside) (c : Course) → Opens last old new c → Grew old new
-opens-grew last old new c (clean begins still is) = reads-grew old new (old.input, still)
-opens-grew last old new c (torn begins still is) = reads-grew old new (old.input, still)
-opens-grew last old new c (failed faults rose still is) =
+pub opens-grew : (settings : Settings) (last : Bool) (old new : Outside) (c : Course) → Opens settings last old new c → Grew old new
+opens-grew settings last old new c (clean begins still is) = still-grew old new still
+opens-grew settings last old new c (torn begins still is) = still-grew old new still
+opens-grew settings last old new c (failed faults rose still is) =
     let mid : Outside = record old { read_faults = faults } in
     from-is old mid new (record { reads = rose.0; writes = omega arith; blobs = omega arith }) still
-opens-grew last old new c (starved begins uses is) = reads-grew old new (uses-reads old new uses)
-opens-grew last old new c (refused begins uses is) = reads-grew old new (uses-reads old new uses)
-opens-grew last old new c (served head request rest judged begins reads is) = reads-grew old new (rest, reads)
+opens-grew settings last old new c (refused fault begins still is) = still-grew old new still
+opens-grew settings last old new c (unread_head begins still is) = still-grew old new still
+opens-grew settings last old new c (starved head rest begins uses is) = reads-grew old new (rest, uses)
+opens-grew settings last old new c (served head rest begins uses is) = reads-grew old new (rest, uses)
 
 module _ (tells : Type 0) where
   pub follows-grew : (c : Course) (entries : List Entry) (old new : Outside) (end : Option End) → Follows tells c entries old new end → Grew old new
   follows-grew (asks command next) [] old new end f = absurd f
   follows-grew (asks command next) (e ∷ entries) old new end f = follows-grew (next e.reply) entries old new end f.1
+  follows-grew (continues next) entries old new end f =
+      grew-then old f.1 new (continues-grew f.0 old f.1 f.2) (follows-grew (next f.0) entries f.1 new end f.3)
   follows-grew (takes number count next) entries old new end f =
       grew-then old f.1 new (takes-grew tells number count f.0 old f.1 f.2) (follows-grew (next f.0) entries f.1 new end f.3)
-  follows-grew (sends blob close next) entries old new end f =
-      grew-then old f.1 new (sends-grew blob (shown (file_answer blob close)) f.0 old f.1 f.2) (follows-grew (next f.0) entries f.1 new end f.3)
-  follows-grew (says said close next) entries old new end f = says-grew (answer_of said close) next old new end f.1
-  follows-grew (stops next) entries old new end f = from-is old old new (grew old old refl refl refl) f.1
+  follows-grew (reads count next) entries old new end f =
+      grew-then old f.1 new (reads-body-grew count f.0 old f.1 f.2) (follows-grew (next f.0) entries f.1 new end f.3)
+  follows-grew (sends blob manner next) entries old new end f =
+      grew-then old f.1 new (sends-grew manner.head_only blob (shown (file_answer blob manner)) f.0 old f.1 f.2)
+      (follows-grew (next f.0) entries f.1 new end f.3)
+  follows-grew (says said manner) entries old new end f =
+      says-grew (answer_of said manner) (memory_answer manner.head_only) (end_of manner) old new end f.1
+  follows-grew (stops next) entries old new end f = still-grew old new f.1
 
-  pub turn-grew : (last : Bool) (entries : List Entry) (old new : Outside) (end : Option End) → Turn tells last entries old new end → Grew old new
-  turn-grew last entries old new end t =
-      grew-then old t.1 new (opens-grew last old t.1 t.0 t.2) (follows-grew t.0 entries t.1 new end t.3)
+  module _ (settings : Settings) where
+    pub turn-grew : (last : Bool) (entries : List Entry) (old new : Outside) (end : Option End) → Turn settings tells last entries old new end
+        → Grew old new
+    turn-grew last entries old new end t =
+        grew-then old t.1 new (opens-grew settings last old t.1 t.0 t.2) (follows-grew t.0 entries t.1 new end t.3)
 
-  pub serves-grew : (n : ℕ) (entries : List Entry) (old new : Outside) (end : End) → Serves tells n entries old new end → Grew old new
-  unfolding Serves
-  serves-grew zero entries old new end t = from-is old old new (grew old old refl refl refl) t.1
-  serves-grew (suc left) entries old new end (inl turn) = turn-grew (left == 0) entries old new (Some end) turn
-  serves-grew (suc left) entries old new end (inr t) =
-      grew-then old t.2 new (turn-grew (left == 0) t.0 old t.2 None t.4) (serves-grew left t.1 t.2 new end t.5)
+    pub serves-grew : (n : ℕ) (entries : List Entry) (old new : Outside) (end : End) → Serves settings tells n entries old new end → Grew old new
+    unfolding Serves
+    serves-grew zero entries old new end t = still-grew old new t.1
+    serves-grew (suc left) entries old new end (inl turn) = turn-grew (left == 0) entries old new (Some end) turn
+    serves-grew (suc left) entries old new end (inr t) =
+        grew-then old t.2 new (turn-grew (left == 0) t.0 old t.2 None t.4) (serves-grew left t.1 t.2 new end t.5)

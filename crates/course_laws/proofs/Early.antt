@@ -1,5 +1,5 @@
 -- What a course comes to where no blob failed, beside what was played.
-use Rattle.std.proofs.Common.{◌≡◌, ◌⊎◌, ℕ, zero, suc, Bool, inl, inr, List, [], ◌∷◌, ◌++◌, Option, Some, None, refl, sym, subst, ap, ◌∙◌, append_assoc, append-nil}
+use Rattle.std.proofs.Common.{◌≡◌, ◌⊎◌, ℕ, zero, suc, Bool, true, false, inl, inr, List, [], ◌∷◌, ◌++◌, Option, Some, None, refl, sym, subst, ap, ◌∙◌, append_assoc, append-nil}
 use Rattle.std.specs.Prelude.{IsSome}
 use Rattle.std.proofs.lemmas.Option.{none-some}
 use Rattle.outside.specs.Faults.{Rose}
@@ -11,8 +11,9 @@ use Rattle.repo_model.specs.History.{Entry}
 use Rattle.repo_model.specs.Reply.{Reply}
 use Rattle.repo_model.specs.Settings.{Settings}
 use Rattle.repo_model.specs.State.{State}
-use Rattle.repo_course.specs.Answers.{answer_of, memory_answer}
-use Rattle.repo_course.specs.Course.{Course, asks, takes, sends, says, stops}
+use Rattle.repo_course.specs.Answers.{answer_of, at_end, memory_answer}
+use Rattle.repo_course.specs.Course.{Course, asks, continues, takes, reads, sends, says, stops, end_of}
+use Rattle.repo_course.specs.declared.manner.Manner.{Manner}
 use Rattle.repo_course.specs.declared.outcomes.End.{End}
 use Rattle.repo_course.specs.declared.outcomes.End.TheVariants as stream
 use Rattle.repo_course.specs.declared.said.Said.{Said}
@@ -24,19 +25,21 @@ use Rattle.course_laws.proofs.Counts.{Grew, rose-before}
 use Rattle.course_laws.proofs.Kept.{reply-goes}
 
 -- memory was wanted, or the source or the sink failed
-abbrev pub Ended : List ℕ → Outside → Outside → Option End → Type 0
-Ended part old new end =
-    ((part ≡ shown memory_answer) × (end ≡ Some stream.Closed))
-    ⊎ (IsFrontOf part (shown memory_answer) × ((end ≡ Some stream.SourceFault) × Rose old.read_faults new.read_faults))
-    ⊎ (IsFrontOf part (shown memory_answer) × ((end ≡ Some stream.SinkFault) × Rose old.write_faults new.write_faults))
+abbrev pub Ended : (head_only : Bool) (part : List ℕ) → Outside → Outside → Option End → Type 0
+Ended head_only part old new end =
+    let said = shown (memory_answer head_only) in
+    ((part ≡ said) × (end ≡ Some stream.Closed))
+    ⊎ (IsFrontOf part said × ((end ≡ Some stream.SourceFault) × Rose old.read_faults new.read_faults))
+    ⊎ (IsFrontOf part said × ((end ≡ Some stream.SinkFault) × Rose old.write_faults new.write_faults))
 
 -- it is as played up to some place, where memory was wanted, or the source or the sink failed
 pub record Early (before written : List ℕ) (old new : Outside) (end : Option End) : Type 0 where
   pub front : List ℕ
   pub part : List ℕ
+  pub head_only : Bool
   pub is_front : IsFrontOf front written
   pub output : new.output ≡ Some (before ++ front ++ part)
-  pub why : Ended part old new end
+  pub why : Ended head_only part old new end
 
 -- the outside shows its input and its output, and the machine tells
 pub record Ready (o : Outside) (s : State) (input before : List ℕ) : Type 0 where
@@ -75,6 +78,7 @@ wrote-outcome before first p old o s end (inr m) =
     inr record {
       front = first ++ m.front;
       part = m.part;
+      head_only = m.head_only;
       is_front = (m.is_front.0, ap (λ b. first ++ b) m.is_front.1 ∙ sym (append_assoc first m.front m.is_front.0));
       output = subst (λ b. o.output ≡ Some (b ++ m.part)) (append_assoc before first m.front) m.output;
       why = m.why;
@@ -86,6 +90,7 @@ pub early-before : (before written : List ℕ) (old mid new : Outside) (end : Op
 early-before before written old mid new end g m = record {
   front = m.front;
   part = m.part;
+  head_only = m.head_only;
   is_front = m.is_front;
   output = m.output;
   why = elim m.why [
@@ -101,11 +106,12 @@ outcome-before before p old mid new s end g (inl a) = inl a
 outcome-before before p old mid new s end g (inr m) = inr (early-before before p.written old mid new end g m)
 
 -- nothing of what was played came before
-at-once : (before written part : List ℕ) (old new : Outside) (end : Option End) → new.output ≡ Some (before ++ part)
-    → Ended part old new end → Early before written old new end
-at-once before written part old new end out why = record {
+at-once : (head_only : Bool) (before written part : List ℕ) (old new : Outside) (end : Option End) → new.output ≡ Some (before ++ part)
+    → Ended head_only part old new end → Early before written old new end
+at-once head_only before written part old new end out why = record {
   front = [];
   part = part;
+  head_only = head_only;
   is_front = (written, refl);
   output = subst (λ b. new.output ≡ Some (b ++ part)) (sym (append-nil before)) out;
   why = why;
@@ -113,78 +119,86 @@ at-once before written part old new end out why = record {
 
 -- a front of what was played, and no more
 pub no-more : (before written front : List ℕ) (old new : Outside) (end : Option End) → IsFrontOf front written
-    → new.output ≡ Some (before ++ front) → Ended [] old new end → Early before written old new end
+    → new.output ≡ Some (before ++ front) → Ended false [] old new end → Early before written old new end
 no-more before written front old new end is-front out why = record {
   front = front;
   part = [];
+  head_only = false;
   is_front = is-front;
   output = out ∙ ap Some (sym (append-nil (before ++ front)));
   why = why;
 }
 
-pub source-failed : (old new : Outside) (end : Option End) → end ≡ Some stream.SourceFault → Rose old.read_faults new.read_faults → Ended [] old new end
-source-failed old new end ends rose = inr (inl ((shown memory_answer, refl), (ends, rose)))
+pub source-failed : (old new : Outside) (end : Option End) → end ≡ Some stream.SourceFault → Rose old.read_faults new.read_faults
+    → Ended false [] old new end
+source-failed old new end ends rose = inr (inl ((shown (memory_answer false), refl), (ends, rose)))
 
-pub sink-failed : (old new : Outside) (end : Option End) → end ≡ Some stream.SinkFault → Rose old.write_faults new.write_faults → Ended [] old new end
-sink-failed old new end ends rose = inr (inr ((shown memory_answer, refl), (ends, rose)))
+pub sink-failed : (old new : Outside) (end : Option End) → end ≡ Some stream.SinkFault → Rose old.write_faults new.write_faults → Ended false [] old new end
+sink-failed old new end ends rose = inr (inr ((shown (memory_answer false), refl), (ends, rose)))
 
 -- the answer was written, or the one that says want of memory, or a part of one
-pub says-early : (answer : Answer) (next : Option End) (old new : Outside) (end : Option End) (before : List ℕ)
-    → Says answer next old new end → old.output ≡ Some before
+pub says-early : (answer : Answer) (head_only : Bool) (next : Option End) (old new : Outside) (end : Option End) (before : List ℕ)
+    → Says answer (memory_answer head_only) next old new end → old.output ≡ Some before
     → ((new ≡ writes (shown answer) old) × (new.output ≡ Some (before ++ shown answer)) × (end ≡ next))
     ⊎ Early before (shown answer) old new end
-says-early answer next old new end before (whole is ends) out =
+says-early answer head_only next old new end before (whole is ends) out =
     inl (is, ap (λ o. o.output) is ∙ ap (λ o. behind o (shown answer)) out, ends)
-says-early answer next old new end before (memory is ends) out =
-    inr (at-once before (shown answer) (shown memory_answer) old new end
-    (ap (λ o. o.output) is ∙ ap (λ o. behind o (shown memory_answer)) out) (inl (refl, ends)))
-says-early answer next old new end before (cut faults all part rose which front is ends) out =
+says-early answer head_only next old new end before (memory is ends) out =
+    let said = shown (memory_answer head_only) in
+    inr (at-once head_only before (shown answer) said old new end (ap (λ o. o.output) is ∙ ap (λ o. behind o said) out) (inl (refl, ends)))
+says-early answer head_only next old new end before (cut faults all part rose which front is ends) out =
     let written = ap (λ o. o.output) is ∙ ap (λ o. behind o part) out in
     let risen = subst (λ n. Rose old.write_faults n) (sym (ap (λ o. o.write_faults) is)) rose in
     inr (elim which [
       | inl e ↦ no-more before (shown answer) part old new end (subst (λ b. IsFrontOf part b) e front) written
           (sink-failed old new end ends risen)
-      | inr e ↦ at-once before (shown answer) part old new end written
+      | inr e ↦ at-once head_only before (shown answer) part old new end written
           (inr (inr (subst (λ b. IsFrontOf part b) e front, (ends, risen))))
     ])
 
+-- memory was wanted, and the answer that says so, or its head alone, was begun
+abbrev pub SaysMemory : Bool → Outside → Outside → Option End → Type 0
+SaysMemory head_only old new end = Says (memory_answer head_only) (memory_answer head_only) (Some stream.Closed) old new end
+
 -- want of memory is answered, whatever was to come
-pub says-memory : (old new : Outside) (end : Option End) (before written : List ℕ)
-    → Says memory_answer (Some stream.Closed) old new end → old.output ≡ Some before → Early before written old new end
-says-memory old new end before written (whole is ends) out =
-    at-once before written (shown memory_answer) old new end
-    (ap (λ o. o.output) is ∙ ap (λ o. behind o (shown memory_answer)) out) (inl (refl, ends))
-says-memory old new end before written (memory is ends) out =
-    at-once before written (shown memory_answer) old new end
-    (ap (λ o. o.output) is ∙ ap (λ o. behind o (shown memory_answer)) out) (inl (refl, ends))
-says-memory old new end before written (cut faults all part rose which front is ends) out =
-    let all-memory : all ≡ shown memory_answer = elim which [ inl e ↦ e | inr e ↦ e ] in
-    at-once before written part old new end (ap (λ o. o.output) is ∙ ap (λ o. behind o part) out)
+pub says-memory : (head_only : Bool) (old new : Outside) (end : Option End) (before written : List ℕ)
+    → SaysMemory head_only old new end → old.output ≡ Some before → Early before written old new end
+says-memory head_only old new end before written (whole is ends) out =
+    let said = shown (memory_answer head_only) in
+    at-once head_only before written said old new end (ap (λ o. o.output) is ∙ ap (λ o. behind o said) out) (inl (refl, ends))
+says-memory head_only old new end before written (memory is ends) out =
+    let said = shown (memory_answer head_only) in
+    at-once head_only before written said old new end (ap (λ o. o.output) is ∙ ap (λ o. behind o said) out) (inl (refl, ends))
+says-memory head_only old new end before written (cut faults all part rose which front is ends) out =
+    let all-memory : all ≡ shown (memory_answer head_only) = elim which [ inl e ↦ e | inr e ↦ e ] in
+    at-once head_only before written part old new end (ap (λ o. o.output) is ∙ ap (λ o. behind o part) out)
     (inr (inr (
       subst (λ b. IsFrontOf part b) all-memory front,
       (ends, subst (λ n. Rose old.write_faults n) (sym (ap (λ o. o.write_faults) is)) rose),
     )))
 
 -- a course that must end early asks no more than it must, and ends so
-module _ (tells : Type 0) where
+module _ (tells : Type 0) (head_only : Bool) where
   abbrev EndsAs : Ending → Outside → Outside → Option End → Type 0
-  EndsAs by_memory old new end = Says memory_answer (Some stream.Closed) old new end
+  EndsAs by_memory old new end = SaysMemory head_only old new end
   EndsAs (by_side side) old new end = (new ≡ old) × (end ≡ Some side)
 
-  says-as : (early : Option Ending) (ending : Ending) (said : Said) (close : Bool) (next end : Option End) (old new : Outside) → early ≡ Some ending
-      → SaysFor early said close next → Says (answer_of said close) next old new end → EndsAs ending old new end
-  says-as None ending said close next end old new is for said-it = absurd (none-some ending is)
-  says-as (Some by_memory) by_memory said close next end old new is for said-it =
-      subst (λ (p : Answer × Option End). Says p.0 p.1 old new end) (λ i. (answer_of (for.0 i) (for.1 i), for.2 i)) said-it
-  says-as (Some by_memory) (by_side side) said close next end old new is for said-it = absurd (cc)
-  says-as (Some (by_side side)) ending said close next end old new is for said-it = absurd for
+  says-as : (s : Stand) (early : Option Ending) (ending : Ending) (said : Said) (manner : Manner) (end : Option End) (old new : Outside)
+      → early ≡ Some ending → SaysFor s early said manner → manner.head_only ≡ head_only
+      → Says (answer_of said manner) (memory_answer manner.head_only) (end_of manner) old new end → EndsAs ending old new end
+  says-as s None ending said manner end old new is for head said-it = absurd (none-some ending is)
+  says-as s (Some by_memory) by_memory said manner end old new is for head said-it =
+      let manner-is : manner ≡ at_end head_only = for.1 ∙ ap at_end head in
+      subst (λ (p : Said × Manner). Says (answer_of p.0 p.1) (memory_answer p.1.head_only) (end_of p.1) old new end) (λ i. (for.0 i, manner-is i)) said-it
+  says-as s (Some by_memory) (by_side side) said manner end old new is for head said-it = absurd (cc)
+  says-as s (Some (by_side side)) ending said manner end old new is for head said-it = absurd for
 
-  stops-as : (early : Option Ending) (ending : Ending) (next end : Option End) (old new : Outside) → early ≡ Some ending
-      → StopsFor early next → new ≡ old → end ≡ next → EndsAs ending old new end
-  stops-as None ending next end old new is for still ends = absurd (none-some ending is)
-  stops-as (Some by_memory) ending next end old new is for still ends = absurd for
-  stops-as (Some (by_side side)) by_memory next end old new is for still ends = absurd (cc)
-  stops-as (Some (by_side side)) (by_side other) next end old new is for still ends =
+  stops-as : (s : Stand) (early : Option Ending) (ending : Ending) (next end : Option End) (old new : Outside) → early ≡ Some ending
+      → StopsFor s early next → new ≡ old → end ≡ next → EndsAs ending old new end
+  stops-as s None ending next end old new is for still ends = absurd (none-some ending is)
+  stops-as s (Some by_memory) ending next end old new is for still ends = absurd for
+  stops-as s (Some (by_side side)) by_memory next end old new is for still ends = absurd (cc)
+  stops-as s (Some (by_side side)) (by_side other) next end old new is for still ends =
       let same : side ≡ other = (cc) in (still, ends ∙ for ∙ ap Some same)
 
   still-early : (command : Command) (reply : Reply) (s : Stand) (ending : Ending) → MayAsk command s → s.early ≡ Some ending
@@ -195,27 +209,32 @@ module _ (tells : Type 0) where
         | inr wanted ↦ absurd (none-some ending (sym wanted.0 ∙ is))
       ]
 
-  pub ends-early : (c : Course) (n : ℕ) (s : Stand) (ending : Ending) → Keeps c n s → s.early ≡ Some ending → (entries : List Entry) (old new : Outside)
-      (end : Option End) → Follows tells c entries old new end → EndsAs ending old new end
+  pub ends-early : (c : Course) (n : ℕ) (s : Stand) (ending : Ending) → Keeps head_only c n s → s.early ≡ Some ending → (entries : List Entry)
+      (old new : Outside) (end : Option End) → Follows tells c entries old new end → EndsAs ending old new end
   ends-early (asks command next) zero s ending k is [] old new end f = absurd f
   ends-early (asks command next) zero s ending k is (e ∷ entries) old new end f = absurd k
   ends-early (asks command next) (suc n) s ending k is [] old new end f = absurd f
   ends-early (asks command next) (suc n) s ending k is (e ∷ entries) old new end f =
       ends-early (next e.reply) n (stand_after command e.reply s) ending (k.1 e.reply) (still-early command e.reply s ending k.0 is) entries old new end f.1
+  ends-early (continues next) n s ending k is entries old new end f = absurd (none-some ending (sym k.1 ∙ is))
   ends-early (takes number count next) n s ending k is entries old new end f = absurd (none-some ending (sym k.1 ∙ is))
-  ends-early (sends blob close next) n s ending k is entries old new end f = absurd (none-some ending (sym k.1 ∙ is))
-  ends-early (says said close next) n s ending k is entries old new end f = says-as s.early ending said close next end old new is k.1 f.1
-  ends-early (stops next) n s ending k is entries old new end f = stops-as s.early ending next end old new is k.1 f.1 f.2
+  ends-early (reads count next) n s ending k is entries old new end f = absurd (none-some ending (sym k.0 ∙ is))
+  ends-early (sends blob manner next) n s ending k is entries old new end f = absurd (none-some ending (sym k.1 ∙ is))
+  ends-early (says said manner) n s ending k is entries old new end f = says-as s s.early ending said manner end old new is k.1 k.2 f.1
+  ends-early (stops next) n s ending k is entries old new end f = stops-as s s.early ending next end old new is k.1 f.1 f.2
 
 -- the same where it is played
-pub plays-early : (settings : Settings) (c : Course) (n : ℕ) (s : Stand) (side : End) → Keeps c n s → s.early ≡ Some (by_side side) → (scene : Scene)
+pub plays-early : (settings : Settings) (head_only : Bool) (c : Course) (n : ℕ) (s : Stand) (side : End) → Keeps head_only c n s
+    → s.early ≡ Some (by_side side) → (scene : Scene)
     → ((play settings c scene).written ≡ []) × ((play settings c scene).end ≡ Some side)
-plays-early settings (asks command next) zero s side k is scene = absurd k
-plays-early settings (asks command next) (suc n) s side k is scene =
+plays-early settings head_only (asks command next) zero s side k is scene = absurd k
+plays-early settings head_only (asks command next) (suc n) s side k is scene =
     let reply = (due_entry settings scene.state command).reply in
-    plays-early settings (next reply) n (stand_after command reply s) side (k.1 reply)
+    plays-early settings head_only (next reply) n (stand_after command reply s) side (k.1 reply)
     (elim (reply-goes command reply s k.0) [ inl same ↦ same ∙ is | inr wanted ↦ absurd (none-some (by_side side) (sym wanted.0 ∙ is)) ]) _
-plays-early settings (takes number count next) n s side k is scene = absurd (none-some (by_side side) (sym k.1 ∙ is))
-plays-early settings (sends blob close next) n s side k is scene = absurd (none-some (by_side side) (sym k.1 ∙ is))
-plays-early settings (says said close next) n s side k is scene = absurd (subst (λ e. SaysFor e said close next) is k.1)
-plays-early settings (stops next) n s side k is scene = (refl, subst (λ e. StopsFor e next) is k.1)
+plays-early settings head_only (continues next) n s side k is scene = absurd (none-some (by_side side) (sym k.1 ∙ is))
+plays-early settings head_only (takes number count next) n s side k is scene = absurd (none-some (by_side side) (sym k.1 ∙ is))
+plays-early settings head_only (reads count next) n s side k is scene = absurd (none-some (by_side side) (sym k.0 ∙ is))
+plays-early settings head_only (sends blob manner next) n s side k is scene = absurd (none-some (by_side side) (sym k.1 ∙ is))
+plays-early settings head_only (says said manner) n s side k is scene = absurd (subst (λ e. SaysFor s e said manner) is k.1)
+plays-early settings head_only (stops next) n s side k is scene = (refl, subst (λ e. StopsFor s e next) is k.1)

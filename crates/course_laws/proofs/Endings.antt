@@ -1,5 +1,5 @@
 -- The count of the side whose failure ended a stream rose, and no other count of its sides; and few commands were asked.
-use Rattle.std.proofs.Common.{◌≡◌, ◌⊎◌, ℕ, zero, suc, ◌*◌, ◌≤◌, Bool, inl, inr, List, [], ◌∷◌, length, Option, Some, None, Ok, Err, arith, sym, subst, ap, ◌∙◌, length-append}
+use Rattle.std.proofs.Common.{◌≡◌, ◌⊎◌, ℕ, zero, suc, ◌*◌, ◌≤◌, Bool, true, false, inl, inr, List, [], ◌∷◌, length, Option, Some, None, Ok, Err, arith, sym, subst, ap, ◌∙◌, length-append}
 use Rattle.std.specs.Prelude.{◌==◌}
 use Rattle.http_wire.specs.Answer.{shown}
 use Rattle.http_wire.specs.declared.answers.Answer.{Answer}
@@ -8,18 +8,23 @@ use Rattle.repo_model.specs.Command.{Command}
 use Rattle.repo_model.specs.Data.{Blob}
 use Rattle.repo_model.specs.History.{Entry}
 use Rattle.repo_model.specs.Reply.{Reply}
-use Rattle.repo_course.specs.Answers.{file_answer}
-use Rattle.repo_course.specs.Course.{Course, Stored, asks, takes, sends, says, stops}
+use Rattle.repo_model.specs.Settings.{Settings}
+use Rattle.repo_course.specs.Answers.{answer_of, file_answer, memory_answer}
+use Rattle.repo_course.specs.Course.{Body, Course, Stored, asks, continues, takes, reads, sends, says, stops, end_of}
+use Rattle.repo_course.specs.declared.manner.Manner.{Manner}
+use Rattle.repo_course.specs.declared.outcomes.Continued.{Continued}
+use Rattle.repo_course.specs.declared.outcomes.Continued.TheVariants as continued
 use Rattle.repo_course.specs.declared.outcomes.End.{End}
 use Rattle.repo_course.specs.declared.outcomes.End.TheVariants as stream
 use Rattle.repo_course.specs.declared.outcomes.Sent.{Sent}
 use Rattle.repo_course.specs.declared.outcomes.Sent.TheVariants as sent
+use Rattle.repo_course.specs.declared.outcomes.Took.{Took}
 use Rattle.repo_course.specs.declared.outcomes.Took.TheVariants as took
 use Rattle.repo_course.specs.declared.said.Said.{Said}
-use Rattle.repo_course.specs.Serving.{Follows, Opens, clean, torn, failed, starved, refused, served, Outside, ReadsOn, Says, whole, memory, cut, Sends, Serves, Takes, Turn, UsesHead}
-use Rattle.course_laws.specs.Duties.{Early, by_memory, by_side, IsCalm, Keeps, MayAsk, SaysFor, Stand, StopsFor, stand_after, stand_sent, stand_stored}
+use Rattle.repo_course.specs.Serving.{Continues, Follows, Opens, clean, torn, failed, refused, unread_head, starved, served, Outside, Reads, Says, whole, memory, cut, Sends, SendsAnswer, SendsHead, Serves, Takes, Turn}
+use Rattle.course_laws.specs.Duties.{Early, by_memory, by_side, IsCalm, Keeps, MayAsk, SaysFor, Stand, StopsFor, stand_after, stand_continued, stand_fault, stand_read, stand_sent, stand_stored}
 use Rattle.course_laws.specs.Endings.{EndsByCause, NoneRose}
-use Rattle.course_laws.proofs.Kept.{opened_early, opens-keeps, reply-goes, standing}
+use Rattle.course_laws.proofs.Kept.{end-calm, opens-keeps, reply-goes, shows_head, standing}
 
 -- where a course stands, and how it ends, in the counts since the turn began
 abbrev Caused : Option Early → Outside → Outside → Type 0
@@ -61,31 +66,68 @@ asks_caused command reply s old mid may c = pick (reply-goes command reply s may
     pick (inl same) = subst (λ e. Caused e old mid) (sym same) c
     pick (inr wanted) = subst (λ e. Caused e old mid) (sym wanted.1) (subst (λ e. Caused e old mid) wanted.0 c)
 
+continues_caused : (result : Continued) (s : Stand) (old mid new : Outside) → s.early ≡ None → NoneRose old mid → Continues result mid new
+    → Caused (stand_continued result s).early old new
+continues_caused continued.Written s old mid new none n t = subst (λ e. Caused e old new) (sym none) (to_same None old mid new n (counts mid _ t))
+continues_caused continued.SinkFault s old mid new none n t = (
+  ap (λ (o : Outside). o.read_faults) t.4 ∙ n.0,
+  subst (λ (k : ℕ). Rose k new.write_faults) n.1 (subst (λ (k : ℕ). Rose mid.write_faults k) (sym (ap (λ (o : Outside). o.write_faults) t.4)) t.2),
+)
+
+fault_caused : (count : ℕ) (fault : Took) (s : Stand) (old mid new : Outside) → s.early ≡ None → NoneRose old mid → Reads count (Err fault) mid new
+    → Caused (stand_fault fault s).early old new
+fault_caused count took.Torn s old mid new none n t = to_same None old mid new n (counts mid _ t.1.1)
+fault_caused count took.SourceFault s old mid new none n t = (
+  subst (λ (k : ℕ). Rose k new.read_faults) n.0 (subst (λ (k : ℕ). Rose mid.read_faults k) (sym (ap (λ (o : Outside). o.read_faults) t.2.1)) t.1),
+  ap (λ (o : Outside). o.write_faults) t.2.1 ∙ n.1,
+)
+fault_caused count took.BlobFault s old mid new none n t = absurd t
+fault_caused count took.NoMemory s old mid new none n (inl t) = to_same None old mid new n (counts mid _ t)
+fault_caused count took.NoMemory s old mid new none n (inr t) = to_same None old mid new n (counts mid _ t.1.3)
+
+reads_caused : (count : ℕ) (body : Body) (s : Stand) (old mid new : Outside) → s.early ≡ None → NoneRose old mid → Reads count body mid new
+    → Caused (stand_read body s).early old new
+reads_caused count (Ok body) s old mid new none n t = subst (λ e. Caused e old new) (sym none) (to_same None old mid new n (counts mid _ t.3))
+reads_caused count (Err fault) s old mid new none n t = fault_caused count fault (record s { unread = 0 }) old mid new none n t
+
 takes_caused : (tells : Type 0) (draft count : ℕ) (stored : Stored) (s : Stand) (old mid new : Outside) → s.early ≡ None → NoneRose old mid
     → Takes tells draft count stored mid new → Caused (stand_stored stored s).early old new
 takes_caused tells draft count (Ok blob) s old mid new none n t =
     subst (λ e. Caused e old new) (sym none) (to_same None old mid new n (counts mid _ t.1.3))
-takes_caused tells draft count (Err took.Torn) s old mid new none n t = to_same None old mid new n (counts mid _ t.1.1)
-takes_caused tells draft count (Err took.SourceFault) s old mid new none n t = (
-  subst (λ (k : ℕ). Rose k new.read_faults) n.0 (subst (λ (k : ℕ). Rose mid.read_faults k) (sym (ap (λ (o : Outside). o.read_faults) t.2.1)) t.1),
-  ap (λ (o : Outside). o.write_faults) t.2.1 ∙ n.1,
-)
+takes_caused tells draft count (Err took.Torn) s old mid new none n t = fault_caused count took.Torn (record s { unread = 0 }) old mid new none n t
+takes_caused tells draft count (Err took.SourceFault) s old mid new none n t =
+    fault_caused count took.SourceFault (record s { unread = 0 }) old mid new none n t
 takes_caused tells draft count (Err took.BlobFault) s old mid new none n t =
     subst (λ e. Caused e old new) (sym none) (to_same None old mid new n (counts mid _ t.3.3))
-takes_caused tells draft count (Err took.NoMemory) s old mid new none n (inl t) = to_same None old mid new n (counts mid _ t)
-takes_caused tells draft count (Err took.NoMemory) s old mid new none n (inr t) = to_same None old mid new n (counts mid _ t.1.3)
+takes_caused tells draft count (Err took.NoMemory) s old mid new none n t =
+    fault_caused count took.NoMemory (record s { unread = 0 }) old mid new none n t
 
-sends_caused : (blob : Blob) (head : List ℕ) (result : Sent) (s : Stand) (old mid new : Outside) → s.early ≡ None → NoneRose old mid
+file_caused : (blob : Blob) (head : List ℕ) (result : Sent) (s : Stand) (old mid new : Outside) → s.early ≡ None → NoneRose old mid
     → Sends blob head result mid new → Caused (stand_sent result s).early old new
-sends_caused blob head sent.Whole s old mid new none n t =
+file_caused blob head sent.Whole s old mid new none n t =
     subst (λ e. Caused e old new) (sym none) (to_same None old mid new n (counts mid _ t.2))
-sends_caused blob head sent.BlobFault s old mid new none n t =
+file_caused blob head sent.BlobFault s old mid new none n t =
     subst (λ e. Caused e old new) (sym none) (to_same None old mid new n (counts mid _ t.2))
-sends_caused blob head sent.SinkFault s old mid new none n t = (
+file_caused blob head sent.SinkFault s old mid new none n t = (
   ap (λ (o : Outside). o.read_faults) t.6 ∙ n.0,
   subst (λ (k : ℕ). Rose k new.write_faults) n.1 (subst (λ (k : ℕ). Rose mid.write_faults k) (sym (ap (λ (o : Outside). o.write_faults) t.6)) t.3),
 )
-sends_caused blob head sent.NoMemory s old mid new none n t = to_same None old mid new n (counts mid _ t)
+file_caused blob head sent.NoMemory s old mid new none n t = to_same None old mid new n (counts mid _ t)
+
+head_caused : (head : List ℕ) (result : Sent) (s : Stand) (old mid new : Outside) → s.early ≡ None → NoneRose old mid
+    → SendsHead head result mid new → Caused (stand_sent result s).early old new
+head_caused head sent.Whole s old mid new none n t = subst (λ e. Caused e old new) (sym none) (to_same None old mid new n (counts mid _ t))
+head_caused head sent.BlobFault s old mid new none n t = absurd t
+head_caused head sent.SinkFault s old mid new none n t = (
+  ap (λ (o : Outside). o.read_faults) t.4 ∙ n.0,
+  subst (λ (k : ℕ). Rose k new.write_faults) n.1 (subst (λ (k : ℕ). Rose mid.write_faults k) (sym (ap (λ (o : Outside). o.write_faults) t.4)) t.2),
+)
+head_caused head sent.NoMemory s old mid new none n t = to_same None old mid new n (counts mid _ t)
+
+sends_caused : (head_only : Bool) (blob : Blob) (head : List ℕ) (result : Sent) (s : Stand) (old mid new : Outside) → s.early ≡ None → NoneRose old mid
+    → SendsAnswer head_only blob head result mid new → Caused (stand_sent result s).early old new
+sends_caused true blob head result s old mid new none n t = head_caused head result s old mid new none n t
+sends_caused false blob head result s old mid new none n t = file_caused blob head result s old mid new none n t
 
 calm_shows : (end : Option End) (old new : Outside) → IsCalm end → NoneRose old new → Shows end old new
 calm_shows None old new calm n = n
@@ -95,98 +137,112 @@ calm_shows (Some stream.TurnLimit) old new calm n = absurd calm
 calm_shows (Some stream.SourceFault) old new calm n = absurd calm
 calm_shows (Some stream.SinkFault) old new calm n = absurd calm
 
-says_shows : (answer : Answer) (next end : Option End) (old mid new : Outside) → IsCalm next → NoneRose old mid → Says answer next mid new end → Shows end old new
-says_shows answer next end old mid new calm n (whole is ends) =
+says_shows : (answer memory_said : Answer) (next end : Option End) (old mid new : Outside) → IsCalm next → NoneRose old mid
+    → Says answer memory_said next mid new end → Shows end old new
+says_shows answer memory_said next end old mid new calm n (whole is ends) =
     subst (λ e. Shows e old new) (sym ends) (calm_shows next old new calm (to_same None old mid new n (counts mid _ is)))
-says_shows answer next end old mid new calm n (memory is ends) =
+says_shows answer memory_said next end old mid new calm n (memory is ends) =
     subst (λ e. Shows e old new) (sym ends) (to_same None old mid new n (counts mid _ is))
-says_shows answer next end old mid new calm n (cut faults all part rose which front is ends) =
+says_shows answer memory_said next end old mid new calm n (cut faults all part rose which front is ends) =
     subst (λ e. Shows e old new) (sym ends) (
       ap (λ (o : Outside). o.read_faults) is ∙ n.0,
       subst (λ (k : ℕ). Rose k new.write_faults) n.1 (subst (λ (k : ℕ). Rose mid.write_faults k) (sym (ap (λ (o : Outside). o.write_faults) is)) rose),
     )
 
-says_for : (early : Option Early) (answer : Answer) (said : Said) (close : Bool) (next end : Option End) (old mid new : Outside) → SaysFor early said close next
-    → Caused early old mid → Says answer next mid new end → Shows end old new
-says_for None answer said close next end old mid new for n said_is = says_shows answer next end old mid new for.1 n said_is
-says_for (Some by_memory) answer said close next end old mid new for n said_is =
-    says_shows answer next end old mid new (subst (λ e. IsCalm e) (sym for.2) tt) n said_is
-says_for (Some (by_side side)) answer said close next end old mid new for n said_is = absurd for
+says_for : (s : Stand) (early : Option Early) (answer memory_said : Answer) (said : Said) (manner : Manner) (end : Option End) (old mid new : Outside)
+    → SaysFor s early said manner → Caused early old mid → Says answer memory_said (end_of manner) mid new end → Shows end old new
+says_for s None answer memory_said said manner end old mid new for n said_is =
+    says_shows answer memory_said (end_of manner) end old mid new (end-calm manner) n said_is
+says_for s (Some by_memory) answer memory_said said manner end old mid new for n said_is =
+    says_shows answer memory_said (end_of manner) end old mid new (end-calm manner) n said_is
+says_for s (Some (by_side side)) answer memory_said said manner end old mid new for n said_is = absurd for
 
-stops_for : (early : Option Early) (next end : Option End) (old mid new : Outside) → StopsFor early next → Caused early old mid → new ≡ mid → end ≡ next
-    → Shows end old new
-stops_for early next end old mid new for c is ends = subst (λ e. Shows e old new) (sym ends) (pick early for (to_same early old mid new c (counts mid _ is)))
+stops_for : (s : Stand) (early : Option Early) (next end : Option End) (old mid new : Outside) → StopsFor s early next → Caused early old mid → new ≡ mid
+    → end ≡ next → Shows end old new
+stops_for s early next end old mid new for c is ends =
+    subst (λ e. Shows e old new) (sym ends) (pick early for (to_same early old mid new c (counts mid _ is)))
   where
-    pick : (early : Option Early) → StopsFor early next → Caused early old new → Shows next old new
-    pick None for c = calm_shows next old new for c
+    pick : (early : Option Early) → StopsFor s early next → Caused early old new → Shows next old new
+    pick None for c = calm_shows next old new for.0 c
     pick (Some by_memory) for c = absurd for
     pick (Some (by_side side)) for c = subst (λ e. Shows e old new) (sym for) c
 
-uses_reads : (old new : Outside) → UsesHead old new → ReadsOn old new
-uses_reads old new (inl still) = (old.input, still)
-uses_reads old new (inr t) = (t.0, t.2)
-
-opens_caused : (last : Bool) (old new : Outside) (c : Course) (o : Opens last old new c) → Caused (opened_early o) old new
-opens_caused last old new c (clean begins still is) = counts old _ still
-opens_caused last old new c (torn begins still is) = counts old _ still
-opens_caused last old new c (failed faults rose still is) =
+opens_caused : (settings : Settings) (last : Bool) (old new : Outside) (c : Course) (o : Opens settings last old new c) → Caused (standing o).early old new
+opens_caused settings last old new c (clean begins still is) = counts old _ still
+opens_caused settings last old new c (torn begins still is) = counts old _ still
+opens_caused settings last old new c (failed faults rose still is) =
     (subst (λ (k : ℕ). Rose old.read_faults k) (sym (ap (λ (o : Outside). o.read_faults) still)) rose, ap (λ (o : Outside). o.write_faults) still)
-opens_caused last old new c (starved begins uses is) = counts old _ (uses_reads old new uses).1
-opens_caused last old new c (refused begins uses is) = counts old _ (uses_reads old new uses).1
-opens_caused last old new c (served head request rest judged begins reads is) = counts old _ reads
+opens_caused settings last old new c (refused fault begins still is) = counts old _ still
+opens_caused settings last old new c (unread_head begins still is) = counts old _ still
+opens_caused settings last old new c (starved head rest begins uses is) = counts old _ uses
+opens_caused settings last old new c (served head rest begins uses is) = counts old _ uses
 
 module _ (tells : Type 0) where
-  follows_shows : (c : Course) (n : ℕ) (s : Stand) → Keeps c n s → (entries : List Entry) (old mid new : Outside) (end : Option End) → Caused s.early old mid
-      → Follows tells c entries mid new end → Shows end old new
-  follows_shows (asks command next) zero s k [] old mid new end c f = absurd f
-  follows_shows (asks command next) zero s k (e ∷ entries) old mid new end c f = absurd k
-  follows_shows (asks command next) (suc n) s k [] old mid new end c f = absurd f
-  follows_shows (asks command next) (suc n) s k (e ∷ entries) old mid new end c f =
-      let s1 = stand_after command e.reply s in
-      follows_shows (next e.reply) n s1 (k.1 e.reply) entries old mid new end (asks_caused command e.reply s old mid k.0 c) f.1
-  follows_shows (takes draft count next) n s k entries old mid new end c f =
-      follows_shows (next f.0) n (stand_stored f.0 s) (k.2 f.0) entries old f.1 new end
-      (takes_caused tells draft count f.0 s old mid f.1 k.1 (subst (λ e. Caused e old mid) k.1 c) f.2) f.3
-  follows_shows (sends blob close next) n s k entries old mid new end c f =
-      follows_shows (next f.0) n (stand_sent f.0 s) (k.2 f.0) entries old f.1 new end
-      (sends_caused blob (shown (file_answer blob close)) f.0 s old mid f.1 k.1 (subst (λ e. Caused e old mid) k.1 c) f.2) f.3
-  follows_shows (says said close next) n s k entries old mid new end c f = says_for s.early _ said close next end old mid new k.1 c f.1
-  follows_shows (stops next) n s k entries old mid new end c f = stops_for s.early next end old mid new k.1 c f.1 f.2
+  module _ (head_only : Bool) where
+    follows_shows : (c : Course) (n : ℕ) (s : Stand) → Keeps head_only c n s → (entries : List Entry) (old mid new : Outside) (end : Option End)
+        → Caused s.early old mid → Follows tells c entries mid new end → Shows end old new
+    follows_shows (asks command next) zero s k [] old mid new end c f = absurd f
+    follows_shows (asks command next) zero s k (e ∷ entries) old mid new end c f = absurd k
+    follows_shows (asks command next) (suc n) s k [] old mid new end c f = absurd f
+    follows_shows (asks command next) (suc n) s k (e ∷ entries) old mid new end c f =
+        let s1 = stand_after command e.reply s in
+        follows_shows (next e.reply) n s1 (k.1 e.reply) entries old mid new end (asks_caused command e.reply s old mid k.0 c) f.1
+    follows_shows (continues next) n s k entries old mid new end c f =
+        follows_shows (next f.0) n (stand_continued f.0 s) (k.2 f.0) entries old f.1 new end
+        (continues_caused f.0 s old mid f.1 k.1 (subst (λ e. Caused e old mid) k.1 c) f.2) f.3
+    follows_shows (takes draft count next) n s k entries old mid new end c f =
+        follows_shows (next f.0) n (stand_stored f.0 s) (k.3 f.0) entries old f.1 new end
+        (takes_caused tells draft count f.0 s old mid f.1 k.1 (subst (λ e. Caused e old mid) k.1 c) f.2) f.3
+    follows_shows (reads count next) n s k entries old mid new end c f =
+        follows_shows (next f.0) n (stand_read f.0 s) (k.2 f.0) entries old f.1 new end
+        (reads_caused count f.0 s old mid f.1 k.0 (subst (λ e. Caused e old mid) k.0 c) f.2) f.3
+    follows_shows (sends blob manner next) n s k entries old mid new end c f =
+        follows_shows (next f.0) n (stand_sent f.0 s) (k.3 f.0) entries old f.1 new end
+        (sends_caused manner.head_only blob (shown (file_answer blob manner)) f.0 s old mid f.1 k.1 (subst (λ e. Caused e old mid) k.1 c) f.2) f.3
+    follows_shows (says said manner) n s k entries old mid new end c f =
+        says_for s s.early (answer_of said manner) (memory_answer manner.head_only) said manner end old mid new k.1 c f.1
+    follows_shows (stops next) n s k entries old mid new end c f = stops_for s s.early next end old mid new k.1 c f.1 f.2
 
-  turn_shows : (last : Bool) (entries : List Entry) (old new : Outside) (end : Option End) → Turn tells last entries old new end → Shows end old new
-  turn_shows last entries old new end t =
-      follows_shows t.0 3 (standing (opened_early t.2)) (opens-keeps last old t.1 t.0 t.2) entries old t.1 new end (opens_caused last old t.1 t.0 t.2) t.3
+    -- each request makes at most three commands
+    follows_few : (c : Course) (n : ℕ) (s : Stand) → Keeps head_only c n s → (entries : List Entry) (old new : Outside) (end : Option End)
+        → Follows tells c entries old new end → length entries ≤ n
+    follows_few (asks command next) zero s k [] old new end f = absurd f
+    follows_few (asks command next) zero s k (e ∷ entries) old new end f = absurd k
+    follows_few (asks command next) (suc n) s k [] old new end f = absurd f
+    follows_few (asks command next) (suc n) s k (e ∷ entries) old new end f =
+        let less = follows_few (next e.reply) n (stand_after command e.reply s) (k.1 e.reply) entries old new end f.1 in omega arith
+    follows_few (continues next) n s k entries old new end f = follows_few (next f.0) n (stand_continued f.0 s) (k.2 f.0) entries f.1 new end f.3
+    follows_few (takes draft count next) n s k entries old new end f = follows_few (next f.0) n (stand_stored f.0 s) (k.3 f.0) entries f.1 new end f.3
+    follows_few (reads count next) n s k entries old new end f = follows_few (next f.0) n (stand_read f.0 s) (k.2 f.0) entries f.1 new end f.3
+    follows_few (sends blob manner next) n s k entries old new end f = follows_few (next f.0) n (stand_sent f.0 s) (k.3 f.0) entries f.1 new end f.3
+    follows_few (says said manner) n s k entries old new end f = let none = ap length f.0 in omega arith
+    follows_few (stops next) n s k entries old new end f = let none = ap length f.0 in omega arith
 
-  pub serves_shows : (n : ℕ) (entries : List Entry) (old new : Outside) (end : End) → Serves tells n entries old new end → EndsByCause end old new
-  unfolding Serves
-  serves_shows zero entries old new end t = subst (λ (e : End). EndsByCause e old new) (sym t.2) (counts old _ t.1)
-  serves_shows (suc left) entries old new end (inl turn) = turn_shows (left == 0) entries old new (Some end) turn
-  serves_shows (suc left) entries old new end (inr t) =
-      from_same end old t.2 new (turn_shows (left == 0) t.0 old t.2 None t.4) (serves_shows left t.1 t.2 new end t.5)
+  module _ (settings : Settings) where
+    turn_shows : (last : Bool) (entries : List Entry) (old new : Outside) (end : Option End) → Turn settings tells last entries old new end → Shows end old new
+    turn_shows last entries old new end t =
+        follows_shows (shows_head t.2) t.0 3 (standing t.2) (opens-keeps settings last old t.1 t.0 t.2) entries old t.1 new end
+        (opens_caused settings last old t.1 t.0 t.2) t.3
 
-  -- each request makes at most three commands
-  follows_few : (c : Course) (n : ℕ) (s : Stand) → Keeps c n s → (entries : List Entry) (old new : Outside) (end : Option End)
-      → Follows tells c entries old new end → length entries ≤ n
-  follows_few (asks command next) zero s k [] old new end f = absurd f
-  follows_few (asks command next) zero s k (e ∷ entries) old new end f = absurd k
-  follows_few (asks command next) (suc n) s k [] old new end f = absurd f
-  follows_few (asks command next) (suc n) s k (e ∷ entries) old new end f =
-      let less = follows_few (next e.reply) n (stand_after command e.reply s) (k.1 e.reply) entries old new end f.1 in omega arith
-  follows_few (takes draft count next) n s k entries old new end f =
-      follows_few (next f.0) n (stand_stored f.0 s) (k.2 f.0) entries f.1 new end f.3
-  follows_few (sends blob close next) n s k entries old new end f = follows_few (next f.0) n (stand_sent f.0 s) (k.2 f.0) entries f.1 new end f.3
-  follows_few (says said close next) n s k entries old new end f = let none = ap length f.0 in omega arith
-  follows_few (stops next) n s k entries old new end f = let none = ap length f.0 in omega arith
+    pub serves_shows : (n : ℕ) (entries : List Entry) (old new : Outside) (end : End) → Serves settings tells n entries old new end
+        → EndsByCause end old new
+    unfolding Serves
+    serves_shows zero entries old new end t = subst (λ (e : End). EndsByCause e old new) (sym t.2) (counts old _ t.1)
+    serves_shows (suc left) entries old new end (inl turn) = turn_shows (left == 0) entries old new (Some end) turn
+    serves_shows (suc left) entries old new end (inr t) =
+        from_same end old t.2 new (turn_shows (left == 0) t.0 old t.2 None t.4) (serves_shows left t.1 t.2 new end t.5)
 
-  turn_few : (last : Bool) (entries : List Entry) (old new : Outside) (end : Option End) → Turn tells last entries old new end → length entries ≤ 3
-  turn_few last entries old new end t =
-      follows_few t.0 3 (standing (opened_early t.2)) (opens-keeps last old t.1 t.0 t.2) entries t.1 new end t.3
+    turn_few : (last : Bool) (entries : List Entry) (old new : Outside) (end : Option End) → Turn settings tells last entries old new end
+        → length entries ≤ 3
+    turn_few last entries old new end t =
+        follows_few (shows_head t.2) t.0 3 (standing t.2) (opens-keeps settings last old t.1 t.0 t.2) entries t.1 new end t.3
 
-  pub serves_few : (n : ℕ) (entries : List Entry) (old new : Outside) (end : End) → Serves tells n entries old new end → length entries ≤ 3 * n
-  unfolding Serves
-  serves_few zero entries old new end t = let none = ap length t.0 in omega arith
-  serves_few (suc left) entries old new end (inl turn) = let few = turn_few (left == 0) entries old new (Some end) turn in omega arith
-  serves_few (suc left) entries old new end (inr t) =
-      let few = turn_few (left == 0) t.0 old t.2 None t.4 in
-      let rest = serves_few left t.1 t.2 new end t.5 in
-      let all = ap length t.3 ∙ length-append t.0 t.1 in omega arith
+    pub serves_few : (n : ℕ) (entries : List Entry) (old new : Outside) (end : End) → Serves settings tells n entries old new end
+        → length entries ≤ 3 * n
+    unfolding Serves
+    serves_few zero entries old new end t = let none = ap length t.0 in omega arith
+    serves_few (suc left) entries old new end (inl turn) = let few = turn_few (left == 0) entries old new (Some end) turn in omega arith
+    serves_few (suc left) entries old new end (inr t) =
+        let few = turn_few (left == 0) t.0 old t.2 None t.4 in
+        let rest = serves_few left t.1 t.2 new end t.5 in
+        let all = ap length t.3 ∙ length-append t.0 t.1 in omega arith

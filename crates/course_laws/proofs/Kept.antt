@@ -1,102 +1,218 @@
 -- The courses of a stream do what they owe.
-use Rattle.std.proofs.Common.{◌≡◌, ◌⊎◌, inl, inr, ℕ, suc, Bool, true, false, List, Option, Some, None, Ok, Err, refl, sym, subst}
-use Rattle.repo_model.specs.Command.{Command, look, done, may_put, put as puts, drop_draft}
+use Rattle.std.proofs.Common.{◌≡◌, ◌⊎◌, inl, inr, ℕ, suc, ◌≤◌, Bool, true, false, ◌||◌, List, Option, Some, None, Result, Ok, Err, arith, refl, sym, subst}
+use Rattle.std.specs.Prelude.{nat_lt, if◌then◌else◌}
+use Rattle.std.proofs.lemmas.Bool.{ltb-false}
+use Rattle.http_wire.specs.declared.faults.HeadFault.{HeadFault}
+use Rattle.http_wire.specs.declared.faults.HeadFault.TheVariants.{Broken, TooLong}
+use Rattle.mvn_coords.specs.declared.fault.Side.{Side}
+use Rattle.mvn_digest.specs.Sides.{read_side}
+use Rattle.mvn_doc.specs.Reading.{reading}
+use Rattle.mvn_metadata.specs.Document.{Document}
+use Rattle.repo_model.specs.Command.{Command, look, done, may_put, put as puts, put_side, put_doc, drop_draft, status}
 use Rattle.repo_model.specs.Data.{Blob, Place, repository, session}
-use Rattle.repo_model.specs.Reply.{Reply, file, missed, kind_refused, draft, no_draft, taken, same, relisted, created, spent, store_fault}
-use Rattle.repo_course.specs.Course.{Course, course_of, Stored, asks, after_look, after_may_put, after_put, after_send, after_take, course, end_of}
-use Rattle.repo_course.specs.declared.act.Closing.{Closing}
+use Rattle.repo_model.specs.Reply.{Reply, file, text, doc, missed, kind_refused, draft, no_draft, taken, same, relisted, created, not_there, differs, agreed, noted, counts as counts_reply, spent, store_fault}
+use Rattle.repo_model.specs.Settings.{Settings}
+use Rattle.repo_routes.specs.Framing.{is_head}
+use Rattle.repo_routes.specs.Intent.{Intent, Judged, reads as reads_path, puts_file, puts_side, puts_document, counts}
+use Rattle.repo_routes.specs.Judge.{judge}
+use Rattle.repo_routes.specs.declared.judging.Refused.{Refused}
+use Rattle.repo_course.specs.Course.{Body, Course, Stored, asks, reads, takes, after_continue, after_document, after_fault, after_look, after_may_put, after_put, after_put_doc, after_put_side, after_send, after_side, after_status, after_take, compares, course, course_for, course_of, cut_off, end_of, gives_up, invites, notes, refuses, refuses_head}
+use Rattle.repo_course.specs.declared.manner.Manner.{Manner}
+use Rattle.repo_course.specs.declared.outcomes.Continued.{Continued}
+use Rattle.repo_course.specs.declared.outcomes.Continued.TheVariants as continued
+use Rattle.repo_course.specs.declared.outcomes.End.{End}
 use Rattle.repo_course.specs.declared.outcomes.End.TheVariants as stream
 use Rattle.repo_course.specs.declared.outcomes.Sent.{Sent}
 use Rattle.repo_course.specs.declared.outcomes.Sent.TheVariants as sent
+use Rattle.repo_course.specs.declared.outcomes.Took.{Took}
 use Rattle.repo_course.specs.declared.outcomes.Took.TheVariants as took
-use Rattle.repo_course.specs.Plain.{Plain, get, put, releases}
-use Rattle.repo_course.specs.Serving.{Opens, clean, torn, failed, starved, refused, served, Outside}
-use Rattle.course_laws.specs.Duties.{Early, IsCalm, Keeps, MayAsk, Stand, stand_after, at_first, by_side, by_memory, failing, has_put, looked, asked_draft, stand_sent, stand_stored, starving}
+use Rattle.repo_course.specs.Serving.{Opens, clean, torn, failed, refused, unread_head, starved, served, Outside}
+use Rattle.course_laws.specs.Duties.{Early, IsCalm, Keeps, MayAsk, Stand, stand_after, at_first, by_side, by_memory, failing, has_counted, has_put, has_put_doc, has_put_side, is_head_only, length_of, looked, asked_draft, stand_continued, stand_fault, stand_read, stand_sent, stand_stored, starving, unread_of}
 
-calm : (close : Bool) → IsCalm (end_of close)
-calm true = tt
-calm false = tt
+-- behind an answer the stream goes on, or is closed
+pub end-calm : (manner : Manner) → IsCalm (end_of manner)
+end-calm manner = elim manner.close as (λ b. IsCalm (if b then Some stream.Closed else None)) [ true ↦ tt | false ↦ tt ]
+
+-- with a body that is not read the connection is closed
+unread-closes : (close : Bool) (length : ℕ) → (close || nat_lt 0 length) ≡ false → length ≡ 0
+unread-closes true length is = absurd (cc)
+unread-closes false length is = let none : length ≤ 0 = ltb-false 0 length is in omega arith
 
 -- a lease is in hand, and a file was sent
 abbrev lent : ℕ → Blob → Stand
-lent lease blob = record { draft = None; lease = Some lease; blob = Some blob; early = None }
+lent lease blob = record { draft = None; lease = Some lease; blob = Some blob; unread = 0; invited = false; early = None }
 
-sent-keeps : (c : Closing) (lease : ℕ) (blob : Blob) (result : Sent) (n : ℕ)
-    → Keeps (after_send c result) n (record (stand_sent result (lent lease blob)) { lease = None })
-sent-keeps c lease blob sent.Whole n = ((refl, refl), calm c.close)
-sent-keeps c lease blob sent.BlobFault n = ((refl, refl), (tt, calm c.close))
-sent-keeps c lease blob sent.SinkFault n = ((refl, refl), refl)
-sent-keeps c lease blob sent.NoMemory n = ((refl, refl), (refl, refl, refl))
+-- a draft is in hand, and so many bytes of the body are not read
+abbrev drawn : ℕ → Option Blob → ℕ → Bool → Stand
+drawn n blob count invited = record { draft = Some n; lease = None; blob = blob; unread = count; invited = invited; early = None }
 
-file-keeps : (c : Closing) (lease : ℕ) (blob : Blob) (result : Sent) (n : ℕ)
-    → Keeps (asks (done lease) (λ reply. after_send c result)) (suc n) (stand_sent result (lent lease blob))
-file-keeps c lease blob sent.Whole n = (refl, λ reply. sent-keeps c lease blob sent.Whole n)
-file-keeps c lease blob sent.BlobFault n = (refl, λ reply. sent-keeps c lease blob sent.BlobFault n)
-file-keeps c lease blob sent.SinkFault n = (refl, λ reply. sent-keeps c lease blob sent.SinkFault n)
-file-keeps c lease blob sent.NoMemory n = (refl, λ reply. sent-keeps c lease blob sent.NoMemory n)
+-- nothing is in hand
+abbrev empty : ℕ → Bool → Stand
+empty count invited = record { draft = None; lease = None; blob = None; unread = count; invited = invited; early = None }
 
-look-keeps : (c : Closing) (reply : Reply) (n : ℕ) → Keeps (after_look c reply) (suc n) (looked reply at_first)
-look-keeps c (file lease blob) n = (refl, refl, λ result. file-keeps c lease blob result n)
-look-keeps c missed n = ((refl, refl), (tt, calm c.close))
-look-keeps c spent n = ((refl, refl), (tt, calm c.close))
-look-keeps c reply n = ((refl, refl), (refl, refl, refl))
+module _ (manner : Manner) where
+  abbrev Owes : Course → ℕ → Stand → Type 0
+  Owes c n s = Keeps manner.head_only c n s
 
--- a draft is in hand
-abbrev drawn : ℕ → Option Blob → Stand
-drawn n blob = record { draft = Some n; lease = None; blob = blob; early = None }
+  sent-keeps : (lease : ℕ) (blob : Blob) (result : Sent) (n : ℕ)
+      → Owes (after_send manner result) n (record (stand_sent result (lent lease blob)) { lease = None })
+  sent-keeps lease blob sent.Whole n = ((refl, refl), (end-calm manner, λ is. refl))
+  sent-keeps lease blob sent.BlobFault n = ((refl, refl), (tt, λ is. refl), refl)
+  sent-keeps lease blob sent.SinkFault n = ((refl, refl), refl)
+  sent-keeps lease blob sent.NoMemory n = ((refl, refl), (refl, refl), refl)
 
-put-keeps : (n : ℕ) (c : Closing) (blob : Blob) (reply : Reply) → Keeps (after_put n c reply) 1 (has_put reply (drawn n (Some blob)))
-put-keeps n c blob created = ((refl, refl), (tt, calm c.close))
-put-keeps n c blob same = ((refl, refl), (tt, calm c.close))
-put-keeps n c blob relisted = ((refl, refl), (tt, calm c.close))
-put-keeps n c blob (taken kept given) = ((refl, refl), (tt, calm c.close))
-put-keeps n c blob no_draft = (refl, λ reply. ((refl, refl), (tt, calm c.close)))
-put-keeps n c blob store_fault = (refl, λ reply. ((refl, refl), (tt, calm c.close)))
-put-keeps n c blob reply = (refl, λ r. ((refl, refl), (refl, refl, refl)))
+  file-keeps : (lease : ℕ) (blob : Blob) (result : Sent) (n : ℕ)
+      → Owes (asks (done lease) (λ reply. after_send manner result)) (suc n) (stand_sent result (lent lease blob))
+  file-keeps lease blob sent.Whole n = (refl, λ reply. sent-keeps lease blob sent.Whole n)
+  file-keeps lease blob sent.BlobFault n = (refl, λ reply. sent-keeps lease blob sent.BlobFault n)
+  file-keeps lease blob sent.SinkFault n = (refl, λ reply. sent-keeps lease blob sent.SinkFault n)
+  file-keeps lease blob sent.NoMemory n = (refl, λ reply. sent-keeps lease blob sent.NoMemory n)
 
-take-keeps : (repo path : List ℕ) (n : ℕ) (c : Closing) (stored : Stored) → Keeps (after_take repo path n c stored) 2 (stand_stored stored (drawn n None))
-take-keeps repo path n c (Ok blob) = ((refl, refl, refl), λ reply. put-keeps n c blob reply)
-take-keeps repo path n c (Err took.Torn) = (refl, λ reply. ((refl, refl), refl))
-take-keeps repo path n c (Err took.SourceFault) = (refl, λ reply. ((refl, refl), refl))
-take-keeps repo path n c (Err took.BlobFault) = (refl, λ reply. ((refl, refl), (tt, calm c.close)))
-take-keeps repo path n c (Err took.NoMemory) = (refl, λ reply. ((refl, refl), (refl, refl, refl)))
+  look-keeps : (reply : Reply) (n : ℕ) → Owes (after_look manner reply) (suc n) (looked reply (at_first 0))
+  look-keeps (file lease blob) n = (refl, refl, refl, λ result. file-keeps lease blob result n)
+  look-keeps (text bytes) n = ((refl, refl), (tt, λ is. refl), refl)
+  look-keeps (doc bytes digests) n = ((refl, refl), (tt, λ is. refl), refl)
+  look-keeps missed n = ((refl, refl), (tt, λ is. refl), refl)
+  look-keeps spent n = ((refl, refl), (tt, λ is. refl), refl)
+  look-keeps reply n = ((refl, refl), (refl, refl), refl)
 
-may_put-keeps : (repo path : List ℕ) (length : ℕ) (c : Closing) (reply : Reply) → Keeps (after_may_put repo path length c reply) 2 (asked_draft reply at_first)
-may_put-keeps repo path length c (draft n) = (refl, refl, λ stored. take-keeps repo path n c stored)
-may_put-keeps repo path length c kind_refused = ((refl, refl), (tt, calm _))
-may_put-keeps repo path length c spent = ((refl, refl), (tt, calm _))
-may_put-keeps repo path length c reply = ((refl, refl), (refl, refl, refl))
+  put-keeps : (n : ℕ) (blob : Blob) (invited : Bool) (reply : Reply) → Owes (after_put n manner reply) 1 (has_put reply (drawn n (Some blob) 0 invited))
+  put-keeps n blob invited created = ((refl, refl), (tt, λ is. refl), refl)
+  put-keeps n blob invited same = ((refl, refl), (tt, λ is. refl), refl)
+  put-keeps n blob invited relisted = ((refl, refl), (tt, λ is. refl), refl)
+  put-keeps n blob invited (taken kept given) = ((refl, refl), (tt, λ is. refl), refl)
+  put-keeps n blob invited no_draft = (refl, λ reply. ((refl, refl), (tt, λ is. refl), refl))
+  put-keeps n blob invited store_fault = (refl, λ reply. ((refl, refl), (tt, λ is. refl), refl))
+  put-keeps n blob invited reply = (refl, λ r. ((refl, refl), (refl, refl), refl))
 
-pub course-keeps : (request : Plain) (last : Bool) → Keeps (course request last) 3 at_first
-course-keeps (get path close) last = ((refl, refl), λ reply. look-keeps (record { close = close; last = last }) reply 1)
-course-keeps (put path length close) last = ((refl, refl), λ reply. may_put-keeps releases path length (record { close = close; last = last }) reply)
+  -- a body that was not taken, where nothing is in hand
+  fault-keeps : (fault : Took) (invited : Bool) (n : ℕ) → Owes (after_fault manner fault) n (stand_fault fault (empty 0 invited))
+  fault-keeps took.Torn invited n = ((refl, refl), refl)
+  fault-keeps took.SourceFault invited n = ((refl, refl), refl)
+  fault-keeps took.BlobFault invited n = ((refl, refl), (tt, λ is. refl), refl)
+  fault-keeps took.NoMemory invited n = ((refl, refl), (refl, refl), refl)
 
-pub judged-keeps : (judged : Option Plain) (last : Bool) → Keeps (course_of judged last) 3 at_first
-judged-keeps None last = ((refl, refl), (tt, tt))
-judged-keeps (Some request) last = course-keeps request last
+  take-keeps : (repo path : List ℕ) (n : ℕ) (count : ℕ) (invited : Bool) (stored : Stored)
+      → Owes (after_take repo path n manner stored) 2 (stand_stored stored (drawn n None count invited))
+  take-keeps repo path n count invited (Ok blob) = ((refl, refl, refl), λ reply. put-keeps n blob invited reply)
+  take-keeps repo path n count invited (Err took.Torn) = (refl, λ reply. fault-keeps took.Torn invited 1)
+  take-keeps repo path n count invited (Err took.SourceFault) = (refl, λ reply. fault-keeps took.SourceFault invited 1)
+  take-keeps repo path n count invited (Err took.BlobFault) = (refl, λ reply. fault-keeps took.BlobFault invited 1)
+  take-keeps repo path n count invited (Err took.NoMemory) = (refl, λ reply. fault-keeps took.NoMemory invited 1)
 
--- how a stream stands before the course that it comes to
-abbrev pub opened_early : {last : Bool} {old new : Outside} {c : Course} → Opens last old new c → Option Early
-opened_early (clean begins still is) = None
-opened_early (torn begins still is) = Some (by_side stream.TornRequest)
-opened_early (failed faults rose still is) = Some (by_side stream.SourceFault)
-opened_early (starved begins uses is) = Some by_memory
-opened_early (refused begins uses is) = None
-opened_early (served head request rest judged begins reads is) = None
+  -- `100 Continue` before a body, or none
+  continue-keeps : (cut body : Course) (n : ℕ) (s : Stand) → Owes cut n (failing stream.SinkFault s) → Owes body n (record s { invited = true })
+      → (result : Continued) → Owes (after_continue cut body result) n (stand_continued result s)
+  continue-keeps cut body n s cuts bodies continued.Written = bodies
+  continue-keeps cut body n s cuts bodies continued.SinkFault = cuts
 
-abbrev pub standing : Option Early → Stand
-standing early = record at_first { early = early }
+  file-body-keeps : (repo path : List ℕ) (count : ℕ) (n : ℕ) (expects : Bool)
+      → Owes (invites expects (gives_up n cut_off) (takes n count (after_take repo path n manner))) 2 (drawn n None count false)
+  file-body-keeps repo path count n true = (
+    refl,
+    refl,
+    continue-keeps (gives_up n cut_off) (takes n count (after_take repo path n manner)) 2 (drawn n None count false) (refl, λ reply. ((refl, refl), refl))
+        (refl, refl, refl, take-keeps repo path n count true),
+  )
+  file-body-keeps repo path count n false = (refl, refl, refl, take-keeps repo path n count false)
 
-pub opens-keeps : (last : Bool) (old new : Outside) (c : Course) (o : Opens last old new c) → Keeps c 3 (standing (opened_early o))
-opens-keeps last old new c (clean begins still is) = subst (λ (d : Course). Keeps d 3 at_first) (sym is) ((refl, refl), tt)
-opens-keeps last old new c (torn begins still is) =
-    subst (λ (d : Course). Keeps d 3 (failing stream.TornRequest at_first)) (sym is) ((refl, refl), refl)
-opens-keeps last old new c (failed faults rose still is) =
-    subst (λ (d : Course). Keeps d 3 (failing stream.SourceFault at_first)) (sym is) ((refl, refl), refl)
-opens-keeps last old new c (starved begins uses is) = subst (λ (d : Course). Keeps d 3 (starving at_first)) (sym is) ((refl, refl), (refl, refl, refl))
-opens-keeps last old new c (refused begins uses is) = subst (λ (d : Course). Keeps d 3 at_first) (sym is) ((refl, refl), (tt, tt))
-opens-keeps last old new c (served head request rest judged begins reads is) =
-    subst (λ (d : Course). Keeps d 3 at_first) (sym is) (course-keeps request last)
+  may_put-keeps : (repo path : List ℕ) (count : ℕ) (expects : Bool) (reply : Reply)
+      → Owes (after_may_put repo path count expects manner reply) 2 (asked_draft reply (at_first count))
+  may_put-keeps repo path count expects (draft n) = file-body-keeps repo path count n expects
+  may_put-keeps repo path count expects kind_refused = ((refl, refl), (tt, unread-closes manner.close count), refl)
+  may_put-keeps repo path count expects spent = ((refl, refl), (tt, unread-closes manner.close count), refl)
+  may_put-keeps repo path count expects reply = ((refl, refl), (refl, refl), refl)
+
+  put_side-keeps : (invited : Bool) (n : ℕ) (reply : Reply) → Owes (after_put_side manner reply) n (has_put_side reply (empty 0 invited))
+  put_side-keeps invited n agreed = ((refl, refl), (tt, λ is. refl), refl)
+  put_side-keeps invited n (differs said kept) = ((refl, refl), (tt, λ is. refl), refl)
+  put_side-keeps invited n not_there = ((refl, refl), (tt, λ is. refl), refl)
+  put_side-keeps invited n reply = ((refl, refl), (refl, refl), refl)
+
+  compares-keeps : (repo path : List ℕ) (invited : Bool) (said : Option (List ℕ)) → Owes (compares repo path manner said) 3 (empty 0 invited)
+  compares-keeps repo path invited (Some digest) = (refl, λ reply. put_side-keeps invited 2 reply)
+  compares-keeps repo path invited None = ((refl, refl), (tt, λ is. refl), refl)
+
+  side-keeps : (repo path : List ℕ) (side : Side) (count : ℕ) (invited : Bool) (body : Body)
+      → Owes (after_side repo path side manner body) 3 (stand_read body (empty count invited))
+  side-keeps repo path side count invited (Ok bytes) = compares-keeps repo path invited (read_side side bytes)
+  side-keeps repo path side count invited (Err fault) = fault-keeps fault invited 3
+
+  put_doc-keeps : (invited : Bool) (n : ℕ) (reply : Reply) → Owes (after_put_doc manner reply) n (has_put_doc reply (empty 0 invited))
+  put_doc-keeps invited n noted = ((refl, refl), (tt, λ is. refl), refl)
+  put_doc-keeps invited n reply = ((refl, refl), (refl, refl), refl)
+
+  notes-keeps : (repo path : List ℕ) (invited : Bool) (document : Result Document ℕ) → Owes (notes repo path manner document) 3 (empty 0 invited)
+  notes-keeps repo path invited (Ok document) = (refl, λ reply. put_doc-keeps invited 2 reply)
+  notes-keeps repo path invited (Err at) = ((refl, refl), (tt, λ is. refl), refl)
+
+  document-keeps : (repo path : List ℕ) (count : ℕ) (invited : Bool) (body : Body)
+      → Owes (after_document repo path manner body) 3 (stand_read body (empty count invited))
+  document-keeps repo path count invited (Ok bytes) = notes-keeps repo path invited (reading bytes)
+  document-keeps repo path count invited (Err fault) = fault-keeps fault invited 3
+
+  -- a small body, and what follows it
+  small-keeps : (count : ℕ) (next : Body → Course) (expects : Bool) → ((invited : Bool) (body : Body) → Owes (next body) 3 (stand_read body (empty count invited)))
+      → Owes (invites expects cut_off (reads count next)) 3 (at_first count)
+  small-keeps count next true keeps =
+      (refl, refl, continue-keeps cut_off (reads count next) 3 (at_first count) ((refl, refl), refl) (refl, refl, keeps true))
+  small-keeps count next false keeps = (refl, refl, keeps false)
+
+  status-keeps : (n : ℕ) (reply : Reply) → Owes (after_status manner reply) n (has_counted reply (at_first 0))
+  status-keeps n (counts_reply files fading cached documents sessions) = ((refl, refl), (tt, λ is. refl), refl)
+  status-keeps n reply = ((refl, refl), (refl, refl), refl)
+
+  for-keeps : (expects : Bool) (intent : Intent) → Owes (course_for manner expects intent) 3 (at_first (length_of intent))
+  for-keeps expects (reads_path repo path) = ((refl, refl), λ reply. look-keeps reply 1)
+  for-keeps expects (puts_file repo path count) = ((refl, refl), λ reply. may_put-keeps repo path count expects reply)
+  for-keeps expects (puts_side repo path side count) = small-keeps count (after_side repo path side manner) expects (side-keeps repo path side count)
+  for-keeps expects (puts_document repo path count) = small-keeps count (after_document repo path manner) expects (document-keeps repo path count)
+  for-keeps expects counts = (refl, λ reply. status-keeps 2 reply)
+
+pub judged-keeps : (judged : Result Judged Refused) (last : Bool) → Keeps (is_head_only judged) (course_of judged last) 3 (at_first (unread_of judged))
+judged-keeps (Ok request) last =
+    for-keeps (record { close = request.close; last = last; head_only = request.head_only }) request.expects request.intent
+judged-keeps (Err cause) last = ((refl, refl), (tt, λ is. refl), refl)
+
+pub no-head-keeps : (fault : HeadFault) → Keeps false (refuses_head fault) 3 (at_first 0)
+no-head-keeps Broken = ((refl, refl), (tt, λ is. refl), refl)
+no-head-keeps TooLong = ((refl, refl), (tt, λ is. refl), refl)
+
+-- how a stream stands before the course that it comes to, and whether that course's answers are heads alone
+abbrev pub standing : {settings : Settings} {last : Bool} {old new : Outside} {c : Course} → Opens settings last old new c → Stand
+standing (clean begins still is) = at_first 0
+standing (torn begins still is) = failing stream.TornRequest (at_first 0)
+standing (failed faults rose still is) = failing stream.SourceFault (at_first 0)
+standing (refused fault begins still is) = at_first 0
+standing (unread_head begins still is) = starving (at_first 0)
+standing (starved head rest begins uses is) = starving (at_first 0)
+standing {settings} (served head rest begins uses is) = at_first (unread_of (judge settings head))
+
+abbrev pub shows_head : {settings : Settings} {last : Bool} {old new : Outside} {c : Course} → Opens settings last old new c → Bool
+shows_head (clean begins still is) = false
+shows_head (torn begins still is) = false
+shows_head (failed faults rose still is) = false
+shows_head (refused fault begins still is) = false
+shows_head (unread_head begins still is) = false
+shows_head (starved head rest begins uses is) = is_head head
+shows_head {settings} (served head rest begins uses is) = is_head_only (judge settings head)
+
+pub opens-keeps : (settings : Settings) (last : Bool) (old new : Outside) (c : Course) (o : Opens settings last old new c)
+    → Keeps (shows_head o) c 3 (standing o)
+opens-keeps settings last old new c (clean begins still is) = subst (λ (d : Course). Keeps false d 3 (at_first 0)) (sym is) ((refl, refl), (tt, λ goes. refl))
+opens-keeps settings last old new c (torn begins still is) =
+    subst (λ (d : Course). Keeps false d 3 (failing stream.TornRequest (at_first 0))) (sym is) ((refl, refl), refl)
+opens-keeps settings last old new c (failed faults rose still is) =
+    subst (λ (d : Course). Keeps false d 3 (failing stream.SourceFault (at_first 0))) (sym is) ((refl, refl), refl)
+opens-keeps settings last old new c (refused fault begins still is) =
+    subst (λ (d : Course). Keeps false d 3 (at_first 0)) (sym is) (no-head-keeps fault)
+opens-keeps settings last old new c (unread_head begins still is) =
+    subst (λ (d : Course). Keeps false d 3 (starving (at_first 0))) (sym is) ((refl, refl), (refl, refl), refl)
+opens-keeps settings last old new c (starved head rest begins uses is) =
+    subst (λ (d : Course). Keeps (is_head head) d 3 (starving (at_first 0))) (sym is) ((refl, refl), (refl, refl), refl)
+opens-keeps settings last old new c (served head rest begins uses is) =
+    let judged = judge settings head in
+    subst (λ (d : Course). Keeps (is_head_only judged) d 3 (at_first (unread_of judged))) (sym is) (judged-keeps judged last)
 
 -- a reply leaves the way that a course must end by, or memory was wanted
 abbrev Goes : Stand → Stand → Type 0
@@ -104,6 +220,8 @@ Goes old new = (new.early ≡ old.early) ⊎ ((old.early ≡ None) × (new.early
 
 looked-goes : (reply : Reply) (s : Stand) → s.early ≡ None → Goes s (looked reply s)
 looked-goes (file lease blob) s none = inl refl
+looked-goes (text bytes) s none = inl refl
+looked-goes (doc bytes digests) s none = inl refl
 looked-goes missed s none = inl refl
 looked-goes spent s none = inl refl
 looked-goes reply s none = inr (none, refl)
@@ -123,28 +241,56 @@ put-goes no_draft s none = inl refl
 put-goes store_fault s none = inl refl
 put-goes reply s none = inr (none, refl)
 
+side-goes : (reply : Reply) (s : Stand) → s.early ≡ None → Goes s (has_put_side reply s)
+side-goes agreed s none = inl refl
+side-goes (differs said kept) s none = inl refl
+side-goes not_there s none = inl refl
+side-goes reply s none = inr (none, refl)
+
+doc-goes : (reply : Reply) (s : Stand) → s.early ≡ None → Goes s (has_put_doc reply s)
+doc-goes noted s none = inl refl
+doc-goes reply s none = inr (none, refl)
+
+counts-goes : (reply : Reply) (s : Stand) → s.early ≡ None → Goes s (has_counted reply s)
+counts-goes (counts_reply files fading cached documents sessions) s none = inl refl
+counts-goes reply s none = inr (none, refl)
+
 pub reply-goes : (command : Command) (reply : Reply) (s : Stand) → MayAsk command s → Goes s (stand_after command reply s)
 reply-goes (look repo path tried) reply s may = looked-goes reply s may.1
 reply-goes (done lease) reply s may = inl refl
-reply-goes (may_put place path) reply s may = asked-goes reply s (none place may)
-  where
-    none : (place : Place) → MayAsk (may_put place path) s → s.early ≡ None
-    none (repository repo) may = may.1
-    none (session n) may = absurd may
+reply-goes (may_put (repository repo) path) reply s may = asked-goes reply s may.1
+reply-goes (may_put (session n) path) reply s may = absurd may
 reply-goes (puts repo path n blob) reply s may = put-goes reply s may.1
+reply-goes (put_side (repository repo) path said) reply s may = side-goes reply s may
+reply-goes (put_side (session n) path said) reply s may = absurd may
+reply-goes (put_doc (repository repo) path) reply s may = doc-goes reply s may
+reply-goes (put_doc (session n) path) reply s may = absurd may
 reply-goes (drop_draft n) reply s may = inl refl
+reply-goes status reply s may = counts-goes reply s may
 reply-goes _ reply s may = absurd may
 
 -- an act outside changes nothing of what is held
-pub stored-holds : (P : Option ℕ → Option ℕ → Type 0) (stored : Stored) (s : Stand) → P s.draft s.lease → P (stand_stored stored s).draft (stand_stored stored s).lease
-stored-holds P (Ok blob) s h = h
-stored-holds P (Err took.Torn) s h = h
-stored-holds P (Err took.SourceFault) s h = h
-stored-holds P (Err took.BlobFault) s h = h
-stored-holds P (Err took.NoMemory) s h = h
+module _ (P : Option ℕ → Option ℕ → Type 0) where
+  pub continued-holds : (result : Continued) (s : Stand) → P s.draft s.lease → P (stand_continued result s).draft (stand_continued result s).lease
+  continued-holds continued.Written s h = h
+  continued-holds continued.SinkFault s h = h
 
-pub sent-holds : (P : Option ℕ → Option ℕ → Type 0) (result : Sent) (s : Stand) → P s.draft s.lease → P (stand_sent result s).draft (stand_sent result s).lease
-sent-holds P sent.Whole s h = h
-sent-holds P sent.BlobFault s h = h
-sent-holds P sent.SinkFault s h = h
-sent-holds P sent.NoMemory s h = h
+  fault-holds : (fault : Took) (s : Stand) → P s.draft s.lease → P (stand_fault fault s).draft (stand_fault fault s).lease
+  fault-holds took.Torn s h = h
+  fault-holds took.SourceFault s h = h
+  fault-holds took.BlobFault s h = h
+  fault-holds took.NoMemory s h = h
+
+  pub stored-holds : (stored : Stored) (s : Stand) → P s.draft s.lease → P (stand_stored stored s).draft (stand_stored stored s).lease
+  stored-holds (Ok blob) s h = h
+  stored-holds (Err fault) s h = fault-holds fault (record s { unread = 0 }) h
+
+  pub read-holds : (body : Body) (s : Stand) → P s.draft s.lease → P (stand_read body s).draft (stand_read body s).lease
+  read-holds (Ok bytes) s h = h
+  read-holds (Err fault) s h = fault-holds fault (record s { unread = 0 }) h
+
+  pub sent-holds : (result : Sent) (s : Stand) → P s.draft s.lease → P (stand_sent result s).draft (stand_sent result s).lease
+  sent-holds sent.Whole s h = h
+  sent-holds sent.BlobFault s h = h
+  sent-holds sent.SinkFault s h = h
+  sent-holds sent.NoMemory s h = h

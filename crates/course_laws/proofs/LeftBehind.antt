@@ -5,12 +5,12 @@ use Rattle.repo_model.specs.History.{Entry, Legal, after, end as end_of}
 use Rattle.repo_model.specs.Reply.{no_draft}
 use Rattle.repo_model.specs.Settings.{Settings}
 use Rattle.repo_model.specs.State.{Lease, State, Yard}
-use Rattle.repo_course.specs.Course.{Course, asks, says, sends, stops, takes}
+use Rattle.repo_course.specs.Course.{Course, asks, continues, reads, says, sends, stops, takes}
 use Rattle.repo_course.specs.declared.outcomes.End.{End}
-use Rattle.repo_course.specs.Serving.{Follows, Outside, Serves, Turn}
-use Rattle.course_laws.specs.Duties.{HoldsNothing, Keeps, MayAsk, Stand, stand_after, stand_sent, stand_stored}
+use Rattle.repo_course.specs.Serving.{Follows, Opens, clean, torn, failed, refused, unread_head, starved, served, Outside, Serves, Turn}
+use Rattle.course_laws.specs.Duties.{HoldsNothing, Keeps, MayAsk, Stand, stand_after, stand_continued, stand_read, stand_sent, stand_stored}
 use Rattle.course_laws.specs.LeftBehind.{IsDrawn, LeavesNothing, NumbersAreBelow}
-use Rattle.course_laws.proofs.Kept.{opened_early, opens-keeps, standing, stored-holds, sent-holds}
+use Rattle.course_laws.proofs.Kept.{continued-holds, opens-keeps, read-holds, sent-holds, shows_head, standing, stored-holds}
 use Rattle.course_laws.proofs.Yards.{Holding, OwnDraft, OwnLease, step}
 
 stays : (y : Yard) → LeavesNothing y y
@@ -37,13 +37,17 @@ still_drawn old new left drawn = record {
       (rises (λ (l : Lease). l.number) old.next_lease new.next_lease old.leases left.next_lease drawn.leases);
 }
 
+-- before the first command nothing is held
+nothing-held : (y : Yard) → Holding y None None y
+nothing-held y = record { drafts = λ drawn. refl; leases = λ drawn. refl; next_draft = omega arith; next_lease = omega arith }
+
 -- what is left behind at the end of entries of which each finds its draft
 pub record Leaves (settings : Settings) (before : Yard) (entries : List Entry) (st : State) : Type 0 where
   pub nothing : IsDrawn before → LeavesNothing before (end_of settings st entries).yard
   pub found : AllByRecursion (λ (e : Entry). e.reply ≢ no_draft) entries
 
 module _ (tells : Type 0) (settings : Settings) where
-  module _ (before : Yard) where
+  module _ (before : Yard) (head_only : Bool) where
     ended : (s : Stand) (entries : List Entry) (st : State) → HoldsNothing s → Holding before s.draft s.lease st.yard → entries ≡ [] → Leaves settings before entries st
     ended s entries st none h is =
         let drafts : OwnDraft before None st.yard.drafts = subst (λ d. OwnDraft before d st.yard.drafts) none.0 h.drafts in
@@ -54,7 +58,7 @@ module _ (tells : Type 0) (settings : Settings) where
           found = tt;
         })
 
-    follows_leaves : (c : Course) (n : ℕ) (s : Stand) → Keeps c n s → (entries : List Entry) (st : State) → Legal settings st entries
+    follows_leaves : (c : Course) (n : ℕ) (s : Stand) → Keeps head_only c n s → (entries : List Entry) (st : State) → Legal settings st entries
         → Holding before s.draft s.lease st.yard → (old new : Outside) (end : Option End) → Follows tells c entries old new end → Leaves settings before entries st
     follows_leaves (asks command next) zero s k [] st legal h old new end f = absurd f
     follows_leaves (asks command next) zero s k (e ∷ entries) st legal h old new end f = absurd k
@@ -64,18 +68,32 @@ module _ (tells : Type 0) (settings : Settings) where
         let held = subst (λ c. Holding before (stand_after c e.reply s).draft (stand_after c e.reply s).lease (after settings st e).yard) f.0 now.0 in
         let rest = follows_leaves (next e.reply) n (stand_after command e.reply s) (k.1 e.reply) entries (after settings st e) legal.1 held old new end f.1 in
         record { nothing = rest.nothing; found = (now.1, rest.found) }
+    follows_leaves (continues next) n s k entries st legal h old new end f =
+        follows_leaves (next f.0) n (stand_continued f.0 s) (k.2 f.0) entries st legal
+        (continued-holds (λ d l. Holding before d l st.yard) f.0 s h) f.1 new end f.3
     follows_leaves (takes number count next) n s k entries st legal h old new end f =
-        follows_leaves (next f.0) n (stand_stored f.0 s) (k.2 f.0) entries st legal (stored-holds (λ d l. Holding before d l st.yard) f.0 s h) f.1 new end f.3
-    follows_leaves (sends blob close next) n s k entries st legal h old new end f =
-        follows_leaves (next f.0) n (stand_sent f.0 s) (k.2 f.0) entries st legal (sent-holds (λ d l. Holding before d l st.yard) f.0 s h) f.1 new end f.3
-    follows_leaves (says said close next) n s k entries st legal h old new end f = ended s entries st k.0 h f.0
+        follows_leaves (next f.0) n (stand_stored f.0 s) (k.3 f.0) entries st legal (stored-holds (λ d l. Holding before d l st.yard) f.0 s h) f.1 new end f.3
+    follows_leaves (reads count next) n s k entries st legal h old new end f =
+        follows_leaves (next f.0) n (stand_read f.0 s) (k.2 f.0) entries st legal (read-holds (λ d l. Holding before d l st.yard) f.0 s h) f.1 new end f.3
+    follows_leaves (sends blob manner next) n s k entries st legal h old new end f =
+        follows_leaves (next f.0) n (stand_sent f.0 s) (k.3 f.0) entries st legal (sent-holds (λ d l. Holding before d l st.yard) f.0 s h) f.1 new end f.3
+    follows_leaves (says said manner) n s k entries st legal h old new end f = ended s entries st k.0 h f.0
     follows_leaves (stops next) n s k entries st legal h old new end f = ended s entries st k.0 h f.0
 
   turn_leaves : (last : Bool) (entries : List Entry) (st : State) → Legal settings st entries → (old new : Outside) (end : Option End)
-      → Turn tells last entries old new end → Leaves settings st.yard entries st
+      → Turn settings tells last entries old new end → Leaves settings st.yard entries st
   turn_leaves last entries st legal old new end t =
-      follows_leaves st.yard t.0 3 (standing (opened_early t.2)) (opens-keeps last old t.1 t.0 t.2) entries st legal
-      (record { drafts = λ drawn. refl; leases = λ drawn. refl; next_draft = omega arith; next_lease = omega arith }) t.1 new end t.3
+      follows_leaves st.yard (shows_head t.2) t.0 3 (standing t.2) (opens-keeps settings last old t.1 t.0 t.2) entries st legal
+      (holds t.2) t.1 new end t.3
+    where
+      holds : {c : Course} {mid : Outside} (o : Opens settings last old mid c) → Holding st.yard (standing o).draft (standing o).lease st.yard
+      holds (clean begins still is) = nothing-held st.yard
+      holds (torn begins still is) = nothing-held st.yard
+      holds (failed faults rose still is) = nothing-held st.yard
+      holds (refused fault begins still is) = nothing-held st.yard
+      holds (unread_head begins still is) = nothing-held st.yard
+      holds (starved head rest begins uses is) = nothing-held st.yard
+      holds (served head rest begins uses is) = nothing-held st.yard
 
   pub end_append : (x : State) (xs ys : List Entry) → end_of settings x (xs ++ ys) ≡ end_of settings (end_of settings x xs) ys
   end_append x [] ys = refl
@@ -90,7 +108,7 @@ module _ (tells : Type 0) (settings : Settings) where
   all_append P (x ∷ xs) ys all more = (all.0, all_append P xs ys all.1 more)
 
   pub serves_leaves : (n : ℕ) (entries : List Entry) (st : State) → Legal settings st entries → (old new : Outside) (end : End)
-      → Serves tells n entries old new end → Leaves settings st.yard entries st
+      → Serves settings tells n entries old new end → Leaves settings st.yard entries st
   unfolding Serves
   serves_leaves zero entries st legal old new end t =
       subst (λ (es : List Entry). Leaves settings st.yard es st) (sym t.0) (record { nothing = λ drawn. stays st.yard; found = tt })

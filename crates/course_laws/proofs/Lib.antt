@@ -8,4 +8,3 @@ pub mod Told
 pub mod Early
 pub mod PlayedCourse
 pub mod PlayedStream
-pub mod OnLiterals

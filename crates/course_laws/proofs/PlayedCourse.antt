@@ -1,32 +1,35 @@
 -- A course is followed as it is played, up to where memory is wanted or the source or the sink fails, if nothing else fails.
-use Rattle.std.proofs.Common.{◌≡◌, ℕ, zero, suc, ◌≤◌, ◌<◌, Bool, arith, inl, inr, List, [], ◌∷◌, ◌++◌, length, drop, Option, Some, None, Ok, Err, IsTrue, refl, sym, subst, ap, ◌∙◌, append_assoc, append-nil, length-append}
-use Rattle.std.specs.Prelude.{IsSome, IfSome, unwrap_or}
+use Rattle.std.proofs.Common.{◌≡◌, ℕ, zero, suc, ◌≤◌, ◌<◌, Bool, true, false, arith, inl, inr, List, [], ◌∷◌, ◌++◌, length, drop, Option, Some, None, Ok, Err, IsTrue, refl, sym, subst, ap, ◌∙◌, append_assoc, append-nil, length-append}
+use Rattle.std.specs.Prelude.{IsSome, IfSome, if◌then◌else◌, unwrap_or}
 use Rattle.std.proofs.lemmas.Bool.{false≢true, lt-ltb, le-ltb}
 use Rattle.std.proofs.lemmas.Option.{none-some}
 use Rattle.std.proofs.Math.Seq.{drop-append_seam, take-append_seam}
 use Rattle.outside.specs.Faults.{Rose}
 use Rattle.outside.specs.Told.{IsWhereTold, behind, in_front}
-use Rattle.http_wire.specs.Answer.{shown}
-use Rattle.repo_model.specs.Command.{Command, look, done, may_put, put, drop_draft}
+use Rattle.http_wire.specs.Answer.{continue_bytes, shown}
+use Rattle.repo_model.specs.Command.{Command, look, done, may_put, put, put_side, put_doc, drop_draft, status}
 use Rattle.repo_model.specs.Data.{Blob}
 use Rattle.repo_model.specs.History.{Entry, Legal, after, due, wants_memory, failed, end as end_of}
-use Rattle.repo_model.specs.Reply.{Reply, file, missed, spent, draft, kind_refused, created, same, relisted, taken, no_draft, no_memory, store_fault, takes_memory}
+use Rattle.repo_model.specs.Reply.{Reply, file, text, doc, missed, spent, draft, kind_refused, created, same, relisted, taken, no_draft, no_memory, agreed, differs, not_there, noted, counts as counts_reply, store_fault, takes_memory}
 use Rattle.repo_model.specs.Settings.{Settings}
 use Rattle.repo_model.specs.State.{State}
-use Rattle.repo_course.specs.Answers.{answer_of, file_answer}
-use Rattle.repo_course.specs.Course.{Course, Stored, asks, takes, sends, says, stops}
+use Rattle.repo_course.specs.Answers.{answer_of, file_answer, memory_answer}
+use Rattle.repo_course.specs.Course.{Body, Course, Stored, asks, continues, takes, reads, sends, says, stops, end_of as manner_end}
+use Rattle.repo_course.specs.declared.manner.Manner.{Manner}
+use Rattle.repo_course.specs.declared.outcomes.Continued.{Continued}
+use Rattle.repo_course.specs.declared.outcomes.Continued.TheVariants as continued
 use Rattle.repo_course.specs.declared.outcomes.End.{End}
 use Rattle.repo_course.specs.declared.outcomes.End.TheVariants as stream
 use Rattle.repo_course.specs.declared.outcomes.Sent.{Sent}
 use Rattle.repo_course.specs.declared.outcomes.Sent.TheVariants as sent
 use Rattle.repo_course.specs.declared.outcomes.Took.TheVariants as took
 use Rattle.repo_course.specs.declared.said.Said.{Said}
-use Rattle.repo_course.specs.Serving.{Follows, Outside, Says, Sends, Takes, print_of, writes}
+use Rattle.repo_course.specs.Serving.{Continues, Follows, IsFrontOf, Outside, Reads, Says, SendsAnswer, Takes, print_of, writes}
 use Rattle.course_laws.specs.AsPlayed.{RowsTold}
-use Rattle.course_laws.specs.Duties.{by_memory, by_side, Keeps, MayAsk, Stand, asked_draft, has_put, looked, stand_after, stand_sent, stand_stored}
-use Rattle.course_laws.specs.Faultless.{Scene, due_entry, play, taken_body}
-use Rattle.course_laws.proofs.Counts.{Calm, Grew, follows-grew, not-risen, sends-grew, takes-grew}
-use Rattle.course_laws.proofs.Early.{Outcome, Ready, early-before, ends-early, no-more, outcome-before, plays-early, says-early, says-memory, sink-failed, source-failed, wrote-outcome}
+use Rattle.course_laws.specs.Duties.{by_memory, by_side, failing, starving, Keeps, MayAsk, Stand, asked_draft, has_counted, has_put, has_put_doc, has_put_side, looked, stand_after, stand_continued, stand_read, stand_sent, stand_stored}
+use Rattle.course_laws.specs.Faultless.{Scene, body_of, due_entry, play, taken_body, wrote}
+use Rattle.course_laws.proofs.Counts.{Calm, Grew, follows-grew, not-risen, reads-body-grew, sends-grew, takes-grew}
+use Rattle.course_laws.proofs.Early.{Early, Outcome, Ready, early-before, ends-early, no-more, outcome-before, plays-early, says-early, says-memory, sink-failed, source-failed, wrote-outcome}
 use Rattle.course_laws.proofs.Told.{CommandTold, ReplyTold, after-told, clock-stays, due-is, faults-are, faults-grow, moment-is, reply-told}
 
 -- what is told is these bytes, where it is told
@@ -55,6 +58,14 @@ taken-whole n count body rest blob long number bytes print =
     (rw (le-ltb (length (body ++ rest)) (length body) (omega (arith, length-append body rest)), take-append_seam body rest)
     (ap Ok (blob-is blob n body number bytes print)))
 
+body-whole : (count : ℕ) (body rest : List ℕ) → length body ≡ count → body_of count (body ++ rest) ≡ Ok body
+body-whole count body rest long =
+    subst (λ c. body_of c (body ++ rest) ≡ Ok body) long
+    (rw (le-ltb (length (body ++ rest)) (length body) (omega (arith, length-append body rest)), take-append_seam body rest) refl)
+
+body-torn : (count : ℕ) (input : List ℕ) → length input < count → body_of count input ≡ Err took.Torn
+body-torn count input short = rw (lt-ltb (length input) count short)
+
 taken-torn : (n count : ℕ) (input : List ℕ) → length input < count → taken_body n count input ≡ Err took.Torn
 taken-torn n count input short = rw (lt-ltb (length input) count short)
 
@@ -69,6 +80,8 @@ reply-in-hand (look repo path tried) reply s may told hand = looks reply told
   where
     looks : (reply : Reply) → ReplyTold reply → InHandTold (looked reply s).blob
     looks (file lease blob) told = told
+    looks (text bytes) told = hand
+    looks (doc bytes digests) told = hand
     looks missed told = hand
     looks spent told = hand
     looks _ told = hand
@@ -90,7 +103,24 @@ reply-in-hand (put repo path n blob) reply s may told hand = puts reply
     puts no_draft = hand
     puts store_fault = hand
     puts _ = hand
+reply-in-hand (put_side place path said) reply s may told hand = compares reply
+  where
+    compares : (reply : Reply) → InHandTold (has_put_side reply s).blob
+    compares agreed = hand
+    compares (differs said kept) = hand
+    compares not_there = hand
+    compares _ = hand
+reply-in-hand (put_doc place path) reply s may told hand = notes reply
+  where
+    notes : (reply : Reply) → InHandTold (has_put_doc reply s).blob
+    notes noted = hand
+    notes _ = hand
 reply-in-hand (drop_draft n) reply s may told hand = hand
+reply-in-hand status reply s may told hand = tells reply
+  where
+    tells : (reply : Reply) → InHandTold (has_counted reply s).blob
+    tells (counts_reply files fading cached documents sessions) = hand
+    tells _ = hand
 reply-in-hand _ reply s may told hand = absurd may
 
 command-in-hand : (c : Command) (s : Stand) → MayAsk c s → InHandTold s.blob → CommandTold c
@@ -103,19 +133,22 @@ memory-early (look repo path tried) s may can = refl
 memory-early (done lease) s may can = absurd (false≢true can)
 memory-early (may_put place path) s may can = refl
 memory-early (put repo path n blob) s may can = refl
+memory-early (put_side place path said) s may can = refl
+memory-early (put_doc place path) s may can = refl
 memory-early (drop_draft n) s may can = absurd (false≢true can)
+memory-early status s may can = refl
 memory-early _ s may can = absurd may
 
 -- a count that rose in the middle would be higher in the end
 risen : {P : Type 0} (before faults last : ℕ) → Rose before faults → faults ≤ last → Calm before last → P
 risen before faults last rose le calm = absurd (not-risen before faults rose (let h = calm.0 in omega arith) calm.1)
 
-module _ (settings : Settings) (tells : Type 0) (witness : tells) where
+module _ (settings : Settings) (tells : Type 0) (witness : tells) (head_only : Bool) where
   abbrev pub at : State → List ℕ → Scene
   at st input = record { state = st; input = input }
 
   abbrev Plays : Course → Type 0
-  Plays c = (n : ℕ) (s : Stand) → Keeps c n s → InHandTold s.blob → (entries : List Entry) (st : State) → Legal settings st entries
+  Plays c = (n : ℕ) (s : Stand) → Keeps head_only c n s → InHandTold s.blob → (entries : List Entry) (st : State) → Legal settings st entries
       → Calm st.faults (end_of settings st entries).faults → (old new : Outside) (end : Option End) (input before : List ℕ) → Ready old st input before
       → Calm old.blob_faults new.blob_faults → Follows tells c entries old new end
       → Outcome before (play settings c (at st input)) old new (end_of settings st entries) end
@@ -154,13 +187,95 @@ module _ (settings : Settings) (tells : Type 0) (witness : tells) where
         | wants_memory replied can did ↦
             let early = memory-early command s k.0 (subst (λ c. IsTrue (takes_memory c)) f.0 can) in
             let follows = subst (λ r. Follows tells (next r) entries old new end) replied f.1 in
-            inr (says-memory old new end before _
-            (ends-early tells (next no_memory) n (stand_after command no_memory s) by_memory (k.1 no_memory) early entries old new end follows) ready.output_is)
+            inr (says-memory head_only old new end before _
+            (ends-early tells head_only (next no_memory) n (stand_after command no_memory s) by_memory (k.1 no_memory) early entries old new end follows) ready.output_is)
         | failed replied can rose ↦ risen st.faults e.faults (end_of settings st1 entries).faults rose (omega arith) calm
       ]
 
+  -- bytes are written, and the course goes on
+  wrote-play : (all : List ℕ) (rest : Course) → Plays rest → (n : ℕ) (s : Stand) → Keeps head_only rest n s → InHandTold s.blob → (entries : List Entry) (st : State)
+      → Legal settings st entries → Calm st.faults (end_of settings st entries).faults → (old mid new : Outside) (end : Option End) (input before : List ℕ)
+      → Ready old st input before → Calm old.blob_faults new.blob_faults → mid ≡ writes all old → Follows tells rest entries mid new end
+      → Outcome before (wrote all (play settings rest (at st input))) old new (end_of settings st entries) end
+  wrote-play all rest plays n s k hand entries st legal calm old mid new end input before ready quiet mid-is follows =
+      let o = writes all old in
+      let ready' : Ready o st input (before ++ all) = record {
+        input_is = ready.input_is;
+        output_is = ap (λ out. behind out all) ready.output_is;
+        rows = ready.rows;
+        clock = ready.clock;
+      } in
+      wrote-outcome before all (play settings rest (at st input)) old new (end_of settings st entries) end
+      (outcome-before (before ++ all) _ old o new _ end (record { reads = omega arith; writes = omega arith; blobs = omega arith })
+      (plays n s k hand entries st legal calm o new end input (before ++ all) ready' quiet
+      (subst (λ m. Follows tells rest entries m new end) mid-is follows)))
+
+  -- the sink failed, and has taken a front of what was to be written
+  sink-play : (all more part : List ℕ) (rest : Course) (n : ℕ) (s : Stand) → Keeps head_only rest n (failing stream.SinkFault s) → (faults : ℕ) (entries : List Entry)
+      (st : State) (old mid new : Outside) (end : Option End) (input before : List ℕ) → Ready old st input before → Rose old.write_faults faults → IsFrontOf part all
+      → mid ≡ writes part (record old { write_faults = faults }) → Follows tells rest entries mid new end → Early before (all ++ more) old new end
+  sink-play all more part rest n s k faults entries st old mid new end input before ready rose front mid-is follows =
+      let last = ends-early tells head_only rest n (failing stream.SinkFault s) (by_side stream.SinkFault) k refl entries mid new end follows in
+      no-more before _ part old new end (front.0 ++ more, ap (λ b. b ++ more) front.1 ∙ append_assoc part front.0 more)
+      (ap (λ o. o.output) last.0 ∙ ap (λ o. o.output) mid-is ∙ ap (λ o. behind o part) ready.output_is)
+      (sink-failed old new end last.1
+      (subst (λ m. Rose old.write_faults m) (sym (ap (λ o. o.write_faults) last.0 ∙ ap (λ o. o.write_faults) mid-is)) rose))
+
+  -- the stream ends inside a body
+  torn-play : (count : ℕ) (rest : Course) (n : ℕ) (s : Stand) → Keeps head_only rest n (failing stream.TornRequest s) → (entries : List Entry) (st : State)
+      (old mid new : Outside) (end : Option End) (input before : List ℕ) → Ready old st input before → Reads count (Err took.Torn) old mid
+      → Follows tells rest entries mid new end → Outcome before (play settings rest (at st (drop count input))) old new (end_of settings st entries) end
+  torn-play count rest n s k entries st old mid new end input before ready cause follows =
+      let s1 = failing stream.TornRequest s in
+      let last = ends-early tells head_only rest n s1 (by_side stream.TornRequest) k refl entries mid new end follows in
+      let played = plays-early settings head_only rest n s1 stream.TornRequest k refl (at st (drop count input)) in
+      inl record {
+        output = ap (λ o. o.output) last.0 ∙ ap (λ o. o.output) cause.1.1 ∙ ready.output_is
+            ∙ ap Some (sym (append-nil before) ∙ ap (λ b. before ++ b) (sym played.0));
+        ends = last.1 ∙ sym played.1;
+        goes = λ none. absurd (none-some stream.TornRequest (sym none ∙ last.1));
+      }
+
+  short-of : (count : ℕ) (old mid : Outside) (st : State) (input before : List ℕ) → Ready old st input before → Reads count (Err took.Torn) old mid → length input < count
+  short-of count old mid st input before ready cause = subst (λ o. IfSome o (λ bytes. length bytes < count)) ready.input_is cause.0
+
+  -- the source fails inside a body
+  source-play : (count : ℕ) (written : List ℕ) (rest : Course) (n : ℕ) (s : Stand) → Keeps head_only rest n (failing stream.SourceFault s) → (entries : List Entry)
+      (st : State) (old mid new : Outside) (end : Option End) (input before : List ℕ) → Ready old st input before → Reads count (Err took.SourceFault) old mid
+      → Follows tells rest entries mid new end → Early before written old new end
+  source-play count written rest n s k entries st old mid new end input before ready cause follows =
+      let last = ends-early tells head_only rest n (failing stream.SourceFault s) (by_side stream.SourceFault) k refl entries mid new end follows in
+      no-more before written [] old new end (_, refl)
+      (ap (λ o. o.output) last.0 ∙ ap (λ o. o.output) cause.2.1 ∙ ready.output_is ∙ ap Some (sym (append-nil before)))
+      (source-failed old new end last.1
+      (subst (λ m. Rose old.read_faults m) (sym (ap (λ o. o.read_faults) last.0 ∙ ap (λ o. o.read_faults) cause.2.1)) cause.1))
+
+  -- memory is wanted, and nothing was written
+  memory-play : (written : List ℕ) (rest : Course) (n : ℕ) (s : Stand) → Keeps head_only rest n (starving s) → (entries : List Entry) (st : State) (old mid new : Outside)
+      (end : Option End) (input before : List ℕ) → Ready old st input before → Grew old mid → mid.output ≡ old.output → Follows tells rest entries mid new end
+      → Early before written old new end
+  memory-play written rest n s k entries st old mid new end input before ready first kept follows =
+      let said = ends-early tells head_only rest n (starving s) by_memory k refl entries mid new end follows in
+      early-before before written old mid new end first (says-memory head_only mid new end before written said (kept ∙ ready.output_is))
+
+  unwritten : (count : ℕ) (old mid : Outside) → Reads count (Err took.NoMemory) old mid → mid.output ≡ old.output
+  unwritten count old mid (inl still) = ap (λ o. o.output) still
+  unwritten count old mid (inr t) = ap (λ o. o.output) t.1.3
+
+  continues-play : (next : Continued → Course) → ((result : Continued) → Plays (next result)) → (result : Continued) (n : ℕ) (s : Stand)
+      → Keeps head_only (continues next) n s → InHandTold s.blob → (entries : List Entry) (st : State) → Legal settings st entries → Calm st.faults (end_of settings st entries).faults
+      → (old mid new : Outside) (end : Option End) (input before : List ℕ) → Ready old st input before → Calm old.blob_faults new.blob_faults
+      → Continues result old mid → Follows tells (next result) entries mid new end
+      → Outcome before (play settings (continues next) (at st input)) old new (end_of settings st entries) end
+  continues-play next ih continued.Written n s k hand entries st legal calm old mid new end input before ready quiet cause follows =
+      wrote-play continue_bytes (next continued.Written) (ih continued.Written) n (stand_continued continued.Written s) (k.2 continued.Written) hand entries st legal calm
+      old mid new end input before ready quiet cause follows
+  continues-play next ih continued.SinkFault n s k hand entries st legal calm old mid new end input before ready quiet cause follows =
+      inr (sink-play continue_bytes (play settings (next continued.Written) (at st input)).written cause.1 (next continued.SinkFault) n s (k.2 continued.SinkFault) cause.0
+      entries st old mid new end input before ready cause.2 cause.3 cause.4 follows)
+
   takes-play : (number count : ℕ) (next : Stored → Course) → ((stored : Stored) → Plays (next stored)) → (stored : Stored) (n : ℕ) (s : Stand)
-      → Keeps (takes number count next) n s → InHandTold s.blob → (entries : List Entry) (st : State) → Legal settings st entries → Calm st.faults (end_of settings st entries).faults
+      → Keeps head_only (takes number count next) n s → InHandTold s.blob → (entries : List Entry) (st : State) → Legal settings st entries → Calm st.faults (end_of settings st entries).faults
       → (old mid new : Outside) (end : Option End) (input before : List ℕ) → Ready old st input before → Calm old.blob_faults new.blob_faults
       → Grew old mid → Grew mid new → Takes tells number count stored old mid → Follows tells (next stored) entries mid new end
       → Outcome before (play settings (takes number count next) (at st input)) old new (end_of settings st entries) end
@@ -177,7 +292,7 @@ module _ (settings : Settings) (tells : Type 0) (witness : tells) where
         rows = ready.rows;
         clock = ready.clock;
       } in
-      let done = ih (Ok blob) n (stand_stored (Ok blob) s) (k.2 (Ok blob)) some entries st legal calm o new end got.0 before ready' quiet
+      let done = ih (Ok blob) n (stand_stored (Ok blob) s) (k.3 (Ok blob)) some entries st legal calm o new end got.0 before ready' quiet
       (subst (λ m. Follows tells (next (Ok blob)) entries m new end) mid-is follows) in
       let whole-is : taken_body number count input ≡ Ok blob =
       ap (taken_body number count) got.2 ∙ taken-whole number count body got.0 blob cause.1.1 cause.2 told cause.3 in
@@ -186,86 +301,93 @@ module _ (settings : Settings) (tells : Type 0) (witness : tells) where
       (λ i. (sym whole-is i, sym rest-is i))
       (outcome-before before _ old o new _ end (record { reads = omega arith; writes = omega arith; blobs = omega arith }) done)
   takes-play number count next ih (Err took.Torn) n s k hand entries st legal calm old mid new end input before ready quiet first grows cause follows =
-      let short = subst (λ o. IfSome o (λ bytes. length bytes < count)) ready.input_is cause.0 in
-      let s1 = stand_stored (Err took.Torn) s in
-      let last = ends-early tells (next (Err took.Torn)) n s1 (by_side stream.TornRequest) (k.2 (Err took.Torn)) refl entries mid new end follows in
-      let scene : Scene = at st (drop count input) in
-      let played = plays-early settings (next (Err took.Torn)) n s1 stream.TornRequest (k.2 (Err took.Torn)) refl scene in
-      let done : Outcome before (play settings (next (Err took.Torn)) scene) old new (end_of settings st entries) end = inl record {
-        output = ap (λ o. o.output) last.0 ∙ ap (λ o. o.output) cause.1.1 ∙ ready.output_is
-            ∙ ap Some (sym (append-nil before) ∙ ap (λ b. before ++ b) (sym played.0));
-        ends = last.1 ∙ sym played.1;
-        goes = λ none. absurd (none-some stream.TornRequest (sym none ∙ last.1));
-      } in
-      subst (λ r. Outcome before (play settings (next r) scene) old new (end_of settings st entries) end) (sym (taken-torn number count input short)) done
+      subst (λ r. Outcome before (play settings (next r) (at st (drop count input))) old new (end_of settings st entries) end)
+      (sym (taken-torn number count input (short-of count old mid st input before ready cause)))
+      (torn-play count (next (Err took.Torn)) n (record s { unread = 0 }) (k.3 (Err took.Torn)) entries st old mid new end input before ready cause follows)
   takes-play number count next ih (Err took.SourceFault) n s k hand entries st legal calm old mid new end input before ready quiet first grows cause follows =
-      let last = ends-early tells (next (Err took.SourceFault)) n (stand_stored (Err took.SourceFault) s) (by_side stream.SourceFault) (k.2 (Err took.SourceFault)) refl entries mid new end follows in
-      inr (no-more before _ [] old new end (_, refl)
-      (ap (λ o. o.output) last.0 ∙ ap (λ o. o.output) cause.2.1 ∙ ready.output_is ∙ ap Some (sym (append-nil before)))
-      (source-failed old new end last.1
-      (subst (λ m. Rose old.read_faults m) (sym (ap (λ o. o.read_faults) last.0 ∙ ap (λ o. o.read_faults) cause.2.1)) cause.1)))
+      inr (source-play count _ (next (Err took.SourceFault)) n (record s { unread = 0 }) (k.3 (Err took.SourceFault)) entries st old mid new end input before ready cause follows)
   takes-play number count next ih (Err took.BlobFault) n s k hand entries st legal calm old mid new end input before ready quiet first grows cause follows =
       risen old.blob_faults cause.0 new.blob_faults cause.2 (subst (λ m. m ≤ new.blob_faults) (ap (λ o. o.blob_faults) cause.3.3) grows.blobs) quiet
   takes-play number count next ih (Err took.NoMemory) n s k hand entries st legal calm old mid new end input before ready quiet first grows cause follows =
-      let said = ends-early tells (next (Err took.NoMemory)) n (stand_stored (Err took.NoMemory) s) by_memory (k.2 (Err took.NoMemory)) refl entries mid new end follows in
-      inr (early-before before _ old mid new end first (says-memory mid new end before _ said (kept cause ∙ ready.output_is)))
-    where
-      kept : Takes tells number count (Err took.NoMemory) old mid → mid.output ≡ old.output
-      kept (inl still) = ap (λ o. o.output) still
-      kept (inr t) = ap (λ o. o.output) t.1.3
+      inr (memory-play _ (next (Err took.NoMemory)) n (record s { unread = 0 }) (k.3 (Err took.NoMemory)) entries st old mid new end input before ready first
+      (unwritten count old mid cause) follows)
 
-  sends-play : (blob : Blob) (close : Bool) (next : Sent → Course) → ((result : Sent) → Plays (next result)) → (result : Sent) (n : ℕ) (s : Stand)
-      → Keeps (sends blob close next) n s → InHandTold s.blob → (entries : List Entry) (st : State) → Legal settings st entries → Calm st.faults (end_of settings st entries).faults
+  reads-play : (count : ℕ) (next : Body → Course) → ((body : Body) → Plays (next body)) → (body : Body) (n : ℕ) (s : Stand)
+      → Keeps head_only (reads count next) n s → InHandTold s.blob → (entries : List Entry) (st : State) → Legal settings st entries → Calm st.faults (end_of settings st entries).faults
       → (old mid new : Outside) (end : Option End) (input before : List ℕ) → Ready old st input before → Calm old.blob_faults new.blob_faults
-      → Grew old mid → Grew mid new → Sends blob (shown (file_answer blob close)) result old mid → Follows tells (next result) entries mid new end
-      → Outcome before (play settings (sends blob close next) (at st input)) old new (end_of settings st entries) end
-  sends-play blob close next ih sent.Whole n s k hand entries st legal calm old mid new end input before ready quiet first grows cause follows =
-      let head = shown (file_answer blob close) in
-      let bytes = bytes-are blob.bytes cause.0 (subst (λ b. InHandTold b) k.0 hand) cause.1 in
-      let all = head ++ unwrap_or blob.bytes [] in
-      let o = writes all old in
-      let mid-is : mid ≡ o = cause.2 ∙ ap (λ b. writes (head ++ b) old) (sym bytes) in
-      let ready' : Ready o st input (before ++ all) = record {
-        input_is = ready.input_is;
-        output_is = ap (λ out. behind out all) ready.output_is;
+      → Grew old mid → Reads count body old mid → Follows tells (next body) entries mid new end
+      → Outcome before (play settings (reads count next) (at st input)) old new (end_of settings st entries) end
+  reads-play count next ih (Ok body) n s k hand entries st legal calm old mid new end input before ready quiet first cause follows =
+      let got = front-of input body cause.0 (sym ready.input_is ∙ cause.2) in
+      let o : Outside = record old { input = Some got.0 } in
+      let mid-is : mid ≡ o = cause.3 ∙ ap (λ i. record old { input = i }) got.1 in
+      let ready' : Ready o st got.0 before = record {
+        input_is = refl;
+        output_is = ready.output_is;
         rows = ready.rows;
         clock = ready.clock;
       } in
-      wrote-outcome before all (play settings (next sent.Whole) (at st input)) old new (end_of settings st entries) end
-      (outcome-before (before ++ all) _ old o new _ end (record { reads = omega arith; writes = omega arith; blobs = omega arith })
-      (ih sent.Whole n s (k.2 sent.Whole) hand entries st legal calm o new end input (before ++ all) ready' quiet
-      (subst (λ m. Follows tells (next sent.Whole) entries m new end) mid-is follows)))
-  sends-play blob close next ih sent.BlobFault n s k hand entries st legal calm old mid new end input before ready quiet first grows cause follows =
+      let done = ih (Ok body) n (stand_read (Ok body) s) (k.2 (Ok body)) hand entries st legal calm o new end got.0 before ready' quiet
+      (subst (λ m. Follows tells (next (Ok body)) entries m new end) mid-is follows) in
+      let whole-is : body_of count input ≡ Ok body = ap (body_of count) got.2 ∙ body-whole count body got.0 cause.1 in
+      let rest-is : drop count input ≡ got.0 = (λ i. drop (sym cause.1 i) (got.2 i)) ∙ drop-append_seam body got.0 in
+      subst (λ (p : Body × List ℕ). Outcome before (play settings (next p.0) (at st p.1)) old new (end_of settings st entries) end)
+      (λ i. (sym whole-is i, sym rest-is i))
+      (outcome-before before _ old o new _ end (record { reads = omega arith; writes = omega arith; blobs = omega arith }) done)
+  reads-play count next ih (Err took.Torn) n s k hand entries st legal calm old mid new end input before ready quiet first cause follows =
+      subst (λ r. Outcome before (play settings (next r) (at st (drop count input))) old new (end_of settings st entries) end)
+      (sym (body-torn count input (short-of count old mid st input before ready cause)))
+      (torn-play count (next (Err took.Torn)) n (record s { unread = 0 }) (k.2 (Err took.Torn)) entries st old mid new end input before ready cause follows)
+  reads-play count next ih (Err took.SourceFault) n s k hand entries st legal calm old mid new end input before ready quiet first cause follows =
+      inr (source-play count _ (next (Err took.SourceFault)) n (record s { unread = 0 }) (k.2 (Err took.SourceFault)) entries st old mid new end input before ready cause follows)
+  reads-play count next ih (Err took.BlobFault) n s k hand entries st legal calm old mid new end input before ready quiet first cause follows = absurd cause
+  reads-play count next ih (Err took.NoMemory) n s k hand entries st legal calm old mid new end input before ready quiet first cause follows =
+      inr (memory-play _ (next (Err took.NoMemory)) n (record s { unread = 0 }) (k.2 (Err took.NoMemory)) entries st old mid new end input before ready first
+      (unwritten count old mid cause) follows)
+
+  -- a file's answer, or its head alone
+  sends-play : (only : Bool) (blob : Blob) (head : List ℕ) (next : Sent → Course) → ((result : Sent) → Plays (next result)) → (result : Sent) (n : ℕ) (s : Stand)
+      → s.blob ≡ Some blob → ((result : Sent) → Keeps head_only (next result) n (stand_sent result s)) → InHandTold s.blob → (entries : List Entry) (st : State)
+      → Legal settings st entries → Calm st.faults (end_of settings st entries).faults → (old mid new : Outside) (end : Option End) (input before : List ℕ)
+      → Ready old st input before → Calm old.blob_faults new.blob_faults → Grew old mid → Grew mid new → SendsAnswer only blob head result old mid
+      → Follows tells (next result) entries mid new end
+      → Outcome before (wrote (head ++ (if only then [] else unwrap_or blob.bytes [])) (play settings (next sent.Whole) (at st input))) old new (end_of settings st entries) end
+  sends-play true blob head next ih sent.Whole n s is k hand entries st legal calm old mid new end input before ready quiet first grows cause follows =
+      subst (λ all. Outcome before (wrote all (play settings (next sent.Whole) (at st input))) old new (end_of settings st entries) end) (sym (append-nil head))
+      (wrote-play head (next sent.Whole) (ih sent.Whole) n s (k sent.Whole) hand entries st legal calm old mid new end input before ready quiet cause follows)
+  sends-play true blob head next ih sent.BlobFault n s is k hand entries st legal calm old mid new end input before ready quiet first grows cause follows = absurd cause
+  sends-play true blob head next ih sent.SinkFault n s is k hand entries st legal calm old mid new end input before ready quiet first grows cause follows =
+      inr (sink-play (head ++ []) (play settings (next sent.Whole) (at st input)).written cause.1 (next sent.SinkFault) n s (k sent.SinkFault) cause.0
+      entries st old mid new end input before ready cause.2 (cause.3.0, append-nil head ∙ cause.3.1) cause.4 follows)
+  sends-play true blob head next ih sent.NoMemory n s is k hand entries st legal calm old mid new end input before ready quiet first grows cause follows =
+      inr (memory-play _ (next sent.NoMemory) n s (k sent.NoMemory) entries st old mid new end input before ready first (ap (λ o. o.output) cause) follows)
+  sends-play false blob head next ih sent.Whole n s is k hand entries st legal calm old mid new end input before ready quiet first grows cause follows =
+      let bytes = bytes-are blob.bytes cause.0 (subst (λ b. InHandTold b) is hand) cause.1 in
+      wrote-play (head ++ unwrap_or blob.bytes []) (next sent.Whole) (ih sent.Whole) n s (k sent.Whole) hand entries st legal calm old mid new end input before ready quiet
+      (cause.2 ∙ ap (λ b. writes (head ++ b) old) (sym bytes)) follows
+  sends-play false blob head next ih sent.BlobFault n s is k hand entries st legal calm old mid new end input before ready quiet first grows cause follows =
       risen old.blob_faults cause.0 new.blob_faults cause.1 (subst (λ m. m ≤ new.blob_faults) (ap (λ o. o.blob_faults) cause.2) grows.blobs) quiet
-  sends-play blob close next ih sent.SinkFault n s k hand entries st legal calm old mid new end input before ready quiet first grows cause follows =
-      let head = shown (file_answer blob close) in
-      let last = ends-early tells (next sent.SinkFault) n (stand_sent sent.SinkFault s) (by_side stream.SinkFault) (k.2 sent.SinkFault) refl entries mid new end follows in
-      let bytes = bytes-are blob.bytes cause.1 (subst (λ b. InHandTold b) k.0 hand) cause.4 in
-      let more = (play settings (next sent.Whole) (at st input)).written in
-      inr (no-more before _ cause.2 old new end (
-        cause.5.0 ++ more,
-        ap (λ b. (head ++ b) ++ more) bytes ∙ ap (λ b. b ++ more) cause.5.1 ∙ append_assoc cause.2 cause.5.0 more,
-      )
-      (ap (λ o. o.output) last.0 ∙ ap (λ o. o.output) cause.6 ∙ ap (λ o. behind o cause.2) ready.output_is)
-      (sink-failed old new end last.1
-      (subst (λ m. Rose old.write_faults m) (sym (ap (λ o. o.write_faults) last.0 ∙ ap (λ o. o.write_faults) cause.6)) cause.3)))
-  sends-play blob close next ih sent.NoMemory n s k hand entries st legal calm old mid new end input before ready quiet first grows cause follows =
-      let said = ends-early tells (next sent.NoMemory) n (stand_sent sent.NoMemory s) by_memory (k.2 sent.NoMemory) refl entries mid new end follows in
-      inr (early-before before _ old mid new end first (says-memory mid new end before _ said (ap (λ o. o.output) cause ∙ ready.output_is)))
+  sends-play false blob head next ih sent.SinkFault n s is k hand entries st legal calm old mid new end input before ready quiet first grows cause follows =
+      let bytes = bytes-are blob.bytes cause.1 (subst (λ b. InHandTold b) is hand) cause.4 in
+      inr (sink-play (head ++ unwrap_or blob.bytes []) (play settings (next sent.Whole) (at st input)).written cause.2 (next sent.SinkFault) n s (k sent.SinkFault) cause.0
+      entries st old mid new end input before ready cause.3 (cause.5.0, ap (λ b. head ++ b) bytes ∙ cause.5.1) cause.6 follows)
+  sends-play false blob head next ih sent.NoMemory n s is k hand entries st legal calm old mid new end input before ready quiet first grows cause follows =
+      inr (memory-play _ (next sent.NoMemory) n s (k sent.NoMemory) entries st old mid new end input before ready first (ap (λ o. o.output) cause) follows)
 
   -- an answer at the end of a turn, or nothing written there
-  says-play : (said : Said) (close : Bool) (next : Option End) (st : State) (old new : Outside) (end : Option End) (input before : List ℕ) → Ready old st input before
-      → Says (answer_of said close) next old new end → Outcome before (play settings (says said close next) (at st input)) old new st end
-  says-play said close next st old new end input before ready said-it =
-      elim (says-early (answer_of said close) next old new end before said-it ready.output_is) [
+  says-play : (said : Said) (manner : Manner) (st : State) (old new : Outside) (end : Option End) (input before : List ℕ) → Ready old st input before
+      → Says (answer_of said manner) (memory_answer manner.head_only) (manner_end manner) old new end
+      → Outcome before (play settings (says said manner) (at st input)) old new st end
+  says-play said manner st old new end input before ready said-it =
+      elim (says-early (answer_of said manner) manner.head_only (manner_end manner) old new end before said-it ready.output_is) [
         | inl w ↦ inl record {
           output = w.1;
           ends = w.2;
           goes = λ none. record {
-            ready = subst (λ o. Ready o st input (before ++ shown (answer_of said close))) (sym w.0)
+            ready = subst (λ o. Ready o st input (before ++ shown (answer_of said manner))) (sym w.0)
                 (record {
                   input_is = ready.input_is;
-                  output_is = ap (λ o. behind o (shown (answer_of said close))) ready.output_is;
+                  output_is = ap (λ o. behind o (shown (answer_of said manner))) ready.output_is;
                   rows = ready.rows;
                   clock = ready.clock;
                 });
@@ -292,15 +414,21 @@ module _ (settings : Settings) (tells : Type 0) (witness : tells) where
   pub course-play : (c : Course) → Plays c
   course-play (asks command next) n s k hand entries st legal calm old new end input before ready quiet f =
       asks-play command next (λ r. course-play (next r)) n s k hand entries st legal calm old new end input before ready quiet f
+  course-play (continues next) n s k hand entries st legal calm old new end input before ready quiet f =
+      continues-play next (λ r. course-play (next r)) f.0 n s k hand entries st legal calm old f.1 new end input before ready quiet f.2 f.3
   course-play (takes number count next) n s k hand entries st legal calm old new end input before ready quiet f =
       takes-play number count next (λ r. course-play (next r)) f.0 n s k hand entries st legal calm old f.1 new end input before ready quiet
       (takes-grew tells number count f.0 old f.1 f.2) (follows-grew tells (next f.0) entries f.1 new end f.3) f.2 f.3
-  course-play (sends blob close next) n s k hand entries st legal calm old new end input before ready quiet f =
-      sends-play blob close next (λ r. course-play (next r)) f.0 n s k hand entries st legal calm old f.1 new end input before ready quiet
-      (sends-grew blob (shown (file_answer blob close)) f.0 old f.1 f.2) (follows-grew tells (next f.0) entries f.1 new end f.3) f.2 f.3
-  course-play (says said close next) n s k hand entries st legal calm old new end input before ready quiet f =
-      subst (λ (es : List Entry). Outcome before (play settings (says said close next) (at st input)) old new (end_of settings st es) end) (sym f.0)
-      (says-play said close next st old new end input before ready f.1)
+  course-play (reads count next) n s k hand entries st legal calm old new end input before ready quiet f =
+      reads-play count next (λ r. course-play (next r)) f.0 n s k hand entries st legal calm old f.1 new end input before ready quiet
+      (reads-body-grew count f.0 old f.1 f.2) f.2 f.3
+  course-play (sends blob manner next) n s k hand entries st legal calm old new end input before ready quiet f =
+      let head = shown (file_answer blob manner) in
+      sends-play manner.head_only blob head next (λ r. course-play (next r)) f.0 n s k.0 k.3 hand entries st legal calm old f.1 new end input before ready quiet
+      (sends-grew manner.head_only blob head f.0 old f.1 f.2) (follows-grew tells (next f.0) entries f.1 new end f.3) f.2 f.3
+  course-play (says said manner) n s k hand entries st legal calm old new end input before ready quiet f =
+      subst (λ (es : List Entry). Outcome before (play settings (says said manner) (at st input)) old new (end_of settings st es) end) (sym f.0)
+      (says-play said manner st old new end input before ready f.1)
   course-play (stops next) n s k hand entries st legal calm old new end input before ready quiet f =
       subst (λ (es : List Entry). Outcome before (play settings (stops next) (at st input)) old new (end_of settings st es) end) (sym f.0)
       (stops-play next st old new end input before ready f.1 f.2)

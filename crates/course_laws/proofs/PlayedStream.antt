@@ -1,5 +1,5 @@
 -- A stream is served as it is played, up to where memory is wanted or the source or the sink fails, if nothing else fails.
-use Rattle.std.proofs.Common.{◌≡◌, ℕ, zero, suc, Bool, true, arith, inl, inr, List, [], ◌++◌, Option, Some, None, refl, sym, subst, ap, ◌∙◌, append_assoc, append-nil}
+use Rattle.std.proofs.Common.{◌≡◌, ℕ, zero, suc, Bool, false, arith, inl, inr, List, [], ◌++◌, Option, Some, None, refl, sym, subst, ap, ◌∙◌, append_assoc, append-nil}
 use Rattle.std.specs.Prelude.{◌==◌}
 use Rattle.std.proofs.lemmas.Option.{none-some}
 use Rattle.outside.specs.Faults.{Rose}
@@ -9,19 +9,19 @@ use Rattle.http_wire.specs.Head.{Head}
 use Rattle.repo_model.specs.History.{Entry, Legal, end as end_of}
 use Rattle.repo_model.specs.Settings.{Settings}
 use Rattle.repo_model.specs.State.{State}
-use Rattle.repo_course.specs.Answers.{answer_of, memory_answer}
-use Rattle.repo_course.specs.Course.{Course, bad_head, course, course_of}
+use Rattle.repo_routes.specs.Framing.{is_head}
+use Rattle.repo_routes.specs.Judge.{judge}
+use Rattle.repo_course.specs.Answers.{memory_answer}
+use Rattle.repo_course.specs.Course.{Course, course_of}
 use Rattle.repo_course.specs.declared.outcomes.End.{End}
 use Rattle.repo_course.specs.declared.outcomes.End.TheVariants as stream
-use Rattle.repo_course.specs.declared.said.Said.TheVariants.{BadHead}
-use Rattle.repo_course.specs.Plain.{Plain, plain}
-use Rattle.repo_course.specs.Serving.{Begins, Follows, IsFrontOf, IsRefused, IsWhole, Opens, clean, torn, failed, starved, refused, served, Outside, ReadsOn, Says, Serves, Turn}
+use Rattle.repo_course.specs.Serving.{Begins, Follows, IsFrontOf, IsWhole, Opens, clean, torn, failed, refused, unread_head, starved, served, Outside, Serves, Turn}
 use Rattle.course_laws.specs.AsPlayed.{BeginsAt, IsAsPlayed, in_full, wants_memory, IsPlayedUpTo, unbroken, broken, NoFaults, StoodStill}
-use Rattle.course_laws.specs.Duties.{Keeps, Stand, by_side}
+use Rattle.course_laws.specs.Duties.{Keeps, Stand, at_first, failing, is_head_only, unread_of}
 use Rattle.course_laws.specs.Faultless.{Played, Scene, play, play_turn, play_stream, then_play, wrote}
-use Rattle.course_laws.proofs.Counts.{Calm, Grew, calm-first, calm-then, follows-grew, not-risen, opens-grew, rose-before, serves-grew, turn-grew, uses-reads}
-use Rattle.course_laws.proofs.Early.{Outcome, Ready, early-before, no-more, outcome-before, says-early, says-memory, source-failed}
-use Rattle.course_laws.proofs.Kept.{opens-keeps, opened_early, standing}
+use Rattle.course_laws.proofs.Counts.{Calm, Grew, calm-first, calm-then, follows-grew, not-risen, opens-grew, rose-before, serves-grew, turn-grew}
+use Rattle.course_laws.proofs.Early.{Outcome, Ready, early-before, no-more, outcome-before, says-memory, source-failed}
+use Rattle.course_laws.proofs.Kept.{opens-keeps, shows_head, standing}
 use Rattle.course_laws.proofs.LeftBehind.{end_append, legal_cut}
 use Rattle.course_laws.proofs.PlayedCourse.{InHandTold, course-play}
 use Rattle.course_laws.proofs.Told.{faults-grow}
@@ -30,23 +30,23 @@ wrote-played : (before first : List ℕ) (p : Played End) (output : Option (List
     → IsAsPlayed (before ++ first) p output end → IsAsPlayed before (wrote first p) output end
 wrote-played before first p output end (in_full out ends) =
     in_full (subst (λ b. output ≡ Some b) (append_assoc before first p.written) out) ends
-wrote-played before first p output end (wants_memory part is-front out ends) =
-    wants_memory (first ++ part) (is-front.0, ap (λ b. first ++ b) is-front.1 ∙ sym (append_assoc first part is-front.0))
-    (subst (λ b. output ≡ Some (b ++ shown memory_answer)) (append_assoc before first part) out) ends
+wrote-played before first p output end (wants_memory part head_only is-front out ends) =
+    wants_memory (first ++ part) head_only (is-front.0, ap (λ b. first ++ b) is-front.1 ∙ sym (append_assoc first part is-front.0))
+    (subst (λ b. output ≡ Some (b ++ shown (memory_answer head_only))) (append_assoc before first part) out) ends
 
 wrote-upto : (before first : List ℕ) (p : Played End) (old new : Outside) (end : End)
     → IsPlayedUpTo (before ++ first) p old new end → IsPlayedUpTo before (wrote first p) old new end
 wrote-upto before first p old new end (unbroken played) = unbroken (wrote-played before first p new.output end played)
-wrote-upto before first p old new end (broken front part is-front is-part out broke) =
-    broken (first ++ front) part (is-front.0, ap (λ b. first ++ b) is-front.1 ∙ sym (append_assoc first front is-front.0)) is-part
+wrote-upto before first p old new end (broken front part head_only is-front is-part out broke) =
+    broken (first ++ front) part head_only (is-front.0, ap (λ b. first ++ b) is-front.1 ∙ sym (append_assoc first front is-front.0)) is-part
     (subst (λ b. new.output ≡ Some (b ++ part)) (append_assoc before first front) out) broke
 
 -- seen from an earlier world
 upto-before : (before : List ℕ) (p : Played End) (old mid new : Outside) (end : End) → Grew old mid
     → IsPlayedUpTo before p mid new end → IsPlayedUpTo before p old new end
 upto-before before p old mid new end g (unbroken played) = unbroken played
-upto-before before p old mid new end g (broken front part is-front is-part out broke) =
-    broken front part is-front is-part out (elim broke [
+upto-before before p old mid new end g (broken front part head_only is-front is-part out broke) =
+    broken front part head_only is-front is-part out (elim broke [
       | inl s ↦ inl (s.0, rose-before old.read_faults mid.read_faults new.read_faults g.reads s.1)
       | inr s ↦ inr (s.0, rose-before old.write_faults mid.write_faults new.write_faults g.writes s.1)
     ])
@@ -66,17 +66,18 @@ module _ (settings : Settings) (tells : Type 0) (witness : tells) where
   Turned last f st input before old new st' end = Outcome before (play_turn settings last f (record { state = st; input = input })) old new st' end
 
   -- a course behind what was read, from where it stands
-  played : (c : Course) (s : Stand) → Keeps c 3 s → s.blob ≡ None → (entries : List Entry) (st : State) → Legal settings st entries → Calm st.faults (end_of settings st entries).faults
+  played : (head_only : Bool) (c : Course) (s : Stand) → Keeps head_only c 3 s → s.blob ≡ None → (entries : List Entry) (st : State) → Legal settings st entries
+      → Calm st.faults (end_of settings st entries).faults
       → (old mid new : Outside) (end : Option End) (input before : List ℕ) → Ready mid st input before → Calm mid.blob_faults new.blob_faults → Grew old mid
       → Follows tells c entries mid new end → Outcome before (play settings c (record { state = st; input = input })) old new (end_of settings st entries) end
-  played c s k none entries st legal calm old mid new end input before ready quiet g f =
+  played head_only c s k none entries st legal calm old mid new end input before ready quiet g f =
       outcome-before before _ old mid new _ end g
-      (course-play settings tells witness c 3 s k (subst (λ b. InHandTold b) (sym none) tt) entries st legal calm mid new end input before ready quiet f)
+      (course-play settings tells witness head_only c 3 s k (subst (λ b. InHandTold b) (sym none) tt) entries st legal calm mid new end input before ready quiet f)
 
   -- the source alone was read
-  ready-on : (old mid : Outside) (st : State) (input before : List ℕ) (rest : Option (List ℕ)) → Ready old st input before → mid ≡ record old { input = rest } → rest ≡ Some input
-      → Ready mid st input before
-  ready-on old mid st input before rest ready on is = record {
+  ready-on : (old mid : Outside) (st : State) (input behind before : List ℕ) (rest : Option (List ℕ)) → Ready old st input before → mid ≡ record old { input = rest }
+      → rest ≡ Some behind → Ready mid st behind before
+  ready-on old mid st input behind before rest ready on is = record {
     input_is = ap (λ o. o.input) on ∙ is;
     output_is = ap (λ o. o.output) on ∙ ready.output_is;
     rows = ready.rows;
@@ -86,74 +87,63 @@ module _ (settings : Settings) (tells : Type 0) (witness : tells) where
   abbrev Outcomes : Course → List ℕ → List ℕ → Outside → Outside → State → State → Option End → Type 0
   Outcomes c input before old new st st' end = Outcome before (play settings c (record { state = st; input = input })) old new st' end
 
-  -- a refusal that ends the stream, whatever bytes were used
-  refused-with : (old mid new : Outside) (st st' : State) (end : Option End) (input before rest : List ℕ) → Ready old st input before → ReadsOn old mid → Grew old mid
-      → Says (answer_of BadHead true) (Some stream.Closed) mid new end → Outcomes bad_head rest before old new st st' end
-  refused-with old mid new st st' end input before rest ready reads g said =
-      elim (says-early (answer_of BadHead true) (Some stream.Closed) mid new end before said (ap (λ o. o.output) reads.1 ∙ ready.output_is)) [
-        | inl w ↦ inl record { output = w.1; ends = w.2; goes = λ none. absurd (none-some stream.Closed (sym none ∙ w.2)) }
-        | inr m ↦ inr (early-before before (shown (answer_of BadHead true)) old mid new end g m)
-      ]
-
-  refused-turn : (last : Bool) (f : Front) → IsRefused f → (old new : Outside) (st st' : State) (end : Option End) (input before : List ℕ)
-      → ((rest : List ℕ) → Outcomes bad_head rest before old new st st' end) → Turned last f st input before old new st' end
-  refused-turn last Clean bad old new st st' end input before done = absurd bad
-  refused-turn last Cut bad old new st st' end input before done = absurd bad
-  refused-turn last (Bad fault) bad old new st st' end input before done = done input
-  refused-turn last (Whole head rest) bad old new st st' end input before done =
-      subst (λ r. Outcomes (course_of r last) rest before old new st st' end) (sym bad) (done rest)
-
-  served-turn : (last : Bool) (f : Front) (head : Head) (request : Plain) (rest : Option (List ℕ)) → plain head ≡ Some request → IsWhole head rest f
+  served-turn : (last : Bool) (f : Front) (head : Head) (rest : Option (List ℕ)) → IsWhole head rest f
       → (old new : Outside) (st st' : State) (end : Option End) (input before : List ℕ)
-      → ((behind : List ℕ) → rest ≡ Some behind → Outcomes (course request last) behind before old new st st' end) → Turned last f st input before old new st' end
-  served-turn last Clean head request rest judged comes old new st st' end input before done = absurd comes
-  served-turn last Cut head request rest judged comes old new st st' end input before done = absurd comes
-  served-turn last (Bad fault) head request rest judged comes old new st st' end input before done = absurd comes
-  served-turn last (Whole what behind) head request rest judged comes old new st st' end input before done =
-      subst (λ r. Outcomes (course_of r last) behind before old new st st' end) (sym (ap plain comes.0 ∙ judged)) (done behind comes.1)
+      → ((behind : List ℕ) → rest ≡ Some behind → Outcomes (course_of (judge settings head) last) behind before old new st st' end)
+      → Turned last f st input before old new st' end
+  served-turn last Clean head rest comes old new st st' end input before done = absurd comes
+  served-turn last Cut head rest comes old new st st' end input before done = absurd comes
+  served-turn last (Bad fault) head rest comes old new st st' end input before done = absurd comes
+  served-turn last (Whole what behind) head rest comes old new st st' end input before done =
+      subst (λ h. Outcomes (course_of (judge settings h) last) behind before old new st st' end) (sym comes.0) (done behind comes.1)
 
   turn-play : (last : Bool) (entries : List Entry) (st : State) → Legal settings st entries → Calm st.faults (end_of settings st entries).faults
       → (old new : Outside) (end : Option End) (input before : List ℕ) → Ready old st input before → Calm old.blob_faults new.blob_faults
-      → Turn tells last entries old new end → Turned last (front input) st input before old new (end_of settings st entries) end
+      → Turn settings tells last entries old new end → Turned last (front input) st input before old new (end_of settings st entries) end
   turn-play last entries st legal calm old new end input before ready quiet (c, mid, o, f) =
-      opened c mid o f (opens-keeps last old mid c o) (opens-grew last old mid c o) (follows-grew tells c entries mid new end f)
+      opened c mid o f (opens-keeps settings last old mid c o) (opens-grew settings last old mid c o) (follows-grew tells c entries mid new end f)
     where
       quiet-behind : (mid : Outside) → Grew old mid → Grew mid new → Calm mid.blob_faults new.blob_faults
       quiet-behind mid g more = calm-then old.blob_faults mid.blob_faults new.blob_faults g.blobs more.blobs quiet
 
-      opened : (c : Course) (mid : Outside) (o : Opens last old mid c) → Follows tells c entries mid new end → Keeps c 3 (standing (opened_early o)) → Grew old mid → Grew mid new
+      -- nothing was used, and this course follows
+      at-once : (what : Front) → Begins old.input (λ f. f ≡ what) → (mid : Outside) → mid ≡ old → (head_only : Bool) (s : Stand) → s.blob ≡ None → (c d : Course)
+          → c ≡ d → Keeps head_only c 3 s → Follows tells c entries mid new end → Grew old mid → Grew mid new
+          → ((scene : Scene) → play_turn settings last what scene ≡ play settings d scene)
           → Turned last (front input) st input before old new (end_of settings st entries) end
-      opened c mid (clean begins still is) f k g more =
-          let what = subst (λ (i : Option (List ℕ)). Begins i (λ f. f ≡ Clean)) ready.input_is begins in
-          subst (λ f. Turned last f st input before old new (end_of settings st entries) end) (sym what)
+      at-once what begins mid still head_only s none c d is k f g more plays =
+          let what-is = subst (λ (i : Option (List ℕ)). Begins i (λ f. f ≡ what)) ready.input_is begins in
+          subst (λ f. Turned last f st input before old new (end_of settings st entries) end) (sym what-is)
+          (subst (λ p. Outcome before p old new (end_of settings st entries) end) (sym (plays (record { state = st; input = input })))
           (subst (λ d. Outcomes d input before old new st (end_of settings st entries) end) is
-          (played c (standing None) k refl entries st legal calm old mid new end input before (ready-on old mid st input before old.input ready still ready.input_is) (quiet-behind mid g more) g f))
-      opened c mid (torn begins still is) f k g more =
-          let what = subst (λ (i : Option (List ℕ)). Begins i (λ f. f ≡ Cut)) ready.input_is begins in
-          subst (λ f. Turned last f st input before old new (end_of settings st entries) end) (sym what)
-          (subst (λ d. Outcomes d input before old new st (end_of settings st entries) end) is
-          (played c (standing (Some (by_side stream.TornRequest))) k refl entries st legal calm old mid new end input before (ready-on old mid st input before old.input ready still ready.input_is) (quiet-behind mid g more) g f))
+          (played head_only c s k none entries st legal calm old mid new end input before (ready-on old mid st input input before old.input ready still ready.input_is)
+          (quiet-behind mid g more) g f)))
+
+      opened : (c : Course) (mid : Outside) (o : Opens settings last old mid c) → Follows tells c entries mid new end → Keeps (shows_head o) c 3 (standing o)
+          → Grew old mid → Grew mid new → Turned last (front input) st input before old new (end_of settings st entries) end
+      opened c mid (clean begins still is) f k g more = at-once Clean begins mid still false (at_first 0) refl c _ is k f g more (λ scene. refl)
+      opened c mid (torn begins still is) f k g more = at-once Cut begins mid still false (failing stream.TornRequest (at_first 0)) refl c _ is k f g more (λ scene. refl)
       opened c mid (failed faults rose still is) f k g more =
           let last_is = subst (λ (d : Course). Follows tells d entries mid new end) is f in
           inr (no-more before _ [] old new end (_, refl)
           (ap (λ o. o.output) last_is.1 ∙ ap (λ o. o.output) still ∙ ready.output_is ∙ ap Some (sym (append-nil before)))
           (source-failed old new end last_is.2
           (subst (λ n. Rose old.read_faults n) (sym (ap (λ o. o.read_faults) last_is.1 ∙ ap (λ o. o.read_faults) still)) rose)))
-      opened c mid (starved begins uses is) f k g more =
+      opened c mid (refused fault begins still is) f k g more =
+          at-once (Bad fault) begins mid still false (at_first 0) refl c _ is k f g more (λ scene. refl)
+      opened c mid (unread_head begins still is) f k g more =
           let said = subst (λ (d : Course). Follows tells d entries mid new end) is f in
-          inr (early-before before _ old mid new end g (says-memory mid new end before _ said.1 (ap (λ o. o.output) (uses-reads old mid uses).1 ∙ ready.output_is)))
-      opened c mid (refused begins uses is) f k g more =
+          inr (early-before before _ old mid new end g (says-memory false mid new end before _ said.1 (ap (λ o. o.output) still ∙ ready.output_is)))
+      opened c mid (starved head rest begins uses is) f k g more =
           let said = subst (λ (d : Course). Follows tells d entries mid new end) is f in
-          refused-turn last (front input) (subst (λ (i : Option (List ℕ)). Begins i IsRefused) ready.input_is begins) old new st (end_of settings st entries) end input before
-          (λ rest. refused-with old mid new st (end_of settings st entries) end input before rest ready (uses-reads old mid uses) g said.1)
-      opened c mid (served head request rest judged begins reads is) f k g more =
-          served-turn last (front input) head request rest judged (subst (λ (i : Option (List ℕ)). Begins i (IsWhole head rest)) ready.input_is begins)
+          inr (early-before before _ old mid new end g (says-memory (is_head head) mid new end before _ said.1 (ap (λ o. o.output) uses ∙ ready.output_is)))
+      opened c mid (served head rest begins uses is) f k g more =
+          served-turn last (front input) head rest (subst (λ (i : Option (List ℕ)). Begins i (IsWhole head rest)) ready.input_is begins)
           old new st (end_of settings st entries) end input before
           (λ behind there.
           subst (λ d. Outcomes d behind before old new st (end_of settings st entries) end) is
-          (played c (standing None) k refl entries st legal calm old mid new end behind before
-          (record { input_is = ap (λ o. o.input) reads ∙ there; output_is = ap (λ o. o.output) reads ∙ ready.output_is; rows = ready.rows; clock = ready.clock })
-          (quiet-behind mid g more) g f))
+          (played (is_head_only (judge settings head)) c (at_first (unread_of (judge settings head))) k refl entries st legal calm old mid new end behind before
+          (ready-on old mid st input behind before rest ready uses there) (quiet-behind mid g more) g f))
 
   -- the stream ended in this turn
   last-turn : (next : Scene → Played End) (p : Played (Option End)) (before : List ℕ) (old new : Outside) (st : State) (end : End)
@@ -167,10 +157,10 @@ module _ (settings : Settings) (tells : Type 0) (witness : tells) where
         more.1 ∙ ap (λ b. b ++ more.0) m.is_front.1 ∙ append_assoc m.front m.is_front.0 more.0,
       ) in
       elim m.why [
-        | inl w ↦ unbroken (wants_memory m.front is-front
+        | inl w ↦ unbroken (wants_memory m.front m.head_only is-front
             (subst (λ b. new.output ≡ Some (before ++ m.front ++ b)) w.0 m.output) (same-Some end stream.Closed w.1))
-        | inr (inl s) ↦ broken m.front m.part is-front s.0 m.output (inl (same-Some end stream.SourceFault s.1.0, s.1.1))
-        | inr (inr s) ↦ broken m.front m.part is-front s.0 m.output (inr (same-Some end stream.SinkFault s.1.0, s.1.1))
+        | inr (inl s) ↦ broken m.front m.part m.head_only is-front s.0 m.output (inl (same-Some end stream.SourceFault s.1.0, s.1.1))
+        | inr (inr s) ↦ broken m.front m.part m.head_only is-front s.0 m.output (inr (same-Some end stream.SinkFault s.1.0, s.1.1))
       ]
 
   -- the stream goes on behind this turn
@@ -194,7 +184,7 @@ module _ (settings : Settings) (tells : Type 0) (witness : tells) where
 
   stream-play : (n : ℕ) (entries : List Entry) (st : State) → Legal settings st entries → Calm st.faults (end_of settings st entries).faults
       → (old new : Outside) (end : End) (input before : List ℕ) → Ready old st input before → Calm old.blob_faults new.blob_faults
-      → Serves tells n entries old new end → IsPlayedUpTo before (play_stream settings n (record { state = st; input = input })) old new end
+      → Serves settings tells n entries old new end → IsPlayedUpTo before (play_stream settings n (record { state = st; input = input })) old new end
   unfolding Serves play_stream
   stream-play zero entries st legal calm old new end input before ready quiet t =
       unbroken (in_full (ap (λ o. o.output) t.1 ∙ ready.output_is ∙ ap Some (sym (append-nil before))) t.2)
@@ -210,8 +200,8 @@ module _ (settings : Settings) (tells : Type 0) (witness : tells) where
       let up = faults-grow settings t.0 st cut.0 in
       let more = faults-grow settings t.1 mid-state cut.1 in
       let mid = t.2 in
-      let first = turn-grew tells (left == 0) t.0 old mid None t.4 in
-      let later = serves-grew tells left t.1 mid new end t.5 in
+      let first = turn-grew tells settings (left == 0) t.0 old mid None t.4 in
+      let later = serves-grew tells settings left t.1 mid new end t.5 in
       next-turn (play_stream settings left) (play_turn settings (left == 0) (front input) (record { state = st; input = input })) before old mid new mid-state end first
       (turn-play (left == 0) t.0 st cut.0 (calm-first st.faults mid-state.faults (end_of settings mid-state t.1).faults more calm-all) old mid None input before ready
       (calm-first old.blob_faults mid.blob_faults new.blob_faults later.blobs quiet) t.4)
@@ -221,7 +211,7 @@ module _ (settings : Settings) (tells : Type 0) (witness : tells) where
 
   pub stream-upto : (n : ℕ) (entries : List Entry) (st : State) → Legal settings st entries → StoodStill st.faults (end_of settings st entries).faults
       → (old new : Outside) (end : End) (input before : List ℕ) → BeginsAt st input before old → StoodStill old.blob_faults new.blob_faults
-      → Serves tells n entries old new end → IsPlayedUpTo before (play_stream settings n (record { state = st; input = input })) old new end
+      → Serves settings tells n entries old new end → IsPlayedUpTo before (play_stream settings n (record { state = st; input = input })) old new end
   stream-upto n entries st legal records old new end input before begins calm served_so =
       stream-play n entries st legal (calm-of records) old new end input before
       (record { input_is = begins.input_is; output_is = begins.output_is; rows = begins.rows; clock = begins.clock }) (calm-of calm) served_so
@@ -233,7 +223,7 @@ module _ (settings : Settings) (tells : Type 0) (witness : tells) where
 unbroken-is : (before : List ℕ) (p : Played End) (old new : Outside) (end : End) → NoFaults old new → IsPlayedUpTo before p old new end
     → IsAsPlayed before p new.output end
 unbroken-is before p old new end calm (unbroken played) = played
-unbroken-is before p old new end calm (broken front part is-front is-part out broke) =
+unbroken-is before p old new end calm (broken front part head_only is-front is-part out broke) =
     let reads = calm.reads in
     let writes = calm.writes in
     elim broke [
@@ -243,7 +233,7 @@ unbroken-is before p old new end calm (broken front part is-front is-part out br
 
 pub as-played : (settings : Settings) (tells : Type 0) → tells → (n : ℕ) (entries : List Entry) (st : State) → Legal settings st entries
     → StoodStill st.faults (end_of settings st entries).faults → (old new : Outside) (end : End) (input before : List ℕ) → BeginsAt st input before old
-    → NoFaults old new → Serves tells n entries old new end → IsAsPlayed before (play_stream settings n (record { state = st; input = input })) new.output end
+    → NoFaults old new → Serves settings tells n entries old new end → IsAsPlayed before (play_stream settings n (record { state = st; input = input })) new.output end
 as-played settings tells told n entries st legal records old new end input before begins calm served_so =
     unbroken-is before (play_stream settings n (record { state = st; input = input })) old new end calm
     (stream-upto settings tells told n entries st legal records old new end input before begins calm.blobs served_so)

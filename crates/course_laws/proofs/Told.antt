@@ -1,7 +1,7 @@
 -- A turn keeps the bytes of each file's blob told, where those of the blob that it puts are, and the clock; and where nothing
 -- failed its entry is the one that is due.
 use Rattle.std.proofs.Common.{◌≡◌, ℕ, ◌≤◌, ◌==◌, Bool, true, false, List, [], ◌∷◌, Option, Some, None, Result, Ok, Err, arith, refl, sym, subst, ◌∙◌, map}
-use Rattle.std.specs.Prelude.{IsSome, MatchOption, if◌then◌else◌, filter, find, min, max}
+use Rattle.std.specs.Prelude.{IsSome, MatchOption, if◌then◌else◌, filter, find, min, max, bytes_eq}
 use Rattle.std.specs.List.{AllByRecursion}
 use Rattle.std.specs.Option.{option_map, option_map_or}
 use Rattle.std.proofs.lemmas.Bool.{false≢true}
@@ -16,16 +16,16 @@ use Rattle.mvn_coords.specs.declared.kind.Kind.TheVariants.{File, FileSide, Doc,
 use Rattle.mvn_coords.specs.Kind.{kind}
 use Rattle.mvn_coords.specs.Layout.{text_of}
 use Rattle.mvn_digest.specs.Digests.{digests_of}
-use Rattle.mvn_digest.specs.Sides.{side_text}
-use Rattle.repo_model.specs.Command.{Command, look, done, may_put, put, drop_draft}
+use Rattle.mvn_digest.specs.Sides.{side_of, side_text}
+use Rattle.repo_model.specs.Command.{Command, look, done, may_put, put, put_side, put_doc, drop_draft, status}
 use Rattle.repo_model.specs.Data.{Blob, Hosted, Phase, Row, fading, listed, is_same_print, repository}
 use Rattle.repo_model.specs.Effect.{Effect, creates, delivers, relists, fades, expires, draws, drops, lends, in_repo, rows_after, repo_of, with_effect, with_effects, with_row, list_again, fade, new_row}
 use Rattle.repo_model.specs.History.{Entry, Legal, MomentFits, after, effects_of, end, latest_moment, ticked}
 use Rattle.repo_model.specs.Paths.{takes}
-use Rattle.repo_model.specs.Reply.{Reply, draft, file, is_free, kind_refused, no_draft, spent, taken}
+use Rattle.repo_model.specs.Reply.{Reply, agreed, differs, draft, file, is_free, kind_refused, no_draft, spent, taken}
 use Rattle.repo_model.specs.Settings.{Rule, Settings}
 use Rattle.repo_model.specs.State.{State, change_first, change_where, hosted_of, is_among, is_repository, is_row, new_hosted, number_end, opening, row_at, rows_of}
-use Rattle.repo_model.specs.Turn.{Turn, document_text, draws_draft, in_repository, is_doc, is_file, is_text, or_nothing, put_again, put_at, says, seen_at, shows, turn}
+use Rattle.repo_model.specs.Turn.{Turn, compared, document_text, draws_draft, in_repository, is_doc, is_file, is_text, judged, or_nothing, put_again, put_at, says, seen_at, shows, turn}
 use Rattle.course_laws.specs.AsPlayed.{RowsTold}
 use Rattle.course_laws.specs.Duties.{MayAsk, Stand}
 use Rattle.course_laws.specs.Faultless.{due_entry, moment_now}
@@ -173,6 +173,18 @@ module _ (settings : Settings) (s : State) (told : RowsTold s) where
       again listed = ((tt, tt), tt)
       again (fading since) = ((tt, (tt, tt)), tt)
 
+  compared-tells : (said : List ℕ) (o : Option (List ℕ)) → Tells (compared said o)
+  compared-tells said None = (tt, tt)
+  compared-tells said (Some kept) = either (bytes_eq said kept) (says agreed) (says (differs said kept)) (tt, tt) (tt, tt)
+
+  judged-tells : (k : Result Kind PathFault) (said : List ℕ) (blob_at : List ℕ → Option Blob) → Tells (judged k said blob_at)
+  judged-tells (Ok (FileSide c side)) said blob_at =
+      compared-tells said (option_map (λ (blob : Blob). side_of blob.print.digests side) (blob_at (text_of c)))
+  judged-tells (Ok (File c)) said blob_at = (tt, tt)
+  judged-tells (Ok (Doc d)) said blob_at = (tt, tt)
+  judged-tells (Ok (DocSide d side)) said blob_at = (tt, tt)
+  judged-tells (Err fault) said blob_at = (tt, tt)
+
   turn-tells : (c : Command) (x : Stand) (moment : ℕ) → MayAsk c x → CommandTold c → Tells (turn settings s moment c)
   turn-tells (look repo path tried) x moment may some = look-tells s.yard.next_lease path (rows_of repo s) (rows-of repo) (kind path)
   turn-tells (done lease) x moment may some = ((tt, tt), tt)
@@ -182,6 +194,10 @@ module _ (settings : Settings) (s : State) (told : RowsTold s) where
       (put-tells repo path n blob moment some (row_at path (rows_of repo s))) (tt, tt)
   turn-tells (drop_draft n) x moment may some =
       elim (is_among n s.yard.drafts) as (λ b. AllByRecursion EffectTold (if b then drops n ∷ [] else []) × Unit {0}) [ true ↦ ((tt, tt), tt) | false ↦ (tt, tt) ]
+  turn-tells (put_side (repository repo) path said) x moment may some =
+      judged-tells (kind path) said (λ at. option_map (λ (row : Row). row.blob) (row_at at (rows_of repo s)))
+  turn-tells (put_doc (repository repo) path) x moment may some = (tt, tt)
+  turn-tells status x moment may some = (tt, tt)
   turn-tells _ x moment may some = absurd may
 
   pub reply-told : (c : Command) (x : Stand) → MayAsk c x → CommandTold c → ReplyTold (due_entry settings s c).reply

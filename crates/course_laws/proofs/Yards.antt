@@ -1,18 +1,24 @@
 -- What a course holds stands in the yard beside what stood before it, turn by turn.
 use Rattle.std.proofs.Common.{◌≡◌, ◌≢◌, ◌⊎◌, ℕ, ◌<◌, ◌≤◌, ◌==◌, ◌||◌, ◌&&◌, Bool, true, false, not, if◌then◌else◌, List, [], ◌∷◌, ◌++◌, filter, Option, Some, None, inl, inr, ap, arith, refl, subst, sym, ◌∙◌, IsTrue}
-use Rattle.std.specs.Prelude.{nat_lt}
+use Rattle.std.specs.Prelude.{nat_lt, Result, Ok, Err, bytes_eq}
+use Rattle.std.specs.Option.{option_map}
 use Rattle.std.proofs.lemmas.Bool.Decides.{eqb_tells}
-use Rattle.repo_model.specs.Command.{Command, look, done, may_put, put, drop_draft, is_fit, is_parcel, rule_of}
+use Rattle.repo_model.specs.Command.{Command, look, done, may_put, put, put_side, put_doc, drop_draft, status, is_fit, is_parcel, rule_of}
 use Rattle.repo_model.specs.Data.{Blob, Hosted, Phase, Row, fading, listed, is_same_print, repository}
 use Rattle.repo_model.specs.Effect.{Effect, draws, drops, lends, returns, with_effects}
 use Rattle.repo_model.specs.History.{Fits, IsReply, due, wants_memory, failed, after, commits, ticked}
 use Rattle.repo_model.specs.Paths.{takes}
-use Rattle.repo_model.specs.Reply.{Reply, draft, dropped, file, given_back, is_free, kind_refused, no_draft, spent, taken}
+use Rattle.repo_model.specs.Reply.{Reply, agreed, differs, draft, dropped, file, given_back, is_free, kind_refused, no_draft, spent, taken}
 use Rattle.repo_model.specs.Settings.{Settings}
 use Rattle.repo_model.specs.State.{Lease, State, Yard, hosted_of, is_among, number_end, row_at, rows_of}
-use Rattle.repo_model.specs.Turn.{Seen, Turn, draws_draft, in_repository, is_doc, is_file, is_nothing, is_text, put_again, put_at, says, seen_at, shows}
+use Rattle.repo_model.specs.Turn.{Seen, Turn, compared, draws_draft, in_repository, is_doc, is_file, is_nothing, is_text, judged, put_again, put_at, says, seen_at, shows}
+use Rattle.mvn_coords.specs.declared.fault.PathFault.{PathFault}
+use Rattle.mvn_coords.specs.declared.kind.Kind.{Kind}
+use Rattle.mvn_coords.specs.declared.kind.Kind.TheVariants.{File, FileSide, Doc, DocSide}
 use Rattle.mvn_coords.specs.Kind.{kind}
-use Rattle.course_laws.specs.Duties.{MayAsk, Stand, asked_draft, has_put, looked, stand_after}
+use Rattle.mvn_coords.specs.Layout.{text_of}
+use Rattle.mvn_digest.specs.Sides.{side_of}
+use Rattle.course_laws.specs.Duties.{MayAsk, Stand, asked_draft, has_put, has_put_side, looked, stand_after}
 use Rattle.course_laws.specs.LeftBehind.{IsDrawn, NumbersAreBelow}
 
 -- the numbers below one that is not below itself
@@ -186,6 +192,23 @@ module _ (before : Yard) where
         λ is. cc,
       )
 
+  -- a side file or a document changes nothing of what is held
+  compared-goes : (s : Stand) (st : State) → Holds s st.yard → (said : List ℕ) (found : Option (List ℕ))
+      → Goes (λ r. has_put_side r s) st (compared said found)
+  compared-goes s st h said None = (h, λ is. cc)
+  compared-goes s st h said (Some kept) =
+      elim (bytes_eq said kept) as (λ b. Goes (λ r. has_put_side r s) st (if b then says agreed else says (differs said kept)))
+      [ true ↦ (h, λ is. cc) | false ↦ (h, λ is. cc) ]
+
+  judged-goes : (s : Stand) (st : State) → Holds s st.yard → (k : Result Kind PathFault) (said : List ℕ) (blob_at : List ℕ → Option Blob)
+      → Goes (λ r. has_put_side r s) st (judged k said blob_at)
+  judged-goes s st h (Ok (FileSide c side)) said blob_at =
+      compared-goes s st h said (option_map (λ (blob : Blob). side_of blob.print.digests side) (blob_at (text_of c)))
+  judged-goes s st h (Ok (File c)) said blob_at = (h, λ is. cc)
+  judged-goes s st h (Ok (Doc d)) said blob_at = (h, λ is. cc)
+  judged-goes s st h (Ok (DocSide d side)) said blob_at = (h, λ is. cc)
+  judged-goes s st h (Err fault) said blob_at = (h, λ is. cc)
+
   -- an entry of a command that the course may ask
   abbrev pub Steps : Settings → Stand → State → Command → ℕ → Reply → ℕ → Type 0
   Steps settings s st c moment reply faults =
@@ -251,4 +274,26 @@ module _ (before : Yard) where
       pick (due is did) = subst (λ r. Steps settings s st (drop_draft n) moment r faults) (sym is) (drop-goes s (ticked st moment faults) n may h)
       pick (wants_memory is can did) = absurd (cc)
       pick (failed is can rose) = absurd (never (is_among n st.yard.drafts) can)
+  step settings s st (put_side (repository repo) path said) moment reply faults may h fits = pick fits.reply
+    where
+      pick : IsReply settings st (record { command = put_side (repository repo) path said; moment = moment; reply = reply; faults = faults })
+          → Steps settings s st (put_side (repository repo) path said) moment reply faults
+      pick (due is did) =
+          subst (λ r. Steps settings s st (put_side (repository repo) path said) moment r faults) (sym is)
+          (judged-goes s (ticked st moment faults) h (kind path) said (λ at. option_map (λ (row : Row). row.blob) (row_at at (rows_of repo st))))
+      pick (wants_memory is can did) = subst (λ r. Steps settings s st (put_side (repository repo) path said) moment r faults) (sym is) (h, λ is. cc)
+      pick (failed is can rose) = subst (λ r. Steps settings s st (put_side (repository repo) path said) moment r faults) (sym is) (h, λ is. cc)
+  step settings s st (put_doc (repository repo) path) moment reply faults may h fits = pick fits.reply
+    where
+      pick : IsReply settings st (record { command = put_doc (repository repo) path; moment = moment; reply = reply; faults = faults })
+          → Steps settings s st (put_doc (repository repo) path) moment reply faults
+      pick (due is did) = subst (λ r. Steps settings s st (put_doc (repository repo) path) moment r faults) (sym is) (h, λ is. cc)
+      pick (wants_memory is can did) = subst (λ r. Steps settings s st (put_doc (repository repo) path) moment r faults) (sym is) (h, λ is. cc)
+      pick (failed is can rose) = subst (λ r. Steps settings s st (put_doc (repository repo) path) moment r faults) (sym is) (h, λ is. cc)
+  step settings s st status moment reply faults may h fits = pick fits.reply
+    where
+      pick : IsReply settings st (record { command = status; moment = moment; reply = reply; faults = faults }) → Steps settings s st status moment reply faults
+      pick (due is did) = subst (λ r. Steps settings s st status moment r faults) (sym is) (h, λ is. cc)
+      pick (wants_memory is can did) = subst (λ r. Steps settings s st status moment r faults) (sym is) (h, λ is. cc)
+      pick (failed is can rose) = subst (λ r. Steps settings s st status moment r faults) (sym is) (h, λ is. cc)
   step settings s st _ moment reply faults may h fits = absurd may

@@ -1,5 +1,5 @@
 -- What a stream has written beside what is played where nothing fails: all of it, or up to where the source, the sink or memory failed.
-use Rattle.std.specs.Prelude.{◌≡◌, ◌⊎◌, ℕ, ◌<◌, List, ◌++◌, Option, Some, IsSome}
+use Rattle.std.specs.Prelude.{◌≡◌, ◌⊎◌, ℕ, ◌<◌, Bool, List, ◌++◌, Option, Some, IsSome}
 use Rattle.std.specs.List.{AllByRecursion}
 use Rattle.outside.specs.Faults.{Rose, last_count}
 use Rattle.http_wire.specs.Answer.{shown}
@@ -25,10 +25,11 @@ pub record NoFaults (old new : Outside) : Type 0 where
   pub writes : StoodStill old.write_faults new.write_faults
   pub blobs : StoodStill old.blob_faults new.blob_faults
 
--- The stream has taken what was played and ended so, or, from where memory was wanted, the answer that says so.
+-- The stream has taken what was played and ended so, or, from where memory was wanted, the answer that says so, or its head alone.
 pub data IsAsPlayed (before : List ℕ) (played : Played End) (output : Option (List ℕ)) (end : End) : Type 0 where
   in_full : output ≡ Some (before ++ played.written) → end ≡ played.end → IsAsPlayed before played output end
-  wants_memory : (front : List ℕ) → IsFrontOf front played.written → output ≡ Some (before ++ front ++ shown memory_answer)
+  wants_memory : (front : List ℕ) (head_only : Bool) → IsFrontOf front played.written
+      → output ≡ Some (before ++ front ++ shown (memory_answer head_only))
       → end ≡ stream.Closed → IsAsPlayed before played output end
 
 -- the source or the sink failed, and the stream ended by it
@@ -40,7 +41,7 @@ Broke old new end =
 -- As played, or up to where the source or the sink failed: a front of that, and behind it maybe a part of the answer that memory was wanted.
 pub data IsPlayedUpTo (before : List ℕ) (played : Played End) (old new : Outside) (end : End) : Type 0 where
   unbroken : IsAsPlayed before played new.output end → IsPlayedUpTo before played old new end
-  broken : (front part : List ℕ) → IsFrontOf front played.written → IsFrontOf part (shown memory_answer)
+  broken : (front part : List ℕ) (head_only : Bool) → IsFrontOf front played.written → IsFrontOf part (shown (memory_answer head_only))
       → new.output ≡ Some (before ++ front ++ part) → Broke old new end → IsPlayedUpTo before played old new end
 
 -- the stream tells this input and output, and the machine what it has
@@ -52,4 +53,4 @@ pub record BeginsAt (start : State) (input output : List ℕ) (o : Outside) : Ty
 
 -- the last that the stream has taken says that memory was wanted
 abbrev pub WantedMemory : List ℕ → Option (List ℕ) → Type 0
-WantedMemory before output = (front : List ℕ) × (output ≡ Some (before ++ front ++ shown memory_answer))
+WantedMemory before output = (front : List ℕ) × (head_only : Bool) × (output ≡ Some (before ++ front ++ shown (memory_answer head_only)))

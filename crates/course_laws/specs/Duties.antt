@@ -1,14 +1,21 @@
--- What a course owes, step by step: the draft and the lease that it holds, the commands that it may still ask, and how it ends
--- once a side of the stream failed or memory was wanted.
-use Rattle.std.specs.Prelude.{◌≡◌, ℕ, zero, suc, Bool, true, Option, Some, None, Ok, Err}
+-- What a course owes, step by step: the draft and the lease that it holds, the bytes of the body that it has not read, the
+-- commands that it may still ask, and how it ends once a side of the stream failed or memory was wanted.
+use Rattle.std.specs.Prelude.{◌≡◌, ℕ, zero, suc, Bool, true, false, Option, Some, None, Result, Ok, Err}
 use Rattle.repo_model.specs.Data.{Blob, repository}
-use Rattle.repo_model.specs.Command.{Command, look, done, may_put, put, drop_draft}
-use Rattle.repo_model.specs.Reply.{Reply, file, missed, kind_refused, draft, no_draft, taken, same, relisted, created, spent, store_fault}
-use Rattle.repo_course.specs.Course.{Course, Stored, asks, takes, sends, says, stops}
+use Rattle.repo_model.specs.Command.{Command, look, done, may_put, put, put_side, put_doc, drop_draft, status}
+use Rattle.repo_model.specs.Reply.{Reply, file, text, doc, missed, kind_refused, draft, no_draft, taken, same, relisted, created, not_there, differs, agreed, noted, counts as counts_reply, spent, store_fault}
+use Rattle.repo_routes.specs.Intent.{Intent, Judged, reads as reads_path, puts_file, puts_side, puts_document, counts}
+use Rattle.repo_routes.specs.declared.judging.Refused.{Refused}
+use Rattle.repo_course.specs.Answers.{at_end}
+use Rattle.repo_course.specs.Course.{Body, Course, Stored, asks, continues, takes, reads, sends, says, stops}
+use Rattle.repo_course.specs.declared.manner.Manner.{Manner}
+use Rattle.repo_course.specs.declared.outcomes.Continued.{Continued}
+use Rattle.repo_course.specs.declared.outcomes.Continued.TheVariants as continued
 use Rattle.repo_course.specs.declared.outcomes.End.{End}
 use Rattle.repo_course.specs.declared.outcomes.End.TheVariants as stream
 use Rattle.repo_course.specs.declared.outcomes.Sent.{Sent}
 use Rattle.repo_course.specs.declared.outcomes.Sent.TheVariants as sent
+use Rattle.repo_course.specs.declared.outcomes.Took.{Took}
 use Rattle.repo_course.specs.declared.outcomes.Took.TheVariants as took
 use Rattle.repo_course.specs.declared.said.Said.{Said}
 use Rattle.repo_course.specs.declared.said.Said.TheVariants.{NoMemory}
@@ -25,11 +32,14 @@ pub record Stand : Type 0 where
   pub lease : Option ℕ
   -- the blob in its hands: a body that was stored, or a file that was lent
   pub blob : Option Blob
+  -- how many bytes of the request's body are not read, and whether `100 Continue` was written
+  pub unread : ℕ
+  pub invited : Bool
   pub early : Option Early
 
--- before the first command
-abbrev pub at_first : Stand
-at_first = record { draft = None; lease = None; blob = None; early = None }
+-- before the first command, with a body of so many bytes to come
+abbrev pub at_first : ℕ → Stand
+at_first length = record { draft = None; lease = None; blob = None; unread = length; invited = false; early = None }
 
 abbrev pub starving : Stand → Stand
 starving s = record s { early = Some by_memory }
@@ -40,9 +50,11 @@ failing end s = record s { early = Some (by_side end) }
 abbrev pub without_draft : Stand → Stand
 without_draft s = record s { draft = None }
 
--- after a look, a question for a draft, and a put; any reply that none of these can get counts as want of memory
+-- after each command; any reply that it can't get counts as want of memory
 abbrev pub looked : Reply → Stand → Stand
 looked (file lease blob) s = record s { lease = Some lease; blob = Some blob }
+looked (text bytes) s = s
+looked (doc bytes digests) s = s
 looked missed s = s
 looked spent s = s
 looked reply s = starving s
@@ -62,12 +74,29 @@ has_put no_draft s = s
 has_put store_fault s = s
 has_put reply s = starving s
 
+abbrev pub has_put_side : Reply → Stand → Stand
+has_put_side agreed s = s
+has_put_side (differs said kept) s = s
+has_put_side not_there s = s
+has_put_side reply s = starving s
+
+abbrev pub has_put_doc : Reply → Stand → Stand
+has_put_doc noted s = s
+has_put_doc reply s = starving s
+
+abbrev pub has_counted : Reply → Stand → Stand
+has_counted (counts_reply files fading cached documents sessions) s = s
+has_counted reply s = starving s
+
 abbrev pub stand_after : Command → Reply → Stand → Stand
 stand_after (look repo path tried) reply s = looked reply s
 stand_after (done lease) reply s = record s { lease = None }
 stand_after (may_put place path) reply s = asked_draft reply s
 stand_after (put repo path n blob) reply s = has_put reply s
+stand_after (put_side place path said) reply s = has_put_side reply s
+stand_after (put_doc place path) reply s = has_put_doc reply s
 stand_after (drop_draft n) reply s = without_draft s
+stand_after status reply s = has_counted reply s
 stand_after command reply s = s
 
 -- what it must hold to ask a command; once it must end early it only gives back
@@ -76,15 +105,30 @@ MayAsk (look repo path tried) s = (s.lease ≡ None) × (s.early ≡ None)
 MayAsk (done lease) s = s.lease ≡ Some lease
 MayAsk (may_put (repository repo) path) s = (s.draft ≡ None) × (s.early ≡ None)
 MayAsk (put repo path n blob) s = (s.draft ≡ Some n) × (s.early ≡ None) × (s.blob ≡ Some blob)
+MayAsk (put_side (repository repo) path said) s = s.early ≡ None
+MayAsk (put_doc (repository repo) path) s = s.early ≡ None
 MayAsk (drop_draft n) s = s.draft ≡ Some n
+MayAsk status s = s.early ≡ None
 MayAsk command s = ⊥
 
+abbrev pub stand_continued : Continued → Stand → Stand
+stand_continued continued.Written s = record s { invited = true }
+stand_continued continued.SinkFault s = failing stream.SinkFault s
+
+-- after a body that was not taken, and after one that was, of which no byte is left
+abbrev pub stand_fault : Took → Stand → Stand
+stand_fault took.Torn s = failing stream.TornRequest s
+stand_fault took.SourceFault s = failing stream.SourceFault s
+stand_fault took.BlobFault s = s
+stand_fault took.NoMemory s = starving s
+
 abbrev pub stand_stored : Stored → Stand → Stand
-stand_stored (Ok blob) s = record s { blob = Some blob }
-stand_stored (Err took.Torn) s = failing stream.TornRequest s
-stand_stored (Err took.SourceFault) s = failing stream.SourceFault s
-stand_stored (Err took.BlobFault) s = s
-stand_stored (Err took.NoMemory) s = starving s
+stand_stored (Ok blob) s = record s { blob = Some blob; unread = 0 }
+stand_stored (Err fault) s = stand_fault fault (record s { unread = 0 })
+
+abbrev pub stand_read : Body → Stand → Stand
+stand_read (Ok bytes) s = record s { unread = 0 }
+stand_read (Err fault) s = stand_fault fault (record s { unread = 0 })
 
 abbrev pub stand_sent : Sent → Stand → Stand
 stand_sent sent.Whole s = s
@@ -102,26 +146,53 @@ abbrev pub IsAnswer : Said → Type 0
 IsAnswer NoMemory = ⊥
 IsAnswer said = Unit {0}
 
--- want of memory is said where it was wanted, and only there; behind a failure nothing is said
-abbrev pub SaysFor : Option Early → Said → Bool → Option End → Type 0
-SaysFor None said close end = IsAnswer said × IsCalm end
-SaysFor (Some by_memory) said close end = (said ≡ NoMemory) × (close ≡ true) × (end ≡ Some stream.Closed)
-SaysFor (Some (by_side side)) said close end = ⊥
+-- Want of memory is said where it was wanted, and only there; behind a failure nothing is said. The connection goes on only
+-- where the body was read.
+abbrev pub SaysFor : Stand → Option Early → Said → Manner → Type 0
+SaysFor s None said manner = IsAnswer said × (manner.close ≡ false → s.unread ≡ 0)
+SaysFor s (Some by_memory) said manner = (said ≡ NoMemory) × (manner ≡ at_end manner.head_only)
+SaysFor s (Some (by_side side)) said manner = ⊥
 
-abbrev pub StopsFor : Option Early → Option End → Type 0
-StopsFor None end = IsCalm end
-StopsFor (Some by_memory) end = ⊥
-StopsFor (Some (by_side side)) end = end ≡ Some side
+abbrev pub StopsFor : Stand → Option Early → Option End → Type 0
+StopsFor s None end = IsCalm end × (end ≡ None → s.unread ≡ 0)
+StopsFor s (Some by_memory) end = ⊥
+StopsFor s (Some (by_side side)) end = end ≡ Some side
 
 abbrev pub HoldsNothing : Stand → Type 0
 HoldsNothing s = (s.draft ≡ None) × (s.lease ≡ None)
 
--- the course does what it owes, with at most so many commands
-abbrev pub Keeps : Course → ℕ → Stand → Type 0
-Keeps (asks command next) zero s = ⊥
-Keeps (asks command next) (suc n) s = MayAsk command s × ((reply : Reply) → Keeps (next reply) n (stand_after command reply s))
-Keeps (takes number count next) n s =
-    (s.draft ≡ Some number) × (s.early ≡ None) × ((stored : Stored) → Keeps (next stored) n (stand_stored stored s))
-Keeps (sends blob close next) n s = (s.blob ≡ Some blob) × (s.early ≡ None) × ((result : Sent) → Keeps (next result) n (stand_sent result s))
-Keeps (says said close end) n s = HoldsNothing s × SaysFor s.early said close end
-Keeps (stops end) n s = HoldsNothing s × StopsFor s.early end
+-- The course does what it owes, with at most so many commands: `100 Continue` comes at most once and before the body, and
+-- each answer is a head alone, or none is.
+abbrev pub Keeps : (head_only : Bool) → Course → ℕ → Stand → Type 0
+Keeps head_only (asks command next) zero s = ⊥
+Keeps head_only (asks command next) (suc n) s =
+    MayAsk command s × ((reply : Reply) → Keeps head_only (next reply) n (stand_after command reply s))
+Keeps head_only (continues next) n s =
+    (s.invited ≡ false) × (s.early ≡ None) × ((result : Continued) → Keeps head_only (next result) n (stand_continued result s))
+Keeps head_only (takes number count next) n s =
+    (s.draft ≡ Some number) × (s.early ≡ None) × (s.unread ≡ count)
+    × ((stored : Stored) → Keeps head_only (next stored) n (stand_stored stored s))
+Keeps head_only (reads count next) n s =
+    (s.early ≡ None) × (s.unread ≡ count) × ((body : Body) → Keeps head_only (next body) n (stand_read body s))
+Keeps head_only (sends blob manner next) n s =
+    (s.blob ≡ Some blob) × (s.early ≡ None) × (manner.head_only ≡ head_only)
+    × ((result : Sent) → Keeps head_only (next result) n (stand_sent result s))
+Keeps head_only (says said manner) n s = HoldsNothing s × SaysFor s s.early said manner × (manner.head_only ≡ head_only)
+Keeps head_only (stops end) n s = HoldsNothing s × StopsFor s s.early end
+
+-- how many bytes of body come with what is asked for
+abbrev pub length_of : Intent → ℕ
+length_of (reads_path repo path) = 0
+length_of (puts_file repo path length) = length
+length_of (puts_side repo path side length) = length
+length_of (puts_document repo path length) = length
+length_of counts = 0
+
+-- the bytes that a request's course has to read, and whether its answer is a head alone
+abbrev pub unread_of : Result Judged Refused → ℕ
+unread_of (Ok request) = length_of request.intent
+unread_of (Err refused) = 0
+
+abbrev pub is_head_only : Result Judged Refused → Bool
+is_head_only (Ok request) = request.head_only
+is_head_only (Err refused) = refused.head_only

@@ -1,21 +1,24 @@
 -- What a stream of bytes is answered where nothing fails and memory never wants: a function of the bytes and of the clock's moments.
 use Rattle.std.specs.Prelude.{ℕ, zero, suc, ◌==◌, Bool, nat_lt, min, max, if◌then◌else◌, List, [], ◌++◌, length, take, drop, Option, Some, None, Ok, Err, unwrap_or}
 use Rattle.std.specs.Option.{option_map_or}
-use Rattle.http_wire.specs.Answer.{shown}
+use Rattle.http_wire.specs.Answer.{continue_bytes, shown}
 use Rattle.http_wire.specs.Front.{Front, Clean, Cut, Bad, Whole, front}
 use Rattle.outside.specs.Moments.{Moments}
 use Rattle.repo_model.specs.Command.{Command}
+use Rattle.repo_model.specs.Data.{Blob}
 use Rattle.repo_model.specs.History.{Entry, after, latest_moment}
 use Rattle.repo_model.specs.Settings.{Settings}
 use Rattle.repo_model.specs.State.{State, opening}
 use Rattle.repo_model.specs.Turn.{turn}
+use Rattle.repo_routes.specs.Judge.{judge}
 use Rattle.repo_course.specs.Answers.{answer_of, file_answer}
-use Rattle.repo_course.specs.Course.{Course, Stored, asks, takes, sends, says, stops, bad_head, course_of}
+use Rattle.repo_course.specs.Course.{Body, Course, Stored, asks, continues, takes, reads, sends, says, stops, course_of, end_of, refuses_head}
+use Rattle.repo_course.specs.declared.manner.Manner.{Manner}
+use Rattle.repo_course.specs.declared.outcomes.Continued.TheVariants.{Written}
 use Rattle.repo_course.specs.declared.outcomes.End.{End}
 use Rattle.repo_course.specs.declared.outcomes.End.TheVariants as stream
 use Rattle.repo_course.specs.declared.outcomes.Sent.TheVariants.{Whole as whole}
 use Rattle.repo_course.specs.declared.outcomes.Took.TheVariants.{Torn}
-use Rattle.repo_course.specs.Plain.{plain}
 use Rattle.repo_course.specs.Serving.{print_of}
 
 -- the machine's state, and the bytes not yet used
@@ -45,30 +48,41 @@ due_entry settings s command = record {
   faults = s.faults;
 }
 
--- the body as a blob, or that it is torn
+-- the bytes of a body, or that it is torn
+abbrev pub body_of : ℕ → List ℕ → Body
+body_of count input = if nat_lt (length input) count then Err Torn else Ok (take count input)
+
+-- the body as a blob
+abbrev pub blob_of : ℕ → List ℕ → Blob
+blob_of draft body = record { number = draft; bytes = Some body; print = print_of body }
+
 abbrev pub taken_body : ℕ → ℕ → List ℕ → Stored
-taken_body draft count input =
-    if nat_lt (length input) count then Err Torn
-    else Ok (record { number = draft; bytes = Some (take count input); print = print_of (take count input) })
+taken_body draft count input = if nat_lt (length input) count then Err Torn else Ok (blob_of draft (take count input))
+
+-- the bytes of a file's answer
+abbrev pub file_bytes : Blob → Manner → List ℕ
+file_bytes blob manner = shown (file_answer blob manner) ++ (if manner.head_only then [] else unwrap_or blob.bytes [])
 
 -- a course followed to its end
 abbrev pub play : Settings → Course → Scene → Played (Option End)
 play settings (asks command next) scene =
     let e = due_entry settings scene.state command in
     play settings (next e.reply) (record scene { state = after settings scene.state e })
+play settings (continues next) scene = wrote continue_bytes (play settings (next Written) scene)
 play settings (takes draft count next) scene =
     play settings (next (taken_body draft count scene.input)) (record scene { input = drop count scene.input })
-play settings (sends blob close next) scene =
-    wrote (shown (file_answer blob close) ++ unwrap_or blob.bytes []) (play settings (next whole) scene)
-play settings (says said close next) scene = record { written = shown (answer_of said close); scene = scene; end = next }
+play settings (reads count next) scene =
+    play settings (next (body_of count scene.input)) (record scene { input = drop count scene.input })
+play settings (sends blob manner next) scene = wrote (file_bytes blob manner) (play settings (next whole) scene)
+play settings (says said manner) scene = record { written = shown (answer_of said manner); scene = scene; end = end_of manner }
 play settings (stops next) scene = record { written = []; scene = scene; end = next }
 
 -- one request of a stream that begins so, or its end
 abbrev pub play_turn : Settings → Bool → Front → Scene → Played (Option End)
 play_turn settings last Clean scene = play settings (stops (Some stream.Closed)) scene
 play_turn settings last Cut scene = play settings (stops (Some stream.TornRequest)) scene
-play_turn settings last (Bad fault) scene = play settings bad_head scene
-play_turn settings last (Whole head rest) scene = play settings (course_of (plain head) last) (record scene { input = rest })
+play_turn settings last (Bad fault) scene = play settings (refuses_head fault) scene
+play_turn settings last (Whole head rest) scene = play settings (course_of (judge settings head) last) (record scene { input = rest })
 
 abbrev pub then_play : (Scene → Played End) → Option End → List ℕ → Scene → Played End
 then_play next None written scene = wrote written (next scene)

@@ -4,5 +4,3 @@ pub mod LeftBehind
 pub mod Complete
 pub mod Faultless
 pub mod AsPlayed
-pub mod Releases
-pub mod Worked

@@ -1,10 +1,11 @@
 //! What follows for served streams. No function here has code: its contract is the law.
-ghost use Rattle.std.specs.Prelude.{◌≡◌, ◌≢◌, ◌⊎◌, ℕ, ◌*◌, ◌≤◌, Bool, length, List, ◌++◌, Option, Some};
+ghost use Rattle.std.specs.Prelude.{◌≡◌, ◌≢◌, ◌⊎◌, ℕ, ◌*◌, ◌≤◌, Bool, false, length, List, ◌++◌, Option, Some, Result};
 ghost use Rattle.std.specs.List.{AllByRecursion};
 ghost use Rattle.outside.specs.Moments.{Moments};
-ghost use Rattle.http_wire.specs.Head.{Head};
-ghost use Rattle.repo_course.specs.Course.{course_of};
-ghost use Rattle.repo_course.specs.Plain.{plain};
+ghost use Rattle.http_wire.specs.declared.faults.HeadFault.{HeadFault};
+ghost use Rattle.repo_routes.specs.Intent.{Judged};
+ghost use Rattle.repo_routes.specs.declared.judging.Refused.{Refused};
+ghost use Rattle.repo_course.specs.Course.{course_of, refuses_head};
 ghost use Rattle.repo_course.specs.declared.outcomes.End.{End};
 ghost use Rattle.repo_course.specs.Serving.{AllTell, Outside, Serves};
 ghost use Rattle.repo_model.specs.History.{Entry, Legal, end};
@@ -13,10 +14,9 @@ ghost use Rattle.repo_model.specs.Settings.{Settings};
 ghost use Rattle.repo_model.specs.State.{State, opening};
 ghost use Rattle.course_laws.specs.AsPlayed.{BeginsAt, IsAsPlayed, IsPlayedUpTo, NoFaults, RowsTold, StoodStill, WantedMemory};
 ghost use Rattle.course_laws.specs.Complete.{IsComplete};
-ghost use Rattle.course_laws.specs.Duties.{Keeps, at_first};
+ghost use Rattle.course_laws.specs.Duties.{Keeps, at_first, is_head_only, unread_of};
 ghost use Rattle.course_laws.specs.Endings.{EndsByCause};
 ghost use Rattle.course_laws.specs.Faultless.{first_scene, play_stream};
-ghost use Rattle.course_laws.specs.Worked.{IsAnswered, abc_200, bad_head_400, created_201, delete, last_get, not_there_404, nothing_200, put_abc, put_nothing, same_200, taken_409};
 ghost use Rattle.course_laws.specs.LeftBehind.{IsDrawn, LeavesNothing};
 
 use outside::Held;
@@ -24,14 +24,14 @@ use outside::Held;
 /// A stream ends by a failure of its source or of its sink exactly where that side's count rose, which is then the only
 /// one of the two that did; a count at the end of its type leaves it open.
 pub fn ends_have_their_causes<H: Held>()
-    ensures { (n : ℕ) (entries : List Entry) (old new : Outside) (ending : End) →
-        Serves (AllTell H.bytes) n entries old new ending → EndsByCause ending old new }
+    ensures { (settings : Settings) (n : ℕ) (entries : List Entry) (old new : Outside) (ending : End) →
+        Serves settings (AllTell H.bytes) n entries old new ending → EndsByCause ending old new }
 {}
 
 /// A request makes at most three commands.
 pub fn calls_are_few<H: Held>()
-    ensures { (n : ℕ) (entries : List Entry) (old new : Outside) (ending : End) →
-        Serves (AllTell H.bytes) n entries old new ending → length entries ≤ 3 * n }
+    ensures { (settings : Settings) (n : ℕ) (entries : List Entry) (old new : Outside) (ending : End) →
+        Serves settings (AllTell H.bytes) n entries old new ending → length entries ≤ 3 * n }
 {}
 
 /// A stream that is served alone leaves no draft and no lease behind: each draft that a course was given was put or given
@@ -39,25 +39,29 @@ pub fn calls_are_few<H: Held>()
 /// they did.
 pub fn nothing_is_left_behind<H: Held>()
     ensures { (settings : Settings) (n : ℕ) (entries : List Entry) (start : State) (old new : Outside) (ending : End) → IsDrawn start.yard
-        → Legal settings start entries → Serves (AllTell H.bytes) n entries old new ending → LeavesNothing start.yard (end settings start entries).yard }
+        → Legal settings start entries → Serves settings (AllTell H.bytes) n entries old new ending → LeavesNothing start.yard (end settings start entries).yard }
 {}
 
 /// A stream that is served alone finds each draft of its own: no call of it is answered NoDraft.
 pub fn own_drafts_are_there<H: Held>()
     ensures { (settings : Settings) (n : ℕ) (entries : List Entry) (start : State) (old new : Outside) (ending : End)
-        → Legal settings start entries → Serves (AllTell H.bytes) n entries old new ending → AllByRecursion (λ (e : Entry). e.reply ≢ no_draft) entries }
+        → Legal settings start entries → Serves settings (AllTell H.bytes) n entries old new ending → AllByRecursion (λ (e : Entry). e.reply ≢ no_draft) entries }
 {}
 
-/// Each course that a head comes to has an answer for each reply that its commands can get: unless memory was wanted, it does
-/// not end in want of memory.
+/// Each course of a request, and each refusal, has an answer for each reply that its commands can get: unless memory was
+/// wanted, it does not end in want of memory.
 pub fn courses_are_complete()
-    ensures { (settings : Settings) (head : Head) (last : Bool) → IsComplete settings (course_of (plain head) last) }
+    ensures requests { (settings : Settings) (judged : Result Judged Refused) (last : Bool) → IsComplete settings (course_of judged last) }
+    ensures no_heads { (settings : Settings) (fault : HeadFault) → IsComplete settings (refuses_head fault) }
 {}
 
-/// Each course that a head comes to does what it owes, whatever is replied and however its acts end: it asks at most three
-/// commands, puts its draft or gives it up, gives its lease back, and answers once.
+/// Each course of a request, and each refusal, does what it owes, whatever is replied and however its acts end: it asks at
+/// most three commands, puts its draft or gives it up, gives its lease back, invites and reads its body at most once, lets
+/// the connection go on only where the body was read, and answers once, to HEAD by a head alone.
 pub fn courses_keep_their_duties()
-    ensures { (head : Head) (last : Bool) → Keeps (course_of (plain head) last) 3 at_first }
+    ensures requests { (judged : Result Judged Refused) (last : Bool) →
+        Keeps (is_head_only judged) (course_of judged last) 3 (at_first (unread_of judged)) }
+    ensures no_heads { (fault : HeadFault) → Keeps false (refuses_head fault) 3 (at_first 0) }
 {}
 
 /// Where no blob failed, and the records did not, a stream that is served alone has taken what is played from the machine's
@@ -69,7 +73,7 @@ pub fn broken_is_a_front<H: Held>()
         (n : ℕ) (entries : List Entry) (start : State) (old new : Outside) (ending : End) (input before : List ℕ) →
         Legal settings start entries → StoodStill start.faults (end settings start entries).faults →
         BeginsAt start input before old → StoodStill old.blob_faults new.blob_faults →
-        Serves (AllTell H.bytes) n entries old new ending →
+        Serves settings (AllTell H.bytes) n entries old new ending →
         let played = play_stream settings n (record { state = start; input = input }) in
         IsPlayedUpTo before played old new ending }
 {}
@@ -81,7 +85,7 @@ pub fn faultless_is_played<H: Held>()
         (n : ℕ) (entries : List Entry) (start : State) (old new : Outside) (ending : End) (input before : List ℕ) →
         Legal settings start entries → StoodStill start.faults (end settings start entries).faults →
         BeginsAt start input before old → NoFaults old new →
-        Serves (AllTell H.bytes) n entries old new ending →
+        Serves settings (AllTell H.bytes) n entries old new ending →
         let played = play_stream settings n (record { state = start; input = input }) in
         IsAsPlayed before played new.output ending }
 {}
@@ -99,7 +103,7 @@ pub fn first_stream_is_played<H: Held>()
         let start = opening settings (Some clock) in
         Legal settings start entries → StoodStill 0 (end settings start entries).faults →
         old.input ≡ Some input → old.output ≡ Some before → StoodStill old.blob_faults new.blob_faults →
-        Serves (AllTell H.bytes) n entries old new ending →
+        Serves settings (AllTell H.bytes) n entries old new ending →
         IsPlayedUpTo before (play_stream settings n (first_scene settings (Some clock) input)) old new ending }
 {}
 
@@ -109,18 +113,9 @@ pub fn faultless_runs_agree<H: Held>()
     ensures { (settings : Settings) → AllTell H.bytes →
         (n : ℕ) (start : State) (input before : List ℕ) (entries others : List Entry) (old new other_old other_new : Outside) (ending other_ending : End) →
         Legal settings start entries → StoodStill start.faults (end settings start entries).faults →
-        BeginsAt start input before old → NoFaults old new → Serves (AllTell H.bytes) n entries old new ending →
+        BeginsAt start input before old → NoFaults old new → Serves settings (AllTell H.bytes) n entries old new ending →
         Legal settings start others → StoodStill start.faults (end settings start others).faults →
-        BeginsAt start input before other_old → NoFaults other_old other_new → Serves (AllTell H.bytes) n others other_old other_new other_ending →
+        BeginsAt start input before other_old → NoFaults other_old other_new → Serves settings (AllTell H.bytes) n others other_old other_new other_ending →
         ((new.output ≡ other_new.output) × (ending ≡ other_ending))
         ⊎ WantedMemory before new.output ⊎ WantedMemory before other_new.output }
-{}
-
-/// Worked exchanges, from an empty repository and whatever the clock tells.
-pub fn worked_exchanges()
-    ensures put_and_get { IsAnswered (put_abc ++ last_get) (created_201 ++ abc_200) }
-    ensures put_again { IsAnswered (put_abc ++ put_abc ++ put_nothing ++ last_get) (created_201 ++ same_200 ++ taken_409 ++ abc_200) }
-    ensures put_nothing { IsAnswered (put_nothing ++ last_get) (created_201 ++ nothing_200) }
-    ensures not_there { IsAnswered last_get not_there_404 }
-    ensures not_plain { IsAnswered delete bad_head_400 }
 {}

@@ -1,6 +1,8 @@
-use Rattle.repo_course.specs.Plain.{plain}
-use Rattle.course_laws.proofs.Complete.{judged-complete, plain-kept}
+use Rattle.course_laws.proofs.Complete.{judged-complete, no-head-complete}
 use Rattle.course_laws.proofs.laws.courses_are_complete.Goals as goal
 
-pub returns : goal.returns
-returns c settings head last = judged-complete settings (plain head) last (plain-kept head)
+pub returns-clause-requests : goal.returns-clause-requests
+returns-clause-requests c = judged-complete
+
+pub returns-clause-no_heads : goal.returns-clause-no_heads
+returns-clause-no_heads c = no-head-complete

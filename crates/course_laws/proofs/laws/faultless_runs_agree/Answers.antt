@@ -9,8 +9,8 @@ use Rattle.course_laws.proofs.laws.faultless_runs_agree.Goals as goal
 agree : (before : List ℕ) (p : Played End) (one other : Option (List ℕ)) (end end' : End) → IsAsPlayed before p one end → IsAsPlayed before p other end'
     → ((one ≡ other) × (end ≡ end')) ⊎ WantedMemory before one ⊎ WantedMemory before other
 agree before p one other end end' (in_full out ends) (in_full out' ends') = inl (out ∙ sym out', ends ∙ sym ends')
-agree before p one other end end' (wants_memory front is out ends) _ = inr (inl (front, out))
-agree before p one other end end' (in_full out ends) (wants_memory front is out' ends') = inr (inr (front, out'))
+agree before p one other end end' (wants_memory front head_only is out ends) _ = inr (inl (front, head_only, out))
+agree before p one other end end' (in_full out ends) (wants_memory front head_only is out' ends') = inr (inr (front, head_only, out'))
 
 pub returns : goal.returns
 returns g c settings told n start input before entries others old new old' new' ending ending' legal records begins calm served legal' records' begins' calm' served' =
