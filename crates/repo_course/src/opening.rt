@@ -96,13 +96,6 @@ fn is_head(request: &Request) -> bool
     request.method() == "HEAD"
 }
 
-/// The answer where memory was wanted for what a head says.
-fn starve<H: Held>(request: &Request) -> Act<H>
-    ensures { (any : AnyManner) → left_of any result ≡ starves request.now }
-{
-    no_memory(at_end(is_head(request)))
-}
-
 /// The first act for a whole head: of its request's course, or its refusal.
 fn open<H: Held>(
     alloc: Global,
@@ -137,6 +130,35 @@ fn open<H: Held>(
     }
 }
 
+/// The same, or where memory was wanted the answer that says so.
+fn open_or_starve<H: Held>(
+    alloc: Global,
+    settings: &Settings,
+    routes: &Option<Routes>,
+    request: &Request,
+    last: bool,
+) -> (Manner, Act<H>)
+    ensures course { (left_of result.0 result.1 ≡ course_of (judge settings.now request.now) last)
+        ⊎ (left_of result.0 result.1 ≡ starves request.now) }
+    ensures meets { Meets settings.now (left_of result.0 result.1) }
+{
+    let manner = at_end(is_head(request));
+    match open(alloc, settings, routes, request, last) {
+        Ok(first) => first,
+        Err(_) => (manner, no_memory(manner)),
+    }
+}
+
+/// The answer to what is no request head, or too long a one.
+fn refuse_head<H: Held>(fault: HeadFault) -> Act<H>
+    ensures { (any : AnyManner) → left_of any result ≡ refuses_head fault }
+{
+    match fault {
+        HeadFault::Broken => say(Said::BadHead, at_end(false)),
+        HeadFault::TooLong => say(Said::HeadTooLong, at_end(false)),
+    }
+}
+
 /// The first act for what was read of a stream, and the manner of its answers: the first of the request's course, the
 /// refusal of its head, or the end of a stream that gave none. Where there are no routes, for which memory was wanted, or
 /// none is left to judge the head, that is the answer.
@@ -150,18 +172,13 @@ pub fn start<H: Held>(
     ensures course { Starts settings.now read last (left_of result.0 result.1) }
     ensures meets { Meets settings.now (left_of result.0 result.1) }
 {
-    let manner = at_end(false);
     let act = match read {
-        Ok(Some(request)) => match open(alloc, settings, routes, &request, last) {
-            Ok(first) => return first,
-            Err(_) => starve(&request),
-        },
+        Ok(Some(request)) => return open_or_starve(alloc, settings, routes, &request, last),
         Ok(None) => Act::Stop(Some(End::Closed)),
         Err(WireFault::Torn) => Act::Stop(Some(End::TornRequest)),
         Err(WireFault::SourceFault) => Act::Stop(Some(End::SourceFault)),
-        Err(WireFault::Refused(HeadFault::Broken)) => say(Said::BadHead, manner),
-        Err(WireFault::Refused(HeadFault::TooLong)) => say(Said::HeadTooLong, manner),
-        Err(WireFault::NoMemory) => no_memory(manner),
+        Err(WireFault::Refused(fault)) => refuse_head(fault),
+        Err(WireFault::NoMemory) => no_memory(at_end(false)),
     };
-    (manner, act)
+    (at_end(false), act)
 }

@@ -1,2 +1,7 @@
-pub mod TargetLemmas
+pub mod KeptLemmas
+pub mod OnLiterals
+pub mod PathLemmas
 pub mod RouteLemmas
+pub mod RouterLemmas
+pub mod TableLemmas
+pub mod TargetLemmas

@@ -6,3 +6,4 @@ pub mod Routes
 pub mod Paths
 pub mod Judge
 pub mod Shown
+pub mod Worked

@@ -6,7 +6,10 @@ use texts::Text;
 #[derive(Drop)]
 pub enum Intent {
     /// GET or HEAD of a file, a document or a side file.
-    Read { repo: Text, path: Text },
+    Read {
+        repo: Text,
+        path: Text,
+    },
     /// PUT of a file.
     PutFile {
         repo: Text,

@@ -6,7 +6,9 @@ ghost use Rattle.repo_routes.specs.Shown.{shown_intent, shown_judged, shown_requ
 ghost use Rattle.repo_routes.specs.Steps.{Gives};
 
 use crate::fault::Fault;
-use crate::framing::{check_host, ends_connection, expects_continue, has_body, is_head, is_put, length_of};
+use crate::framing::{
+    check_host, ends_connection, expects_continue, has_body, is_head, is_put, length_of,
+};
 use crate::intent::Intent;
 use crate::paths::intent_at;
 use crate::refusal::Refusal;
@@ -62,14 +64,21 @@ fn intent_on(
     ensures { Gives shown_intent (spec.intent_on settings.now head.now length (shown_route route.entry)) result }
 {
     match route {
-        Route::InRepository { repo, written } => intent_at(alloc, settings, head, length, repo, written),
+        Route::InRepository { repo, written } => intent_at(
+            alloc, settings, head, length, repo, written,
+        ),
         Route::Status => Ok(Intent::Status),
     }
 }
 
 /// What a head asks for, or the refusal of the first step that refuses.
 #[tactic(auto, unfolding(crate::specs::Judge::intent_of))]
-fn intent_of(alloc: Global, settings: &Settings, routes: &Routes, head: &Request) -> Result<Intent, Fault>
+fn intent_of(
+    alloc: Global,
+    settings: &Settings,
+    routes: &Routes,
+    head: &Request,
+) -> Result<Intent, Fault>
     ensures { Gives shown_intent (spec.intent_of settings.now head.now) result }
 {
     let path = target_path(head.target())?;
@@ -103,13 +112,13 @@ fn loses_place(refusal: Refusal) -> bool
     )
 }
 
-fn refusal_of(head: &Request, refusal: Refusal) -> Refused
-    ensures { result ≡ spec.refusal_of head.now refusal }
+fn refusal_of(request: &Request, refusal: Refusal) -> Refused
+    ensures { result ≡ spec.refusal_of request.now refusal }
 {
     Refused {
         refusal,
-        head_only: is_head(head),
-        close: loses_place(refusal) || ends_connection(head) || has_body(head),
+        head_only: is_head(request),
+        close: loses_place(refusal) || ends_connection(request) || has_body(request),
     }
 }
 

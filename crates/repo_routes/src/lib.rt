@@ -10,6 +10,7 @@ mod fault;
 mod framing;
 mod intent;
 mod judging;
+pub mod laws;
 mod paths;
 mod refusal;
 mod routes;

@@ -108,7 +108,13 @@ fn put_of(repo: Text, path: Text, length: u64, thing: Thing) -> Intent
 
 /// The PUT of a body that is not too long.
 #[tactic(auto, unfolding(crate::specs::Paths::put_at))]
-fn put_at(settings: &Settings, repo: Text, path: Text, length: u64, thing: Thing) -> Result<Intent, Refusal>
+fn put_at(
+    settings: &Settings,
+    repo: Text,
+    path: Text,
+    length: u64,
+    thing: Thing,
+) -> Result<Intent, Refusal>
     ensures { result_shown shown_intent result ≡ spec.put_at settings.now repo path length thing }
 {
     check_limit(limit_of(settings, thing), length)?;

@@ -1,5 +1,6 @@
 //! The routes of the server.
-ghost use Rattle.std.specs.Prelude.{◌≡◌, OnOk, List, ℕ, []};
+ghost use Rattle.std.specs.Prelude.{◌≡◌, OnOk, List, ℕ, [], bytes_eq};
+ghost use Rattle.std.specs.List.{list_any};
 ghost use Rattle.std.specs.Option.{option_map};
 ghost use Rattle.matchit.specs.Seek.{first};
 ghost use Rattle.repo_model.specs.Command.{is_there};
@@ -11,7 +12,7 @@ use crate::refusal::{Allow, Refusal};
 use byte_cuts::text::{behind, is};
 use http_wire::Request;
 use matchit::{InsertError, Router};
-use repo_config::Settings;
+use repo_config::{HostedRule, Settings};
 use std::alloc::{AllocError, Global};
 use std::marker::Model;
 
@@ -105,11 +106,18 @@ fn repository_route(text: &str) -> Option<Route<'_>>
     Some(Route::InRepository { repo, written })
 }
 
+/// Whether one of these repositories has the id.
+fn is_listed(rules: &[HostedRule], repo: &str) -> bool
+    ensures { result ≡ list_any (λ rule. bytes_eq rule.id repo.now) rules.now }
+{
+    rules.iter().any(|rule| is(rule.id(), repo))
+}
+
 /// Whether the settings have a hosted repository of this id.
 fn is_there(settings: &Settings, repo: &str) -> bool
     ensures { result ≡ is_there repo.now settings.now }
 {
-    settings.hosted().iter().any(|rule| is(rule.id(), repo))
+    is_listed(settings.hosted(), repo)
 }
 
 /// The repository that a route names has to be there.

@@ -2,7 +2,7 @@
 ghost use Rattle.std.specs.Prelude.{◌≡◌, ◌≤◌, ℕ, length as list_length, List, Option};
 ghost use Rattle.outside.specs.Told.{in_front, IsWhereTold};
 ghost use Rattle.repo_course.specs.Acts.{shown_stored};
-ghost use Rattle.repo_course.specs.Serving.{AllTell, Outside, outside, Sends, Takes};
+ghost use Rattle.repo_course.specs.Serving.{AllTell, Outside, outside, Reads, Sends, Takes};
 ghost use Rattle.repo_model.specs.Data.{Blob};
 ghost use Rattle.repo_model.specs.Shown.{shown_parcel};
 
@@ -11,6 +11,7 @@ use mvn_digest::Hashes;
 use outside::{BlobFault, Blobs, Parcel, Sink, Source, Tells, write_all};
 use repo_course::{Sent, Took};
 use std::alloc::Global;
+use texts::Bytes;
 
 /// Stores a body under a draft, with its digests. The body was read from a stream that tells `rest` behind it.
 fn store_body<B: Blobs>(blobs: &mut B, draft: u64, body: &[u8]) -> Result<Parcel<B::Held>, Took>
@@ -52,6 +53,28 @@ pub fn take_body<B: Blobs, S: Source>(
 {
     match wire.body(alloc, source, length) {
         Ok(body) => store_body(blobs, draft, body.as_slice()),
+        Err(WireFault::Torn) => Err(Took::Torn),
+        Err(WireFault::SourceFault) => Err(Took::SourceFault),
+        Err(_) => Err(Took::NoMemory),
+    }
+}
+
+/// Reads a small body of `length` bytes from the stream.
+///
+/// `Torn` comes where the stream ends before, `SourceFault` where the count of the source rose, and after `NoMemory` no byte
+/// is used. Where the wire holds the whole body the source isn't read. What the sink's side of a stream tells stays.
+pub fn read_body<S: Source>(
+    alloc: Global,
+    length: u64,
+    wire: &mut Wire,
+    source: &mut S,
+) -> Result<Bytes, Took>
+    ensures reads { (blobs : ℕ) → Reads length result
+        (outside ⟦<S as Tells>⟧ wire.old source.old blobs) (outside ⟦<S as Tells>⟧ wire.new source.new blobs) }
+    ensures unasked { length ≤ list_length wire.old → source.new ≡ source.old }
+{
+    match wire.body(alloc, source, length) {
+        Ok(body) => Ok(Bytes::from_vec(body)),
         Err(WireFault::Torn) => Err(Took::Torn),
         Err(WireFault::SourceFault) => Err(Took::SourceFault),
         Err(_) => Err(Took::NoMemory),

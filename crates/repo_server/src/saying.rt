@@ -1,15 +1,16 @@
 //! Answers written.
-ghost use Rattle.std.specs.Prelude.{ℕ, List};
-ghost use Rattle.repo_course.specs.Answers.{answer_of, file_answer};
-ghost use Rattle.repo_course.specs.Serving.{outside, Says, Sends};
+ghost use Rattle.std.specs.Prelude.{◌≡◌, ℕ, List, true};
+ghost use Rattle.http_wire.specs.Answer.{shown};
+ghost use Rattle.repo_course.specs.Answers.{answer_of, file_answer, memory_answer};
+ghost use Rattle.repo_course.specs.Course.{end_of};
+ghost use Rattle.repo_course.specs.Serving.{Continues, outside, Says, SendsAnswer, SendsHead};
 ghost use Rattle.repo_model.specs.Shown.{shown_parcel};
 ghost use Rattle.repo_server.specs.Written.{IsWritten};
-ghost use Rattle.http_wire.specs.Answer.{shown};
 
 use crate::files::send_file;
-use http_wire::no_memory_answer;
+use http_wire::{continue_answer, no_memory_answer, no_memory_head};
 use outside::{Blobs, Parcel, Sink, Tells, write_all};
-use repo_course::{End, Said, Sent, file_head, rendered};
+use repo_course::{Continued, End, Manner, Said, Sent, end_of, file_head, rendered};
 use std::alloc::Global;
 
 /// Writes bytes. It says how the stream ends then: as `next` says, or by a fault of the sink, which took a part.
@@ -23,37 +24,71 @@ fn write<O: Sink>(bytes: &[u8], next: Option<End>, sink: &mut O) -> Option<End>
     }
 }
 
-/// Writes the answer that says so, or that memory was wanted in its place. It says how the stream ends then, as `next` says
-/// where the answer was written.
-pub fn say<O: Sink>(
-    alloc: Global,
-    said: Said,
-    close: bool,
-    next: Option<End>,
-    sink: &mut O,
-) -> Option<End>
-    ensures { (held : List ℕ) (blobs : ℕ) → Says (answer_of said close) next
-        (outside ⟦<O as Tells>⟧ held sink.old blobs) (outside ⟦<O as Tells>⟧ held sink.new blobs) result }
+/// The bytes of the answer where memory was wanted, or of its head alone.
+fn memory_bytes(head_only: bool) -> &'static [u8]
+    ensures { result.now ≡ shown (memory_answer head_only) }
 {
-    match rendered(alloc, &said, close) {
-        Ok(bytes) => write(bytes.as_slice(), next, sink),
-        Err(_) => write(no_memory_answer(), Some(End::Closed), sink),
+    if head_only {
+        no_memory_head()
+    } else {
+        no_memory_answer()
     }
 }
 
-/// Sends a file behind the head of its answer, which ends the connection or not.
+/// Writes the answer that says so, or that memory was wanted in its place. It says how the stream ends then, as the answer's
+/// manner says where it was written.
+pub fn say<O: Sink>(alloc: Global, said: Said, manner: Manner, sink: &mut O) -> Option<End>
+    ensures { (held : List ℕ) (blobs : ℕ) → Says (answer_of said manner) (memory_answer manner.head_only) (end_of manner)
+        (outside ⟦<O as Tells>⟧ held sink.old blobs) (outside ⟦<O as Tells>⟧ held sink.new blobs) result }
+{
+    match rendered(alloc, said, manner) {
+        Ok(bytes) => write(bytes.as_slice(), end_of(manner), sink),
+        Err(_) => write(memory_bytes(manner.head_only), Some(End::Closed), sink),
+    }
+}
+
+/// Writes `100 Continue` (RFC 9110, section 15.2.1). It takes no memory.
+pub fn invite<O: Sink>(sink: &mut O) -> Continued
+    ensures { (held : List ℕ) (blobs : ℕ) → Continues result
+        (outside ⟦<O as Tells>⟧ held sink.old blobs) (outside ⟦<O as Tells>⟧ held sink.new blobs) }
+{
+    match write_all(sink, continue_answer()) {
+        Ok(()) => Continued::Written,
+        Err(_) => Continued::SinkFault,
+    }
+}
+
+/// Writes the head of a file's answer alone.
+fn send_head<O: Sink>(head: &[u8], sink: &mut O) -> Sent
+    ensures { (held : List ℕ) (blobs : ℕ) → SendsHead head.now result
+        (outside ⟦<O as Tells>⟧ held sink.old blobs) (outside ⟦<O as Tells>⟧ held sink.new blobs) }
+{
+    match write_all(sink, head) {
+        Ok(()) => Sent::Whole,
+        Err(_) => Sent::SinkFault,
+    }
+}
+
+/// Sends a file behind the head of its answer, or where the answer is its head alone only that: the blob is not read then.
 pub fn send<B: Blobs, O: Sink>(
     alloc: Global,
     blobs: &mut B,
     parcel: &Parcel<B::Held>,
-    close: bool,
+    manner: Manner,
     sink: &mut O,
 ) -> Sent
-    ensures { (held : List ℕ) → Sends (shown_parcel parcel.now) (shown (file_answer (shown_parcel parcel.now) close)) result
+    ensures sends { (held : List ℕ) → SendsAnswer manner.head_only (shown_parcel parcel.now) (shown (file_answer (shown_parcel parcel.now) manner)) result
         (outside ⟦<O as Tells>⟧ held sink.old (B.faults blobs.old)) (outside ⟦<O as Tells>⟧ held sink.new (B.faults blobs.new)) }
+    ensures unread { manner.head_only ≡ true → blobs.new ≡ blobs.old }
 {
-    match file_head(alloc, parcel, close) {
-        Ok(head) => send_file(blobs, parcel, head.as_slice(), sink),
+    match file_head(alloc, parcel, manner) {
+        Ok(head) => {
+            if manner.head_only {
+                send_head(head.as_slice(), sink)
+            } else {
+                send_file(blobs, parcel, head.as_slice(), sink)
+            }
+        }
         Err(_) => Sent::NoMemory,
     }
 }

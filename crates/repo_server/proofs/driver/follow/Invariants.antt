@@ -12,12 +12,12 @@ abbrev pub invariant-loop-act : goal.invariant-loop-act
 invariant-loop-act g l = record {
   settings : g.A.Ask.settings l.asker ≡ g.A.Ask.settings l.fn.asker;
   ready : g.A.Ask.ready l.asker;
-  meets : Meets (g.A.Ask.settings l.fn.asker) (left_of l.closing l.act);
+  meets : Meets (g.A.Ask.settings l.fn.asker) (left_of l.manner l.act);
   made : (before : List Entry) × LeadsTo g.A.Ask.asks l.fn.asker before l.asker
       × ((later : List Entry) (final : Outside) (ending : Option End)
-      → Follows (AllTell g.B.Held.Held.bytes) (left_of l.closing l.act) later
+      → Follows (AllTell g.B.Held.Held.bytes) (left_of l.manner l.act) later
       (outside g.T.Tells l.wire l.stream (g.B.Blobs.faults l.blobs)) final ending
-      → Follows (AllTell g.B.Held.Held.bytes) (left_of l.closing l.fn.first) (before ++ later)
+      → Follows (AllTell g.B.Held.Held.bytes) (left_of l.manner l.fn.first) (before ++ later)
       (outside g.T.Tells l.fn.wire l.fn.stream (g.B.Blobs.faults l.fn.blobs)) final ending);
 }
 

@@ -6,7 +6,7 @@ use Rattle.repo_server.proofs.StreamSteps.{opens_read}
 use Rattle.repo_server.proofs.streams.serve_turn.Goals as goal
 
 pub follow-requires-clause-meets : goal.follow-requires-clause-meets
-follow-requires-clause-meets g c = c.start-act.ensures.meets (g.A.Ask.settings c.args.asker.now) c.requires.releases
+follow-requires-clause-meets g c = rw c.requires.settings c.start-act.ensures.meets
 
 pub returns-clause-turn : goal.returns-clause-turn
 returns-clause-turn g c =
@@ -20,7 +20,7 @@ returns-clause-turn g c =
       (
         left,
         mid,
-        opens_read c.args.last left old mid c.next_request-read.result
+        opens_read c.args.settings.now c.args.last left old mid c.next_request-read.result
             (record {
               request = e.request;
               clean = e.clean;

@@ -12,8 +12,8 @@ invariant-loop-served g l = record {
   ready : g.A.Ask.ready l.asker;
   made : (before : List Entry) × LeadsTo g.A.Ask.asks l.fn.asker before l.asker
       × ((later : List Entry) (final : Outside) (ending : End)
-      → Serves (AllTell g.B.Held.Held.bytes) (1000 - l.served) later
+      → Serves l.settings (AllTell g.B.Held.Held.bytes) (1000 - l.served) later
       (outside g.T.Tells l.wire l.stream (g.B.Blobs.faults l.blobs)) final ending
-      → Serves (AllTell g.B.Held.Held.bytes) 1000 (before ++ later)
+      → Serves l.settings (AllTell g.B.Held.Held.bytes) 1000 (before ++ later)
       (outside g.T.Tells [] l.fn.stream (g.B.Blobs.faults l.fn.blobs)) final ending);
 }

@@ -1,0 +1,103 @@
+-- What every request keeps that is not refused.
+use Rattle.std.specs.Prelude.{IsTrue}
+use Rattle.std.proofs.Common.{◌≡◌, ℕ, ◌≤◌, Bool, true, false, cond, nat_le, List, Some, Result, Ok, Err, IfOk, is_some, refl, arith}
+use Rattle.std.proofs.lemmas.Bool.Decides.{nat_tests}
+use Rattle.mvn_coords.specs.Kind.{kind}
+use Rattle.mvn_coords.specs.declared.kind.Kind.{Kind}
+use Rattle.mvn_coords.specs.declared.kind.Kind.TheVariants.{File, FileSide, Doc, DocSide}
+use Rattle.mvn_coords.specs.declared.fault.PathFault.{PathFault}
+use Rattle.mvn_coords.specs.declared.fault.Side.{Side}
+use Rattle.http_wire.specs.Head.{Head}
+use Rattle.repo_model.specs.Command.{is_there, names_document, names_something}
+use Rattle.repo_model.specs.Paths.{file_in}
+use Rattle.repo_model.specs.Settings.{Settings}
+use Rattle.repo_routes.specs.declared.paths.Thing.{Thing}
+use Rattle.repo_routes.specs.declared.paths.Thing.TheVariants as thing
+use Rattle.repo_routes.specs.declared.refusal.Refusal.{Refusal}
+use Rattle.repo_routes.specs.Framing.{check_host, is_put, length_of}
+use Rattle.repo_routes.specs.Intent.{Intent}
+use Rattle.repo_routes.specs.Judge.{IsIntent, check_body, intent_of, intent_on}
+use Rattle.repo_routes.specs.Paths.{asked_at, check_limit, decoded, intent_at, limit_of, path_refusal, put_at, put_of, side_of, thing_at, thing_or}
+use Rattle.repo_routes.specs.Routes.{Route, in_repository, status, check_method, check_repository, has_repository, route_of}
+use Rattle.repo_routes.specs.Steps.{◌>>=◌, need}
+use Rattle.repo_routes.specs.Target.{target_path}
+
+-- what holds of each end of what follows a step holds of the ends of both
+kept-then : {A B : Type 0} (step : Result A Refusal) (next : A → Result B Refusal) (P : B → Type 0)
+    → ((value : A) → step ≡ Ok value → IfOk (next value) P) → IfOk (step >>= next) P
+kept-then (Ok value) next P kept = kept value refl
+kept-then (Err cause) next P kept = tt
+
+needed : (test : Bool) (cause : Refusal) → need test cause ≡ Ok tt → test ≡ true
+needed true cause e = refl
+needed false cause e = cc
+
+-- what a path names is what it was taken for
+something-named : (cause : PathFault → Refusal) (k : Result Kind PathFault) (what : Thing) → thing_or cause k ≡ Ok what → IsTrue (names_something k)
+something-named cause (Ok k) what e = refl
+something-named cause (Err fault) what e = cc
+
+file-named : (cause : PathFault → Refusal) (k : Result Kind PathFault) → thing_or cause k ≡ Ok thing.File → IsTrue (is_some (file_in k))
+file-named cause (Ok (File c)) e = refl
+file-named cause (Ok (FileSide c side)) e = cc
+file-named cause (Ok (Doc d)) e = cc
+file-named cause (Ok (DocSide d side)) e = cc
+file-named cause (Err fault) e = cc
+
+document-named : (cause : PathFault → Refusal) (k : Result Kind PathFault) → thing_or cause k ≡ Ok thing.Document → IsTrue (names_document k)
+document-named cause (Ok (File c)) e = cc
+document-named cause (Ok (FileSide c side)) e = cc
+document-named cause (Ok (Doc d)) e = refl
+document-named cause (Ok (DocSide d side)) e = cc
+document-named cause (Err fault) e = cc
+
+side-named : (cause : PathFault → Refusal) (k : Result Kind PathFault) (side : Side) → thing_or cause k ≡ Ok (thing.Side side) → side_of k ≡ Some side
+side-named cause (Ok (File c)) side e = cc
+side-named cause (Ok (FileSide c other)) side e = cc
+side-named cause (Ok (Doc d)) side e = cc
+side-named cause (Ok (DocSide d other)) side e = cc
+side-named cause (Err fault) side e = cc
+
+put-kept : (settings : Settings) (cause : PathFault → Refusal) (repo path : List ℕ) (length : ℕ) (what : Thing) → is_there repo settings ≡ true
+    → thing_or cause (kind path) ≡ Ok what → length ≤ limit_of settings what → IsIntent settings (put_of repo path length what)
+unfolding limit_of
+put-kept settings cause repo path length thing.File there e fits = (there, file-named cause (kind path) e, fits)
+put-kept settings cause repo path length thing.Document there e fits = (there, document-named cause (kind path) e, fits)
+put-kept settings cause repo path length (thing.Side side) there e fits = (there, side-named cause (kind path) side e, fits)
+
+within-limit : (limit length : ℕ) → check_limit limit length ≡ Ok tt → length ≤ limit
+unfolding check_limit
+within-limit limit length e = let h : nat_le length limit ≡ true = needed _ _ e in grind (arith, nat_tests)
+
+asked-kept : (settings : Settings) (cause : PathFault → Refusal) (put : Bool) (repo path : List ℕ) (length : ℕ) (what : Thing) → is_there repo settings ≡ true
+    → thing_or cause (kind path) ≡ Ok what → IfOk (cond put (put_at settings repo path length what) (Ok (Intent.reads repo path))) (IsIntent settings)
+unfolding put_at
+asked-kept settings cause true repo path length what there e =
+    kept-then (check_limit (limit_of settings what) length) (λ _. Ok (put_of repo path length what)) (IsIntent settings)
+    (λ u fits. put-kept settings cause repo path length what there e (within-limit _ _ fits))
+asked-kept settings cause false repo path length what there e = (there, something-named cause (kind path) what e)
+
+at-kept : (settings : Settings) (head : Head) (length : ℕ) (repo written : List ℕ) → is_there repo settings ≡ true
+    → IfOk (intent_at settings head length repo written) (IsIntent settings)
+unfolding intent_at thing_at asked_at
+at-kept settings head length repo written there =
+    kept-then (decoded head written) _ (IsIntent settings)
+    (λ path _. kept-then (thing_at head path) _ (IsIntent settings)
+    (λ what e. asked-kept settings (path_refusal head) (is_put head) repo path length what there e))
+
+on-kept : (settings : Settings) (head : Head) (length : ℕ) (route : Route) → has_repository settings route ≡ true
+    → IfOk (intent_on settings head length route) (IsIntent settings)
+on-kept settings head length (in_repository repo written) there = at-kept settings head length repo written there
+on-kept settings head length status there = tt
+
+pub intent-kept : (settings : Settings) (head : Head) → IfOk (intent_of settings head) (IsIntent settings)
+unfolding intent_of check_repository
+intent-kept settings head =
+    kept-then (target_path head.target) _ (IsIntent settings)
+    (λ path _. kept-then (check_host head) _ (IsIntent settings)
+    (λ _ _. kept-then (length_of head) _ (IsIntent settings)
+    (λ length _. kept-then (route_of path) _ (IsIntent settings)
+    (λ route _. kept-then (check_repository settings route) _ (IsIntent settings)
+    (λ _ there. kept-then (check_method route head) _ (IsIntent settings)
+    (λ _ _. kept-then (check_body head length) _ (IsIntent settings)
+    (λ _ _. on-kept settings head length route (needed _ _ there))))))))

@@ -1,0 +1,161 @@
+-- The two patterns of the server find the routes of `specs/Routes.antt`.
+use Rattle.std.specs.Prelude.{option_and_then}
+use Rattle.std.specs.Option.{option_map}
+use Rattle.std.specs.List.{after_first, before_first, position_or_len, starts_with}
+use Rattle.std.specs.Cmp.Lexicographic.{pointwise}
+use Rattle.std.proofs.Common.{◌≡◌, ◌⊎◌, inl, inr, ℕ, zero, suc, ◌+◌, ◌<◌, Bool, true, false, cond, ◌==◌, ◌&&◌, nat_eq, nat_lt, List, [], ◌∷◌, ◌++◌, length, take, drop, Option, Some, None, refl, sym, ◌∙◌, ap, arith, bytes_eq, codes}
+use Rattle.std.proofs.lemmas.Bool.Decides.{nat_tests}
+use Rattle.byte_cuts.specs.Cuts.{behind}
+use Rattle.matchit.specs.Rows.{RowsOf, catch_all_token, param_token}
+use Rattle.matchit.specs.Router.{RouteOf}
+use Rattle.matchit.specs.Seek.{has_slash, or_else, seek, step}
+use Rattle.repo_routes.specs.declared.routes.Place.{Place}
+use Rattle.repo_routes.specs.declared.routes.Place.TheVariants as place
+use Rattle.repo_routes.specs.Routes.{Route, in_repository, status, below_repository, place_of, repository_route, route_at}
+use Rattle.repo_routes.proofs.RouterLemmas.{along, and-false, filled, is_word, neither, or-none, parameter, seek-byte, seek-none, strip, with-slash, without-slash, word-row}
+
+abbrev is_slash : ℕ → Bool
+is_slash b = b == 47
+
+abbrev id_of : List ℕ → List ℕ
+id_of text = before_first is_slash text
+
+abbrev rest_of : List ℕ → List ℕ
+rest_of text = after_first is_slash text
+
+id-cons : (b : ℕ) (text : List ℕ) → (b == 47) ≡ false → id_of (b ∷ text) ≡ b ∷ id_of text
+id-cons b text e =
+    let s : 1 + position_or_len is_slash text ≡ suc (position_or_len is_slash text) = omega arith in
+    rw e (rw s refl)
+
+rest-cons : (b : ℕ) (text : List ℕ) → (b == 47) ≡ false → rest_of (b ∷ text) ≡ rest_of text
+rest-cons b text e =
+    let s : 1 + position_or_len is_slash text + 1 ≡ suc (position_or_len is_slash text + 1) = omega arith in
+    rw e (rw s refl)
+
+-- a text has no slash and nothing behind it, or is cut at its first slash
+abbrev IsCut : List ℕ → Type 0
+IsCut text =
+    ((has_slash text ≡ false) × (rest_of text ≡ [])) ⊎ ((text ≡ id_of text ++ 47 ∷ rest_of text) × (has_slash (id_of text) ≡ false))
+
+cut-further : (b : ℕ) (text : List ℕ) → (b == 47) ≡ false → IsCut text → IsCut (b ∷ text)
+cut-further b text other (inl p) = inl (rw other p.0, rest-cons b text other ∙ p.1)
+cut-further b text other (inr p) =
+    inr (ap (λ t. b ∷ t) p.0 ∙ sym (rw (id-cons b text other, rest-cons b text other) refl), rw (id-cons b text other) (rw other p.1))
+
+cut-here : (text : List ℕ) → IsCut (47 ∷ text)
+cut-here text = inr (refl, refl)
+
+is-slash : (b : ℕ) → (b == 47) ≡ true → b ≡ 47
+is-slash b e = grind (arith, nat_tests)
+
+cut-at : (b : ℕ) (text : List ℕ) (test : Bool) → (b == 47) ≡ test → IsCut text → IsCut (b ∷ text)
+cut-at b text true e p = let same : b ≡ 47 = is-slash b e in rw same (cut-here text)
+cut-at b text false e p = cut-further b text e p
+
+cut : (text : List ℕ) → IsCut text
+cut [] = inl (refl, refl)
+cut (b ∷ text) = cut-at b text (b == 47) refl (cut text)
+
+filled-length : (text : List ℕ) → filled text ≡ nat_lt 0 (length text)
+unfolding filled
+filled-length [] = refl
+filled-length (b ∷ text) = sym (let positive : 0 < length (b ∷ text) = omega arith in grind (arith, nat_tests))
+
+-- an id and what stands behind it, neither empty
+abbrev has_both : List ℕ → Bool
+has_both text = nat_lt 0 (length (id_of text)) && nat_lt 0 (length (rest_of text))
+
+strip-behind : (word path : List ℕ) → strip word path ≡ behind word path
+unfolding strip
+strip-behind [] path = refl
+strip-behind (x ∷ word) [] = refl
+strip-behind (x ∷ word) (b ∷ path) =
+    elim (x == b) as (λ same. cond same (strip word path) None ≡ cond (same && pointwise nat_eq word (take (length word) path)) (Some (drop (length word) path)) None) [
+      | true ↦ strip-behind word path
+      | false ↦ refl
+    ]
+
+module _ {K : Type 0} where
+  by-parts : (key : K) (text : List ℕ) → IsCut text → seek 0 (parameter key) text ≡ cond (has_both text) (Some key) None
+  by-parts key text (inl p) =
+      let none : has_both text ≡ false = and-false _ _ (ap (λ t. nat_lt 0 (length t)) p.1) in
+      without-slash key text p.0 ∙ (rw none refl)
+  by-parts key text (inr p) =
+      ap (λ t. seek 0 (parameter key) t) p.0 ∙ with-slash key (id_of text) (rest_of text) p.1
+      ∙ rw (filled-length (id_of text), filled-length (rest_of text)) refl
+
+  parts-row : (key : K) (text : List ℕ) → seek 0 (parameter key) text ≡ cond (has_both text) (Some key) None
+  parts-row key text = by-parts key text (cut text)
+
+  -- two patterns that part behind the first slash: `/a..` and `/r..`
+  module _ (a r : List ℕ) (s t : K) where
+    part-by : (x y : Bool) (path : List ℕ) → (x ≡ true → y ≡ true → ⊥)
+        → seek 0 (cond x ((a, s) ∷ cond y ((r, t) ∷ []) []) (cond y ((r, t) ∷ []) [])) path ≡ or_else (seek 0 (cond x ((a, s) ∷ []) []) path) (seek 0 (cond y ((r, t) ∷ []) []) path)
+    part-by true true path apart = absurd (apart refl refl)
+    part-by true false path apart = rw (seek-none 0 path) (sym (or-none (seek 0 ((a, s) ∷ []) path)))
+    part-by false true path apart = rw (seek-none 0 path) refl
+    part-by false false path apart = rw (seek-none 0 path) refl
+
+    letters-apart : (b : ℕ) → (97 == b) ≡ true → (114 == b) ≡ true → ⊥
+    letters-apart b x y = grind (arith, nat_tests)
+
+    part : (path : List ℕ)
+        → seek 0 ((97 ∷ a, s) ∷ (114 ∷ r, t) ∷ []) path ≡ or_else (seek 0 ((97 ∷ a, s) ∷ []) path) (seek 0 ((114 ∷ r, t) ∷ []) path)
+    unfolding seek
+    part [] = refl
+    part (b ∷ path) =
+        seek-byte ((97 ∷ a, s) ∷ (114 ∷ r, t) ∷ []) b path refl refl
+        ∙ part-by (97 == b) (114 == b) path (letters-apart b)
+        ∙ sym (rw (seek-byte ((97 ∷ a, s) ∷ []) b path refl refl, seek-byte ((114 ∷ r, t) ∷ []) b path refl refl) refl)
+
+    slash-by : (x : Bool) (path : List ℕ)
+        → seek 0 (cond x ((97 ∷ a, s) ∷ cond x ((114 ∷ r, t) ∷ []) []) (cond x ((114 ∷ r, t) ∷ []) [])) path ≡ or_else (seek 0 (cond x ((97 ∷ a, s) ∷ []) []) path) (seek 0 (cond x ((114 ∷ r, t) ∷ []) []) path)
+    slash-by true path = part path
+    slash-by false path = rw (seek-none 0 path) refl
+
+    -- a path is of one pattern or of the other
+    apart : (path : List ℕ)
+        → seek 0 ((47 ∷ 97 ∷ a, s) ∷ (47 ∷ 114 ∷ r, t) ∷ []) path ≡ or_else (seek 0 ((47 ∷ 97 ∷ a, s) ∷ []) path) (seek 0 ((47 ∷ 114 ∷ r, t) ∷ []) path)
+    unfolding seek
+    apart [] = refl
+    apart (b ∷ path) =
+        seek-byte ((47 ∷ 97 ∷ a, s) ∷ (47 ∷ 114 ∷ r, t) ∷ []) b path refl refl
+        ∙ slash-by (47 == b) path
+        ∙ sym (rw (seek-byte ((47 ∷ 97 ∷ a, s) ∷ []) b path refl refl, seek-byte ((47 ∷ 114 ∷ r, t) ∷ []) b path refl refl) refl)
+
+-- the rows of both patterns
+abbrev pub table : RouteOf Place → RouteOf Place → RowsOf (RouteOf Place)
+table s t =
+    (codes "/api/status", s) ∷ (codes "/repository/" ++ param_token ∷ 47 ∷ catch_all_token ∷ [], t)
+    ∷ []
+
+abbrev value_of : Option (RouteOf Place) → Option Place
+value_of found = option_map (λ e. e.value) found
+
+repository-by : (t : RouteOf Place) (test : Bool) (repo written : List ℕ) → t.value ≡ place.Repository
+    → value_of (cond test (Some t) None) ≡ option_map place_of (cond test (Some (in_repository repo written)) None)
+repository-by t true repo written e = ap (λ v. Some v) e
+repository-by t false repo written e = refl
+
+repository-found : (t : RouteOf Place) (found : Option (List ℕ)) → t.value ≡ place.Repository
+    → value_of (option_and_then (λ rest. seek 0 (parameter t) rest) found) ≡ option_map place_of (option_and_then repository_route found)
+unfolding repository_route
+repository-found t None e = refl
+repository-found t (Some rest) e = rw (parts-row t rest) (repository-by t (has_both rest) (id_of rest) (rest_of rest) e)
+
+status-by : (s : RouteOf Place) (test : Bool) (other : Option (RouteOf Place)) (route : Option Route) → s.value ≡ place.Status
+    → value_of other ≡ option_map place_of route
+    → value_of (or_else (cond test (Some s) None) other) ≡ option_map place_of (cond test (Some status) route)
+status-by s true other route e same = ap (λ v. Some v) e
+status-by s false other route e same = same
+
+pub table-routes : (s t : RouteOf Place) → s.value ≡ place.Status → t.value ≡ place.Repository
+    → (path : List ℕ) → value_of (seek 0 (table s t) path) ≡ option_map place_of (route_at path)
+unfolding route_at is_word parameter
+table-routes s t status_row repository_row path =
+    let word : seek 0 ((codes "/api/status", s) ∷ []) path ≡ cond (bytes_eq path (codes "/api/status")) (Some s) None = word-row (codes "/api/status") s path refl in
+    let front : seek 0 ((codes "/repository/" ++ param_token ∷ 47 ∷ catch_all_token ∷ [], t) ∷ []) path ≡ option_and_then (λ rest. seek 0 (parameter t) rest) (behind (codes "/repository/") path) =
+    along (codes "/repository/") (param_token ∷ 47 ∷ catch_all_token ∷ []) t path refl ∙ ap (option_and_then (λ rest. seek 0 (parameter t) rest)) (strip-behind (codes "/repository/") path) in
+    ap value_of (apart _ _ s t path ∙ ap (λ found. or_else found (seek 0 ((codes "/repository/" ++ param_token ∷ 47 ∷ catch_all_token ∷ [], t) ∷ []) path)) word ∙ ap (or_else (cond (bytes_eq path (codes "/api/status")) (Some s) None)) front)
+    ∙ status-by s (bytes_eq path (codes "/api/status")) _ (below_repository path) status_row (repository-found t (behind (codes "/repository/") path) repository_row)

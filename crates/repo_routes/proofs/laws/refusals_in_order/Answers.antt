@@ -1,0 +1,25 @@
+use Rattle.std.proofs.Common.{refl}
+use Rattle.repo_routes.specs.Worked.{RefusesInOrder}
+use Rattle.repo_routes.proofs.OnLiterals.{routes_on_literals}
+use Rattle.repo_routes.proofs.laws.refusals_in_order.Goals as goal
+
+computed : RefusesInOrder
+unfolding routes_on_literals
+computed = record {
+  target = refl;
+  no_host = refl;
+  two_hosts = refl;
+  no_length = refl;
+  chunks = refl;
+  bad_length = refl;
+  two_lengths = refl;
+  route = refl;
+  repository = refl;
+  method = refl;
+  body = refl;
+  path = refl;
+  limit = refl;
+}
+
+pub returns : goal.returns
+returns c = computed

@@ -1,0 +1,23 @@
+use Rattle.std.proofs.Common.{refl}
+use Rattle.repo_routes.specs.Worked.{RefusesWithoutBody}
+use Rattle.repo_routes.proofs.OnLiterals.{routes_on_literals}
+use Rattle.repo_routes.proofs.laws.refusals_without_body.Goals as goal
+
+computed : RefusesWithoutBody
+unfolding routes_on_literals
+computed = record {
+  goes_on = refl;
+  ends = refl;
+  old = refl;
+  of_head = refl;
+  of_head_at_host = refl;
+  small_letters = refl;
+  proxy = refl;
+  group = refl;
+  escape = refl;
+  no_text = refl;
+  escaped_id = refl;
+}
+
+pub returns : goal.returns
+returns c = computed

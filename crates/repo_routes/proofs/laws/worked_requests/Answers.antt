@@ -1,0 +1,22 @@
+use Rattle.std.proofs.Common.{refl}
+use Rattle.repo_routes.specs.Worked.{AsksFor}
+use Rattle.repo_routes.proofs.OnLiterals.{routes_on_literals}
+use Rattle.repo_routes.proofs.laws.worked_requests.Goals as goal
+
+computed : AsksFor
+unfolding routes_on_literals
+computed = record {
+  file = refl;
+  no_body = refl;
+  status = refl;
+  put = refl;
+  put_side = refl;
+  put_document = refl;
+  of_head = refl;
+  old = refl;
+  expects = refl;
+  expects_nothing = refl;
+}
+
+pub returns : goal.returns
+returns c = computed

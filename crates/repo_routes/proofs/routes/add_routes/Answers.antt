@@ -1,0 +1,11 @@
+use Rattle.std.proofs.Common.{refl}
+use Rattle.matchit.proofs.OnLiterals.{matchit_on_literals}
+use Rattle.repo_routes.proofs.TableLemmas.{table-routes}
+use Rattle.repo_routes.proofs.routes.add_routes.Goals as goal
+
+pub returns : goal.returns
+unfolding matchit_on_literals
+returns c =
+    let one = c.in_ok-insert.ensures in
+    let two = c.in_ok-insert-2.ensures in
+    rw (two.1, one.1, c.requires) (table-routes _ _ refl refl)
