@@ -16,8 +16,8 @@ mod search;
 mod wires;
 
 pub use answers::{
-    Answer, CONTINUE, Content, NO_MEMORY, NO_MEMORY_HEAD, Status, continue_answer, no_memory_answer,
-    no_memory_head, render,
+    Answer, CONTINUE, Content, NO_MEMORY, NO_MEMORY_HEAD, Status, continue_answer,
+    no_memory_answer, no_memory_head, render,
 };
 pub use faults::{HeadFault, WireFault};
 pub use laws::{body_follows_head, front_stays, head_is_of_the_grammar, limits};

@@ -1,7 +1,6 @@
 -- The commands of a request that is not refused meet their conditions.
 use Rattle.std.proofs.Common.{◌≡◌, ℕ, ◌<◌, ◌≤◌, Bool, true, false, ◌&&◌, ◌==◌, nat_le, nat_lt, List, Option, Some, None, Result, Ok, Err, IsTrue, length, refl, sym, subst, ap, ◌∙◌, arith, eq-eqb}
 use Rattle.std.proofs.lemmas.Bool.{and_parts, leb-true, lt-ltb}
-use Rattle.std.specs.Prelude.{IfOk}
 use Rattle.mvn_coords.specs.declared.fault.PathFault.{PathFault}
 use Rattle.mvn_coords.specs.declared.fault.Side.{Side}
 use Rattle.mvn_coords.specs.declared.kind.Kind.{Kind}
@@ -13,16 +12,15 @@ use Rattle.mvn_metadata.specs.Document.{Document}
 use Rattle.repo_config.specs.Form.{IsSettings}
 use Rattle.repo_model.specs.Asking.{IsAnswerTo}
 use Rattle.repo_model.specs.Command.{may_put, is_digest, is_file_path, is_fit, is_parcel, is_there, names_document, names_something, rule_of}
-use Rattle.repo_model.specs.Data.{Blob, repository}
+use Rattle.repo_model.specs.Data.{repository}
 use Rattle.repo_model.specs.Paths.{takes}
 use Rattle.repo_model.specs.Reply.{Reply, file, draft, taken, same, relisted, created, agreed, noted, counts}
 use Rattle.repo_model.specs.Settings.{Settings}
 use Rattle.repo_model.specs.State.{number_end}
 use Rattle.repo_routes.specs.Intent as judged
 use Rattle.repo_routes.specs.Intent.{Intent, Judged}
-use Rattle.repo_routes.specs.Judge.{IsIntent, IsJudged}
+use Rattle.repo_routes.specs.Judge.{IsIntent}
 use Rattle.repo_routes.specs.Paths.{side_of}
-use Rattle.repo_routes.specs.declared.judging.Refused.{Refused}
 use Rattle.repo_course.specs.declared.manner.Manner.{Manner}
 use Rattle.repo_course.specs.declared.outcomes.Continued.{Continued}
 use Rattle.repo_course.specs.declared.outcomes.Continued.TheVariants as continued
@@ -30,7 +28,7 @@ use Rattle.repo_course.specs.declared.outcomes.Sent.{Sent}
 use Rattle.repo_course.specs.declared.outcomes.Sent.TheVariants as sent
 use Rattle.repo_course.specs.declared.outcomes.Took.{Took}
 use Rattle.repo_course.specs.declared.outcomes.Took.TheVariants as took
-use Rattle.repo_course.specs.Course.{Body, Course, Stored, takes as takes_next, reads, compares, course_for, course_of, cut_off, gives_up, invites, notes, after_continue, after_document, after_fault, after_look, after_may_put, after_put, after_put_doc, after_put_side, after_send, after_side, after_status, after_take}
+use Rattle.repo_course.specs.Course.{Body, Course, Stored, takes as takes_next, reads, compares, course_for, cut_off, gives_up, invites, notes, after_continue, after_document, after_fault, after_look, after_may_put, after_put, after_put_doc, after_put_side, after_send, after_side, after_status, after_take}
 use Rattle.repo_course.specs.Meets.{IsStored, Meets}
 use Rattle.repo_course.proofs.SideLengths.{read_side-length}
 

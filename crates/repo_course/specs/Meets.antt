@@ -1,5 +1,5 @@
 -- That the commands of a course can be asked.
-use Rattle.std.specs.Prelude.{◌≡◌, ℕ, List, IsTrue, Ok, Err}
+use Rattle.std.specs.Prelude.{◌≡◌, ℕ, IsTrue, Ok, Err}
 use Rattle.repo_model.specs.Asking.{IsAnswerTo}
 use Rattle.repo_model.specs.Command.{meets}
 use Rattle.repo_model.specs.Reply.{Reply}

@@ -54,7 +54,9 @@ pub enum After {
         expects: bool,
     },
     /// That the blob stored under the draft is the file at its path.
-    Put { draft: u64 },
+    Put {
+        draft: u64,
+    },
     /// What the digest of a side file is beside that of its file.
     PutSide,
     /// That a document was heard of.

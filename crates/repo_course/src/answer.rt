@@ -42,7 +42,12 @@ fn line_answer(alloc: Global, status: Status, text: &[u8]) -> Result<Answer, All
 }
 
 /// The same of two texts, one behind the other.
-fn named_answer(alloc: Global, status: Status, name: &[u8], text: &[u8]) -> Result<Answer, AllocError>
+fn named_answer(
+    alloc: Global,
+    status: Status,
+    name: &[u8],
+    text: &[u8],
+) -> Result<Answer, AllocError>
     ensures { IfOk result (λ answer. answer ≡ line_answer status (name.now ++ text.now)) }
 {
     let mut line = Vec::from_slice(alloc, name)?;
@@ -94,7 +99,12 @@ fn refusal_answer(alloc: Global, refusal: Refusal) -> Result<Answer, AllocError>
         Refusal::NoPath(fault) => path_answer(alloc, Status::NotFound, fault),
         Refusal::TooLarge(limit) => {
             let limit = limit.to_string(alloc)?;
-            named_answer(alloc, Status::PayloadTooLarge, b"too-large ", limit.as_bytes())
+            named_answer(
+                alloc,
+                Status::PayloadTooLarge,
+                b"too-large ",
+                limit.as_bytes(),
+            )
         }
     }
 }

@@ -52,11 +52,7 @@ fn after_drop(fault: Took) -> After
 }
 
 /// What follows the taking of a file's body: it is put, or its draft given up.
-pub fn after_take<H: Held>(
-    manner: Manner,
-    body: FileBody,
-    taken: Result<Parcel<H>, Took>,
-) -> Act<H>
+pub fn after_take<H: Held>(manner: Manner, body: FileBody, taken: Result<Parcel<H>, Took>) -> Act<H>
     ensures left { left_of manner result ≡ after_take body.repo body.path body.draft manner (shown_stored taken) }
     ensures shorter { rank_of result < 5 }
 {

@@ -41,7 +41,11 @@ pub(crate) fn with_unread(manner: Manner, length: u64) -> Manner
 pub fn end_of(manner: Manner) -> Option<End>
     ensures { result ≡ end_of manner }
 {
-    if manner.close { Some(End::Closed) } else { None }
+    if manner.close {
+        Some(End::Closed)
+    } else {
+        None
+    }
 }
 
 /// Whether the connection ends behind the answer.

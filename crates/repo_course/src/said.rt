@@ -15,7 +15,10 @@ pub enum Said {
     /// The text of a side file.
     Text(SideText),
     /// The document of a directory.
-    Doc { text: Bytes, digests: Digests },
+    Doc {
+        text: Bytes,
+        digests: Digests,
+    },
     /// There is nothing at the path, or nothing at that of the side file's file.
     NotThere,
     /// The repository does not take files of the path's kind.
@@ -27,15 +30,23 @@ pub enum Said {
     /// The file of the same content is listed again.
     Relisted,
     /// The path has a file of another content.
-    Taken { kept: Print, sent: Print },
+    Taken {
+        kept: Print,
+        sent: Print,
+    },
     /// The body of a side file says no digest of its side.
     NoDigest,
     /// The side file says the digest of its file, or is that of a document.
     Agreed,
     /// The side file says another digest than its file has; the digests as text.
-    Differs { said: SideText, kept: SideText },
+    Differs {
+        said: SideText,
+        kept: SideText,
+    },
     /// The body is no document; the first fault is at this byte.
-    NoDocument { at: usize },
+    NoDocument {
+        at: usize,
+    },
     /// The document was heard of.
     Noted,
     /// How much there is.

@@ -1,5 +1,5 @@
 -- A small body that was read, by what it says or by want of memory for it; and answers to commands.
-use Rattle.std.proofs.Common.{◌≡◌, ℕ, List, Option, Result, Ok, Err, inl, inr, subst, sym}
+use Rattle.std.proofs.Common.{◌≡◌, List, Option, Ok, Err, inl, inr, subst, sym}
 use Rattle.repo_model.specs.Asking.{IsAnswerTo}
 use Rattle.repo_model.specs.Command.{Command}
 use Rattle.repo_model.specs.History.{Entry}

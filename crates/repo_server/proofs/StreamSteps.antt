@@ -12,7 +12,7 @@ use Rattle.repo_model.specs.History.{Entry}
 use Rattle.repo_course.specs.Acts.{Starts}
 use Rattle.repo_course.specs.Acts as act
 use Rattle.repo_model.specs.Settings.{Settings}
-use Rattle.repo_course.specs.Course.{Course, course_of, starves}
+use Rattle.repo_course.specs.Course.{Course, starves}
 use Rattle.repo_course.specs.declared.outcomes.End.{End}
 use Rattle.repo_course.specs.declared.outcomes.End.TheVariants as stream
 use Rattle.repo_course.specs.Serving.{Begins, IsHead, IsWhole, Opens, clean, torn, failed, refused, unread_head, starved, served, Outside, Serves, Turn}

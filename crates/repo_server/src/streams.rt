@@ -65,7 +65,9 @@ fn serve_turns<B: Blobs, A: Ask<Call = Command<B::Held>, Given = Reply<B::Held>>
     let mut wire = Wire::new();
     for served in 0..TURNS {
         let last = served + 1 == TURNS;
-        if let Some(end) = serve_turn(alloc, settings, &routes, asker, blobs, &mut wire, stream, last) {
+        if let Some(end) = serve_turn(
+            alloc, settings, &routes, asker, blobs, &mut wire, stream, last,
+        ) {
             return end;
         }
     }
