@@ -8,3 +8,5 @@ pub mod Told
 pub mod Early
 pub mod PlayedCourse
 pub mod PlayedStream
+pub mod OnLiterals
+pub mod PutAndGet
