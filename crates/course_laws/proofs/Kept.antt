@@ -9,25 +9,24 @@ use Rattle.mvn_digest.specs.Sides.{read_side}
 use Rattle.mvn_doc.specs.Reading.{reading}
 use Rattle.mvn_metadata.specs.Document.{Document}
 use Rattle.repo_model.specs.Command.{Command, look, done, may_put, put as puts, put_side, put_doc, drop_draft, status}
-use Rattle.repo_model.specs.Data.{Blob, Place, repository, session}
+use Rattle.repo_model.specs.Data.{Blob, repository, session}
 use Rattle.repo_model.specs.Reply.{Reply, file, text, doc, missed, kind_refused, draft, no_draft, taken, same, relisted, created, not_there, differs, agreed, noted, counts as counts_reply, spent, store_fault}
 use Rattle.repo_model.specs.Settings.{Settings}
 use Rattle.repo_routes.specs.Framing.{is_head}
 use Rattle.repo_routes.specs.Intent.{Intent, Judged, reads as reads_path, puts_file, puts_side, puts_document, counts}
 use Rattle.repo_routes.specs.Judge.{judge}
 use Rattle.repo_routes.specs.declared.judging.Refused.{Refused}
-use Rattle.repo_course.specs.Course.{Body, Course, Stored, asks, reads, takes, after_continue, after_document, after_fault, after_look, after_may_put, after_put, after_put_doc, after_put_side, after_send, after_side, after_status, after_take, compares, course, course_for, course_of, cut_off, end_of, gives_up, invites, notes, refuses, refuses_head}
+use Rattle.repo_course.specs.Course.{Body, Course, Stored, asks, reads, takes, after_continue, after_document, after_fault, after_look, after_may_put, after_put, after_put_doc, after_put_side, after_send, after_side, after_status, after_take, compares, course_for, course_of, cut_off, end_of, gives_up, invites, notes, refuses_head}
 use Rattle.repo_course.specs.declared.manner.Manner.{Manner}
 use Rattle.repo_course.specs.declared.outcomes.Continued.{Continued}
 use Rattle.repo_course.specs.declared.outcomes.Continued.TheVariants as continued
-use Rattle.repo_course.specs.declared.outcomes.End.{End}
 use Rattle.repo_course.specs.declared.outcomes.End.TheVariants as stream
 use Rattle.repo_course.specs.declared.outcomes.Sent.{Sent}
 use Rattle.repo_course.specs.declared.outcomes.Sent.TheVariants as sent
 use Rattle.repo_course.specs.declared.outcomes.Took.{Took}
 use Rattle.repo_course.specs.declared.outcomes.Took.TheVariants as took
 use Rattle.repo_course.specs.Serving.{Opens, clean, torn, failed, refused, unread_head, starved, served, Outside}
-use Rattle.course_laws.specs.Duties.{Early, IsCalm, Keeps, MayAsk, Stand, stand_after, at_first, by_side, by_memory, failing, has_counted, has_put, has_put_doc, has_put_side, is_head_only, length_of, looked, asked_draft, stand_continued, stand_fault, stand_read, stand_sent, stand_stored, starving, unread_of}
+use Rattle.course_laws.specs.Duties.{IsCalm, Keeps, MayAsk, Stand, stand_after, at_first, by_memory, failing, has_counted, has_put, has_put_doc, has_put_side, is_head_only, length_of, looked, asked_draft, stand_continued, stand_fault, stand_read, stand_sent, stand_stored, starving, unread_of}
 
 -- behind an answer the stream goes on, or is closed
 pub end-calm : (manner : Manner) → IsCalm (end_of manner)

@@ -6,5 +6,8 @@ pub mod Complete
 pub mod Counts
 pub mod Told
 pub mod Early
+pub mod PlayedActs
 pub mod PlayedCourse
 pub mod PlayedStream
+pub mod OnLiterals
+pub mod PutAndGet

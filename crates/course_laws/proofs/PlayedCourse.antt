@@ -1,11 +1,8 @@
 -- A course is followed as it is played, up to where memory is wanted or the source or the sink fails, if nothing else fails.
-use Rattle.std.proofs.Common.{◌≡◌, ℕ, zero, suc, ◌≤◌, ◌<◌, Bool, true, false, arith, inl, inr, List, [], ◌∷◌, ◌++◌, length, drop, Option, Some, None, Ok, Err, IsTrue, refl, sym, subst, ap, ◌∙◌, append_assoc, append-nil, length-append}
-use Rattle.std.specs.Prelude.{IsSome, IfSome, if◌then◌else◌, unwrap_or}
-use Rattle.std.proofs.lemmas.Bool.{false≢true, lt-ltb, le-ltb}
-use Rattle.std.proofs.lemmas.Option.{none-some}
-use Rattle.std.proofs.Math.Seq.{drop-append_seam, take-append_seam}
-use Rattle.outside.specs.Faults.{Rose}
-use Rattle.outside.specs.Told.{IsWhereTold, behind, in_front}
+use Rattle.std.proofs.Common.{◌≡◌, ℕ, zero, suc, ◌≤◌, Bool, true, false, arith, inr, List, [], ◌∷◌, ◌++◌, drop, Option, Some, Ok, Err, IsTrue, refl, sym, subst, ap, ◌∙◌, append-nil}
+use Rattle.std.specs.Prelude.{if◌then◌else◌, unwrap_or}
+use Rattle.std.proofs.lemmas.Bool.{false≢true}
+use Rattle.std.proofs.Math.Seq.{drop-append_seam}
 use Rattle.http_wire.specs.Answer.{continue_bytes, shown}
 use Rattle.repo_model.specs.Command.{Command, look, done, may_put, put, put_side, put_doc, drop_draft, status}
 use Rattle.repo_model.specs.Data.{Blob}
@@ -13,67 +10,22 @@ use Rattle.repo_model.specs.History.{Entry, Legal, after, due, wants_memory, fai
 use Rattle.repo_model.specs.Reply.{Reply, file, text, doc, missed, spent, draft, kind_refused, created, same, relisted, taken, no_draft, no_memory, agreed, differs, not_there, noted, counts as counts_reply, store_fault, takes_memory}
 use Rattle.repo_model.specs.Settings.{Settings}
 use Rattle.repo_model.specs.State.{State}
-use Rattle.repo_course.specs.Answers.{answer_of, file_answer, memory_answer}
-use Rattle.repo_course.specs.Course.{Body, Course, Stored, asks, continues, takes, reads, sends, says, stops, end_of as manner_end}
-use Rattle.repo_course.specs.declared.manner.Manner.{Manner}
+use Rattle.repo_course.specs.Answers.{file_answer}
+use Rattle.repo_course.specs.Course.{Body, Course, Stored, asks, continues, takes, reads, sends, says, stops}
 use Rattle.repo_course.specs.declared.outcomes.Continued.{Continued}
 use Rattle.repo_course.specs.declared.outcomes.Continued.TheVariants as continued
 use Rattle.repo_course.specs.declared.outcomes.End.{End}
-use Rattle.repo_course.specs.declared.outcomes.End.TheVariants as stream
 use Rattle.repo_course.specs.declared.outcomes.Sent.{Sent}
 use Rattle.repo_course.specs.declared.outcomes.Sent.TheVariants as sent
 use Rattle.repo_course.specs.declared.outcomes.Took.TheVariants as took
-use Rattle.repo_course.specs.declared.said.Said.{Said}
-use Rattle.repo_course.specs.Serving.{Continues, Follows, IsFrontOf, Outside, Reads, Says, SendsAnswer, Takes, print_of, writes}
+use Rattle.repo_course.specs.Serving.{Continues, Follows, Outside, Reads, SendsAnswer, Takes, writes}
 use Rattle.course_laws.specs.AsPlayed.{RowsTold}
-use Rattle.course_laws.specs.Duties.{by_memory, by_side, failing, starving, Keeps, MayAsk, Stand, asked_draft, has_counted, has_put, has_put_doc, has_put_side, looked, stand_after, stand_continued, stand_read, stand_sent, stand_stored}
-use Rattle.course_laws.specs.Faultless.{Scene, body_of, due_entry, play, taken_body, wrote}
-use Rattle.course_laws.proofs.Counts.{Calm, Grew, follows-grew, not-risen, reads-body-grew, sends-grew, takes-grew}
-use Rattle.course_laws.proofs.Early.{Early, Outcome, Ready, early-before, ends-early, no-more, outcome-before, plays-early, says-early, says-memory, sink-failed, source-failed, wrote-outcome}
+use Rattle.course_laws.specs.Duties.{by_memory, Keeps, MayAsk, Stand, asked_draft, has_counted, has_put, has_put_doc, has_put_side, looked, stand_after, stand_continued, stand_read, stand_sent, stand_stored}
+use Rattle.course_laws.specs.Faultless.{body_of, due_entry, play, taken_body, wrote}
+use Rattle.course_laws.proofs.Counts.{Calm, Grew, follows-grew, reads-body-grew, sends-grew, takes-grew}
+use Rattle.course_laws.proofs.Early.{Outcome, Ready, ends-early, outcome-before, says-memory}
+use Rattle.course_laws.proofs.PlayedActs.{InHandTold, Plays, at, body-torn, body-whole, bytes-are, front-of, memory-play, risen, says-play, short-of, sink-play, source-play, stops-play, taken-torn, taken-whole, told-is, torn-play, unwritten, wrote-play}
 use Rattle.course_laws.proofs.Told.{CommandTold, ReplyTold, after-told, clock-stays, due-is, faults-are, faults-grow, moment-is, reply-told}
-
--- what is told is these bytes, where it is told
-told-is : (bytes : Option (List ℕ)) (body : List ℕ) → IsWhereTold bytes body → IsSome bytes → bytes ≡ Some body
-told-is None body is some = absurd (false≢true some)
-told-is (Some them) body is some = ap Some is
-
-bytes-are : (o : Option (List ℕ)) (bytes : List ℕ) → IsSome o → IsWhereTold o bytes → unwrap_or o [] ≡ bytes
-bytes-are None bytes some is = absurd (false≢true some)
-bytes-are (Some told) bytes some is = is
-
--- the bytes in front of what is left
-front-of : (input body : List ℕ) (rest : Option (List ℕ)) → Some input ≡ in_front body rest
-    → (r : List ℕ) × (rest ≡ Some r) × (input ≡ body ++ r)
-front-of input body None is = absurd (cc)
-front-of input body (Some r) is = (r, refl, cc)
-
-blob-is : (blob : Blob) (number : ℕ) (body : List ℕ) → blob.number ≡ number → blob.bytes ≡ Some body → blob.print ≡ print_of body
-    → record { number = number; bytes = Some body; print = print_of body } ≡ blob
-blob-is blob n body number bytes print = λ i. record { number = sym number i; bytes = sym bytes i; print = sym print i }
-
-taken-whole : (n count : ℕ) (body rest : List ℕ) (blob : Blob) → length body ≡ count → blob.number ≡ n → blob.bytes ≡ Some body
-    → blob.print ≡ print_of body → taken_body n count (body ++ rest) ≡ Ok blob
-taken-whole n count body rest blob long number bytes print =
-    subst (λ c. taken_body n c (body ++ rest) ≡ Ok blob) long
-    (rw (le-ltb (length (body ++ rest)) (length body) (omega (arith, length-append body rest)), take-append_seam body rest)
-    (ap Ok (blob-is blob n body number bytes print)))
-
-body-whole : (count : ℕ) (body rest : List ℕ) → length body ≡ count → body_of count (body ++ rest) ≡ Ok body
-body-whole count body rest long =
-    subst (λ c. body_of c (body ++ rest) ≡ Ok body) long
-    (rw (le-ltb (length (body ++ rest)) (length body) (omega (arith, length-append body rest)), take-append_seam body rest) refl)
-
-body-torn : (count : ℕ) (input : List ℕ) → length input < count → body_of count input ≡ Err took.Torn
-body-torn count input short = rw (lt-ltb (length input) count short)
-
-taken-torn : (n count : ℕ) (input : List ℕ) → length input < count → taken_body n count input ≡ Err took.Torn
-taken-torn n count input short = rw (lt-ltb (length input) count short)
-
--- the blob in hand is told
-
-abbrev pub InHandTold : Option Blob → Type 0
-InHandTold None = Unit {0}
-InHandTold (Some blob) = IsSome blob.bytes
 
 reply-in-hand : (c : Command) (reply : Reply) (s : Stand) → MayAsk c s → ReplyTold reply → InHandTold s.blob → InHandTold (stand_after c reply s).blob
 reply-in-hand (look repo path tried) reply s may told hand = looks reply told
@@ -139,21 +91,8 @@ memory-early (drop_draft n) s may can = absurd (false≢true can)
 memory-early status s may can = refl
 memory-early _ s may can = absurd may
 
--- a count that rose in the middle would be higher in the end
-risen : {P : Type 0} (before faults last : ℕ) → Rose before faults → faults ≤ last → Calm before last → P
-risen before faults last rose le calm = absurd (not-risen before faults rose (let h = calm.0 in omega arith) calm.1)
-
 module _ (settings : Settings) (tells : Type 0) (witness : tells) (head_only : Bool) where
-  abbrev pub at : State → List ℕ → Scene
-  at st input = record { state = st; input = input }
-
-  abbrev Plays : Course → Type 0
-  Plays c = (n : ℕ) (s : Stand) → Keeps head_only c n s → InHandTold s.blob → (entries : List Entry) (st : State) → Legal settings st entries
-      → Calm st.faults (end_of settings st entries).faults → (old new : Outside) (end : Option End) (input before : List ℕ) → Ready old st input before
-      → Calm old.blob_faults new.blob_faults → Follows tells c entries old new end
-      → Outcome before (play settings c (at st input)) old new (end_of settings st entries) end
-
-  asks-play : (command : Command) (next : Reply → Course) → ((reply : Reply) → Plays (next reply)) → Plays (asks command next)
+  asks-play : (command : Command) (next : Reply → Course) → ((reply : Reply) → Plays settings tells head_only (next reply)) → Plays settings tells head_only (asks command next)
   asks-play command next ih zero s k hand [] st legal calm old new end input before ready quiet f = absurd f
   asks-play command next ih zero s k hand (e ∷ entries) st legal calm old new end input before ready quiet f = absurd k
   asks-play command next ih (suc n) s k hand [] st legal calm old new end input before ready quiet f = absurd f
@@ -192,89 +131,19 @@ module _ (settings : Settings) (tells : Type 0) (witness : tells) (head_only : B
         | failed replied can rose ↦ risen st.faults e.faults (end_of settings st1 entries).faults rose (omega arith) calm
       ]
 
-  -- bytes are written, and the course goes on
-  wrote-play : (all : List ℕ) (rest : Course) → Plays rest → (n : ℕ) (s : Stand) → Keeps head_only rest n s → InHandTold s.blob → (entries : List Entry) (st : State)
-      → Legal settings st entries → Calm st.faults (end_of settings st entries).faults → (old mid new : Outside) (end : Option End) (input before : List ℕ)
-      → Ready old st input before → Calm old.blob_faults new.blob_faults → mid ≡ writes all old → Follows tells rest entries mid new end
-      → Outcome before (wrote all (play settings rest (at st input))) old new (end_of settings st entries) end
-  wrote-play all rest plays n s k hand entries st legal calm old mid new end input before ready quiet mid-is follows =
-      let o = writes all old in
-      let ready' : Ready o st input (before ++ all) = record {
-        input_is = ready.input_is;
-        output_is = ap (λ out. behind out all) ready.output_is;
-        rows = ready.rows;
-        clock = ready.clock;
-      } in
-      wrote-outcome before all (play settings rest (at st input)) old new (end_of settings st entries) end
-      (outcome-before (before ++ all) _ old o new _ end (record { reads = omega arith; writes = omega arith; blobs = omega arith })
-      (plays n s k hand entries st legal calm o new end input (before ++ all) ready' quiet
-      (subst (λ m. Follows tells rest entries m new end) mid-is follows)))
-
-  -- the sink failed, and has taken a front of what was to be written
-  sink-play : (all more part : List ℕ) (rest : Course) (n : ℕ) (s : Stand) → Keeps head_only rest n (failing stream.SinkFault s) → (faults : ℕ) (entries : List Entry)
-      (st : State) (old mid new : Outside) (end : Option End) (input before : List ℕ) → Ready old st input before → Rose old.write_faults faults → IsFrontOf part all
-      → mid ≡ writes part (record old { write_faults = faults }) → Follows tells rest entries mid new end → Early before (all ++ more) old new end
-  sink-play all more part rest n s k faults entries st old mid new end input before ready rose front mid-is follows =
-      let last = ends-early tells head_only rest n (failing stream.SinkFault s) (by_side stream.SinkFault) k refl entries mid new end follows in
-      no-more before _ part old new end (front.0 ++ more, ap (λ b. b ++ more) front.1 ∙ append_assoc part front.0 more)
-      (ap (λ o. o.output) last.0 ∙ ap (λ o. o.output) mid-is ∙ ap (λ o. behind o part) ready.output_is)
-      (sink-failed old new end last.1
-      (subst (λ m. Rose old.write_faults m) (sym (ap (λ o. o.write_faults) last.0 ∙ ap (λ o. o.write_faults) mid-is)) rose))
-
-  -- the stream ends inside a body
-  torn-play : (count : ℕ) (rest : Course) (n : ℕ) (s : Stand) → Keeps head_only rest n (failing stream.TornRequest s) → (entries : List Entry) (st : State)
-      (old mid new : Outside) (end : Option End) (input before : List ℕ) → Ready old st input before → Reads count (Err took.Torn) old mid
-      → Follows tells rest entries mid new end → Outcome before (play settings rest (at st (drop count input))) old new (end_of settings st entries) end
-  torn-play count rest n s k entries st old mid new end input before ready cause follows =
-      let s1 = failing stream.TornRequest s in
-      let last = ends-early tells head_only rest n s1 (by_side stream.TornRequest) k refl entries mid new end follows in
-      let played = plays-early settings head_only rest n s1 stream.TornRequest k refl (at st (drop count input)) in
-      inl record {
-        output = ap (λ o. o.output) last.0 ∙ ap (λ o. o.output) cause.1.1 ∙ ready.output_is
-            ∙ ap Some (sym (append-nil before) ∙ ap (λ b. before ++ b) (sym played.0));
-        ends = last.1 ∙ sym played.1;
-        goes = λ none. absurd (none-some stream.TornRequest (sym none ∙ last.1));
-      }
-
-  short-of : (count : ℕ) (old mid : Outside) (st : State) (input before : List ℕ) → Ready old st input before → Reads count (Err took.Torn) old mid → length input < count
-  short-of count old mid st input before ready cause = subst (λ o. IfSome o (λ bytes. length bytes < count)) ready.input_is cause.0
-
-  -- the source fails inside a body
-  source-play : (count : ℕ) (written : List ℕ) (rest : Course) (n : ℕ) (s : Stand) → Keeps head_only rest n (failing stream.SourceFault s) → (entries : List Entry)
-      (st : State) (old mid new : Outside) (end : Option End) (input before : List ℕ) → Ready old st input before → Reads count (Err took.SourceFault) old mid
-      → Follows tells rest entries mid new end → Early before written old new end
-  source-play count written rest n s k entries st old mid new end input before ready cause follows =
-      let last = ends-early tells head_only rest n (failing stream.SourceFault s) (by_side stream.SourceFault) k refl entries mid new end follows in
-      no-more before written [] old new end (_, refl)
-      (ap (λ o. o.output) last.0 ∙ ap (λ o. o.output) cause.2.1 ∙ ready.output_is ∙ ap Some (sym (append-nil before)))
-      (source-failed old new end last.1
-      (subst (λ m. Rose old.read_faults m) (sym (ap (λ o. o.read_faults) last.0 ∙ ap (λ o. o.read_faults) cause.2.1)) cause.1))
-
-  -- memory is wanted, and nothing was written
-  memory-play : (written : List ℕ) (rest : Course) (n : ℕ) (s : Stand) → Keeps head_only rest n (starving s) → (entries : List Entry) (st : State) (old mid new : Outside)
-      (end : Option End) (input before : List ℕ) → Ready old st input before → Grew old mid → mid.output ≡ old.output → Follows tells rest entries mid new end
-      → Early before written old new end
-  memory-play written rest n s k entries st old mid new end input before ready first kept follows =
-      let said = ends-early tells head_only rest n (starving s) by_memory k refl entries mid new end follows in
-      early-before before written old mid new end first (says-memory head_only mid new end before written said (kept ∙ ready.output_is))
-
-  unwritten : (count : ℕ) (old mid : Outside) → Reads count (Err took.NoMemory) old mid → mid.output ≡ old.output
-  unwritten count old mid (inl still) = ap (λ o. o.output) still
-  unwritten count old mid (inr t) = ap (λ o. o.output) t.1.3
-
-  continues-play : (next : Continued → Course) → ((result : Continued) → Plays (next result)) → (result : Continued) (n : ℕ) (s : Stand)
+  continues-play : (next : Continued → Course) → ((result : Continued) → Plays settings tells head_only (next result)) → (result : Continued) (n : ℕ) (s : Stand)
       → Keeps head_only (continues next) n s → InHandTold s.blob → (entries : List Entry) (st : State) → Legal settings st entries → Calm st.faults (end_of settings st entries).faults
       → (old mid new : Outside) (end : Option End) (input before : List ℕ) → Ready old st input before → Calm old.blob_faults new.blob_faults
       → Continues result old mid → Follows tells (next result) entries mid new end
       → Outcome before (play settings (continues next) (at st input)) old new (end_of settings st entries) end
   continues-play next ih continued.Written n s k hand entries st legal calm old mid new end input before ready quiet cause follows =
-      wrote-play continue_bytes (next continued.Written) (ih continued.Written) n (stand_continued continued.Written s) (k.2 continued.Written) hand entries st legal calm
+      wrote-play settings tells head_only continue_bytes (next continued.Written) (ih continued.Written) n (stand_continued continued.Written s) (k.2 continued.Written) hand entries st legal calm
       old mid new end input before ready quiet cause follows
   continues-play next ih continued.SinkFault n s k hand entries st legal calm old mid new end input before ready quiet cause follows =
-      inr (sink-play continue_bytes (play settings (next continued.Written) (at st input)).written cause.1 (next continued.SinkFault) n s (k.2 continued.SinkFault) cause.0
+      inr (sink-play settings tells head_only continue_bytes (play settings (next continued.Written) (at st input)).written cause.1 (next continued.SinkFault) n s (k.2 continued.SinkFault) cause.0
       entries st old mid new end input before ready cause.2 cause.3 cause.4 follows)
 
-  takes-play : (number count : ℕ) (next : Stored → Course) → ((stored : Stored) → Plays (next stored)) → (stored : Stored) (n : ℕ) (s : Stand)
+  takes-play : (number count : ℕ) (next : Stored → Course) → ((stored : Stored) → Plays settings tells head_only (next stored)) → (stored : Stored) (n : ℕ) (s : Stand)
       → Keeps head_only (takes number count next) n s → InHandTold s.blob → (entries : List Entry) (st : State) → Legal settings st entries → Calm st.faults (end_of settings st entries).faults
       → (old mid new : Outside) (end : Option End) (input before : List ℕ) → Ready old st input before → Calm old.blob_faults new.blob_faults
       → Grew old mid → Grew mid new → Takes tells number count stored old mid → Follows tells (next stored) entries mid new end
@@ -302,17 +171,17 @@ module _ (settings : Settings) (tells : Type 0) (witness : tells) (head_only : B
       (outcome-before before _ old o new _ end (record { reads = omega arith; writes = omega arith; blobs = omega arith }) done)
   takes-play number count next ih (Err took.Torn) n s k hand entries st legal calm old mid new end input before ready quiet first grows cause follows =
       subst (λ r. Outcome before (play settings (next r) (at st (drop count input))) old new (end_of settings st entries) end)
-      (sym (taken-torn number count input (short-of count old mid st input before ready cause)))
-      (torn-play count (next (Err took.Torn)) n (record s { unread = 0 }) (k.3 (Err took.Torn)) entries st old mid new end input before ready cause follows)
+      (sym (taken-torn number count input (short-of settings tells head_only count old mid st input before ready cause)))
+      (torn-play settings tells head_only count (next (Err took.Torn)) n (record s { unread = 0 }) (k.3 (Err took.Torn)) entries st old mid new end input before ready cause follows)
   takes-play number count next ih (Err took.SourceFault) n s k hand entries st legal calm old mid new end input before ready quiet first grows cause follows =
-      inr (source-play count _ (next (Err took.SourceFault)) n (record s { unread = 0 }) (k.3 (Err took.SourceFault)) entries st old mid new end input before ready cause follows)
+      inr (source-play settings tells head_only count _ (next (Err took.SourceFault)) n (record s { unread = 0 }) (k.3 (Err took.SourceFault)) entries st old mid new end input before ready cause follows)
   takes-play number count next ih (Err took.BlobFault) n s k hand entries st legal calm old mid new end input before ready quiet first grows cause follows =
       risen old.blob_faults cause.0 new.blob_faults cause.2 (subst (λ m. m ≤ new.blob_faults) (ap (λ o. o.blob_faults) cause.3.3) grows.blobs) quiet
   takes-play number count next ih (Err took.NoMemory) n s k hand entries st legal calm old mid new end input before ready quiet first grows cause follows =
-      inr (memory-play _ (next (Err took.NoMemory)) n (record s { unread = 0 }) (k.3 (Err took.NoMemory)) entries st old mid new end input before ready first
-      (unwritten count old mid cause) follows)
+      inr (memory-play settings tells head_only _ (next (Err took.NoMemory)) n (record s { unread = 0 }) (k.3 (Err took.NoMemory)) entries st old mid new end input before ready first
+      (unwritten settings tells head_only count old mid cause) follows)
 
-  reads-play : (count : ℕ) (next : Body → Course) → ((body : Body) → Plays (next body)) → (body : Body) (n : ℕ) (s : Stand)
+  reads-play : (count : ℕ) (next : Body → Course) → ((body : Body) → Plays settings tells head_only (next body)) → (body : Body) (n : ℕ) (s : Stand)
       → Keeps head_only (reads count next) n s → InHandTold s.blob → (entries : List Entry) (st : State) → Legal settings st entries → Calm st.faults (end_of settings st entries).faults
       → (old mid new : Outside) (end : Option End) (input before : List ℕ) → Ready old st input before → Calm old.blob_faults new.blob_faults
       → Grew old mid → Reads count body old mid → Follows tells (next body) entries mid new end
@@ -336,17 +205,17 @@ module _ (settings : Settings) (tells : Type 0) (witness : tells) (head_only : B
       (outcome-before before _ old o new _ end (record { reads = omega arith; writes = omega arith; blobs = omega arith }) done)
   reads-play count next ih (Err took.Torn) n s k hand entries st legal calm old mid new end input before ready quiet first cause follows =
       subst (λ r. Outcome before (play settings (next r) (at st (drop count input))) old new (end_of settings st entries) end)
-      (sym (body-torn count input (short-of count old mid st input before ready cause)))
-      (torn-play count (next (Err took.Torn)) n (record s { unread = 0 }) (k.2 (Err took.Torn)) entries st old mid new end input before ready cause follows)
+      (sym (body-torn count input (short-of settings tells head_only count old mid st input before ready cause)))
+      (torn-play settings tells head_only count (next (Err took.Torn)) n (record s { unread = 0 }) (k.2 (Err took.Torn)) entries st old mid new end input before ready cause follows)
   reads-play count next ih (Err took.SourceFault) n s k hand entries st legal calm old mid new end input before ready quiet first cause follows =
-      inr (source-play count _ (next (Err took.SourceFault)) n (record s { unread = 0 }) (k.2 (Err took.SourceFault)) entries st old mid new end input before ready cause follows)
+      inr (source-play settings tells head_only count _ (next (Err took.SourceFault)) n (record s { unread = 0 }) (k.2 (Err took.SourceFault)) entries st old mid new end input before ready cause follows)
   reads-play count next ih (Err took.BlobFault) n s k hand entries st legal calm old mid new end input before ready quiet first cause follows = absurd cause
   reads-play count next ih (Err took.NoMemory) n s k hand entries st legal calm old mid new end input before ready quiet first cause follows =
-      inr (memory-play _ (next (Err took.NoMemory)) n (record s { unread = 0 }) (k.2 (Err took.NoMemory)) entries st old mid new end input before ready first
-      (unwritten count old mid cause) follows)
+      inr (memory-play settings tells head_only _ (next (Err took.NoMemory)) n (record s { unread = 0 }) (k.2 (Err took.NoMemory)) entries st old mid new end input before ready first
+      (unwritten settings tells head_only count old mid cause) follows)
 
   -- a file's answer, or its head alone
-  sends-play : (only : Bool) (blob : Blob) (head : List ℕ) (next : Sent → Course) → ((result : Sent) → Plays (next result)) → (result : Sent) (n : ℕ) (s : Stand)
+  sends-play : (only : Bool) (blob : Blob) (head : List ℕ) (next : Sent → Course) → ((result : Sent) → Plays settings tells head_only (next result)) → (result : Sent) (n : ℕ) (s : Stand)
       → s.blob ≡ Some blob → ((result : Sent) → Keeps head_only (next result) n (stand_sent result s)) → InHandTold s.blob → (entries : List Entry) (st : State)
       → Legal settings st entries → Calm st.faults (end_of settings st entries).faults → (old mid new : Outside) (end : Option End) (input before : List ℕ)
       → Ready old st input before → Calm old.blob_faults new.blob_faults → Grew old mid → Grew mid new → SendsAnswer only blob head result old mid
@@ -354,64 +223,27 @@ module _ (settings : Settings) (tells : Type 0) (witness : tells) (head_only : B
       → Outcome before (wrote (head ++ (if only then [] else unwrap_or blob.bytes [])) (play settings (next sent.Whole) (at st input))) old new (end_of settings st entries) end
   sends-play true blob head next ih sent.Whole n s is k hand entries st legal calm old mid new end input before ready quiet first grows cause follows =
       subst (λ all. Outcome before (wrote all (play settings (next sent.Whole) (at st input))) old new (end_of settings st entries) end) (sym (append-nil head))
-      (wrote-play head (next sent.Whole) (ih sent.Whole) n s (k sent.Whole) hand entries st legal calm old mid new end input before ready quiet cause follows)
+      (wrote-play settings tells head_only head (next sent.Whole) (ih sent.Whole) n s (k sent.Whole) hand entries st legal calm old mid new end input before ready quiet cause follows)
   sends-play true blob head next ih sent.BlobFault n s is k hand entries st legal calm old mid new end input before ready quiet first grows cause follows = absurd cause
   sends-play true blob head next ih sent.SinkFault n s is k hand entries st legal calm old mid new end input before ready quiet first grows cause follows =
-      inr (sink-play (head ++ []) (play settings (next sent.Whole) (at st input)).written cause.1 (next sent.SinkFault) n s (k sent.SinkFault) cause.0
+      inr (sink-play settings tells head_only (head ++ []) (play settings (next sent.Whole) (at st input)).written cause.1 (next sent.SinkFault) n s (k sent.SinkFault) cause.0
       entries st old mid new end input before ready cause.2 (cause.3.0, append-nil head ∙ cause.3.1) cause.4 follows)
   sends-play true blob head next ih sent.NoMemory n s is k hand entries st legal calm old mid new end input before ready quiet first grows cause follows =
-      inr (memory-play _ (next sent.NoMemory) n s (k sent.NoMemory) entries st old mid new end input before ready first (ap (λ o. o.output) cause) follows)
+      inr (memory-play settings tells head_only _ (next sent.NoMemory) n s (k sent.NoMemory) entries st old mid new end input before ready first (ap (λ o. o.output) cause) follows)
   sends-play false blob head next ih sent.Whole n s is k hand entries st legal calm old mid new end input before ready quiet first grows cause follows =
       let bytes = bytes-are blob.bytes cause.0 (subst (λ b. InHandTold b) is hand) cause.1 in
-      wrote-play (head ++ unwrap_or blob.bytes []) (next sent.Whole) (ih sent.Whole) n s (k sent.Whole) hand entries st legal calm old mid new end input before ready quiet
+      wrote-play settings tells head_only (head ++ unwrap_or blob.bytes []) (next sent.Whole) (ih sent.Whole) n s (k sent.Whole) hand entries st legal calm old mid new end input before ready quiet
       (cause.2 ∙ ap (λ b. writes (head ++ b) old) (sym bytes)) follows
   sends-play false blob head next ih sent.BlobFault n s is k hand entries st legal calm old mid new end input before ready quiet first grows cause follows =
       risen old.blob_faults cause.0 new.blob_faults cause.1 (subst (λ m. m ≤ new.blob_faults) (ap (λ o. o.blob_faults) cause.2) grows.blobs) quiet
   sends-play false blob head next ih sent.SinkFault n s is k hand entries st legal calm old mid new end input before ready quiet first grows cause follows =
       let bytes = bytes-are blob.bytes cause.1 (subst (λ b. InHandTold b) is hand) cause.4 in
-      inr (sink-play (head ++ unwrap_or blob.bytes []) (play settings (next sent.Whole) (at st input)).written cause.2 (next sent.SinkFault) n s (k sent.SinkFault) cause.0
+      inr (sink-play settings tells head_only (head ++ unwrap_or blob.bytes []) (play settings (next sent.Whole) (at st input)).written cause.2 (next sent.SinkFault) n s (k sent.SinkFault) cause.0
       entries st old mid new end input before ready cause.3 (cause.5.0, ap (λ b. head ++ b) bytes ∙ cause.5.1) cause.6 follows)
   sends-play false blob head next ih sent.NoMemory n s is k hand entries st legal calm old mid new end input before ready quiet first grows cause follows =
-      inr (memory-play _ (next sent.NoMemory) n s (k sent.NoMemory) entries st old mid new end input before ready first (ap (λ o. o.output) cause) follows)
+      inr (memory-play settings tells head_only _ (next sent.NoMemory) n s (k sent.NoMemory) entries st old mid new end input before ready first (ap (λ o. o.output) cause) follows)
 
-  -- an answer at the end of a turn, or nothing written there
-  says-play : (said : Said) (manner : Manner) (st : State) (old new : Outside) (end : Option End) (input before : List ℕ) → Ready old st input before
-      → Says (answer_of said manner) (memory_answer manner.head_only) (manner_end manner) old new end
-      → Outcome before (play settings (says said manner) (at st input)) old new st end
-  says-play said manner st old new end input before ready said-it =
-      elim (says-early (answer_of said manner) manner.head_only (manner_end manner) old new end before said-it ready.output_is) [
-        | inl w ↦ inl record {
-          output = w.1;
-          ends = w.2;
-          goes = λ none. record {
-            ready = subst (λ o. Ready o st input (before ++ shown (answer_of said manner))) (sym w.0)
-                (record {
-                  input_is = ready.input_is;
-                  output_is = ap (λ o. behind o (shown (answer_of said manner))) ready.output_is;
-                  rows = ready.rows;
-                  clock = ready.clock;
-                });
-            state = refl;
-          };
-        }
-        | inr m ↦ inr m
-      ]
-
-  stops-play : (next : Option End) (st : State) (old new : Outside) (end : Option End) (input before : List ℕ) → Ready old st input before
-      → new ≡ old → end ≡ next → Outcome before (play settings (stops next) (at st input)) old new st end
-  stops-play next st old new end input before ready still ends =
-      let out = ready.output_is ∙ ap Some (sym (append-nil before)) in
-      inl record {
-        output = ap (λ o. o.output) still ∙ out;
-        ends = ends;
-        goes = λ none. record {
-          ready = subst (λ o. Ready o st input (before ++ [])) (sym still)
-              (record { input_is = ready.input_is; output_is = out; rows = ready.rows; clock = ready.clock });
-          state = refl;
-        };
-      }
-
-  pub course-play : (c : Course) → Plays c
+  pub course-play : (c : Course) → Plays settings tells head_only c
   course-play (asks command next) n s k hand entries st legal calm old new end input before ready quiet f =
       asks-play command next (λ r. course-play (next r)) n s k hand entries st legal calm old new end input before ready quiet f
   course-play (continues next) n s k hand entries st legal calm old new end input before ready quiet f =
@@ -428,7 +260,7 @@ module _ (settings : Settings) (tells : Type 0) (witness : tells) (head_only : B
       (sends-grew manner.head_only blob head f.0 old f.1 f.2) (follows-grew tells (next f.0) entries f.1 new end f.3) f.2 f.3
   course-play (says said manner) n s k hand entries st legal calm old new end input before ready quiet f =
       subst (λ (es : List Entry). Outcome before (play settings (says said manner) (at st input)) old new (end_of settings st es) end) (sym f.0)
-      (says-play said manner st old new end input before ready f.1)
+      (says-play settings tells head_only said manner st old new end input before ready f.1)
   course-play (stops next) n s k hand entries st legal calm old new end input before ready quiet f =
       subst (λ (es : List Entry). Outcome before (play settings (stops next) (at st input)) old new (end_of settings st es) end) (sym f.0)
-      (stops-play next st old new end input before ready f.1 f.2)
+      (stops-play settings tells head_only next st old new end input before ready f.1 f.2)

@@ -23,7 +23,8 @@ use Rattle.course_laws.proofs.Counts.{Calm, Grew, calm-first, calm-then, follows
 use Rattle.course_laws.proofs.Early.{Outcome, Ready, early-before, no-more, outcome-before, says-memory, source-failed}
 use Rattle.course_laws.proofs.Kept.{opens-keeps, shows_head, standing}
 use Rattle.course_laws.proofs.LeftBehind.{end_append, legal_cut}
-use Rattle.course_laws.proofs.PlayedCourse.{InHandTold, course-play}
+use Rattle.course_laws.proofs.PlayedActs.{InHandTold}
+use Rattle.course_laws.proofs.PlayedCourse.{course-play}
 use Rattle.course_laws.proofs.Told.{faults-grow}
 
 wrote-played : (before first : List ℕ) (p : Played End) (output : Option (List ℕ)) (end : End)

@@ -4,3 +4,4 @@ pub mod LeftBehind
 pub mod Complete
 pub mod Faultless
 pub mod AsPlayed
+pub mod Worked

@@ -18,6 +18,8 @@ ghost use Rattle.course_laws.specs.Duties.{Keeps, at_first, is_head_only, unread
 ghost use Rattle.course_laws.specs.Endings.{EndsByCause};
 ghost use Rattle.course_laws.specs.Faultless.{first_scene, play_stream};
 ghost use Rattle.course_laws.specs.LeftBehind.{IsDrawn, LeavesNothing};
+ghost use Rattle.course_laws.specs.Worked as worked;
+ghost use Rattle.course_laws.specs.Worked.{IsAnswered};
 
 use outside::Held;
 
@@ -118,4 +120,21 @@ pub fn faultless_runs_agree<H: Held>()
         BeginsAt start input before other_old → NoFaults other_old other_new → Serves settings (AllTell H.bytes) n others other_old other_new other_ending →
         ((new.output ≡ other_new.output) × (ending ≡ other_ending))
         ⊎ WantedMemory before new.output ⊎ WantedMemory before other_new.output }
+{}
+
+/// Worked exchanges, from an empty repository, whatever the clock tells and the settings say beside its two repositories.
+pub fn worked_exchanges()
+    ensures put_and_get { IsAnswered (worked.put_abc ++ worked.last_get) (worked.created_201 ++ worked.abc_200) }
+    ensures put_again { IsAnswered (worked.put_abc ++ worked.put_abc ++ worked.put_nothing ++ worked.last_get)
+        (worked.created_201 ++ worked.same_200 ++ worked.taken_409 ++ worked.abc_200) }
+    ensures put_nothing { IsAnswered (worked.put_nothing ++ worked.last_get) (worked.created_201 ++ worked.nothing_200) }
+    ensures side_files { IsAnswered (worked.put_abc ++ worked.get_sha1 ++ worked.put_sha1 ++ worked.put_other_sha1)
+        (worked.created_201 ++ worked.sha1_200 ++ worked.agreed_201 ++ worked.differs_422) }
+    ensures head { IsAnswered (worked.put_abc ++ worked.head_request ++ worked.last_get)
+        (worked.created_201 ++ worked.abc_head_200 ++ worked.abc_200) }
+    ensures status { IsAnswered (worked.put_abc ++ worked.last_get_status) (worked.created_201 ++ worked.status_200) }
+    ensures expectation { IsAnswered (worked.put_abc_expecting ++ worked.last_get) (worked.continue_100 ++ worked.created_201 ++ worked.abc_200) }
+    ensures not_there { IsAnswered worked.last_get worked.not_there_404 }
+    ensures methods { IsAnswered (worked.delete ++ worked.last_get) (worked.method_405 ++ worked.not_there_404) }
+    ensures paths { IsAnswered (worked.get_no_name ++ worked.put_bad_segment) (worked.not_named_404 ++ worked.bad_segment_400) }
 {}

@@ -1,0 +1,191 @@
+-- What an act of a course has written beside what is played, where nothing but the source, the sink or memory fails.
+use Rattle.std.proofs.Common.{◌≡◌, ℕ, ◌≤◌, ◌<◌, Bool, arith, inl, inr, List, [], ◌++◌, length, drop, Option, Some, None, Ok, Err, refl, sym, subst, ap, ◌∙◌, append_assoc, append-nil, length-append}
+use Rattle.std.specs.Prelude.{IsSome, IfSome, unwrap_or}
+use Rattle.std.proofs.lemmas.Bool.{false≢true, lt-ltb, le-ltb}
+use Rattle.std.proofs.lemmas.Option.{none-some}
+use Rattle.std.proofs.Math.Seq.{take-append_seam}
+use Rattle.outside.specs.Faults.{Rose}
+use Rattle.outside.specs.Told.{IsWhereTold, behind, in_front}
+use Rattle.http_wire.specs.Answer.{shown}
+use Rattle.repo_model.specs.Data.{Blob}
+use Rattle.repo_model.specs.History.{Entry, Legal, end as end_of}
+use Rattle.repo_model.specs.Settings.{Settings}
+use Rattle.repo_model.specs.State.{State}
+use Rattle.repo_course.specs.Answers.{answer_of, memory_answer}
+use Rattle.repo_course.specs.Course.{Course, says, stops, end_of as manner_end}
+use Rattle.repo_course.specs.declared.manner.Manner.{Manner}
+use Rattle.repo_course.specs.declared.outcomes.End.{End}
+use Rattle.repo_course.specs.declared.outcomes.End.TheVariants as stream
+use Rattle.repo_course.specs.declared.outcomes.Took.TheVariants as took
+use Rattle.repo_course.specs.declared.said.Said.{Said}
+use Rattle.repo_course.specs.Serving.{Follows, IsFrontOf, Outside, Reads, Says, print_of, writes}
+use Rattle.course_laws.specs.Duties.{by_memory, by_side, failing, starving, Keeps, Stand}
+use Rattle.course_laws.specs.Faultless.{Scene, body_of, play, taken_body, wrote}
+use Rattle.course_laws.proofs.Counts.{Calm, Grew, not-risen}
+use Rattle.course_laws.proofs.Early.{Early, Outcome, Ready, early-before, ends-early, no-more, outcome-before, plays-early, says-early, says-memory, sink-failed, source-failed, wrote-outcome}
+
+-- what is told is these bytes, where it is told
+pub told-is : (bytes : Option (List ℕ)) (body : List ℕ) → IsWhereTold bytes body → IsSome bytes → bytes ≡ Some body
+told-is None body is some = absurd (false≢true some)
+told-is (Some them) body is some = ap Some is
+
+pub bytes-are : (o : Option (List ℕ)) (bytes : List ℕ) → IsSome o → IsWhereTold o bytes → unwrap_or o [] ≡ bytes
+bytes-are None bytes some is = absurd (false≢true some)
+bytes-are (Some told) bytes some is = is
+
+-- the bytes in front of what is left
+pub front-of : (input body : List ℕ) (rest : Option (List ℕ)) → Some input ≡ in_front body rest
+    → (r : List ℕ) × (rest ≡ Some r) × (input ≡ body ++ r)
+front-of input body None is = absurd (cc)
+front-of input body (Some r) is = (r, refl, cc)
+
+blob-is : (blob : Blob) (number : ℕ) (body : List ℕ) → blob.number ≡ number → blob.bytes ≡ Some body → blob.print ≡ print_of body
+    → record { number = number; bytes = Some body; print = print_of body } ≡ blob
+blob-is blob n body number bytes print = λ i. record { number = sym number i; bytes = sym bytes i; print = sym print i }
+
+pub taken-whole : (n count : ℕ) (body rest : List ℕ) (blob : Blob) → length body ≡ count → blob.number ≡ n → blob.bytes ≡ Some body
+    → blob.print ≡ print_of body → taken_body n count (body ++ rest) ≡ Ok blob
+taken-whole n count body rest blob long number bytes print =
+    subst (λ c. taken_body n c (body ++ rest) ≡ Ok blob) long
+    (rw (le-ltb (length (body ++ rest)) (length body) (omega (arith, length-append body rest)), take-append_seam body rest)
+    (ap Ok (blob-is blob n body number bytes print)))
+
+pub body-whole : (count : ℕ) (body rest : List ℕ) → length body ≡ count → body_of count (body ++ rest) ≡ Ok body
+body-whole count body rest long =
+    subst (λ c. body_of c (body ++ rest) ≡ Ok body) long
+    (rw (le-ltb (length (body ++ rest)) (length body) (omega (arith, length-append body rest)), take-append_seam body rest) refl)
+
+pub body-torn : (count : ℕ) (input : List ℕ) → length input < count → body_of count input ≡ Err took.Torn
+body-torn count input short = rw (lt-ltb (length input) count short)
+
+pub taken-torn : (n count : ℕ) (input : List ℕ) → length input < count → taken_body n count input ≡ Err took.Torn
+taken-torn n count input short = rw (lt-ltb (length input) count short)
+
+-- the blob in hand is told
+
+abbrev pub InHandTold : Option Blob → Type 0
+InHandTold None = Unit {0}
+InHandTold (Some blob) = IsSome blob.bytes
+
+-- a count that rose in the middle would be higher in the end
+pub risen : {P : Type 0} (before faults last : ℕ) → Rose before faults → faults ≤ last → Calm before last → P
+risen before faults last rose le calm = absurd (not-risen before faults rose (let h = calm.0 in omega arith) calm.1)
+
+-- before a course
+abbrev pub at : State → List ℕ → Scene
+at st input = record { state = st; input = input }
+
+module _ (settings : Settings) (tells : Type 0) (head_only : Bool) where
+  -- the course is followed as it is played
+  abbrev pub Plays : Course → Type 0
+  Plays c = (n : ℕ) (s : Stand) → Keeps head_only c n s → InHandTold s.blob → (entries : List Entry) (st : State) → Legal settings st entries
+      → Calm st.faults (end_of settings st entries).faults → (old new : Outside) (end : Option End) (input before : List ℕ) → Ready old st input before
+      → Calm old.blob_faults new.blob_faults → Follows tells c entries old new end
+      → Outcome before (play settings c (at st input)) old new (end_of settings st entries) end
+
+  -- bytes are written, and the course goes on
+  pub wrote-play : (all : List ℕ) (rest : Course) → Plays rest → (n : ℕ) (s : Stand) → Keeps head_only rest n s → InHandTold s.blob → (entries : List Entry) (st : State)
+      → Legal settings st entries → Calm st.faults (end_of settings st entries).faults → (old mid new : Outside) (end : Option End) (input before : List ℕ)
+      → Ready old st input before → Calm old.blob_faults new.blob_faults → mid ≡ writes all old → Follows tells rest entries mid new end
+      → Outcome before (wrote all (play settings rest (at st input))) old new (end_of settings st entries) end
+  wrote-play all rest plays n s k hand entries st legal calm old mid new end input before ready quiet mid-is follows =
+      let o = writes all old in
+      let ready' : Ready o st input (before ++ all) = record {
+        input_is = ready.input_is;
+        output_is = ap (λ out. behind out all) ready.output_is;
+        rows = ready.rows;
+        clock = ready.clock;
+      } in
+      wrote-outcome before all (play settings rest (at st input)) old new (end_of settings st entries) end
+      (outcome-before (before ++ all) _ old o new _ end (record { reads = omega arith; writes = omega arith; blobs = omega arith })
+      (plays n s k hand entries st legal calm o new end input (before ++ all) ready' quiet
+      (subst (λ m. Follows tells rest entries m new end) mid-is follows)))
+
+  -- the sink failed, and has taken a front of what was to be written
+  pub sink-play : (all more part : List ℕ) (rest : Course) (n : ℕ) (s : Stand) → Keeps head_only rest n (failing stream.SinkFault s) → (faults : ℕ) (entries : List Entry)
+      (st : State) (old mid new : Outside) (end : Option End) (input before : List ℕ) → Ready old st input before → Rose old.write_faults faults → IsFrontOf part all
+      → mid ≡ writes part (record old { write_faults = faults }) → Follows tells rest entries mid new end → Early before (all ++ more) old new end
+  sink-play all more part rest n s k faults entries st old mid new end input before ready rose front mid-is follows =
+      let last = ends-early tells head_only rest n (failing stream.SinkFault s) (by_side stream.SinkFault) k refl entries mid new end follows in
+      no-more before _ part old new end (front.0 ++ more, ap (λ b. b ++ more) front.1 ∙ append_assoc part front.0 more)
+      (ap (λ o. o.output) last.0 ∙ ap (λ o. o.output) mid-is ∙ ap (λ o. behind o part) ready.output_is)
+      (sink-failed old new end last.1
+      (subst (λ m. Rose old.write_faults m) (sym (ap (λ o. o.write_faults) last.0 ∙ ap (λ o. o.write_faults) mid-is)) rose))
+
+  -- the stream ends inside a body
+  pub torn-play : (count : ℕ) (rest : Course) (n : ℕ) (s : Stand) → Keeps head_only rest n (failing stream.TornRequest s) → (entries : List Entry) (st : State)
+      (old mid new : Outside) (end : Option End) (input before : List ℕ) → Ready old st input before → Reads count (Err took.Torn) old mid
+      → Follows tells rest entries mid new end → Outcome before (play settings rest (at st (drop count input))) old new (end_of settings st entries) end
+  torn-play count rest n s k entries st old mid new end input before ready cause follows =
+      let s1 = failing stream.TornRequest s in
+      let last = ends-early tells head_only rest n s1 (by_side stream.TornRequest) k refl entries mid new end follows in
+      let played = plays-early settings head_only rest n s1 stream.TornRequest k refl (at st (drop count input)) in
+      inl record {
+        output = ap (λ o. o.output) last.0 ∙ ap (λ o. o.output) cause.1.1 ∙ ready.output_is
+            ∙ ap Some (sym (append-nil before) ∙ ap (λ b. before ++ b) (sym played.0));
+        ends = last.1 ∙ sym played.1;
+        goes = λ none. absurd (none-some stream.TornRequest (sym none ∙ last.1));
+      }
+
+  pub short-of : (count : ℕ) (old mid : Outside) (st : State) (input before : List ℕ) → Ready old st input before → Reads count (Err took.Torn) old mid → length input < count
+  short-of count old mid st input before ready cause = subst (λ o. IfSome o (λ bytes. length bytes < count)) ready.input_is cause.0
+
+  -- the source fails inside a body
+  pub source-play : (count : ℕ) (written : List ℕ) (rest : Course) (n : ℕ) (s : Stand) → Keeps head_only rest n (failing stream.SourceFault s) → (entries : List Entry)
+      (st : State) (old mid new : Outside) (end : Option End) (input before : List ℕ) → Ready old st input before → Reads count (Err took.SourceFault) old mid
+      → Follows tells rest entries mid new end → Early before written old new end
+  source-play count written rest n s k entries st old mid new end input before ready cause follows =
+      let last = ends-early tells head_only rest n (failing stream.SourceFault s) (by_side stream.SourceFault) k refl entries mid new end follows in
+      no-more before written [] old new end (_, refl)
+      (ap (λ o. o.output) last.0 ∙ ap (λ o. o.output) cause.2.1 ∙ ready.output_is ∙ ap Some (sym (append-nil before)))
+      (source-failed old new end last.1
+      (subst (λ m. Rose old.read_faults m) (sym (ap (λ o. o.read_faults) last.0 ∙ ap (λ o. o.read_faults) cause.2.1)) cause.1))
+
+  -- memory is wanted, and nothing was written
+  pub memory-play : (written : List ℕ) (rest : Course) (n : ℕ) (s : Stand) → Keeps head_only rest n (starving s) → (entries : List Entry) (st : State) (old mid new : Outside)
+      (end : Option End) (input before : List ℕ) → Ready old st input before → Grew old mid → mid.output ≡ old.output → Follows tells rest entries mid new end
+      → Early before written old new end
+  memory-play written rest n s k entries st old mid new end input before ready first kept follows =
+      let said = ends-early tells head_only rest n (starving s) by_memory k refl entries mid new end follows in
+      early-before before written old mid new end first (says-memory head_only mid new end before written said (kept ∙ ready.output_is))
+
+  pub unwritten : (count : ℕ) (old mid : Outside) → Reads count (Err took.NoMemory) old mid → mid.output ≡ old.output
+  unwritten count old mid (inl still) = ap (λ o. o.output) still
+  unwritten count old mid (inr t) = ap (λ o. o.output) t.1.3
+
+  -- an answer at the end of a turn, or nothing written there
+  pub says-play : (said : Said) (manner : Manner) (st : State) (old new : Outside) (end : Option End) (input before : List ℕ) → Ready old st input before
+      → Says (answer_of said manner) (memory_answer manner.head_only) (manner_end manner) old new end
+      → Outcome before (play settings (says said manner) (at st input)) old new st end
+  says-play said manner st old new end input before ready said-it =
+      elim (says-early (answer_of said manner) manner.head_only (manner_end manner) old new end before said-it ready.output_is) [
+        | inl w ↦ inl record {
+          output = w.1;
+          ends = w.2;
+          goes = λ none. record {
+            ready = subst (λ o. Ready o st input (before ++ shown (answer_of said manner))) (sym w.0)
+                (record {
+                  input_is = ready.input_is;
+                  output_is = ap (λ o. behind o (shown (answer_of said manner))) ready.output_is;
+                  rows = ready.rows;
+                  clock = ready.clock;
+                });
+            state = refl;
+          };
+        }
+        | inr m ↦ inr m
+      ]
+
+  pub stops-play : (next : Option End) (st : State) (old new : Outside) (end : Option End) (input before : List ℕ) → Ready old st input before
+      → new ≡ old → end ≡ next → Outcome before (play settings (stops next) (at st input)) old new st end
+  stops-play next st old new end input before ready still ends =
+      let out = ready.output_is ∙ ap Some (sym (append-nil before)) in
+      inl record {
+        output = ap (λ o. o.output) still ∙ out;
+        ends = ends;
+        goes = λ none. record {
+          ready = subst (λ o. Ready o st input (before ++ [])) (sym still)
+              (record { input_is = ready.input_is; output_is = out; rows = ready.rows; clock = ready.clock });
+          state = refl;
+        };
+      }
