@@ -1,11 +1,10 @@
 -- Whether the escapes of a path spell text.
-use Rattle.std.specs.Str.{IsUtf8, is_utf8}
-use Rattle.std.proofs.Common.{◌≡◌, ℕ, Bool, true, false, cond, List, Result, Ok, Err, refl}
+use Rattle.std.specs.Str.{IsUtf8}
+use Rattle.std.proofs.Common.{◌≡◌, ℕ, Bool, true, false, cond, List, Ok, Err, refl}
 use Rattle.std.proofs.lemmas.Str.{IsUtf8-from_is_utf8, is_utf8-from_IsUtf8}
 use Rattle.percent_encoding.specs.Percent.{percent_decode}
 use Rattle.mvn_coords.specs.declared.fault.PathFault.TheVariants.{BadSegment}
 use Rattle.http_wire.specs.Head.{Head}
-use Rattle.repo_routes.specs.declared.refusal.Refusal.{Refusal}
 use Rattle.repo_routes.specs.Paths.{decoded, path_refusal}
 
 pub decoded-text : (head : Head) (written : List ℕ) → IsUtf8 (percent_decode written) → decoded head written ≡ Ok (percent_decode written)

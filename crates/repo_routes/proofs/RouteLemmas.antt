@@ -1,10 +1,7 @@
 -- Which route a path has, by the pattern that it is of.
-use Rattle.std.proofs.Common.{◌≡◌, ℕ, Bool, true, false, cond, List, length, Option, Some, None, codes, refl, nat_lt, ◌&&◌, ◌==◌, bytes_eq}
+use Rattle.std.proofs.Common.{◌≡◌, ℕ, Bool, true, false, cond, List, Option, Some, None, refl}
 use Rattle.std.specs.Prelude.{option_and_then}
 use Rattle.std.specs.Option.{option_map}
-use Rattle.std.specs.List.{after_first, before_first}
-use Rattle.byte_cuts.specs.Cuts.{behind}
-use Rattle.repo_routes.specs.declared.routes.Place.{Place}
 use Rattle.repo_routes.specs.declared.routes.Place.TheVariants as place
 use Rattle.repo_routes.specs.Routes.{Route, in_repository, status, below_repository, place_of, repository_route, route_at}
 

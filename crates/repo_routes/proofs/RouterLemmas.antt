@@ -1,13 +1,11 @@
 -- Which of the patterns a path is of, by `matchit`'s search over rows of tokens.
 use Rattle.std.specs.Prelude.{option_and_then}
-use Rattle.std.proofs.Common.{◌≡◌, ◌⊎◌, inl, inr, ℕ, zero, suc, ◌+◌, ◌-◌, ◌<◌, Bool, true, false, cond, ◌==◌, ◌&&◌, nat_eq, nat_lt, List, [], ◌∷◌, ◌++◌, length, take, drop, Option, Some, None, refl, sym, ◌∙◌, ap, arith, bytes_eq, length-append}
+use Rattle.std.proofs.Common.{◌≡◌, ◌⊎◌, inl, inr, ℕ, zero, suc, ◌-◌, ◌<◌, Bool, true, false, cond, ◌==◌, ◌&&◌, nat_eq, nat_lt, List, [], ◌∷◌, ◌++◌, length, drop, Option, Some, None, refl, ◌∙◌, ap, arith, bytes_eq, length-append}
 use Rattle.std.proofs.Math.Seq.{drop-append_seam}
 use Rattle.std.specs.Cmp.Lexicographic.{pointwise}
 use Rattle.std.proofs.lemmas.Bool.Decides.{nat_tests}
-use Rattle.std.specs.List.{after_first, before_first, ends_with}
-use Rattle.byte_cuts.specs.Cuts.{behind}
 use Rattle.matchit.specs.Rows.{RowsOf, catch_all_token, param_token}
-use Rattle.matchit.specs.Seek.{cuts, first, has_slash, longest_suffix, or_else, own, param_step, seek, segment, step, with_suffix}
+use Rattle.matchit.specs.Seek.{cuts, has_slash, or_else, own, param_step, seek, segment, step}
 
 -- the texts of the patterns have bytes alone
 unfoldable pub is_word : List ℕ → Bool

@@ -1,18 +1,18 @@
 -- The two patterns of the server find the routes of `specs/Routes.antt`.
 use Rattle.std.specs.Prelude.{option_and_then}
 use Rattle.std.specs.Option.{option_map}
-use Rattle.std.specs.List.{after_first, before_first, position_or_len, starts_with}
+use Rattle.std.specs.List.{after_first, before_first, position_or_len}
 use Rattle.std.specs.Cmp.Lexicographic.{pointwise}
-use Rattle.std.proofs.Common.{◌≡◌, ◌⊎◌, inl, inr, ℕ, zero, suc, ◌+◌, ◌<◌, Bool, true, false, cond, ◌==◌, ◌&&◌, nat_eq, nat_lt, List, [], ◌∷◌, ◌++◌, length, take, drop, Option, Some, None, refl, sym, ◌∙◌, ap, arith, bytes_eq, codes}
+use Rattle.std.proofs.Common.{◌≡◌, ◌⊎◌, inl, inr, ℕ, suc, ◌+◌, ◌<◌, Bool, true, false, cond, ◌==◌, ◌&&◌, nat_eq, nat_lt, List, [], ◌∷◌, ◌++◌, length, take, drop, Option, Some, None, refl, sym, ◌∙◌, ap, arith, bytes_eq, codes}
 use Rattle.std.proofs.lemmas.Bool.Decides.{nat_tests}
 use Rattle.byte_cuts.specs.Cuts.{behind}
 use Rattle.matchit.specs.Rows.{RowsOf, catch_all_token, param_token}
 use Rattle.matchit.specs.Router.{RouteOf}
-use Rattle.matchit.specs.Seek.{has_slash, or_else, seek, step}
+use Rattle.matchit.specs.Seek.{has_slash, or_else, seek}
 use Rattle.repo_routes.specs.declared.routes.Place.{Place}
 use Rattle.repo_routes.specs.declared.routes.Place.TheVariants as place
 use Rattle.repo_routes.specs.Routes.{Route, in_repository, status, below_repository, place_of, repository_route, route_at}
-use Rattle.repo_routes.proofs.RouterLemmas.{along, and-false, filled, is_word, neither, or-none, parameter, seek-byte, seek-none, strip, with-slash, without-slash, word-row}
+use Rattle.repo_routes.proofs.RouterLemmas.{along, and-false, filled, is_word, or-none, parameter, seek-byte, seek-none, strip, with-slash, without-slash, word-row}
 
 abbrev is_slash : ℕ → Bool
 is_slash b = b == 47

@@ -1,6 +1,6 @@
 -- The routes of the server: which paths it has, and which methods each of them (RFC 9110, section 10.2.1).
 use Rattle.std.specs.Prelude.{ℕ, Bool, true, ◌||◌, ◌&&◌, ◌==◌, nat_lt, if◌then◌else◌, List, length, Option, Some, None, Result, option_and_then, codes, bytes_eq}
-use Rattle.std.specs.Option.{ok_or, option_map}
+use Rattle.std.specs.Option.{ok_or}
 use Rattle.std.specs.List.{after_first, before_first}
 use Rattle.byte_cuts.specs.Cuts.{behind}
 use Rattle.http_wire.specs.Head.{Head}

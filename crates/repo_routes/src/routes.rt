@@ -32,7 +32,8 @@ pub(crate) enum Route<'a> {
     Status,
 }
 
-/// The routes of the server, found by their patterns. They are made once, and finding a route takes no memory.
+/// The routes of the server, found by their patterns: each value of the type finds the routes of `specs/Routes.antt`, and
+/// no others. They are made once, and finding a route takes no memory.
 #[derive(Drop)]
 pub struct Routes {
     router: Router<Place>,

@@ -1,4 +1,4 @@
-use Rattle.std.proofs.Common.{◌≡◌, Some, sym, ap, Option}
+use Rattle.std.proofs.Common.{◌≡◌, Some, ap, Option}
 use Rattle.std.specs.Option.{ok_or, option_map}
 use Rattle.repo_routes.specs.declared.routes.Place.TheVariants as place
 use Rattle.repo_routes.specs.declared.refusal.Refusal.TheVariants.{NoRoute}
