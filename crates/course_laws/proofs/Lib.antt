@@ -1,4 +1,5 @@
 pub mod Kept
+pub mod Bodies
 pub mod Endings
 pub mod Yards
 pub mod LeftBehind

@@ -1,9 +1,12 @@
 //! What follows for served streams. No function here has code: its contract is the law.
-ghost use Rattle.std.specs.Prelude.{◌≡◌, ◌≢◌, ◌⊎◌, ℕ, ◌*◌, ◌≤◌, Bool, false, length, List, ◌++◌, Option, Some, Result};
+ghost use Rattle.std.specs.Prelude.{◌≡◌, ◌≢◌, ◌⊎◌, ℕ, ◌*◌, ◌≤◌, Bool, false, length, List, ◌++◌, Option, Some, Result, Ok, IfOk, IfErr};
 ghost use Rattle.std.specs.List.{AllByRecursion};
 ghost use Rattle.outside.specs.Moments.{Moments};
 ghost use Rattle.http_wire.specs.declared.faults.HeadFault.{HeadFault};
+ghost use Rattle.http_wire.specs.Head.{Head};
+ghost use Rattle.repo_routes.specs.Framing as framing;
 ghost use Rattle.repo_routes.specs.Intent.{Judged};
+ghost use Rattle.repo_routes.specs.Judge.{judge};
 ghost use Rattle.repo_routes.specs.declared.judging.Refused.{Refused};
 ghost use Rattle.repo_course.specs.Course.{course_of, refuses_head};
 ghost use Rattle.repo_course.specs.declared.outcomes.End.{End};
@@ -64,6 +67,15 @@ pub fn courses_keep_their_duties()
     ensures requests { (judged : Result Judged Refused) (last : Bool) →
         Keeps (is_head_only judged) (course_of judged last) 3 (at_first (unread_of judged)) }
     ensures no_heads { (fault : HeadFault) → Keeps false (refuses_head fault) 3 (at_first 0) }
+{}
+
+/// The body that a request's course has to read is the one that its head announces, and the connection of a request that is
+/// refused goes on only where its head announces none: so no byte of a body is ever read as a head.
+pub fn bodies_are_whole()
+    ensures requests { (settings : Settings) (head : Head) →
+        IfOk (judge settings head) (λ request. framing.length_of head ≡ Ok (unread_of (Ok request))) }
+    ensures refusals { (settings : Settings) (head : Head) →
+        IfErr (judge settings head) (λ refused. refused.close ≡ false → framing.length_of head ≡ Ok 0) }
 {}
 
 /// Where no blob failed, and the records did not, a stream that is served alone has taken what is played from the machine's
