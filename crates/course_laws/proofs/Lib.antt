@@ -12,3 +12,4 @@ pub mod PlayedCourse
 pub mod PlayedStream
 pub mod OnLiterals
 pub mod PutAndGet
+pub mod Caused

@@ -1,5 +1,5 @@
 //! What follows for served streams. No function here has code: its contract is the law.
-ghost use Rattle.std.specs.Prelude.{◌≡◌, ◌≢◌, ◌⊎◌, ℕ, ◌*◌, ◌≤◌, Bool, false, length, List, ◌++◌, Option, Some, Result, Ok, IfOk, IfErr};
+ghost use Rattle.std.specs.Prelude.{◌≡◌, ◌≢◌, ◌⊎◌, ℕ, ◌*◌, ◌≤◌, Bool, false, length, List, ◌++◌, Option, Some, None, Result, Ok, IfOk, IfErr};
 ghost use Rattle.std.specs.List.{AllByRecursion};
 ghost use Rattle.outside.specs.Moments.{Moments};
 ghost use Rattle.http_wire.specs.declared.faults.HeadFault.{HeadFault};
@@ -8,7 +8,7 @@ ghost use Rattle.repo_routes.specs.Framing as framing;
 ghost use Rattle.repo_routes.specs.Intent.{Judged};
 ghost use Rattle.repo_routes.specs.Judge.{judge};
 ghost use Rattle.repo_routes.specs.declared.judging.Refused.{Refused};
-ghost use Rattle.repo_course.specs.Course.{course_of, refuses_head};
+ghost use Rattle.repo_course.specs.Course.{course_of, head_said, refuses_head};
 ghost use Rattle.repo_course.specs.declared.outcomes.End.{End};
 ghost use Rattle.repo_course.specs.Serving.{AllTell, Outside, Serves};
 ghost use Rattle.repo_model.specs.History.{Entry, Legal, end};
@@ -16,6 +16,7 @@ ghost use Rattle.repo_model.specs.Reply.{no_draft};
 ghost use Rattle.repo_model.specs.Settings.{Settings};
 ghost use Rattle.repo_model.specs.State.{State, opening};
 ghost use Rattle.course_laws.specs.AsPlayed.{BeginsAt, IsAsPlayed, IsPlayedUpTo, NoFaults, RowsTold, StoodStill, WantedMemory};
+ghost use Rattle.course_laws.specs.Causes.{AnswersDue, by_text_of, due_at_first};
 ghost use Rattle.course_laws.specs.Complete.{IsComplete};
 ghost use Rattle.course_laws.specs.Duties.{Keeps, at_first, is_head_only, unread_of};
 ghost use Rattle.course_laws.specs.Endings.{EndsByCause};
@@ -67,6 +68,14 @@ pub fn courses_keep_their_duties()
     ensures requests { (judged : Result Judged Refused) (last : Bool) →
         Keeps (is_head_only judged) (course_of judged last) 3 (at_first (unread_of judged)) }
     ensures no_heads { (fault : HeadFault) → Keeps false (refuses_head fault) 3 (at_first 0) }
+{}
+
+/// Each course of a request, and each refusal, gives the answer that is due for what its acts came to, and no other: by the
+/// table of `specs/Causes.antt`, whatever is replied and however the acts end.
+pub fn answers_have_their_causes()
+    ensures requests { (judged : Result Judged Refused) (last : Bool) →
+        AnswersDue (by_text_of judged) (course_of judged last) (due_at_first judged) }
+    ensures no_heads { (fault : HeadFault) → AnswersDue (λ bytes. None) (refuses_head fault) (Some (head_said fault)) }
 {}
 
 /// The body that a request's course has to read is the one that its head announces, and the connection of a request that is
