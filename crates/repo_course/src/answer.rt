@@ -6,7 +6,7 @@ ghost use Rattle.repo_routes.specs.declared.refusal.Refusal.TheVariants as refus
 ghost use Rattle.repo_model.specs.Shown.{shown_parcel};
 ghost use Rattle.repo_course.specs.Answers.{answer_of, count_line, counts_text, differs_text, file_answer, full_answer, in_manner, line_answer, methods_text, print_text, refusal_answer, taken_text, text_answer};
 
-use crate::manner::{Manner, is_end};
+use crate::manner::Manner;
 use crate::said::Said;
 use http_wire::{Answer, Content, Status, render};
 use mvn_coords::PathFault;
@@ -234,7 +234,7 @@ fn full_answer(alloc: Global, said: Said) -> Result<Answer, AllocError>
 fn in_manner(alloc: Global, mut answer: Answer, manner: Manner) -> Answer
     ensures { result ≡ in_manner manner answer }
 {
-    answer.close = is_end(manner);
+    answer.close = manner.is_end();
     if manner.head_only {
         answer.body = Bytes::from_vec(Vec::new(alloc));
     }
@@ -264,7 +264,7 @@ pub fn file_head<H: Held>(
         length: parcel.length,
         digests: Some(parcel.digests),
         allow: None,
-        close: is_end(manner),
+        close: manner.is_end(),
         body: Bytes::from_vec(Vec::new(alloc)),
     };
     render(alloc, &answer)

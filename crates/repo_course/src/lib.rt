@@ -20,7 +20,7 @@ pub use act::{Act, After, Coming, FileBody, Form, SmallBody};
 pub use answer::{file_head, rendered};
 pub use bodies::{after_continue, after_read, after_take};
 pub use limits::TURNS;
-pub use manner::{Manner, end_of, is_end};
+pub use manner::Manner;
 pub use opening::start;
 pub use outcomes::{Continued, End, Sent, Took};
 pub use said::Said;

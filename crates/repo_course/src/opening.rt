@@ -12,7 +12,7 @@ ghost use Rattle.repo_course.specs.Course.{course, course_for, course_of, refuse
 ghost use Rattle.repo_course.specs.Meets.{Meets};
 
 use crate::act::{Act, After, Coming, Form, SmallBody};
-use crate::manner::{Manner, at_end};
+use crate::manner::Manner;
 use crate::outcomes::End;
 use crate::said::Said;
 use crate::steps::{invite, no_memory, say};
@@ -142,7 +142,7 @@ fn open_or_starve<H: Held>(
         ⊎ (left_of result.0 result.1 ≡ starves request.now) }
     ensures meets { Meets settings.now (left_of result.0 result.1) }
 {
-    let manner = at_end(is_head(request));
+    let manner = Manner::at_end(is_head(request));
     match open(alloc, settings, routes, request, last) {
         Ok(first) => first,
         Err(_) => (manner, no_memory(manner)),
@@ -154,8 +154,8 @@ fn refuse_head<H: Held>(fault: HeadFault) -> Act<H>
     ensures { (any : AnyManner) → left_of any result ≡ refuses_head fault }
 {
     match fault {
-        HeadFault::Broken => say(Said::BadHead, at_end(false)),
-        HeadFault::TooLong => say(Said::HeadTooLong, at_end(false)),
+        HeadFault::Broken => say(Said::BadHead, Manner::at_end(false)),
+        HeadFault::TooLong => say(Said::HeadTooLong, Manner::at_end(false)),
     }
 }
 
@@ -178,7 +178,7 @@ pub fn start<H: Held>(
         Err(WireFault::Torn) => Act::Stop(Some(End::TornRequest)),
         Err(WireFault::SourceFault) => Act::Stop(Some(End::SourceFault)),
         Err(WireFault::Refused(fault)) => refuse_head(fault),
-        Err(WireFault::NoMemory) => no_memory(at_end(false)),
+        Err(WireFault::NoMemory) => no_memory(Manner::at_end(false)),
     };
-    (at_end(false), act)
+    (Manner::at_end(false), act)
 }

@@ -9,7 +9,7 @@ ghost use Rattle.repo_course.specs.Acts.{after_reply, left_of, left_of_body, lef
 ghost use Rattle.repo_course.specs.Course.{after_look, after_may_put, after_put, after_put_doc, after_put_side, after_send, after_status, asks, invites, says, without_memory};
 
 use crate::act::{Act, After, Coming, FileBody};
-use crate::manner::{Manner, at_end, end_of, with_unread};
+use crate::manner::Manner;
 use crate::outcomes::{End, Sent, Took};
 use crate::said::Said;
 use mvn_coords::Side;
@@ -33,7 +33,7 @@ pub(crate) fn no_memory<H: Held>(manner: Manner) -> Act<H>
 {
     Act::Say {
         said: Said::NoMemory,
-        manner: at_end(manner.head_only),
+        manner: Manner::at_end(manner.head_only),
     }
 }
 
@@ -70,7 +70,7 @@ fn after_done<H: Held>(manner: Manner, sent: Sent) -> Act<H>
     ensures rank { rank_of result ≡ 0 }
 {
     match sent {
-        Sent::Whole => Act::Stop(end_of(manner)),
+        Sent::Whole => Act::Stop(manner.end()),
         Sent::BlobFault => say(Said::BlobFault, manner),
         Sent::SinkFault => Act::Stop(Some(End::SinkFault)),
         Sent::NoMemory => no_memory(manner),
@@ -88,7 +88,7 @@ fn after_may_put<H: Held>(
     ensures left { left_of manner result ≡ after_may_put repo path length expects manner (shown_reply reply) }
     ensures shorter { rank_of result < 7 }
 {
-    let unread = with_unread(manner, length);
+    let unread = manner.with_unread(length);
     match reply {
         Reply::Draft(draft) => {
             let body = FileBody {

@@ -10,7 +10,7 @@ ghost use Rattle.repo_server.specs.Written.{IsWritten};
 use crate::files::send_file;
 use http_wire::{continue_answer, no_memory_answer, no_memory_head};
 use outside::{Blobs, Parcel, Sink, Tells, write_all};
-use repo_course::{Continued, End, Manner, Said, Sent, end_of, file_head, rendered};
+use repo_course::{Continued, End, Manner, Said, Sent, file_head, rendered};
 use std::alloc::Global;
 
 /// Writes bytes. It says how the stream ends then: as `next` says, or by a fault of the sink, which took a part.
@@ -42,7 +42,7 @@ pub fn say<O: Sink>(alloc: Global, said: Said, manner: Manner, sink: &mut O) -> 
         (outside ⟦<O as Tells>⟧ held sink.old blobs) (outside ⟦<O as Tells>⟧ held sink.new blobs) result }
 {
     match rendered(alloc, said, manner) {
-        Ok(bytes) => write(bytes.as_slice(), end_of(manner), sink),
+        Ok(bytes) => write(bytes.as_slice(), manner.end(), sink),
         Err(_) => write(memory_bytes(manner.head_only), Some(End::Closed), sink),
     }
 }

@@ -1,5 +1,8 @@
 // The bytes of answers, written out.
-use http_wire::{Answer, Content, NO_MEMORY, Status, no_memory_answer, render};
+use http_wire::{
+    Answer, CONTINUE, Content, NO_MEMORY, NO_MEMORY_HEAD, Status, continue_answer, no_memory_answer,
+    no_memory_head, render,
+};
 use mvn_digest::{Digests, Hashes};
 use std::alloc::{AllocError, Global};
 use std::test::Fail;
@@ -126,5 +129,15 @@ fn answers_are_rendered(rt: HostRuntime) -> Result<(), Fail> {
     let wrong = first_wrong(rt.alloc())?;
     let prepared = is_for_no_memory(NO_MEMORY);
     assert_eq!(rt; (wrong, prepared), (None, true));
+    Ok(())
+}
+
+// The prepared answers, written out.
+#[test]
+fn prepared_answers_are_written_out(rt: HostRuntime) -> Result<(), Fail> {
+    assert_eq!(rt; CONTINUE.as_slice(), b"HTTP/1.1 100 Continue\r\n\r\n".as_slice());
+    assert_eq!(rt; continue_answer(), CONTINUE.as_slice());
+    assert_eq!(rt; NO_MEMORY_HEAD.as_slice(), b"HTTP/1.1 507 Insufficient Storage\r\nContent-Type: text/plain\r\nContent-Length: 7\r\nConnection: close\r\n\r\n".as_slice());
+    assert_eq!(rt; no_memory_head(), NO_MEMORY_HEAD.as_slice());
     Ok(())
 }

@@ -13,7 +13,7 @@ returns-in-Ok g c held blobs =
     let old = outside g.O.Tells held c.args.sink.now blobs in
     let new = outside g.O.Tells held c.write.new.sink blobs in
     says_answer (answer_of c.args.said m) (memory_answer m.head_only) (end_of m) c.as_slice.result.now _ _ _ (c.as_slice.ensures ∙ c.in-Ok.ensures)
-    (subst (λ (n : Option End). IsWritten c.as_slice.result.now n old new c.write.result) c.end_of.ensures (c.write.ensures held blobs))
+    (subst (λ (n : Option End). IsWritten c.as_slice.result.now n old new c.write.result) c.end.ensures (c.write.ensures held blobs))
 
 pub returns-in-Err : goal.returns-in-Err
 returns-in-Err g c held blobs =
