@@ -1,5 +1,5 @@
 -- What a request's course has to read is the body that its head announces.
-use Rattle.std.proofs.Common.{◌≡◌, ℕ, ◌≤◌, Bool, true, false, ◌&&◌, ◌||◌, not, cond, List, Some, None, Result, Ok, Err, IfOk, arith, refl, sym, subst, ap, ◌∙◌}
+use Rattle.std.proofs.Common.{◌≡◌, ℕ, ◌≤◌, Bool, true, false, ◌||◌, not, cond, List, Some, None, Result, Ok, Err, IfOk, arith, refl, sym, subst, ap, ◌∙◌}
 use Rattle.std.specs.Prelude.{Option, IfErr, if◌then◌else◌, nat_lt, bytes_eq, codes}
 use Rattle.std.specs.Option.{ok_or}
 use Rattle.std.proofs.lemmas.Bool.{ltb-false}

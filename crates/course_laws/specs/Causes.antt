@@ -4,7 +4,7 @@ use Rattle.mvn_digest.specs.Hex.{hex_text}
 use Rattle.mvn_digest.specs.Sides.{read_side}
 use Rattle.mvn_doc.specs.Reading.{reading}
 use Rattle.mvn_metadata.specs.Document.{Document}
-use Rattle.repo_model.specs.Command.{Command, look, done, may_put, put, put_side, put_doc, drop_draft, status}
+use Rattle.repo_model.specs.Command.{Command, look, may_put, put, put_side, put_doc, status}
 use Rattle.repo_model.specs.Reply.{Reply, file, text, doc, missed, kind_refused, draft, no_draft, taken, same, relisted, created, not_there, differs, agreed, noted, counts as counts_reply, spent, store_fault}
 use Rattle.repo_routes.specs.Intent.{Intent, Judged, puts_side, puts_document}
 use Rattle.repo_routes.specs.declared.judging.Refused.{Refused}
