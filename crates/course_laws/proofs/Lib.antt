@@ -13,3 +13,4 @@ pub mod PlayedStream
 pub mod OnLiterals
 pub mod PutAndGet
 pub mod Caused
+pub mod Refusals

@@ -6,3 +6,4 @@ pub mod Faultless
 pub mod AsPlayed
 pub mod Worked
 pub mod Causes
+pub mod Refusals

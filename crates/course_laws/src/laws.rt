@@ -1,8 +1,9 @@
 //! What follows for served streams. No function here has code: its contract is the law.
-ghost use Rattle.std.specs.Prelude.{◌≡◌, ◌≢◌, ◌⊎◌, ℕ, ◌*◌, ◌≤◌, Bool, false, length, List, ◌++◌, Option, Some, None, Result, Ok, IfOk, IfErr};
+ghost use Rattle.std.specs.Prelude.{◌≡◌, ◌≢◌, ◌⊎◌, ℕ, ◌*◌, ◌≤◌, Bool, false, length, List, ◌++◌, [], Option, Some, None, Result, Ok, Err, IfOk, IfErr};
 ghost use Rattle.std.specs.List.{AllByRecursion};
 ghost use Rattle.outside.specs.Moments.{Moments};
 ghost use Rattle.http_wire.specs.declared.faults.HeadFault.{HeadFault};
+ghost use Rattle.http_wire.specs.Front.{Whole, front};
 ghost use Rattle.http_wire.specs.Head.{Head};
 ghost use Rattle.repo_routes.specs.Framing as framing;
 ghost use Rattle.repo_routes.specs.Intent.{Judged};
@@ -10,7 +11,7 @@ ghost use Rattle.repo_routes.specs.Judge.{judge};
 ghost use Rattle.repo_routes.specs.declared.judging.Refused.{Refused};
 ghost use Rattle.repo_course.specs.Course.{course_of, head_said, refuses_head};
 ghost use Rattle.repo_course.specs.declared.outcomes.End.{End};
-ghost use Rattle.repo_course.specs.Serving.{AllTell, Outside, Serves};
+ghost use Rattle.repo_course.specs.Serving.{AllTell, Outside, Serves, Turn};
 ghost use Rattle.repo_model.specs.History.{Entry, Legal, end};
 ghost use Rattle.repo_model.specs.Reply.{no_draft};
 ghost use Rattle.repo_model.specs.Settings.{Settings};
@@ -22,6 +23,7 @@ ghost use Rattle.course_laws.specs.Duties.{Keeps, at_first, is_head_only, unread
 ghost use Rattle.course_laws.specs.Endings.{EndsByCause};
 ghost use Rattle.course_laws.specs.Faultless.{first_scene, play_stream};
 ghost use Rattle.course_laws.specs.LeftBehind.{IsDrawn, LeavesNothing};
+ghost use Rattle.course_laws.specs.Refusals.{IsRefusedBy};
 ghost use Rattle.course_laws.specs.Worked as worked;
 ghost use Rattle.course_laws.specs.Worked.{IsAnswered};
 
@@ -76,6 +78,15 @@ pub fn answers_have_their_causes()
     ensures requests { (judged : Result Judged Refused) (last : Bool) →
         AnswersDue (by_text_of judged) (course_of judged last) (due_at_first judged) }
     ensures no_heads { (fault : HeadFault) → AnswersDue (λ bytes. None) (refuses_head fault) (Some (head_said fault)) }
+{}
+
+/// A request of a served stream whose head is refused asks nothing, and its answer says why, unless memory was wanted or a
+/// side of the stream failed. The input is told.
+pub fn refusals_are_answered<H: Held>()
+    ensures { (settings : Settings) (last : Bool) (entries : List Entry) (old new : Outside) (ending : Option End) (input rest : List ℕ)
+        (head : Head) (refused : Refused) →
+        Turn settings (AllTell H.bytes) last entries old new ending → old.input ≡ Some input → front input ≡ Whole head rest →
+        judge settings head ≡ Err refused → (entries ≡ []) × IsRefusedBy refused last old new ending }
 {}
 
 /// The body that a request's course has to read is the one that its head announces, and the connection of a request that is
