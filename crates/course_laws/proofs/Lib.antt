@@ -1,4 +1,5 @@
 pub mod Kept
+pub mod Bodies
 pub mod Endings
 pub mod Yards
 pub mod LeftBehind
@@ -11,3 +12,5 @@ pub mod PlayedCourse
 pub mod PlayedStream
 pub mod OnLiterals
 pub mod PutAndGet
+pub mod Caused
+pub mod Refusals

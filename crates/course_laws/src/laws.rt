@@ -1,23 +1,29 @@
 //! What follows for served streams. No function here has code: its contract is the law.
-ghost use Rattle.std.specs.Prelude.{◌≡◌, ◌≢◌, ◌⊎◌, ℕ, ◌*◌, ◌≤◌, Bool, false, length, List, ◌++◌, Option, Some, Result};
+ghost use Rattle.std.specs.Prelude.{◌≡◌, ◌≢◌, ◌⊎◌, ℕ, ◌*◌, ◌≤◌, Bool, false, length, List, ◌++◌, [], Option, Some, None, Result, Ok, Err, IfOk, IfErr};
 ghost use Rattle.std.specs.List.{AllByRecursion};
 ghost use Rattle.outside.specs.Moments.{Moments};
 ghost use Rattle.http_wire.specs.declared.faults.HeadFault.{HeadFault};
+ghost use Rattle.http_wire.specs.Front.{Whole, front};
+ghost use Rattle.http_wire.specs.Head.{Head};
+ghost use Rattle.repo_routes.specs.Framing as framing;
 ghost use Rattle.repo_routes.specs.Intent.{Judged};
+ghost use Rattle.repo_routes.specs.Judge.{judge};
 ghost use Rattle.repo_routes.specs.declared.judging.Refused.{Refused};
-ghost use Rattle.repo_course.specs.Course.{course_of, refuses_head};
+ghost use Rattle.repo_course.specs.Course.{course_of, head_said, refuses_head};
 ghost use Rattle.repo_course.specs.declared.outcomes.End.{End};
-ghost use Rattle.repo_course.specs.Serving.{AllTell, Outside, Serves};
+ghost use Rattle.repo_course.specs.Serving.{AllTell, Outside, Serves, Turn};
 ghost use Rattle.repo_model.specs.History.{Entry, Legal, end};
 ghost use Rattle.repo_model.specs.Reply.{no_draft};
 ghost use Rattle.repo_model.specs.Settings.{Settings};
 ghost use Rattle.repo_model.specs.State.{State, opening};
 ghost use Rattle.course_laws.specs.AsPlayed.{BeginsAt, IsAsPlayed, IsPlayedUpTo, NoFaults, RowsTold, StoodStill, WantedMemory};
+ghost use Rattle.course_laws.specs.Causes.{AnswersDue, by_text_of, due_at_first};
 ghost use Rattle.course_laws.specs.Complete.{IsComplete};
 ghost use Rattle.course_laws.specs.Duties.{Keeps, at_first, is_head_only, unread_of};
 ghost use Rattle.course_laws.specs.Endings.{EndsByCause};
 ghost use Rattle.course_laws.specs.Faultless.{first_scene, play_stream};
 ghost use Rattle.course_laws.specs.LeftBehind.{IsDrawn, LeavesNothing};
+ghost use Rattle.course_laws.specs.Refusals.{IsRefusedBy};
 ghost use Rattle.course_laws.specs.Worked as worked;
 ghost use Rattle.course_laws.specs.Worked.{IsAnswered};
 
@@ -64,6 +70,32 @@ pub fn courses_keep_their_duties()
     ensures requests { (judged : Result Judged Refused) (last : Bool) →
         Keeps (is_head_only judged) (course_of judged last) 3 (at_first (unread_of judged)) }
     ensures no_heads { (fault : HeadFault) → Keeps false (refuses_head fault) 3 (at_first 0) }
+{}
+
+/// Each course of a request, and each refusal, gives the answer that is due for what its acts came to, and no other: by the
+/// table of `specs/Causes.antt`, whatever is replied and however the acts end.
+pub fn answers_have_their_causes()
+    ensures requests { (judged : Result Judged Refused) (last : Bool) →
+        AnswersDue (by_text_of judged) (course_of judged last) (due_at_first judged) }
+    ensures no_heads { (fault : HeadFault) → AnswersDue (λ bytes. None) (refuses_head fault) (Some (head_said fault)) }
+{}
+
+/// A request of a served stream whose head is refused asks nothing, and its answer says why, unless memory was wanted or a
+/// side of the stream failed. The input is told.
+pub fn refusals_are_answered<H: Held>()
+    ensures { (settings : Settings) (last : Bool) (entries : List Entry) (old new : Outside) (ending : Option End) (input rest : List ℕ)
+        (head : Head) (refused : Refused) →
+        Turn settings (AllTell H.bytes) last entries old new ending → old.input ≡ Some input → front input ≡ Whole head rest →
+        judge settings head ≡ Err refused → (entries ≡ []) × IsRefusedBy refused last old new ending }
+{}
+
+/// The body that a request's course has to read is the one that its head announces, and the connection of a request that is
+/// refused goes on only where its head announces none: so no byte of a body is ever read as a head.
+pub fn bodies_are_whole()
+    ensures requests { (settings : Settings) (head : Head) →
+        IfOk (judge settings head) (λ request. framing.length_of head ≡ Ok (unread_of (Ok request))) }
+    ensures refusals { (settings : Settings) (head : Head) →
+        IfErr (judge settings head) (λ refused. refused.close ≡ false → framing.length_of head ≡ Ok 0) }
 {}
 
 /// Where no blob failed, and the records did not, a stream that is served alone has taken what is played from the machine's

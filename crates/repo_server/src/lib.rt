@@ -1,7 +1,7 @@
 //! Serves a stream of requests: does the acts of each request's course, over whoever takes the commands.
 //!
-//! [`follow`] is the one driver of all courses: it asks, takes bodies, sends files and writes answers. [`serve_stream`] reads
-//! one request after another and follows its course.
+//! [`follow`] is the one driver of all courses: it asks, writes `100 Continue`, takes and reads bodies, sends files and writes
+//! answers. [`serve_stream`] reads one request after another and follows its course.
 #![tactic(auto)]
 
 mod driver;
@@ -10,5 +10,5 @@ mod saying;
 mod streams;
 
 pub use driver::follow;
-pub use files::{send_file, take_body};
+pub use files::{read_body, send_file, take_body};
 pub use streams::serve_stream;

@@ -1,0 +1,192 @@
+-- What a request's course has to read is the body that its head announces.
+use Rattle.std.proofs.Common.{◌≡◌, ℕ, ◌≤◌, Bool, true, false, ◌||◌, not, cond, List, Some, None, Result, Ok, Err, IfOk, arith, refl, sym, subst, ap, ◌∙◌}
+use Rattle.std.specs.Prelude.{Option, IfErr, if◌then◌else◌, nat_lt, bytes_eq, codes}
+use Rattle.std.specs.Option.{ok_or}
+use Rattle.std.proofs.lemmas.Bool.{ltb-false}
+use Rattle.std.proofs.lemmas.Slice.Eq.{bytes_eq-Decides}
+use Rattle.http_wire.specs.Head.{Head}
+use Rattle.http_wire.specs.Fields.{body_length}
+use Rattle.http_wire.specs.declared.requests.BodyLength.{BodyLength}
+use Rattle.http_wire.specs.declared.requests.BodyLength.TheVariants.{Known, Missing, Wrong}
+use Rattle.mvn_coords.specs.declared.fault.PathFault.{PathFault}
+use Rattle.mvn_coords.specs.declared.kind.Kind.{Kind}
+use Rattle.mvn_coords.specs.declared.kind.Kind.TheVariants.{File, FileSide, Doc, DocSide}
+use Rattle.mvn_coords.specs.Kind.{kind}
+use Rattle.repo_model.specs.Settings.{Settings}
+use Rattle.repo_routes.specs.declared.judging.Refused.{Refused}
+use Rattle.repo_routes.specs.declared.refusal.Refusal.{Refusal}
+use Rattle.repo_routes.specs.declared.refusal.Refusal.TheVariants as refusal
+use Rattle.repo_routes.specs.Framing as framing
+use Rattle.repo_routes.specs.Framing.{check_host, ends_connection, has_body, is_head, is_put, is_read}
+use Rattle.repo_routes.specs.Intent.{Intent, Judged, reads as reads_path}
+use Rattle.repo_routes.specs.Judge.{check_body, intent_of, intent_on, judge, loses_place, outcome_of}
+use Rattle.repo_routes.specs.Paths.{asked_at, check_limit, decoded, intent_at, limit_of, path_refusal, put_at, put_of, thing_at, thing_of, thing_or}
+use Rattle.repo_routes.specs.Routes.{Route, in_repository, status, allowed, allows, check_method, check_repository, route_of}
+use Rattle.repo_routes.specs.Steps.{◌>>=◌, need}
+use Rattle.repo_routes.specs.Target.{target_path}
+use Rattle.course_laws.specs.Duties.{length_of}
+
+-- what holds of each end of what follows a step holds of the ends of both
+then-holds : {A B : Type 0} (step : Result A Refusal) (next : A → Result B Refusal) (P : B → Type 0)
+    → ((value : A) → step ≡ Ok value → IfOk (next value) P) → IfOk (step >>= next) P
+then-holds (Ok value) next P holds = holds value refl
+then-holds (Err cause) next P holds = tt
+
+needed : (test : Bool) (cause : Refusal) → need test cause ≡ Ok tt → test ≡ true
+needed true cause e = refl
+needed false cause e = cc
+
+-- neither GET nor HEAD is PUT
+put-is-no-read : (head : Head) → is_read head ≡ true → is_put head ≡ false
+unfolding is_read is_put is_head
+put-is-no-read head read =
+    elim (bytes_eq head.method (codes "PUT")) as (λ b. bytes_eq head.method (codes "PUT") ≡ b → b ≡ false) [
+      | true ↦ λ is.
+          let method : head.method ≡ codes "PUT" = (bytes_eq-Decides head.method (codes "PUT")).0 is in
+          absurd (clash (subst (λ m. (bytes_eq m (codes "GET") || bytes_eq m (codes "HEAD")) ≡ true) method read))
+      | false ↦ λ is. refl
+    ] refl
+  where
+    clash : false ≡ true → ⊥
+    clash is = cc
+
+-- no bytes where no PUT brings any
+no-bytes : (put : Bool) (length : ℕ) → (put || not (nat_lt 0 length)) ≡ true → put ≡ false → 0 ≡ length
+no-bytes true length test is = absurd (cc)
+no-bytes false length test is =
+    elim (nat_lt 0 length) as (λ b. nat_lt 0 length ≡ b → not b ≡ true → 0 ≡ length) [
+      | true ↦ λ here no. absurd (cc)
+      | false ↦ λ none yes. let le : length ≤ 0 = ltb-false 0 length none in omega arith
+    ] refl test
+
+put-announced : (repo path : List ℕ) (length : ℕ) (k : Kind) → length_of (put_of repo path length (thing_of k)) ≡ length
+put-announced repo path length (File c) = refl
+put-announced repo path length (FileSide c side) = refl
+put-announced repo path length (Doc d) = refl
+put-announced repo path length (DocSide d side) = refl
+
+asked-announced : (settings : Settings) (put : Bool) (repo path : List ℕ) (length : ℕ) (k : Kind) → (put || not (nat_lt 0 length)) ≡ true
+    → IfOk (cond put (put_at settings repo path length (thing_of k)) (Ok (reads_path repo path))) (λ intent. length_of intent ≡ length)
+unfolding put_at
+asked-announced settings true repo path length k test =
+    then-holds (check_limit (limit_of settings (thing_of k)) length) (λ _. Ok (put_of repo path length (thing_of k))) (λ intent. length_of intent ≡ length)
+    (λ u fits. put-announced repo path length k)
+asked-announced settings false repo path length k test = no-bytes false length test refl
+
+kind-announced : (settings : Settings) (head : Head) (repo path : List ℕ) (length : ℕ) (k : Result Kind PathFault)
+    → (is_put head || not (nat_lt 0 length)) ≡ true
+    → IfOk (thing_or (path_refusal head) k >>= (λ what. asked_at settings head length repo path what)) (λ intent. length_of intent ≡ length)
+unfolding asked_at
+kind-announced settings head repo path length (Ok k) test = asked-announced settings (is_put head) repo path length k test
+kind-announced settings head repo path length (Err fault) test = tt
+
+on-announced : (settings : Settings) (head : Head) (length : ℕ) (route : Route) → allows (allowed route) head ≡ true
+    → (is_put head || not (nat_lt 0 length)) ≡ true → IfOk (intent_on settings head length route) (λ intent. length_of intent ≡ length)
+unfolding intent_at thing_at
+on-announced settings head length (in_repository repo written) may test =
+    then-holds (decoded head written) _ (λ intent. length_of intent ≡ length)
+    (λ path _. kind-announced settings head repo path length (kind path) test)
+on-announced settings head length status may test = no-bytes (is_put head) length test (put-is-no-read head may)
+
+intent-announced : (settings : Settings) (head : Head) → IfOk (intent_of settings head) (λ intent. framing.length_of head ≡ Ok (length_of intent))
+unfolding intent_of check_method check_body
+intent-announced settings head =
+    let P : Intent → Type 0 = λ intent. framing.length_of head ≡ Ok (length_of intent) in
+    then-holds (target_path head.target) _ P
+    (λ path _. then-holds (check_host head) _ P
+    (λ _ _. then-holds (framing.length_of head) _ P
+    (λ length said. then-holds (route_of path) _ P
+    (λ route _. then-holds (check_repository settings route) _ P
+    (λ _ _. then-holds (check_method route head) _ P
+    (λ _ may. then-holds (check_body head length) _ P
+    (λ _ test. said-so (intent_on settings head length route) length said (on-announced settings head length route (needed _ _ may) (needed _ _ test)))))))))
+  where
+    said-so : (r : Result Intent Refusal) (length : ℕ) → framing.length_of head ≡ Ok length → IfOk r (λ intent. length_of intent ≡ length)
+        → IfOk r (λ intent. framing.length_of head ≡ Ok (length_of intent))
+    said-so (Ok intent) length said is = said ∙ ap Ok (sym is)
+    said-so (Err cause) length said is = tt
+
+pub whole-body : (settings : Settings) (head : Head) → IfOk (judge settings head) (λ request. framing.length_of head ≡ Ok (length_of request.intent))
+unfolding judge
+whole-body settings head = pick (intent_of settings head) (intent-announced settings head)
+  where
+    pick : (r : Result Intent Refusal) → IfOk r (λ intent. framing.length_of head ≡ Ok (length_of intent))
+        → IfOk (outcome_of head r) (λ (request : Judged). framing.length_of head ≡ Ok (length_of request.intent))
+    pick (Ok intent) is = is
+    pick (Err cause) is = tt
+
+-- what holds of the refusals of a step and of what follows it holds of those of both
+refusal-then : {A B : Type 0} (step : Result A Refusal) (next : A → Result B Refusal) (P : Refusal → Type 0) → IfErr step P
+    → ((value : A) → step ≡ Ok value → IfErr (next value) P) → IfErr (step >>= next) P
+refusal-then (Ok value) next P first more = more value refl
+refusal-then (Err cause) next P first more = first
+
+-- a refusal behind which the connection may go on comes once the length is known
+abbrev Knows : Head → Refusal → Type 0
+Knows head cause = loses_place cause ≡ false → (length : ℕ) × (framing.length_of head ≡ Ok length)
+
+target-refused : (head : Head) (o : Option (List ℕ)) → IfErr (ok_or o refusal.BadTarget) (Knows head)
+target-refused head None = λ goes. absurd (cc)
+target-refused head (Some path) = tt
+
+host-refused : (head : Head) (test : Bool) → IfErr (need test refusal.BadHost) (Knows head)
+host-refused head true = tt
+host-refused head false = λ goes. absurd (cc)
+
+said-refused : (head : Head) (put : Bool) (said : BodyLength) → IfErr (framing.length_said put said) (Knows head)
+said-refused head put (Known n) = tt
+said-refused head put Wrong = λ goes. absurd (cc)
+said-refused head true Missing = λ goes. absurd (cc)
+said-refused head false Missing = tt
+
+length-refused : (head : Head) → IfErr (framing.length_of head) (Knows head)
+unfolding framing.length_of
+length-refused head =
+    elim (nat_lt 0 (framing.field_count (codes "Transfer-Encoding") head))
+    as (λ b. IfErr (if b then Err refusal.NoLength else framing.length_said (is_put head) (body_length head.fields)) (Knows head))
+    [ true ↦ λ goes. absurd (cc) | false ↦ said-refused head (is_put head) (body_length head.fields) ]
+
+intent-refused : (settings : Settings) (head : Head) → IfErr (intent_of settings head) (Knows head)
+unfolding intent_of target_path check_host
+intent-refused settings head =
+    refusal-then (target_path head.target) _ (Knows head) (target-refused head _)
+    (λ path _. refusal-then (check_host head) _ (Knows head) (host-refused head _)
+    (λ _ _. refusal-then (framing.length_of head) _ (Knows head) (length-refused head)
+    (λ length said. known (route_of path >>= _) length said)))
+  where
+    known : {A : Type 0} (r : Result A Refusal) (length : ℕ) → framing.length_of head ≡ Ok length → IfErr r (Knows head)
+    known (Ok value) length said = tt
+    known (Err cause) length said = λ goes. (length, said)
+
+-- no body comes where none is announced
+none-announced : (head : Head) (length : ℕ) → framing.length_of head ≡ Ok length → has_body head ≡ false → framing.length_of head ≡ Ok 0
+unfolding framing.length_of has_body
+none-announced head length said none =
+    said ∙ ap Ok (pick (nat_lt 0 (framing.field_count (codes "Transfer-Encoding") head)) (is_put head) (body_length head.fields) said none)
+  where
+    pick : (chunked put : Bool) (b : BodyLength) → (if chunked then Err refusal.NoLength else framing.length_said put b) ≡ Ok length
+        → framing.is_filled b ≡ false → length ≡ 0
+    pick true put b e f = absurd (cc)
+    pick false put (Known n) e f =
+        let same : n ≡ length = (cc) in
+        let le : n ≤ 0 = ltb-false 0 n f in omega arith
+    pick false put Wrong e f = absurd (cc)
+    pick false true Missing e f = absurd (cc)
+    pick false false Missing e f = (cc)
+
+pub refused-body : (settings : Settings) (head : Head) → IfErr (judge settings head) (λ refused. refused.close ≡ false → framing.length_of head ≡ Ok 0)
+unfolding judge
+refused-body settings head = pick (intent_of settings head) (intent-refused settings head)
+  where
+    both : (a b c : Bool) → (a || (b || c)) ≡ false → (a ≡ false) × (c ≡ false)
+    both true b c is = absurd (cc)
+    both false true c is = absurd (cc)
+    both false false c is = (refl, is)
+
+    pick : (r : Result Intent Refusal) → IfErr r (Knows head)
+        → IfErr (outcome_of head r) (λ (refused : Refused). refused.close ≡ false → framing.length_of head ≡ Ok 0)
+    pick (Ok intent) knows = tt
+    pick (Err cause) knows = λ goes.
+        let open_so = both (loses_place cause) (ends_connection head) (has_body head) goes in
+        let known = knows open_so.0 in
+        none-announced head known.0 known.1 open_so.1
