@@ -1,7 +1,7 @@
 // The bytes of answers, written out.
 use http_wire::{
-    Answer, CONTINUE, Content, NO_MEMORY, NO_MEMORY_HEAD, Status, continue_answer, no_memory_answer,
-    no_memory_head, render,
+    Answer, CONTINUE, Content, NO_MEMORY, NO_MEMORY_HEAD, Status, continue_answer,
+    no_memory_answer, no_memory_head, render,
 };
 use mvn_digest::{Digests, Hashes};
 use std::alloc::{AllocError, Global};
@@ -135,9 +135,15 @@ fn answers_are_rendered(rt: HostRuntime) -> Result<(), Fail> {
 // The prepared answers, written out.
 #[test]
 fn prepared_answers_are_written_out(rt: HostRuntime) -> Result<(), Fail> {
-    assert_eq!(rt; CONTINUE.as_slice(), b"HTTP/1.1 100 Continue\r\n\r\n".as_slice());
+    assert_eq!(rt;
+        CONTINUE.as_slice(),
+        b"HTTP/1.1 100 Continue\r\n\r\n".as_slice()
+    );
     assert_eq!(rt; continue_answer(), CONTINUE.as_slice());
-    assert_eq!(rt; NO_MEMORY_HEAD.as_slice(), b"HTTP/1.1 507 Insufficient Storage\r\nContent-Type: text/plain\r\nContent-Length: 7\r\nConnection: close\r\n\r\n".as_slice());
+    assert_eq!(rt;
+        NO_MEMORY_HEAD.as_slice(),
+        b"HTTP/1.1 507 Insufficient Storage\r\nContent-Type: text/plain\r\nContent-Length: 7\r\nConnection: close\r\n\r\n".as_slice()
+    );
     assert_eq!(rt; no_memory_head(), NO_MEMORY_HEAD.as_slice());
     Ok(())
 }
