@@ -1,4 +1,6 @@
 pub mod Documents
+pub mod Dues
+pub mod Expired
 pub mod Puts
 pub mod Rows
 pub mod Rules

@@ -1,25 +1,28 @@
 //! A hosted repository.
-ghost use Rattle.std.specs.Prelude.{◌≡◌, ◌≤◌, ◌⊎◌, if◌then◌else◌, IfOk, OnErr, true, length, count_by, take};
+ghost use Rattle.std.specs.Prelude.{◌≡◌, ◌≤◌, ◌⊎◌, if◌then◌else◌, IfOk, OnOk, OnErr, true, length, count_by, map, take, string_bytes};
 ghost use Rattle.std.specs.Option.{option_map};
 ghost use Rattle.mvn_coords.specs.Kind.{kind};
 ghost use Rattle.repo_model.specs.Document.{document};
 ghost use Rattle.repo_model.specs.History.{latest_moment};
 ghost use Rattle.repo_model.specs.Paths.{takes_file, file_in};
-ghost use Rattle.repo_model.specs.Purge.{expired_of};
+ghost use Rattle.repo_model.specs.Purge.{due_rows, expired_of, fade_all};
 ghost use Rattle.repo_model.specs.Reply.{is_free, no_memory};
 ghost use Rattle.repo_model.specs.Shown.{shown_parcel};
 ghost use Rattle.repo_model.specs.State.{row_at, new_hosted};
 ghost use Rattle.repo_model.specs.Turn.{put_at, seen_at};
+ghost use Rattle.hosted_repo.specs.Dues.{fade_at_paths};
+ghost use Rattle.hosted_repo.specs.Expired.{shown_expired};
 ghost use Rattle.hosted_repo.specs.Rules.{shown_rule};
 ghost use Rattle.hosted_repo.specs.Rows.{fades, shown_at, rows_after_all};
 ghost use Rattle.hosted_repo.specs.Puts.{shown_put, GivesBack};
 ghost use Rattle.hosted_repo.specs.Seens.{shown_seen, is_of_document};
 
+use crate::purge::Expired;
 use crate::put::{Put, Standing};
 use crate::row::Row;
 use crate::rule::Rule;
 use crate::seen::Seen;
-use crate::{NoMemory, documents, looks, rows};
+use crate::{NoMemory, documents, looks, purge, rows};
 use mvn_coords::{Dir, Kind};
 use mvn_metadata::Doc;
 use outside::{Held, Parcel};
@@ -125,6 +128,43 @@ impl<H: Held> Hosted<H> {
         ensures fading { result.1 ≡ count_by fades self.now.rows }
     {
         (self.rows.len() as u64, rows::fading(&self.rows))
+    }
+
+    /// The paths of the rows that are to fade at a moment, at most 1,000,000, in byte order: the visible files of builds that
+    /// the rule no longer keeps (Maven 2 repository layout). Each snapshot directory's builds are ranked once; a row is looked
+    /// at once for each snapshot directory above it, of which a path of 1,024 bytes has at most 78.
+    pub fn due_paths(&self, now: u64) -> Result<Vec<String>, NoMemory>
+        ensures { IfOk result (λ paths. map string_bytes paths.items ≡ map (λ row. row.path) (due_rows self.now.rule now self.now.rows)) }
+    {
+        purge::due_paths(self.alloc, &self.rows, &self.rule, now)
+    }
+
+    /// Unlists the rows at some paths at a moment, in seconds since 1970 in UTC. They are still answered, and named by no
+    /// document. It takes no memory.
+    pub fn fade(&mut self, paths: &[String], now: u64)
+        ensures { self.new ≡ record self.old { rows = rows_after_all (fade_at_paths self.old.rule.id now paths.now) self.old.rows } }
+    {
+        purge::fade_all(&mut self.rows, paths, now);
+    }
+
+    /// Unlists the rows that are to fade at a moment, at most 1,000,000, the first in byte order of path, and gives how many.
+    /// Where memory is wanting nothing is changed.
+    pub fn unlist(&mut self, now: u64) -> Result<u64, NoMemory>
+        ensures count { IfOk result (λ n. n ≡ length (due_rows self.old.rule now self.old.rows)) }
+        ensures rows { OnOk result (self.new ≡ record self.old { rows = rows_after_all (fade_all self.old now) self.old.rows }) }
+        ensures err { OnErr result (self.new ≡ self.old) }
+    {
+        let paths = self.due_paths(now)?;
+        self.fade(paths.as_slice(), now);
+        Ok(paths.len() as u64)
+    }
+
+    /// The first `most` rows whose grace period, in seconds, is over at a moment, in byte order of path, with their blobs: what
+    /// `drop_expired` takes away with their count.
+    pub fn expiring(&self, grace: u64, now: u64, most: u64) -> Result<Vec<Expired>, NoMemory>
+        ensures { IfOk result (λ found. map (shown_expired self.now.rule.id) found.items ≡ take most (expired_of grace now self.now)) }
+    {
+        purge::expired_rows(self.alloc, &self.rows, now.saturating_sub(grace), most)
     }
 
     /// Takes the first `count` rows away whose grace period, in seconds, is over at a moment.

@@ -2,8 +2,10 @@
 #![tactic(auto)]
 
 mod documents;
+mod dues;
 mod hosted;
 mod looks;
+mod purge;
 mod put;
 mod row;
 mod rows;
@@ -12,6 +14,7 @@ mod seen;
 mod walk;
 
 pub use hosted::Hosted;
+pub use purge::Expired;
 pub use put::Put;
 pub use row::{Phase, Row};
 pub use rows::print_of;

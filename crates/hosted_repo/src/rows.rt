@@ -5,7 +5,7 @@ ghost use Rattle.std.specs.Map.{keys_of};
 ghost use Rattle.std.specs.Option.{option_map};
 ghost use Rattle.std.specs.String.{string_cmp};
 ghost use Rattle.repo_model.specs.State.{row_at, change_where, is_row};
-ghost use Rattle.repo_model.specs.Effect.{with_row, new_row, list_again};
+ghost use Rattle.repo_model.specs.Effect.{with_row, new_row, list_again, fade};
 ghost use Rattle.repo_model.specs.Document.{is_listed};
 ghost use Rattle.repo_model.specs.History.{latest_moment};
 ghost use Rattle.repo_model.specs.Shown.{shown_print, shown_parcel};
@@ -95,6 +95,15 @@ pub fn list_again<H: Held>(rows: &mut BTreeMap<String, Row<H>>, path: &str, mome
     }
 }
 
+/// Unlists the row at a path at a moment.
+pub fn fade<H: Held>(rows: &mut BTreeMap<String, Row<H>>, path: &str, moment: u64)
+    ensures { shown_rows rows.new.entries ≡ change_where (is_row path.now) (fade moment) (shown_rows rows.old.entries) }
+{
+    if let Some(row) = rows.get_mut(path) {
+        row.phase = Phase::Fading(moment);
+    }
+}
+
 /// How many rows are unlisted.
 pub fn fading<H: Held>(rows: &BTreeMap<String, Row<H>>) -> u64
     ensures { result ≡ count_by fades (shown_rows rows.now.entries) }
@@ -114,7 +123,8 @@ fn is_fading(phase: Phase) -> bool
     matches!(phase, Phase::Fading(_))
 }
 
-fn is_before(phase: Phase, limit: u64) -> bool
+/// Whether a row is unlisted since before a moment.
+pub fn is_before(phase: Phase, limit: u64) -> bool
     ensures { result ≡ is_before limit (shown_phase phase) }
 {
     match phase {

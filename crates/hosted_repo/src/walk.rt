@@ -104,7 +104,7 @@ fn step_below(
 }
 
 /// Five texts as one.
-fn joined(
+pub fn joined(
     alloc: Global,
     base: &str,
     version: &str,

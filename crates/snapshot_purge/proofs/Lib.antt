@@ -1,2 +1,3 @@
+pub mod AgeLemmas
 pub mod Counts
 pub mod Found

@@ -1,8 +1,10 @@
 //! Which builds of a snapshot directory are no longer to be kept.
 #![tactic(auto)]
 
+mod ages;
 mod builds;
 
+pub use ages::{Ages, DueBuilds};
 pub use builds::{Aged, Keep, due};
 use std::alloc::AllocError;
 
