@@ -26,6 +26,31 @@ releases = false
 snapshots = true
 ";
 
+/// Settings with repositories of each kind; unlisted files are answered for 60 seconds, and a snapshot directory keeps its
+/// newest build.
+pub const ALL_KINDS: &str = "grace_seconds = 60
+[[hosted]]
+id = \"releases\"
+releases = true
+snapshots = false
+[[hosted]]
+id = \"snapshots\"
+releases = false
+snapshots = true
+keep_count = 1
+keep_days = 0
+[[proxy]]
+id = \"central\"
+host = \"repo.test\"
+port = 8080
+prefix = \"/m2\"
+update = \"daily\"
+negative_seconds = 300
+[[group]]
+id = \"public\"
+members = [\"releases\", \"snapshots\", \"central\"]
+";
+
 /// 2024-02-29 12:00:00 UTC.
 pub const T: u64 = 1_709_208_000;
 
@@ -39,6 +64,8 @@ pub enum Ask {
     Drop(u64),
     PutSide(&'static str, &'static str, Digest),
     PutDoc(&'static str, &'static str),
+    Unlist(&'static str),
+    Collect,
     Status,
     // at a session
     MayStage(u64, &'static str),
@@ -64,8 +91,12 @@ pub enum Said {
     NoDraft,
     Taken(Seen, Seen),
     Same,
+    Relisted,
     Created,
     Dropped,
+    Unlisted(u64),
+    // how many files are gone; how many blobs are to be removed, and the first of them, or 0
+    Collected(u64, usize, u64),
     NotThere,
     // what was said, and what is kept
     Differs(Digest, Digest),
@@ -124,8 +155,13 @@ fn value_of(reply: &Reply<MemHeld>) -> Said {
             documents,
             sessions,
         } => Said::Counts([*files, *fading, *cached, *documents, *sessions]),
-        Reply::Text(_) | Reply::Doc { .. } | Reply::Relisted => Said::Other,
-        Reply::Spent | Reply::NoMemory => Said::Other,
+        Reply::Relisted => Said::Relisted,
+        Reply::Unlisted(number) => Said::Unlisted(*number),
+        Reply::Collected { expired, blobs } => {
+            let blobs = blobs.as_slice();
+            Said::Collected(*expired, blobs.len(), blobs.first().copied().unwrap_or(0))
+        }
+        Reply::Text(_) | Reply::Doc { .. } | Reply::Spent | Reply::NoMemory => Said::Other,
     }
 }
 
@@ -244,6 +280,10 @@ impl Bench {
                 Ok(put_side(self.alloc, Place::Session(number), path, said)?)
             }
             Ask::StageDoc(number, path) => Ok(put_doc(self.alloc, Place::Session(number), path)?),
+            Ask::Unlist(repo) => Ok(Command::Unlist {
+                repo: Text::new(self.alloc, repo)?,
+            }),
+            Ask::Collect => Ok(Command::Collect),
             Ask::Status => Ok(Command::Status),
             Ask::Put(repo, path, draft, bytes) => self.put(repo, path, draft, bytes),
         }
@@ -286,6 +326,31 @@ impl Bench {
         let command = look(self.alloc, repo, path)?;
         assert!(rt; self.core.fits(&command));
         Ok(self.core.call(command))
+    }
+
+    /// The parcel of a file that is there.
+    pub fn parcel_at(
+        &mut self,
+        rt: &impl Abort,
+        repo: &'static str,
+        path: &'static str,
+    ) -> Result<Parcel<MemHeld>, Fail> {
+        match self.look(rt, repo, path)? {
+            Reply::File { lease: _, parcel } => Ok(parcel),
+            _ => Err("no file")?,
+        }
+    }
+
+    /// A parcel that is held has these bytes.
+    pub fn expect_bytes(
+        &mut self,
+        rt: &impl Abort,
+        parcel: &Parcel<MemHeld>,
+        want: &[u8],
+    ) -> Result<(), Fail> {
+        let bytes = self.blobs.read(&parcel.held)?;
+        assert_eq!(rt; bytes.as_slice(), want);
+        Ok(())
     }
 
     /// A look gives this text of a side file.

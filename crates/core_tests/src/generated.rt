@@ -41,12 +41,13 @@ impl Numbers {
         let content = CONTENTS[self.below(3) as usize];
         let pick = self.below(4) as usize;
         let draft = drafts.get(pick).copied().unwrap_or(self.below(40));
-        match self.below(11) {
+        match self.below(12) {
             0 | 1 => Ask::Look(repo, path),
             2 => Ask::Done(self.below(200)),
             3 => Ask::Drop(draft),
             8 => Ask::Status,
             9 => Ask::MayStage(draft, path),
+            11 => Ask::Unlist(repo),
             10 => Ask::PutDoc(repo, "org/acme/lib/maven-metadata.xml"),
             4 | 5 if takes(repo, path) => Ask::Put(repo, path, draft, content),
             _ => Ask::MayPut(repo, path),

@@ -15,4 +15,6 @@ mod kinds;
 #[cfg(test)]
 mod plain;
 #[cfg(test)]
+mod purges;
+#[cfg(test)]
 mod sides;

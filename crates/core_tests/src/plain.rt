@@ -67,7 +67,9 @@ impl Plain {
             Ask::MayStage(_, _) | Ask::StageSide(_, _, _) | Ask::StageDoc(_, _) => {
                 Ok(Said::NoSession)
             }
-            Ask::PutSide(_, _, _) => Ok(Said::Other),
+            // no build is so old, and nothing is unlisted
+            Ask::Unlist(_) => Ok(Said::Unlisted(0)),
+            Ask::PutSide(_, _, _) | Ask::Collect => Ok(Said::Other),
         }
     }
 

@@ -13,7 +13,7 @@ use Rattle.hosted_repo.proofs.RowLemmas.{AreAfter, AreRising}
 abbrev gone : ℕ → ℕ → List ℕ → List plain.Row → List Effect
 gone grace now repo rows = map (λ row. expires repo row.path row.blob.number) (filter (λ row. is_over grace now row.phase) rows)
 
-over_so : (grace now : ℕ) (p : plain.Phase) → is_before (now - grace) p ≡ is_over grace now p
+pub over_so : (grace now : ℕ) (p : plain.Phase) → is_before (now - grace) p ≡ is_over grace now p
 over_so grace now plain.listed = refl
 over_so grace now (plain.fading since) =
     ltb_from_iff (λ t. let h = ltb-true since (now - grace) t in omega (arith, h), λ h. lt-ltb since (now - grace) (omega (arith, h)))

@@ -1,10 +1,10 @@
 //! A hosted repository.
-ghost use Rattle.std.specs.Prelude.{◌≡◌, ◌≤◌, ◌⊎◌, if◌then◌else◌, IfOk, OnOk, OnErr, true, length, count_by, map, take, string_bytes};
+ghost use Rattle.std.specs.Prelude.{◌≡◌, ◌≤◌, ◌⊎◌, if◌then◌else◌, IfOk, OnOk, OnErr, ℕ, List, true, false, length, count_by, map, take, string_bytes};
 ghost use Rattle.std.specs.Option.{option_map};
 ghost use Rattle.mvn_coords.specs.Kind.{kind};
 ghost use Rattle.repo_model.specs.Document.{document};
 ghost use Rattle.repo_model.specs.History.{latest_moment};
-ghost use Rattle.repo_model.specs.Paths.{takes_file, file_in};
+ghost use Rattle.repo_model.specs.Paths.{takes_file, file_in, is_snapshot_path};
 ghost use Rattle.repo_model.specs.Purge.{due_rows, expired_of, fade_all};
 ghost use Rattle.repo_model.specs.Reply.{is_free, no_memory};
 ghost use Rattle.repo_model.specs.Shown.{shown_parcel};
@@ -132,7 +132,7 @@ impl<H: Held> Hosted<H> {
 
     /// The paths of the rows that are to fade at a moment, at most 1,000,000, in byte order: the visible files of builds that
     /// the rule no longer keeps (Maven 2 repository layout). Each snapshot directory's builds are ranked once; a row is looked
-    /// at once for each snapshot directory above it, of which a path of 1,024 bytes has at most 78.
+    /// at once for each snapshot directory above it, of which a path has fewer than a hundred.
     pub fn due_paths(&self, now: u64) -> Result<Vec<String>, NoMemory>
         ensures { IfOk result (λ paths. map string_bytes paths.items ≡ map (λ row. row.path) (due_rows self.now.rule now self.now.rows)) }
     {
@@ -142,7 +142,11 @@ impl<H: Held> Hosted<H> {
     /// Unlists the rows at some paths at a moment, in seconds since 1970 in UTC. They are still answered, and named by no
     /// document. It takes no memory.
     pub fn fade(&mut self, paths: &[String], now: u64)
-        ensures { self.new ≡ record self.old { rows = rows_after_all (fade_at_paths self.old.rule.id now paths.now) self.old.rows } }
+        ensures rows { self.new ≡ record self.old { rows = rows_after_all (fade_at_paths self.old.rule.id now paths.now) self.old.rows } }
+
+        // Files and their side files are answered as before.
+        ensures answered { (path : List ℕ) → is_of_document (kind path) ≡ false
+            → seen_at self.new.rows path (kind path) ≡ seen_at self.old.rows path (kind path) }
     {
         purge::fade_all(&mut self.rows, paths, now);
     }
@@ -153,6 +157,12 @@ impl<H: Held> Hosted<H> {
         ensures count { IfOk result (λ n. n ≡ length (due_rows self.old.rule now self.old.rows)) }
         ensures rows { OnOk result (self.new ≡ record self.old { rows = rows_after_all (fade_all self.old now) self.old.rows }) }
         ensures err { OnErr result (self.new ≡ self.old) }
+
+        // Files of releases stay as they are, and all files and their side files are answered as before.
+        ensures releases { (path : List ℕ) → is_snapshot_path path ≡ false
+            → row_at path self.new.rows ≡ row_at path self.old.rows }
+        ensures answered { (path : List ℕ) → is_of_document (kind path) ≡ false
+            → seen_at self.new.rows path (kind path) ≡ seen_at self.old.rows path (kind path) }
     {
         let paths = self.due_paths(now)?;
         self.fade(paths.as_slice(), now);

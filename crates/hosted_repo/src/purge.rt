@@ -42,7 +42,8 @@ pub fn due_paths<H: Held>(
             return Ok(paths);
         }
         let text = path.as_str();
-        if is_due(alloc, rows, rule, now, &mut known, text, row)? {
+        let due = is_due(alloc, rows, rule, now, &mut known, text, row)?;
+        if due {
             let copy = String::from_str(alloc, text)?;
             paths.push(copy)?;
         }

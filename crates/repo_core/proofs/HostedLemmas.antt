@@ -1,6 +1,6 @@
 -- Hosted repositories: the first of an id, its rows and what it takes.
-use Rattle.std.proofs.Common.{◌≡◌, ℕ, ◌+◌, ◌<◌, ◌≤◌, Bool, true, false, cond, ◌||◌, List, [], ◌∷◌, ◌++◌, take, drop, get_or, set, length, map, Option, Some, find, refl, ap, sym, ◌∙◌, subst, add-one}
-use Rattle.std.specs.Option.{option_map, option_map_or}
+use Rattle.std.proofs.Common.{◌≡◌, ℕ, ◌+◌, ◌<◌, ◌≤◌, Bool, true, false, cond, ◌||◌, List, [], ◌∷◌, ◌++◌, take, drop, get_or, set, length, map, Option, Some, None, find, refl, ap, sym, ◌∙◌, subst, add-one}
+use Rattle.std.specs.Option.{is_some, option_map, option_map_or}
 use Rattle.std.specs.List.{list_any}
 use Rattle.std.specs.Str.{bytes_eq}
 use Rattle.std.proofs.lemmas.Bool.{false≢true}
@@ -33,15 +33,24 @@ any-past : (b r : Bool) → false ≡ b → (b || r) ≡ true → r ≡ true
 any-past true r e h = cc
 any-past false r e h = h
 
+find-here : (b : Bool) (h : plain.Hosted) (rest : Option plain.Hosted) → true ≡ b → cond b (Some h) rest ≡ Some h
+find-here true h rest e = refl
+find-here false h rest e = cc
+
+find-past : (b : Bool) (h : plain.Hosted) (rest : Option plain.Hosted) → false ≡ b → cond b (Some h) rest ≡ rest
+find-past true h rest e = cc
+find-past false h rest e = refl
+
 module _ (id : List ℕ) where
   -- what the loop keeps: the repository is none of those before the place
   pub record IsBehind (repos : List plain.Hosted) (i : ℕ) : Type 0 where
     pub there : list_any (is_repository id) (drop i repos) ≡ true
     pub rows : rows_in id (drop i repos) ≡ rows_in id repos
+    pub found : find (is_repository id) (drop i repos) ≡ find (is_repository id) repos
     pub front : (rows : List plain.Row) → take i repos ++ with_rows id rows (drop i repos) ≡ with_rows id rows repos
 
   pub behind-start : (repos : List plain.Hosted) → list_any (is_repository id) repos ≡ true → IsBehind repos 0
-  behind-start repos there = record { there = there; rows = refl; front = λ rows. refl }
+  behind-start repos there = record { there = there; rows = refl; found = refl; front = λ rows. refl }
 
   -- past a repository of another id
   pub behind-more : (repos : List plain.Hosted) (i : ℕ) (d : plain.Hosted) → i < length repos → false ≡ is_repository id (get_or repos i d) → IsBehind repos i → IsBehind repos (i + 1)
@@ -53,6 +62,7 @@ module _ (id : List ℕ) where
       record {
         there = any-past (is_repository id here) (list_any (is_repository id) later) other (subst (λ rs. list_any (is_repository id) rs ≡ true) rest old.there);
         rows = sym (rows-past id (is_repository id here) here later other) ∙ subst (λ rs. rows_in id rs ≡ rows_in id repos) rest old.rows;
+        found = sym (find-past (is_repository id here) here (find (is_repository id) later) other) ∙ subst (λ rs. find (is_repository id) rs ≡ find (is_repository id) repos) rest old.found;
         front = λ rows.
             ap (λ hs. hs ++ with_rows id rows later) more ∙ append_assoc (take i repos) (here ∷ []) (with_rows id rows later)
             ∙ ap (λ hs. take i repos ++ hs) (sym (changed-past id (is_repository id here) rows here later other))
@@ -69,6 +79,12 @@ module _ (id : List ℕ) where
       let here = get_or repos i d in
       let rest : drop i repos ≡ here ∷ drop (i + 1) repos = drop_more repos i d within in
       sym (rows-here id (is_repository id here) here (drop (i + 1) repos) is) ∙ subst (λ rs. rows_in id rs ≡ rows_in id repos) rest old.rows
+
+  pub found-place : (repos : List plain.Hosted) (i : ℕ) (d : plain.Hosted) → i < length repos → true ≡ is_repository id (get_or repos i d) → IsBehind repos i → find (is_repository id) repos ≡ Some (get_or repos i d)
+  found-place repos i d within is old =
+      let here = get_or repos i d in
+      let rest : drop i repos ≡ here ∷ drop (i + 1) repos = drop_more repos i d within in
+      sym (subst (λ rs. find (is_repository id) rs ≡ find (is_repository id) repos) rest old.found) ∙ find-here (is_repository id here) here (find (is_repository id) (drop (i + 1) repos)) is
 
   -- other rows at the place
   pub change-place : (repos : List plain.Hosted) (i : ℕ) (new : plain.Hosted) → i < length repos → true ≡ is_repository id (get_or repos i new) → IsBehind repos i → new.rule ≡ (get_or repos i new).rule
@@ -99,6 +115,14 @@ pub named-there : (id : List ℕ) (test : Rule → Bool) (repos : List plain.Hos
 named-there id test [] h = absurd (false≢true h)
 named-there id test (repo ∷ repos) h =
     found-there (is_repository id repo) (list_any (is_repository id) repos) test repo.rule (find (λ rule. bytes_eq rule.id id) (rules_of repos)) h (named-there id test repos)
+
+some-fit : (found : Option Rule) → is_some found ≡ true → is_fit (λ rule. true) found ≡ true
+some-fit None h = h
+some-fit (Some rule) h = refl
+
+-- where a repository's rule is there, the repository is
+pub rule-there : (id : List ℕ) (repos : List plain.Hosted) → is_some (find (λ rule. bytes_eq rule.id id) (rules_of repos)) ≡ true → list_any (is_repository id) repos ≡ true
+rule-there id repos there = named-there id (λ rule. true) repos (some-fit (find (λ rule. bytes_eq rule.id id) (rules_of repos)) there)
 
 -- the rules that are found are those of the repositories
 pub rule-found : (id : List ℕ) (repos : List plain.Hosted) → find (λ rule. bytes_eq rule.id id) (rules_of repos) ≡ option_map (λ (h : plain.Hosted). h.rule) (find (is_repository id) repos)

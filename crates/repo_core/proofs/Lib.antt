@@ -1,11 +1,15 @@
 mod AnswerLemmas
+mod BlobLemmas
 mod ConditionLemmas
 mod CountLemmas
 mod DraftLemmas
 mod HostedLemmas
 mod ListLemmas
 mod LookLemmas
+mod LoopLemmas
 mod NameLemmas
+mod PurgeLemmas
+mod PurgeTurns
 mod PutReplies
 mod SideLemmas
 mod Turning

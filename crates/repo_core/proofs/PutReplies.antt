@@ -79,7 +79,7 @@ unchanged repo (h ∷ hosted) =
       | false ↦ ap (λ hs. h ∷ hs) (unchanged repo hosted)
     ]
 
-same-rows : (repo : List ℕ) (hosted : List Hosted) → with_rows repo (rows_in repo hosted) hosted ≡ hosted
+pub same-rows : (repo : List ℕ) (hosted : List Hosted) → with_rows repo (rows_in repo hosted) hosted ≡ hosted
 same-rows repo hosted = rows-by repo (λ rows. rows) hosted ∙ unchanged repo hosted
 
 -- the state once a put of a blob at a path got a reply

@@ -1,5 +1,5 @@
 -- The blobs of rows are in use: they are so where a row is found, and stay so once a put is over.
-use Rattle.std.proofs.Common.{◌≡◌, ℕ, ◌==◌, Bool, true, false, cond, ◌||◌, if◌then◌else◌, List, [], ◌∷◌, Option, Some, map, refl, sym, subst, rules}
+use Rattle.std.proofs.Common.{◌≡◌, ℕ, ◌==◌, Bool, true, false, cond, ◌||◌, if◌then◌else◌, List, [], ◌∷◌, Option, Some, None, map, refl, sym, subst, rules}
 use Rattle.std.specs.Prelude.{find, nat_lt, IsTrue}
 use Rattle.std.specs.Ordering.{match_ordering, nat_cmp}
 use Rattle.std.specs.declared.cmp.Ordering.TheVariants.{Less, Equal, Greater}
@@ -9,7 +9,10 @@ use Rattle.std.specs.List.{AllByRecursion}
 use Rattle.repo_model.specs.Data.{Blob, Row, Hosted}
 use Rattle.repo_model.specs.State.{change_where, is_among, is_repository, is_row, row_at, new_hosted}
 use Rattle.repo_model.specs.Settings.{Rule}
-use Rattle.repo_model.specs.Effect.{with_row, new_row, with_number, list_again}
+use Rattle.repo_model.specs.Effect.{with_row, new_row, with_number, list_again, fade, fades}
+use Rattle.repo_model.specs.Purge.{due_rows}
+use Rattle.repo_model.specs.Turn.{unlist_of}
+use Rattle.hosted_repo.specs.Rows.{rows_after_all}
 use Rattle.repo_model.specs.Reply.{Reply, created, relisted}
 use Rattle.repo_core.specs.Hosted.{AreInUse, rows_in, with_rows, rows_put}
 use Rattle.repo_core.specs.Numbers.{kept_put}
@@ -93,6 +96,21 @@ again-used kept path now (row ∷ rows) used = (by (is_row path row), again-used
   by true = used.0
   by false = used.0
 
+fade-used : (kept path : List ℕ) (now : ℕ) (rows : List Row) → RowsUsed kept rows → RowsUsed kept (change_where (is_row path) (fade now) rows)
+fade-used kept path now [] used = tt
+fade-used kept path now (row ∷ rows) used = (by (is_row path row), fade-used kept path now rows used.1) where
+  by : (b : Bool) → IsUsed kept (if b then fade now row else row)
+  by true = used.0
+  by false = used.0
+
+fades-used : (kept repo : List ℕ) (now : ℕ) (due rows : List Row) → RowsUsed kept rows → RowsUsed kept (rows_after_all (map (λ (row : Row). fades repo row.path now) due) rows)
+fades-used kept repo now [] rows used = used
+fades-used kept repo now (row ∷ due) rows used = fades-used kept repo now due (change_where (is_row row.path) (fade now) rows) (fade-used kept row.path now rows used)
+
+unlist-used : (kept : List ℕ) (now : ℕ) (found : Option Hosted) (rows : List Row) → RowsUsed kept rows → RowsUsed kept (rows_after_all (unlist_of now found).effects rows)
+unlist-used kept now None rows used = used
+unlist-used kept now (Some h) rows used = fades-used kept h.rule.id now (due_rows h.rule now h.rows) rows used
+
 changed-used : (kept id : List ℕ) (rows : List Row) (hosted : List Hosted) → AreInUse kept hosted → RowsUsed kept rows → AreInUse kept (with_rows id rows hosted)
 changed-used kept id rows [] used new = tt
 changed-used kept id rows (h ∷ hosted) used new =
@@ -110,6 +128,13 @@ put-used kept id path n now blob created hosted used named =
 put-used kept id path n now blob relisted hosted used named =
     changed-used kept id (change_where (is_row path) (list_again now) (rows_in id hosted)) hosted used (again-used kept path now (rows_in id hosted) (rows-used kept id hosted used))
 put-used kept id path n now blob reply hosted used named = changed-used kept id (rows_in id hosted) hosted used (rows-used kept id hosted used)
+
+-- rows were unlisted
+pub unlisted-used : (kept id : List ℕ) (now : ℕ) (hosted : List Hosted) → AreInUse kept hosted
+    → AreInUse kept (with_rows id (rows_after_all (unlist_of now (find (is_repository id) hosted)).effects (rows_in id hosted)) hosted)
+unlisted-used kept id now hosted used =
+    changed-used kept id (rows_after_all (unlist_of now (find (is_repository id) hosted)).effects (rows_in id hosted)) hosted used
+    (unlist-used kept now (find (is_repository id) hosted) (rows_in id hosted) (rows-used kept id hosted used))
 
 -- there is no row yet
 pub none-used : (kept : List ℕ) (rules : List Rule) → AreInUse kept (map new_hosted rules)

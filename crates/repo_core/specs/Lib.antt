@@ -3,3 +3,4 @@ pub mod Numbers
 pub mod Turn
 pub mod Whole
 pub mod CoreTurn
+pub mod Purge

@@ -1,5 +1,5 @@
 //! The hosted repositories: which one is meant, which files it takes, and its rows.
-ghost use Rattle.std.specs.Prelude.{◌≡◌, ◌≤◌, ◌<◌, ◌^◌, length, map, find, is_some, count_by, sum_by, bytes_eq, slice_index_or, slice_set, IsTrue, IfOk};
+ghost use Rattle.std.specs.Prelude.{◌≡◌, ◌≤◌, ◌<◌, ◌^◌, length, map, find, is_some, count_by, sum_by, bytes_eq, slice_index_or, slice_set, IsTrue, IfOk, OnOk, OnErr};
 ghost use Rattle.std.specs.Option.{option_map};
 ghost use Rattle.std.specs.List.{list_any};
 ghost use Rattle.repo_model.specs.Command.{is_fit};
@@ -7,9 +7,10 @@ ghost use Rattle.repo_model.specs.History.{latest_moment};
 ghost use Rattle.repo_model.specs.Paths.{takes};
 ghost use Rattle.repo_model.specs.State.{row_at, is_repository, new_hosted};
 ghost use Rattle.repo_model.specs.Shown.{shown_parcel};
-ghost use Rattle.repo_model.specs.Turn.{seen_at};
+ghost use Rattle.repo_model.specs.Reply.{unlisted};
+ghost use Rattle.repo_model.specs.Turn.{seen_at, unlist_of};
 ghost use Rattle.hosted_repo.specs.Puts.{shown_put};
-ghost use Rattle.hosted_repo.specs.Rows.{fades, shown_at};
+ghost use Rattle.hosted_repo.specs.Rows.{fades, rows_after_all, shown_at};
 ghost use Rattle.hosted_repo.specs.Rules.{shown_rule};
 ghost use Rattle.hosted_repo.specs.Seens.{shown_seen};
 ghost use Rattle.mvn_coords.specs.Kind.{kind};
@@ -60,6 +61,7 @@ fn place_of<H: Held>(repos: &[Hosted<H>], id: &str) -> usize
     requires { IsTrue (list_any (is_repository id.now) repos.now) }
     ensures bound { result < length repos.now }
     ensures rows { (repo : _) → (slice_index_or repos.now result repo).rows ≡ rows_in id.now repos.now }
+    ensures found { (repo : _) → find (is_repository id.now) repos.now ≡ Some (slice_index_or repos.now result repo) }
     ensures change { (repo : _) → repo.rule ≡ (slice_index_or repos.now result repo).rule
         → slice_set repos.now result repo ≡ with_rows id.now repo.rows repos.now }
 {
@@ -126,6 +128,19 @@ pub fn put<H: Held>(
 {
     let place = place_of(repos, id);
     repos[place].put(path, parcel, moment)
+}
+
+/// Unlists the rows of the repository of an id, which is there, that it no longer keeps at a moment, and gives how many. Where
+/// memory is wanting nothing is changed.
+pub fn unlist<H: Held>(repos: &mut Vec<Hosted<H>>, id: &str, moment: u64) -> Result<u64, NoMemory>
+    requires { IsTrue (list_any (is_repository id.now) repos.old.items) }
+    ensures count { IfOk result (λ n. unlisted n ≡ (unlist_of moment (find (is_repository id.now) repos.old.items)).reply) }
+    ensures rows { OnOk result (repos.new.items ≡ with_rows id.now
+        (rows_after_all (unlist_of moment (find (is_repository id.now) repos.old.items)).effects (rows_in id.now repos.old.items)) repos.old.items) }
+    ensures err { OnErr result (repos.new.items ≡ repos.old.items) }
+{
+    let place = place_of(repos, id);
+    repos[place].unlist(moment)
 }
 
 /// How many rows the repositories have, and how many of them are unlisted.

@@ -6,6 +6,7 @@ mod conditions;
 mod hosted;
 mod looks;
 mod machine;
+mod purges;
 mod puts;
 mod repository;
 mod turn;

@@ -2,8 +2,9 @@
 ghost use Rattle.std.specs.Prelude.{◌≡◌};
 
 use crate::conditions::{is_digest, is_file_path, is_place, names_document, names_something};
-use crate::hosted::{counts, empty_repos, is_there, put, takes};
+use crate::hosted::{counts, empty_repos, is_there, put, takes, unlist};
 use crate::looks::look;
+use crate::purges::{condemn_all, drop_expired, expiring};
 use crate::puts::{compare_side, reply_of, settle};
 use crate::turn::next_moment;
 use blob_yard::{DrawFault, Yard};
@@ -11,7 +12,7 @@ use hosted_repo::Hosted;
 use mvn_digest::Digest;
 use outside::{Clock, Held, NoMemory, Parcel};
 use repo_config::Settings;
-use repo_model::{Command, NUMBER_END, Place, Reply};
+use repo_model::{Command, NUMBER_END, Numbers, Place, Reply};
 use std::alloc::Global;
 use std::marker::Model;
 
@@ -61,7 +62,7 @@ impl<C: Clock, H: Held> Machine<C, H> {
     ghost use Rattle.outside.specs.Faults.{last_count};
     ghost use Rattle.repo_model.specs.State.{opening};
     ghost use Rattle.repo_model.specs.Data.{repository};
-    ghost use Rattle.repo_model.specs.Command.{meets, look, may_put, put, put_side, drop_draft, status};
+    ghost use Rattle.repo_model.specs.Command.{meets, look, may_put, put, put_side, drop_draft, unlist, collect, status};
     ghost use Rattle.repo_model.specs.History.{Fits, after};
     ghost use Rattle.repo_model.specs.Reply.{no_session};
     ghost use Rattle.repo_model.specs.Shown.{shown_parcel, shown_command, shown_reply, entry_of};
@@ -146,7 +147,11 @@ impl<C: Clock, H: Held> Machine<C, H> {
             Command::PutDoc { place, path } => {
                 is_place(&self.repos, place) && names_document(path.as_str())
             }
-            Command::Done { lease: _ } | Command::Drop { draft: _ } | Command::Status => true,
+            Command::Unlist { repo } => is_there(&self.repos, repo.as_str()),
+            Command::Done { lease: _ }
+            | Command::Drop { draft: _ }
+            | Command::Collect
+            | Command::Status => true,
         }
     }
 
@@ -203,6 +208,8 @@ impl<C: Clock, H: Held> Machine<C, H> {
                 Place::Session(_) => self.refuse_session(),
             },
             Command::Drop { draft } => self.drop_draft(draft),
+            Command::Unlist { repo } => self.unlist(repo.as_str()),
+            Command::Collect => self.collect(),
             Command::Status => self.status(),
         }
     }
@@ -258,6 +265,37 @@ impl<C: Clock, H: Held> Machine<C, H> {
     {
         self.yard.drop_draft(draft);
         Reply::Dropped
+    }
+
+    fn unlist(&mut self, repo: &str) -> Reply<H>
+        requires { IsTrue (meets self.old.settings (unlist repo.now)) }
+        ensures { Turned self.old self.new (unlist repo.now) (shown_reply result) }
+    {
+        match unlist(&mut self.repos, repo, self.last) {
+            Ok(count) => Reply::Unlisted(count),
+            Err(_) => Reply::NoMemory,
+        }
+    }
+
+    fn collect(&mut self) -> Reply<H>
+        requires { IsOrderly self.old }
+        ensures { Turned self.old self.new collect (shown_reply result) }
+    {
+        let alloc = *self.repos.allocator();
+        let grace = self.settings.grace_seconds();
+        let Ok(gone) = expiring(alloc, &self.repos, grace, self.last) else {
+            return Reply::NoMemory;
+        };
+        let Ok(mut blobs) = Vec::with_capacity(alloc, 100) else {
+            return Reply::NoMemory;
+        };
+        drop_expired(&mut self.repos, grace, self.last, &gone.counts);
+        condemn_all(&mut self.yard, &gone.blobs);
+        self.yard.collect(&mut blobs);
+        Reply::Collected {
+            expired: gone.blobs.len() as u64,
+            blobs: Numbers::from_vec(blobs),
+        }
     }
 
     fn status(&mut self) -> Reply<H>

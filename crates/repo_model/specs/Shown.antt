@@ -10,7 +10,7 @@ use Rattle.repo_model.specs.Command as asked
 use Rattle.repo_model.specs.Reply as answered
 use Rattle.repo_model.specs.History.{Entry}
 use Rattle.repo_model.specs.declared.command.Command.{Command}
-use Rattle.repo_model.specs.declared.command.Command.TheVariants.{Look, Done, MayPut, Put, PutSide, PutDoc, Drop, Status}
+use Rattle.repo_model.specs.declared.command.Command.TheVariants.{Look, Done, MayPut, Put, PutSide, PutDoc, Drop, Unlist, Collect, Status}
 use Rattle.repo_model.specs.declared.command.Place.{Place}
 use Rattle.repo_model.specs.declared.command.Place.TheVariants.{Repository, Session}
 use Rattle.repo_model.specs.declared.reply.Reply.{Reply}
@@ -36,6 +36,8 @@ shown_command (Put repo path draft parcel) = asked.put repo path draft (shown_pa
 shown_command (PutSide place path said) = asked.put_side (shown_place place) path (bytes_in said)
 shown_command (PutDoc place path) = asked.put_doc (shown_place place) path
 shown_command (Drop draft) = asked.drop_draft draft
+shown_command (Unlist repo) = asked.unlist repo
+shown_command Collect = asked.collect
 shown_command Status = asked.status
 
 abbrev pub shown_reply : {X : Type 0} {G : Ghosts X} → Reply X G → answered.Reply
@@ -57,6 +59,8 @@ shown_reply given.Agreed = answered.agreed
 shown_reply given.Noted = answered.noted
 shown_reply given.NoSession = answered.no_session
 shown_reply given.Dropped = answered.dropped
+shown_reply (given.Unlisted number) = answered.unlisted number
+shown_reply (given.Collected expired blobs) = answered.collected expired blobs
 shown_reply (given.Counts files fading cached documents sessions) = answered.counts files fading cached documents sessions
 shown_reply given.Spent = answered.spent
 shown_reply given.NoMemory = answered.no_memory

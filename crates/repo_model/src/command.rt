@@ -50,6 +50,13 @@ pub enum Command<H: Held> {
     Drop {
         draft: u64,
     },
+    /// Unlists the files of a repository that belong to builds which it no longer keeps, at most 1,000,000.
+    Unlist {
+        repo: Text,
+    },
+    /// Takes the files away that have been unlisted for longer than the grace period, at most 1,000,000, and asks for garbage
+    /// to remove.
+    Collect,
     /// How much there is.
     Status,
 }

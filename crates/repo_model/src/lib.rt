@@ -5,6 +5,7 @@
 #![tactic(auto)]
 
 mod ask;
+mod blobs;
 mod command;
 mod item;
 mod numbers;
@@ -13,6 +14,7 @@ mod reply;
 mod session;
 
 pub use ask::Ask;
+pub use blobs::Numbers;
 pub use command::{Command, Place};
 pub use item::Item;
 pub use numbers::NUMBER_END;

@@ -1,4 +1,5 @@
 //! What the repository replies.
+use crate::blobs::Numbers;
 use crate::print::Print;
 use mvn_digest::{Digest, Digests, SideText};
 use outside::{Held, Parcel};
@@ -43,6 +44,11 @@ pub enum Reply<H: Held> {
     NoSession,
     /// The draft is given up, or there was none of that number.
     Dropped,
+    /// So many files are unlisted.
+    Unlisted(u64),
+    /// So many files are gone; and the first garbage that nobody has borrowed, at most 100 blobs, of which the repository
+    /// knows nothing any more.
+    Collected { expired: u64, blobs: Numbers },
     /// How many files of hosted repositories there are, and how many of them are unlisted; how many files and documents
     /// proxies keep; and how many deployment sessions are open.
     Counts {

@@ -2,7 +2,7 @@ use Rattle.std.proofs.Common.{◌≡◌, true, false, get_or, ap, ◌∙◌}
 use Rattle.std.proofs.lemmas.List.{get_or_default}
 use Rattle.repo_model.specs.Settings.{Rule}
 use Rattle.repo_model.specs.State.{is_repository}
-use Rattle.repo_core.proofs.HostedLemmas.{behind-start, behind-more, behind-none, rows-place, change-place}
+use Rattle.repo_core.proofs.HostedLemmas.{behind-start, behind-more, behind-none, change-place, found-place, rows-place}
 use Rattle.repo_core.proofs.hosted.place_of.Goals as goal
 
 pub loop-place-init : goal.loop-place-init
@@ -15,6 +15,14 @@ returns-then-eq-clause-rows g c = λ d.
     let named : c.as_str.result.now ≡ c.index-repos-place.result.rule.id = c.as_str.ensures ∙ ap (λ (r : Rule). r.id) c.rule.ensures in
     let test : true ≡ is_repository c.args.id.now (get_or repos i d) = rw (get_or_default repos i d c.index-repos-place.result c.loop-place-test.true, ← c.index-repos-place.is, ← named) c.if-eq.ensures in
     rows-place c.args.id.now repos i d c.loop-place-test.true test c.loop-place.invariant
+
+pub returns-then-eq-clause-found : goal.returns-then-eq-clause-found
+returns-then-eq-clause-found g c = λ d.
+    let repos = c.args.repos.now in
+    let i = c.loop-place.place in
+    let named : c.as_str.result.now ≡ c.index-repos-place.result.rule.id = c.as_str.ensures ∙ ap (λ (r : Rule). r.id) c.rule.ensures in
+    let test : true ≡ is_repository c.args.id.now (get_or repos i d) = rw (get_or_default repos i d c.index-repos-place.result c.loop-place-test.true, ← c.index-repos-place.is, ← named) c.if-eq.ensures in
+    found-place c.args.id.now repos i d c.loop-place-test.true test c.loop-place.invariant
 
 pub returns-then-eq-clause-change : goal.returns-then-eq-clause-change
 returns-then-eq-clause-change g c = λ new same.

@@ -44,3 +44,7 @@ returns-else-parcel-draft g c =
       | else-takes w ↦ w.value-is ∙ w.if-takes.false ∙ ap (λ f. f && (c.in-Put.parcel.blob == c.in-Put.draft)) (sym w.if-takes.false ∙ fit)
     ] in
     rw (← c.self.view_is, c.in-Put.is) (can-put settings c.in-Put.repo c.in-Put.path c.in-Put.draft (shown_parcel c.in-Put.parcel) c.if-takes.value c.if-takes.value value (c.if-parcel-draft.false ∙ ap (λ v. v && short) (sym c.if-parcel-draft.false)))
+
+pub returns-in-Unlist : goal.returns-in-Unlist
+returns-in-Unlist g c =
+    rw (← c.self.view_is, c.in-Unlist.is) (rw (c.deref-in-Unlist.ensures.value, c.self.invariant.rules, c.as_str-in-Unlist.ensures) at c.is_there-in-Unlist.ensures)

@@ -1,0 +1,127 @@
+-- Unlist and Collect, as turns of the machine.
+use Rattle.std.proofs.Common.{◌≡◌, ℕ, ◌<◌, ◌≤◌, get_or, set, List, [], ◌∷◌, ◌++◌, length, map, Option, Some, None, Result, Ok, Err, inl, inr, refl, sym, ap, ◌∙◌, subst}
+use Rattle.std.specs.Prelude.{IfOk, OnErr, OnOk, find}
+use Rattle.std.specs.Option.{option_map_or}
+use Rattle.std.proofs.lemmas.List.{get_or_default}
+use Rattle.hosted_repo.specs.Rows.{rows_after_all}
+use Rattle.repo_model.specs.Command.{collect, unlist}
+use Rattle.repo_model.specs.Data.{Row, Hosted}
+use Rattle.repo_model.specs.Effect.{Effect, forgets, with_effect, with_effects, yard_after}
+use Rattle.repo_model.specs.Purge.{due_rows, expire_all, fade_all, most_rows}
+use Rattle.repo_model.specs.Reply.{Reply, collected, no_memory, unlisted}
+use Rattle.repo_model.specs.State.{State, Yard, change_first, hosted_of, is_repository}
+use Rattle.repo_model.specs.Turn.{unlent, unlist_of}
+use Rattle.repo_laws.specs.Laws.{rows_with}
+use Rattle.repo_laws.specs.Sound.{AreNamedApart}
+use Rattle.repo_laws.proofs.Histories.{with_effects-append}
+use Rattle.repo_laws.proofs.Lists.{found-passes}
+use Rattle.repo_laws.proofs.Releases.{same_path}
+use Rattle.repo_core.specs.Hosted.{AreInUse, rows_in, with_rows}
+use Rattle.repo_core.specs.Purge.{AreKeptOnce, blob_of, condemned_by, dropped_by, kept_without, shares}
+use Rattle.repo_core.specs.Turn.{Turned}
+use Rattle.repo_core.specs.Whole.{IsOrderly, Whole}
+use Rattle.repo_core.proofs.BlobLemmas.{all-still, gone-once, none-gone}
+use Rattle.repo_core.proofs.PurgeLemmas.{dropped-used, expired-all, faded, fading_all}
+use Rattle.repo_core.proofs.PutReplies.{rows-by, same-rows}
+
+pub ok-then : {A E : Type 0} (P Q : A → Type 0) → ((x : A) → P x → Q x) → (r : Result A E) → IfOk r P → IfOk r Q
+ok-then P Q f (Ok x) p = f x p
+ok-then P Q f (Err e) p = tt
+
+pub on-ok-then : {A E : Type 0} (P Q : Type 0) → (P → Q) → (r : Result A E) → OnOk r P → OnOk r Q
+on-ok-then P Q f (Ok x) p = f p
+on-ok-then P Q f (Err e) p = tt
+
+pub on-err-then : {A E : Type 0} (P Q : Type 0) → (P → Q) → (r : Result A E) → OnErr r P → OnErr r Q
+on-err-then P Q f (Ok x) p = tt
+on-err-then P Q f (Err e) p = f p
+
+-- the rows of one repository, once those that are due are unlisted
+abbrev pub rows_unlisted : List ℕ → ℕ → List Hosted → List Hosted
+rows_unlisted repo now hosted = with_rows repo (rows_after_all (unlist_of now (find (is_repository repo) hosted)).effects (rows_in repo hosted)) hosted
+
+-- the rows at the place of a repository were unlisted
+pub unlisted-place : (id : List ℕ) (items : List Hosted) (i now : ℕ) (old new : Hosted) → i < length items → old ≡ get_or items i old → find (is_repository id) items ≡ Some old
+    → (new.rule ≡ (get_or items i new).rule → set items i new ≡ with_rows id new.rows items) → new ≡ record old { rows = rows_after_all (fade_all old now) old.rows }
+    → set items i new ≡ rows_unlisted id now items
+unlisted-place id items i now old new within at here change made =
+    let faded : List Row = rows_after_all (fade_all old now) old.rows in
+    let P : Option Hosted → Type 0 = λ found. faded ≡ rows_after_all (unlist_of now found).effects (option_map_or (λ (h : Hosted). h.rows) found []) in
+    let rows : P (find (is_repository id) items) = subst P (sym here) refl in
+    let rule : new.rule ≡ old.rule = ap (λ (h : Hosted). h.rule) made in
+    let same : old.rule ≡ (get_or items i new).rule = ap (λ (h : Hosted). h.rule) (at ∙ get_or_default items i old new within) in
+    change (rule ∙ same) ∙ ap (λ rs. with_rows id rs items) (ap (λ (h : Hosted). h.rows) made ∙ rows)
+
+pub untouched-place : (id : List ℕ) (items : List Hosted) (i : ℕ) (old new : Hosted) → i < length items → old ≡ get_or items i old → old.rows ≡ rows_in id items
+    → (new.rule ≡ (get_or items i new).rule → set items i new ≡ with_rows id new.rows items) → new ≡ old → set items i new ≡ items
+untouched-place id items i old new within at here change made =
+    let same : new.rule ≡ (get_or items i new).rule = ap (λ (h : Hosted). h.rule) (made ∙ at ∙ get_or_default items i old new within) in
+    change same ∙ ap (λ rs. with_rows id rs items) (ap (λ (h : Hosted). h.rows) made ∙ here) ∙ same-rows id items
+
+left-by : (s : State) (repo : List ℕ) (found : Option Hosted) → hosted_of repo s ≡ found
+    → record s { hosted = with_rows repo (rows_after_all (unlist_of s.last found).effects (rows_in repo s.hosted)) s.hosted } ≡ with_effects s (unlist_of s.last found).effects
+left-by s repo None is = ap (λ hosted. record s { hosted = hosted }) (same-rows repo s.hosted)
+left-by s repo (Some h) is =
+    let due = due_rows h.rule s.last h.rows in
+    let named : h.rule.id ≡ repo = same_path h.rule.id repo (found-passes (is_repository repo) s.hosted h is) in
+    ap (λ hosted. record s { hosted = hosted }) (rows-by repo (rows_after_all (fading_all h.rule.id s.last due)) s.hosted)
+    ∙ ap (λ id. record s { hosted = change_first (is_repository id) (λ k. record k { rows = rows_after_all (fading_all h.rule.id s.last due) k.rows }) s.hosted }) (sym named)
+    ∙ sym (faded h.rule.id s.last due s)
+
+-- rows of a repository were unlisted
+pub turned-unlisted : (w : Whole) (repo : List ℕ) (n : ℕ) (hosted : List Hosted) → unlisted n ≡ (unlist_of w.state.last (hosted_of repo w.state)).reply
+    → hosted ≡ rows_unlisted repo w.state.last w.state.hosted → Turned w (record w { state = record w.state { hosted = hosted } }) (unlist repo) (unlisted n)
+turned-unlisted w repo n hosted count rows = record {
+  settings = refl;
+  calls = refl;
+  answered = inl count;
+  left = ap (λ hs. record w.state { hosted = hs }) rows ∙ left-by w.state repo (hosted_of repo w.state) refl;
+}
+
+-- memory was wanting
+pub unlist-without : (w : Whole) (repo : List ℕ) (hosted : List Hosted) → hosted ≡ w.state.hosted → Turned w (record w { state = record w.state { hosted = hosted } }) (unlist repo) no_memory
+unlist-without w repo hosted same = record { settings = refl; calls = refl; answered = inr (refl, refl); left = ap (λ hs. record w.state { hosted = hs }) same }
+
+pub collect-without : (w : Whole) → Turned w w collect no_memory
+collect-without w = record { settings = refl; calls = refl; answered = inr (refl, refl); left = refl }
+
+-- what a Collect leaves: the rows whose grace is over are gone, and so is garbage that nobody has borrowed
+pub turned-collected : (w : Whole) (hosted : List Hosted) (between after : Yard) (n : ℕ) (blobs : List ℕ) → AreNamedApart (map (λ (h : Hosted). h.rule) w.state.hosted)
+    → hosted ≡ dropped_by w.settings.grace w.state.last (shares w.settings.grace w.state.last most_rows w.state.hosted) w.state.hosted
+    → between ≡ condemned_by (map blob_of (expire_all w.settings.grace w.state.last w.state.hosted)) w.state.yard
+    → n ≡ length (expire_all w.settings.grace w.state.last w.state.hosted) → blobs ≡ unlent between → after ≡ yard_after (forgets (unlent between)) between
+    → Turned w (record w { state = record w.state { hosted = hosted; yard = after } }) collect (collected n blobs)
+turned-collected w hosted between after n blobs apart rows yard count told forgot =
+    let s = w.state in
+    let gone = expire_all w.settings.grace s.last s.hosted in
+    let left : State = record s { hosted = hosted; yard = between } in
+    let is : with_effects s gone ≡ left =
+    expired-all w.settings.grace s.last s apart ∙ ap (λ hs. record s { hosted = hs; yard = condemned_by (map blob_of gone) s.yard }) (sym rows) ∙ ap (λ y. record s { hosted = hosted; yard = y }) (sym yard) in
+    let same : unlent between ≡ unlent (with_effects s gone).yard = ap (λ (t : State). unlent t.yard) (sym is) in
+    record {
+      settings = refl;
+      calls = refl;
+      answered = inl (ap (λ k. collected k blobs) count ∙ ap (collected (length gone)) (told ∙ same));
+      left =
+          ap (λ y. record s { hosted = hosted; yard = y }) forgot
+          ∙ ap (λ ns. with_effect left (forgets ns)) same
+          ∙ ap (λ t. with_effect t (forgets (unlent (with_effects s gone).yard))) (sym is)
+          ∙ sym (with_effects-append gone (forgets (unlent (with_effects s gone).yard) ∷ []) s);
+    }
+
+-- the rows that a Collect leaves are in use
+pub collected-used : (w : Whole) (kept : List ℕ) → IsOrderly w → AreInUse kept w.state.hosted → let grace = w.settings.grace in let s = w.state in
+    AreInUse (kept_without (map blob_of (expire_all grace s.last s.hosted)) kept) (dropped_by grace s.last (shares grace s.last most_rows s.hosted) s.hosted)
+collected-used w kept orderly used =
+    let grace = w.settings.grace in
+    let s = w.state in
+    let gone = map blob_of (expire_all grace s.last s.hosted) in
+    let apart : AreNamedApart (map (λ (h : Hosted). h.rule) s.hosted) = subst AreNamedApart (sym orderly.order.rules) orderly.apart in
+    let hosted = dropped_by grace s.last (shares grace s.last most_rows s.hosted) s.hosted in
+    let is : with_effects s (expire_all grace s.last s.hosted) ≡ record s { hosted = hosted; yard = condemned_by gone s.yard } = expired-all grace s.last s apart in
+    all-still gone kept hosted
+    (λ n some. none-gone grace s.last s orderly.places w.settings orderly.order orderly.apart (ap (λ (t : State). t.yard) is) n (subst (λ hs. 1 ≤ rows_with n hs) (sym (ap (λ (t : State). t.hosted) is)) some))
+    (dropped-used grace s.last kept s.hosted apart used)
+
+pub collected-once : (w : Whole) (kept : List ℕ) → IsOrderly w → AreInUse kept w.state.hosted → AreKeptOnce (map blob_of (expire_all w.settings.grace w.state.last w.state.hosted)) kept
+collected-once w kept orderly used = gone-once w.settings.grace w.state.last w.state orderly.places kept used

@@ -1,0 +1,40 @@
+use Rattle.std.proofs.Common.{◌≡◌, ◌<◌, Some, length, sym, ap, ◌∙◌}
+use Rattle.std.specs.Prelude.{find}
+use Rattle.repo_model.specs.Data.{Hosted}
+use Rattle.repo_model.specs.Purge.{due_rows}
+use Rattle.repo_model.specs.Reply.{unlisted}
+use Rattle.repo_model.specs.State.{is_repository}
+use Rattle.repo_model.specs.Turn.{unlist_of}
+use Rattle.repo_core.specs.Hosted.{rows_in}
+use Rattle.repo_core.proofs.PurgeTurns.{ok-then, on-err-then, on-ok-then, unlisted-place, untouched-place}
+use Rattle.repo_core.proofs.hosted.unlist.Goals as goal
+
+pub returns-clause-count : goal.returns-clause-count
+returns-clause-count g c =
+    let items = c.args.repos.now.items in
+    let old = c.index_mut.result.now in
+    let here : find (is_repository c.args.id.now) items ≡ Some old = (rw c.deref.ensures.value at (c.place_of-place.ensures.found old)) ∙ ap (λ (h : Hosted). Some h) (sym c.index_mut.ensures.value) in
+    ok-then (λ n. n ≡ length (due_rows old.rule c.args.moment old.rows)) (λ n. unlisted n ≡ (unlist_of c.args.moment (find (is_repository c.args.id.now) items)).reply)
+    (λ n is. ap unlisted is ∙ ap (λ found. (unlist_of c.args.moment found).reply) (sym here)) c.unlist.result c.unlist.ensures.count
+
+pub returns-clause-rows : goal.returns-clause-rows
+returns-clause-rows g c =
+    let items = c.args.repos.now.items in
+    let i = c.place_of-place.result in
+    let old = c.index_mut.result.now in
+    let here : find (is_repository c.args.id.now) items ≡ Some old = (rw c.deref.ensures.value at (c.place_of-place.ensures.found old)) ∙ ap (λ (h : Hosted). Some h) (sym c.index_mut.ensures.value) in
+    let within : i < length items = rw c.deref.ensures.value at c.place_of-place.ensures.bound in
+    on-ok-then _ _
+    (unlisted-place c.args.id.now items i c.args.moment old c.unlist.new.self within c.index_mut.ensures.value here (rw c.deref.ensures.value at (c.place_of-place.ensures.change c.unlist.new.self)))
+    c.unlist.result c.unlist.ensures.rows
+
+pub returns-clause-err : goal.returns-clause-err
+returns-clause-err g c =
+    let items = c.args.repos.now.items in
+    let i = c.place_of-place.result in
+    let old = c.index_mut.result.now in
+    let within : i < length items = rw c.deref.ensures.value at c.place_of-place.ensures.bound in
+    let here : old.rows ≡ rows_in c.args.id.now items = ap (λ (h : Hosted). h.rows) c.index_mut.ensures.value ∙ (rw c.deref.ensures.value at (c.place_of-place.ensures.rows old)) in
+    on-err-then _ _
+    (untouched-place c.args.id.now items i old c.unlist.new.self within c.index_mut.ensures.value here (rw c.deref.ensures.value at (c.place_of-place.ensures.change c.unlist.new.self)))
+    c.unlist.result c.unlist.ensures.err
