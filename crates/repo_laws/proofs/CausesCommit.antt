@@ -1,5 +1,5 @@
 -- Why a commit is refused: the first staged file that offends, and the first release directory without its pom.
-use Rattle.std.proofs.Common.{◌≡◌, ◌≢◌, ℕ, Bool, true, false, not, cond, ◌||◌, ◌⊎◌, inl, inr, List, [], ◌∷◌, ◌++◌, length, Option, Some, None, refl, sym, ◌∙◌, ap, subst}
+use Rattle.std.proofs.Common.{◌≡◌, ◌≢◌, ℕ, Bool, true, false, ◌||◌, ◌⊎◌, inl, inr, List, [], ◌∷◌, ◌++◌, length, Option, Some, None, refl, sym, ◌∙◌, ap, subst}
 use Rattle.std.specs.Prelude.{fold, is_some, if◌then◌else◌}
 use Rattle.std.specs.List.{AllByRecursion, flat_map}
 use Rattle.std.specs.Ordering.{nat_cmp, is_lt, is_gt, ordering_reverse}
@@ -20,9 +20,9 @@ use Rattle.repo_model.specs.Paths.{file_at}
 use Rattle.repo_model.specs.State.{State, row_at, rows_of, session_of}
 use Rattle.repo_model.specs.Deploy.{Offence, offence_at, offence, or_else, pom_of, has_pom, bare_directory, least, without_pom}
 use Rattle.repo_model.specs.Reply.{Reply, no_session, offends, missing_pom, ended}
-use Rattle.repo_model.specs.Turn.{Turn, says, with_open, commit_by, commit_of, abort_of}
+use Rattle.repo_model.specs.Turn.{Turn, with_open, commit_by, commit_of, abort_of}
 use Rattle.repo_laws.specs.Laws.{AnyByRecursion}
-use Rattle.repo_laws.specs.Causes.{Offends, OffendsNot, IsFirstOffence, LacksPom, IsFirstWithoutPom, CommitRefused, AbortRefused}
+use Rattle.repo_laws.specs.Causes.{OffendsNot, IsFirstOffence, LacksPom, IsFirstWithoutPom, CommitRefused, AbortRefused}
 use Rattle.repo_laws.specs.Replies.{is_refusal}
 use Rattle.repo_laws.proofs.Prints.{prints-compare}
 use Rattle.repo_laws.proofs.Anyone.{any-then, any-flat, flat-any, all-any, all-by}
@@ -232,8 +232,7 @@ module _ (rows : List Row) (files : List Staged) where
 
   pub first-without : (directory : List ℕ) → without_pom rows files ≡ Some directory → IsFirstWithoutPom rows files directory
   first-without directory is =
-      let (among, below) = least-so (flat_map bare files) directory is in
-      (
+      let (among, below) = least-so (flat_map bare files) directory is in (
         lacks-so directory among,
         λ other lacks. up-to-not-less directory other
             (all-any (IsUpTo directory) (λ (x : List ℕ). x ≡ other) (IsUpTo directory other) (λ x u same. subst (IsUpTo directory) same u) (flat_map bare files) below (so-lacks other lacks)),

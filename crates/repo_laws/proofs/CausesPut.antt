@@ -1,30 +1,28 @@
 -- Why a look, and why a file that is sent to a repository, is refused.
-use native.Mathlib.Omega.{arith}
-use Rattle.std.proofs.Common.{◌≡◌, ◌≢◌, ◌≤◌, ℕ, Bool, true, false, not, cond, ◌||◌, List, [], ◌∷◌, length, Option, Some, None, Result, Ok, Err, refl, sym, ◌∙◌, ap, subst, eqb-true}
-use Rattle.std.specs.Prelude.{◌==◌, ◌<◌, nat_le, find, if◌then◌else◌, IsTrue}
+use Rattle.std.proofs.Common.{◌≡◌, ◌≢◌, ℕ, Bool, true, false, List, [], ◌∷◌, Option, Some, None, Result, Ok, Err, refl, sym, ◌∙◌, ap, subst, eqb-true}
+use Rattle.std.specs.Prelude.{◌==◌, if◌then◌else◌}
 use Rattle.std.specs.Option.{option_map}
-use Rattle.std.specs.List.{list_any}
-use Rattle.std.proofs.lemmas.Bool.{false≢true, eq-eqb, leb-true, leb-false, le-leb, or_parts}
+use Rattle.std.proofs.lemmas.Bool.{false≢true, eq-eqb}
 use Rattle.std.proofs.lemmas.Option.{none-some}
 use Rattle.mvn_coords.specs.Kind.{kind}
 use Rattle.mvn_coords.specs.declared.kind.Kind.{Kind}
 use Rattle.mvn_coords.specs.declared.kind.Kind.TheVariants.{File, FileSide, Doc, DocSide}
 use Rattle.mvn_coords.specs.declared.fault.PathFault.{PathFault}
-use Rattle.mvn_coords.specs.Layout.{Coordinates, Directory, text_of}
+use Rattle.mvn_coords.specs.Layout.{Coordinates, text_of}
 use Rattle.mvn_digest.specs.Digests.{digests_of}
 use Rattle.mvn_digest.specs.Sides.{side_text}
 use Rattle.mvn_metadata.specs.Document.{Document, settled, blank}
 use Rattle.mvn_metadata.specs.Written as written
 use Rattle.repo_model.specs.declared.print.Print.{Print}
-use Rattle.repo_model.specs.Data.{Blob, Row, Phase, listed, fading, Hosted, Staged, Session, repository, is_same_print}
+use Rattle.repo_model.specs.Data.{Blob, Row, Phase, listed, fading, Hosted, repository, is_same_print}
 use Rattle.repo_model.specs.Paths.{takes}
 use Rattle.repo_model.specs.Document.{described, listed_in}
-use Rattle.repo_model.specs.State.{State, hosted_of, row_at, rows_of, is_staged, is_among, number_end, most_staged}
+use Rattle.repo_model.specs.State.{State, hosted_of, row_at, rows_of, is_among, number_end}
 use Rattle.repo_model.specs.Effect.{draws, drops, lends}
 use Rattle.repo_model.specs.Command.{is_fit}
 use Rattle.repo_model.specs.Reply.{Reply, file, text, doc, missed, kind_refused, no_draft, taken, same, relisted, created, draft, spent}
-use Rattle.repo_model.specs.Turn.{Turn, says, draws_draft, document_text, Seen, is_file, is_text, is_doc, is_nothing, or_nothing, seen_at, shows, in_repository, has_room, put_again, put_at}
-use Rattle.repo_laws.specs.Causes.{HasNothing, HasFile, LookRefused, IsFull, MayPutRefused, PutRefused}
+use Rattle.repo_model.specs.Turn.{Turn, says, draws_draft, document_text, Seen, is_file, is_text, is_doc, is_nothing, or_nothing, seen_at, shows, in_repository, put_again, put_at}
+use Rattle.repo_laws.specs.Causes.{HasNothing, LookRefused, MayPutRefused, PutRefused}
 use Rattle.repo_laws.specs.Replies.{is_refusal, takes_at}
 use Rattle.repo_laws.proofs.Prints.{prints-compare}
 

@@ -1,6 +1,6 @@
 -- Why a file that is sent to a session, a side file, a document and a new session are refused.
 use native.Mathlib.Omega.{arith}
-use Rattle.std.proofs.Common.{◌≡◌, ◌≢◌, ◌≤◌, ℕ, Bool, true, false, not, cond, ◌||◌, List, [], ◌∷◌, length, Option, Some, None, Result, Ok, Err, refl, sym, ◌∙◌, ap, subst, eqb-true}
+use Rattle.std.proofs.Common.{◌≡◌, ◌≢◌, ℕ, Bool, true, false, not, cond, ◌||◌, List, [], ◌∷◌, length, Option, Some, None, Result, Ok, Err, refl, sym, ◌∙◌, ap, subst, eqb-true}
 use Rattle.std.specs.Prelude.{◌==◌, ◌<◌, nat_le, find, count_by, if◌then◌else◌, bytes_eq, IsTrue}
 use Rattle.std.specs.Option.{option_map, option_and_then}
 use Rattle.std.specs.List.{list_any}
@@ -14,12 +14,11 @@ use Rattle.mvn_coords.specs.declared.fault.PathFault.{PathFault}
 use Rattle.mvn_coords.specs.declared.fault.Side.{Side}
 use Rattle.mvn_coords.specs.Layout.{Coordinates, text_of}
 use Rattle.mvn_digest.specs.Sides.{side_of}
-use Rattle.repo_model.specs.declared.print.Print.{Print}
-use Rattle.repo_model.specs.Data.{Blob, Row, Staged, Session, Place, repository, session, is_same_print}
-use Rattle.repo_model.specs.State.{State, hosted_of, row_at, rows_of, open_of, is_open, is_staged, is_among, number_end, most_sessions, most_staged}
+use Rattle.repo_model.specs.Data.{Blob, Staged, Session, Place, repository, session, is_same_print}
+use Rattle.repo_model.specs.State.{State, hosted_of, open_of, is_open, is_staged, is_among, number_end, most_sessions, most_staged}
 use Rattle.repo_model.specs.Effect.{drops, stages, opens}
 use Rattle.repo_model.specs.Reply.{Reply, kind_refused, session_full, no_session, no_draft, taken, same, staged, not_there, differs, agreed, noted, opened, sessions_full, spent}
-use Rattle.repo_model.specs.Turn.{Turn, says, draws_or_spent, draws_draft, in_repository, has_room, may_put_in, compared, judged, with_open, staged_at, stage_at, stage_in}
+use Rattle.repo_model.specs.Turn.{Turn, says, draws_or_spent, draws_draft, has_room, may_put_in, compared, judged, with_open, staged_at, stage_at, stage_in}
 use Rattle.repo_laws.specs.Causes.{IsFull, MayPutRefused, IsOpenPlace, IsClosedPlace, blob_at, SideRefused, DocRefused, OpenRefused, StageRefused}
 use Rattle.repo_laws.specs.Replies.{is_refusal, takes_at}
 use Rattle.repo_laws.proofs.CausesPut.{no-refusal, in-taken, in-refused, draft-caused, draft-refused, prints-differ, differ-prints, taken-same}

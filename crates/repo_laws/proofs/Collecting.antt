@@ -1,19 +1,19 @@
 -- A Collect gives out the first of the garbage that nobody has borrowed.
 use native.Mathlib.Omega.{arith}
 use Rattle.std.proofs.Common.{◌≡◌, ◌≤◌, ◌<◌, ℕ, Bool, true, false, not, cond, ◌||◌, ◌⊎◌, inl, inr, List, [], ◌∷◌, ◌++◌, length, take, zero, suc, refl, sym, ◌∙◌, ap, subst, eqb-true}
-use Rattle.std.specs.Prelude.{◌==◌, nat_lt, filter, if◌then◌else◌, IsTrue}
+use Rattle.std.specs.Prelude.{◌==◌, nat_lt, filter, if◌then◌else◌}
 use Rattle.std.specs.List.{AllByRecursion, list_any}
-use Rattle.std.proofs.lemmas.Bool.{false≢true, or_parts, ltb-true, ltb-false}
+use Rattle.std.proofs.lemmas.Bool.{false≢true, ltb-true, ltb-false}
 use Rattle.repo_model.specs.Settings.{Settings}
 use Rattle.repo_model.specs.State.{State, Yard, Lease, is_among}
 use Rattle.repo_model.specs.Effect.{Effect, forgets, with_effect, with_effects}
 use Rattle.repo_model.specs.Command.{collect}
-use Rattle.repo_model.specs.Reply.{Reply, collected, no_memory, store_fault, is_free}
+use Rattle.repo_model.specs.Reply.{collected, no_memory, store_fault, is_free}
 use Rattle.repo_model.specs.Purge.{expire_all}
 use Rattle.repo_model.specs.Turn.{turn, most_collected, unlent}
 use Rattle.repo_model.specs.History.{Entry, IsReply, due, wants_memory, failed, Fits, effects_of, after, ticked}
 use Rattle.repo_laws.specs.Laws.{count_of}
-use Rattle.repo_laws.specs.Sound.{AreNamedApart, AreRising, Sound, OnePlace, IsSound}
+use Rattle.repo_laws.specs.Sound.{AreNamedApart, AreRising, OnePlace, IsSound}
 use Rattle.repo_laws.specs.Collected.{IsUnlent, IsFirstGarbage, cleared}
 use Rattle.repo_laws.proofs.ByPath.{all-apart}
 use Rattle.repo_laws.proofs.Counts.{count-filter}

@@ -1,6 +1,6 @@
 -- Behind a commit that is done each staged file is visible with its content, and so is the pom of each release's version directory.
-use Rattle.std.proofs.Common.{◌≡◌, ℕ, Bool, true, false, cond, ◌&&◌, ◌||◌, ◌⊎◌, inl, inr, List, [], ◌∷◌, ◌++◌, length, Option, Some, None, refl, sym, ◌∙◌, ap, subst}
-use Rattle.std.specs.Prelude.{fold, find, is_some, if◌then◌else◌, bytes_eq, IsTrue}
+use Rattle.std.proofs.Common.{◌≡◌, ℕ, true, false, cond, ◌&&◌, ◌||◌, inl, inr, List, [], ◌∷◌, ◌++◌, length, Option, Some, None, refl, sym, ◌∙◌, ap, subst}
+use Rattle.std.specs.Prelude.{fold, find, if◌then◌else◌, bytes_eq, IsTrue}
 use Rattle.std.specs.Option.{option_map_or}
 use Rattle.std.specs.List.{AllByRecursion, list_any, flat_map}
 use Rattle.std.proofs.lemmas.Bool.{false≢true}
@@ -16,13 +16,13 @@ use Rattle.repo_model.specs.Document.{is_listed}
 use Rattle.repo_model.specs.State.{State, change_where, change_first, is_repository, is_row, is_session, is_staged, row_at, rows_of, session_of}
 use Rattle.repo_model.specs.Effect.{Effect, delivers, discards, relists, ends, with_row, new_row, list_again, with_effect, with_effects}
 use Rattle.repo_model.specs.Command.{commit, is_there}
-use Rattle.repo_model.specs.Reply.{Reply, ended, offends, missing_pom, no_memory, store_fault, is_free}
+use Rattle.repo_model.specs.Reply.{ended, offends, missing_pom, no_memory, store_fault, is_free}
 use Rattle.repo_model.specs.Deploy.{Offence, offence, without_pom, least, pom_of, has_pom, deliver_at, deliver_again, deliver_all}
 use Rattle.repo_model.specs.Turn.{Turn, turn, commit_by}
 use Rattle.repo_model.specs.History.{Entry, IsReply, due, wants_memory, failed, Fits, effects_of, after, ticked}
 use Rattle.repo_laws.specs.Laws.{AnyByRecursion, AreApart}
 use Rattle.repo_laws.specs.Sound.{RowsApart, IsInOrder, Sound}
-use Rattle.repo_laws.specs.Causes.{OffendsNot, LacksPom}
+use Rattle.repo_laws.specs.Causes.{OffendsNot}
 use Rattle.repo_laws.specs.Deployed.{IsVisible, IsVisibleAs, HasItsPom}
 use Rattle.repo_laws.proofs.ByPath.{all-apart}
 use Rattle.repo_laws.proofs.CausesCommit.{none-offends, Bare, bare, so-lacks, has-least}

@@ -1,18 +1,13 @@
 -- What a document says: the versions and times of an artifact, the builds of a snapshot directory.
-use Rattle.std.proofs.Common.{◌≡◌, ◌⊎◌, inl, inr, ℕ, Bool, true, false, cond, List, [], ◌∷◌, ◌++◌, Option, Some, None, refl, sym, ◌∙◌, ap, subst}
-use Rattle.std.specs.Prelude.{◌↔◌, fold, unwrap_or, if◌then◌else◌, IsTrue}
-use Rattle.std.specs.BTreeMap.{insert_entry, is_at}
+use Rattle.std.proofs.Common.{◌≡◌, ◌⊎◌, inl, inr, ℕ, true, false, List, [], ◌∷◌, Option, Some, None, refl, sym, ◌∙◌, ap, subst}
+use Rattle.std.specs.Prelude.{fold, unwrap_or, if◌then◌else◌}
 use Rattle.std.specs.BTreeSet.{insert_key}
 use Rattle.std.specs.Cmp.{IsTotalOrder}
-use Rattle.std.specs.FinMap.Entries.{is_sorted, find}
 use Rattle.std.specs.List.{AllByRecursion}
-use Rattle.std.specs.Map.{lookup}
-use Rattle.std.specs.Ordering.{is_lt, is_gt, is_eq, eq_by_cmp, match_ordering, ordering_reverse}
+use Rattle.std.specs.Ordering.{is_lt, is_gt, match_ordering, ordering_reverse}
 use Rattle.std.specs.declared.cmp.Ordering.{Ordering}
 use Rattle.std.specs.declared.cmp.Ordering.TheVariants.{Less, Equal, Greater}
-use Rattle.std.proofs.lemmas.Bool.{false≢true}
 use Rattle.std.proofs.lemmas.Cmp.{upto, tied_itself}
-use Rattle.std.proofs.lemmas.Option.{none-some}
 use Rattle.mvn_coords.specs.Calendar.{civil_of}
 use Rattle.mvn_coords.specs.Civil.{CivilTime}
 use Rattle.mvn_coords.specs.FileName.{BuildOf, base_of}
@@ -21,19 +16,16 @@ use Rattle.mvn_version.specs.Laws.{list_cmp_total, list_cmp_ties}
 use Rattle.mvn_version.specs.Order.{list_cmp}
 use Rattle.mvn_metadata.specs.declared.listing.Listing.{Listing}
 use Rattle.mvn_metadata.specs.declared.listing.Listing.TheVariants.{Artifact, Snapshot}
-use Rattle.mvn_metadata.specs.declared.pair.Pair.{Pair}
-use Rattle.mvn_metadata.specs.declared.pair.SnapshotBuild.{SnapshotBuild}
-use Rattle.mvn_metadata.specs.Document.{greatest, latest_time, newest_build}
+use Rattle.mvn_metadata.specs.Document.{latest_time, newest_build}
 use Rattle.mvn_metadata.specs.Form.{is_rising}
-use Rattle.mvn_metadata.specs.Merge.{Entry, is_newer, with_entry, with_entries}
-use Rattle.mvn_metadata.specs.Order.{build_cmp, build_cmp_total, pair_cmp, pair_cmp_total, time_cmp, time_cmp_total}
-use Rattle.mvn_metadata.proofs.MergeLaws.{find-with_entries}
-use Rattle.mvn_metadata.proofs.MergeLemmas.{is_rising-insert_key, is_sorted-with_entry}
+use Rattle.mvn_metadata.specs.Merge.{Entry, with_entry}
+use Rattle.mvn_metadata.specs.Order.{build_cmp, build_cmp_total, time_cmp, time_cmp_total}
+use Rattle.mvn_metadata.proofs.MergeLemmas.{is_rising-insert_key}
 use Rattle.repo_model.specs.Data.{Row}
 use Rattle.repo_model.specs.Paths.{file_at}
 use Rattle.repo_model.specs.Document.{with_row, with_coordinates, with_build_of}
 use Rattle.repo_laws.specs.Laws.{AnyByRecursion}
-use Rattle.repo_laws.specs.Described.{IsAmong, IsIn, ListsVersions, IsLatest, IsOfBuild, IsNewest, Adds, ListsBuilds}
+use Rattle.repo_laws.specs.Described.{IsAmong, IsIn, IsLatest, IsOfBuild}
 
 -- ---- versions
 among-insert : (versions : List (List ℕ)) (v w : List ℕ) → IsAmong w (insert_key list_cmp versions v) → IsAmong w versions ⊎ (v ≡ w)

@@ -1,37 +1,30 @@
 -- What a document says of the builds of a snapshot directory, and which rows are those of a directory.
-use Rattle.std.proofs.Common.{◌≡◌, ◌⊎◌, inl, inr, ℕ, Bool, true, false, cond, ◌&&◌, List, [], ◌∷◌, Option, Some, None, refl, sym, ◌∙◌, ap, subst}
-use Rattle.std.specs.Prelude.{◌↔◌, fold, filter, unwrap_or, if◌then◌else◌, bytes_eq, IsTrue}
+use Rattle.std.proofs.Common.{◌≡◌, inl, inr, true, false, cond, List, [], ◌∷◌, Option, Some, None, refl, sym, ◌∙◌, ap, subst}
+use Rattle.std.specs.Prelude.{if◌then◌else◌}
 use Rattle.std.specs.BTreeMap.{insert_entry, is_at}
 use Rattle.std.specs.Cmp.{IsTotalOrder}
 use Rattle.std.specs.FinMap.Entries.{is_sorted, find}
 use Rattle.std.specs.List.{AllByRecursion}
 use Rattle.std.specs.Map.{lookup}
-use Rattle.std.specs.Ordering.{is_lt, is_gt, is_eq, eq_by_cmp, match_ordering}
+use Rattle.std.specs.Ordering.{is_gt, is_eq, eq_by_cmp, match_ordering}
 use Rattle.std.specs.declared.cmp.Ordering.{Ordering}
 use Rattle.std.specs.declared.cmp.Ordering.TheVariants.{Less, Equal, Greater}
-use Rattle.std.proofs.lemmas.Bool.{false≢true, and_parts, and_from}
 use Rattle.std.proofs.lemmas.Cmp.{upto, tied_itself, on_total}
-use Rattle.std.proofs.lemmas.Option.{none-some}
-use Rattle.std.proofs.lemmas.Slice.Eq.{bytes_eq-Decides}
-use Rattle.mvn_coords.specs.FileName.{BuildOf, base_of}
-use Rattle.mvn_coords.specs.Layout.{Coordinates, Directory}
-use Rattle.mvn_metadata.specs.declared.listing.Listing.{Listing}
-use Rattle.mvn_metadata.specs.declared.listing.Listing.TheVariants.{Artifact, Snapshot}
+use Rattle.mvn_coords.specs.FileName.{BuildOf}
+use Rattle.mvn_coords.specs.Layout.{Coordinates}
 use Rattle.mvn_metadata.specs.declared.pair.Pair.{Pair}
 use Rattle.mvn_metadata.specs.declared.pair.SnapshotBuild.{SnapshotBuild}
-use Rattle.mvn_metadata.specs.Document.{Document, greatest, dotted, of_kind, settled, blank}
+use Rattle.mvn_metadata.specs.Document.{greatest}
 use Rattle.mvn_metadata.specs.Merge.{Entry, is_newer, with_entry}
 use Rattle.mvn_metadata.specs.Order.{build_cmp, build_cmp_total, pair_cmp, pair_cmp_total}
 use Rattle.mvn_metadata.proofs.MergeLaws.{find-with_entries}
 use Rattle.mvn_metadata.proofs.MergeLemmas.{pair_cmp_ties, is_sorted-with_entry}
-use Rattle.repo_model.specs.Data.{Row, Phase, listed, fading}
-use Rattle.repo_model.specs.Paths.{file_at, same_version, stands_in}
-use Rattle.repo_model.specs.Document.{is_listed, listed_in, described, document, with_row}
+use Rattle.repo_model.specs.Data.{Row}
+use Rattle.repo_model.specs.Paths.{file_at}
 use Rattle.repo_laws.specs.Laws.{AnyByRecursion}
-use Rattle.repo_laws.specs.Described.{IsAmong, IsVersion, IsFileOf, Describes, IsOfBuild, IsNewest, Adds, ListsVersions, ListsBuilds}
-use Rattle.repo_laws.proofs.Lists.{filter-has, all-then}
-use Rattle.repo_laws.proofs.Anyone.{any-then}
-use Rattle.repo_laws.proofs.Describing.{HasPath, entry_of, entry_step, entries_then, entries_of, chosen, chosen-above, artifact-rows, rising-versions, versions-from, versions-have, latest-rows, snapshot-rows, newest-reaches, newest-from}
+use Rattle.repo_laws.specs.Described.{Adds, ListsBuilds}
+use Rattle.repo_laws.proofs.Lists.{all-then}
+use Rattle.repo_laws.proofs.Describing.{entry_of, entry_step, entries_then, entries_of, chosen, chosen-above}
 
 -- ---- entries
 all-insert_entry : (Q : Entry → Type 0) (es : List Entry) (k : Pair) (v : SnapshotBuild) → Q (k, v) → AllByRecursion Q es → AllByRecursion Q (insert_entry pair_cmp es k v)

@@ -1,14 +1,13 @@
 -- A document says what the visible rows of its directory are.
 use Rattle.std.proofs.Common.{◌≡◌, ◌⊎◌, inl, inr, ℕ, Bool, true, false, cond, ◌&&◌, List, [], ◌∷◌, Option, Some, None, refl, sym, ◌∙◌, ap, subst}
-use Rattle.std.specs.Prelude.{◌↔◌, fold, filter, bytes_eq, IsTrue}
+use Rattle.std.specs.Prelude.{◌↔◌, fold, filter, bytes_eq}
 use Rattle.std.specs.List.{AllByRecursion}
 use Rattle.std.proofs.lemmas.Bool.{false≢true, and_parts, and_from}
 use Rattle.std.proofs.lemmas.Option.{none-some}
 use Rattle.std.proofs.lemmas.Slice.Eq.{bytes_eq-Decides}
 use Rattle.mvn_coords.specs.FileName.{BuildOf}
 use Rattle.mvn_coords.specs.Layout.{Coordinates, Directory}
-use Rattle.mvn_metadata.specs.declared.listing.Listing.{Listing}
-use Rattle.mvn_metadata.specs.declared.listing.Listing.TheVariants.{Artifact, Snapshot}
+use Rattle.mvn_metadata.specs.declared.listing.Listing.TheVariants.{Artifact}
 use Rattle.mvn_metadata.specs.Document.{Document, dotted, of_kind, settled, blank}
 use Rattle.repo_model.specs.Data.{Row, Phase, listed, fading}
 use Rattle.repo_model.specs.Paths.{file_at, same_version, stands_in}
@@ -16,7 +15,7 @@ use Rattle.repo_model.specs.Document.{is_listed, listed_in, described, document,
 use Rattle.repo_laws.specs.Laws.{AnyByRecursion}
 use Rattle.repo_laws.specs.Described.{IsAmong, IsVersion, IsFileOf, IsIn, IsOfBuild, IsNewest, Describes, ListsVersions}
 use Rattle.repo_laws.proofs.Lists.{filter-has, all-then}
-use Rattle.repo_laws.proofs.Describing.{HasPath, versions_of, time_of, newest_of, entries_of, artifact-rows, rising-versions, versions-from, versions-have, latest-rows, snapshot-rows, newest-reaches, newest-from}
+use Rattle.repo_laws.proofs.Describing.{HasPath, versions_of, newest_of, artifact-rows, rising-versions, versions-from, versions-have, latest-rows, snapshot-rows, newest-reaches, newest-from}
 use Rattle.repo_laws.proofs.DescribingBuilds.{lists-builds}
 
 -- ---- the rows of a directory

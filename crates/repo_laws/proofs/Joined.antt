@@ -8,15 +8,15 @@ use Rattle.std.proofs.lemmas.Bool.{leb-true, leb-false}
 use Rattle.std.proofs.lemmas.Option.{none-some}
 use Rattle.mvn_coords.specs.Layout.{Directory}
 use Rattle.mvn_metadata.specs.Document.{Document}
-use Rattle.repo_model.specs.Data.{Blob, Row, Phase}
+use Rattle.repo_model.specs.Data.{Blob, Row}
 use Rattle.repo_model.specs.Settings.{Settings}
 use Rattle.repo_model.specs.State.{State, is_repository, row_at, rows_of}
 use Rattle.repo_model.specs.Command.{is_there, is_file_path}
 use Rattle.repo_model.specs.Tables.{Tables, recorded_at}
-use Rattle.repo_model.specs.History.{Entry, Fits, Legal, after, end}
+use Rattle.repo_model.specs.History.{Entry, Legal, after, end}
 use Rattle.repo_laws.specs.Laws.{LastsFrom, Stands}
 use Rattle.repo_laws.specs.Sound.{AreNamedApart, Sound, IsSound}
-use Rattle.repo_laws.specs.Holds.{InOrder, Holds, StandsFor, with_items, told, without_bytes}
+use Rattle.repo_laws.specs.Holds.{InOrder, Holds, with_items, told, without_bytes}
 use Rattle.repo_laws.specs.Closed.{named, AnswersDocument, AnswersUpTo, StandsInTime}
 use Rattle.repo_laws.specs.InRange.{Run, BeginsFrom, last_moment, Follow, IsSameBlob, AnsweredOn}
 use Rattle.repo_laws.proofs.Closed.{answers-up-to, answers-again, named-in-time}

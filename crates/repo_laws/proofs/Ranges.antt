@@ -1,7 +1,7 @@
 -- Tables stay in range under what a turn records.
 use native.Mathlib.Omega.{arith}
-use Rattle.std.proofs.Common.{◌≡◌, ◌≤◌, ◌<◌, ◌+◌, ℕ, Bool, true, false, not, cond, ◌||◌, List, [], ◌∷◌, ◌++◌, Option, Some, None, refl, sym, ◌∙◌, ap, subst, eqb-true}
-use Rattle.std.specs.Prelude.{◌==◌, nat_lt, filter, find, count_by, if◌then◌else◌, IsTrue}
+use Rattle.std.proofs.Common.{◌≡◌, ◌≤◌, ◌<◌, ℕ, Bool, true, false, not, cond, ◌||◌, List, [], ◌∷◌, Some, None, refl, ◌∙◌, ap, subst, eqb-true}
+use Rattle.std.specs.Prelude.{◌==◌, nat_lt, find, count_by, if◌then◌else◌, IsTrue}
 use Rattle.std.specs.List.{AllByRecursion, list_any}
 use Rattle.std.specs.Ordering.{match_ordering}
 use Rattle.std.specs.declared.cmp.Ordering.TheVariants.{Less, Equal, Greater}
@@ -10,14 +10,14 @@ use Rattle.std.proofs.lemmas.Option.{none-some}
 use Rattle.repo_model.specs.declared.item.Item.{Item}
 use Rattle.repo_model.specs.declared.item.Item.TheVariants.{HostedPut, Faded, Relisted, Removed, CachedFile, CachedDoc, SessionOpened, SessionEnded}
 use Rattle.repo_model.specs.declared.print.Print.{Print}
-use Rattle.repo_model.specs.Data.{Blob, Row, listed, fading, Staged, Session}
+use Rattle.repo_model.specs.Data.{listed, fading, Staged, Session}
 use Rattle.repo_model.specs.Paths.{is_snapshot_path}
 use Rattle.repo_model.specs.Settings.{Settings}
 use Rattle.repo_model.specs.State.{State, change_where, is_open_at, is_staged, number_end}
 use Rattle.repo_model.specs.Effect.{Effect, draws, drops, creates, stages, delivers, discards, relists, fades, expires, forgets, lends, returns, opens, ends, list_again, fade, with_effect, items_of, recorded}
 use Rattle.repo_model.specs.May.{May, AllMay}
 use Rattle.repo_model.specs.Tables.{Tables, RecordedRow, RecordedDocument, RecordedSession, no_tables, place_cmp, is_recorded, recorded_at, recorded_row, with_document, is_session, is_listed_row, names_blob, item_on, fits_on}
-use Rattle.repo_model.specs.History.{Entry, Fits, Legal, latest_moment, ticked, effects_of, after}
+use Rattle.repo_model.specs.History.{Entry, Legal, latest_moment, ticked, effects_of, after}
 use Rattle.repo_laws.specs.Laws.{FadesRightly, staged_with, places_of}
 use Rattle.repo_laws.specs.Sound.{AreNamedApart, Sound, OnePlace, IsSound}
 use Rattle.repo_laws.specs.Holds.{IsUpTo, AreUpTo, with_items, told}
@@ -109,8 +109,7 @@ range-step t (HostedPut repo path blob print accepted) old so rightly = record {
 }
 range-step t (Faded repo path moment) old so rightly = record {
   hosted = all-changed (λ (r : RecordedRow). IsRowInRange r × FadesRightly r.row) (is_recorded repo path) (λ r. record r { row = fade moment r.row })
-      (λ r is both.
-      (
+      (λ r is both. (
         (both.0.0, both.0.1, both.0.2, (both.0.3.0, λ since fades_since. subst (λ k. k ≤ latest_moment) (fades-to moment since fades_since) so)),
         λ since _. ap is_snapshot_path (recorded-there repo path r is).1 ∙ rightly,
       )) t.hosted old.hosted;
@@ -120,8 +119,7 @@ range-step t (Faded repo path moment) old so rightly = record {
 }
 range-step t (Relisted repo path accepted) old so rightly = record {
   hosted = all-changed (λ (r : RecordedRow). IsRowInRange r × FadesRightly r.row) (is_recorded repo path) (λ r. record r { row = list_again accepted r.row })
-      (λ r is both.
-      (
+      (λ r is both. (
         (both.0.0, both.0.1, both.0.2, (so, λ since listed_so. absurd (let e : listed ≡ fading since = listed_so in cc))),
         λ since listed_so. absurd (let e : listed ≡ fading since = listed_so in cc),
       )) t.hosted old.hosted;

@@ -1,24 +1,24 @@
 -- The state that a start makes from tables in order is sound.
 use native.Mathlib.Omega.{arith}
-use Rattle.std.proofs.Common.{◌≡◌, ◌≤◌, ◌<◌, ◌+◌, ℕ, Bool, true, false, cond, ◌&&◌, ◌||◌, List, [], ◌∷◌, ◌++◌, map, Option, Some, None, refl, sym, ◌∙◌, ap, subst}
+use Rattle.std.proofs.Common.{◌≡◌, ◌≤◌, ◌<◌, ◌+◌, ℕ, true, false, cond, List, [], ◌∷◌, ◌++◌, map, Option, Some, None, refl, sym, ◌∙◌, ap, subst}
 use Rattle.std.specs.Prelude.{◌==◌, nat_lt, filter, find, count_by, bytes_eq, if◌then◌else◌, IsTrue}
 use Rattle.std.specs.Option.{option_map}
 use Rattle.std.specs.List.{AllByRecursion, list_any}
 use Rattle.std.specs.List.Sorted.{IsStrictlySortedBy}
-use Rattle.std.proofs.lemmas.Bool.{false≢true, ltb-true, ltb-false, ne_eqb}
+use Rattle.std.proofs.lemmas.Bool.{false≢true, ltb-true, ltb-false}
 use Rattle.std.proofs.lemmas.Option.{none-some}
 use Rattle.outside.specs.Moments.{Moments}
 use Rattle.repo_model.specs.declared.session.SessionResult.{SessionResult}
-use Rattle.repo_model.specs.Data.{Row, listed, fading, Hosted, Session}
+use Rattle.repo_model.specs.Data.{Row, Hosted, Session}
 use Rattle.repo_model.specs.Settings.{Rule, Settings}
 use Rattle.repo_model.specs.State.{State, is_repository, is_session, is_among, row_at, rows_of, number_end}
 use Rattle.repo_model.specs.Command.{is_there}
-use Rattle.repo_model.specs.Tables.{Tables, RecordedRow, RecordedSession, names_blob, recorded_at, greatest_moment}
+use Rattle.repo_model.specs.Tables.{Tables, RecordedRow, RecordedSession, names_blob, recorded_at}
 use Rattle.repo_model.specs.History.{latest_moment}
 use Rattle.repo_model.specs.Restart.{with_bytes, is_of, recorded_of, hosted_from, session_from, sessions_from, greatest_session, greatest_number, blobs_named, started}
-use Rattle.repo_laws.specs.Laws.{FadesRightly, rows_with, places_of, count_of}
-use Rattle.repo_laws.specs.Numbered.{NumbersApart, Numbered}
-use Rattle.repo_laws.specs.Sound.{AreNamedApart, AreByPath, IsInOrder, Sound, OnePlace, LentOnce, IsSound}
+use Rattle.repo_laws.specs.Laws.{FadesRightly, rows_with, places_of}
+use Rattle.repo_laws.specs.Numbered.{NumbersApart}
+use Rattle.repo_laws.specs.Sound.{AreNamedApart, AreByPath, IsInOrder, OnePlace, IsSound}
 use Rattle.repo_laws.specs.Holds.{session_cmp, named_in, InOrder}
 use Rattle.repo_laws.specs.InRange.{InRange}
 use Rattle.repo_laws.proofs.Counts.{one_if, names, count-cons, rows_with-cons}
@@ -30,7 +30,7 @@ use Rattle.repo_laws.proofs.Ranges.{range-fading, range-numbers, range-moments}
 use Rattle.repo_laws.proofs.Rows.{rows_in}
 use Rattle.repo_laws.proofs.Untouched.{among-has}
 use Rattle.repo_laws.proofs.Releases.{same_path, other_path, is_itself}
-use Rattle.repo_laws.proofs.Starting.{later_number, rising-later, later-from, by-path-of, of-found, rows-under, none-under, each-from, all-from, greatest-from, greatest-below-end, next-above, started-none-staged}
+use Rattle.repo_laws.proofs.Starting.{rising-later, later-from, by-path-of, of-found, rows-under, none-under, each-from, all-from, greatest-from, greatest-below-end, next-above, started-none-staged}
 
 module _ (tells : ℕ → Option (List ℕ)) where
   same-rules : (rows : List RecordedRow) (rules : List Rule) → map (λ (h : Hosted). h.rule) (map (hosted_from tells rows) rules) ≡ rules

@@ -1,25 +1,23 @@
 -- The state that a start makes stands for the tables.
 use native.Mathlib.Omega.{arith}
-use Rattle.std.proofs.Common.{◌≡◌, ◌≤◌, ◌<◌, ◌+◌, ℕ, Bool, true, false, cond, ◌&&◌, ◌||◌, List, [], ◌∷◌, ◌++◌, map, Option, Some, None, refl, sym, ◌∙◌, ap, subst}
+use Rattle.std.proofs.Common.{◌≡◌, ◌≤◌, ◌<◌, ℕ, true, false, cond, ◌&&◌, ◌||◌, List, [], ◌∷◌, ◌++◌, map, Option, Some, None, refl, sym, ◌∙◌, ap, subst}
 use Rattle.std.specs.Prelude.{◌==◌, nat_lt, max, fold, filter, find, count_by, bytes_eq, if◌then◌else◌, IsTrue}
 use Rattle.std.specs.Option.{option_map, option_map_or, option_and_then}
-use Rattle.std.specs.List.{AllByRecursion, list_any, flat_map}
+use Rattle.std.specs.List.{AllByRecursion, list_any}
 use Rattle.std.specs.List.Sorted.{IsStrictlySortedBy}
 use Rattle.std.specs.Ordering.{nat_cmp, ordering_then}
-use Rattle.std.specs.declared.cmp.Ordering.{Ordering}
 use Rattle.std.specs.declared.cmp.Ordering.TheVariants.{Less, Equal}
 use Rattle.std.specs.Cmp.Lexicographic.{slice_cmp, nat_list_cmp_total}
-use Rattle.std.proofs.lemmas.Bool.{false≢true, or_parts, ltb-true, ltb-false, ne_eqb, eqb-true, lt-ltb}
+use Rattle.std.proofs.lemmas.Bool.{false≢true, ltb-true, ne_eqb, eqb-true, lt-ltb}
 use Rattle.std.proofs.lemmas.Cmp.{tied_itself, ranked}
-use Rattle.std.proofs.lemmas.Option.{none-some}
 use Rattle.outside.specs.Moments.{Moments}
 use Rattle.repo_model.specs.declared.session.SessionResult.{SessionResult}
 use Rattle.repo_model.specs.Data.{Row, Hosted, Session}
 use Rattle.repo_model.specs.Settings.{Rule, Settings}
-use Rattle.repo_model.specs.State.{State, is_repository, is_session, is_open, is_open_at, row_at, rows_of, number_end}
+use Rattle.repo_model.specs.State.{State, is_repository, is_session, is_open, is_open_at, row_at, number_end}
 use Rattle.repo_model.specs.Tables.{Tables, RecordedRow, RecordedSession, is_recorded, recorded_at, names_blob, greatest_moment}
 use Rattle.repo_model.specs.Tables as kept
-use Rattle.repo_model.specs.Restart.{with_bytes, is_of, recorded_of, hosted_from, session_from, sessions_from, greatest_session, greatest_number, blobs_named, started}
+use Rattle.repo_model.specs.Restart.{with_bytes, is_of, recorded_of, hosted_from, session_from, sessions_from, greatest_number, blobs_named, started}
 use Rattle.repo_laws.specs.Laws.{staged_with}
 use Rattle.repo_laws.specs.Sound.{IsBelow, AreByPath}
 use Rattle.repo_laws.specs.Holds.{row_cmp, session_cmp, InOrder, without_bytes, Holds, StandsFor}

@@ -17,7 +17,7 @@ use Rattle.repo_model.specs.Data.{Blob, Row, Staged, Session, Place, repository,
 use Rattle.repo_model.specs.Paths.{file_at}
 use Rattle.repo_model.specs.Document.{listed_in}
 use Rattle.repo_model.specs.State.{State, row_at, rows_of, session_of, open_of, is_open, is_staged, is_among, number_end, most_sessions, most_staged}
-use Rattle.repo_model.specs.Command.{Command, look, done, may_put, put, put_side, put_doc, drop_draft, open_session, stage, commit, abort, unlist, collect, status}
+use Rattle.repo_model.specs.Command.{Command, look, may_put, put, put_side, put_doc, open_session, stage, commit, abort}
 use Rattle.repo_model.specs.Reply.{Reply, missed, kind_refused, no_draft, taken, not_there, differs, no_session, sessions_full, session_full, offends, missing_pom, spent}
 use Rattle.repo_model.specs.Deploy.{has_pom, pom_of}
 use Rattle.repo_model.specs.Turn.{staged_at}

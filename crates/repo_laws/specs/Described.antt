@@ -17,7 +17,7 @@ use Rattle.mvn_metadata.specs.declared.pair.SnapshotBuild.{SnapshotBuild}
 use Rattle.mvn_metadata.specs.Form.{is_rising}
 use Rattle.mvn_metadata.specs.Merge.{Entry}
 use Rattle.mvn_metadata.specs.Order.{build_cmp, pair_cmp, time_cmp}
-use Rattle.repo_model.specs.Data.{Row, listed}
+use Rattle.repo_model.specs.Data.{Row}
 use Rattle.repo_model.specs.Paths.{file_at}
 use Rattle.repo_laws.specs.Laws.{AnyByRecursion}
 

@@ -14,3 +14,4 @@ pub mod Described
 pub mod Collected
 pub mod InRange
 pub mod Deployed
+pub mod Starts

@@ -7,6 +7,7 @@ ghost use Rattle.repo_model.specs.Document.{document};
 ghost use Rattle.repo_model.specs.State.{State, opening, rows_of};
 ghost use Rattle.repo_model.specs.History.{Entry, Legal, end};
 ghost use Rattle.repo_laws.specs.Worked.{shop, releases, snapshots, artifact, builds, artifact_text, builds_text, pom_text, release_text};
+ghost use Rattle.repo_laws.specs.Starts.{purge_begun, purged_later, sessions_ended, asked_again};
 ghost use Rattle.repo_laws.specs.Histories.{two_builds, faded, purged, read_to_its_end, listed_again, still_there, deployed, refused, sent_again, aged, staged_again};
 
 /// The worked histories are legal.
@@ -20,6 +21,13 @@ pub fn worked_histories()
     ensures sent_again { Legal shop (opening shop None) sent_again }
     ensures aged { Legal shop (opening shop None) aged }
     ensures staged_again { Legal shop (opening shop None) staged_again }
+{}
+
+/// So are those behind a start over the tables that such histories leave: what fades is read up to the grace and then goes, results
+/// are kept, and numbers go on above what rows and the store have.
+pub fn worked_starts()
+    ensures purge { Legal shop purge_begun purged_later }
+    ensures sessions { Legal shop sessions_ended asked_again }
 {}
 
 /// The documents that they leave have these texts.

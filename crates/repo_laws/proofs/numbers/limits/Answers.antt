@@ -9,5 +9,6 @@ returns-clause-staged c = refl
 
 pub returns-clause-rows : goal.returns-clause-rows
 returns-clause-rows c = refl
+
 pub returns-clause-collected : goal.returns-clause-collected
 returns-clause-collected c = refl
