@@ -3,6 +3,8 @@
 #![tactic(auto)]
 
 #[cfg(test)]
+mod blob_stores;
+#[cfg(test)]
 mod coords;
 #[cfg(test)]
 mod digests;

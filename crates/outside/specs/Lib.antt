@@ -1,4 +1,5 @@
 pub mod Blobs
+pub mod Checks
 pub mod Faults
 pub mod Moments
 pub mod Parcel

@@ -6,6 +6,7 @@
 //! the traits can't raise a count, so it can't give up by itself.
 #![tactic(auto)]
 
+mod checks;
 mod clocks;
 mod duplex;
 mod faults;
@@ -17,6 +18,7 @@ mod stores;
 mod streams;
 mod tells;
 
+pub use checks::{CheckFault, Checked, adopt_checked, read_checked};
 pub use clocks::Clock;
 pub use duplex::Duplex;
 pub use faults::{BlobFault, Failed, NoMemory};

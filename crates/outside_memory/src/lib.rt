@@ -1,6 +1,6 @@
 //! The outside world in memory: what tests and a replayed run stand on.
 //!
-//! These forms (`Mem..`, `Script..`) tell all there is to tell, and fail where they are told to.
+//! The forms `Mem..` and `Script..` tell all there is to tell; `WrongBlobs` tells nothing. All fail where they are told to.
 #![tactic(auto)]
 
 mod fault_script;
@@ -9,6 +9,7 @@ mod mem_sink;
 mod mem_source;
 mod script_clock;
 mod script_port;
+mod wrong_blobs;
 
 pub use fault_script::FaultScript;
 pub use mem_blobs::{MemBlobs, MemHeld};
@@ -17,6 +18,7 @@ pub use mem_source::MemSource;
 use outside::Duplex;
 pub use script_clock::ScriptClock;
 pub use script_port::ScriptPort;
+pub use wrong_blobs::{WrongBlobs, WrongHeld};
 
 /// A connection in memory.
 pub type MemLink = Duplex<MemSource, MemSink>;

@@ -1,10 +1,15 @@
-ghost use Rattle.std.specs.Prelude.{◌≡◌, ◌↔◌, Some, IfOk, Contains, IsErrOf};
-ghost use Rattle.outside.specs.Blobs.{HasBlobCause};
+ghost use Rattle.std.specs.Prelude.{◌≡◌, ◌↔◌, ◌++◌, ◌∷◌, [], OnOk, OnErr, IfOk, Contains, IsErrOf};
+ghost use Rattle.std.specs.BTreeMap.{insert_entry, is_at};
+ghost use Rattle.std.specs.Map.{keys_of, remove_entry};
+ghost use Rattle.std.specs.Ordering.{nat_cmp};
+ghost use Rattle.outside.specs.Blobs.{HasBlobCause, bytes_at};
+ghost use Rattle.outside_memory.specs.Memory.{shelf_of};
 ghost use Rattle.outside_memory.specs.Script.{script_after_blob_call};
 
 use crate::fault_script::FaultScript;
 use outside::{BlobFault, Blobs, Held, NoMemory};
 use std::alloc::Global;
+use std::collections::BTreeMap;
 use std::marker::Model;
 use std::sync::ArcSlice;
 
@@ -23,7 +28,27 @@ impl Model for MemHeld {
     ghost view = { λ h. arc_slice_items h.bytes };
 }
 
+impl MemHeld {
+    // A blob of these bytes.
+    pub(crate) fn of_bytes(alloc: Global, bytes: &[u8]) -> Result<MemHeld, NoMemory>
+        ensures { IfOk result (λ held. held ≡ bytes.now) }
+    {
+        Ok(MemHeld {
+            bytes: ArcSlice::from_slice(alloc, bytes)?,
+        })
+    }
+
+    // A copy of its bytes.
+    pub(crate) fn copied(&self, alloc: Global) -> Result<Vec<u8>, NoMemory>
+        ensures { IfOk result (λ bytes. bytes.items ≡ self.now) }
+    {
+        Vec::from_slice(alloc, self.bytes.as_slice())
+    }
+}
+
 impl Held for MemHeld {
+    ghost use Rattle.std.specs.Prelude.{Some};
+
     ghost bytes = { λ h. Some h };
 
     fn share(&self) -> Result<MemHeld, NoMemory> {
@@ -33,61 +58,123 @@ impl Held for MemHeld {
     }
 }
 
-/// A store of blobs in memory, which live as long as they are held.
+/// A store of blobs in memory. A blob's bytes live as long as it stands there or is held.
 #[derive(Drop)]
 pub struct MemBlobs {
-    alloc: Global,
+    blobs: BTreeMap<u64, MemHeld>,
+    removed: Vec<u64>,
     script: FaultScript,
 }
 
 impl Model for MemBlobs {
-    ghost use Rattle.outside_memory.specs.Script.{Script};
+    ghost use Rattle.outside_memory.specs.Memory.{BlobsState};
 
-    ghost Value = { Script };
+    ghost Value = { BlobsState };
 
-    ghost view = { λ b. b.script };
+    ghost view = { λ b. record { blobs = b.blobs.entries; removed = b.removed.items; script = b.script } };
 }
 
 impl MemBlobs {
-    /// A store whose calls fail as the script says. Stores and reads are counted together.
+    /// A store whose calls fail as the script says. Calls of all kinds are counted together.
     pub fn new(alloc: Global, script: FaultScript) -> MemBlobs
-        ensures { result ≡ script }
+        ensures { result ≡ record { blobs = []; removed = []; script = script } }
     {
-        MemBlobs { alloc, script }
+        MemBlobs {
+            blobs: BTreeMap::new(alloc),
+            removed: Vec::new(alloc),
+            script,
+        }
     }
 
     /// How many calls have failed.
     pub fn faults(&self) -> u64
-        ensures { result ≡ self.now.faults }
+        ensures { result ≡ self.now.script.faults }
     {
         self.script.faults()
+    }
+
+    /// The numbers that were removed, in the order of the calls.
+    pub fn removed(&self) -> &[u64]
+        ensures { result.now ≡ self.now.removed }
+    {
+        self.removed.as_slice()
     }
 }
 
 impl Blobs for MemBlobs {
     type Held = MemHeld;
 
-    ghost faults = { λ b. b.faults };
+    ghost faults = { λ b. b.script.faults };
 
-    fn store(&mut self, _blob: u64, bytes: &[u8]) -> Result<MemHeld, BlobFault>
-        ensures cause { HasBlobCause self.old.faults self.new.faults result }
-        ensures when { IsErrOf result BlobFault.Failed ↔ Contains self.old.failing self.old.calls }
+    ghost shelf = { shelf_of };
+
+    fn store(&mut self, blob: u64, bytes: &[u8]) -> Result<MemHeld, BlobFault>
+        ensures cause { HasBlobCause self.old.script.faults self.new.script.faults result }
+        ensures when { IsErrOf result BlobFault.Failed ↔ Contains self.old.script.failing self.old.script.calls }
         ensures told { IfOk result (λ held. held ≡ bytes.now) }
-        ensures after { self.new ≡ script_after_blob_call self.old result }
+        ensures ok { OnOk result (self.new.blobs ≡ insert_entry nat_cmp self.old.blobs blob bytes.now) }
+        ensures err { OnErr result (self.new.blobs ≡ self.old.blobs) }
+        ensures removed { self.new.removed ≡ self.old.removed }
+        ensures script { self.new.script ≡ script_after_blob_call self.old.script result }
     {
         self.script.next_call()?;
-        Ok(MemHeld {
-            bytes: ArcSlice::from_slice(self.alloc, bytes)?,
-        })
+        let held = MemHeld::of_bytes(*self.removed.allocator(), bytes)?;
+        let kept = held.share()?;
+        self.blobs.insert(blob, kept).map_err(NoMemory::from)?;
+        Ok(held)
     }
 
     fn read(&mut self, held: &MemHeld) -> Result<Vec<u8>, BlobFault>
-        ensures cause { HasBlobCause self.old.faults self.new.faults result }
-        ensures when { IsErrOf result BlobFault.Failed ↔ Contains self.old.failing self.old.calls }
+        ensures cause { HasBlobCause self.old.script.faults self.new.script.faults result }
+        ensures when { IsErrOf result BlobFault.Failed ↔ Contains self.old.script.failing self.old.script.calls }
         ensures told { IfOk result (λ bytes. bytes.items ≡ held.now) }
-        ensures after { self.new ≡ script_after_blob_call self.old result }
+        ensures after { self.new ≡ record self.old { script = script_after_blob_call self.old.script result } }
     {
         self.script.next_call()?;
-        Ok(Vec::from_slice(self.alloc, held.bytes.as_slice())?)
+        Ok(held.copied(*self.removed.allocator())?)
+    }
+
+    fn remove(&mut self, blob: u64) -> Result<(), BlobFault>
+        ensures cause { HasBlobCause self.old.script.faults self.new.script.faults result }
+        ensures when { IsErrOf result BlobFault.Failed ↔ Contains self.old.script.failing self.old.script.calls }
+        ensures ok { OnOk result (self.new ≡ record {
+          blobs = remove_entry (is_at (nat_cmp blob)) self.old.blobs;
+          removed = self.old.removed ++ blob ∷ [];
+          script = script_after_blob_call self.old.script result;
+        }) }
+        ensures err { OnErr result (self.new ≡ record self.old { script = script_after_blob_call self.old.script result }) }
+    {
+        self.script.next_call()?;
+        self.removed.push(blob).map_err(NoMemory::from)?;
+        self.blobs.remove(&blob);
+        Ok(())
+    }
+
+    fn adopt(&mut self, blob: u64) -> Result<Option<MemHeld>, BlobFault>
+        ensures cause { HasBlobCause self.old.script.faults self.new.script.faults result }
+        ensures when { IsErrOf result BlobFault.Failed ↔ Contains self.old.script.failing self.old.script.calls }
+        ensures found { IfOk result (λ held. held ≡ bytes_at blob self.old.blobs) }
+        ensures after { self.new ≡ record self.old { script = script_after_blob_call self.old.script result } }
+    {
+        self.script.next_call()?;
+        match self.blobs.get(&blob) {
+            Some(kept) => Ok(Some(kept.share()?)),
+            None => Ok(None),
+        }
+    }
+
+    fn list(&mut self) -> Result<Vec<u64>, BlobFault>
+        ensures cause { HasBlobCause self.old.script.faults self.new.script.faults result }
+        ensures when { IsErrOf result BlobFault.Failed ↔ Contains self.old.script.failing self.old.script.calls }
+        ensures listed { IfOk result (λ numbers. numbers.items ≡ keys_of self.old.blobs) }
+        ensures after { self.new ≡ record self.old { script = script_after_blob_call self.old.script result } }
+    {
+        self.script.next_call()?;
+        Ok(
+            self.blobs
+                .keys()
+                .copied()
+                .collect(*self.removed.allocator())?,
+        )
     }
 }

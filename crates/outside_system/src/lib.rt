@@ -3,7 +3,9 @@
 #![tactic(auto)]
 
 mod files;
+mod folders;
 mod standard;
 
 pub use files::{OpenedFile, file_source};
+pub use folders::{FolderBlobs, FolderHeld};
 pub use standard::{ReaderSource, WriterSink};

@@ -1,0 +1,187 @@
+// Stores of blobs, in memory and in a folder, through their trait, and reads that are checked.
+use mvn_digest::{Digests, Hashes};
+use outside::{BlobFault, Blobs, CheckFault, Checked, Parcel, adopt_checked, read_checked};
+use outside_memory::{FaultScript, MemBlobs, WrongBlobs};
+use outside_system::FolderBlobs;
+use std::alloc::{AllocError, Global};
+use std::fs;
+use std::test::Fail;
+
+const FOLDER: &str = "base_tests_blobs";
+
+const MISSING: &str = "base_tests_missing";
+
+fn digests_of(bytes: &[u8]) -> Digests {
+    let mut hashes = Hashes::new();
+    hashes.update(bytes);
+    hashes.finish()
+}
+
+// Nine calls: two blobs, one of them stored once more; the other and a third number are removed.
+fn keeps_by_number<B: Blobs>(blobs: &mut B) -> Result<bool, BlobFault> {
+    blobs.store(10, b"a")?;
+    blobs.store(7, b"abcdef")?;
+    blobs.store(7, b"abc")?;
+    let both = blobs.list()?;
+    blobs.remove(10)?;
+    blobs.remove(3)?;
+    let left = blobs.list()?;
+    let gone = blobs.adopt(10)?.is_none();
+    let read = reads_adopted(blobs)?;
+    Ok(gone && read && both.as_slice() == [7, 10].as_slice() && left.as_slice() == [7].as_slice())
+}
+
+// Two calls: number 7 is taken into use again and read.
+fn reads_adopted<B: Blobs>(blobs: &mut B) -> Result<bool, BlobFault> {
+    match blobs.adopt(7)? {
+        Some(held) => Ok(blobs.read(&held)?.as_slice() == b"abc".as_slice()),
+        None => Ok(false),
+    }
+}
+
+#[test]
+fn a_store_in_memory_keeps_by_number(rt: HostRuntime) -> Result<(), Fail> {
+    let mut blobs = MemBlobs::new(rt.alloc(), FaultScript::none(rt.alloc()));
+    let kept = keeps_by_number(&mut blobs)?;
+    assert!(rt; kept && blobs.faults() == 0);
+    assert_eq!(rt; blobs.removed(), [10, 3].as_slice());
+    Ok(())
+}
+
+// Whether the same calls fail once, and it is counted, where this one is told to fail.
+fn fails_once(alloc: Global, call: u64) -> Result<bool, AllocError> {
+    let script = FaultScript::failing_at(Vec::from_slice(alloc, &[call])?);
+    let mut blobs = MemBlobs::new(alloc, script);
+    let failed = matches!(keeps_by_number(&mut blobs), Err(BlobFault::Failed));
+    Ok(failed && blobs.faults() == 1)
+}
+
+#[test]
+fn each_call_fails_where_it_is_told_to(rt: HostRuntime) -> Result<(), Fail> {
+    for call in 0..10 {
+        let failed = fails_once(rt.alloc(), call)?;
+        assert!(rt; failed, "call {call}");
+    }
+    let ten = fails_once(rt.alloc(), 10)?;
+    assert!(rt; !ten);
+    Ok(())
+}
+
+// A folder with nothing in it.
+fn empty_folder(rt: &HostRuntime) -> Result<(), Fail> {
+    let _ = fs::remove_dir_all(rt, FOLDER);
+    fs::create_dir(rt, FOLDER)?;
+    Ok(())
+}
+
+fn folder_blobs(rt: &HostRuntime, folder: &str) -> Result<FolderBlobs<HostRuntime>, Fail> {
+    Ok(FolderBlobs::new(rt.clone()?, String::from_str(rt.alloc(), folder)?))
+}
+
+#[test]
+fn a_folder_keeps_by_number(rt: HostRuntime) -> Result<(), Fail> {
+    empty_folder(&rt)?;
+    let mut blobs = folder_blobs(&rt, FOLDER)?;
+    let kept = keeps_by_number(&mut blobs)?;
+    assert!(rt; kept && blobs.faults() == 0);
+
+    // Another store of the same folder, as after a restart, passes over what is no blob.
+    fs::write(&rt, "base_tests_blobs/8.part", "left over")?;
+    fs::write(&rt, "base_tests_blobs/09", "no number")?;
+    let mut again = folder_blobs(&rt, FOLDER)?;
+    let read = reads_adopted(&mut again)?;
+    let listed = again.list()?;
+    let file = fs::read(&rt, "base_tests_blobs/7")?;
+    fs::remove_dir_all(&rt, FOLDER)?;
+    assert!(rt; read && again.faults() == 0);
+    assert_eq!(rt; listed.as_slice(), [7].as_slice());
+    assert_eq!(rt; file.as_slice(), b"abc".as_slice());
+    Ok(())
+}
+
+// Whether a store in a folder that is missing fails, and reads and lists of it, each counted.
+fn misses(blobs: &mut FolderBlobs<HostRuntime>) -> bool {
+    let stored = matches!(blobs.store(1, b"abc"), Err(BlobFault::Failed)) && blobs.faults() == 1;
+    let listed = matches!(blobs.list(), Err(BlobFault::Failed)) && blobs.faults() == 2;
+    let absent = matches!(blobs.adopt(1), Ok(None)) && blobs.remove(1).is_ok();
+    stored && listed && absent && blobs.faults() == 2
+}
+
+#[test]
+fn a_missing_folder_fails(rt: HostRuntime) -> Result<(), Fail> {
+    let mut blobs = folder_blobs(&rt, MISSING)?;
+    let missed = misses(&mut blobs);
+    assert!(rt; missed);
+    Ok(())
+}
+
+// The parcel of `abc`, stored under 1 where something else may be read.
+fn abc<B: Blobs>(blobs: &mut B) -> Result<Parcel<B::Held>, BlobFault> {
+    Ok(Parcel {
+        blob: 1,
+        held: blobs.store(1, b"abc")?,
+        length: 3,
+        digests: digests_of(b"abc"),
+    })
+}
+
+// What a checked read of `abc` finds in place of it.
+fn found<T: Drop>(read: Result<T, CheckFault>) -> Option<(u64, Digests)> {
+    match read {
+        Err(CheckFault::Differs { length, digests }) => Some((length, digests)),
+        _ => None,
+    }
+}
+
+// Both checked reads of `abc` find these bytes in place of it.
+fn finds(alloc: Global, bytes: &[u8]) -> Result<bool, CheckFault> {
+    let mut blobs = WrongBlobs::new(alloc, FaultScript::none(alloc));
+    let parcel = abc(&mut blobs)?;
+    blobs.give(1, bytes).map_err(BlobFault::from)?;
+    let print = Some((bytes.len() as u64, digests_of(bytes)));
+    let read = found(read_checked(&mut blobs, &parcel)) == print;
+    let adopted = found(adopt_checked(&mut blobs, 1, 3, digests_of(b"abc"))) == print;
+    Ok(read && adopted && blobs.faults() == 0)
+}
+
+#[test]
+fn other_bytes_are_found(rt: HostRuntime) -> Result<(), Fail> {
+    for bytes in [b"".as_slice(), b"ab", b"abd", b"abcd"] {
+        let finds = finds(rt.alloc(), bytes)?;
+        assert!(rt; finds, "{bytes:?}");
+    }
+    let same = finds(rt.alloc(), b"abc")?;
+    assert!(rt; !same);
+    Ok(())
+}
+
+// What stands under 1 is taken into use as `abc` and read, and nothing stands under 2.
+fn adopts_abc<B: Blobs + Drop>(mut blobs: B) -> Result<bool, CheckFault> {
+    let none = adopt_checked(&mut blobs, 2, 3, digests_of(b"abc"))?.is_none();
+    let Some(parcel) = adopt_checked(&mut blobs, 1, 3, digests_of(b"abc"))? else {
+        return Ok(false);
+    };
+    let bytes = Checked { blobs }.read(&parcel)?;
+    Ok(none && parcel.blob == 1 && bytes.as_slice() == b"abc".as_slice())
+}
+
+fn wrong_gives_abc(alloc: Global) -> Result<bool, CheckFault> {
+    let mut blobs = WrongBlobs::new(alloc, FaultScript::none(alloc));
+    blobs.give(1, b"abc").map_err(BlobFault::from)?;
+    let listed = blobs.list()?.as_slice() == [1].as_slice();
+    Ok(adopts_abc(blobs)? && listed)
+}
+
+fn memory_gives_abc(alloc: Global) -> Result<bool, CheckFault> {
+    let mut blobs = MemBlobs::new(alloc, FaultScript::none(alloc));
+    blobs.store(1, b"abc")?;
+    adopts_abc(blobs)
+}
+
+#[test]
+fn the_recorded_bytes_are_given(rt: HostRuntime) -> Result<(), Fail> {
+    let wrong = wrong_gives_abc(rt.alloc())?;
+    let memory = memory_gives_abc(rt.alloc())?;
+    assert!(rt; wrong && memory);
+    Ok(())
+}
