@@ -5,7 +5,7 @@ use Rattle.std.specs.Map.{keys_of, lookup, remove_entry}
 use Rattle.std.specs.Option.{option_map}
 use Rattle.std.specs.Ordering.{nat_cmp}
 use Rattle.outside.specs.Faults.{Rose}
-use Rattle.outside.specs.Told.{behind, IsWhereTold}
+use Rattle.outside.specs.Told.{behind}
 use Rattle.outside.specs.declared.faults.BlobFault.{BlobFault}
 use Rattle.outside.specs.declared.faults.BlobFault.TheVariants.{Failed, NoMemory}
 
