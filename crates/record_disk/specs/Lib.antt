@@ -1,0 +1,4 @@
+pub mod Disk
+pub mod Codes
+pub mod Memory
+pub mod Record

@@ -1,0 +1,102 @@
+-- What a crash leaves while a file is made anew, or its gate is closed.
+use Rattle.std.proofs.Common.{◌≡◌, ◌⊎◌, inl, inr, ℕ, ◌+◌, ◌-◌, ◌≤◌, ◌<◌, List, [], ◌∷◌, ◌++◌, length, get_or, take, drop, refl, sym, ◌∙◌, ap, subst, arith, length-append}
+use Rattle.std.specs.Prelude.{Option, None, Some}
+use Rattle.std.proofs.lemmas.List.{drop_more, drop_all, take_at}
+use Rattle.record_disk.specs.Disk.{Trace, content, Torn, AllImages, Here, Told, Keeps, IsDurable, Tears, Cuts}
+use Rattle.record_log.specs.Frames.{frames, payloads_of, gate_of, Holds, head_of}
+use Rattle.record_log.specs.Log.{at_rest, IsAtRest, HasFront, HasTail}
+use Rattle.record_disk.proofs.Moments.{joined, weaker}
+use Rattle.record_log.proofs.Reading.{frames_short}
+use Rattle.record_log.proofs.Parsing.{AreBytes}
+use Rattle.record_log.proofs.Parts.{parts, new_is_short}
+use Rattle.record_log.proofs.Calls.{Undoing, told_same}
+
+abbrev pub IsFew : List ℕ → Type 0
+IsFew image = length image ≤ 9
+
+few_holds : (image : List ℕ) → IsFew image → Holds [] image
+few_holds image few = ap payloads_of (frames_short image few)
+
+pub renew_starts : (s t : Trace) → Cuts 0 s t → AllImages IsFew s → Keeps (Holds []) s t
+renew_starts s t cuts few = record { moments = weaker _ (Holds []) s t (λ c from. few_holds c (cut_few c from.0 (few from.0 from.1) from.2)) cuts.moments; image = cuts.image }
+  where
+    cut_few : (c from : List ℕ) → IsFew from → (c ≡ from) ⊎ (c ≡ take 0 from) → IsFew c
+    cut_few c from is (inl same) = omega (arith, is, ap length same)
+    cut_few c from is (inr none) = omega (arith, ap length none)
+
+pub renew_goes_on : (s t u : Trace) → Cuts 0 s t → IsDurable (take 0 (content s)) t → Tears 0 9 t u → AllImages IsFew s → Keeps (Holds []) s u
+renew_goes_on s t u cuts durable tears few = record {
+  moments = joined (Holds []) s t u (renew_starts s t cuts few).moments (weaker _ (Holds []) t u (λ c from. few_holds c (torn_few c from.0 (durable.only from.0 from.1) from.2)) tears.moments);
+  image = tears.image;
+}
+  where
+    torn_few : (c from : List ℕ) → from ≡ [] → Torn 0 9 from c → IsFew c
+    torn_few c from none torn = omega (arith, torn.no_longer, ap length none)
+
+abbrev the : Option (List (List ℕ)) → List (List ℕ)
+the None = []
+the (Some x) = x
+
+-- a file holds one list of payloads
+pub one_list : (file : List ℕ) (ps qs : List (List ℕ)) → Holds ps file → Holds qs file → ps ≡ qs
+one_list file ps qs one two = ap the (sym one ∙ two)
+
+module _ (bytes : List ℕ) (gate : ℕ) (are : AreBytes bytes) (is : gate_of (frames bytes) ≡ Some gate) where
+  pub rests_now : (end : ℕ) → end ≡ length bytes → 0 < end → end - 1 ≡ gate → get_or bytes (end - 1) 0 ≡ 0
+      → (s : Trace) → IsDurable bytes s → (ps : List (List ℕ)) → Holds ps bytes → IsAtRest gate ps s
+  rests_now end long some place shut s durable ps holds =
+      let them = parts bytes gate are is in
+      let same : them.payloads ≡ ps = one_list bytes them.payloads ps them.holds holds in
+      let last : drop gate bytes ≡ 0 ∷ [] =
+      drop_more bytes gate 0 (omega (arith, long, place)) ∙ (λ i. (ap (λ (k : ℕ). get_or bytes k 0) (sym place) ∙ shut) i ∷ drop_all (gate + 1) bytes (omega (arith, long, place)) i) in
+      let rest : bytes ≡ at_rest them.payloads = them.split ∙ ap (λ (l : List ℕ). head_of them.payloads ++ l) last in
+      subst (λ qs. IsAtRest gate qs s) same (record { durable = subst (λ f. IsDurable f s) rest durable; place = them.place; short = them.short })
+
+  hangs_now : (s : Trace) → IsDurable bytes s → (ps : List (List ℕ)) → Holds ps bytes → HasTail gate ps None s
+  hangs_now s durable ps holds =
+      let them = parts bytes gate are is in
+      let same : them.payloads ≡ ps = one_list bytes them.payloads ps them.holds holds in
+      let front : take (length (head_of them.payloads)) bytes ≡ head_of them.payloads = ap (λ (l : List ℕ). take (length (head_of them.payloads)) l) them.split ∙ take_at (head_of them.payloads) (drop gate bytes) (length (head_of them.payloads)) refl in
+      let stands : HasFront them.payloads None bytes = record { front = front; holds = them.holds } in
+      subst (λ qs. HasTail gate qs None s) same (record {
+        all = λ c image. subst (HasFront them.payloads None) (sym (durable.only c image)) stands;
+        image = durable.image;
+        place = them.place;
+        short = them.short;
+      })
+
+  pub close_moments : (s t : Trace) → Undoing gate s t → IsDurable bytes s → (ps : List (List ℕ)) → Holds ps bytes → Keeps (Holds ps) s t
+  close_moments s t undoing durable ps holds =
+      let kept = undoing ps None (hangs_now s durable ps holds) in
+      record { moments = weaker (HasFront ps None) (Holds ps) s t (λ c front. front.holds) kept.moments; image = kept.image }
+
+  pub close_rests : (s t : Trace) → ((ps : List (List ℕ)) (pending : Option (List ℕ)) → HasTail gate ps pending s → IsAtRest gate ps t) → IsDurable bytes s → (ps : List (List ℕ)) → Holds ps bytes → IsAtRest gate ps t
+  close_rests s t undone durable ps holds = undone ps None (hangs_now s durable ps holds)
+
+  pub close_none : (s : Trace) → IsDurable bytes s → (ps : List (List ℕ)) → Holds ps bytes → Keeps (Holds ps) s s
+  close_none s durable ps holds = record { moments = Here (λ c image. subst (Holds ps) (sym (durable.only c image)) holds); image = durable.image }
+
+  -- where nothing has to be done
+  pub close_told : (a : Option Trace) → Told a a (λ s t. IsDurable bytes s → (ps : List (List ℕ)) → Holds ps bytes → Keeps (Holds ps) s t)
+  close_told a = told_same a (λ s t. IsDurable bytes s → (ps : List (List ℕ)) → Holds ps bytes → Keeps (Holds ps) s t) close_none
+
+  pub close_done : 0 < length bytes → length bytes - 1 ≡ gate → get_or bytes (length bytes - 1) 0 ≡ 0
+      → (a : Option Trace) → Told a a (λ s t. IsDurable bytes s → (ps : List (List ℕ)) → Holds ps bytes → IsAtRest gate ps t)
+  close_done some place shut a = told_same a (λ s t. IsDurable bytes s → (ps : List (List ℕ)) → Holds ps bytes → IsAtRest gate ps t) (rests_now (length bytes) refl some place shut)
+
+-- a file that holds nothing, made anew
+module _ (bytes : List ℕ) (ps : List (List ℕ)) (holds : Holds ps bytes) (none : gate_of (frames bytes) ≡ None) where
+  pub is_few : IsFew bytes
+  is_few = new_is_short bytes ps holds none
+
+  pub fresh_moments : (s t : Trace) → (AllImages IsFew s → Keeps (Holds []) s t) → IsDurable bytes s → (qs : List (List ℕ)) → Holds qs bytes → Keeps (Holds qs) s t
+  fresh_moments s t renewed durable qs held =
+      subst (λ rs. Keeps (Holds rs) s t) (one_list bytes [] qs (few_holds bytes is_few) held) (renewed (λ c image. subst IsFew (sym (durable.only c image)) is_few))
+
+  pub fresh_rests : (s t : Trace) → IsAtRest 8 [] t → IsDurable bytes s → (qs : List (List ℕ)) → Holds qs bytes → IsAtRest 8 qs t
+  fresh_rests s t rests durable qs held = subst (λ rs. IsAtRest 8 rs t) (one_list bytes [] qs (few_holds bytes is_few) held) rests
+
+pub gate_within : (bytes : List ℕ) (gate : ℕ) → AreBytes bytes → gate_of (frames bytes) ≡ Some gate → gate ≤ length bytes
+gate_within bytes gate are is =
+    let them = parts bytes gate are is in
+    omega (arith, them.place, ap length them.split, length-append (head_of them.payloads) (drop gate bytes))

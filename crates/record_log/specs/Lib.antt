@@ -1,0 +1,4 @@
+pub mod Frames
+pub mod Next
+pub mod Log
+pub mod Codes

@@ -1,0 +1,5 @@
+pub mod Items
+pub mod Stored
+pub mod Applying
+pub mod Records
+pub mod Recorded

@@ -1,0 +1,42 @@
+//! Where changes are recorded.
+ghost use Rattle.std.specs.Prelude.{◌≡◌, ℕ, Option, None, IfOk, IfSome, OnOk, OnErr, Ok};
+ghost use Rattle.std.specs.Option.{ForSome, option_map};
+ghost use Rattle.repo_model.specs.Tables.{Tables as Plain, applied};
+ghost use Rattle.row_tables.specs.Applying.{with_items};
+ghost use Rattle.row_tables.specs.Records.{HasLoadCause, HasCommitCause, IsRefusal};
+
+use crate::change::Change;
+use crate::faults::{CommitFault, LoadFault};
+use crate::tables::Tables;
+use std::alloc::Global;
+
+/// A record of changes that outlasts the program.
+pub trait Records {
+    // How many calls have failed. It never falls.
+    ghost faults: { Self → ℕ };
+
+    // What is recorded, where it is told.
+    ghost tables: { Self → Option Plain } = { λ _. None };
+
+    // The last load has given the tables, so changes may be committed.
+    ghost ready: { Self → Type 0 };
+
+    /// The tables that the committed changes build up. The records are refused where they are another's, or have a row
+    /// that cannot be read or does not fit those before it; a refusal changes nothing.
+    fn load(&mut self, alloc: Global) -> Result<Tables, LoadFault>
+        ensures cause { HasLoadCause (faults self.old) (faults self.new) result }
+        ensures told { IfOk result (λ t. IfSome (tables self.old) (λ told. t ≡ told)) }
+        ensures refused { IsRefusal result → tables self.old ≡ None }
+        ensures ready { OnOk result (ready self.new) }
+        ensures same { tables self.new ≡ tables self.old };
+
+    /// Adds a change. At `Ok` it is recorded for good. At an error the tables are as before, and stay so once a later
+    /// commit or load succeeds.
+    fn commit(&mut self, alloc: Global, change: &Change) -> Result<(), CommitFault>
+        requires ready { ready self.old }
+        requires fits { ForSome (tables self.old) (λ t. applied t change.now ≡ Ok (with_items t change.now)) }
+        ensures cause { HasCommitCause (faults self.old) (faults self.new) result }
+        ensures ok { OnOk result (tables self.new ≡ option_map (λ t. with_items t change.now) (tables self.old)) }
+        ensures err { OnErr result (tables self.new ≡ tables self.old) }
+        ensures ready { ready self.new };
+}
