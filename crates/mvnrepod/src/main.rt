@@ -72,7 +72,11 @@ fn status_for(rt: &HostRuntime, words: &[String], wanted: &Wanted) -> Result<u8,
         }
         Action::Nothing => {
             let desks = empty_desks(rt.alloc())?;
-            let mut settings = MemSource::new(Vec::new(rt.alloc()), 1, FaultScript::none(rt.alloc()));
+            let mut settings = MemSource::new(
+                Vec::new(rt.alloc()),
+                1,
+                FaultScript::none(rt.alloc()),
+            );
             Ok(status_of(rt, words, wanted, &mut settings, desks))
         }
     }

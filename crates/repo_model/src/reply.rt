@@ -9,11 +9,17 @@ use texts::Bytes;
 #[derive(Drop)]
 pub enum Reply<H: Held> {
     /// The file, its blob borrowed under the lease.
-    File { lease: u64, parcel: Parcel<H> },
+    File {
+        lease: u64,
+        parcel: Parcel<H>,
+    },
     /// The text of the side file.
     Text(SideText),
     /// The document of the directory as it is written, and its digests.
-    Doc { text: Bytes, digests: Digests },
+    Doc {
+        text: Bytes,
+        digests: Digests,
+    },
     /// There is nothing at the path.
     Missed,
     /// The lease is given back, or there was none of that number.
@@ -25,7 +31,10 @@ pub enum Reply<H: Held> {
     /// The number is no draft.
     NoDraft,
     /// The path has a file of another content. The draft is given up.
-    Taken { kept: Print, sent: Print },
+    Taken {
+        kept: Print,
+        sent: Print,
+    },
     /// The path has a file of the same content. The draft is given up.
     Same,
     /// The file of the same content is listed again. The draft is given up.
@@ -35,7 +44,10 @@ pub enum Reply<H: Held> {
     /// The side file's file is not there.
     NotThere,
     /// The side file says another digest than that of its file.
-    Differs { said: Digest, kept: Digest },
+    Differs {
+        said: Digest,
+        kept: Digest,
+    },
     /// The side file says the digest of its file, or is that of a document.
     Agreed,
     /// The document was heard of.
@@ -48,7 +60,10 @@ pub enum Reply<H: Held> {
     Unlisted(u64),
     /// So many files are gone; and the first garbage that nobody has borrowed, at most 100 blobs, of which the repository
     /// knows nothing any more.
-    Collected { expired: u64, blobs: Numbers },
+    Collected {
+        expired: u64,
+        blobs: Numbers,
+    },
     /// How many files of hosted repositories there are, and how many of them are unlisted; how many files and documents
     /// proxies keep; and how many deployment sessions are open.
     Counts {

@@ -8,7 +8,9 @@ mod reports;
 mod words;
 
 pub use actions::{Action, Wanted};
-pub use laws::{alone_nothing_is_left_behind, sound_numbers_are_drawn, turns_are_a_history, worked_replay};
+pub use laws::{
+    alone_nothing_is_left_behind, sound_numbers_are_drawn, turns_are_a_history, worked_replay,
+};
 pub use program::{Desk, Ran, run, serve_first};
 pub use reports::{DONE, INPUT, NO_MEMORY, OUTPUT, REFUSED, SETTINGS};
 pub use words::wanted;

@@ -95,7 +95,12 @@ fn report<O: Sink>(alloc: Global, out: &mut O, calls: u64, end: End) -> u8
 }
 
 /// The status of a replay and its line. `None` is that the port failed.
-pub(crate) fn report_first<O: Sink>(alloc: Global, out: &mut O, calls: u64, ended: Option<End>) -> u8
+pub(crate) fn report_first<O: Sink>(
+    alloc: Global,
+    out: &mut O,
+    calls: u64,
+    ended: Option<End>,
+) -> u8
     ensures { ReportsFirst ended calls (output (O.taken out.old) (O.write_faults out.old)) (output (O.taken out.new) (O.write_faults out.new)) result }
 {
     match ended {

@@ -1,7 +1,7 @@
 //! What a request head is judged to, in words.
 use http_wire::Wire;
 use mvn_coords::Side;
-use outside::{FaultScript, MemSource};
+use outside_memory::{FaultScript, MemSource};
 use repo_config::Settings;
 use repo_routes::{Allow, Intent, Judged, Refusal, Refused, Routes, judge};
 use std::alloc::{AllocError, Global};

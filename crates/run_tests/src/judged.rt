@@ -1,108 +1,273 @@
 // Heads, methods, lengths and connections.
 use crate::exchanges::{EXCHANGE, Exchange};
-use crate::literals::{ABC_LAST, BAD_HOST, BAD_LENGTH, CREATED, GET, HEAD_TOO_LONG, KIND_REFUSED_LAST, METHOD_AT_HOSTED, METHOD_AT_STATUS, NOT_THERE, NO_LENGTH, NO_REPOSITORY, NO_ROUTE, PUT_ABC, TOO_LARGE};
+use crate::literals::{
+    ABC_LAST, BAD_HOST, BAD_LENGTH, CREATED, GET, HEAD_TOO_LONG, KIND_REFUSED_LAST,
+    METHOD_AT_HOSTED, METHOD_AT_STATUS, NO_LENGTH, NO_REPOSITORY, NO_ROUTE, NOT_THERE, PUT_ABC,
+    TOO_LARGE,
+};
 
 static JUDGED: [Exchange; 24] = [
     Exchange {
         name: "methods, repositories and routes",
-        input: &[(1, "DELETE /repository/releases/org/acme/lib/1.0/lib-1.0.jar HTTP/1.1\r\nHost: x\r\n\r\n"), (1, "DELETE /repository/nope/org/acme/lib/1.0/lib-1.0.jar HTTP/1.1\r\nHost: x\r\n\r\n"), (1, "PUT /api/status HTTP/1.1\r\nHost: x\r\nContent-Length: 0\r\n\r\n"), (1, "POST /repository/releases/org/acme/lib/1.0/lib-1.0.jar HTTP/1.1\r\nHost: x\r\n\r\n"), (1, "GET /repository/central/org/acme/lib/1.0/lib-1.0.jar HTTP/1.1\r\nHost: x\r\n\r\n"), (1, "GET /repository/public/org/acme/lib/1.0/lib-1.0.jar HTTP/1.1\r\nHost: x\r\n\r\n"), (1, "POST /nowhere HTTP/1.1\r\nHost: x\r\n\r\n"), (1, "GET /repository/releases/ HTTP/1.1\r\nHost: x\r\n\r\n"), (1, "GET /repository//org/acme/lib/1.0/lib-1.0.jar HTTP/1.1\r\nHost: x\r\n\r\n"), (1, "GET / HTTP/1.1\r\nHost: x\r\n\r\n"), (1, GET)],
-        answers: &[(1, METHOD_AT_HOSTED), (1, NO_REPOSITORY), (1, METHOD_AT_STATUS), (1, METHOD_AT_HOSTED), (2, NO_REPOSITORY), (4, NO_ROUTE), (1, NOT_THERE)],
+        input: &[
+            (
+                1,
+                "DELETE /repository/releases/org/acme/lib/1.0/lib-1.0.jar HTTP/1.1\r\nHost: x\r\n\r\n",
+            ),
+            (
+                1,
+                "DELETE /repository/nope/org/acme/lib/1.0/lib-1.0.jar HTTP/1.1\r\nHost: x\r\n\r\n",
+            ),
+            (
+                1,
+                "PUT /api/status HTTP/1.1\r\nHost: x\r\nContent-Length: 0\r\n\r\n",
+            ),
+            (
+                1,
+                "POST /repository/releases/org/acme/lib/1.0/lib-1.0.jar HTTP/1.1\r\nHost: x\r\n\r\n",
+            ),
+            (
+                1,
+                "GET /repository/central/org/acme/lib/1.0/lib-1.0.jar HTTP/1.1\r\nHost: x\r\n\r\n",
+            ),
+            (
+                1,
+                "GET /repository/public/org/acme/lib/1.0/lib-1.0.jar HTTP/1.1\r\nHost: x\r\n\r\n",
+            ),
+            (1, "POST /nowhere HTTP/1.1\r\nHost: x\r\n\r\n"),
+            (1, "GET /repository/releases/ HTTP/1.1\r\nHost: x\r\n\r\n"),
+            (
+                1,
+                "GET /repository//org/acme/lib/1.0/lib-1.0.jar HTTP/1.1\r\nHost: x\r\n\r\n",
+            ),
+            (1, "GET / HTTP/1.1\r\nHost: x\r\n\r\n"),
+            (1, GET),
+        ],
+        answers: &[
+            (1, METHOD_AT_HOSTED),
+            (1, NO_REPOSITORY),
+            (1, METHOD_AT_STATUS),
+            (1, METHOD_AT_HOSTED),
+            (2, NO_REPOSITORY),
+            (4, NO_ROUTE),
+            (1, NOT_THERE),
+        ],
         line: "calls 1 end Closed\n",
         ..EXCHANGE
     },
     Exchange {
         name: "how much there is",
-        input: &[(1, PUT_ABC), (1, "GET /api/status HTTP/1.1\r\nHost: x\r\n\r\n"), (1, "HEAD /api/status HTTP/1.1\r\nHost: x\r\n\r\n")],
-        answers: &[(1, CREATED), (1, "HTTP/1.1 200 OK\r\nContent-Type: text/plain\r\nContent-Length: 49\r\n\r\nfiles 1\nfading 0\ncached 0\ndocuments 0\nsessions 0\n"), (1, "HTTP/1.1 200 OK\r\nContent-Type: text/plain\r\nContent-Length: 49\r\n\r\n")],
+        input: &[
+            (1, PUT_ABC),
+            (1, "GET /api/status HTTP/1.1\r\nHost: x\r\n\r\n"),
+            (1, "HEAD /api/status HTTP/1.1\r\nHost: x\r\n\r\n"),
+        ],
+        answers: &[
+            (1, CREATED),
+            (
+                1,
+                "HTTP/1.1 200 OK\r\nContent-Type: text/plain\r\nContent-Length: 49\r\n\r\nfiles 1\nfading 0\ncached 0\ndocuments 0\nsessions 0\n",
+            ),
+            (
+                1,
+                "HTTP/1.1 200 OK\r\nContent-Type: text/plain\r\nContent-Length: 49\r\n\r\n",
+            ),
+        ],
         line: "calls 4 end Closed\n",
         ..EXCHANGE
     },
     Exchange {
         name: "a HEAD has no body",
-        input: &[(1, PUT_ABC), (1, "HEAD /repository/releases/org/acme/lib/1.0/lib-1.0.jar HTTP/1.1\r\nHost: x\r\n\r\n"), (1, "HEAD /repository/releases/org/acme/lib/1.0/lib-1.0.jar.sha1 HTTP/1.1\r\nHost: x\r\n\r\n"), (1, "HEAD /repository/releases/org/acme/lib/maven-metadata.xml HTTP/1.1\r\nHost: x\r\n\r\n"), (1, "HEAD /repository/releases/org/acme/lib/1.0/other-1.0.jar HTTP/1.1\r\nHost: x\r\n\r\n"), (1, "HEAD /repository/releases/org/acme/lib/2.0/lib-2.0.jar HTTP/1.1\r\nHost: x\r\n\r\n"), (1, "HEAD /repository/releases/org/acme/lib/1.0/lib-1.0.jar HTTP/1.1\r\nHost: x\r\nConnection: close\r\n\r\n")],
-        answers: &[(1, CREATED), (1, "HTTP/1.1 200 OK\r\nContent-Type: application/octet-stream\r\nContent-Length: 3\r\nX-Checksum-SHA1: a9993e364706816aba3e25717850c26c9cd0d89d\r\nX-Checksum-MD5: 900150983cd24fb0d6963f7d28e17f72\r\n\r\n"), (1, "HTTP/1.1 200 OK\r\nContent-Type: text/plain\r\nContent-Length: 40\r\n\r\n"), (1, "HTTP/1.1 200 OK\r\nContent-Type: text/xml\r\nContent-Length: 333\r\nX-Checksum-SHA1: d76bcca1f045e903cf90163e5bed3f9b730b4163\r\nX-Checksum-MD5: 61cd77066a85a0bef4d9b69f5d31c8ec\r\n\r\n"), (1, "HTTP/1.1 404 Not Found\r\nContent-Type: text/plain\r\nContent-Length: 14\r\n\r\n"), (1, "HTTP/1.1 404 Not Found\r\nContent-Type: text/plain\r\nContent-Length: 10\r\n\r\n"), (1, "HTTP/1.1 200 OK\r\nContent-Type: application/octet-stream\r\nContent-Length: 3\r\nX-Checksum-SHA1: a9993e364706816aba3e25717850c26c9cd0d89d\r\nX-Checksum-MD5: 900150983cd24fb0d6963f7d28e17f72\r\nConnection: close\r\n\r\n")],
+        input: &[
+            (1, PUT_ABC),
+            (
+                1,
+                "HEAD /repository/releases/org/acme/lib/1.0/lib-1.0.jar HTTP/1.1\r\nHost: x\r\n\r\n",
+            ),
+            (
+                1,
+                "HEAD /repository/releases/org/acme/lib/1.0/lib-1.0.jar.sha1 HTTP/1.1\r\nHost: x\r\n\r\n",
+            ),
+            (
+                1,
+                "HEAD /repository/releases/org/acme/lib/maven-metadata.xml HTTP/1.1\r\nHost: x\r\n\r\n",
+            ),
+            (
+                1,
+                "HEAD /repository/releases/org/acme/lib/1.0/other-1.0.jar HTTP/1.1\r\nHost: x\r\n\r\n",
+            ),
+            (
+                1,
+                "HEAD /repository/releases/org/acme/lib/2.0/lib-2.0.jar HTTP/1.1\r\nHost: x\r\n\r\n",
+            ),
+            (
+                1,
+                "HEAD /repository/releases/org/acme/lib/1.0/lib-1.0.jar HTTP/1.1\r\nHost: x\r\nConnection: close\r\n\r\n",
+            ),
+        ],
+        answers: &[
+            (1, CREATED),
+            (
+                1,
+                "HTTP/1.1 200 OK\r\nContent-Type: application/octet-stream\r\nContent-Length: 3\r\nX-Checksum-SHA1: a9993e364706816aba3e25717850c26c9cd0d89d\r\nX-Checksum-MD5: 900150983cd24fb0d6963f7d28e17f72\r\n\r\n",
+            ),
+            (
+                1,
+                "HTTP/1.1 200 OK\r\nContent-Type: text/plain\r\nContent-Length: 40\r\n\r\n",
+            ),
+            (
+                1,
+                "HTTP/1.1 200 OK\r\nContent-Type: text/xml\r\nContent-Length: 333\r\nX-Checksum-SHA1: d76bcca1f045e903cf90163e5bed3f9b730b4163\r\nX-Checksum-MD5: 61cd77066a85a0bef4d9b69f5d31c8ec\r\n\r\n",
+            ),
+            (
+                1,
+                "HTTP/1.1 404 Not Found\r\nContent-Type: text/plain\r\nContent-Length: 14\r\n\r\n",
+            ),
+            (
+                1,
+                "HTTP/1.1 404 Not Found\r\nContent-Type: text/plain\r\nContent-Length: 10\r\n\r\n",
+            ),
+            (
+                1,
+                "HTTP/1.1 200 OK\r\nContent-Type: application/octet-stream\r\nContent-Length: 3\r\nX-Checksum-SHA1: a9993e364706816aba3e25717850c26c9cd0d89d\r\nX-Checksum-MD5: 900150983cd24fb0d6963f7d28e17f72\r\nConnection: close\r\n\r\n",
+            ),
+        ],
         line: "calls 9 end Closed\n",
         ..EXCHANGE
     },
     Exchange {
         name: "a host is named once",
-        input: &[(1, "GET /repository/releases/org/acme/lib/1.0/lib-1.0.jar HTTP/1.1\r\n\r\n")],
+        input: &[(
+            1,
+            "GET /repository/releases/org/acme/lib/1.0/lib-1.0.jar HTTP/1.1\r\n\r\n",
+        )],
         answers: &[(1, BAD_HOST)],
         ..EXCHANGE
     },
     Exchange {
         name: "a host is not named twice",
-        input: &[(1, "GET /repository/releases/org/acme/lib/1.0/lib-1.0.jar HTTP/1.1\r\nHost: x\r\nHost: y\r\n\r\n")],
+        input: &[(
+            1,
+            "GET /repository/releases/org/acme/lib/1.0/lib-1.0.jar HTTP/1.1\r\nHost: x\r\nHost: y\r\n\r\n",
+        )],
         answers: &[(1, BAD_HOST)],
         ..EXCHANGE
     },
     Exchange {
         name: "HTTP/1.0 needs no host, and ends the connection",
-        input: &[(1, PUT_ABC), (1, "GET /repository/releases/org/acme/lib/1.0/lib-1.0.jar HTTP/1.0\r\n\r\n")],
+        input: &[
+            (1, PUT_ABC),
+            (
+                1,
+                "GET /repository/releases/org/acme/lib/1.0/lib-1.0.jar HTTP/1.0\r\n\r\n",
+            ),
+        ],
         answers: &[(1, CREATED), (1, ABC_LAST)],
         line: "calls 4 end Closed\n",
         ..EXCHANGE
     },
     Exchange {
         name: "two lengths that differ is refused",
-        input: &[(1, "PUT /repository/releases/org/acme/lib/1.0/lib-1.0.jar HTTP/1.1\r\nHost: x\r\nContent-Length: 3\r\nContent-Length: 4\r\n\r\n")],
+        input: &[(
+            1,
+            "PUT /repository/releases/org/acme/lib/1.0/lib-1.0.jar HTTP/1.1\r\nHost: x\r\nContent-Length: 3\r\nContent-Length: 4\r\n\r\n",
+        )],
         answers: &[(1, BAD_LENGTH)],
         ..EXCHANGE
     },
     Exchange {
         name: "a length of 19 digits is refused",
-        input: &[(1, "PUT /repository/releases/org/acme/lib/1.0/lib-1.0.jar HTTP/1.1\r\nHost: x\r\nContent-Length: 1111111111111111111\r\n\r\n")],
+        input: &[(
+            1,
+            "PUT /repository/releases/org/acme/lib/1.0/lib-1.0.jar HTTP/1.1\r\nHost: x\r\nContent-Length: 1111111111111111111\r\n\r\n",
+        )],
         answers: &[(1, BAD_LENGTH)],
         ..EXCHANGE
     },
     Exchange {
         name: "a length that is no number is refused",
-        input: &[(1, "PUT /repository/releases/org/acme/lib/1.0/lib-1.0.jar HTTP/1.1\r\nHost: x\r\nContent-Length: +3\r\n\r\n")],
+        input: &[(
+            1,
+            "PUT /repository/releases/org/acme/lib/1.0/lib-1.0.jar HTTP/1.1\r\nHost: x\r\nContent-Length: +3\r\n\r\n",
+        )],
         answers: &[(1, BAD_LENGTH)],
         ..EXCHANGE
     },
     Exchange {
         name: "a body that is too long is refused",
-        input: &[(1, "PUT /repository/releases/org/acme/lib/1.0/lib-1.0.jar HTTP/1.1\r\nHost: x\r\nContent-Length: 999999999999999999\r\n\r\n")],
+        input: &[(
+            1,
+            "PUT /repository/releases/org/acme/lib/1.0/lib-1.0.jar HTTP/1.1\r\nHost: x\r\nContent-Length: 999999999999999999\r\n\r\n",
+        )],
         answers: &[(1, TOO_LARGE)],
         ..EXCHANGE
     },
     Exchange {
         name: "a body of one byte too much is refused",
-        input: &[(1, "PUT /repository/releases/org/acme/lib/1.0/lib-1.0.jar HTTP/1.1\r\nHost: x\r\nContent-Length: 16777217\r\n\r\n")],
+        input: &[(
+            1,
+            "PUT /repository/releases/org/acme/lib/1.0/lib-1.0.jar HTTP/1.1\r\nHost: x\r\nContent-Length: 16777217\r\n\r\n",
+        )],
         answers: &[(1, TOO_LARGE)],
         ..EXCHANGE
     },
     Exchange {
         name: "a chunked body is refused",
-        input: &[(1, "PUT /repository/releases/org/acme/lib/1.0/lib-1.0.jar HTTP/1.1\r\nHost: x\r\nContent-Length: 3\r\nTransfer-Encoding: chunked\r\n\r\n")],
+        input: &[(
+            1,
+            "PUT /repository/releases/org/acme/lib/1.0/lib-1.0.jar HTTP/1.1\r\nHost: x\r\nContent-Length: 3\r\nTransfer-Encoding: chunked\r\n\r\n",
+        )],
         answers: &[(1, NO_LENGTH)],
         ..EXCHANGE
     },
     Exchange {
         name: "a body without its length is refused",
-        input: &[(1, "PUT /repository/releases/org/acme/lib/1.0/lib-1.0.jar HTTP/1.1\r\nHost: x\r\n\r\n")],
+        input: &[(
+            1,
+            "PUT /repository/releases/org/acme/lib/1.0/lib-1.0.jar HTTP/1.1\r\nHost: x\r\n\r\n",
+        )],
         answers: &[(1, NO_LENGTH)],
         ..EXCHANGE
     },
     Exchange {
         name: "one length said twice is a length",
-        input: &[(1, "PUT /repository/releases/org/acme/lib/1.0/lib-1.0.jar HTTP/1.1\r\nHost: x\r\nContent-Length: 3\r\nContent-Length: 3\r\n\r\nabc")],
+        input: &[(
+            1,
+            "PUT /repository/releases/org/acme/lib/1.0/lib-1.0.jar HTTP/1.1\r\nHost: x\r\nContent-Length: 3\r\nContent-Length: 3\r\n\r\nabc",
+        )],
         answers: &[(1, CREATED)],
         line: "calls 2 end Closed\n",
         ..EXCHANGE
     },
     Exchange {
         name: "a GET has no body",
-        input: &[(1, "GET /repository/releases/org/acme/lib/1.0/lib-1.0.jar HTTP/1.1\r\nHost: x\r\nContent-Length: 0\r\n\r\n"), (1, "GET /repository/releases/org/acme/lib/1.0/lib-1.0.jar HTTP/1.1\r\nHost: x\r\nContent-Length: 1\r\n\r\n")],
-        answers: &[(1, NOT_THERE), (1, "HTTP/1.1 400 Bad Request\r\nContent-Type: text/plain\r\nContent-Length: 16\r\nConnection: close\r\n\r\nunexpected-body\n")],
+        input: &[
+            (
+                1,
+                "GET /repository/releases/org/acme/lib/1.0/lib-1.0.jar HTTP/1.1\r\nHost: x\r\nContent-Length: 0\r\n\r\n",
+            ),
+            (
+                1,
+                "GET /repository/releases/org/acme/lib/1.0/lib-1.0.jar HTTP/1.1\r\nHost: x\r\nContent-Length: 1\r\n\r\n",
+            ),
+        ],
+        answers: &[
+            (1, NOT_THERE),
+            (
+                1,
+                "HTTP/1.1 400 Bad Request\r\nContent-Type: text/plain\r\nContent-Length: 16\r\nConnection: close\r\n\r\nunexpected-body\n",
+            ),
+        ],
         line: "calls 1 end Closed\n",
         ..EXCHANGE
     },
     Exchange {
         name: "a head that is none",
         input: &[(1, "GET\r\nHost: x\r\n\r\n")],
-        answers: &[(1, "HTTP/1.1 400 Bad Request\r\nContent-Type: text/plain\r\nContent-Length: 9\r\nConnection: close\r\n\r\nbad-head\n")],
+        answers: &[(
+            1,
+            "HTTP/1.1 400 Bad Request\r\nContent-Type: text/plain\r\nContent-Length: 9\r\nConnection: close\r\n\r\nbad-head\n",
+        )],
         ..EXCHANGE
     },
     Exchange {
@@ -113,13 +278,19 @@ static JUDGED: [Exchange; 24] = [
     },
     Exchange {
         name: "a head of 65 fields",
-        input: &[(1, "GET /repository/releases/org/acme/lib/1.0/lib-1.0.jar HTTP/1.1\r\nHost: x\r\nX: 0\r\nX: 1\r\nX: 2\r\nX: 3\r\nX: 4\r\nX: 5\r\nX: 6\r\nX: 7\r\nX: 8\r\nX: 9\r\nX: 10\r\nX: 11\r\nX: 12\r\nX: 13\r\nX: 14\r\nX: 15\r\nX: 16\r\nX: 17\r\nX: 18\r\nX: 19\r\nX: 20\r\nX: 21\r\nX: 22\r\nX: 23\r\nX: 24\r\nX: 25\r\nX: 26\r\nX: 27\r\nX: 28\r\nX: 29\r\nX: 30\r\nX: 31\r\nX: 32\r\nX: 33\r\nX: 34\r\nX: 35\r\nX: 36\r\nX: 37\r\nX: 38\r\nX: 39\r\nX: 40\r\nX: 41\r\nX: 42\r\nX: 43\r\nX: 44\r\nX: 45\r\nX: 46\r\nX: 47\r\nX: 48\r\nX: 49\r\nX: 50\r\nX: 51\r\nX: 52\r\nX: 53\r\nX: 54\r\nX: 55\r\nX: 56\r\nX: 57\r\nX: 58\r\nX: 59\r\nX: 60\r\nX: 61\r\nX: 62\r\nX: 63\r\n\r\n")],
+        input: &[(
+            1,
+            "GET /repository/releases/org/acme/lib/1.0/lib-1.0.jar HTTP/1.1\r\nHost: x\r\nX: 0\r\nX: 1\r\nX: 2\r\nX: 3\r\nX: 4\r\nX: 5\r\nX: 6\r\nX: 7\r\nX: 8\r\nX: 9\r\nX: 10\r\nX: 11\r\nX: 12\r\nX: 13\r\nX: 14\r\nX: 15\r\nX: 16\r\nX: 17\r\nX: 18\r\nX: 19\r\nX: 20\r\nX: 21\r\nX: 22\r\nX: 23\r\nX: 24\r\nX: 25\r\nX: 26\r\nX: 27\r\nX: 28\r\nX: 29\r\nX: 30\r\nX: 31\r\nX: 32\r\nX: 33\r\nX: 34\r\nX: 35\r\nX: 36\r\nX: 37\r\nX: 38\r\nX: 39\r\nX: 40\r\nX: 41\r\nX: 42\r\nX: 43\r\nX: 44\r\nX: 45\r\nX: 46\r\nX: 47\r\nX: 48\r\nX: 49\r\nX: 50\r\nX: 51\r\nX: 52\r\nX: 53\r\nX: 54\r\nX: 55\r\nX: 56\r\nX: 57\r\nX: 58\r\nX: 59\r\nX: 60\r\nX: 61\r\nX: 62\r\nX: 63\r\n\r\n",
+        )],
         answers: &[(1, HEAD_TOO_LONG)],
         ..EXCHANGE
     },
     Exchange {
         name: "a head of 64 fields",
-        input: &[(1, "GET /repository/releases/org/acme/lib/1.0/lib-1.0.jar HTTP/1.1\r\nHost: x\r\nX: 0\r\nX: 1\r\nX: 2\r\nX: 3\r\nX: 4\r\nX: 5\r\nX: 6\r\nX: 7\r\nX: 8\r\nX: 9\r\nX: 10\r\nX: 11\r\nX: 12\r\nX: 13\r\nX: 14\r\nX: 15\r\nX: 16\r\nX: 17\r\nX: 18\r\nX: 19\r\nX: 20\r\nX: 21\r\nX: 22\r\nX: 23\r\nX: 24\r\nX: 25\r\nX: 26\r\nX: 27\r\nX: 28\r\nX: 29\r\nX: 30\r\nX: 31\r\nX: 32\r\nX: 33\r\nX: 34\r\nX: 35\r\nX: 36\r\nX: 37\r\nX: 38\r\nX: 39\r\nX: 40\r\nX: 41\r\nX: 42\r\nX: 43\r\nX: 44\r\nX: 45\r\nX: 46\r\nX: 47\r\nX: 48\r\nX: 49\r\nX: 50\r\nX: 51\r\nX: 52\r\nX: 53\r\nX: 54\r\nX: 55\r\nX: 56\r\nX: 57\r\nX: 58\r\nX: 59\r\nX: 60\r\nX: 61\r\nX: 62\r\n\r\n")],
+        input: &[(
+            1,
+            "GET /repository/releases/org/acme/lib/1.0/lib-1.0.jar HTTP/1.1\r\nHost: x\r\nX: 0\r\nX: 1\r\nX: 2\r\nX: 3\r\nX: 4\r\nX: 5\r\nX: 6\r\nX: 7\r\nX: 8\r\nX: 9\r\nX: 10\r\nX: 11\r\nX: 12\r\nX: 13\r\nX: 14\r\nX: 15\r\nX: 16\r\nX: 17\r\nX: 18\r\nX: 19\r\nX: 20\r\nX: 21\r\nX: 22\r\nX: 23\r\nX: 24\r\nX: 25\r\nX: 26\r\nX: 27\r\nX: 28\r\nX: 29\r\nX: 30\r\nX: 31\r\nX: 32\r\nX: 33\r\nX: 34\r\nX: 35\r\nX: 36\r\nX: 37\r\nX: 38\r\nX: 39\r\nX: 40\r\nX: 41\r\nX: 42\r\nX: 43\r\nX: 44\r\nX: 45\r\nX: 46\r\nX: 47\r\nX: 48\r\nX: 49\r\nX: 50\r\nX: 51\r\nX: 52\r\nX: 53\r\nX: 54\r\nX: 55\r\nX: 56\r\nX: 57\r\nX: 58\r\nX: 59\r\nX: 60\r\nX: 61\r\nX: 62\r\n\r\n",
+        )],
         answers: &[(1, NOT_THERE)],
         line: "calls 1 end Closed\n",
         ..EXCHANGE
@@ -131,7 +302,10 @@ static JUDGED: [Exchange; 24] = [
     },
     Exchange {
         name: "blank lines before a head are passed over",
-        input: &[(1, "\r\n\r\nGET /repository/releases/org/acme/lib/1.0/lib-1.0.jar HTTP/1.1\r\nHost: x\r\n\r\n")],
+        input: &[(
+            1,
+            "\r\n\r\nGET /repository/releases/org/acme/lib/1.0/lib-1.0.jar HTTP/1.1\r\nHost: x\r\n\r\n",
+        )],
         answers: &[(1, NOT_THERE)],
         line: "calls 1 end Closed\n",
         ..EXCHANGE
@@ -139,20 +313,41 @@ static JUDGED: [Exchange; 24] = [
     Exchange {
         name: "a connection has a thousand requests",
         input: &[(1001, "GET /api/status HTTP/1.1\r\nHost: x\r\n\r\n")],
-        answers: &[(999, "HTTP/1.1 200 OK\r\nContent-Type: text/plain\r\nContent-Length: 49\r\n\r\nfiles 0\nfading 0\ncached 0\ndocuments 0\nsessions 0\n"), (1, "HTTP/1.1 200 OK\r\nContent-Type: text/plain\r\nContent-Length: 49\r\nConnection: close\r\n\r\nfiles 0\nfading 0\ncached 0\ndocuments 0\nsessions 0\n")],
+        answers: &[
+            (
+                999,
+                "HTTP/1.1 200 OK\r\nContent-Type: text/plain\r\nContent-Length: 49\r\n\r\nfiles 0\nfading 0\ncached 0\ndocuments 0\nsessions 0\n",
+            ),
+            (
+                1,
+                "HTTP/1.1 200 OK\r\nContent-Type: text/plain\r\nContent-Length: 49\r\nConnection: close\r\n\r\nfiles 0\nfading 0\ncached 0\ndocuments 0\nsessions 0\n",
+            ),
+        ],
         line: "calls 1000 end TurnLimit\n",
         ..EXCHANGE
     },
     Exchange {
         name: "a body that stays unread ends the connection",
-        input: &[(1, "PUT /repository/snapshots/org/acme/lib/1.0/lib-1.0.jar HTTP/1.1\r\nHost: x\r\nContent-Length: 3\r\n\r\nabc"), (1, GET)],
+        input: &[
+            (
+                1,
+                "PUT /repository/snapshots/org/acme/lib/1.0/lib-1.0.jar HTTP/1.1\r\nHost: x\r\nContent-Length: 3\r\n\r\nabc",
+            ),
+            (1, GET),
+        ],
         answers: &[(1, KIND_REFUSED_LAST)],
         line: "calls 1 end Closed\n",
         ..EXCHANGE
     },
     Exchange {
         name: "a DELETE and then a GET",
-        input: &[(1, "DELETE /repository/releases/org/acme/lib/1.0/lib-1.0.jar HTTP/1.1\r\nHost: x\r\n\r\n"), (1, GET)],
+        input: &[
+            (
+                1,
+                "DELETE /repository/releases/org/acme/lib/1.0/lib-1.0.jar HTTP/1.1\r\nHost: x\r\n\r\n",
+            ),
+            (1, GET),
+        ],
         answers: &[(1, METHOD_AT_HOSTED), (1, NOT_THERE)],
         line: "calls 1 end Closed\n",
         ..EXCHANGE

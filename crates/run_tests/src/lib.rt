@@ -3,15 +3,11 @@
 #![tactic(auto)]
 
 #[cfg(test)]
+mod continued;
+#[cfg(test)]
 mod cores;
 #[cfg(test)]
 mod exchanges;
-#[cfg(test)]
-mod lock_step;
-#[cfg(test)]
-mod runs;
-#[cfg(test)]
-mod continued;
 #[cfg(test)]
 mod judged;
 #[cfg(test)]
@@ -19,7 +15,11 @@ mod lengths;
 #[cfg(test)]
 mod literals;
 #[cfg(test)]
+mod lock_step;
+#[cfg(test)]
 mod paths;
+#[cfg(test)]
+mod runs;
 #[cfg(test)]
 mod sides;
 #[cfg(test)]

@@ -18,8 +18,7 @@ pub const ABC: &str =
 pub const ABC_LAST: &str =
     "HTTP/1.1 200 OK\r\nContent-Type: application/octet-stream\r\nContent-Length: 3\r\nX-Checksum-SHA1: a9993e364706816aba3e25717850c26c9cd0d89d\r\nX-Checksum-MD5: 900150983cd24fb0d6963f7d28e17f72\r\nConnection: close\r\n\r\nabc";
 
-pub const INTERIM: &str =
-    "HTTP/1.1 100 Continue\r\n\r\n";
+pub const INTERIM: &str = "HTTP/1.1 100 Continue\r\n\r\n";
 
 pub const AGREED: &str =
     "HTTP/1.1 201 Created\r\nContent-Type: text/plain\r\nContent-Length: 7\r\n\r\nagreed\n";

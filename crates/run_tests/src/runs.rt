@@ -143,7 +143,14 @@ fn run_of(alloc: Global, exchange: &Exchange, most: usize) -> Result<Over, Alloc
     let mut out = MemSink::new(alloc, exchange.script.line_room, FaultScript::none(alloc))?;
     let desks = desks_of(alloc, exchange.input, exchange.script, most)?;
     let clock = ScriptClock::stepping(alloc, 1_709_208_000, 0);
-    let ran = run(alloc, words.as_slice(), &mut settings, desks, clock, &mut out);
+    let ran = run(
+        alloc,
+        words.as_slice(),
+        &mut settings,
+        desks,
+        clock,
+        &mut out,
+    );
     Ok(Over { ran, out })
 }
 
@@ -164,7 +171,17 @@ fn wrong_pieces(alloc: Global, exchange: &Exchange) -> Result<Option<usize>, All
 
 /// The first exchange that does not go as it has to, and its pieces.
 fn first_wrong(alloc: Global) -> Result<Option<(&'static str, usize)>, AllocError> {
-    for exchanges in [files(), sides(), paths(), snapshots(), judged(), continued(), lengths(), ends(), faults()] {
+    for exchanges in [
+        files(),
+        sides(),
+        paths(),
+        snapshots(),
+        judged(),
+        continued(),
+        lengths(),
+        ends(),
+        faults(),
+    ] {
         for exchange in exchanges {
             if let Some(most) = wrong_pieces(alloc, exchange)? {
                 return Ok(Some((exchange.name, most)));
