@@ -100,8 +100,20 @@ fn builds_are_ranked_and_not_files(rt: HostRuntime) -> Result<(), Fail> {
     assert_eq!(rt; bench.put_at(JAR_1, 1_000)?, Did::Created);
     assert_eq!(rt; bench.put_at(POM_1, 1_001)?, Did::Created);
     assert_eq!(rt; bench.put_at(POM_2, 1_002)?, Did::Created);
-    assert_eq!(rt; bench.put_at("org/acme/lib/1.1-SNAPSHOT/lib-1.1-20240301.080000-2.jar", 1_003)?, Did::Created);
-    assert_eq!(rt; bench.put_at("org/acme/lib/1.1-SNAPSHOT/lib-1.1-20240301.080000-2-sources.jar", 1_004)?, Did::Created);
+    assert_eq!(rt;
+        bench.put_at(
+            "org/acme/lib/1.1-SNAPSHOT/lib-1.1-20240301.080000-2.jar",
+            1_003
+        )?,
+        Did::Created
+    );
+    assert_eq!(rt;
+        bench.put_at(
+            "org/acme/lib/1.1-SNAPSHOT/lib-1.1-20240301.080000-2-sources.jar",
+            1_004
+        )?,
+        Did::Created
+    );
     expect_due(&rt, &bench, 9_000_000, &[])?;
     // the moment of a build is that of its last file
     assert_eq!(rt; bench.put_at(JAR_3, 1_005)?, Did::Created);
@@ -125,9 +137,11 @@ fn releases_stay(rt: HostRuntime) -> Result<(), Fail> {
 // In byte order a directory with two builds stands between two files of the directory above it.
 const ABOVE_1: &str = "g/a/1-SNAPSHOT/a-1-20240229.235959-1.jar";
 
-const BELOW_1: &str = "g/a/1-SNAPSHOT/a-1-20240229.235959-9/2-SNAPSHOT/a-1-20240229.235959-9-2-20240101.000000-1.jar";
+const BELOW_1: &str =
+    "g/a/1-SNAPSHOT/a-1-20240229.235959-9/2-SNAPSHOT/a-1-20240229.235959-9-2-20240101.000000-1.jar";
 
-const BELOW_2: &str = "g/a/1-SNAPSHOT/a-1-20240229.235959-9/2-SNAPSHOT/a-1-20240229.235959-9-2-20240101.000000-2.jar";
+const BELOW_2: &str =
+    "g/a/1-SNAPSHOT/a-1-20240229.235959-9/2-SNAPSHOT/a-1-20240229.235959-9-2-20240101.000000-2.jar";
 
 const ABOVE_2: &str = "g/a/1-SNAPSHOT/a-1-20240229.235959-9.jar";
 
@@ -138,10 +152,7 @@ const BESIDE: &str = "g/a/1.0-SNAPSHOT/a-1.0-20240101.000000-1.jar";
 #[test]
 fn deeper_directories_are_ranked_apart(rt: HostRuntime) -> Result<(), Fail> {
     let mut bench = Bench::kept(rt.alloc(), 1, 0)?;
-    bench.fill(
-        &rt,
-        &[ABOVE_1, BELOW_1, BELOW_2, ABOVE_2, ABOVE_3, BESIDE],
-    )?;
+    bench.fill(&rt, &[ABOVE_1, BELOW_1, BELOW_2, ABOVE_2, ABOVE_3, BESIDE])?;
     expect_due(&rt, &bench, 9_000_000_000, &[ABOVE_1, ABOVE_2, BELOW_1])?;
     assert_eq!(rt; bench.repo.unlist(9_000_000_000)?, 3);
     // once unlisted they are neither due nor ranked
@@ -239,7 +250,11 @@ fn unlisted_rows_are_answered_and_not_named(rt: HostRuntime) -> Result<(), Fail>
     bench.expect_document(&rt, OF_SNAPSHOT, POM_ALONE)?;
     bench.expect_document(&rt, OF_LIB, UPDATED_AT_1000)?;
     bench.expect_file(&rt, JAR_1, A, B)?;
-    bench.expect_side(&rt, "org/acme/lib/1.1-SNAPSHOT/lib-1.1-20240229.235959-1.jar.md5", B)?;
+    bench.expect_side(
+        &rt,
+        "org/acme/lib/1.1-SNAPSHOT/lib-1.1-20240229.235959-1.jar.md5",
+        B,
+    )?;
     assert_eq!(rt; bench.repo.unlist(2_001)?, 0);
     Ok(())
 }
