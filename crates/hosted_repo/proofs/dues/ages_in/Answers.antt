@@ -1,4 +1,4 @@
-use Rattle.std.proofs.Common.{◌≡◌, ℕ, true, cond, [], ◌∷◌, ◌++◌, length, drop, map, List, Some, None, string_bytes, refl, sym, ap, ◌∙◌, subst}
+use Rattle.std.proofs.Common.{ℕ, true, cond, [], ◌∷◌, ◌++◌, length, drop, map, List, Some, None, string_bytes, refl, sym, ap, ◌∙◌, subst}
 use Rattle.std.specs.Map.Iter.{deref_pair}
 use Rattle.std.proofs.lemmas.Map.Iter.{iter_end, rest_so_far}
 use Rattle.std.proofs.lemmas.Str.Pattern.{starts_text}

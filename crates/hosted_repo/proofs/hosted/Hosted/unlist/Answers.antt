@@ -1,4 +1,4 @@
-use Rattle.std.proofs.Common.{◌≡◌, List, length, map, string_bytes, sym, ap, ◌∙◌, arith}
+use Rattle.std.proofs.Common.{List, length, map, string_bytes, ap, ◌∙◌, arith}
 use Rattle.std.proofs.lemmas.List.{length-map}
 use Rattle.repo_model.specs.Data as plain
 use Rattle.repo_model.specs.Effect.{Effect, fades}
