@@ -1,6 +1,6 @@
 -- The blobs of rows that go: each is in use, stands among them once, and is no remaining row's.
 use native.Mathlib.Omega.{arith}
-use Rattle.std.proofs.Common.{◌≡◌, ℕ, ◌+◌, ◌<◌, ◌≤◌, ◌==◌, Bool, true, false, not, cond, ◌||◌, List, [], ◌∷◌, ◌++◌, length, map, take, zero, suc, refl, sym, ap, ◌∙◌, subst}
+use Rattle.std.proofs.Common.{◌≡◌, ℕ, ◌+◌, ◌<◌, ◌≤◌, ◌==◌, Bool, true, false, not, cond, ◌||◌, List, [], ◌∷◌, ◌++◌, map, take, zero, suc, refl, sym, ap, ◌∙◌}
 use Rattle.std.specs.Prelude.{IsTrue, count_by, filter, nat_lt}
 use Rattle.std.specs.List.{AllByRecursion, flat_map}
 use Rattle.std.proofs.lemmas.Bool.{false≢true}
@@ -10,14 +10,14 @@ use Rattle.std.proofs.lemmas.List.Sums.{sum_by-append, sum_by-cons}
 use Rattle.repo_model.specs.Data.{Row, Hosted}
 use Rattle.repo_model.specs.Settings.{Settings}
 use Rattle.repo_model.specs.State.{State, Yard, is_among}
-use Rattle.repo_model.specs.Effect.{Effect, expires, condemning, with_effect, with_effects, with_number, without_number}
+use Rattle.repo_model.specs.Effect.{Effect, expires, condemning, with_effects, without_number}
 use Rattle.repo_model.specs.Purge.{expired_of, expire_all, is_over, most_rows}
-use Rattle.repo_laws.specs.Laws.{count_of, rows_with, places_of}
+use Rattle.repo_laws.specs.Laws.{count_of, rows_with}
 use Rattle.repo_laws.specs.Sound.{AreByPath, AreNamedApart, OnePlace, Sound}
 use Rattle.repo_laws.proofs.ByPath.{all-apart, rows-kept}
 use Rattle.repo_laws.proofs.Counts.{count-cons, count-with_number, one_if}
 use Rattle.repo_laws.proofs.Histories.{all-keep}
-use Rattle.repo_laws.proofs.Lists.{all-take, all-then}
+use Rattle.repo_laws.proofs.Lists.{all-take}
 use Rattle.repo_laws.proofs.Making.{all-append}
 use Rattle.repo_laws.proofs.Places.{one-place-kept}
 use Rattle.repo_laws.proofs.Purges.{expires-all}
@@ -179,9 +179,9 @@ module _ (grace now : ℕ) where
       none-gone yard n some =
           let all : count_of n left.yard.condemned ≡ count_of n gone + count_of n s.yard.condemned = ap (λ (y : Yard). count_of n y.condemned) yard ∙ count-condemned n gone s.yard in
           by (nat_lt n left.yard.next_draft) refl all where
-        by : (b : Bool) → nat_lt n left.yard.next_draft ≡ b → count_of n left.yard.condemned ≡ count_of n gone + count_of n s.yard.condemned → count_of n gone ≡ 0
-        by true is all = let drawn : n < left.yard.next_draft = ltb-true n left.yard.next_draft is in omega (arith, places-left.drawn n drawn, all, some)
-        by false is all = let later : left.yard.next_draft ≤ n = ltb-false n left.yard.next_draft is in omega (arith, places-left.later n later, all, some)
+            by : (b : Bool) → nat_lt n left.yard.next_draft ≡ b → count_of n left.yard.condemned ≡ count_of n gone + count_of n s.yard.condemned → count_of n gone ≡ 0
+            by true is all = let drawn : n < left.yard.next_draft = ltb-true n left.yard.next_draft is in omega (arith, places-left.drawn n drawn, all, some)
+            by false is all = let later : left.yard.next_draft ≤ n = ltb-false n left.yard.next_draft is in omega (arith, places-left.later n later, all, some)
 
 -- rows of which no blob goes stay in use
 rows-still : (ns kept : List ℕ) (rows : List Row) → ((n : ℕ) → 1 ≤ count_by (λ (row : Row). row.blob.number == n) rows → count_of n ns ≡ 0) → RowsUsed kept rows → RowsUsed (kept_without ns kept) rows
@@ -196,8 +196,7 @@ pub all-still : (ns kept : List ℕ) (hosted : List Hosted) → ((n : ℕ) → 1
 all-still ns kept [] none used = tt
 all-still ns kept (h ∷ hosted) none used =
     let per : ℕ → Hosted → ℕ = λ n g. count_by (λ (row : Row). row.blob.number == n) g.rows in
-    let more : (n : ℕ) → rows_with n (h ∷ hosted) ≡ per n h + rows_with n hosted = λ n. sum_by-cons (per n) h hosted in
-    (
+    let more : (n : ℕ) → rows_with n (h ∷ hosted) ≡ per n h + rows_with n hosted = λ n. sum_by-cons (per n) h hosted in (
       rows-still ns kept h.rows (λ n some. none n (omega (arith, more n, some))) used.0,
       all-still ns kept hosted (λ n some. none n (omega (arith, more n, some))) used.1,
     )

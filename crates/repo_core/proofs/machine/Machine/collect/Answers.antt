@@ -32,10 +32,10 @@ invariant_of-self g c =
     let grace = c.self.inside.settings.grace in
     let last = c.self.inside.last in
     let orderly = rw (← c.self.view_is) at c.requires in
-    let blobs_so : c.deref-3.result.now ≡ map blob_of (expire_all grace last items) = 
+    let blobs_so : c.deref-3.result.now ≡ map blob_of (expire_all grace last items) =
     c.deref-3.ensures.value ∙ c.in-Ok.ensures.blobs ∙ ap (λ seconds. map blob_of (expire_all seconds last c.deref.result.now)) c.grace_seconds-grace.ensures
     ∙ ap (λ hs. map blob_of (expire_all grace last hs)) c.deref.ensures.value in
-    let counts_so : c.deref-2.result.now ≡ shares grace last most_rows items = 
+    let counts_so : c.deref-2.result.now ≡ shares grace last most_rows items =
     c.deref-2.ensures.value ∙ c.in-Ok.ensures.counts ∙ ap (λ seconds. shares seconds last most_rows c.deref.result.now) c.grace_seconds-grace.ensures
     ∙ ap (λ hs. shares grace last most_rows hs) c.deref.ensures.value in
     let hosted_so : c.drop_expired.new.repos.items ≡ dropped_by grace last (shares grace last most_rows items) items =
@@ -60,7 +60,7 @@ returns g c =
     let told : c.in-Ok.gone.blobs.items ≡ map blob_of gone =
     c.in-Ok.ensures.blobs ∙ ap (λ seconds. map blob_of (expire_all seconds last c.deref.result.now)) c.grace_seconds-grace.ensures ∙ ap (λ hs. map blob_of (expire_all grace last hs)) c.deref.ensures.value in
     let blobs_so : c.deref-3.result.now ≡ map blob_of gone = c.deref-3.ensures.value ∙ told in
-    let counts_so : c.deref-2.result.now ≡ shares grace last most_rows items = 
+    let counts_so : c.deref-2.result.now ≡ shares grace last most_rows items =
     c.deref-2.ensures.value ∙ c.in-Ok.ensures.counts ∙ ap (λ seconds. shares seconds last most_rows c.deref.result.now) c.grace_seconds-grace.ensures
     ∙ ap (λ hs. shares grace last most_rows hs) c.deref.ensures.value in
     let hosted_so : c.drop_expired.new.repos.items ≡ dropped_by grace last (shares grace last most_rows items) items =

@@ -19,15 +19,15 @@ invariant_of-self g c =
     let items = c.self.inside.repos.items in
     elim c.match-unlist.branch [
       | in-Ok w ↦ record {
-          moment = c.self.invariant.moment;
-          blobs = subst (AreInUse kept) (sym w.in-Ok.ensures.rows) (unlisted-used kept c.args.repo.now c.self.inside.last items c.self.invariant.blobs);
-          rules = ap rules_of w.in-Ok.ensures.rows ∙ rules-kept c.args.repo.now _ items ∙ c.self.invariant.rules;
-        }
+        moment = c.self.invariant.moment;
+        blobs = subst (AreInUse kept) (sym w.in-Ok.ensures.rows) (unlisted-used kept c.args.repo.now c.self.inside.last items c.self.invariant.blobs);
+        rules = ap rules_of w.in-Ok.ensures.rows ∙ rules-kept c.args.repo.now _ items ∙ c.self.invariant.rules;
+      }
       | in-Err w ↦ record {
-          moment = c.self.invariant.moment;
-          blobs = subst (AreInUse kept) (sym w.in-Err.ensures.err) c.self.invariant.blobs;
-          rules = ap rules_of w.in-Err.ensures.err ∙ c.self.invariant.rules;
-        }
+        moment = c.self.invariant.moment;
+        blobs = subst (AreInUse kept) (sym w.in-Err.ensures.err) c.self.invariant.blobs;
+        rules = ap rules_of w.in-Err.ensures.err ∙ c.self.invariant.rules;
+      }
     ]
 
 pub returns : goal.returns
