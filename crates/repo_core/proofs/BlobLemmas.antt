@@ -1,6 +1,6 @@
 -- The blobs of rows that go: each is in use, stands among them once, and is no remaining row's.
 use native.Mathlib.Omega.{arith}
-use Rattle.std.proofs.Common.{◌≡◌, ℕ, ◌+◌, ◌<◌, ◌≤◌, ◌==◌, Bool, true, false, not, cond, ◌||◌, List, [], ◌∷◌, ◌++◌, length, map, take, zero, suc, refl, sym, ap, ◌∙◌, subst}
+use Rattle.std.proofs.Common.{◌≡◌, ℕ, ◌+◌, ◌<◌, ◌≤◌, ◌==◌, Bool, true, false, not, cond, ◌||◌, List, [], ◌∷◌, ◌++◌, map, take, zero, suc, refl, sym, ap, ◌∙◌}
 use Rattle.std.specs.Prelude.{IsTrue, count_by, filter, nat_lt}
 use Rattle.std.specs.List.{AllByRecursion, flat_map}
 use Rattle.std.proofs.lemmas.Bool.{false≢true}
@@ -10,14 +10,14 @@ use Rattle.std.proofs.lemmas.List.Sums.{sum_by-append, sum_by-cons}
 use Rattle.repo_model.specs.Data.{Row, Hosted}
 use Rattle.repo_model.specs.Settings.{Settings}
 use Rattle.repo_model.specs.State.{State, Yard, is_among}
-use Rattle.repo_model.specs.Effect.{Effect, expires, condemning, with_effect, with_effects, with_number, without_number}
+use Rattle.repo_model.specs.Effect.{Effect, expires, condemning, with_effects, without_number}
 use Rattle.repo_model.specs.Purge.{expired_of, expire_all, is_over, most_rows}
-use Rattle.repo_laws.specs.Laws.{count_of, rows_with, places_of}
+use Rattle.repo_laws.specs.Laws.{count_of, rows_with}
 use Rattle.repo_laws.specs.Sound.{AreByPath, AreNamedApart, OnePlace, Sound}
 use Rattle.repo_laws.proofs.ByPath.{all-apart, rows-kept}
 use Rattle.repo_laws.proofs.Counts.{count-cons, count-with_number, one_if}
 use Rattle.repo_laws.proofs.Histories.{all-keep}
-use Rattle.repo_laws.proofs.Lists.{all-take, all-then}
+use Rattle.repo_laws.proofs.Lists.{all-take}
 use Rattle.repo_laws.proofs.Making.{all-append}
 use Rattle.repo_laws.proofs.Places.{one-place-kept}
 use Rattle.repo_laws.proofs.Purges.{expires-all}

@@ -1,15 +1,14 @@
 -- What the loops of the purge keep.
 use native.Mathlib.Omega.{arith}
-use Rattle.std.proofs.Common.{◌≡◌, ℕ, ◌+◌, ◌-◌, ◌<◌, ◌≤◌, min, List, [], ◌∷◌, ◌++◌, length, map, take, drop, get_or, set, zero, suc, refl, sym, ap, ◌∙◌, subst, add-one}
+use Rattle.std.proofs.Common.{◌≡◌, ℕ, ◌+◌, ◌-◌, ◌<◌, ◌≤◌, min, List, [], ◌∷◌, ◌++◌, length, map, take, drop, get_or, set, suc, refl, sym, ap, ◌∙◌, subst}
 use Rattle.std.specs.List.{flat_map}
 use Rattle.std.proofs.lemmas.List.{append_assoc, drop_more, length-map, length-take, length-take-le, map-append, take_more}
 use Rattle.hosted_repo.specs.Expired.{shown_expired}
 use Rattle.hosted_repo.specs.Rows.{rows_after_all}
 use Rattle.hosted_repo.specs.declared.purge.Expired.{Expired}
 use Rattle.repo_model.specs.Data.{Hosted}
-use Rattle.repo_model.specs.Effect.{Effect, condemning, without_number}
+use Rattle.repo_model.specs.Effect.{condemning, without_number}
 use Rattle.repo_model.specs.Purge.{expire_all, expired_of, most_rows}
-use Rattle.repo_model.specs.State.{Yard}
 use Rattle.blob_yard.specs.Numbers.{Numbers}
 use Rattle.repo_core.specs.Purge.{AreKeptOnce, blob_of, condemned_by, dropped_by, kept_without, shares}
 use Rattle.repo_core.proofs.BlobLemmas.{map-both}

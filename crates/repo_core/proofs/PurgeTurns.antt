@@ -1,14 +1,14 @@
 -- Unlist and Collect, as turns of the machine.
-use Rattle.std.proofs.Common.{◌≡◌, ℕ, ◌<◌, ◌≤◌, get_or, set, List, [], ◌∷◌, ◌++◌, length, map, Option, Some, None, Result, Ok, Err, inl, inr, refl, sym, ap, ◌∙◌, subst}
+use Rattle.std.proofs.Common.{◌≡◌, ℕ, ◌<◌, ◌≤◌, get_or, set, List, [], ◌∷◌, length, map, Option, Some, None, Result, Ok, Err, inl, inr, refl, sym, ap, ◌∙◌, subst}
 use Rattle.std.specs.Prelude.{IfOk, OnErr, OnOk, find}
 use Rattle.std.specs.Option.{option_map_or}
 use Rattle.std.proofs.lemmas.List.{get_or_default}
 use Rattle.hosted_repo.specs.Rows.{rows_after_all}
 use Rattle.repo_model.specs.Command.{collect, unlist}
 use Rattle.repo_model.specs.Data.{Row, Hosted}
-use Rattle.repo_model.specs.Effect.{Effect, forgets, with_effect, with_effects, yard_after}
+use Rattle.repo_model.specs.Effect.{forgets, with_effect, with_effects, yard_after}
 use Rattle.repo_model.specs.Purge.{due_rows, expire_all, fade_all, most_rows}
-use Rattle.repo_model.specs.Reply.{Reply, collected, no_memory, unlisted}
+use Rattle.repo_model.specs.Reply.{collected, no_memory, unlisted}
 use Rattle.repo_model.specs.State.{State, Yard, change_first, hosted_of, is_repository}
 use Rattle.repo_model.specs.Turn.{unlent, unlist_of}
 use Rattle.repo_laws.specs.Laws.{rows_with}
