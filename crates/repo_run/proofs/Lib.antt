@@ -2,3 +2,4 @@ pub mod Desks
 pub mod Served
 pub mod Alone
 pub mod Drawn
+pub mod Starved

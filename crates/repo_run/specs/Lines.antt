@@ -1,6 +1,7 @@
 -- The lines that a run prints (the project's own texts).
 use Rattle.std.specs.Prelude.{ℕ, List, ◌++◌, Option, Some, None, codes}
 use Rattle.std.specs.Fmt.{decimal}
+use Rattle.std.specs.Option.{option_map}
 use Rattle.repo_course.specs.declared.outcomes.End.{End}
 use Rattle.repo_course.specs.declared.outcomes.End.TheVariants.{Closed, TornRequest, TurnLimit, SourceFault, SinkFault}
 use Rattle.repo_course.specs.Answers.{line}
@@ -40,3 +41,6 @@ fault_text NoMemory = None
 
 abbrev pub settings_line : List ℕ → List ℕ
 settings_line text = line (codes "mvnrepod: settings " ++ text)
+
+abbrev pub refusal_line : SettingsFault → Option (List ℕ)
+refusal_line refusal = option_map settings_line (fault_text refusal)

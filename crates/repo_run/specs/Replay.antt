@@ -1,7 +1,6 @@
 -- A replay: settings are read, the first connection of a desk is served by a repository of these that begins empty, and given back.
 use Rattle.std.specs.List.{AllByRecursion}
-use Rattle.std.specs.Prelude.{◌≡◌, ◌≢◌, ◌⊎◌, ℕ, List, [], ◌∷◌, length, Option, Some, None, Ok, Err, IfSome}
-use Rattle.std.specs.Option.{option_map}
+use Rattle.std.specs.Prelude.{◌≡◌, ◌≢◌, ◌⊎◌, ℕ, List, [], ◌∷◌, length, Option, Some, None, Ok, Err}
 use Rattle.outside.specs.Faults.{Rose}
 use Rattle.outside.specs.Moments.{Moments}
 use Rattle.outside.specs.Told.{behind, in_front, IsAtEnd}
@@ -16,13 +15,14 @@ use Rattle.repo_course.specs.Serving.{Serves}
 use Rattle.course_laws.specs.AsPlayed.{IsAsPlayed, IsPlayedUpTo, NoFaults, StoodStill}
 use Rattle.course_laws.specs.Endings.{EndsByCause}
 use Rattle.course_laws.specs.Faultless.{Played, first_scene, play_stream}
-use Rattle.repo_config.specs.Refusal.{IsFault, reading}
+use Rattle.repo_config.specs.Source.{IsReadFrom}
+use Rattle.repo_config.specs.declared.source.SourceFault.TheVariants.{Refused}
 use Rattle.repo_config.specs.declared.faults.SettingsFault.{SettingsFault}
 use Rattle.repo_model.specs.Settings.{Settings}
 use Rattle.repo_run.specs.declared.actions.Action.{Action}
 use Rattle.repo_run.specs.declared.actions.Action.TheVariants.{Replay, Nothing}
 use Rattle.repo_run.specs.FirstConnection.{Makes}
-use Rattle.repo_run.specs.Lines.{words_line, input_line, memory_line, ending_line, fault_text, settings_line}
+use Rattle.repo_run.specs.Lines.{words_line, input_line, memory_line, ending_line, refusal_line}
 use Rattle.repo_run.specs.Status.{HasStatus, Counts}
 use Rattle.repo_run.specs.Surroundings.{Connection, DeskState, File, Output, PrintsWhole, PrintsPart, Prints, outside_at}
 
@@ -86,7 +86,7 @@ ReportsFirst None calls old new status = Prints input_line old new × (status �
 -- why settings are refused, and that they are; or memory was wanting for the line, or for the reading itself
 abbrev pub Refuses : SettingsFault → Output → Output → ℕ → Type 0
 Refuses refusal old new status =
-    ((text : List ℕ) × (fault_text refusal ≡ Some text) × Prints (settings_line text) old new × (status ≡ 3))
+    ((line : List ℕ) × (refusal_line refusal ≡ Some line) × Prints line old new × (status ≡ 3))
     ⊎ (Prints memory_line old new × (status ≡ 8))
 
 abbrev pub counts : Connection → Output → Counts
@@ -111,9 +111,9 @@ pub data ServesWith {X : Type 0} (tells : Type 0) (settings : Settings) (connect
 pub data Replays {X : Type 0} (tells : Type 0) (connection_of : X → Connection) (source source' : File) (clock clock' : Option Moments) (old new : DeskState X) (out out' : Output) (status : ℕ) : Type 0 where
   not_read : Rose source.faults source'.faults → new ≡ old → clock' ≡ clock → Prints input_line out out' → status ≡ 6
       → Replays tells connection_of source source' clock clock' old new out out' status
-  refused : (refusal : SettingsFault) → source'.faults ≡ source.faults → IfSome source.left (λ text. IsFault (reading text) refusal) → new ≡ old → clock' ≡ clock
+  refused : (refusal : SettingsFault) → source'.faults ≡ source.faults → IsReadFrom source.left (Err (Refused refusal)) → new ≡ old → clock' ≡ clock
       → Refuses refusal out out' status → Replays tells connection_of source source' clock clock' old new out out' status
-  accepted : (settings : Settings) → source'.faults ≡ source.faults → IfSome source.left (λ text. reading text ≡ Ok settings)
+  accepted : (settings : Settings) → source'.faults ≡ source.faults → IsReadFrom source.left (Ok settings)
       → ServesWith tells settings connection_of clock clock' old new out out' status
       → Replays tells connection_of source source' clock clock' old new out out' status
 

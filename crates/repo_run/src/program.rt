@@ -1,9 +1,9 @@
 //! A run of the program: its words, its settings, its one connection, its line and its status.
-ghost use Rattle.std.specs.Prelude.{◌≡◌, ◌<◌, map, vec_len, MatchBool};
+ghost use Rattle.std.specs.Prelude.{◌≡◌, ◌<◌, map, vec_len, IfErr, IfOk};
 ghost use Rattle.std.specs.String.{string_bytes};
 ghost use Rattle.repo_course.specs.Serving.{AllTell};
 ghost use Rattle.repo_run.specs.FirstConnection.{ServesFirst};
-ghost use Rattle.repo_run.specs.Replay.{Replays, Runs, ServesWith};
+ghost use Rattle.repo_run.specs.Replay.{Replays, Runs, ServesWith, opened};
 ghost use Rattle.repo_run.specs.Status.{MatchAction};
 ghost use Rattle.repo_run.specs.Surroundings.{FirstOnly, connection, desk_state, file, output};
 ghost use Rattle.repo_run.specs.Words.{asked};
@@ -11,7 +11,7 @@ ghost use Rattle.repo_run.specs.Words.{asked};
 use crate::actions::Action;
 use crate::reports::{INPUT, NO_MEMORY, REFUSED, fault, refuse, report_first};
 use crate::words::wanted;
-use outside::{Blobs, Clock, Port, Sink, Source};
+use outside::{Blobs, Clock, Held, NoMemory, Port, Sink, Source};
 use repo_config::{Settings, SourceFault, read_from};
 use repo_core::Core;
 use repo_course::End;
@@ -58,6 +58,25 @@ pub fn serve_first<P: Port, B: Blobs, C: Clock>(
     }
 }
 
+/// The core of these settings before its first call. Where memory is wanting the clock comes back as it was.
+fn core_of<C: Clock, H: Held>(
+    alloc: Global,
+    settings: &Settings,
+    clock: C,
+) -> Result<Core<C, H>, (NoMemory, C)>
+    ensures ok { IfOk result (λ core. core ≡ opened settings.now (C.moments clock)) }
+    ensures err { IfErr result (λ error. error.1 ≡ clock) }
+{
+    let own = match settings.copied(alloc) {
+        Ok(own) => own,
+        Err(error) => return Err((error, clock)),
+    };
+    match Core::plain(alloc, own, clock) {
+        Ok(core) => Ok(core),
+        Err(error) => Err(error),
+    }
+}
+
 /// Serves the first connection of the first desk from an empty repository of these settings, and prints how it ended.
 fn serve<P: Port, B: Blobs, C: Clock, O: Sink>(
     alloc: Global,
@@ -75,15 +94,7 @@ fn serve<P: Port, B: Blobs, C: Clock, O: Sink>(
         (output (O.taken out.old) (O.write_faults out.old)) (output (O.taken out.new) (O.write_faults out.new)) result.status)
         desks.items result.desks.items }
 {
-    let Ok(own) = settings.copied(alloc) else {
-        let status = fault(out, b"mvnrepod: memory\n", NO_MEMORY);
-        return Ran {
-            status,
-            desks,
-            clock,
-        };
-    };
-    let mut core: Core<C, B::Held> = match Core::plain(alloc, own, clock) {
+    let mut core: Core<C, B::Held> = match core_of(alloc, settings, clock) {
         Ok(core) => core,
         Err((_, clock)) => {
             let status = fault(out, b"mvnrepod: memory\n", NO_MEMORY);

@@ -1,7 +1,6 @@
 //! What a run prints, and the statuses that it ends with.
-ghost use Rattle.std.specs.Prelude.{◌≡◌, ◌++◌, IfOk, MatchBool};
-ghost use Rattle.std.specs.Option.{option_map};
-ghost use Rattle.repo_run.specs.Lines.{end_name, ending_line, fault_text, settings_line};
+ghost use Rattle.std.specs.Prelude.{◌≡◌, ◌++◌, IfOk, MatchBool, Some};
+ghost use Rattle.repo_run.specs.Lines.{end_name, ending_line, refusal_line, settings_line};
 ghost use Rattle.repo_run.specs.Replay.{Finishes, Refuses, Reports, ReportsFirst};
 ghost use Rattle.repo_run.specs.Surroundings.{Prints, PrintsPart, PrintsWhole, output};
 
@@ -121,7 +120,7 @@ fn settings_line(alloc: Global, name: &str, key: &str) -> Result<Vec<u8>, AllocE
 }
 
 fn line_of(alloc: Global, fault: &SettingsFault) -> Result<Vec<u8>, AllocError>
-    ensures { IfOk result (λ line. option_map settings_line (fault_text fault.now) ≡ Some line.items) }
+    ensures { IfOk result (λ line. refusal_line fault.now ≡ Some line.items) }
 {
     match fault {
         SettingsFault::NotToml => settings_line(alloc, "NotToml", ""),

@@ -5,7 +5,7 @@ use Rattle.repo_run.specs.Replay.{ServesWith, ReportsFirst}
 use Rattle.repo_run.specs.Surroundings.{connection, desk_state, output}
 use Rattle.repo_run.proofs.Desks.{first-set}
 use Rattle.repo_run.proofs.Served.{replays}
-use Rattle.repo_run.proofs.program.replay.Goals as goal
+use Rattle.repo_run.proofs.program.serve.Goals as goal
 
 pub returns : goal.returns
 returns g c =
