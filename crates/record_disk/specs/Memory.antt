@@ -1,7 +1,7 @@
 -- What a disk in memory shows: its trace, its room and which of its calls fail.
 use Rattle.std.specs.Prelude.{◌≡◌, ◌⊎◌, ◌<◌, ◌+◌, ℕ, List, length, refl, Contains}
 use Rattle.std.specs.Coded.{Coded, code_by, coded_ℕ, coded_list, coded×}
-use Rattle.outside.specs.Script.{Script}
+use Rattle.outside_memory.specs.Script.{Script}
 use Rattle.record_disk.specs.Disk.{Trace, content}
 use Rattle.record_disk.specs.Codes.{trace_code}
 

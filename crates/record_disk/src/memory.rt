@@ -1,6 +1,6 @@
 ghost use Rattle.std.specs.Prelude.{◌≡◌, ◌⊎◌, ◌≤◌, ◌<◌, ◌+◌, ◌^◌, length, take, drop, Some, IfOk, IfSome, OnOk, OnErr, MatchResult};
 ghost use Rattle.outside.specs.Faults.{HasCause};
-ghost use Rattle.outside.specs.Script.{script_of};
+ghost use Rattle.outside_memory.specs.Script.{script_of};
 ghost use Rattle.record_disk.specs.Disk.{Opened, After, Write, Cut, Sync, content, Told, MayHave, written};
 ghost use Rattle.record_disk.specs.Memory.{IsDue, FindsNoRoom};
 

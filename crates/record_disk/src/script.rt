@@ -1,6 +1,6 @@
 ghost use Rattle.std.specs.Prelude.{◌≡◌, ◌↔◌, [], IsSome, Contains};
 ghost use Rattle.outside.specs.Faults.{Rose};
-ghost use Rattle.outside.specs.Script.{one_more, script_of};
+ghost use Rattle.outside_memory.specs.Script.{one_more, script_of};
 
 use outside::Failed;
 use std::alloc::Global;
@@ -18,7 +18,7 @@ pub struct DiskScript {
 }
 
 impl Model for DiskScript {
-    ghost use Rattle.outside.specs.Script.{Script};
+    ghost use Rattle.outside_memory.specs.Script.{Script};
 
     ghost Value = { Script };
 

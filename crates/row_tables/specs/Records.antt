@@ -1,7 +1,7 @@
 -- What the answers of records say of their count of faults, and which of them are refusals.
 use Rattle.std.specs.Prelude.{◌≡◌, ℕ, List, Result, Ok, Err}
 use Rattle.outside.specs.Faults.{Rose}
-use Rattle.outside.specs.Script.{Script}
+use Rattle.outside_memory.specs.Script.{Script}
 use Rattle.repo_model.specs.declared.item.Item.{Item}
 use Rattle.row_tables.specs.declared.faults.CommitFault.{CommitFault}
 use Rattle.row_tables.specs.declared.faults.CommitFault.TheVariants as commit

@@ -1,6 +1,6 @@
 ghost use Rattle.std.specs.Prelude.{◌≡◌, [], Some, List, ℕ, OnOk, OnErr, IsErrOf, Contains};
 ghost use Rattle.outside.specs.Faults.{HasCause};
-ghost use Rattle.outside.specs.Script.{script_of};
+ghost use Rattle.outside_memory.specs.Script.{script_of};
 ghost use Rattle.repo_model.specs.Tables.{no_tables};
 ghost use Rattle.row_tables.specs.Applying.{with_items};
 
