@@ -1,4 +1,7 @@
 // Stores of blobs, in memory and in a folder, through their trait, and reads that are checked.
+ghost use Rattle.std.specs.Prelude.{◌≡◌};
+ghost use Rattle.mvn_digest.specs.Digests.{digests_of as digests_in};
+
 use mvn_digest::{Digests, Hashes};
 use outside::{BlobFault, Blobs, CheckFault, Checked, Parcel, adopt_checked, read_checked};
 use outside_memory::{FaultScript, MemBlobs, WrongBlobs};
@@ -11,7 +14,9 @@ const FOLDER: &str = "base_tests_blobs";
 
 const MISSING: &str = "base_tests_missing";
 
-fn digests_of(bytes: &[u8]) -> Digests {
+fn digests_of(bytes: &[u8]) -> Digests
+    ensures { result ≡ digests_in bytes.now }
+{
     let mut hashes = Hashes::new();
     hashes.update(bytes);
     hashes.finish()
@@ -115,13 +120,14 @@ fn a_missing_folder_fails(rt: HostRuntime) -> Result<(), Fail> {
     Ok(())
 }
 
-// The parcel of `abc`, stored under 1 where something else may be read.
-fn abc<B: Blobs>(blobs: &mut B) -> Result<Parcel<B::Held>, BlobFault> {
+// The parcel of a body, stored under 1 where something else may be read.
+fn stored<B: Blobs>(blobs: &mut B, body: &[u8]) -> Result<Parcel<B::Held>, BlobFault> {
+    let held = blobs.store(1, body)?;
     Ok(Parcel {
         blob: 1,
-        held: blobs.store(1, b"abc")?,
-        length: 3,
-        digests: digests_of(b"abc"),
+        held,
+        length: body.len() as u64,
+        digests: digests_of(body),
     })
 }
 
@@ -136,7 +142,7 @@ fn found<T: Drop>(read: Result<T, CheckFault>) -> Option<(u64, Digests)> {
 // Both checked reads of `abc` find these bytes in place of it.
 fn finds(alloc: Global, bytes: &[u8]) -> Result<bool, CheckFault> {
     let mut blobs = WrongBlobs::new(alloc, FaultScript::none(alloc));
-    let parcel = abc(&mut blobs)?;
+    let parcel = stored(&mut blobs, b"abc")?;
     blobs.give(1, bytes).map_err(BlobFault::from)?;
     let print = Some((bytes.len() as u64, digests_of(bytes)));
     let read = found(read_checked(&mut blobs, &parcel)) == print;
