@@ -165,6 +165,13 @@ fn value_of(reply: &Reply<MemHeld>) -> Said {
     }
 }
 
+fn is_text(reply: &Reply<MemHeld>, want: &str) -> bool {
+    match reply {
+        Reply::Text(text) => text.as_bytes() == want.as_bytes(),
+        _ => false,
+    }
+}
+
 /// A core and its blobs.
 #[derive(Drop)]
 pub struct Bench {
@@ -361,13 +368,9 @@ impl Bench {
         path: &'static str,
         want: &str,
     ) -> Result<(), Fail> {
-        match self.look(rt, repo, path)? {
-            Reply::Text(text) => {
-                assert_eq!(rt; text.as_bytes(), want.as_bytes());
-                Ok(())
-            }
-            _ => Err("no text")?,
-        }
+        let reply = self.look(rt, repo, path)?;
+        assert!(rt; is_text(&reply, want));
+        Ok(())
     }
 
     /// A look gives this document, and its digests.
