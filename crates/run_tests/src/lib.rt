@@ -3,11 +3,15 @@
 #![tactic(auto)]
 
 #[cfg(test)]
+mod connections;
+#[cfg(test)]
 mod continued;
 #[cfg(test)]
 mod cores;
 #[cfg(test)]
 mod exchanges;
+#[cfg(test)]
+mod framing;
 #[cfg(test)]
 mod judged;
 #[cfg(test)]

@@ -1,8 +1,10 @@
 // The worked exchanges, each in the pieces that it names, and those where something fails.
 ghost use Rattle.std.specs.Prelude.{◌<◌, IfOk, vec_len};
 
+use crate::connections::connections;
 use crate::continued::continued;
 use crate::exchanges::{Exchange, Parts, Script, ends, faults, files};
+use crate::framing::framing;
 use crate::judged::judged;
 use crate::lengths::lengths;
 use crate::paths::paths;
@@ -169,30 +171,81 @@ fn wrong_pieces(alloc: Global, exchange: &Exchange) -> Result<Option<usize>, All
     Ok(None)
 }
 
-/// The first exchange that does not go as it has to, and its pieces.
-fn first_wrong(alloc: Global) -> Result<Option<(&'static str, usize)>, AllocError> {
-    for exchanges in [
-        files(),
-        sides(),
-        paths(),
-        snapshots(),
-        judged(),
-        continued(),
-        lengths(),
-        ends(),
-        faults(),
-    ] {
-        for exchange in exchanges {
-            if let Some(most) = wrong_pieces(alloc, exchange)? {
-                return Ok(Some((exchange.name, most)));
-            }
+/// The first of these exchanges that does not go as it has to, and its pieces.
+fn first_wrong(
+    alloc: Global,
+    exchanges: &'static [Exchange],
+) -> Result<Option<(&'static str, usize)>, AllocError> {
+    for exchange in exchanges {
+        if let Some(most) = wrong_pieces(alloc, exchange)? {
+            return Ok(Some((exchange.name, most)));
         }
     }
     Ok(None)
 }
 
 #[test]
-fn all_exchanges_go_as_said(rt: HostRuntime) -> Result<(), Fail> {
-    assert_eq!(rt; first_wrong(rt.alloc())?, None);
+fn files_are_put_and_got(rt: HostRuntime) -> Result<(), Fail> {
+    assert_eq!(rt; first_wrong(rt.alloc(), files())?, None);
+    Ok(())
+}
+
+#[test]
+fn side_files_are_compared(rt: HostRuntime) -> Result<(), Fail> {
+    assert_eq!(rt; first_wrong(rt.alloc(), sides())?, None);
+    Ok(())
+}
+
+#[test]
+fn paths_are_read(rt: HostRuntime) -> Result<(), Fail> {
+    assert_eq!(rt; first_wrong(rt.alloc(), paths())?, None);
+    Ok(())
+}
+
+#[test]
+fn documents_are_computed(rt: HostRuntime) -> Result<(), Fail> {
+    assert_eq!(rt; first_wrong(rt.alloc(), snapshots())?, None);
+    Ok(())
+}
+
+#[test]
+fn heads_are_judged(rt: HostRuntime) -> Result<(), Fail> {
+    assert_eq!(rt; first_wrong(rt.alloc(), judged())?, None);
+    Ok(())
+}
+
+#[test]
+fn lengths_are_judged(rt: HostRuntime) -> Result<(), Fail> {
+    assert_eq!(rt; first_wrong(rt.alloc(), framing())?, None);
+    Ok(())
+}
+
+#[test]
+fn connections_end_as_said(rt: HostRuntime) -> Result<(), Fail> {
+    assert_eq!(rt; first_wrong(rt.alloc(), connections())?, None);
+    Ok(())
+}
+
+#[test]
+fn bodies_are_asked_for(rt: HostRuntime) -> Result<(), Fail> {
+    assert_eq!(rt; first_wrong(rt.alloc(), continued())?, None);
+    Ok(())
+}
+
+#[test]
+fn documents_have_a_longest(rt: HostRuntime) -> Result<(), Fail> {
+    assert_eq!(rt; first_wrong(rt.alloc(), lengths())?, None);
+    Ok(())
+}
+
+#[test]
+fn runs_end_as_said(rt: HostRuntime) -> Result<(), Fail> {
+    assert_eq!(rt; first_wrong(rt.alloc(), ends())?, None);
+    Ok(())
+}
+
+#[test]
+fn faults_are_told(rt: HostRuntime) -> Result<(), Fail> {
+    assert_eq!(rt; first_wrong(rt.alloc(), faults())?, None);
     Ok(())
 }
