@@ -1,6 +1,6 @@
 // The purge: files of builds that are not kept are unlisted, answered for their grace period, and then gone.
 use crate::bench::{ALL_KINDS, Ask, Bench, Said, seen_of};
-use outside::ScriptClock;
+use outside_memory::ScriptClock;
 use std::alloc::Global;
 use std::process::Abort;
 use std::test::Fail;

@@ -58,10 +58,9 @@ impl<C: Clock, H: Held> Core<C, H> {
     /// One turn: reads the clock once, and answers the command.
     ///
     /// The command meets its condition, as [`Core::fits`] tells. The turn is an entry that fits the machine's state, and
-    /// leaves the state that the machine says. A `Look`, a `MayPut`, a `Put`, `Status` and what is sent beside a file may
-    /// want memory; `Done` and `Drop` never do. Where memory is wanting, nothing changes but the moment. The row of a
-    /// release is there afterwards with every field as before. A draft for a file is given only where the repository takes
-    /// the file.
+    /// leaves the state that the machine says. Every command but `Done` and `Drop` may want memory; where it is wanting,
+    /// nothing changes but the moment. The row of a release is there afterwards with every field as before. A draft for a
+    /// file is given only where the repository takes the file.
     pub fn call(&mut self, command: Command<H>) -> Reply<H>
         requires { IsTrue (meets self.old.settings (shown_command command)) }
         ensures fits { Fits self.old.settings self.old.state (entry_of command self.new.state.last result 0) }
