@@ -9,7 +9,7 @@ pub enum Action {
     Nothing,
 }
 
-/// A command line that was read. What the command does not have is empty or 0.
+/// A command line that was read. Fields that a command has no word for stay empty, or 0.
 #[derive(Drop)]
 pub struct Wanted {
     pub command: Action,
