@@ -1,7 +1,7 @@
 //! Patterns of repository paths: which texts are patterns, and which paths they match.
 //!
-//! A pattern is segments joined by `/`. `*` stands for any run of bytes in a segment, and the segment `**` for any
-//! number of segments, none included (Apache Ant's patterns, without `?`).
+//! A pattern is cut at `/` like a path. `*` matches bytes within one segment, as many as there are, and a segment `**`
+//! matches whole segments, as many as there are (Apache Ant's patterns, without `?`).
 #![tactic(auto)]
 
 mod bytes;

@@ -140,7 +140,7 @@ impl<T: Thing> SeatToken<T::Call, T::Reply, T> {
     }
 }
 
-/// Ends the history, and gives the object as its last call left it, and the number of all calls. The seat has all parts: every other seat was joined and every note learnt, so every call is that of one of its callers, and what the seat has seen is the whole history. It takes no memory.
+/// Ends the history, and gives the object as its last call left it, and the number of all calls. The seat has all parts: no other seat and no note is left over, so every call is that of one of its callers, and what the seat has seen is the whole history. It takes no memory.
 pub fn close<T: Thing>(turns: Turns<T>, seat: Seat<T>) -> (T, u64)
     requires seat { IsSeatOf (IsStep T.fixed T.may_ask T.turned) turns seat }
     requires parts { parts_of seat ≡ 2 ^ 64 }
