@@ -7,8 +7,6 @@ mod bench;
 #[cfg(test)]
 mod documents;
 #[cfg(test)]
-mod fades;
-#[cfg(test)]
 mod purges;
 #[cfg(test)]
 mod puts;
