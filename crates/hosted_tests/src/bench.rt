@@ -1,4 +1,7 @@
 // What the tests share: a repository over memory, and what it answers as plain values.
+ghost use Rattle.std.specs.Prelude.{◌≤◌};
+ghost use Rattle.repo_model.specs.History.{latest_moment};
+
 use hosted_repo::{Hosted, Put, Rule, Seen};
 use mvn_coords::{Dir, Kind, kind_of};
 use mvn_digest::Hashes;
@@ -53,11 +56,27 @@ impl Bench {
             keep_count: 1,
             keep_days: 0,
         };
-        Ok(Bench {
+        Ok(Bench::of(alloc, rule))
+    }
+
+    /// A repository that takes both, and keeps so many builds, and for so many days the others.
+    pub fn kept(alloc: Global, keep_count: u64, keep_days: u64) -> Result<Bench, Fail> {
+        let rule = Rule {
+            id: Text::new(alloc, "snapshots")?,
+            releases: true,
+            snapshots: true,
+            keep_count,
+            keep_days,
+        };
+        Ok(Bench::of(alloc, rule))
+    }
+
+    fn of(alloc: Global, rule: Rule) -> Bench {
+        Bench {
             repo: Hosted::new(alloc, rule),
             blobs: MemBlobs::new(alloc, FaultScript::none(alloc)),
             next: 1,
-        })
+        }
     }
 
     fn parcel(&mut self, bytes: &[u8]) -> Result<Parcel<MemHeld>, Fail> {
@@ -77,6 +96,14 @@ impl Bench {
     pub fn put(&mut self, path: &str, bytes: &[u8]) -> Result<Did, Fail> {
         let parcel = self.parcel(bytes)?;
         Ok(did_of(self.repo.put(path, parcel, T)))
+    }
+
+    /// Puts `abc` at a path at a moment, as the next blob.
+    pub fn put_at(&mut self, path: &str, now: u64) -> Result<Did, Fail>
+        requires { now ≤ latest_moment }
+    {
+        let parcel = self.parcel(b"abc")?;
+        Ok(did_of(self.repo.put(path, parcel, now)))
     }
 
     /// Puts `abc` at some paths that are free.

@@ -7,6 +7,8 @@ mod bench;
 #[cfg(test)]
 mod documents;
 #[cfg(test)]
+mod fades;
+#[cfg(test)]
 mod purges;
 #[cfg(test)]
 mod puts;
