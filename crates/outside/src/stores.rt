@@ -1,4 +1,4 @@
-ghost use Rattle.std.specs.Prelude.{◌≡◌, ℕ, List, Option, None, IfOk, IfSome, OnOk, OnErr};
+ghost use Rattle.std.specs.Prelude.{◌≡◌, ℕ, List, Option, Some, None, IfOk, IfSome, OnOk, OnErr};
 ghost use Rattle.outside.specs.Blobs.{HasBlobCause, IsAdopted, Shelf, bytes_at, numbers_of, untold, with_blob, without_blob};
 ghost use Rattle.outside.specs.Told.{IsWhereTold};
 
@@ -27,10 +27,12 @@ pub trait Blobs {
     // Its blobs by their numbers, and the numbers that were removed.
     ghost shelf: { Self → Shelf } = { λ _. untold };
 
-    /// Stores `bytes` under the number `blob`. Bytes that stood there are gone.
+    /// Stores `bytes` under the number `blob`. Bytes that stood there are gone. A store that tells its blobs gives one that
+    /// tells its bytes.
     fn store(&mut self, blob: u64, bytes: &[u8]) -> Result<Self::Held, BlobFault>
         ensures cause { HasBlobCause (faults self.old) (faults self.new) result }
         ensures told { IfOk result (λ held. IsWhereTold (Self.Held.bytes held) bytes.now) }
+        ensures tells { IfOk result (λ held. IfSome (shelf self.old).blobs (λ _. Self.Held.bytes held ≡ Some bytes.now)) }
         ensures stored { OnOk result (shelf self.new ≡ with_blob blob bytes.now (shelf self.old)) }
         ensures kept { OnErr result (shelf self.new ≡ shelf self.old) };
 

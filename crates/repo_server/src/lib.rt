@@ -11,4 +11,5 @@ mod streams;
 
 pub use driver::follow;
 pub use files::{read_body, send_file, take_body};
+pub use repo_model::Ask;
 pub use streams::serve_stream;

@@ -50,6 +50,41 @@ impl Text {
     }
 }
 
+/// Texts in their order; a contract sees the list of them.
+#[derive(Drop)]
+pub struct Texts {
+    inner: Vec<Text>,
+}
+
+impl Model for Texts {
+    ghost Value = { List (List ℕ) };
+
+    ghost view = { λ t. t.inner.items };
+}
+
+impl Texts {
+    /// The texts of a `Vec`, which takes no memory.
+    pub fn from_vec(inner: Vec<Text>) -> Texts
+        ensures { result ≡ inner.items }
+    {
+        Texts { inner }
+    }
+
+    /// The `Vec` of the texts, which takes no memory.
+    pub fn into_vec(self) -> Vec<Text>
+        ensures { result.items ≡ self }
+    {
+        self.inner
+    }
+
+    /// The texts, lent.
+    pub fn as_slice(&self) -> &[Text]
+        ensures { result.now ≡ self.now }
+    {
+        self.inner.as_slice()
+    }
+}
+
 /// Bytes of their own memory; a contract sees the list.
 #[derive(Drop)]
 pub struct Bytes {
