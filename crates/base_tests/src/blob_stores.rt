@@ -12,6 +12,8 @@ use std::test::Fail;
 
 const FOLDER: &str = "base_tests_blobs";
 
+const NUMBERED: &str = "base_tests_numbered";
+
 const MISSING: &str = "base_tests_missing";
 
 fn digests_of(bytes: &[u8]) -> Digests
@@ -101,6 +103,29 @@ fn a_folder_keeps_by_number(rt: HostRuntime) -> Result<(), Fail> {
     assert!(rt; read && again.faults() == 0);
     assert_eq!(rt; listed.as_slice(), [7].as_slice());
     assert_eq!(rt; file.as_slice(), b"abc".as_slice());
+    Ok(())
+}
+
+// Where a folder stands under a number, nothing can be stored there, and nothing is listed or adopted.
+fn passes_over_a_folder(blobs: &mut FolderBlobs<HostRuntime>) -> Result<bool, BlobFault> {
+    let stored = matches!(blobs.store(7, b"abc"), Err(BlobFault::Failed)) && blobs.faults() == 1;
+    let listed = blobs.list()?;
+    let adopted = blobs.adopt(7)?.is_some();
+    Ok(stored && listed.as_slice() == [8].as_slice() && !adopted && blobs.faults() == 1)
+}
+
+#[test]
+fn a_folder_with_a_number_is_no_blob(rt: HostRuntime) -> Result<(), Fail> {
+    let _ = fs::remove_dir_all(&rt, NUMBERED);
+    fs::create_dir_all(&rt, "base_tests_numbered/7")?;
+    fs::write(&rt, "base_tests_numbered/8", "abc")?;
+    let mut blobs = folder_blobs(&rt, NUMBERED)?;
+    let passed = passes_over_a_folder(&mut blobs)?;
+
+    // What was refused leaves nothing behind.
+    let left = fs::metadata(&rt, "base_tests_numbered/7.part").is_ok();
+    fs::remove_dir_all(&rt, NUMBERED)?;
+    assert!(rt; passed && !left);
     Ok(())
 }
 

@@ -40,8 +40,15 @@ fn write_synced<R: Files>(rt: &R, path: &str, bytes: &[u8]) -> io::Result<()> {
     file.sync_all()
 }
 
+// Makes a file of these bytes under a name that is no number, and then gives it its path.
+fn place_file<R: Files>(rt: &R, part: &str, path: &str, bytes: &[u8]) -> io::Result<()> {
+    write_synced(rt, part, bytes)?;
+    fs::rename(rt, part, path)
+}
+
 // Puts a blob's file in place of the one that stood there. The bytes are kept before the name is, and the name before
-// it returns. A stop on the way leaves at most a file whose name is no number, or the whole new file.
+// it returns. A stop on the way leaves at most a file whose name is no number, or the whole new file; a failure on the
+// way removes that file, so that a full disk is not filled by what was refused.
 fn put_file<R: Files + AllocGlobal>(
     rt: &R,
     folder: &str,
@@ -50,8 +57,10 @@ fn put_file<R: Files + AllocGlobal>(
 ) -> io::Result<()> {
     let path = path_of(rt.alloc(), folder, blob)?;
     let part = format!(in rt.alloc(); "{path}.part")?;
-    write_synced(rt, part.as_str(), bytes)?;
-    fs::rename(rt, part.as_str(), path.as_str())?;
+    if let Err(error) = place_file(rt, part.as_str(), path.as_str(), bytes) {
+        let _ = fs::remove_file(rt, part.as_str());
+        return Err(error);
+    }
     fs::open(rt, folder)?.sync_all()
 }
 
@@ -78,7 +87,7 @@ fn has_file<R: Files + AllocGlobal>(rt: &R, folder: &str, blob: u64) -> io::Resu
     }
 }
 
-// The numbers that are names of files, in rising order. Files with other names are passed over.
+// The numbers that are names of files, in rising order. Files with other names are passed over, and folders.
 fn numbers_in<R: Files + AllocGlobal + Clone + Drop>(rt: &R, folder: &str) -> io::Result<Vec<u64>>
     ensures { IfOk result (λ numbers. IsSorted nat_cmp numbers.items) }
 {
@@ -86,7 +95,9 @@ fn numbers_in<R: Files + AllocGlobal + Clone + Drop>(rt: &R, folder: &str) -> io
     for entry in fs::read_dir(rt, folder)? {
         match entry {
             Ok(entry) => {
-                if let Some(number) = number_of(rt.alloc(), entry.file_name())? {
+                if let Some(number) = number_of(rt.alloc(), entry.file_name())?
+                    && has_file(rt, folder, number)?
+                {
                     numbers.push(number)?;
                 }
             }
@@ -124,7 +135,8 @@ impl Held for FolderHeld {
 ///
 /// A call fails where the system refuses it; where the folder is missing, no number stands there and `store`, `read` and
 /// `list` fail. `store` answers Ok once the system keeps the bytes and their name, whatever stops afterwards. What a store
-/// that is stopped leaves is not listed, or it is the whole blob.
+/// that is stopped leaves is not listed, or it is the whole blob. A folder whose name is a number is no blob: it is
+/// neither listed nor adopted.
 #[derive(Drop)]
 pub struct FolderBlobs<R: Files + AllocGlobal + Clone + Drop> {
     rt: R,
