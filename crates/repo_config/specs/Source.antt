@@ -1,6 +1,7 @@
 -- Settings that are read from a source.
-use Rattle.std.specs.Prelude.{◌≡◌, ℕ, List, Option, Some, None, Result, Ok, Err}
+use Rattle.std.specs.Prelude.{◌≡◌, ℕ, ◌≤◌, List, length, Option, Some, None, Result, Ok, Err}
 use Rattle.outside.specs.Faults.{Rose}
+use Rattle.outside.specs.Told.{in_front}
 use Rattle.repo_model.specs.Settings.{Settings}
 use Rattle.repo_config.specs.Refusal.{IsFault, reading}
 use Rattle.repo_config.specs.declared.source.SourceFault.{SourceFault}
@@ -17,3 +18,7 @@ IsReadFrom None result = Unit {0}
 abbrev pub HasSourceCause : ℕ → ℕ → Result Settings SourceFault → Type 0
 HasSourceCause before after (Err Failed) = Rose before after
 HasSourceCause before after _ = after ≡ before
+
+-- from the front of what was left at most so many bytes are gone
+abbrev pub TakesAtMost : ℕ → Option (List ℕ) → Option (List ℕ) → Type 0
+TakesAtMost most before after = (bytes : List ℕ) × (length bytes ≤ most) × (before ≡ in_front bytes after)

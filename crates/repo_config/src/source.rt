@@ -1,6 +1,7 @@
 //! Settings that are read from a source, as a file.
-ghost use Rattle.std.specs.Prelude.{◌≡◌, length};
-ghost use Rattle.repo_config.specs.Source.{HasSourceCause, IsReadFrom};
+ghost use Rattle.std.specs.Prelude.{◌≡◌, length, OnOk};
+ghost use Rattle.outside.specs.Told.{IsAtEnd};
+ghost use Rattle.repo_config.specs.Source.{HasSourceCause, IsReadFrom, TakesAtMost};
 
 use crate::faults::SettingsFault;
 use crate::settings::{Settings, read};
@@ -16,10 +17,13 @@ pub enum SourceFault {
     Refused(SettingsFault),
 }
 
-/// The settings that a source says. It is read to its end, or up to one byte more than settings may have.
+/// The settings that a source says. Where it gives settings the source was read to its end, and it never takes more than
+/// 65,537 bytes from it, one more than settings may have.
 pub fn read_from<S: Source>(alloc: Global, source: &mut S) -> Result<Settings, SourceFault>
     ensures settings { IsReadFrom (S.left source.old) result }
     ensures cause { HasSourceCause (S.read_faults source.old) (S.read_faults source.new) result }
+    ensures left { OnOk result (IsAtEnd (S.left source.new)) }
+    ensures taken { TakesAtMost 65537 (S.left source.old) (S.left source.new) }
 {
     let Ok(mut buffer) = vec![in alloc; 0; 65_537] else {
         return Err(SourceFault::Refused(SettingsFault::NoMemory));
@@ -36,6 +40,8 @@ fn read_into<S: Source>(
     requires { length buffer.old ≡ 65537 }
     ensures settings { IsReadFrom (S.left source.old) result }
     ensures cause { HasSourceCause (S.read_faults source.old) (S.read_faults source.new) result }
+    ensures left { OnOk result (IsAtEnd (S.left source.new)) }
+    ensures taken { TakesAtMost 65537 (S.left source.old) (S.left source.new) }
 {
     let Ok(count) = read_full(source, buffer) else {
         return Err(SourceFault::Failed);
