@@ -122,7 +122,7 @@ module _ (settings : Settings) (tells : Type 0) (witness : tells) where
 
       opened : (c : Course) (mid : Outside) (o : Opens settings last old mid c) → Follows tells c entries mid new end → Keeps (shows_head o) c 3 (standing o)
           → Grew old mid → Grew mid new → Turned last (front input) st input before old new (end_of settings st entries) end
-      opened c mid (clean begins still is) f k g more = at-once Clean begins mid still false (at_first 0) refl c _ is k f g more (λ scene. refl)
+      opened c mid (clean begins still is) f k g more = at-once Clean begins mid still false (failing stream.Closed (at_first 0)) refl c _ is k f g more (λ scene. refl)
       opened c mid (torn begins still is) f k g more = at-once Cut begins mid still false (failing stream.TornRequest (at_first 0)) refl c _ is k f g more (λ scene. refl)
       opened c mid (failed faults rose still is) f k g more =
           let last_is = subst (λ (d : Course). Follows tells d entries mid new end) is f in

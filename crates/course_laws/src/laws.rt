@@ -64,8 +64,9 @@ pub fn courses_are_complete()
 {}
 
 /// Each course of a request, and each refusal, does what it owes, whatever is replied and however its acts end: it asks at
-/// most three commands, puts its draft or gives it up, gives its lease back, invites and reads its body at most once, lets
-/// the connection go on only where the body was read, and answers to HEAD by heads alone.
+/// most three commands, puts its draft or gives it up, gives its lease back and holds it while a file is sent, invites and reads
+/// its body at most once, answers once unless a side of the stream failed, lets the connection go on only where the body was
+/// read, and answers to HEAD by heads alone.
 pub fn courses_keep_their_duties()
     ensures requests { (judged : Result Judged Refused) (last : Bool) →
         Keeps (is_head_only judged) (course_of judged last) 3 (at_first (unread_of judged)) }
