@@ -23,8 +23,8 @@ loop-act-preserved-in-Ask g c =
     record { command = g.A.Ask.asked c.in-Ask.command; moment = t.0; reply = g.A.Ask.answered c.ask-reply.result; faults = t.1 } in
     let here : Meets s (left_of c.args.manner c.loop-act.act) = c.loop-act.invariant.meets in
     let there = subst (λ act. Meets s (left_of c.args.manner act)) c.in-Ask.is here in
-    let now = outside g.T.Tells c.loop-act.wire c.loop-act.stream (g.B.Blobs.faults c.loop-act.blobs) in
-    let old = outside g.T.Tells c.args.wire.now c.args.stream.now (g.B.Blobs.faults c.args.blobs.now) in
+    let now = outside g.T.Tells c.loop-act.wire c.loop-act.stream (g.B.Blobs.faults c.loop-act.blobs) (g.B.Blobs.shelf c.loop-act.blobs) in
+    let old = outside g.T.Tells c.args.wire.now c.args.stream.now (g.B.Blobs.faults c.args.blobs.now) (g.B.Blobs.shelf c.args.blobs.now) in
     let tells = AllTell g.B.Held.Held.bytes in
     record {
       settings = c.ask-reply.ensures.settings ∙ c.loop-act.invariant.settings;
@@ -51,8 +51,9 @@ loop-act-preserved-in-Read g c =
     let here : Meets s (left_of c.args.manner c.loop-act.act) = c.loop-act.invariant.meets in
     let there = subst (λ act. Meets s (left_of c.args.manner act)) c.in-Read.is here in
     let blobs = g.B.Blobs.faults c.loop-act.blobs in
-    let now = outside g.T.Tells c.loop-act.wire c.loop-act.stream blobs in
-    let then = outside g.T.Tells c.read_body-read.new.wire c.read_body-read.new.source blobs in
+    let shelf = g.B.Blobs.shelf c.loop-act.blobs in
+    let now = outside g.T.Tells c.loop-act.wire c.loop-act.stream blobs shelf in
+    let then = outside g.T.Tells c.read_body-read.new.wire c.read_body-read.new.source blobs shelf in
     let left = left_of c.args.manner c.after_read-act.result in
     record {
       settings = c.loop-act.invariant.settings;
@@ -65,7 +66,7 @@ loop-act-preserved-in-Read g c =
             made.2 later final ending
             (subst (λ act. Follows tells (left_of c.args.manner act) later now final ending) (sym c.in-Read.is)
             (reads_follows c.in-Read.body c.args.manner tells c.read_body-read.result left later now then final ending
-            (c.read_body-read.ensures.reads blobs) c.after_read-act.ensures.left follows)),
+            (c.read_body-read.ensures.reads blobs shelf) c.after_read-act.ensures.left follows)),
       );
     }
 
@@ -74,7 +75,7 @@ returns-in-Say-clause-follows g c =
     let made = c.loop-act.invariant.made in (
       made.0 ++ [],
       leads_on g.A.Ask.asks made.0 [] _ c.loop-act.asker _ made.1 refl,
-      made.2 [] _ _ (rw c.in-Say.is (refl, c.say.ensures c.loop-act.wire (g.B.Blobs.faults c.loop-act.blobs))),
+      made.2 [] _ _ (rw c.in-Say.is (refl, c.say.ensures c.loop-act.wire (g.B.Blobs.faults c.loop-act.blobs) (g.B.Blobs.shelf c.loop-act.blobs))),
     )
 
 pub returns-in-Stop-clause-follows : goal.returns-in-Stop-clause-follows
