@@ -31,11 +31,11 @@ use Rattle.repo_course.specs.declared.outcomes.Took.{Took}
 use Rattle.repo_course.specs.declared.outcomes.Took.TheVariants as took
 use Rattle.repo_course.specs.declared.said.Said.{Said}
 use Rattle.repo_course.specs.Serving.{Continues, Follows, Opens, clean, torn, failed, refused, unread_head, starved, served, Outside, Reads, Says, whole, memory, cut, Sends, SendsAnswer, SendsHead, Serves, Takes, Turn, with_store}
-use Rattle.course_laws.specs.Duties.{Early, by_memory, by_side, IsCalm, Keeps, MayAsk, SaysFor, Stand, StopsFor, stand_after, stand_cleaned, stand_continued, stand_fault, stand_read, stand_sent, stand_stored}
+use Rattle.course_laws.specs.Duties.{Early, by_memory, by_side, has_read, Keeps, MayAsk, SaysFor, Stand, StopsFor, stand_after, stand_cleaned, stand_continued, stand_fault, stand_read, stand_sent, stand_stored}
 use Rattle.course_laws.specs.Duties.{most_asked, most_for, most_of}
 use Rattle.course_laws.specs.Endings.{EndsByCause, NoneRose}
 use Rattle.course_laws.proofs.Passes.{passes-few}
-use Rattle.course_laws.proofs.Kept.{asking, end-calm, opens-keeps, reply-goes, shows_head, standing}
+use Rattle.course_laws.proofs.Kept.{IsCalm, asking, end-calm, opens-keeps, reply-goes, shows_head, standing}
 
 -- where a course stands, and how it ends, in the counts since the turn began
 abbrev Caused : Option Early → Outside → Outside → Type 0
@@ -100,46 +100,46 @@ fault_caused count took.NoMemory s old mid new none n (inr t) = to_same None old
 reads_caused : (count : ℕ) (body : Body) (s : Stand) (old mid new : Outside) → s.early ≡ None → NoneRose old mid → Reads count body mid new
     → Caused (stand_read body s).early old new
 reads_caused count (Ok body) s old mid new none n t = subst (λ e. Caused e old new) (sym none) (to_same None old mid new n (counts mid _ t.3))
-reads_caused count (Err fault) s old mid new none n t = fault_caused count fault (record s { unread = 0 }) old mid new none n t
+reads_caused count (Err fault) s old mid new none n t = fault_caused count fault (has_read s) old mid new none n t
 
 takes_caused : (tells : Type 0) (draft count : ℕ) (stored : Stored) (s : Stand) (old mid new : Outside) → s.early ≡ None → NoneRose old mid
     → Takes tells draft count stored mid new → Caused (stand_stored stored s).early old new
 takes_caused tells draft count (Ok blob) s old mid new none n t =
     subst (λ e. Caused e old new) (sym none) (to_same None old mid new n (counts mid _ t.1.3))
-takes_caused tells draft count (Err took.Torn) s old mid new none n t = fault_caused count took.Torn (record s { unread = 0 }) old mid new none n t
+takes_caused tells draft count (Err took.Torn) s old mid new none n t = fault_caused count took.Torn (has_read s) old mid new none n t
 takes_caused tells draft count (Err took.SourceFault) s old mid new none n t =
-    fault_caused count took.SourceFault (record s { unread = 0 }) old mid new none n t
+    fault_caused count took.SourceFault (has_read s) old mid new none n t
 takes_caused tells draft count (Err took.BlobFault) s old mid new none n t =
     subst (λ e. Caused e old new) (sym none) (to_same None old mid new n (counts mid _ t.3.3))
 takes_caused tells draft count (Err took.NoMemory) s old mid new none n t =
-    fault_caused count took.NoMemory (record s { unread = 0 }) old mid new none n t
+    fault_caused count took.NoMemory (has_read s) old mid new none n t
 
-file_caused : (blob : Blob) (head : List ℕ) (result : Sent) (s : Stand) (old mid new : Outside) → s.early ≡ None → NoneRose old mid
-    → Sends blob head result mid new → Caused (stand_sent result s).early old new
-file_caused blob head sent.Whole s old mid new none n t =
+file_caused : (manner : Manner) (blob : Blob) (head : List ℕ) (result : Sent) (s : Stand) (old mid new : Outside) → s.early ≡ None → NoneRose old mid
+    → Sends blob head result mid new → Caused (stand_sent manner result s).early old new
+file_caused manner blob head sent.Whole s old mid new none n t =
     subst (λ e. Caused e old new) (sym none) (to_same None old mid new n (counts mid _ t.2))
-file_caused blob head sent.BlobFault s old mid new none n t =
+file_caused manner blob head sent.BlobFault s old mid new none n t =
     subst (λ e. Caused e old new) (sym none) (to_same None old mid new n (counts mid _ t.2))
-file_caused blob head sent.SinkFault s old mid new none n t = (
+file_caused manner blob head sent.SinkFault s old mid new none n t = (
   ap (λ (o : Outside). o.read_faults) t.6 ∙ n.0,
   subst (λ (k : ℕ). Rose k new.write_faults) n.1 (subst (λ (k : ℕ). Rose mid.write_faults k) (sym (ap (λ (o : Outside). o.write_faults) t.6)) t.3),
 )
-file_caused blob head sent.NoMemory s old mid new none n t = to_same None old mid new n (counts mid _ t)
+file_caused manner blob head sent.NoMemory s old mid new none n t = to_same None old mid new n (counts mid _ t)
 
-head_caused : (head : List ℕ) (result : Sent) (s : Stand) (old mid new : Outside) → s.early ≡ None → NoneRose old mid
-    → SendsHead head result mid new → Caused (stand_sent result s).early old new
-head_caused head sent.Whole s old mid new none n t = subst (λ e. Caused e old new) (sym none) (to_same None old mid new n (counts mid _ t))
-head_caused head sent.BlobFault s old mid new none n t = absurd t
-head_caused head sent.SinkFault s old mid new none n t = (
+head_caused : (manner : Manner) (head : List ℕ) (result : Sent) (s : Stand) (old mid new : Outside) → s.early ≡ None → NoneRose old mid
+    → SendsHead head result mid new → Caused (stand_sent manner result s).early old new
+head_caused manner head sent.Whole s old mid new none n t = subst (λ e. Caused e old new) (sym none) (to_same None old mid new n (counts mid _ t))
+head_caused manner head sent.BlobFault s old mid new none n t = absurd t
+head_caused manner head sent.SinkFault s old mid new none n t = (
   ap (λ (o : Outside). o.read_faults) t.4 ∙ n.0,
   subst (λ (k : ℕ). Rose k new.write_faults) n.1 (subst (λ (k : ℕ). Rose mid.write_faults k) (sym (ap (λ (o : Outside). o.write_faults) t.4)) t.2),
 )
-head_caused head sent.NoMemory s old mid new none n t = to_same None old mid new n (counts mid _ t)
+head_caused manner head sent.NoMemory s old mid new none n t = to_same None old mid new n (counts mid _ t)
 
-sends_caused : (head_only : Bool) (blob : Blob) (head : List ℕ) (result : Sent) (s : Stand) (old mid new : Outside) → s.early ≡ None → NoneRose old mid
-    → SendsAnswer head_only blob head result mid new → Caused (stand_sent result s).early old new
-sends_caused true blob head result s old mid new none n t = head_caused head result s old mid new none n t
-sends_caused false blob head result s old mid new none n t = file_caused blob head result s old mid new none n t
+sends_caused : (manner : Manner) (head_only : Bool) (blob : Blob) (head : List ℕ) (result : Sent) (s : Stand) (old mid new : Outside) → s.early ≡ None → NoneRose old mid
+    → SendsAnswer head_only blob head result mid new → Caused (stand_sent manner result s).early old new
+sends_caused manner true blob head result s old mid new none n t = head_caused manner head result s old mid new none n t
+sends_caused manner false blob head result s old mid new none n t = file_caused manner blob head result s old mid new none n t
 
 cleaned_caused : (pass : Pass) (kept : Store) (s : Stand) (old mid : Outside) → s.early ≡ None → NoneRose old mid
     → Caused (stand_cleaned pass s).early old (with_store kept mid)
@@ -182,7 +182,7 @@ stops_for s early next end old mid new for c is ends =
     subst (λ e. Shows e old new) (sym ends) (pick early for (to_same early old mid new c (counts mid _ is)))
   where
     pick : (early : Option Early) → StopsFor s early next → Caused early old new → Shows next old new
-    pick None for c = calm_shows next old new for.0 c
+    pick None for c = calm_shows next old new (subst IsCalm (sym for.2) (end-calm for.0)) c
     pick (Some by_memory) for c = absurd for
     pick (Some (by_side side)) for c = subst (λ e. Shows e old new) (sym for) c
 
@@ -207,7 +207,7 @@ module _ (tells : Type 0) where
         let s1 = stand_after command e.reply s in
         follows_shows (next e.reply) n s1 (k.1 e.reply) entries old mid new end (asks_caused command e.reply s old mid k.0 c) f.1
     follows_shows (continues next) n s k entries old mid new end c f =
-        follows_shows (next f.0) n (stand_continued f.0 s) (k.2 f.0) entries old f.1 new end
+        follows_shows (next f.0) n (stand_continued f.0 s) (k.3 f.0) entries old f.1 new end
         (continues_caused f.0 s old mid f.1 k.1 (subst (λ e. Caused e old mid) k.1 c) f.2) f.3
     follows_shows (takes draft count next) n s k entries old mid new end c f =
         follows_shows (next f.0) n (stand_stored f.0 s) (k.3 f.0) entries old f.1 new end
@@ -216,8 +216,8 @@ module _ (tells : Type 0) where
         follows_shows (next f.0) n (stand_read f.0 s) (k.2 f.0) entries old f.1 new end
         (reads_caused count f.0 s old mid f.1 k.0 (subst (λ e. Caused e old mid) k.0 c) f.2) f.3
     follows_shows (sends blob manner next) n s k entries old mid new end c f =
-        follows_shows (next f.0) n (stand_sent f.0 s) (k.3 f.0) entries old f.1 new end
-        (sends_caused manner.head_only blob (shown (file_answer blob manner)) f.0 s old mid f.1 k.1 (subst (λ e. Caused e old mid) k.1 c) f.2) f.3
+        follows_shows (next f.0) n (stand_sent manner f.0 s) (k.5 f.0) entries old f.1 new end
+        (sends_caused manner manner.head_only blob (shown (file_answer blob manner)) f.0 s old mid f.1 k.1 (subst (λ e. Caused e old mid) k.1 c) f.2) f.3
     follows_shows (cleans repos next) n s k entries old mid new end c f =
         follows_shows (next f.2) 0 (stand_cleaned f.2 s) (k.3 f.2) f.1 old (with_store f.3 mid) new end
         (cleaned_caused f.2 f.3 s old mid k.1 (subst (λ e. Caused e old mid) k.1 c)) f.6
@@ -233,10 +233,10 @@ module _ (tells : Type 0) where
     follows_few (asks command next) (suc n) s k [] old new end f = absurd f
     follows_few (asks command next) (suc n) s k (e ∷ entries) old new end f =
         let less = follows_few (next e.reply) n (stand_after command e.reply s) (k.1 e.reply) entries old new end f.1 in omega arith
-    follows_few (continues next) n s k entries old new end f = follows_few (next f.0) n (stand_continued f.0 s) (k.2 f.0) entries f.1 new end f.3
+    follows_few (continues next) n s k entries old new end f = follows_few (next f.0) n (stand_continued f.0 s) (k.3 f.0) entries f.1 new end f.3
     follows_few (takes draft count next) n s k entries old new end f = follows_few (next f.0) n (stand_stored f.0 s) (k.3 f.0) entries f.1 new end f.3
     follows_few (reads count next) n s k entries old new end f = follows_few (next f.0) n (stand_read f.0 s) (k.2 f.0) entries f.1 new end f.3
-    follows_few (sends blob manner next) n s k entries old new end f = follows_few (next f.0) n (stand_sent f.0 s) (k.3 f.0) entries f.1 new end f.3
+    follows_few (sends blob manner next) n s k entries old new end f = follows_few (next f.0) n (stand_sent manner f.0 s) (k.5 f.0) entries f.1 new end f.3
     follows_few (cleans repos next) n s k entries old new end f =
         let few = passes-few repos f.0 _ f.3 f.2 f.5 in
         let most = k.2 in

@@ -21,15 +21,22 @@ use Rattle.repo_course.specs.Course.{Body, Course, Pass, Stored, asks, reads, ta
 use Rattle.repo_course.specs.declared.manner.Manner.{Manner}
 use Rattle.repo_course.specs.declared.outcomes.Continued.{Continued}
 use Rattle.repo_course.specs.declared.outcomes.Continued.TheVariants as continued
+use Rattle.repo_course.specs.declared.outcomes.End.{End}
 use Rattle.repo_course.specs.declared.outcomes.End.TheVariants as stream
 use Rattle.repo_course.specs.declared.outcomes.Sent.{Sent}
 use Rattle.repo_course.specs.declared.outcomes.Sent.TheVariants as sent
 use Rattle.repo_course.specs.declared.outcomes.Took.{Took}
 use Rattle.repo_course.specs.declared.outcomes.Took.TheVariants as took
 use Rattle.repo_course.specs.Serving.{Opens, clean, torn, failed, refused, unread_head, starved, served, Outside}
-use Rattle.course_laws.specs.Duties.{IsCalm, Keeps, most_for, most_of, stand_cleaned, MayAsk, Stand, stand_after, at_first, by_memory, failing, has_counted, has_put, has_put_doc, has_put_side, is_head_only, length_of, looked, asked_draft, stand_continued, stand_fault, stand_read, stand_sent, stand_stored, starving, unread_of}
+use Rattle.course_laws.specs.Duties.{Keeps, most_for, most_of, stand_cleaned, MayAsk, Stand, stand_after, at_first, by_memory, failing, has_counted, has_put, has_put_doc, has_put_side, has_read, is_head_only, length_of, looked, asked_draft, stand_continued, stand_fault, stand_read, stand_sent, stand_stored, starving, unread_of}
 
--- behind an answer the stream goes on, or is closed
+-- the stream goes on, or is closed
+abbrev pub IsCalm : Option End → Type 0
+IsCalm None = Unit {0}
+IsCalm (Some stream.Closed) = Unit {0}
+IsCalm _ = ⊥
+
+-- so it is behind an answer
 pub end-calm : (manner : Manner) → IsCalm (end_of manner)
 end-calm manner = elim manner.close as (λ b. IsCalm (if b then Some stream.Closed else None)) [ true ↦ tt | false ↦ tt ]
 
@@ -40,65 +47,65 @@ unread-closes false length is = let none : length ≤ 0 = ltb-false 0 length is 
 
 -- a lease is in hand, and a file was sent
 abbrev lent : ℕ → Blob → Stand
-lent lease blob = record { draft = None; lease = Some lease; blob = Some blob; unread = 0; invited = false; early = None }
+lent lease blob = record { draft = None; lease = Some lease; blob = Some blob; unread = 0; invited = false; sent = None; early = None }
 
 -- a draft is in hand, and so many bytes of the body are not read
 abbrev drawn : ℕ → Option Blob → ℕ → Bool → Stand
-drawn n blob count invited = record { draft = Some n; lease = None; blob = blob; unread = count; invited = invited; early = None }
+drawn n blob count invited = record { draft = Some n; lease = None; blob = blob; unread = count; invited = invited; sent = None; early = None }
 
 -- nothing is in hand
 abbrev empty : ℕ → Bool → Stand
-empty count invited = record { draft = None; lease = None; blob = None; unread = count; invited = invited; early = None }
+empty count invited = record { draft = None; lease = None; blob = None; unread = count; invited = invited; sent = None; early = None }
 
 module _ (manner : Manner) where
   abbrev Owes : Course → ℕ → Stand → Type 0
   Owes c n s = Keeps manner.head_only c n s
 
   sent-keeps : (lease : ℕ) (blob : Blob) (result : Sent) (n : ℕ)
-      → Owes (after_send manner result) n (record (stand_sent result (lent lease blob)) { lease = None })
-  sent-keeps lease blob sent.Whole n = ((refl, refl), (end-calm manner, λ is. refl))
-  sent-keeps lease blob sent.BlobFault n = ((refl, refl), (tt, λ is. refl), refl)
+      → Owes (after_send manner result) n (record (stand_sent manner result (lent lease blob)) { lease = None })
+  sent-keeps lease blob sent.Whole n = ((refl, refl), (manner, refl, refl, λ is. refl))
+  sent-keeps lease blob sent.BlobFault n = ((refl, refl), (tt, refl, λ is. refl), refl)
   sent-keeps lease blob sent.SinkFault n = ((refl, refl), refl)
-  sent-keeps lease blob sent.NoMemory n = ((refl, refl), (refl, refl), refl)
+  sent-keeps lease blob sent.NoMemory n = ((refl, refl), (refl, refl, refl), refl)
 
   file-keeps : (lease : ℕ) (blob : Blob) (result : Sent) (n : ℕ)
-      → Owes (asks (done lease) (λ reply. after_send manner result)) (suc n) (stand_sent result (lent lease blob))
+      → Owes (asks (done lease) (λ reply. after_send manner result)) (suc n) (stand_sent manner result (lent lease blob))
   file-keeps lease blob sent.Whole n = (refl, λ reply. sent-keeps lease blob sent.Whole n)
   file-keeps lease blob sent.BlobFault n = (refl, λ reply. sent-keeps lease blob sent.BlobFault n)
   file-keeps lease blob sent.SinkFault n = (refl, λ reply. sent-keeps lease blob sent.SinkFault n)
   file-keeps lease blob sent.NoMemory n = (refl, λ reply. sent-keeps lease blob sent.NoMemory n)
 
   look-keeps : (reply : Reply) (n : ℕ) → Owes (after_look manner reply) (suc n) (looked reply (at_first 0))
-  look-keeps (file lease blob) n = (refl, refl, refl, λ result. file-keeps lease blob result n)
-  look-keeps (text bytes) n = ((refl, refl), (tt, λ is. refl), refl)
-  look-keeps (doc bytes digests) n = ((refl, refl), (tt, λ is. refl), refl)
-  look-keeps missed n = ((refl, refl), (tt, λ is. refl), refl)
-  look-keeps spent n = ((refl, refl), (tt, λ is. refl), refl)
-  look-keeps reply n = ((refl, refl), (refl, refl), refl)
+  look-keeps (file lease blob) n = (refl, refl, refl, refl, refl, λ result. file-keeps lease blob result n)
+  look-keeps (text bytes) n = ((refl, refl), (tt, refl, λ is. refl), refl)
+  look-keeps (doc bytes digests) n = ((refl, refl), (tt, refl, λ is. refl), refl)
+  look-keeps missed n = ((refl, refl), (tt, refl, λ is. refl), refl)
+  look-keeps spent n = ((refl, refl), (tt, refl, λ is. refl), refl)
+  look-keeps reply n = ((refl, refl), (refl, refl, refl), refl)
 
-  put-keeps : (n : ℕ) (blob : Blob) (invited : Bool) (reply : Reply) → Owes (after_put n manner reply) 1 (has_put reply (drawn n (Some blob) 0 invited))
-  put-keeps n blob invited created = ((refl, refl), (tt, λ is. refl), refl)
-  put-keeps n blob invited same = ((refl, refl), (tt, λ is. refl), refl)
-  put-keeps n blob invited relisted = ((refl, refl), (tt, λ is. refl), refl)
-  put-keeps n blob invited (taken kept given) = ((refl, refl), (tt, λ is. refl), refl)
-  put-keeps n blob invited no_draft = (refl, λ reply. ((refl, refl), (tt, λ is. refl), refl))
-  put-keeps n blob invited store_fault = (refl, λ reply. ((refl, refl), (tt, λ is. refl), refl))
-  put-keeps n blob invited reply = (refl, λ r. ((refl, refl), (refl, refl), refl))
+  put-keeps : (n : ℕ) (blob : Blob) (reply : Reply) → Owes (after_put n manner reply) 1 (has_put reply (drawn n (Some blob) 0 true))
+  put-keeps n blob created = ((refl, refl), (tt, refl, λ is. refl), refl)
+  put-keeps n blob same = ((refl, refl), (tt, refl, λ is. refl), refl)
+  put-keeps n blob relisted = ((refl, refl), (tt, refl, λ is. refl), refl)
+  put-keeps n blob (taken kept given) = ((refl, refl), (tt, refl, λ is. refl), refl)
+  put-keeps n blob no_draft = (refl, λ reply. ((refl, refl), (tt, refl, λ is. refl), refl))
+  put-keeps n blob store_fault = (refl, λ reply. ((refl, refl), (tt, refl, λ is. refl), refl))
+  put-keeps n blob reply = (refl, λ r. ((refl, refl), (refl, refl, refl), refl))
 
   -- a body that was not taken, where nothing is in hand
-  fault-keeps : (fault : Took) (invited : Bool) (n : ℕ) → Owes (after_fault manner fault) n (stand_fault fault (empty 0 invited))
-  fault-keeps took.Torn invited n = ((refl, refl), refl)
-  fault-keeps took.SourceFault invited n = ((refl, refl), refl)
-  fault-keeps took.BlobFault invited n = ((refl, refl), (tt, λ is. refl), refl)
-  fault-keeps took.NoMemory invited n = ((refl, refl), (refl, refl), refl)
+  fault-keeps : (fault : Took) (n : ℕ) → Owes (after_fault manner fault) n (stand_fault fault (empty 0 true))
+  fault-keeps took.Torn n = ((refl, refl), refl)
+  fault-keeps took.SourceFault n = ((refl, refl), refl)
+  fault-keeps took.BlobFault n = ((refl, refl), (tt, refl, λ is. refl), refl)
+  fault-keeps took.NoMemory n = ((refl, refl), (refl, refl, refl), refl)
 
   take-keeps : (repo path : List ℕ) (n : ℕ) (count : ℕ) (invited : Bool) (stored : Stored)
       → Owes (after_take repo path n manner stored) 2 (stand_stored stored (drawn n None count invited))
-  take-keeps repo path n count invited (Ok blob) = ((refl, refl, refl), λ reply. put-keeps n blob invited reply)
-  take-keeps repo path n count invited (Err took.Torn) = (refl, λ reply. fault-keeps took.Torn invited 1)
-  take-keeps repo path n count invited (Err took.SourceFault) = (refl, λ reply. fault-keeps took.SourceFault invited 1)
-  take-keeps repo path n count invited (Err took.BlobFault) = (refl, λ reply. fault-keeps took.BlobFault invited 1)
-  take-keeps repo path n count invited (Err took.NoMemory) = (refl, λ reply. fault-keeps took.NoMemory invited 1)
+  take-keeps repo path n count invited (Ok blob) = ((refl, refl, refl), λ reply. put-keeps n blob reply)
+  take-keeps repo path n count invited (Err took.Torn) = (refl, λ reply. fault-keeps took.Torn 1)
+  take-keeps repo path n count invited (Err took.SourceFault) = (refl, λ reply. fault-keeps took.SourceFault 1)
+  take-keeps repo path n count invited (Err took.BlobFault) = (refl, λ reply. fault-keeps took.BlobFault 1)
+  take-keeps repo path n count invited (Err took.NoMemory) = (refl, λ reply. fault-keeps took.NoMemory 1)
 
   -- `100 Continue` before a body, or none
   continue-keeps : (cut body : Course) (n : ℕ) (s : Stand) → Owes cut n (failing stream.SinkFault s) → Owes body n (record s { invited = true })
@@ -111,6 +118,7 @@ module _ (manner : Manner) where
   file-body-keeps repo path count n true = (
     refl,
     refl,
+    refl,
     continue-keeps (gives_up n cut_off) (takes n count (after_take repo path n manner)) 2 (drawn n None count false) (refl, λ reply. ((refl, refl), refl))
         (refl, refl, refl, take-keeps repo path n count true),
   )
@@ -119,54 +127,54 @@ module _ (manner : Manner) where
   may_put-keeps : (repo path : List ℕ) (count : ℕ) (expects : Bool) (reply : Reply)
       → Owes (after_may_put repo path count expects manner reply) 2 (asked_draft reply (at_first count))
   may_put-keeps repo path count expects (draft n) = file-body-keeps repo path count n expects
-  may_put-keeps repo path count expects kind_refused = ((refl, refl), (tt, unread-closes manner.close count), refl)
-  may_put-keeps repo path count expects spent = ((refl, refl), (tt, unread-closes manner.close count), refl)
-  may_put-keeps repo path count expects reply = ((refl, refl), (refl, refl), refl)
+  may_put-keeps repo path count expects kind_refused = ((refl, refl), (tt, refl, unread-closes manner.close count), refl)
+  may_put-keeps repo path count expects spent = ((refl, refl), (tt, refl, unread-closes manner.close count), refl)
+  may_put-keeps repo path count expects reply = ((refl, refl), (refl, refl, refl), refl)
 
-  put_side-keeps : (invited : Bool) (n : ℕ) (reply : Reply) → Owes (after_put_side manner reply) n (has_put_side reply (empty 0 invited))
-  put_side-keeps invited n agreed = ((refl, refl), (tt, λ is. refl), refl)
-  put_side-keeps invited n (differs said kept) = ((refl, refl), (tt, λ is. refl), refl)
-  put_side-keeps invited n not_there = ((refl, refl), (tt, λ is. refl), refl)
-  put_side-keeps invited n reply = ((refl, refl), (refl, refl), refl)
+  put_side-keeps : (n : ℕ) (reply : Reply) → Owes (after_put_side manner reply) n (has_put_side reply (empty 0 true))
+  put_side-keeps n agreed = ((refl, refl), (tt, refl, λ is. refl), refl)
+  put_side-keeps n (differs said kept) = ((refl, refl), (tt, refl, λ is. refl), refl)
+  put_side-keeps n not_there = ((refl, refl), (tt, refl, λ is. refl), refl)
+  put_side-keeps n reply = ((refl, refl), (refl, refl, refl), refl)
 
-  compares-keeps : (repo path : List ℕ) (invited : Bool) (said : Option (List ℕ)) → Owes (compares repo path manner said) 3 (empty 0 invited)
-  compares-keeps repo path invited (Some digest) = (refl, λ reply. put_side-keeps invited 2 reply)
-  compares-keeps repo path invited None = ((refl, refl), (tt, λ is. refl), refl)
+  compares-keeps : (repo path : List ℕ) (said : Option (List ℕ)) → Owes (compares repo path manner said) 3 (empty 0 true)
+  compares-keeps repo path (Some digest) = (refl, λ reply. put_side-keeps 2 reply)
+  compares-keeps repo path None = ((refl, refl), (tt, refl, λ is. refl), refl)
 
   side-keeps : (repo path : List ℕ) (side : Side) (count : ℕ) (invited : Bool) (body : Body)
       → Owes (after_side repo path side manner body) 3 (stand_read body (empty count invited))
-  side-keeps repo path side count invited (Ok bytes) = compares-keeps repo path invited (read_side side bytes)
-  side-keeps repo path side count invited (Err fault) = fault-keeps fault invited 3
+  side-keeps repo path side count invited (Ok bytes) = compares-keeps repo path (read_side side bytes)
+  side-keeps repo path side count invited (Err fault) = fault-keeps fault 3
 
-  put_doc-keeps : (invited : Bool) (n : ℕ) (reply : Reply) → Owes (after_put_doc manner reply) n (has_put_doc reply (empty 0 invited))
-  put_doc-keeps invited n noted = ((refl, refl), (tt, λ is. refl), refl)
-  put_doc-keeps invited n reply = ((refl, refl), (refl, refl), refl)
+  put_doc-keeps : (n : ℕ) (reply : Reply) → Owes (after_put_doc manner reply) n (has_put_doc reply (empty 0 true))
+  put_doc-keeps n noted = ((refl, refl), (tt, refl, λ is. refl), refl)
+  put_doc-keeps n reply = ((refl, refl), (refl, refl, refl), refl)
 
-  notes-keeps : (repo path : List ℕ) (invited : Bool) (document : Result Document ℕ) → Owes (notes repo path manner document) 3 (empty 0 invited)
-  notes-keeps repo path invited (Ok document) = (refl, λ reply. put_doc-keeps invited 2 reply)
-  notes-keeps repo path invited (Err at) = ((refl, refl), (tt, λ is. refl), refl)
+  notes-keeps : (repo path : List ℕ) (document : Result Document ℕ) → Owes (notes repo path manner document) 3 (empty 0 true)
+  notes-keeps repo path (Ok document) = (refl, λ reply. put_doc-keeps 2 reply)
+  notes-keeps repo path (Err at) = ((refl, refl), (tt, refl, λ is. refl), refl)
 
   document-keeps : (repo path : List ℕ) (count : ℕ) (invited : Bool) (body : Body)
       → Owes (after_document repo path manner body) 3 (stand_read body (empty count invited))
-  document-keeps repo path count invited (Ok bytes) = notes-keeps repo path invited (reading bytes)
-  document-keeps repo path count invited (Err fault) = fault-keeps fault invited 3
+  document-keeps repo path count invited (Ok bytes) = notes-keeps repo path (reading bytes)
+  document-keeps repo path count invited (Err fault) = fault-keeps fault 3
 
   -- a small body, and what follows it
   small-keeps : (count : ℕ) (next : Body → Course) (expects : Bool) → ((invited : Bool) (body : Body) → Owes (next body) 3 (stand_read body (empty count invited)))
       → Owes (invites expects cut_off (reads count next)) 3 (at_first count)
   small-keeps count next true keeps =
-      (refl, refl, continue-keeps cut_off (reads count next) 3 (at_first count) ((refl, refl), refl) (refl, refl, keeps true))
+      (refl, refl, refl, continue-keeps cut_off (reads count next) 3 (at_first count) ((refl, refl), refl) (refl, refl, keeps true))
   small-keeps count next false keeps = (refl, refl, keeps false)
 
   status-keeps : (n : ℕ) (reply : Reply) → Owes (after_status manner reply) n (has_counted reply (at_first 0))
-  status-keeps n (counts_reply files fading cached documents sessions) = ((refl, refl), (tt, λ is. refl), refl)
-  status-keeps n reply = ((refl, refl), (refl, refl), refl)
+  status-keeps n (counts_reply files fading cached documents sessions) = ((refl, refl), (tt, refl, λ is. refl), refl)
+  status-keeps n reply = ((refl, refl), (refl, refl, refl), refl)
 
   clean-keeps : (pass : Pass) → Owes (after_clean manner pass) 0 (stand_cleaned pass (at_first 0))
-  clean-keeps (Ok done) = ((refl, refl), (tt, λ is. refl), refl)
-  clean-keeps (Err clean_fault.StoreFault) = ((refl, refl), (tt, λ is. refl), refl)
-  clean-keeps (Err clean_fault.BlobFault) = ((refl, refl), (tt, λ is. refl), refl)
-  clean-keeps (Err clean_fault.NoMemory) = ((refl, refl), (refl, refl), refl)
+  clean-keeps (Ok done) = ((refl, refl), (tt, refl, λ is. refl), refl)
+  clean-keeps (Err clean_fault.StoreFault) = ((refl, refl), (tt, refl, λ is. refl), refl)
+  clean-keeps (Err clean_fault.BlobFault) = ((refl, refl), (tt, refl, λ is. refl), refl)
+  clean-keeps (Err clean_fault.NoMemory) = ((refl, refl), (refl, refl, refl), refl)
 
   for-keeps : (expects : Bool) (intent : Intent) → Owes (course_for manner expects intent) (most_for intent) (at_first (length_of intent))
   for-keeps expects (reads_path repo path) = ((refl, refl), λ reply. look-keeps reply 1)
@@ -179,15 +187,15 @@ module _ (manner : Manner) where
 pub judged-keeps : (judged : Result Judged Refused) (last : Bool) → Keeps (is_head_only judged) (course_of judged last) (most_of judged) (at_first (unread_of judged))
 judged-keeps (Ok request) last =
     for-keeps (record { close = request.close; last = last; head_only = request.head_only }) request.expects request.intent
-judged-keeps (Err cause) last = ((refl, refl), (tt, λ is. refl), refl)
+judged-keeps (Err cause) last = ((refl, refl), (tt, refl, λ is. refl), refl)
 
 pub no-head-keeps : (fault : HeadFault) → Keeps false (refuses_head fault) 3 (at_first 0)
-no-head-keeps Broken = ((refl, refl), (tt, λ is. refl), refl)
-no-head-keeps TooLong = ((refl, refl), (tt, λ is. refl), refl)
+no-head-keeps Broken = ((refl, refl), (tt, refl, λ is. refl), refl)
+no-head-keeps TooLong = ((refl, refl), (tt, refl, λ is. refl), refl)
 
 -- how a stream stands before the course that it comes to, and whether that course's answers are heads alone
 abbrev pub standing : {settings : Settings} {last : Bool} {old new : Outside} {c : Course} → Opens settings last old new c → Stand
-standing (clean begins still is) = at_first 0
+standing (clean begins still is) = failing stream.Closed (at_first 0)
 standing (torn begins still is) = failing stream.TornRequest (at_first 0)
 standing (failed faults rose still is) = failing stream.SourceFault (at_first 0)
 standing (refused fault begins still is) = at_first 0
@@ -211,7 +219,8 @@ asking _ = 3
 
 pub opens-keeps : (settings : Settings) (last : Bool) (old new : Outside) (c : Course) (o : Opens settings last old new c)
     → Keeps (shows_head o) c (asking o) (standing o)
-opens-keeps settings last old new c (clean begins still is) = subst (λ (d : Course). Keeps false d 3 (at_first 0)) (sym is) ((refl, refl), (tt, λ goes. refl))
+opens-keeps settings last old new c (clean begins still is) =
+    subst (λ (d : Course). Keeps false d 3 (failing stream.Closed (at_first 0))) (sym is) ((refl, refl), refl)
 opens-keeps settings last old new c (torn begins still is) =
     subst (λ (d : Course). Keeps false d 3 (failing stream.TornRequest (at_first 0))) (sym is) ((refl, refl), refl)
 opens-keeps settings last old new c (failed faults rose still is) =
@@ -219,9 +228,9 @@ opens-keeps settings last old new c (failed faults rose still is) =
 opens-keeps settings last old new c (refused fault begins still is) =
     subst (λ (d : Course). Keeps false d 3 (at_first 0)) (sym is) (no-head-keeps fault)
 opens-keeps settings last old new c (unread_head begins still is) =
-    subst (λ (d : Course). Keeps false d 3 (starving (at_first 0))) (sym is) ((refl, refl), (refl, refl), refl)
+    subst (λ (d : Course). Keeps false d 3 (starving (at_first 0))) (sym is) ((refl, refl), (refl, refl, refl), refl)
 opens-keeps settings last old new c (starved head rest begins uses is) =
-    subst (λ (d : Course). Keeps (is_head head) d 3 (starving (at_first 0))) (sym is) ((refl, refl), (refl, refl), refl)
+    subst (λ (d : Course). Keeps (is_head head) d 3 (starving (at_first 0))) (sym is) ((refl, refl), (refl, refl, refl), refl)
 opens-keeps settings last old new c (served head rest begins uses is) =
     let judged = judge settings head in
     subst (λ (d : Course). Keeps (is_head_only judged) d (most_of judged) (at_first (unread_of judged))) (sym is) (judged-keeps judged last)
@@ -295,17 +304,18 @@ module _ (P : Option ℕ → Option ℕ → Type 0) where
 
   pub stored-holds : (stored : Stored) (s : Stand) → P s.draft s.lease → P (stand_stored stored s).draft (stand_stored stored s).lease
   stored-holds (Ok blob) s h = h
-  stored-holds (Err fault) s h = fault-holds fault (record s { unread = 0 }) h
+  stored-holds (Err fault) s h = fault-holds fault (has_read s) h
 
   pub read-holds : (body : Body) (s : Stand) → P s.draft s.lease → P (stand_read body s).draft (stand_read body s).lease
   read-holds (Ok bytes) s h = h
-  read-holds (Err fault) s h = fault-holds fault (record s { unread = 0 }) h
+  read-holds (Err fault) s h = fault-holds fault (has_read s) h
 
-  pub sent-holds : (result : Sent) (s : Stand) → P s.draft s.lease → P (stand_sent result s).draft (stand_sent result s).lease
-  sent-holds sent.Whole s h = h
-  sent-holds sent.BlobFault s h = h
-  sent-holds sent.SinkFault s h = h
-  sent-holds sent.NoMemory s h = h
+  pub sent-holds : (manner : Manner) (result : Sent) (s : Stand) → P s.draft s.lease
+      → P (stand_sent manner result s).draft (stand_sent manner result s).lease
+  sent-holds manner sent.Whole s h = h
+  sent-holds manner sent.BlobFault s h = h
+  sent-holds manner sent.SinkFault s h = h
+  sent-holds manner sent.NoMemory s h = h
 
   pub cleaned-holds : (pass : Pass) (s : Stand) → P s.draft s.lease → P (stand_cleaned pass s).draft (stand_cleaned pass s).lease
   cleaned-holds (Ok done) s h = h

@@ -82,14 +82,14 @@ module _ (tells : Type 0) (settings : Settings) where
         let rest = follows_leaves (next e.reply) n (stand_after command e.reply s) (k.1 e.reply) entries (after settings st e) legal.1 held old new end f.1 in
         record { nothing = rest.nothing; found = (now.1, rest.found) }
     follows_leaves (continues next) n s k entries st legal h old new end f =
-        follows_leaves (next f.0) n (stand_continued f.0 s) (k.2 f.0) entries st legal
+        follows_leaves (next f.0) n (stand_continued f.0 s) (k.3 f.0) entries st legal
         (continued-holds (λ d l. Holding before d l st.yard) f.0 s h) f.1 new end f.3
     follows_leaves (takes number count next) n s k entries st legal h old new end f =
         follows_leaves (next f.0) n (stand_stored f.0 s) (k.3 f.0) entries st legal (stored-holds (λ d l. Holding before d l st.yard) f.0 s h) f.1 new end f.3
     follows_leaves (reads count next) n s k entries st legal h old new end f =
         follows_leaves (next f.0) n (stand_read f.0 s) (k.2 f.0) entries st legal (read-holds (λ d l. Holding before d l st.yard) f.0 s h) f.1 new end f.3
     follows_leaves (sends blob manner next) n s k entries st legal h old new end f =
-        follows_leaves (next f.0) n (stand_sent f.0 s) (k.3 f.0) entries st legal (sent-holds (λ d l. Holding before d l st.yard) f.0 s h) f.1 new end f.3
+        follows_leaves (next f.0) n (stand_sent manner f.0 s) (k.5 f.0) entries st legal (sent-holds (λ d l. Holding before d l st.yard) manner f.0 s h) f.1 new end f.3
     follows_leaves (cleans repos next) n s k entries st legal h old new end f =
         let all = subst (λ (es : List Entry). Legal settings st es) f.4 legal in
         let cut = legal_cut st f.0 f.1 all in

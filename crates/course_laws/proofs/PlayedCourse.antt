@@ -14,6 +14,7 @@ use Rattle.repo_course.specs.Answers.{file_answer}
 use Rattle.repo_course.specs.Cleaning.{Passes, Store}
 use Rattle.repo_course.specs.declared.outcomes.CleanFault.TheVariants as clean_fault
 use Rattle.repo_course.specs.Course.{Body, Course, Pass, Stored, asks, continues, takes, reads, sends, cleans, says, stops}
+use Rattle.repo_course.specs.declared.manner.Manner.{Manner}
 use Rattle.repo_course.specs.declared.outcomes.Continued.{Continued}
 use Rattle.repo_course.specs.declared.outcomes.Continued.TheVariants as continued
 use Rattle.repo_course.specs.declared.outcomes.End.{End}
@@ -22,7 +23,7 @@ use Rattle.repo_course.specs.declared.outcomes.Sent.TheVariants as sent
 use Rattle.repo_course.specs.declared.outcomes.Took.TheVariants as took
 use Rattle.repo_course.specs.Serving.{Continues, Follows, Outside, Reads, SendsAnswer, Takes, store_of, with_store, writes}
 use Rattle.course_laws.specs.AsPlayed.{RowsTold}
-use Rattle.course_laws.specs.Duties.{by_memory, Keeps, MayAsk, Stand, asked_draft, has_counted, has_put, has_put_doc, has_put_side, looked, stand_after, stand_cleaned, stand_continued, stand_read, stand_sent, stand_stored}
+use Rattle.course_laws.specs.Duties.{by_memory, Keeps, MayAsk, Stand, asked_draft, has_counted, has_put, has_put_doc, has_put_side, has_read, looked, stand_after, stand_cleaned, stand_continued, stand_read, stand_sent, stand_stored}
 use Rattle.course_laws.specs.Faultless.{body_of, due_entry, play, taken_body, wrote}
 use Rattle.course_laws.proofs.LeftBehind.{end_append, legal_cut}
 use Rattle.course_laws.proofs.Passes.{entries-clock, entries-told, no-store-faults, passes-ask, passes-hold, passes-played, passes-rose}
@@ -141,10 +142,10 @@ module _ (settings : Settings) (tells : Type 0) (witness : tells) (head_only : B
       → Continues result old mid → Follows tells (next result) entries mid new end
       → Outcome before (play settings (continues next) (at st input)) old new (end_of settings st entries) end
   continues-play next ih continued.Written n s k hand entries st legal calm old mid new end input before ready quiet cause follows =
-      wrote-play settings tells head_only continue_bytes (next continued.Written) (ih continued.Written) n (stand_continued continued.Written s) (k.2 continued.Written) hand entries st legal calm
+      wrote-play settings tells head_only continue_bytes (next continued.Written) (ih continued.Written) n (stand_continued continued.Written s) (k.3 continued.Written) hand entries st legal calm
       old mid new end input before ready quiet cause follows
   continues-play next ih continued.SinkFault n s k hand entries st legal calm old mid new end input before ready quiet cause follows =
-      inr (sink-play settings tells head_only continue_bytes (play settings (next continued.Written) (at st input)).written cause.1 (next continued.SinkFault) n s (k.2 continued.SinkFault) cause.0
+      inr (sink-play settings tells head_only continue_bytes (play settings (next continued.Written) (at st input)).written cause.1 (next continued.SinkFault) n s (k.3 continued.SinkFault) cause.0
       entries st old mid new end input before ready cause.2 cause.3 cause.4 follows)
 
   takes-play : (number count : ℕ) (next : Stored → Course) → ((stored : Stored) → Plays settings tells head_only (next stored)) → (stored : Stored) (n : ℕ) (s : Stand)
@@ -176,13 +177,13 @@ module _ (settings : Settings) (tells : Type 0) (witness : tells) (head_only : B
   takes-play number count next ih (Err took.Torn) n s k hand entries st legal calm old mid new end input before ready quiet first grows cause follows =
       subst (λ r. Outcome before (play settings (next r) (at st (drop count input))) old new (end_of settings st entries) end)
       (sym (taken-torn number count input (short-of settings tells head_only count old mid st input before ready cause)))
-      (torn-play settings tells head_only count (next (Err took.Torn)) n (record s { unread = 0 }) (k.3 (Err took.Torn)) entries st old mid new end input before ready cause follows)
+      (torn-play settings tells head_only count (next (Err took.Torn)) n (has_read s) (k.3 (Err took.Torn)) entries st old mid new end input before ready cause follows)
   takes-play number count next ih (Err took.SourceFault) n s k hand entries st legal calm old mid new end input before ready quiet first grows cause follows =
-      inr (source-play settings tells head_only count _ (next (Err took.SourceFault)) n (record s { unread = 0 }) (k.3 (Err took.SourceFault)) entries st old mid new end input before ready cause follows)
+      inr (source-play settings tells head_only count _ (next (Err took.SourceFault)) n (has_read s) (k.3 (Err took.SourceFault)) entries st old mid new end input before ready cause follows)
   takes-play number count next ih (Err took.BlobFault) n s k hand entries st legal calm old mid new end input before ready quiet first grows cause follows =
       risen old.blob_faults cause.0 new.blob_faults cause.2 (subst (λ m. m ≤ new.blob_faults) (ap (λ o. o.blob_faults) cause.3.3) grows.blobs) quiet
   takes-play number count next ih (Err took.NoMemory) n s k hand entries st legal calm old mid new end input before ready quiet first grows cause follows =
-      inr (memory-play settings tells head_only _ (next (Err took.NoMemory)) n (record s { unread = 0 }) (k.3 (Err took.NoMemory)) entries st old mid new end input before ready first
+      inr (memory-play settings tells head_only _ (next (Err took.NoMemory)) n (has_read s) (k.3 (Err took.NoMemory)) entries st old mid new end input before ready first
       (unwritten settings tells head_only count old mid cause) follows)
 
   reads-play : (count : ℕ) (next : Body → Course) → ((body : Body) → Plays settings tells head_only (next body)) → (body : Body) (n : ℕ) (s : Stand)
@@ -210,41 +211,41 @@ module _ (settings : Settings) (tells : Type 0) (witness : tells) (head_only : B
   reads-play count next ih (Err took.Torn) n s k hand entries st legal calm old mid new end input before ready quiet first cause follows =
       subst (λ r. Outcome before (play settings (next r) (at st (drop count input))) old new (end_of settings st entries) end)
       (sym (body-torn count input (short-of settings tells head_only count old mid st input before ready cause)))
-      (torn-play settings tells head_only count (next (Err took.Torn)) n (record s { unread = 0 }) (k.2 (Err took.Torn)) entries st old mid new end input before ready cause follows)
+      (torn-play settings tells head_only count (next (Err took.Torn)) n (has_read s) (k.2 (Err took.Torn)) entries st old mid new end input before ready cause follows)
   reads-play count next ih (Err took.SourceFault) n s k hand entries st legal calm old mid new end input before ready quiet first cause follows =
-      inr (source-play settings tells head_only count _ (next (Err took.SourceFault)) n (record s { unread = 0 }) (k.2 (Err took.SourceFault)) entries st old mid new end input before ready cause follows)
+      inr (source-play settings tells head_only count _ (next (Err took.SourceFault)) n (has_read s) (k.2 (Err took.SourceFault)) entries st old mid new end input before ready cause follows)
   reads-play count next ih (Err took.BlobFault) n s k hand entries st legal calm old mid new end input before ready quiet first cause follows = absurd cause
   reads-play count next ih (Err took.NoMemory) n s k hand entries st legal calm old mid new end input before ready quiet first cause follows =
-      inr (memory-play settings tells head_only _ (next (Err took.NoMemory)) n (record s { unread = 0 }) (k.2 (Err took.NoMemory)) entries st old mid new end input before ready first
+      inr (memory-play settings tells head_only _ (next (Err took.NoMemory)) n (has_read s) (k.2 (Err took.NoMemory)) entries st old mid new end input before ready first
       (unwritten settings tells head_only count old mid cause) follows)
 
   -- a file's answer, or its head alone
-  sends-play : (only : Bool) (blob : Blob) (head : List ℕ) (next : Sent → Course) → ((result : Sent) → Plays settings tells head_only (next result)) → (result : Sent) (n : ℕ) (s : Stand)
-      → s.blob ≡ Some blob → ((result : Sent) → Keeps head_only (next result) n (stand_sent result s)) → InHandTold s.blob → (entries : List Entry) (st : State)
+  sends-play : (only : Bool) (blob : Blob) (manner : Manner) (head : List ℕ) (next : Sent → Course) → ((result : Sent) → Plays settings tells head_only (next result)) → (result : Sent) (n : ℕ) (s : Stand)
+      → s.blob ≡ Some blob → ((result : Sent) → Keeps head_only (next result) n (stand_sent manner result s)) → InHandTold s.blob → (entries : List Entry) (st : State)
       → Legal settings st entries → Calm st.faults (end_of settings st entries).faults → (old mid new : Outside) (end : Option End) (input before : List ℕ)
       → Ready old st input before → Calm old.blob_faults new.blob_faults → Grew old mid → Grew mid new → SendsAnswer only blob head result old mid
       → Follows tells (next result) entries mid new end
       → Outcome before (wrote (head ++ (if only then [] else unwrap_or blob.bytes [])) (play settings (next sent.Whole) (at st input))) old new (end_of settings st entries) end
-  sends-play true blob head next ih sent.Whole n s is k hand entries st legal calm old mid new end input before ready quiet first grows cause follows =
+  sends-play true blob manner head next ih sent.Whole n s is k hand entries st legal calm old mid new end input before ready quiet first grows cause follows =
       subst (λ all. Outcome before (wrote all (play settings (next sent.Whole) (at st input))) old new (end_of settings st entries) end) (sym (append-nil head))
-      (wrote-play settings tells head_only head (next sent.Whole) (ih sent.Whole) n s (k sent.Whole) hand entries st legal calm old mid new end input before ready quiet cause follows)
-  sends-play true blob head next ih sent.BlobFault n s is k hand entries st legal calm old mid new end input before ready quiet first grows cause follows = absurd cause
-  sends-play true blob head next ih sent.SinkFault n s is k hand entries st legal calm old mid new end input before ready quiet first grows cause follows =
+      (wrote-play settings tells head_only head (next sent.Whole) (ih sent.Whole) n (stand_sent manner sent.Whole s) (k sent.Whole) hand entries st legal calm old mid new end input before ready quiet cause follows)
+  sends-play true blob manner head next ih sent.BlobFault n s is k hand entries st legal calm old mid new end input before ready quiet first grows cause follows = absurd cause
+  sends-play true blob manner head next ih sent.SinkFault n s is k hand entries st legal calm old mid new end input before ready quiet first grows cause follows =
       inr (sink-play settings tells head_only (head ++ []) (play settings (next sent.Whole) (at st input)).written cause.1 (next sent.SinkFault) n s (k sent.SinkFault) cause.0
       entries st old mid new end input before ready cause.2 (cause.3.0, append-nil head ∙ cause.3.1) cause.4 follows)
-  sends-play true blob head next ih sent.NoMemory n s is k hand entries st legal calm old mid new end input before ready quiet first grows cause follows =
+  sends-play true blob manner head next ih sent.NoMemory n s is k hand entries st legal calm old mid new end input before ready quiet first grows cause follows =
       inr (memory-play settings tells head_only _ (next sent.NoMemory) n s (k sent.NoMemory) entries st old mid new end input before ready first (ap (λ o. o.output) cause) follows)
-  sends-play false blob head next ih sent.Whole n s is k hand entries st legal calm old mid new end input before ready quiet first grows cause follows =
+  sends-play false blob manner head next ih sent.Whole n s is k hand entries st legal calm old mid new end input before ready quiet first grows cause follows =
       let bytes = bytes-are blob.bytes cause.0 (subst (λ b. InHandTold b) is hand) cause.1 in
-      wrote-play settings tells head_only (head ++ unwrap_or blob.bytes []) (next sent.Whole) (ih sent.Whole) n s (k sent.Whole) hand entries st legal calm old mid new end input before ready quiet
+      wrote-play settings tells head_only (head ++ unwrap_or blob.bytes []) (next sent.Whole) (ih sent.Whole) n (stand_sent manner sent.Whole s) (k sent.Whole) hand entries st legal calm old mid new end input before ready quiet
       (cause.2 ∙ ap (λ b. writes (head ++ b) old) (sym bytes)) follows
-  sends-play false blob head next ih sent.BlobFault n s is k hand entries st legal calm old mid new end input before ready quiet first grows cause follows =
+  sends-play false blob manner head next ih sent.BlobFault n s is k hand entries st legal calm old mid new end input before ready quiet first grows cause follows =
       risen old.blob_faults cause.0 new.blob_faults cause.1 (subst (λ m. m ≤ new.blob_faults) (ap (λ o. o.blob_faults) cause.2) grows.blobs) quiet
-  sends-play false blob head next ih sent.SinkFault n s is k hand entries st legal calm old mid new end input before ready quiet first grows cause follows =
+  sends-play false blob manner head next ih sent.SinkFault n s is k hand entries st legal calm old mid new end input before ready quiet first grows cause follows =
       let bytes = bytes-are blob.bytes cause.1 (subst (λ b. InHandTold b) is hand) cause.4 in
       inr (sink-play settings tells head_only (head ++ unwrap_or blob.bytes []) (play settings (next sent.Whole) (at st input)).written cause.2 (next sent.SinkFault) n s (k sent.SinkFault) cause.0
       entries st old mid new end input before ready cause.3 (cause.5.0, ap (λ b. head ++ b) bytes ∙ cause.5.1) cause.6 follows)
-  sends-play false blob head next ih sent.NoMemory n s is k hand entries st legal calm old mid new end input before ready quiet first grows cause follows =
+  sends-play false blob manner head next ih sent.NoMemory n s is k hand entries st legal calm old mid new end input before ready quiet first grows cause follows =
       inr (memory-play settings tells head_only _ (next sent.NoMemory) n s (k sent.NoMemory) entries st old mid new end input before ready first (ap (λ o. o.output) cause) follows)
 
   -- a pass
@@ -292,7 +293,7 @@ module _ (settings : Settings) (tells : Type 0) (witness : tells) (head_only : B
       (reads-body-grew count f.0 old f.1 f.2) f.2 f.3
   course-play (sends blob manner next) n s k hand entries st legal calm old new end input before ready quiet f =
       let head = shown (file_answer blob manner) in
-      sends-play manner.head_only blob head next (λ r. course-play (next r)) f.0 n s k.0 k.3 hand entries st legal calm old f.1 new end input before ready quiet
+      sends-play manner.head_only blob manner head next (λ r. course-play (next r)) f.0 n s k.0 k.5 hand entries st legal calm old f.1 new end input before ready quiet
       (sends-grew manner.head_only blob head f.0 old f.1 f.2) (follows-grew tells (next f.0) entries f.1 new end f.3) f.2 f.3
   course-play (cleans repos next) n s k hand entries st legal calm old new end input before ready quiet f =
       let all = subst (λ (es : List Entry). Legal settings st es) f.4 legal in

@@ -1,6 +1,7 @@
--- What a course owes, step by step: the draft and the lease that it holds, the bytes of the body that it has not read, the
--- commands that it may still ask, and how it ends once a side of the stream failed or memory was wanted.
-use Rattle.std.specs.Prelude.{◌≡◌, ℕ, zero, suc, ◌+◌, ◌≤◌, max, length, Bool, true, false, Option, Some, None, Result, Ok, Err}
+-- What a course owes, step by step: the draft and the lease that it holds, the bytes of the body that it has not read, the one
+-- answer that it gives, the commands that it may still ask, and how it ends once a side of the stream failed or memory was
+-- wanted.
+use Rattle.std.specs.Prelude.{◌≡◌, ℕ, zero, suc, ◌+◌, ◌≤◌, max, length, Bool, true, false, Option, Some, None, IsSome, Result, Ok, Err}
 use Rattle.repo_model.specs.Data.{Blob, repository}
 use Rattle.repo_model.specs.Command.{Command, look, done, may_put, put, put_side, put_doc, drop_draft, status}
 use Rattle.repo_model.specs.Reply.{Reply, file, text, doc, missed, kind_refused, draft, no_draft, taken, same, relisted, created, not_there, differs, agreed, noted, counts as counts_reply, spent, store_fault}
@@ -9,7 +10,7 @@ use Rattle.repo_routes.specs.Intent.{Intent, Judged, reads as reads_path, puts_f
 use Rattle.repo_routes.specs.declared.judging.Refused.{Refused}
 use Rattle.repo_course.specs.Answers.{at_end}
 use Rattle.repo_course.specs.declared.outcomes.CleanFault.TheVariants as clean
-use Rattle.repo_course.specs.Course.{Body, Course, Pass, Stored, asks, continues, takes, reads, sends, cleans, says, stops}
+use Rattle.repo_course.specs.Course.{Body, Course, Pass, Stored, asks, continues, takes, reads, sends, cleans, says, stops, end_of}
 use Rattle.repo_course.specs.declared.manner.Manner.{Manner}
 use Rattle.repo_course.specs.declared.outcomes.Continued.{Continued}
 use Rattle.repo_course.specs.declared.outcomes.Continued.TheVariants as continued
@@ -34,14 +35,16 @@ pub record Stand : Type 0 where
   pub lease : Option ℕ
   -- the blob in its hands: a body that was stored, or a file that was lent
   pub blob : Option Blob
-  -- how many bytes of the request's body are not read, and whether `100 Continue` was written
+  -- how many bytes of the request's body are not read, and whether it was invited, by `100 Continue` or by reading it
   pub unread : ℕ
   pub invited : Bool
+  -- the manner of a file's answer that was sent whole
+  pub sent : Option Manner
   pub early : Option Early
 
 -- before the first command, with a body of so many bytes to come
 abbrev pub at_first : ℕ → Stand
-at_first count = record { draft = None; lease = None; blob = None; unread = count; invited = false; early = None }
+at_first count = record { draft = None; lease = None; blob = None; unread = count; invited = false; sent = None; early = None }
 
 abbrev pub starving : Stand → Stand
 starving s = record s { early = Some by_memory }
@@ -51,6 +54,9 @@ failing end s = record s { early = Some (by_side end) }
 
 abbrev pub without_draft : Stand → Stand
 without_draft s = record s { draft = None }
+
+abbrev pub has_read : Stand → Stand
+has_read s = record s { unread = 0; invited = true }
 
 -- after each command; any reply that it can't get counts as want of memory
 abbrev pub looked : Reply → Stand → Stand
@@ -125,24 +131,18 @@ stand_fault took.BlobFault s = s
 stand_fault took.NoMemory s = starving s
 
 abbrev pub stand_stored : Stored → Stand → Stand
-stand_stored (Ok blob) s = record s { blob = Some blob; unread = 0 }
-stand_stored (Err fault) s = stand_fault fault (record s { unread = 0 })
+stand_stored (Ok blob) s = record (has_read s) { blob = Some blob }
+stand_stored (Err fault) s = stand_fault fault (has_read s)
 
 abbrev pub stand_read : Body → Stand → Stand
-stand_read (Ok bytes) s = record s { unread = 0 }
-stand_read (Err fault) s = stand_fault fault (record s { unread = 0 })
+stand_read (Ok bytes) s = has_read s
+stand_read (Err fault) s = stand_fault fault (has_read s)
 
-abbrev pub stand_sent : Sent → Stand → Stand
-stand_sent sent.Whole s = s
-stand_sent sent.BlobFault s = s
-stand_sent sent.SinkFault s = failing stream.SinkFault s
-stand_sent sent.NoMemory s = starving s
-
--- the stream goes on, or is closed
-abbrev pub IsCalm : Option End → Type 0
-IsCalm None = Unit {0}
-IsCalm (Some stream.Closed) = Unit {0}
-IsCalm _ = ⊥
+abbrev pub stand_sent : Manner → Sent → Stand → Stand
+stand_sent manner sent.Whole s = record s { sent = Some manner }
+stand_sent manner sent.BlobFault s = s
+stand_sent manner sent.SinkFault s = failing stream.SinkFault s
+stand_sent manner sent.NoMemory s = starving s
 
 abbrev pub stand_cleaned : Pass → Stand → Stand
 stand_cleaned (Err clean.NoMemory) s = starving s
@@ -152,37 +152,39 @@ abbrev pub IsAnswer : Said → Type 0
 IsAnswer NoMemory = ⊥
 IsAnswer said = Unit {0}
 
--- Want of memory is said where it was wanted, and only there; behind a failure nothing is said. The connection goes on only
--- where the body was read.
+-- Want of memory is said where it was wanted, and only there; nothing is said behind a failure, nor behind a file that was
+-- sent whole. The connection goes on only where the body was read.
 abbrev pub SaysFor : Stand → Option Early → Said → Manner → Type 0
-SaysFor s None said manner = IsAnswer said × (manner.close ≡ false → s.unread ≡ 0)
-SaysFor s (Some by_memory) said manner = (said ≡ NoMemory) × (manner ≡ at_end manner.head_only)
+SaysFor s None said manner = IsAnswer said × (s.sent ≡ None) × (manner.close ≡ false → s.unread ≡ 0)
+SaysFor s (Some by_memory) said manner = (said ≡ NoMemory) × (manner ≡ at_end manner.head_only) × (s.sent ≡ None)
 SaysFor s (Some (by_side side)) said manner = ⊥
 
+-- No more is said only where a file was sent whole, which ends the stream as its manner says, or where a side failed.
 abbrev pub StopsFor : Stand → Option Early → Option End → Type 0
-StopsFor s None end = IsCalm end × (end ≡ None → s.unread ≡ 0)
+StopsFor s None end = (manner : Manner) × (s.sent ≡ Some manner) × (end ≡ end_of manner) × (end ≡ None → s.unread ≡ 0)
 StopsFor s (Some by_memory) end = ⊥
 StopsFor s (Some (by_side side)) end = end ≡ Some side
 
 abbrev pub HoldsNothing : Stand → Type 0
 HoldsNothing s = (s.draft ≡ None) × (s.lease ≡ None)
 
--- The course does what it owes, with at most so many commands: `100 Continue` comes at most once and before the body, and
--- each answer is a head alone, or none is.
+-- The course does what it owes, with at most so many commands: `100 Continue` comes at most once, before the body and the
+-- answer; one answer is given, unless a side of the stream failed; the lease is held while a file is sent; and the answer is
+-- a head alone where it has to be, and else is not.
 abbrev pub Keeps : (head_only : Bool) → Course → ℕ → Stand → Type 0
 Keeps head_only (asks command next) zero s = ⊥
 Keeps head_only (asks command next) (suc n) s =
     MayAsk command s × ((reply : Reply) → Keeps head_only (next reply) n (stand_after command reply s))
 Keeps head_only (continues next) n s =
-    (s.invited ≡ false) × (s.early ≡ None) × ((result : Continued) → Keeps head_only (next result) n (stand_continued result s))
+    (s.invited ≡ false) × (s.early ≡ None) × (s.sent ≡ None) × ((result : Continued) → Keeps head_only (next result) n (stand_continued result s))
 Keeps head_only (takes number count next) n s =
     (s.draft ≡ Some number) × (s.early ≡ None) × (s.unread ≡ count)
     × ((stored : Stored) → Keeps head_only (next stored) n (stand_stored stored s))
 Keeps head_only (reads count next) n s =
     (s.early ≡ None) × (s.unread ≡ count) × ((body : Body) → Keeps head_only (next body) n (stand_read body s))
 Keeps head_only (sends blob manner next) n s =
-    (s.blob ≡ Some blob) × (s.early ≡ None) × (manner.head_only ≡ head_only)
-    × ((result : Sent) → Keeps head_only (next result) n (stand_sent result s))
+    (s.blob ≡ Some blob) × (s.early ≡ None) × (s.sent ≡ None) × IsSome s.lease × (manner.head_only ≡ head_only)
+    × ((result : Sent) → Keeps head_only (next result) n (stand_sent manner result s))
 Keeps head_only (cleans repos next) n s =
     HoldsNothing s × (s.early ≡ None) × (length repos + 1 ≤ n) × ((pass : Pass) → Keeps head_only (next pass) 0 (stand_cleaned pass s))
 Keeps head_only (says said manner) n s = HoldsNothing s × SaysFor s s.early said manner × (manner.head_only ≡ head_only)
