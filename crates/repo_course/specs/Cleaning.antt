@@ -75,8 +75,8 @@ Removes blobs old new (Err fault) =
     × FailsBy fault (record old { shelf = without_blobs gone old.shelf }) new
 
 abbrev pub cleaned : ℕ → Result ℕ CleanFault → Result Cleaned CleanFault
-cleaned unlisted (Ok removed) = Ok (record { unlisted = unlisted; removed = removed })
-cleaned unlisted (Err fault) = Err fault
+cleaned count (Ok removed) = Ok (record { unlisted = count; removed = removed })
+cleaned count (Err fault) = Err fault
 
 -- A pass, by how far it comes: a repository does not unlist, nothing is collected, or what is collected is removed.
 pub data Passes (repos : List (List ℕ)) (entries : List Entry) (old new : Store) (result : Result Cleaned CleanFault) : Type 0 where
