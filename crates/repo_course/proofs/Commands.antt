@@ -77,7 +77,7 @@ all-found : (rules : List Rule) → AllByRecursion (λ id. IsTrue (is_one_of id 
 all-found [] = tt
 all-found (rule ∷ rules) = (found-first rule rules, all-behind rule rules (map (λ (other : Rule). other.id) rules) (all-found rules))
 
-hosted-meet : (settings : Settings) → MeetAll settings (hosted_ids settings)
+pub hosted-meet : (settings : Settings) → MeetAll settings (hosted_ids settings)
 unfolding is_one_of
 hosted-meet settings = all-found settings.hosted
 

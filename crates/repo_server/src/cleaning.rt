@@ -1,10 +1,10 @@
 //! A pass over the repositories: each is purged, and garbage is removed.
-ghost use Rattle.std.specs.Prelude.{◌≡◌, List};
-ghost use Rattle.repo_model.specs.Command.{unlist};
+ghost use Rattle.std.specs.Prelude.{◌≡◌, IsTrue, List};
+ghost use Rattle.repo_model.specs.Command.{meets, unlist};
 ghost use Rattle.repo_model.specs.History.{Entry};
 ghost use Rattle.repo_model.specs.Shown.{shown_command, shown_reply};
 ghost use Rattle.repo_course.specs.Asking.{IsWoven, LeadsTo};
-ghost use Rattle.repo_course.specs.Cleaning.{Collects, FailsBy, Passes, PassesAll, Removes, SaysCollected, SaysUnlisted, Unlists, store};
+ghost use Rattle.repo_course.specs.Cleaning.{Collects, Passes, PassesAll, Removes, SaysCollected, SaysUnlisted, Unlists, store};
 ghost use Rattle.repo_course.specs.Meets.{MeetAll};
 ghost use Rattle.repo_server.specs.Removed.{RemovesOne};
 
@@ -44,7 +44,7 @@ fn unlist_one<B: Blobs, A: Ask<Call = Command<B::Held>, Given = Reply<B::Held>>>
     requires asked { (call : _) → A.asked call ≡ shown_command call }
     requires answered { (reply : _) → A.answered reply ≡ shown_reply reply }
     requires ready { A.ready asker.old }
-    requires meets { MeetAll (A.settings asker.old) (repo ∷ []) }
+    requires meets { IsTrue (meets (A.settings asker.old) (unlist repo)) }
     ensures unlists { (entry : Entry) × A.asks asker.old entry asker.new × (entry.command ≡ unlist repo) × SaysUnlisted entry.reply result }
     ensures ready { A.ready asker.new }
     ensures settings { A.settings asker.new ≡ A.settings asker.old }
@@ -69,8 +69,10 @@ fn unlist_all<B: Blobs, A: Ask<Call = Command<B::Held>, Given = Reply<B::Held>>>
 {
     let mut count: u64 = 0;
     for repo in repos {
-        let more = unlist_one(asker, repo)?;
-        count = count.saturating_add(more);
+        match unlist_one::<B, A>(asker, repo) {
+            Ok(more) => count = count.saturating_add(more),
+            Err(fault) => return Err(fault),
+        }
     }
     Ok(count)
 }
@@ -106,7 +108,10 @@ fn remove_all<B: Blobs>(blobs: &mut B, garbage: &[u64]) -> Result<u64, CleanFaul
     ensures { Removes garbage.now (store (B.shelf blobs.old) (B.faults blobs.old)) (store (B.shelf blobs.new) (B.faults blobs.new)) result }
 {
     for blob in garbage {
-        remove(blobs, *blob)?;
+        match remove(blobs, *blob) {
+            Ok(()) => {}
+            Err(fault) => return Err(fault),
+        }
     }
     Ok(garbage.len() as u64)
 }
@@ -126,10 +131,18 @@ pub(crate) fn clean<B: Blobs, A: Ask<Call = Command<B::Held>, Given = Reply<B::H
     ensures ready { A.ready asker.new }
     ensures settings { A.settings asker.new ≡ A.settings asker.old }
 {
-    let unlisted = unlist_all(asker, repos.into_vec())?;
-    let garbage = collect(asker)?;
-    let removed = remove_all(blobs, garbage.as_slice())?;
-    Ok(Cleaned { unlisted, removed })
+    let unlisted = match unlist_all::<B, A>(asker, repos.into_vec()) {
+        Ok(unlisted) => unlisted,
+        Err(fault) => return Err(fault),
+    };
+    let garbage = match collect::<B, A>(asker) {
+        Ok(garbage) => garbage,
+        Err(fault) => return Err(fault),
+    };
+    match remove_all(blobs, garbage.as_slice()) {
+        Ok(removed) => Ok(Cleaned { unlisted, removed }),
+        Err(fault) => Err(fault),
+    }
 }
 
 /// A pass over all hosted repositories: each is asked once, in the order of the settings, to unlist the files that it does not
