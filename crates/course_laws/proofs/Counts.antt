@@ -1,6 +1,7 @@
 -- The counts of faults never fall, so that where they stand still no fault happened.
 use Rattle.std.proofs.Common.{◌≡◌, ℕ, zero, suc, ◌≤◌, ◌<◌, Bool, true, false, List, [], ◌∷◌, inl, inr, Option, Some, None, Result, Ok, Err, refl, sym, subst, ap, arith}
 use Rattle.std.specs.Prelude.{◌==◌}
+use Rattle.outside.specs.Blobs.{with_blob}
 use Rattle.outside.specs.Faults.{Rose, last_count}
 use Rattle.http_wire.specs.Answer.{shown}
 use Rattle.http_wire.specs.declared.answers.Answer.{Answer}
@@ -79,7 +80,8 @@ reads-body-grew count (Ok body) old new t = reads-grew old new (t.0, t.3)
 reads-body-grew count (Err fault) old new t = fault-grew count fault old new t
 
 pub takes-grew : (tells : Type 0) (number count : ℕ) (stored : Stored) (old new : Outside) → Takes tells number count stored old new → Grew old new
-takes-grew tells number count (Ok blob) old new t = reads-grew old new (t.1.0, t.1.3)
+takes-grew tells number count (Ok blob) old new t =
+    let mid : Outside = record old { input = t.1.0; shelf = with_blob number t.0 old.shelf } in from-is old mid new (grew old mid refl refl refl) t.1.3
 takes-grew tells number count (Err took.Torn) old new t = fault-grew count took.Torn old new t
 takes-grew tells number count (Err took.SourceFault) old new t = fault-grew count took.SourceFault old new t
 takes-grew tells number count (Err took.BlobFault) old new t =

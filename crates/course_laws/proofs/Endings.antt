@@ -1,5 +1,5 @@
 -- The count of the side whose failure ended a stream rose, and no other count of its sides; and few commands were asked.
-use Rattle.std.proofs.Common.{◌≡◌, ◌⊎◌, ℕ, zero, suc, ◌*◌, ◌≤◌, Bool, true, false, inl, inr, List, [], ◌∷◌, length, Option, Some, None, Ok, Err, arith, sym, subst, ap, ◌∙◌, length-append, IfOk, Result}
+use Rattle.std.proofs.Common.{◌≡◌, ◌⊎◌, ℕ, zero, suc, ◌+◌, ◌*◌, ◌≤◌, Bool, true, false, inl, inr, List, [], ◌∷◌, length, Option, Some, None, Ok, Err, arith, sym, subst, ap, ◌∙◌, length-append, IfOk, Result}
 use Rattle.std.proofs.lemmas.List.{length-map}
 use Rattle.http_wire.specs.Head.{Head}
 use Rattle.std.specs.Prelude.{◌==◌}

@@ -171,7 +171,7 @@ module _ (manner : Manner) where
   status-keeps n reply = ((refl, refl), (refl, refl, refl), refl)
 
   clean-keeps : (pass : Pass) → Owes (after_clean manner pass) 0 (stand_cleaned pass (at_first 0))
-  clean-keeps (Ok done) = ((refl, refl), (tt, refl, λ is. refl), refl)
+  clean-keeps (Ok cleaned) = ((refl, refl), (tt, refl, λ is. refl), refl)
   clean-keeps (Err clean_fault.StoreFault) = ((refl, refl), (tt, refl, λ is. refl), refl)
   clean-keeps (Err clean_fault.BlobFault) = ((refl, refl), (tt, refl, λ is. refl), refl)
   clean-keeps (Err clean_fault.NoMemory) = ((refl, refl), (refl, refl, refl), refl)
@@ -318,7 +318,7 @@ module _ (P : Option ℕ → Option ℕ → Type 0) where
   sent-holds manner sent.NoMemory s h = h
 
   pub cleaned-holds : (pass : Pass) (s : Stand) → P s.draft s.lease → P (stand_cleaned pass s).draft (stand_cleaned pass s).lease
-  cleaned-holds (Ok done) s h = h
+  cleaned-holds (Ok cleaned) s h = h
   cleaned-holds (Err clean_fault.StoreFault) s h = h
   cleaned-holds (Err clean_fault.BlobFault) s h = h
   cleaned-holds (Err clean_fault.NoMemory) s h = h

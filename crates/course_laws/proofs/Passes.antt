@@ -369,17 +369,20 @@ module _ (settings : Settings) (repos : List (List ℕ)) (entries first : List E
       let counted : count ≡ min (sum_by (λ (e : Entry). unlisted_by e.reply) entries) last_count = u.3 ∙ ap (λ n. min n last_count) (sym unlisted-sum) in
       ap Ok (λ i. record { unlisted = counted i; removed = sym garbage-sum i })
 
+abbrev as_pass : Cleaned → Pass
+as_pass done = Ok done
+
 -- one that is done is the one that is played
 pub passes-played : (settings : Settings) (repos : List (List ℕ)) (entries : List Entry) (old new : Store) (done : Cleaned) (s : State) → Legal settings s entries
     → Calm s.faults (end_of settings s entries).faults → IsSome s.clock → Passes repos entries old new (Ok done)
-    → (entries ≡ pass_entries settings s repos) × (Ok {E = CleanFault} done ≡ Ok (done_by (pass_entries settings s repos)))
+    → (entries ≡ pass_entries settings s repos) × (as_pass done ≡ as_pass (done_by (pass_entries settings s repos)))
 passes-played settings repos entries old new done s legal calm told (not_unlisted fault u still is) = absurd (cc)
 passes-played settings repos entries old new done s legal calm told (not_collected first last count fault parts u c still is) = absurd (cc)
 passes-played settings repos entries old new done s legal calm told (removing first last count blobs (Ok n) parts u c r is) =
     let same = pass-is-played settings repos entries first last count blobs parts u c s legal calm told in (
       same,
       is ∙ ap (λ m. cleaned count (Ok m)) r.0 ∙ pass-done settings repos entries first last count blobs parts u c
-      ∙ ap (λ (es : List Entry). Ok {E = CleanFault} (done_by es)) same,
+      ∙ ap (λ (es : List Entry). as_pass (done_by es)) same,
     )
 passes-played settings repos entries old new done s legal calm told (removing first last count blobs (Err fault) parts u c r is) = absurd (cc)
 

@@ -3,6 +3,7 @@ use Rattle.std.proofs.Common.{◌≡◌, ℕ, zero, suc, ◌≤◌, Bool, true, 
 use Rattle.std.specs.Prelude.{if◌then◌else◌, unwrap_or}
 use Rattle.std.proofs.lemmas.Bool.{false≢true}
 use Rattle.std.proofs.Math.Seq.{drop-append_seam}
+use Rattle.outside.specs.Blobs.{with_blob}
 use Rattle.http_wire.specs.Answer.{continue_bytes, shown}
 use Rattle.repo_model.specs.Command.{Command, look, done, may_put, put, put_side, put_doc, drop_draft, status}
 use Rattle.repo_model.specs.Data.{Blob}
@@ -156,8 +157,8 @@ module _ (settings : Settings) (tells : Type 0) (witness : tells) (head_only : B
   takes-play number count next ih (Ok blob) n s k hand entries st legal calm old mid new end input before ready quiet first grows cause follows =
       let body = cause.0 in
       let got = front-of input body cause.1.0 (sym ready.input_is ∙ cause.1.2) in
-      let o : Outside = record old { input = Some got.0 } in
-      let mid-is : mid ≡ o = cause.1.3 ∙ ap (λ i. record old { input = i }) got.1 in
+      let o : Outside = record old { input = Some got.0; shelf = with_blob number body old.shelf } in
+      let mid-is : mid ≡ o = cause.1.3 ∙ ap (λ i. record old { input = i; shelf = with_blob number body old.shelf }) got.1 in
       let some = cause.5 witness in
       let told = told-is blob.bytes body cause.4 some in
       let ready' : Ready o st got.0 before = record {
@@ -265,7 +266,7 @@ module _ (settings : Settings) (tells : Type 0) (witness : tells) (head_only : B
       absurd (passes-hold repos mine _ kept _ cause (no-store-faults settings mine st legal calm (passes-ask repos mine _ kept _ cause)) refl)
   cleans-play repos next ih (Err clean_fault.BlobFault) n s k hand mine later st legal more calm calm1 old new kept end input before ready quiet first grows cause follows =
       let rose = passes-rose repos mine (store_of old) kept cause in risen old.blob_faults kept.faults new.blob_faults rose grows.blobs quiet
-  cleans-play repos next ih (Ok done) n s k hand mine later st legal more calm calm1 old new kept end input before ready quiet first grows cause follows =
+  cleans-play repos next ih (Ok did) n s k hand mine later st legal more calm calm1 old new kept end input before ready quiet first grows cause follows =
       let asked = passes-ask repos mine _ kept _ cause in
       let ready1 : Ready (with_store kept old) (end_of settings st mine) input before = record {
         input_is = ready.input_is;
@@ -274,8 +275,8 @@ module _ (settings : Settings) (tells : Type 0) (witness : tells) (head_only : B
         clock = entries-clock settings mine st ready.clock;
       } in
       let quiet1 : Calm kept.faults new.blob_faults = calm-then old.blob_faults kept.faults new.blob_faults first.blobs grows.blobs quiet in
-      let played = passes-played settings repos mine (store_of old) kept done st legal calm ready.clock cause in
-      let there = ih (Ok done) 0 s (k.3 (Ok done)) hand later (end_of settings st mine) more calm1 (with_store kept old) new end input before ready1 quiet1 follows in
+      let played = passes-played settings repos mine (store_of old) kept did st legal calm ready.clock cause in
+      let there = ih (Ok did) 0 s (k.3 (Ok did)) hand later (end_of settings st mine) more calm1 (with_store kept old) new end input before ready1 quiet1 follows in
       subst (λ (p : List Entry × Pass). Outcome before (play settings (next p.1) (at (end_of settings st p.0) input)) old new (end_of settings (end_of settings st mine) later) end)
       (λ i. (played.0 i, played.1 i))
       (outcome-before before _ old (with_store kept old) new _ end first there)
