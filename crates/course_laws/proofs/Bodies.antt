@@ -17,11 +17,11 @@ use Rattle.repo_routes.specs.declared.judging.Refused.{Refused}
 use Rattle.repo_routes.specs.declared.refusal.Refusal.{Refusal}
 use Rattle.repo_routes.specs.declared.refusal.Refusal.TheVariants as refusal
 use Rattle.repo_routes.specs.Framing as framing
-use Rattle.repo_routes.specs.Framing.{check_host, ends_connection, has_body, is_head, is_put, is_read}
+use Rattle.repo_routes.specs.Framing.{check_host, ends_connection, has_body, is_head, is_post, is_put, is_read}
 use Rattle.repo_routes.specs.Intent.{Intent, Judged, reads as reads_path}
 use Rattle.repo_routes.specs.Judge.{check_body, intent_of, intent_on, judge, loses_place, outcome_of}
 use Rattle.repo_routes.specs.Paths.{asked_at, check_limit, decoded, intent_at, limit_of, path_refusal, put_at, put_of, thing_at, thing_of, thing_or}
-use Rattle.repo_routes.specs.Routes.{Route, in_repository, status, allowed, allows, check_method, check_repository, route_of}
+use Rattle.repo_routes.specs.Routes.{Route, in_repository, status, clean, allowed, allows, check_method, check_repository, route_of}
 use Rattle.repo_routes.specs.Steps.{◌>>=◌, need}
 use Rattle.repo_routes.specs.Target.{target_path}
 use Rattle.course_laws.specs.Duties.{length_of}
@@ -44,6 +44,20 @@ put-is-no-read head read =
       | true ↦ λ is.
           let method : head.method ≡ codes "PUT" = (bytes_eq-Decides head.method (codes "PUT")).0 is in
           absurd (clash (subst (λ m. (bytes_eq m (codes "GET") || bytes_eq m (codes "HEAD")) ≡ true) method read))
+      | false ↦ λ is. refl
+    ] refl
+  where
+    clash : false ≡ true → ⊥
+    clash is = cc
+
+-- nor is POST
+put-is-no-post : (head : Head) → is_post head ≡ true → is_put head ≡ false
+unfolding is_post is_put
+put-is-no-post head post =
+    elim (bytes_eq head.method (codes "PUT")) as (λ b. bytes_eq head.method (codes "PUT") ≡ b → b ≡ false) [
+      | true ↦ λ is.
+          let method : head.method ≡ codes "PUT" = (bytes_eq-Decides head.method (codes "PUT")).0 is in
+          absurd (clash (subst (λ m. bytes_eq m (codes "POST") ≡ true) method post))
       | false ↦ λ is. refl
     ] refl
   where
@@ -87,6 +101,7 @@ on-announced settings head length (in_repository repo written) may test =
     then-holds (decoded head written) _ (λ intent. length_of intent ≡ length)
     (λ path _. kind-announced settings head repo path length (kind path) test)
 on-announced settings head length status may test = no-bytes (is_put head) length test (put-is-no-read head may)
+on-announced settings head length clean may test = no-bytes (is_put head) length test (put-is-no-post head may)
 
 intent-announced : (settings : Settings) (head : Head) → IfOk (intent_of settings head) (λ intent. framing.length_of head ≡ Ok (length_of intent))
 unfolding intent_of check_method check_body

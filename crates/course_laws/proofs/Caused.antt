@@ -6,9 +6,10 @@ use Rattle.mvn_digest.specs.Sides.{read_side}
 use Rattle.mvn_doc.specs.Reading.{reading}
 use Rattle.mvn_metadata.specs.Document.{Document}
 use Rattle.repo_model.specs.Reply.{Reply, file, text, doc, missed, kind_refused, draft, no_draft, taken, same, relisted, created, not_there, differs, agreed, noted, counts as counts_reply, spent, store_fault}
-use Rattle.repo_routes.specs.Intent.{Intent, Judged, reads as reads_path, puts_file, puts_side, puts_document, counts}
+use Rattle.repo_routes.specs.Intent.{Intent, Judged, reads as reads_path, puts_file, puts_side, puts_document, counts, cleans}
 use Rattle.repo_routes.specs.declared.judging.Refused.{Refused}
-use Rattle.repo_course.specs.Course.{Body, Course, Stored, after_continue, after_document, after_fault, after_look, after_may_put, after_put, after_put_doc, after_put_side, after_send, after_side, after_status, after_take, compares, course_for, course_of, cut_off, gives_up, head_said, invites, notes, reads, refuses_head, takes}
+use Rattle.repo_course.specs.declared.outcomes.CleanFault.TheVariants as clean
+use Rattle.repo_course.specs.Course.{Body, Course, Pass, Stored, after_clean, after_continue, after_document, after_fault, after_look, after_may_put, after_put, after_put_doc, after_put_side, after_send, after_side, after_status, after_take, compares, course_for, course_of, cut_off, gives_up, head_said, invites, notes, reads, refuses_head, takes}
 use Rattle.repo_course.specs.declared.manner.Manner.{Manner}
 use Rattle.repo_course.specs.declared.outcomes.Continued.{Continued}
 use Rattle.repo_course.specs.declared.outcomes.Continued.TheVariants as continued
@@ -17,7 +18,7 @@ use Rattle.repo_course.specs.declared.outcomes.Sent.TheVariants as sent
 use Rattle.repo_course.specs.declared.outcomes.Took.{Took}
 use Rattle.repo_course.specs.declared.outcomes.Took.TheVariants as took
 use Rattle.repo_course.specs.declared.said.Said.{Said}
-use Rattle.course_laws.specs.Causes.{AnswersDue, by_text_of, due_at_first, for_body, for_digest, for_document, for_fault, for_look, for_may_put, for_put, for_put_doc, for_put_side, for_sent, for_status, for_stored, for_text}
+use Rattle.course_laws.specs.Causes.{AnswersDue, by_text_of, due_at_first, for_body, for_digest, for_document, for_fault, for_look, for_may_put, for_pass, for_put, for_put_doc, for_put_side, for_sent, for_status, for_stored, for_text}
 
 module _ (manner : Manner) (by_text : List ℕ → Option Said) where
   abbrev Due : Course → Option Said → Type 0
@@ -93,6 +94,12 @@ module _ (manner : Manner) (by_text : List ℕ → Option Said) where
   status-due (counts_reply files fading cached documents sessions) = refl
   status-due reply = refl
 
+  clean-due : (pass : Pass) → Due (after_clean manner pass) (for_pass pass)
+  clean-due (Ok done) = refl
+  clean-due (Err clean.StoreFault) = refl
+  clean-due (Err clean.BlobFault) = refl
+  clean-due (Err clean.NoMemory) = refl
+
 module _ (manner : Manner) where
   side-due : (repo path : List ℕ) (side : Side) (count : ℕ) (body : Body)
       → AnswersDue (for_text (puts_side repo path side count)) (after_side repo path side manner body) (for_body (for_text (puts_side repo path side count)) body)
@@ -114,6 +121,7 @@ module _ (manner : Manner) where
       invites-due manner (for_text (puts_document repo path count)) expects cut_off (reads count (after_document repo path manner)) None refl
       (document-due repo path count)
   for-due expects counts = status-due manner (for_text counts)
+  for-due expects (cleans repos) = clean-due manner (for_text (cleans repos))
 
 pub judged-due : (judged : Result Judged Refused) (last : Bool) → AnswersDue (by_text_of judged) (course_of judged last) (due_at_first judged)
 judged-due (Ok request) last = for-due (record { close = request.close; last = last; head_only = request.head_only }) request.expects request.intent

@@ -22,16 +22,17 @@ use Rattle.repo_model.specs.Reply.{Reply, agreed, differs, draft, file, kind_ref
 use Rattle.repo_model.specs.Settings.{Settings}
 use Rattle.repo_model.specs.State.{State, hosted_of, is_among, number_end, row_at, rows_of}
 use Rattle.repo_model.specs.Turn.{Seen, Turn, compared, draws_draft, in_repository, is_doc, is_file, is_nothing, is_text, judged, put_again, put_at, says as replies, seen_at, shows, turn}
-use Rattle.repo_routes.specs.Intent.{Intent, Judged, reads as reads_path, puts_file, puts_side, puts_document, counts}
+use Rattle.repo_routes.specs.Intent.{Intent, Judged, reads as reads_path, puts_file, puts_side, puts_document, counts, cleans}
 use Rattle.repo_routes.specs.declared.judging.Refused.{Refused}
-use Rattle.repo_course.specs.Course.{Body, Course, Stored, reads, takes, after_continue, after_document, after_look, after_may_put, after_put, after_put_doc, after_put_side, after_send, after_side, after_status, after_take, compares, course_for, course_of, cut_off, gives_up, invites, notes, refuses_head}
+use Rattle.repo_course.specs.declared.outcomes.CleanFault.TheVariants as clean
+use Rattle.repo_course.specs.Course.{Body, Course, Pass, Stored, reads, takes, after_clean, after_continue, after_document, after_look, after_may_put, after_put, after_put_doc, after_put_side, after_send, after_side, after_status, after_take, compares, course_for, course_of, cut_off, gives_up, invites, notes, refuses_head}
 use Rattle.repo_course.specs.declared.manner.Manner.{Manner}
 use Rattle.repo_course.specs.declared.outcomes.Continued.{Continued}
 use Rattle.repo_course.specs.declared.outcomes.Continued.TheVariants as continued
 use Rattle.repo_course.specs.declared.outcomes.Sent.{Sent}
 use Rattle.repo_course.specs.declared.outcomes.Sent.TheVariants as sent
 use Rattle.repo_course.specs.declared.outcomes.Took.TheVariants as took
-use Rattle.course_laws.specs.Complete.{HadRoom, HadRoomToSend, IsComplete}
+use Rattle.course_laws.specs.Complete.{HadRoom, HadRoomToClean, HadRoomToSend, IsComplete}
 
 module _ (settings : Settings) where
   -- the reply to a command of a state is answered, and the records do not fail it
@@ -177,6 +178,12 @@ module _ (settings : Settings) where
     document-complete repo path (Err took.BlobFault) room = tt
     document-complete repo path (Err took.NoMemory) room = absurd room
 
+    clean-complete : (pass : Pass) → HadRoomToClean pass → IsComplete settings (after_clean manner pass)
+    clean-complete (Ok done) room = tt
+    clean-complete (Err clean.StoreFault) room = tt
+    clean-complete (Err clean.BlobFault) room = tt
+    clean-complete (Err clean.NoMemory) room = absurd room
+
     for-complete : (expects : Bool) (intent : Intent) → IsComplete settings (course_for manner expects intent)
     for-complete expects (reads_path repo path) = λ s e fits is some.
         asked-complete (look repo path []) (after_look manner) s e is some
@@ -190,6 +197,7 @@ module _ (settings : Settings) where
         invites-complete expects cut_off (reads count (after_document repo path manner)) tt (document-complete repo path)
     for-complete expects counts = λ s e fits is some.
         asked-complete status (after_status manner) s e is some (tt, λ is. cc) fits.reply
+    for-complete expects (cleans repos) = clean-complete
 
   pub judged-complete : (judged : Result Judged Refused) (last : Bool) → IsComplete settings (course_of judged last)
   judged-complete (Ok request) last =

@@ -1,6 +1,7 @@
 -- The counts of faults never fall, so that where they stand still no fault happened.
-use Rattle.std.proofs.Common.{◌≡◌, ℕ, zero, suc, ◌≤◌, ◌<◌, Bool, true, false, List, [], ◌∷◌, inl, inr, Option, Some, None, Ok, Err, refl, sym, subst, arith}
+use Rattle.std.proofs.Common.{◌≡◌, ℕ, zero, suc, ◌≤◌, ◌<◌, Bool, true, false, List, [], ◌∷◌, inl, inr, Option, Some, None, Result, Ok, Err, refl, sym, subst, ap, arith}
 use Rattle.std.specs.Prelude.{◌==◌}
+use Rattle.outside.specs.Blobs.{with_blob}
 use Rattle.outside.specs.Faults.{Rose, last_count}
 use Rattle.http_wire.specs.Answer.{shown}
 use Rattle.http_wire.specs.declared.answers.Answer.{Answer}
@@ -8,7 +9,10 @@ use Rattle.repo_model.specs.Data.{Blob}
 use Rattle.repo_model.specs.History.{Entry}
 use Rattle.repo_model.specs.Settings.{Settings}
 use Rattle.repo_course.specs.Answers.{answer_of, file_answer, memory_answer}
-use Rattle.repo_course.specs.Course.{Body, Course, Stored, asks, continues, takes, reads, sends, says, stops, end_of}
+use Rattle.repo_course.specs.Cleaning.{Passes, not_unlisted, not_collected, removing, Removes, Store}
+use Rattle.repo_course.specs.declared.outcomes.CleanFault.{CleanFault}
+use Rattle.repo_course.specs.declared.outcomes.CleanFault.TheVariants as clean_fault
+use Rattle.repo_course.specs.Course.{Body, Course, Pass, Stored, asks, continues, takes, reads, sends, cleans, says, stops, end_of}
 use Rattle.repo_course.specs.declared.outcomes.Continued.{Continued}
 use Rattle.repo_course.specs.declared.outcomes.Continued.TheVariants as continued
 use Rattle.repo_course.specs.declared.outcomes.End.{End}
@@ -16,7 +20,7 @@ use Rattle.repo_course.specs.declared.outcomes.Sent.{Sent}
 use Rattle.repo_course.specs.declared.outcomes.Sent.TheVariants as sent
 use Rattle.repo_course.specs.declared.outcomes.Took.{Took}
 use Rattle.repo_course.specs.declared.outcomes.Took.TheVariants as took
-use Rattle.repo_course.specs.Serving.{Continues, Reads, Takes, Sends, SendsAnswer, SendsHead, Says, whole, memory, cut, Follows, Opens, clean, torn, failed, refused, unread_head, starved, served, Outside, ReadsOn, Serves, Turn}
+use Rattle.repo_course.specs.Serving.{Continues, Reads, Takes, Sends, SendsAnswer, SendsHead, Says, whole, memory, cut, Follows, Opens, clean, torn, failed, refused, unread_head, starved, served, Outside, ReadsOn, Serves, Turn, store_of, with_store}
 
 -- no count fell
 pub record Grew (old new : Outside) : Type 0 where
@@ -76,7 +80,8 @@ reads-body-grew count (Ok body) old new t = reads-grew old new (t.0, t.3)
 reads-body-grew count (Err fault) old new t = fault-grew count fault old new t
 
 pub takes-grew : (tells : Type 0) (number count : ℕ) (stored : Stored) (old new : Outside) → Takes tells number count stored old new → Grew old new
-takes-grew tells number count (Ok blob) old new t = reads-grew old new (t.1.0, t.1.3)
+takes-grew tells number count (Ok blob) old new t =
+    let mid : Outside = record old { input = t.1.0; shelf = with_blob number t.0 old.shelf } in from-is old mid new (grew old mid refl refl refl) t.1.3
 takes-grew tells number count (Err took.Torn) old new t = fault-grew count took.Torn old new t
 takes-grew tells number count (Err took.SourceFault) old new t = fault-grew count took.SourceFault old new t
 takes-grew tells number count (Err took.BlobFault) old new t =
@@ -104,6 +109,24 @@ pub sends-grew : (head_only : Bool) (blob : Blob) (head : List ℕ) (result : Se
     → Grew old new
 sends-grew true blob head result old new t = head-grew head result old new t
 sends-grew false blob head result old new t = file-grew blob head result old new t
+
+removes-grew : (blobs : List ℕ) (old new : Store) (result : Result ℕ CleanFault) → Removes blobs old new result → old.faults ≤ new.faults
+removes-grew blobs old new (Ok count) t = let same = ap (λ (s : Store). s.faults) t.1 in omega (arith, same)
+removes-grew blobs old new (Err clean_fault.StoreFault) t = absurd t.4
+removes-grew blobs old new (Err clean_fault.BlobFault) t =
+    let rose = t.4.1.0 in let same = ap (λ (s : Store). s.faults) t.4.2 in omega (arith, rose, same)
+removes-grew blobs old new (Err clean_fault.NoMemory) t = let same = ap (λ (s : Store). s.faults) t.4 in omega (arith, same)
+
+passes-grew : (repos : List (List ℕ)) (entries : List Entry) (old new : Store) (pass : Pass) → Passes repos entries old new pass → old.faults ≤ new.faults
+passes-grew repos entries old new pass (not_unlisted fault u still is) = let same = ap (λ (s : Store). s.faults) still in omega (arith, same)
+passes-grew repos entries old new pass (not_collected first last count fault parts u c still is) =
+    let same = ap (λ (s : Store). s.faults) still in omega (arith, same)
+passes-grew repos entries old new pass (removing first last count blobs removed parts u c r is) = removes-grew blobs old new removed r
+
+pub cleans-grew : (repos : List (List ℕ)) (entries : List Entry) (old : Outside) (kept : Store) (pass : Pass) → Passes repos entries (store_of old) kept pass
+    → Grew old (with_store kept old)
+cleans-grew repos entries old kept pass t =
+    record { reads = omega arith; writes = omega arith; blobs = passes-grew repos entries (store_of old) kept pass t }
 
 pub says-grew : (answer memory_said : Answer) (next : Option End) (old new : Outside) (end : Option End) → Says answer memory_said next old new end
     → Grew old new
@@ -136,6 +159,8 @@ module _ (tells : Type 0) where
   follows-grew (sends blob manner next) entries old new end f =
       grew-then old f.1 new (sends-grew manner.head_only blob (shown (file_answer blob manner)) f.0 old f.1 f.2)
       (follows-grew (next f.0) entries f.1 new end f.3)
+  follows-grew (cleans repos next) entries old new end f =
+      grew-then old (with_store f.3 old) new (cleans-grew repos f.0 old f.3 f.2 f.5) (follows-grew (next f.2) f.1 (with_store f.3 old) new end f.6)
   follows-grew (says said manner) entries old new end f =
       says-grew (answer_of said manner) (memory_answer manner.head_only) (end_of manner) old new end f.1
   follows-grew (stops next) entries old new end f = still-grew old new f.1

@@ -12,7 +12,7 @@ use Rattle.repo_model.specs.Reply.{Reply}
 use Rattle.repo_model.specs.Settings.{Settings}
 use Rattle.repo_model.specs.State.{State}
 use Rattle.repo_course.specs.Answers.{answer_of, at_end, memory_answer}
-use Rattle.repo_course.specs.Course.{Course, asks, continues, takes, reads, sends, says, stops, end_of}
+use Rattle.repo_course.specs.Course.{Course, asks, continues, takes, reads, sends, cleans, says, stops, end_of}
 use Rattle.repo_course.specs.declared.manner.Manner.{Manner}
 use Rattle.repo_course.specs.declared.outcomes.End.{End}
 use Rattle.repo_course.specs.declared.outcomes.End.TheVariants as stream
@@ -220,6 +220,7 @@ module _ (tells : Type 0) (head_only : Bool) where
   ends-early (takes number count next) n s ending k is entries old new end f = absurd (none-some ending (sym k.1 ∙ is))
   ends-early (reads count next) n s ending k is entries old new end f = absurd (none-some ending (sym k.0 ∙ is))
   ends-early (sends blob manner next) n s ending k is entries old new end f = absurd (none-some ending (sym k.1 ∙ is))
+  ends-early (cleans repos next) n s ending k is entries old new end f = absurd (none-some ending (sym k.1 ∙ is))
   ends-early (says said manner) n s ending k is entries old new end f = says-as s s.early ending said manner end old new is k.1 k.2 f.1
   ends-early (stops next) n s ending k is entries old new end f = stops-as s s.early ending next end old new is k.1 f.1 f.2
 
@@ -236,5 +237,6 @@ plays-early settings head_only (continues next) n s side k is scene = absurd (no
 plays-early settings head_only (takes number count next) n s side k is scene = absurd (none-some (by_side side) (sym k.1 ∙ is))
 plays-early settings head_only (reads count next) n s side k is scene = absurd (none-some (by_side side) (sym k.0 ∙ is))
 plays-early settings head_only (sends blob manner next) n s side k is scene = absurd (none-some (by_side side) (sym k.1 ∙ is))
+plays-early settings head_only (cleans repos next) n s side k is scene = absurd (none-some (by_side side) (sym k.1 ∙ is))
 plays-early settings head_only (says said manner) n s side k is scene = absurd (subst (λ e. SaysFor s e said manner) is k.1)
 plays-early settings head_only (stops next) n s side k is scene = (refl, subst (λ e. StopsFor s e next) is k.1)

@@ -1,16 +1,25 @@
 -- The count of the side whose failure ended a stream rose, and no other count of its sides; and few commands were asked.
-use Rattle.std.proofs.Common.{◌≡◌, ◌⊎◌, ℕ, zero, suc, ◌*◌, ◌≤◌, Bool, true, false, inl, inr, List, [], ◌∷◌, length, Option, Some, None, Ok, Err, arith, sym, subst, ap, ◌∙◌, length-append}
+use Rattle.std.proofs.Common.{◌≡◌, ◌⊎◌, ℕ, zero, suc, ◌+◌, ◌*◌, ◌≤◌, Bool, true, false, inl, inr, List, [], ◌∷◌, length, Option, Some, None, Ok, Err, arith, sym, subst, ap, ◌∙◌, length-append, IfOk, Result}
+use Rattle.std.proofs.lemmas.List.{length-map}
+use Rattle.http_wire.specs.Head.{Head}
 use Rattle.std.specs.Prelude.{◌==◌}
 use Rattle.http_wire.specs.Answer.{shown}
 use Rattle.http_wire.specs.declared.answers.Answer.{Answer}
+use Rattle.outside.specs.Blobs.{Shelf}
 use Rattle.outside.specs.Faults.{Rose}
 use Rattle.repo_model.specs.Command.{Command}
 use Rattle.repo_model.specs.Data.{Blob}
 use Rattle.repo_model.specs.History.{Entry}
 use Rattle.repo_model.specs.Reply.{Reply}
-use Rattle.repo_model.specs.Settings.{Settings}
+use Rattle.repo_model.specs.Settings.{Rule, Settings}
 use Rattle.repo_course.specs.Answers.{answer_of, file_answer, memory_answer}
-use Rattle.repo_course.specs.Course.{Body, Course, Stored, asks, continues, takes, reads, sends, says, stops, end_of}
+use Rattle.repo_routes.specs.Intent.{Intent, reads as reads_path, puts_file, puts_side, puts_document, counts as counts_all, cleans as cleans_all}
+use Rattle.repo_routes.specs.Judge.{IsIntent, hosted_ids, intent_of, judge, outcome_of}
+use Rattle.repo_routes.proofs.KeptLemmas.{intent-kept}
+use Rattle.repo_routes.specs.declared.refusal.Refusal.{Refusal}
+use Rattle.repo_course.specs.Cleaning.{Store}
+use Rattle.repo_course.specs.declared.outcomes.CleanFault.TheVariants as clean_fault
+use Rattle.repo_course.specs.Course.{Body, Course, Pass, Stored, asks, continues, takes, reads, sends, cleans, says, stops, end_of}
 use Rattle.repo_course.specs.declared.manner.Manner.{Manner}
 use Rattle.repo_course.specs.declared.outcomes.Continued.{Continued}
 use Rattle.repo_course.specs.declared.outcomes.Continued.TheVariants as continued
@@ -21,10 +30,12 @@ use Rattle.repo_course.specs.declared.outcomes.Sent.TheVariants as sent
 use Rattle.repo_course.specs.declared.outcomes.Took.{Took}
 use Rattle.repo_course.specs.declared.outcomes.Took.TheVariants as took
 use Rattle.repo_course.specs.declared.said.Said.{Said}
-use Rattle.repo_course.specs.Serving.{Continues, Follows, Opens, clean, torn, failed, refused, unread_head, starved, served, Outside, Reads, Says, whole, memory, cut, Sends, SendsAnswer, SendsHead, Serves, Takes, Turn}
-use Rattle.course_laws.specs.Duties.{Early, by_memory, by_side, has_read, Keeps, MayAsk, SaysFor, Stand, StopsFor, stand_after, stand_continued, stand_fault, stand_read, stand_sent, stand_stored}
+use Rattle.repo_course.specs.Serving.{Continues, Follows, Opens, clean, torn, failed, refused, unread_head, starved, served, Outside, Reads, Says, whole, memory, cut, Sends, SendsAnswer, SendsHead, Serves, Takes, Turn, with_store}
+use Rattle.course_laws.specs.Duties.{Early, by_memory, by_side, has_read, Keeps, MayAsk, SaysFor, Stand, StopsFor, stand_after, stand_cleaned, stand_continued, stand_fault, stand_read, stand_sent, stand_stored}
+use Rattle.course_laws.specs.Duties.{most_asked, most_for, most_of}
 use Rattle.course_laws.specs.Endings.{EndsByCause, NoneRose}
-use Rattle.course_laws.proofs.Kept.{IsCalm, end-calm, opens-keeps, reply-goes, shows_head, standing}
+use Rattle.course_laws.proofs.Passes.{passes-few}
+use Rattle.course_laws.proofs.Kept.{IsCalm, asking, end-calm, opens-keeps, reply-goes, shows_head, standing}
 
 -- where a course stands, and how it ends, in the counts since the turn began
 abbrev Caused : Option Early → Outside → Outside → Type 0
@@ -53,8 +64,9 @@ to_same (Some (by_side stream.SourceFault)) old mid new c n = (subst (λ (k : �
 to_same (Some (by_side stream.SinkFault)) old mid new c n = (n.0 ∙ c.0, subst (λ (k : ℕ). Rose old.write_faults k) (sym n.1) c.1)
 
 -- an outside whose reading and writing sides count as before
-counts : (old new : Outside) {input output : Option (List ℕ)} {blobs : ℕ}
-    → new ≡ record { input = input; output = output; read_faults = old.read_faults; write_faults = old.write_faults; blob_faults = blobs } → NoneRose old new
+counts : (old new : Outside) {input output : Option (List ℕ)} {blobs : ℕ} {shelf : Shelf}
+    → new ≡ record { input = input; output = output; read_faults = old.read_faults; write_faults = old.write_faults; blob_faults = blobs; shelf = shelf }
+    → NoneRose old new
 counts old new is = (ap (λ (o : Outside). o.read_faults) is, ap (λ (o : Outside). o.write_faults) is)
 
 asks_caused : (command : Command) (reply : Reply) (s : Stand) (old mid : Outside) → MayAsk command s → Caused s.early old mid
@@ -129,6 +141,13 @@ sends_caused : (manner : Manner) (head_only : Bool) (blob : Blob) (head : List �
 sends_caused manner true blob head result s old mid new none n t = head_caused manner head result s old mid new none n t
 sends_caused manner false blob head result s old mid new none n t = file_caused manner blob head result s old mid new none n t
 
+cleaned_caused : (pass : Pass) (kept : Store) (s : Stand) (old mid : Outside) → s.early ≡ None → NoneRose old mid
+    → Caused (stand_cleaned pass s).early old (with_store kept mid)
+cleaned_caused (Ok done) kept s old mid none n = subst (λ e. Caused e old (with_store kept mid)) (sym none) n
+cleaned_caused (Err clean_fault.StoreFault) kept s old mid none n = subst (λ e. Caused e old (with_store kept mid)) (sym none) n
+cleaned_caused (Err clean_fault.BlobFault) kept s old mid none n = subst (λ e. Caused e old (with_store kept mid)) (sym none) n
+cleaned_caused (Err clean_fault.NoMemory) kept s old mid none n = n
+
 calm_shows : (end : Option End) (old new : Outside) → IsCalm end → NoneRose old new → Shows end old new
 calm_shows None old new calm n = n
 calm_shows (Some stream.Closed) old new calm n = n
@@ -199,11 +218,14 @@ module _ (tells : Type 0) where
     follows_shows (sends blob manner next) n s k entries old mid new end c f =
         follows_shows (next f.0) n (stand_sent manner f.0 s) (k.5 f.0) entries old f.1 new end
         (sends_caused manner manner.head_only blob (shown (file_answer blob manner)) f.0 s old mid f.1 k.1 (subst (λ e. Caused e old mid) k.1 c) f.2) f.3
+    follows_shows (cleans repos next) n s k entries old mid new end c f =
+        follows_shows (next f.2) 0 (stand_cleaned f.2 s) (k.3 f.2) f.1 old (with_store f.3 mid) new end
+        (cleaned_caused f.2 f.3 s old mid k.1 (subst (λ e. Caused e old mid) k.1 c)) f.6
     follows_shows (says said manner) n s k entries old mid new end c f =
         says_for s s.early (answer_of said manner) (memory_answer manner.head_only) said manner end old mid new k.1 c f.1
     follows_shows (stops next) n s k entries old mid new end c f = stops_for s s.early next end old mid new k.1 c f.1 f.2
 
-    -- each request makes at most three commands
+    -- the commands of a request are few
     follows_few : (c : Course) (n : ℕ) (s : Stand) → Keeps head_only c n s → (entries : List Entry) (old new : Outside) (end : Option End)
         → Follows tells c entries old new end → length entries ≤ n
     follows_few (asks command next) zero s k [] old new end f = absurd f
@@ -215,13 +237,44 @@ module _ (tells : Type 0) where
     follows_few (takes draft count next) n s k entries old new end f = follows_few (next f.0) n (stand_stored f.0 s) (k.3 f.0) entries f.1 new end f.3
     follows_few (reads count next) n s k entries old new end f = follows_few (next f.0) n (stand_read f.0 s) (k.2 f.0) entries f.1 new end f.3
     follows_few (sends blob manner next) n s k entries old new end f = follows_few (next f.0) n (stand_sent manner f.0 s) (k.5 f.0) entries f.1 new end f.3
+    follows_few (cleans repos next) n s k entries old new end f =
+        let few = passes-few repos f.0 _ f.3 f.2 f.5 in
+        let most = k.2 in
+        let none = follows_few (next f.2) 0 (stand_cleaned f.2 s) (k.3 f.2) f.1 (with_store f.3 old) new end f.6 in
+        let all = ap length f.4 ∙ length-append f.0 f.1 in omega (arith, few, most, none, all)
     follows_few (says said manner) n s k entries old new end f = let none = ap length f.0 in omega arith
     follows_few (stops next) n s k entries old new end f = let none = ap length f.0 in omega arith
 
   module _ (settings : Settings) where
+    intent-few : (intent : Intent) → IsIntent settings intent → most_for intent ≤ most_asked settings
+    unfolding most_asked
+    intent-few (reads_path repo path) kept = omega arith
+    intent-few (puts_file repo path count) kept = omega arith
+    intent-few (puts_side repo path side count) kept = omega arith
+    intent-few (puts_document repo path count) kept = omega arith
+    intent-few counts_all kept = omega arith
+    intent-few (cleans_all repos) kept =
+        let all = ap length kept ∙ length-map settings.hosted (λ (rule : Rule). rule.id) in omega (arith, all)
+
+    judged-few : (head : Head) (outcome : Result Intent Refusal) → IfOk outcome (IsIntent settings) → most_of (outcome_of head outcome) ≤ most_asked settings
+    unfolding most_asked
+    judged-few head (Ok intent) kept = intent-few intent kept
+    judged-few head (Err cause) kept = omega arith
+
+    -- whatever the head asks for
+    asking-few : (last : Bool) (old mid : Outside) (c : Course) (o : Opens settings last old mid c) → asking o ≤ most_asked settings
+    unfolding judge most_asked
+    asking-few last old mid c (clean begins still is) = omega arith
+    asking-few last old mid c (torn begins still is) = omega arith
+    asking-few last old mid c (failed faults rose still is) = omega arith
+    asking-few last old mid c (refused fault begins still is) = omega arith
+    asking-few last old mid c (unread_head begins still is) = omega arith
+    asking-few last old mid c (starved head rest begins uses is) = omega arith
+    asking-few last old mid c (served head rest begins uses is) = judged-few head (intent_of settings head) (intent-kept settings head)
+
     turn_shows : (last : Bool) (entries : List Entry) (old new : Outside) (end : Option End) → Turn settings tells last entries old new end → Shows end old new
     turn_shows last entries old new end t =
-        follows_shows (shows_head t.2) t.0 3 (standing t.2) (opens-keeps settings last old t.1 t.0 t.2) entries old t.1 new end
+        follows_shows (shows_head t.2) t.0 (asking t.2) (standing t.2) (opens-keeps settings last old t.1 t.0 t.2) entries old t.1 new end
         (opens_caused settings last old t.1 t.0 t.2) t.3
 
     pub serves_shows : (n : ℕ) (entries : List Entry) (old new : Outside) (end : End) → Serves settings tells n entries old new end
@@ -233,16 +286,20 @@ module _ (tells : Type 0) where
         from_same end old t.2 new (turn_shows (left == 0) t.0 old t.2 None t.4) (serves_shows left t.1 t.2 new end t.5)
 
     turn_few : (last : Bool) (entries : List Entry) (old new : Outside) (end : Option End) → Turn settings tells last entries old new end
-        → length entries ≤ 3
+        → length entries ≤ most_asked settings
     turn_few last entries old new end t =
-        follows_few (shows_head t.2) t.0 3 (standing t.2) (opens-keeps settings last old t.1 t.0 t.2) entries t.1 new end t.3
+        let asked = follows_few (shows_head t.2) t.0 (asking t.2) (standing t.2) (opens-keeps settings last old t.1 t.0 t.2) entries t.1 new end t.3 in
+        let few = asking-few last old t.1 t.0 t.2 in omega (arith, asked, few)
 
     pub serves_few : (n : ℕ) (entries : List Entry) (old new : Outside) (end : End) → Serves settings tells n entries old new end
-        → length entries ≤ 3 * n
+        → length entries ≤ most_asked settings * n
     unfolding Serves
     serves_few zero entries old new end t = let none = ap length t.0 in omega arith
-    serves_few (suc left) entries old new end (inl turn) = let few = turn_few (left == 0) entries old new (Some end) turn in omega arith
+    serves_few (suc left) entries old new end (inl turn) =
+        let few = turn_few (left == 0) entries old new (Some end) turn in
+        let more : most_asked settings * suc left ≡ most_asked settings + most_asked settings * left = omega arith in omega (arith, few, more)
     serves_few (suc left) entries old new end (inr t) =
         let few = turn_few (left == 0) t.0 old t.2 None t.4 in
         let rest = serves_few left t.1 t.2 new end t.5 in
-        let all = ap length t.3 ∙ length-append t.0 t.1 in omega arith
+        let all = ap length t.3 ∙ length-append t.0 t.1 in
+        let more : most_asked settings * suc left ≡ most_asked settings + most_asked settings * left = omega arith in omega (arith, few, rest, all, more)

@@ -13,10 +13,11 @@ use Rattle.repo_model.specs.Data.{Blob, repository, session}
 use Rattle.repo_model.specs.Reply.{Reply, file, text, doc, missed, kind_refused, draft, no_draft, taken, same, relisted, created, not_there, differs, agreed, noted, counts as counts_reply, spent, store_fault}
 use Rattle.repo_model.specs.Settings.{Settings}
 use Rattle.repo_routes.specs.Framing.{is_head}
-use Rattle.repo_routes.specs.Intent.{Intent, Judged, reads as reads_path, puts_file, puts_side, puts_document, counts}
+use Rattle.repo_routes.specs.Intent.{Intent, Judged, reads as reads_path, puts_file, puts_side, puts_document, counts, cleans as cleans_all}
 use Rattle.repo_routes.specs.Judge.{judge}
 use Rattle.repo_routes.specs.declared.judging.Refused.{Refused}
-use Rattle.repo_course.specs.Course.{Body, Course, Stored, asks, reads, takes, after_continue, after_document, after_fault, after_look, after_may_put, after_put, after_put_doc, after_put_side, after_send, after_side, after_status, after_take, compares, course_for, course_of, cut_off, end_of, gives_up, invites, notes, refuses_head}
+use Rattle.repo_course.specs.declared.outcomes.CleanFault.TheVariants as clean_fault
+use Rattle.repo_course.specs.Course.{Body, Course, Pass, Stored, asks, reads, takes, after_clean, after_continue, after_document, after_fault, after_look, after_may_put, after_put, after_put_doc, after_put_side, after_send, after_side, after_status, after_take, compares, course_for, course_of, cut_off, end_of, gives_up, invites, notes, refuses_head}
 use Rattle.repo_course.specs.declared.manner.Manner.{Manner}
 use Rattle.repo_course.specs.declared.outcomes.Continued.{Continued}
 use Rattle.repo_course.specs.declared.outcomes.Continued.TheVariants as continued
@@ -27,7 +28,7 @@ use Rattle.repo_course.specs.declared.outcomes.Sent.TheVariants as sent
 use Rattle.repo_course.specs.declared.outcomes.Took.{Took}
 use Rattle.repo_course.specs.declared.outcomes.Took.TheVariants as took
 use Rattle.repo_course.specs.Serving.{Opens, clean, torn, failed, refused, unread_head, starved, served, Outside}
-use Rattle.course_laws.specs.Duties.{Keeps, MayAsk, Stand, stand_after, at_first, by_memory, failing, has_counted, has_put, has_put_doc, has_put_side, has_read, is_head_only, length_of, looked, asked_draft, stand_continued, stand_fault, stand_read, stand_sent, stand_stored, starving, unread_of}
+use Rattle.course_laws.specs.Duties.{Keeps, most_for, most_of, stand_cleaned, MayAsk, Stand, stand_after, at_first, by_memory, failing, has_counted, has_put, has_put_doc, has_put_side, has_read, is_head_only, length_of, looked, asked_draft, stand_continued, stand_fault, stand_read, stand_sent, stand_stored, starving, unread_of}
 
 -- the stream goes on, or is closed
 abbrev pub IsCalm : Option End → Type 0
@@ -169,14 +170,21 @@ module _ (manner : Manner) where
   status-keeps n (counts_reply files fading cached documents sessions) = ((refl, refl), (tt, refl, λ is. refl), refl)
   status-keeps n reply = ((refl, refl), (refl, refl, refl), refl)
 
-  for-keeps : (expects : Bool) (intent : Intent) → Owes (course_for manner expects intent) 3 (at_first (length_of intent))
+  clean-keeps : (pass : Pass) → Owes (after_clean manner pass) 0 (stand_cleaned pass (at_first 0))
+  clean-keeps (Ok cleaned) = ((refl, refl), (tt, refl, λ is. refl), refl)
+  clean-keeps (Err clean_fault.StoreFault) = ((refl, refl), (tt, refl, λ is. refl), refl)
+  clean-keeps (Err clean_fault.BlobFault) = ((refl, refl), (tt, refl, λ is. refl), refl)
+  clean-keeps (Err clean_fault.NoMemory) = ((refl, refl), (refl, refl, refl), refl)
+
+  for-keeps : (expects : Bool) (intent : Intent) → Owes (course_for manner expects intent) (most_for intent) (at_first (length_of intent))
   for-keeps expects (reads_path repo path) = ((refl, refl), λ reply. look-keeps reply 1)
   for-keeps expects (puts_file repo path count) = ((refl, refl), λ reply. may_put-keeps repo path count expects reply)
   for-keeps expects (puts_side repo path side count) = small-keeps count (after_side repo path side manner) expects (side-keeps repo path side count)
   for-keeps expects (puts_document repo path count) = small-keeps count (after_document repo path manner) expects (document-keeps repo path count)
   for-keeps expects counts = (refl, λ reply. status-keeps 2 reply)
+  for-keeps expects (cleans_all repos) = ((refl, refl), refl, omega arith, clean-keeps)
 
-pub judged-keeps : (judged : Result Judged Refused) (last : Bool) → Keeps (is_head_only judged) (course_of judged last) 3 (at_first (unread_of judged))
+pub judged-keeps : (judged : Result Judged Refused) (last : Bool) → Keeps (is_head_only judged) (course_of judged last) (most_of judged) (at_first (unread_of judged))
 judged-keeps (Ok request) last =
     for-keeps (record { close = request.close; last = last; head_only = request.head_only }) request.expects request.intent
 judged-keeps (Err cause) last = ((refl, refl), (tt, refl, λ is. refl), refl)
@@ -204,8 +212,13 @@ shows_head (unread_head begins still is) = false
 shows_head (starved head rest begins uses is) = is_head head
 shows_head {settings} (served head rest begins uses is) = is_head_only (judge settings head)
 
+-- how many commands that course asks at most
+abbrev pub asking : {settings : Settings} {last : Bool} {old new : Outside} {c : Course} → Opens settings last old new c → ℕ
+asking {settings} (served head rest begins uses is) = most_of (judge settings head)
+asking _ = 3
+
 pub opens-keeps : (settings : Settings) (last : Bool) (old new : Outside) (c : Course) (o : Opens settings last old new c)
-    → Keeps (shows_head o) c 3 (standing o)
+    → Keeps (shows_head o) c (asking o) (standing o)
 opens-keeps settings last old new c (clean begins still is) =
     subst (λ (d : Course). Keeps false d 3 (failing stream.Closed (at_first 0))) (sym is) ((refl, refl), refl)
 opens-keeps settings last old new c (torn begins still is) =
@@ -220,7 +233,7 @@ opens-keeps settings last old new c (starved head rest begins uses is) =
     subst (λ (d : Course). Keeps (is_head head) d 3 (starving (at_first 0))) (sym is) ((refl, refl), (refl, refl, refl), refl)
 opens-keeps settings last old new c (served head rest begins uses is) =
     let judged = judge settings head in
-    subst (λ (d : Course). Keeps (is_head_only judged) d 3 (at_first (unread_of judged))) (sym is) (judged-keeps judged last)
+    subst (λ (d : Course). Keeps (is_head_only judged) d (most_of judged) (at_first (unread_of judged))) (sym is) (judged-keeps judged last)
 
 -- a reply leaves the way that a course must end by, or memory was wanted
 abbrev Goes : Stand → Stand → Type 0
@@ -303,3 +316,9 @@ module _ (P : Option ℕ → Option ℕ → Type 0) where
   sent-holds manner sent.BlobFault s h = h
   sent-holds manner sent.SinkFault s h = h
   sent-holds manner sent.NoMemory s h = h
+
+  pub cleaned-holds : (pass : Pass) (s : Stand) → P s.draft s.lease → P (stand_cleaned pass s).draft (stand_cleaned pass s).lease
+  cleaned-holds (Ok cleaned) s h = h
+  cleaned-holds (Err clean_fault.StoreFault) s h = h
+  cleaned-holds (Err clean_fault.BlobFault) s h = h
+  cleaned-holds (Err clean_fault.NoMemory) s h = h

@@ -5,12 +5,13 @@ use Rattle.repo_model.specs.History.{Entry, Legal, after, end as end_of}
 use Rattle.repo_model.specs.Reply.{no_draft}
 use Rattle.repo_model.specs.Settings.{Settings}
 use Rattle.repo_model.specs.State.{Lease, State, Yard}
-use Rattle.repo_course.specs.Course.{Course, asks, continues, reads, says, sends, stops, takes}
+use Rattle.repo_course.specs.Course.{Course, asks, cleans, continues, reads, says, sends, stops, takes}
 use Rattle.repo_course.specs.declared.outcomes.End.{End}
-use Rattle.repo_course.specs.Serving.{Follows, Opens, clean, torn, failed, refused, unread_head, starved, served, Outside, Serves, Turn}
-use Rattle.course_laws.specs.Duties.{HoldsNothing, Keeps, MayAsk, Stand, stand_after, stand_continued, stand_read, stand_sent, stand_stored}
+use Rattle.repo_course.specs.Serving.{Follows, Opens, clean, torn, failed, refused, unread_head, starved, served, Outside, Serves, Turn, with_store}
+use Rattle.course_laws.specs.Duties.{HoldsNothing, Keeps, MayAsk, Stand, stand_after, stand_cleaned, stand_continued, stand_read, stand_sent, stand_stored}
 use Rattle.course_laws.specs.LeftBehind.{IsDrawn, LeavesNothing, NumbersAreBelow}
-use Rattle.course_laws.proofs.Kept.{continued-holds, opens-keeps, read-holds, sent-holds, shows_head, standing, stored-holds}
+use Rattle.course_laws.proofs.Kept.{continued-holds, asking, cleaned-holds, opens-keeps, read-holds, sent-holds, shows_head, standing, stored-holds}
+use Rattle.course_laws.proofs.Passes.{entries-find, entries-hold, passes-ask}
 use Rattle.course_laws.proofs.Yards.{Holding, OwnDraft, OwnLease, step}
 
 stays : (y : Yard) → LeavesNothing y y
@@ -47,6 +48,18 @@ pub record Leaves (settings : Settings) (before : Yard) (entries : List Entry) (
   pub found : AllByRecursion (λ (e : Entry). e.reply ≢ no_draft) entries
 
 module _ (tells : Type 0) (settings : Settings) where
+  pub end_append : (x : State) (xs ys : List Entry) → end_of settings x (xs ++ ys) ≡ end_of settings (end_of settings x xs) ys
+  end_append x [] ys = refl
+  end_append x (e ∷ es) ys = end_append (after settings x e) es ys
+
+  pub legal_cut : (x : State) (xs ys : List Entry) → Legal settings x (xs ++ ys) → Legal settings x xs × Legal settings (end_of settings x xs) ys
+  legal_cut x [] ys legal = (tt, legal)
+  legal_cut x (e ∷ es) ys legal = let rest = legal_cut (after settings x e) es ys legal.1 in ((legal.0, rest.0), rest.1)
+
+  all_append : (P : Entry → Type 0) (xs ys : List Entry) → AllByRecursion P xs → AllByRecursion P ys → AllByRecursion P (xs ++ ys)
+  all_append P [] ys all more = more
+  all_append P (x ∷ xs) ys all more = (all.0, all_append P xs ys all.1 more)
+
   module _ (before : Yard) (head_only : Bool) where
     ended : (s : Stand) (entries : List Entry) (st : State) → HoldsNothing s → Holding before s.draft s.lease st.yard → entries ≡ [] → Leaves settings before entries st
     ended s entries st none h is =
@@ -77,13 +90,25 @@ module _ (tells : Type 0) (settings : Settings) where
         follows_leaves (next f.0) n (stand_read f.0 s) (k.2 f.0) entries st legal (read-holds (λ d l. Holding before d l st.yard) f.0 s h) f.1 new end f.3
     follows_leaves (sends blob manner next) n s k entries st legal h old new end f =
         follows_leaves (next f.0) n (stand_sent manner f.0 s) (k.5 f.0) entries st legal (sent-holds (λ d l. Holding before d l st.yard) manner f.0 s h) f.1 new end f.3
+    follows_leaves (cleans repos next) n s k entries st legal h old new end f =
+        let all = subst (λ (es : List Entry). Legal settings st es) f.4 legal in
+        let cut = legal_cut st f.0 f.1 all in
+        let asked = passes-ask repos f.0 _ f.3 f.2 f.5 in
+        let mid = end_of settings st f.0 in
+        let held = cleaned-holds (λ d l. Holding before d l mid.yard) f.2 s (entries-hold before s.draft s.lease settings f.0 st asked h) in
+        let rest = follows_leaves (next f.2) 0 (stand_cleaned f.2 s) (k.3 f.2) f.1 mid cut.1 held (with_store f.3 old) new end f.6 in
+        subst (λ (es : List Entry). Leaves settings before es st) (sym f.4)
+        (record {
+          nothing = λ drawn. subst (λ (x : State). LeavesNothing before x.yard) (sym (end_append st f.0 f.1)) (rest.nothing drawn);
+          found = all_append (λ (e : Entry). e.reply ≢ no_draft) f.0 f.1 (entries-find settings f.0 st cut.0 asked) rest.found;
+        })
     follows_leaves (says said manner) n s k entries st legal h old new end f = ended s entries st k.0 h f.0
     follows_leaves (stops next) n s k entries st legal h old new end f = ended s entries st k.0 h f.0
 
   turn_leaves : (last : Bool) (entries : List Entry) (st : State) → Legal settings st entries → (old new : Outside) (end : Option End)
       → Turn settings tells last entries old new end → Leaves settings st.yard entries st
   turn_leaves last entries st legal old new end t =
-      follows_leaves st.yard (shows_head t.2) t.0 3 (standing t.2) (opens-keeps settings last old t.1 t.0 t.2) entries st legal
+      follows_leaves st.yard (shows_head t.2) t.0 (asking t.2) (standing t.2) (opens-keeps settings last old t.1 t.0 t.2) entries st legal
       (holds t.2) t.1 new end t.3
     where
       holds : {c : Course} {mid : Outside} (o : Opens settings last old mid c) → Holding st.yard (standing o).draft (standing o).lease st.yard
@@ -94,18 +119,6 @@ module _ (tells : Type 0) (settings : Settings) where
       holds (unread_head begins still is) = nothing-held st.yard
       holds (starved head rest begins uses is) = nothing-held st.yard
       holds (served head rest begins uses is) = nothing-held st.yard
-
-  pub end_append : (x : State) (xs ys : List Entry) → end_of settings x (xs ++ ys) ≡ end_of settings (end_of settings x xs) ys
-  end_append x [] ys = refl
-  end_append x (e ∷ es) ys = end_append (after settings x e) es ys
-
-  pub legal_cut : (x : State) (xs ys : List Entry) → Legal settings x (xs ++ ys) → Legal settings x xs × Legal settings (end_of settings x xs) ys
-  legal_cut x [] ys legal = (tt, legal)
-  legal_cut x (e ∷ es) ys legal = let rest = legal_cut (after settings x e) es ys legal.1 in ((legal.0, rest.0), rest.1)
-
-  all_append : (P : Entry → Type 0) (xs ys : List Entry) → AllByRecursion P xs → AllByRecursion P ys → AllByRecursion P (xs ++ ys)
-  all_append P [] ys all more = more
-  all_append P (x ∷ xs) ys all more = (all.0, all_append P xs ys all.1 more)
 
   pub serves_leaves : (n : ℕ) (entries : List Entry) (st : State) → Legal settings st entries → (old new : Outside) (end : End)
       → Serves settings tells n entries old new end → Leaves settings st.yard entries st

@@ -2,6 +2,7 @@ pub mod Kept
 pub mod Bodies
 pub mod Endings
 pub mod Yards
+pub mod Passes
 pub mod LeftBehind
 pub mod Complete
 pub mod Counts

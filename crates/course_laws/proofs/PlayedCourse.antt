@@ -3,6 +3,7 @@ use Rattle.std.proofs.Common.{◌≡◌, ℕ, zero, suc, ◌≤◌, Bool, true, 
 use Rattle.std.specs.Prelude.{if◌then◌else◌, unwrap_or}
 use Rattle.std.proofs.lemmas.Bool.{false≢true}
 use Rattle.std.proofs.Math.Seq.{drop-append_seam}
+use Rattle.outside.specs.Blobs.{with_blob}
 use Rattle.http_wire.specs.Answer.{continue_bytes, shown}
 use Rattle.repo_model.specs.Command.{Command, look, done, may_put, put, put_side, put_doc, drop_draft, status}
 use Rattle.repo_model.specs.Data.{Blob}
@@ -11,7 +12,9 @@ use Rattle.repo_model.specs.Reply.{Reply, file, text, doc, missed, spent, draft,
 use Rattle.repo_model.specs.Settings.{Settings}
 use Rattle.repo_model.specs.State.{State}
 use Rattle.repo_course.specs.Answers.{file_answer}
-use Rattle.repo_course.specs.Course.{Body, Course, Stored, asks, continues, takes, reads, sends, says, stops}
+use Rattle.repo_course.specs.Cleaning.{Passes, Store}
+use Rattle.repo_course.specs.declared.outcomes.CleanFault.TheVariants as clean_fault
+use Rattle.repo_course.specs.Course.{Body, Course, Pass, Stored, asks, continues, takes, reads, sends, cleans, says, stops}
 use Rattle.repo_course.specs.declared.manner.Manner.{Manner}
 use Rattle.repo_course.specs.declared.outcomes.Continued.{Continued}
 use Rattle.repo_course.specs.declared.outcomes.Continued.TheVariants as continued
@@ -19,11 +22,13 @@ use Rattle.repo_course.specs.declared.outcomes.End.{End}
 use Rattle.repo_course.specs.declared.outcomes.Sent.{Sent}
 use Rattle.repo_course.specs.declared.outcomes.Sent.TheVariants as sent
 use Rattle.repo_course.specs.declared.outcomes.Took.TheVariants as took
-use Rattle.repo_course.specs.Serving.{Continues, Follows, Outside, Reads, SendsAnswer, Takes, writes}
+use Rattle.repo_course.specs.Serving.{Continues, Follows, Outside, Reads, SendsAnswer, Takes, store_of, with_store, writes}
 use Rattle.course_laws.specs.AsPlayed.{RowsTold}
-use Rattle.course_laws.specs.Duties.{by_memory, Keeps, MayAsk, Stand, asked_draft, has_counted, has_put, has_put_doc, has_put_side, has_read, looked, stand_after, stand_continued, stand_read, stand_sent, stand_stored}
+use Rattle.course_laws.specs.Duties.{by_memory, Keeps, MayAsk, Stand, asked_draft, has_counted, has_put, has_put_doc, has_put_side, has_read, looked, stand_after, stand_cleaned, stand_continued, stand_read, stand_sent, stand_stored}
 use Rattle.course_laws.specs.Faultless.{body_of, due_entry, play, taken_body, wrote}
-use Rattle.course_laws.proofs.Counts.{Calm, Grew, follows-grew, reads-body-grew, sends-grew, takes-grew}
+use Rattle.course_laws.proofs.LeftBehind.{end_append, legal_cut}
+use Rattle.course_laws.proofs.Passes.{entries-clock, entries-told, no-store-faults, passes-ask, passes-hold, passes-played, passes-rose}
+use Rattle.course_laws.proofs.Counts.{Calm, Grew, calm-first, calm-then, cleans-grew, follows-grew, reads-body-grew, sends-grew, takes-grew}
 use Rattle.course_laws.proofs.Early.{Outcome, Ready, ends-early, outcome-before, says-memory}
 use Rattle.course_laws.proofs.PlayedActs.{InHandTold, Plays, at, body-torn, body-whole, bytes-are, front-of, memory-play, risen, says-play, short-of, sink-play, source-play, stops-play, taken-torn, taken-whole, told-is, torn-play, unwritten, wrote-play}
 use Rattle.course_laws.proofs.Told.{CommandTold, ReplyTold, after-told, clock-stays, due-is, faults-are, faults-grow, moment-is, reply-told}
@@ -152,8 +157,8 @@ module _ (settings : Settings) (tells : Type 0) (witness : tells) (head_only : B
   takes-play number count next ih (Ok blob) n s k hand entries st legal calm old mid new end input before ready quiet first grows cause follows =
       let body = cause.0 in
       let got = front-of input body cause.1.0 (sym ready.input_is ∙ cause.1.2) in
-      let o : Outside = record old { input = Some got.0 } in
-      let mid-is : mid ≡ o = cause.1.3 ∙ ap (λ i. record old { input = i }) got.1 in
+      let o : Outside = record old { input = Some got.0; shelf = with_blob number body old.shelf } in
+      let mid-is : mid ≡ o = cause.1.3 ∙ ap (λ i. record old { input = i; shelf = with_blob number body old.shelf }) got.1 in
       let some = cause.5 witness in
       let told = told-is blob.bytes body cause.4 some in
       let ready' : Ready o st got.0 before = record {
@@ -244,6 +249,38 @@ module _ (settings : Settings) (tells : Type 0) (witness : tells) (head_only : B
   sends-play false blob manner head next ih sent.NoMemory n s is k hand entries st legal calm old mid new end input before ready quiet first grows cause follows =
       inr (memory-play settings tells head_only _ (next sent.NoMemory) n s (k sent.NoMemory) entries st old mid new end input before ready first (ap (λ o. o.output) cause) follows)
 
+  -- a pass
+
+  cleans-play : (repos : List (List ℕ)) (next : Pass → Course) → ((pass : Pass) → Plays settings tells head_only (next pass)) → (pass : Pass) (n : ℕ) (s : Stand)
+      → Keeps head_only (cleans repos next) n s → InHandTold s.blob → (mine later : List Entry) (st : State) → Legal settings st mine
+      → Legal settings (end_of settings st mine) later → Calm st.faults (end_of settings st mine).faults
+      → Calm (end_of settings st mine).faults (end_of settings (end_of settings st mine) later).faults
+      → (old new : Outside) (kept : Store) (end : Option End) (input before : List ℕ) → Ready old st input before → Calm old.blob_faults new.blob_faults
+      → Grew old (with_store kept old) → Grew (with_store kept old) new → Passes repos mine (store_of old) kept pass → Follows tells (next pass) later (with_store kept old) new end
+      → Outcome before (play settings (cleans repos next) (at st input)) old new (end_of settings (end_of settings st mine) later) end
+  cleans-play repos next ih (Err clean_fault.NoMemory) n s k hand mine later st legal more calm calm1 old new kept end input before ready quiet first grows cause follows =
+      inr (memory-play settings tells head_only _ (next (Err clean_fault.NoMemory)) 0 s (k.3 (Err clean_fault.NoMemory)) later (end_of settings st mine) old (with_store kept old) new end input before
+      (record { input_is = ready.input_is; output_is = ready.output_is; rows = entries-told settings mine st (passes-ask repos mine _ kept _ cause) ready.rows; clock = entries-clock settings mine st ready.clock })
+      first refl follows)
+  cleans-play repos next ih (Err clean_fault.StoreFault) n s k hand mine later st legal more calm calm1 old new kept end input before ready quiet first grows cause follows =
+      absurd (passes-hold repos mine _ kept _ cause (no-store-faults settings mine st legal calm (passes-ask repos mine _ kept _ cause)) refl)
+  cleans-play repos next ih (Err clean_fault.BlobFault) n s k hand mine later st legal more calm calm1 old new kept end input before ready quiet first grows cause follows =
+      let rose = passes-rose repos mine (store_of old) kept cause in risen old.blob_faults kept.faults new.blob_faults rose grows.blobs quiet
+  cleans-play repos next ih (Ok did) n s k hand mine later st legal more calm calm1 old new kept end input before ready quiet first grows cause follows =
+      let asked = passes-ask repos mine _ kept _ cause in
+      let ready1 : Ready (with_store kept old) (end_of settings st mine) input before = record {
+        input_is = ready.input_is;
+        output_is = ready.output_is;
+        rows = entries-told settings mine st asked ready.rows;
+        clock = entries-clock settings mine st ready.clock;
+      } in
+      let quiet1 : Calm kept.faults new.blob_faults = calm-then old.blob_faults kept.faults new.blob_faults first.blobs grows.blobs quiet in
+      let played = passes-played settings repos mine (store_of old) kept did st legal calm ready.clock cause in
+      let there = ih (Ok did) 0 s (k.3 (Ok did)) hand later (end_of settings st mine) more calm1 (with_store kept old) new end input before ready1 quiet1 follows in
+      subst (λ (p : List Entry × Pass). Outcome before (play settings (next p.1) (at (end_of settings st p.0) input)) old new (end_of settings (end_of settings st mine) later) end)
+      (λ i. (played.0 i, played.1 i))
+      (outcome-before before _ old (with_store kept old) new _ end first there)
+
   pub course-play : (c : Course) → Plays settings tells head_only c
   course-play (asks command next) n s k hand entries st legal calm old new end input before ready quiet f =
       asks-play command next (λ r. course-play (next r)) n s k hand entries st legal calm old new end input before ready quiet f
@@ -259,6 +296,18 @@ module _ (settings : Settings) (tells : Type 0) (witness : tells) (head_only : B
       let head = shown (file_answer blob manner) in
       sends-play manner.head_only blob manner head next (λ r. course-play (next r)) f.0 n s k.0 k.5 hand entries st legal calm old f.1 new end input before ready quiet
       (sends-grew manner.head_only blob head f.0 old f.1 f.2) (follows-grew tells (next f.0) entries f.1 new end f.3) f.2 f.3
+  course-play (cleans repos next) n s k hand entries st legal calm old new end input before ready quiet f =
+      let all = subst (λ (es : List Entry). Legal settings st es) f.4 legal in
+      let cut = legal_cut tells settings st f.0 f.1 all in
+      let mid = end_of settings st f.0 in
+      let ends : end_of settings st entries ≡ end_of settings mid f.1 = ap (λ (es : List Entry). end_of settings st es) f.4 ∙ end_append tells settings st f.0 f.1 in
+      let calm2 = subst (λ (x : State). Calm st.faults x.faults) ends calm in
+      let up = faults-grow settings f.0 st cut.0 in
+      let more = faults-grow settings f.1 mid cut.1 in
+      subst (λ (x : State). Outcome before (play settings (cleans repos next) (at st input)) old new x end) (sym ends)
+      (cleans-play repos next (λ r. course-play (next r)) f.2 n s k hand f.0 f.1 st cut.0 cut.1
+      (calm-first st.faults mid.faults (end_of settings mid f.1).faults more calm2) (calm-then st.faults mid.faults (end_of settings mid f.1).faults up more calm2)
+      old new f.3 end input before ready quiet (cleans-grew repos f.0 old f.3 f.2 f.5) (follows-grew tells (next f.2) f.1 (with_store f.3 old) new end f.6) f.5 f.6)
   course-play (says said manner) n s k hand entries st legal calm old new end input before ready quiet f =
       subst (λ (es : List Entry). Outcome before (play settings (says said manner) (at st input)) old new (end_of settings st es) end) (sym f.0)
       (says-play settings tells head_only said manner st old new end input before ready f.1)

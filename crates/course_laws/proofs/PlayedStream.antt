@@ -17,11 +17,11 @@ use Rattle.repo_course.specs.declared.outcomes.End.{End}
 use Rattle.repo_course.specs.declared.outcomes.End.TheVariants as stream
 use Rattle.repo_course.specs.Serving.{Begins, Follows, IsFrontOf, IsWhole, Opens, clean, torn, failed, refused, unread_head, starved, served, Outside, Serves, Turn}
 use Rattle.course_laws.specs.AsPlayed.{BeginsAt, IsAsPlayed, in_full, wants_memory, IsPlayedUpTo, unbroken, broken, NoFaults, StoodStill}
-use Rattle.course_laws.specs.Duties.{Keeps, Stand, at_first, failing, is_head_only, unread_of}
+use Rattle.course_laws.specs.Duties.{Keeps, Stand, at_first, failing, is_head_only, most_of, unread_of}
 use Rattle.course_laws.specs.Faultless.{Played, Scene, play, play_turn, play_stream, then_play, wrote}
 use Rattle.course_laws.proofs.Counts.{Calm, Grew, calm-first, calm-then, follows-grew, not-risen, opens-grew, rose-before, serves-grew, turn-grew}
 use Rattle.course_laws.proofs.Early.{Outcome, Ready, early-before, no-more, outcome-before, says-memory, source-failed}
-use Rattle.course_laws.proofs.Kept.{opens-keeps, shows_head, standing}
+use Rattle.course_laws.proofs.Kept.{asking, opens-keeps, shows_head, standing}
 use Rattle.course_laws.proofs.LeftBehind.{end_append, legal_cut}
 use Rattle.course_laws.proofs.PlayedActs.{InHandTold}
 use Rattle.course_laws.proofs.PlayedCourse.{course-play}
@@ -67,13 +67,13 @@ module _ (settings : Settings) (tells : Type 0) (witness : tells) where
   Turned last f st input before old new st' end = Outcome before (play_turn settings last f (record { state = st; input = input })) old new st' end
 
   -- a course behind what was read, from where it stands
-  played : (head_only : Bool) (c : Course) (s : Stand) → Keeps head_only c 3 s → s.blob ≡ None → (entries : List Entry) (st : State) → Legal settings st entries
+  played : (head_only : Bool) (c : Course) (n : ℕ) (s : Stand) → Keeps head_only c n s → s.blob ≡ None → (entries : List Entry) (st : State) → Legal settings st entries
       → Calm st.faults (end_of settings st entries).faults
       → (old mid new : Outside) (end : Option End) (input before : List ℕ) → Ready mid st input before → Calm mid.blob_faults new.blob_faults → Grew old mid
       → Follows tells c entries mid new end → Outcome before (play settings c (record { state = st; input = input })) old new (end_of settings st entries) end
-  played head_only c s k none entries st legal calm old mid new end input before ready quiet g f =
+  played head_only c n s k none entries st legal calm old mid new end input before ready quiet g f =
       outcome-before before _ old mid new _ end g
-      (course-play settings tells witness head_only c 3 s k (subst (λ b. InHandTold b) (sym none) tt) entries st legal calm mid new end input before ready quiet f)
+      (course-play settings tells witness head_only c n s k (subst (λ b. InHandTold b) (sym none) tt) entries st legal calm mid new end input before ready quiet f)
 
   -- the source alone was read
   ready-on : (old mid : Outside) (st : State) (input behind before : List ℕ) (rest : Option (List ℕ)) → Ready old st input before → mid ≡ record old { input = rest }
@@ -117,10 +117,10 @@ module _ (settings : Settings) (tells : Type 0) (witness : tells) where
           subst (λ f. Turned last f st input before old new (end_of settings st entries) end) (sym what-is)
           (subst (λ p. Outcome before p old new (end_of settings st entries) end) (sym (plays (record { state = st; input = input })))
           (subst (λ d. Outcomes d input before old new st (end_of settings st entries) end) is
-          (played head_only c s k none entries st legal calm old mid new end input before (ready-on old mid st input input before old.input ready still ready.input_is)
+          (played head_only c 3 s k none entries st legal calm old mid new end input before (ready-on old mid st input input before old.input ready still ready.input_is)
           (quiet-behind mid g more) g f)))
 
-      opened : (c : Course) (mid : Outside) (o : Opens settings last old mid c) → Follows tells c entries mid new end → Keeps (shows_head o) c 3 (standing o)
+      opened : (c : Course) (mid : Outside) (o : Opens settings last old mid c) → Follows tells c entries mid new end → Keeps (shows_head o) c (asking o) (standing o)
           → Grew old mid → Grew mid new → Turned last (front input) st input before old new (end_of settings st entries) end
       opened c mid (clean begins still is) f k g more = at-once Clean begins mid still false (failing stream.Closed (at_first 0)) refl c _ is k f g more (λ scene. refl)
       opened c mid (torn begins still is) f k g more = at-once Cut begins mid still false (failing stream.TornRequest (at_first 0)) refl c _ is k f g more (λ scene. refl)
@@ -143,7 +143,7 @@ module _ (settings : Settings) (tells : Type 0) (witness : tells) where
           old new st (end_of settings st entries) end input before
           (λ behind there.
           subst (λ d. Outcomes d behind before old new st (end_of settings st entries) end) is
-          (played (is_head_only (judge settings head)) c (at_first (unread_of (judge settings head))) k refl entries st legal calm old mid new end behind before
+          (played (is_head_only (judge settings head)) c (most_of (judge settings head)) (at_first (unread_of (judge settings head))) k refl entries st legal calm old mid new end behind before
           (ready-on old mid st input behind before rest ready uses there) (quiet-behind mid g more) g f))
 
   -- the stream ended in this turn

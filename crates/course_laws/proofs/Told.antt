@@ -83,7 +83,7 @@ with-row-told new (row ∷ rows) told all =
 -- effects
 
 -- the blob of a new row is told
-abbrev EffectTold : Effect → Type 0
+abbrev pub EffectTold : Effect → Type 0
 EffectTold (creates repo path blob moment) = IsSome blob.bytes
 EffectTold (delivers n repo path blob moment) = IsSome blob.bytes
 EffectTold effect = Unit {0}
@@ -102,7 +102,7 @@ repo-told None f keeps hosted all = all
 repo-told (Some repo) f keeps hosted all =
     changed-first (λ (h : Hosted). AllTold h.rows) (is_repository repo) (λ h. record h { rows = f h.rows }) (λ h is. keeps h.rows is) hosted all
 
-effects-told : (es : List Effect) (s : State) → AllByRecursion EffectTold es → RowsTold s → RowsTold (with_effects s es)
+pub effects-told : (es : List Effect) (s : State) → AllByRecursion EffectTold es → RowsTold s → RowsTold (with_effects s es)
 effects-told [] s tells all = all
 effects-told (e ∷ es) s tells all = effects-told es (with_effect s e) tells.1 (repo-told (repo_of e) (rows_after e) (rows-told e tells.0) s.hosted all)
 

@@ -8,7 +8,8 @@ use Rattle.repo_model.specs.Command.{Command, look, may_put, put, put_side, put_
 use Rattle.repo_model.specs.Reply.{Reply, file, text, doc, missed, kind_refused, draft, no_draft, taken, same, relisted, created, not_there, differs, agreed, noted, counts as counts_reply, spent, store_fault}
 use Rattle.repo_routes.specs.Intent.{Intent, Judged, puts_side, puts_document}
 use Rattle.repo_routes.specs.declared.judging.Refused.{Refused}
-use Rattle.repo_course.specs.Course.{Body, Course, Stored, asks, continues, takes, reads, sends, says, stops}
+use Rattle.repo_course.specs.Course.{Body, Course, Pass, Stored, asks, continues, takes, reads, sends, cleans, says, stops}
+use Rattle.repo_course.specs.declared.outcomes.CleanFault.TheVariants as clean
 use Rattle.repo_course.specs.declared.outcomes.Continued.{Continued}
 use Rattle.repo_course.specs.declared.outcomes.Sent.{Sent}
 use Rattle.repo_course.specs.declared.outcomes.Sent.TheVariants as sent
@@ -83,6 +84,13 @@ for_sent sent.BlobFault = Some said.BlobFault
 for_sent sent.SinkFault = None
 for_sent sent.NoMemory = Some said.NoMemory
 
+-- a pass over the repositories, by how it ended
+abbrev pub for_pass : Pass → Option Said
+for_pass (Ok done) = Some (said.Cleaned done.unlisted done.removed)
+for_pass (Err clean.StoreFault) = Some said.StoreFault
+for_pass (Err clean.BlobFault) = Some said.BlobFault
+for_pass (Err clean.NoMemory) = Some said.NoMemory
+
 -- a side file that says no digest, and a text that is no document, by its first fault
 abbrev pub for_digest : Option (List ℕ) → Option Said
 for_digest (Some digest) = None
@@ -108,6 +116,7 @@ AnswersDue by_text (continues next) due = (result : Continued) → AnswersDue by
 AnswersDue by_text (takes number count next) due = (stored : Stored) → AnswersDue by_text (next stored) (for_stored stored)
 AnswersDue by_text (reads count next) due = (body : Body) → AnswersDue by_text (next body) (for_body by_text body)
 AnswersDue by_text (sends blob manner next) due = (result : Sent) → AnswersDue by_text (next result) (for_sent result)
+AnswersDue by_text (cleans repos next) due = (pass : Pass) → AnswersDue by_text (next pass) (for_pass pass)
 AnswersDue by_text (says answer manner) due = due ≡ Some answer
 AnswersDue by_text (stops end) due = due ≡ None
 

@@ -4,7 +4,8 @@ use Rattle.repo_model.specs.History.{Entry, Fits}
 use Rattle.repo_model.specs.Reply.{no_memory}
 use Rattle.repo_model.specs.Settings.{Settings}
 use Rattle.repo_model.specs.State.{State}
-use Rattle.repo_course.specs.Course.{Body, Course, Stored, asks, continues, takes, reads, sends, says, stops}
+use Rattle.repo_course.specs.Course.{Body, Course, Pass, Stored, asks, continues, takes, reads, sends, cleans, says, stops}
+use Rattle.repo_course.specs.declared.outcomes.CleanFault.TheVariants as clean
 use Rattle.repo_course.specs.declared.outcomes.Continued.{Continued}
 use Rattle.repo_course.specs.declared.outcomes.Sent.{Sent}
 use Rattle.repo_course.specs.declared.outcomes.Sent.TheVariants as sent
@@ -21,6 +22,10 @@ abbrev pub HadRoomToSend : Sent → Type 0
 HadRoomToSend sent.NoMemory = ⊥
 HadRoomToSend result = Unit {0}
 
+abbrev pub HadRoomToClean : Pass → Type 0
+HadRoomToClean (Err clean.NoMemory) = ⊥
+HadRoomToClean pass = Unit {0}
+
 -- Unless memory was wanted, the course does not end in want of memory: not for any reply that a command gets in any state in
 -- which it may be asked, and not for any result of its acts.
 abbrev pub IsComplete : Settings → Course → Type 0
@@ -30,5 +35,6 @@ IsComplete settings (continues next) = (result : Continued) → IsComplete setti
 IsComplete settings (takes draft count next) = (stored : Stored) → HadRoom stored → IsComplete settings (next stored)
 IsComplete settings (reads count next) = (body : Body) → HadRoom body → IsComplete settings (next body)
 IsComplete settings (sends blob manner next) = (result : Sent) → HadRoomToSend result → IsComplete settings (next result)
+IsComplete settings (cleans repos next) = (pass : Pass) → HadRoomToClean pass → IsComplete settings (next pass)
 IsComplete settings (says said manner) = IsAnswer said
 IsComplete settings (stops end) = Unit {0}

@@ -1,14 +1,16 @@
 -- What a course owes, step by step: the draft and the lease that it holds, the bytes of the body that it has not read, the one
 -- answer that it gives, the commands that it may still ask, and how it ends once a side of the stream failed or memory was
 -- wanted.
-use Rattle.std.specs.Prelude.{◌≡◌, ℕ, zero, suc, Bool, true, false, Option, Some, None, IsSome, Result, Ok, Err}
+use Rattle.std.specs.Prelude.{◌≡◌, ℕ, zero, suc, ◌+◌, ◌≤◌, max, length, Bool, true, false, Option, Some, None, IsSome, Result, Ok, Err}
 use Rattle.repo_model.specs.Data.{Blob, repository}
 use Rattle.repo_model.specs.Command.{Command, look, done, may_put, put, put_side, put_doc, drop_draft, status}
 use Rattle.repo_model.specs.Reply.{Reply, file, text, doc, missed, kind_refused, draft, no_draft, taken, same, relisted, created, not_there, differs, agreed, noted, counts as counts_reply, spent, store_fault}
-use Rattle.repo_routes.specs.Intent.{Intent, Judged, reads as reads_path, puts_file, puts_side, puts_document, counts}
+use Rattle.repo_model.specs.Settings.{Settings}
+use Rattle.repo_routes.specs.Intent.{Intent, Judged, reads as reads_path, puts_file, puts_side, puts_document, counts, cleans as cleans_all}
 use Rattle.repo_routes.specs.declared.judging.Refused.{Refused}
 use Rattle.repo_course.specs.Answers.{at_end}
-use Rattle.repo_course.specs.Course.{Body, Course, Stored, asks, continues, takes, reads, sends, says, stops, end_of}
+use Rattle.repo_course.specs.declared.outcomes.CleanFault.TheVariants as clean
+use Rattle.repo_course.specs.Course.{Body, Course, Pass, Stored, asks, continues, takes, reads, sends, cleans, says, stops, end_of}
 use Rattle.repo_course.specs.declared.manner.Manner.{Manner}
 use Rattle.repo_course.specs.declared.outcomes.Continued.{Continued}
 use Rattle.repo_course.specs.declared.outcomes.Continued.TheVariants as continued
@@ -42,7 +44,7 @@ pub record Stand : Type 0 where
 
 -- before the first command, with a body of so many bytes to come
 abbrev pub at_first : ℕ → Stand
-at_first length = record { draft = None; lease = None; blob = None; unread = length; invited = false; sent = None; early = None }
+at_first count = record { draft = None; lease = None; blob = None; unread = count; invited = false; sent = None; early = None }
 
 abbrev pub starving : Stand → Stand
 starving s = record s { early = Some by_memory }
@@ -142,6 +144,10 @@ stand_sent manner sent.BlobFault s = s
 stand_sent manner sent.SinkFault s = failing stream.SinkFault s
 stand_sent manner sent.NoMemory s = starving s
 
+abbrev pub stand_cleaned : Pass → Stand → Stand
+stand_cleaned (Err clean.NoMemory) s = starving s
+stand_cleaned pass s = s
+
 abbrev pub IsAnswer : Said → Type 0
 IsAnswer NoMemory = ⊥
 IsAnswer said = Unit {0}
@@ -179,16 +185,32 @@ Keeps head_only (reads count next) n s =
 Keeps head_only (sends blob manner next) n s =
     (s.blob ≡ Some blob) × (s.early ≡ None) × (s.sent ≡ None) × IsSome s.lease × (manner.head_only ≡ head_only)
     × ((result : Sent) → Keeps head_only (next result) n (stand_sent manner result s))
+Keeps head_only (cleans repos next) n s =
+    HoldsNothing s × (s.early ≡ None) × (length repos + 1 ≤ n) × ((pass : Pass) → Keeps head_only (next pass) 0 (stand_cleaned pass s))
 Keeps head_only (says said manner) n s = HoldsNothing s × SaysFor s s.early said manner × (manner.head_only ≡ head_only)
 Keeps head_only (stops end) n s = HoldsNothing s × StopsFor s s.early end
 
 -- how many bytes of body come with what is asked for
 abbrev pub length_of : Intent → ℕ
 length_of (reads_path repo path) = 0
-length_of (puts_file repo path length) = length
-length_of (puts_side repo path side length) = length
-length_of (puts_document repo path length) = length
+length_of (puts_file repo path count) = count
+length_of (puts_side repo path side count) = count
+length_of (puts_document repo path count) = count
 length_of counts = 0
+length_of (cleans_all repos) = 0
+
+-- how many commands come with it at most
+abbrev pub most_for : Intent → ℕ
+most_for (cleans_all repos) = length repos + 1
+most_for intent = 3
+
+abbrev pub most_of : Result Judged Refused → ℕ
+most_of (Ok request) = most_for request.intent
+most_of (Err refused) = 3
+
+-- the most commands of a request under these settings
+unfoldable pub most_asked : Settings → ℕ
+most_asked settings = max 3 (length settings.hosted + 1)
 
 -- the bytes that a request's course has to read, and whether its answer is a head alone
 abbrev pub unread_of : Result Judged Refused → ℕ

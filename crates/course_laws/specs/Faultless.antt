@@ -1,18 +1,21 @@
 -- What a stream of bytes is answered where nothing fails and memory never wants: a function of the bytes and of the clock's moments.
-use Rattle.std.specs.Prelude.{ℕ, zero, suc, ◌==◌, Bool, nat_lt, min, max, if◌then◌else◌, List, [], ◌++◌, length, take, drop, Option, Some, None, Ok, Err, unwrap_or}
+use Rattle.std.specs.Prelude.{ℕ, zero, suc, ◌==◌, Bool, nat_lt, min, max, if◌then◌else◌, List, [], ◌∷◌, ◌++◌, length, map, sum_by, take, drop, Option, Some, None, Ok, Err, unwrap_or}
 use Rattle.std.specs.Option.{option_map_or}
 use Rattle.http_wire.specs.Answer.{continue_bytes, shown}
 use Rattle.http_wire.specs.Front.{Front, Clean, Cut, Bad, Whole, front}
 use Rattle.outside.specs.Moments.{Moments}
-use Rattle.repo_model.specs.Command.{Command}
+use Rattle.outside.specs.Faults.{last_count}
+use Rattle.repo_model.specs.Command.{Command, unlist, collect}
 use Rattle.repo_model.specs.Data.{Blob}
-use Rattle.repo_model.specs.History.{Entry, after, latest_moment}
+use Rattle.repo_model.specs.History.{Entry, after, end as state_behind, latest_moment}
+use Rattle.repo_model.specs.Reply.{Reply, unlisted, collected}
 use Rattle.repo_model.specs.Settings.{Settings}
 use Rattle.repo_model.specs.State.{State, opening}
 use Rattle.repo_model.specs.Turn.{turn}
 use Rattle.repo_routes.specs.Judge.{judge}
 use Rattle.repo_course.specs.Answers.{answer_of, file_answer}
-use Rattle.repo_course.specs.Course.{Body, Course, Stored, asks, continues, takes, reads, sends, says, stops, course_of, end_of, refuses_head}
+use Rattle.repo_course.specs.declared.outcomes.Cleaned.{Cleaned}
+use Rattle.repo_course.specs.Course.{Body, Course, Stored, asks, continues, takes, reads, sends, cleans, says, stops, course_of, end_of, refuses_head}
 use Rattle.repo_course.specs.declared.manner.Manner.{Manner}
 use Rattle.repo_course.specs.declared.outcomes.Continued.TheVariants.{Written}
 use Rattle.repo_course.specs.declared.outcomes.End.{End}
@@ -59,6 +62,32 @@ blob_of draft body = record { number = draft; bytes = Some body; print = print_o
 abbrev pub taken_body : ℕ → ℕ → List ℕ → Stored
 taken_body draft count input = if nat_lt (length input) count then Err Torn else Ok (blob_of draft (take count input))
 
+-- the entries of commands, one after another, where nothing fails
+abbrev pub due_entries : Settings → State → List Command → List Entry
+due_entries settings s [] = []
+due_entries settings s (command ∷ commands) =
+    let e = due_entry settings s command in e ∷ due_entries settings (after settings s e) commands
+
+-- how many rows a reply says were unlisted, and how many blobs it gives out to be removed
+abbrev pub unlisted_by : Reply → ℕ
+unlisted_by (unlisted n) = n
+unlisted_by reply = 0
+
+abbrev pub garbage_by : Reply → ℕ
+garbage_by (collected expired blobs) = length blobs
+garbage_by reply = 0
+
+-- a pass of these entries, where nothing fails
+abbrev pub done_by : List Entry → Cleaned
+done_by entries = record {
+  unlisted = min (sum_by (λ (e : Entry). unlisted_by e.reply) entries) last_count;
+  removed = sum_by (λ (e : Entry). garbage_by e.reply) entries;
+}
+
+-- the entries of a pass over these repositories, where nothing fails
+abbrev pub pass_entries : Settings → State → List (List ℕ) → List Entry
+pass_entries settings s repos = due_entries settings s (map unlist repos ++ collect ∷ [])
+
 -- the bytes of a file's answer
 abbrev pub file_bytes : Blob → Manner → List ℕ
 file_bytes blob manner = shown (file_answer blob manner) ++ (if manner.head_only then [] else unwrap_or blob.bytes [])
@@ -74,6 +103,9 @@ play settings (takes draft count next) scene =
 play settings (reads count next) scene =
     play settings (next (body_of count scene.input)) (record scene { input = drop count scene.input })
 play settings (sends blob manner next) scene = wrote (file_bytes blob manner) (play settings (next whole) scene)
+play settings (cleans repos next) scene =
+    let entries = pass_entries settings scene.state repos in
+    play settings (next (Ok (done_by entries))) (record scene { state = state_behind settings scene.state entries })
 play settings (says said manner) scene = record { written = shown (answer_of said manner); scene = scene; end = end_of manner }
 play settings (stops next) scene = record { written = []; scene = scene; end = next }
 

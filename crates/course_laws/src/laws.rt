@@ -19,7 +19,7 @@ ghost use Rattle.repo_model.specs.State.{State, opening};
 ghost use Rattle.course_laws.specs.AsPlayed.{BeginsAt, IsAsPlayed, IsPlayedUpTo, NoFaults, RowsTold, StoodStill, WantedMemory};
 ghost use Rattle.course_laws.specs.Causes.{AnswersDue, by_text_of, due_at_first};
 ghost use Rattle.course_laws.specs.Complete.{IsComplete};
-ghost use Rattle.course_laws.specs.Duties.{Keeps, at_first, is_head_only, unread_of};
+ghost use Rattle.course_laws.specs.Duties.{Keeps, at_first, is_head_only, most_asked, most_of, unread_of};
 ghost use Rattle.course_laws.specs.Endings.{EndsByCause};
 ghost use Rattle.course_laws.specs.Faultless.{first_scene, play_stream};
 ghost use Rattle.course_laws.specs.LeftBehind.{IsDrawn, LeavesNothing};
@@ -36,10 +36,10 @@ pub fn ends_have_their_causes<H: Held>()
         Serves settings (AllTell H.bytes) n entries old new ending → EndsByCause ending old new }
 {}
 
-/// A request makes at most three commands.
+/// A request makes at most three commands, or for a pass over the repositories one for each and one more.
 pub fn calls_are_few<H: Held>()
     ensures { (settings : Settings) (n : ℕ) (entries : List Entry) (old new : Outside) (ending : End) →
-        Serves settings (AllTell H.bytes) n entries old new ending → length entries ≤ 3 * n }
+        Serves settings (AllTell H.bytes) n entries old new ending → length entries ≤ most_asked settings * n }
 {}
 
 /// A stream that is served alone leaves no draft and no lease behind: each draft that a course was given was put or given
@@ -64,12 +64,12 @@ pub fn courses_are_complete()
 {}
 
 /// Each course of a request, and each refusal, does what it owes, whatever is replied and however its acts end: it asks at
-/// most three commands, puts its draft or gives it up, gives its lease back and holds it while a file is sent, invites and reads
+/// most three commands, or one for each repository and one more, puts its draft or gives it up, gives its lease back and holds it while a file is sent, invites and reads
 /// its body at most once, answers once unless a side of the stream failed, lets the connection go on only where the body was
 /// read, and answers to HEAD by heads alone.
 pub fn courses_keep_their_duties()
     ensures requests { (judged : Result Judged Refused) (last : Bool) →
-        Keeps (is_head_only judged) (course_of judged last) 3 (at_first (unread_of judged)) }
+        Keeps (is_head_only judged) (course_of judged last) (most_of judged) (at_first (unread_of judged)) }
     ensures no_heads { (fault : HeadFault) → Keeps false (refuses_head fault) 3 (at_first 0) }
 {}
 

@@ -198,6 +198,14 @@ fn methods_are_told(rt: HostRuntime) -> Result<(), Fail> {
             b"HTTP/1.1 405 Method Not Allowed\r\nContent-Type: text/plain\r\nContent-Length: 7\r\nAllow: GET, HEAD, PUT\r\n\r\nmethod\n"
         )?
     );
+    assert!(rt;
+        is_written(
+            a,
+            Said::Refused(Refusal::Method(Allow::Post)),
+            GOES_ON,
+            b"HTTP/1.1 405 Method Not Allowed\r\nContent-Type: text/plain\r\nContent-Length: 7\r\nAllow: POST\r\n\r\nmethod\n"
+        )?
+    );
     Ok(())
 }
 
@@ -427,6 +435,34 @@ fn documents_have_their_digests(rt: HostRuntime) -> Result<(), Fail> {
             said,
             HEAD_ONLY,
             b"HTTP/1.1 200 OK\r\nContent-Type: text/xml\r\nContent-Length: 3\r\nX-Checksum-SHA1: a9993e364706816aba3e25717850c26c9cd0d89d\r\nX-Checksum-MD5: 900150983cd24fb0d6963f7d28e17f72\r\n\r\n"
+        )?
+    );
+    Ok(())
+}
+
+#[test]
+fn cleanings_are_told(rt: HostRuntime) -> Result<(), Fail> {
+    let a = rt.alloc();
+    assert!(rt;
+        is_written(
+            a,
+            Said::Cleaned {
+                unlisted: 1,
+                removed: 0,
+            },
+            GOES_ON,
+            b"HTTP/1.1 200 OK\r\nContent-Type: text/plain\r\nContent-Length: 21\r\n\r\nunlisted 1\nremoved 0\n"
+        )?
+    );
+    assert!(rt;
+        is_written(
+            a,
+            Said::Cleaned {
+                unlisted: u64::MAX,
+                removed: 100,
+            },
+            CLOSES,
+            b"HTTP/1.1 200 OK\r\nContent-Type: text/plain\r\nContent-Length: 42\r\nConnection: close\r\n\r\nunlisted 18446744073709551615\nremoved 100\n"
         )?
     );
     Ok(())

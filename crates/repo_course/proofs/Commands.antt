@@ -1,6 +1,9 @@
 -- The commands of a request that is not refused meet their conditions.
-use Rattle.std.proofs.Common.{◌≡◌, ℕ, ◌<◌, ◌≤◌, Bool, true, false, ◌&&◌, ◌==◌, nat_le, nat_lt, List, Option, Some, None, Result, Ok, Err, IsTrue, length, refl, sym, subst, ap, ◌∙◌, arith, eq-eqb}
+use Rattle.std.specs.Prelude.{bytes_eq, find}
+use Rattle.std.specs.List.{AllByRecursion}
+use Rattle.std.proofs.Common.{◌≡◌, ℕ, ◌<◌, ◌≤◌, Bool, true, false, cond, ◌&&◌, ◌==◌, nat_le, nat_lt, List, [], ◌∷◌, Option, Some, None, is_some, Result, Ok, Err, IsTrue, length, map, refl, sym, subst, ap, ◌∙◌, arith, eq-eqb}
 use Rattle.std.proofs.lemmas.Bool.{and_parts, leb-true, lt-ltb}
+use Rattle.std.proofs.lemmas.Slice.Eq.{bytes_eq-Decides}
 use Rattle.mvn_coords.specs.declared.fault.PathFault.{PathFault}
 use Rattle.mvn_coords.specs.declared.fault.Side.{Side}
 use Rattle.mvn_coords.specs.declared.kind.Kind.{Kind}
@@ -15,21 +18,22 @@ use Rattle.repo_model.specs.Command.{may_put, is_digest, is_file_path, is_fit, i
 use Rattle.repo_model.specs.Data.{repository}
 use Rattle.repo_model.specs.Paths.{takes}
 use Rattle.repo_model.specs.Reply.{Reply, file, draft, taken, same, relisted, created, agreed, noted, counts}
-use Rattle.repo_model.specs.Settings.{Settings}
+use Rattle.repo_model.specs.Settings.{Rule, Settings}
 use Rattle.repo_model.specs.State.{number_end}
 use Rattle.repo_routes.specs.Intent as judged
 use Rattle.repo_routes.specs.Intent.{Intent, Judged}
-use Rattle.repo_routes.specs.Judge.{IsIntent}
+use Rattle.repo_routes.specs.Judge.{IsIntent, hosted_ids}
 use Rattle.repo_routes.specs.Paths.{side_of}
 use Rattle.repo_course.specs.declared.manner.Manner.{Manner}
+use Rattle.repo_course.specs.declared.outcomes.CleanFault.TheVariants as clean
 use Rattle.repo_course.specs.declared.outcomes.Continued.{Continued}
 use Rattle.repo_course.specs.declared.outcomes.Continued.TheVariants as continued
 use Rattle.repo_course.specs.declared.outcomes.Sent.{Sent}
 use Rattle.repo_course.specs.declared.outcomes.Sent.TheVariants as sent
 use Rattle.repo_course.specs.declared.outcomes.Took.{Took}
 use Rattle.repo_course.specs.declared.outcomes.Took.TheVariants as took
-use Rattle.repo_course.specs.Course.{Body, Course, Stored, takes as takes_next, reads, compares, course_for, cut_off, gives_up, invites, notes, after_continue, after_document, after_fault, after_look, after_may_put, after_put, after_put_doc, after_put_side, after_send, after_side, after_status, after_take}
-use Rattle.repo_course.specs.Meets.{IsStored, Meets}
+use Rattle.repo_course.specs.Course.{Body, Course, Pass, Stored, takes as takes_next, reads, compares, course_for, cut_off, gives_up, invites, notes, after_clean, after_continue, after_document, after_fault, after_look, after_may_put, after_put, after_put_doc, after_put_side, after_send, after_side, after_status, after_take}
+use Rattle.repo_course.specs.Meets.{IsStored, MeetAll, Meets}
 use Rattle.repo_course.proofs.SideLengths.{read_side-length}
 
 both : (a b : Bool) → IsTrue a → IsTrue b → IsTrue (a && b)
@@ -47,6 +51,35 @@ is_of_side (Ok (DocSide d own)) side digest is long =
 is_of_side (Ok (File c)) side digest is long = absurd (cc)
 is_of_side (Ok (Doc d)) side digest is long = absurd (cc)
 is_of_side (Err fault) side digest is long = absurd (cc)
+
+-- a repository of the settings is found by its id
+is_one_of : List ℕ → List Rule → Bool
+is_one_of id rules = is_some (find (λ (rule : Rule). bytes_eq rule.id id) rules)
+
+found-behind : (id : List ℕ) (rule : Rule) (rules : List Rule) → IsTrue (is_one_of id rules) → IsTrue (is_one_of id (rule ∷ rules))
+unfolding is_one_of
+found-behind id rule rules there =
+    elim (bytes_eq rule.id id) as (λ same. IsTrue (is_some (cond same (Some rule) (find (λ (other : Rule). bytes_eq other.id id) rules)))) [
+      | true ↦ refl
+      | false ↦ there
+    ]
+
+found-first : (rule : Rule) (rules : List Rule) → IsTrue (is_one_of rule.id (rule ∷ rules))
+unfolding is_one_of
+found-first rule rules = let same : bytes_eq rule.id rule.id ≡ true = (bytes_eq-Decides rule.id rule.id).1 refl in rw same refl
+
+all-behind : (rule : Rule) (rules : List Rule) (ids : List (List ℕ)) → AllByRecursion (λ id. IsTrue (is_one_of id rules)) ids
+    → AllByRecursion (λ id. IsTrue (is_one_of id (rule ∷ rules))) ids
+all-behind rule rules [] all = tt
+all-behind rule rules (id ∷ ids) all = (found-behind id rule rules all.0, all-behind rule rules ids all.1)
+
+all-found : (rules : List Rule) → AllByRecursion (λ id. IsTrue (is_one_of id rules)) (map (λ (rule : Rule). rule.id) rules)
+all-found [] = tt
+all-found (rule ∷ rules) = (found-first rule rules, all-behind rule rules (map (λ (other : Rule). other.id) rules) (all-found rules))
+
+pub hosted-meet : (settings : Settings) → MeetAll settings (hosted_ids settings)
+unfolding is_one_of
+hosted-meet settings = all-found settings.hosted
 
 module _ (settings : Settings) where
   after_send-meets : (manner : Manner) (result : Sent) → Meets settings (after_send manner result)
@@ -83,6 +116,12 @@ module _ (settings : Settings) where
   after_status-meets : (manner : Manner) (reply : Reply) → Meets settings (after_status manner reply)
   after_status-meets manner (counts files fading cached documents sessions) = tt
   after_status-meets manner _ = tt
+
+  after_clean-meets : (manner : Manner) (pass : Pass) → Meets settings (after_clean manner pass)
+  after_clean-meets manner (Ok done) = tt
+  after_clean-meets manner (Err clean.StoreFault) = tt
+  after_clean-meets manner (Err clean.BlobFault) = tt
+  after_clean-meets manner (Err clean.NoMemory) = tt
 
   invites-meets : (expects : Bool) (cut body : Course) → Meets settings cut → Meets settings body → Meets settings (invites expects cut body)
   invites-meets false cut body where_cut where_not = where_not
@@ -144,6 +183,8 @@ module _ (settings : Settings) where
         tell (Ok text) = found (reading text)
         tell (Err fault) = after_fault-meets manner fault
     course_for-meets manner expects judged.counts i = (refl, λ reply answer. after_status-meets manner reply)
+    course_for-meets manner expects (judged.cleans repos) i =
+        (subst (MeetAll settings) (sym i) (hosted-meet settings), λ pass. after_clean-meets manner pass)
 
     -- an act that begins the course of an intent
     pub begun_meets : (manner : Manner) (expects : Bool) (intent : Intent) (c : Course) → IsIntent settings intent

@@ -10,7 +10,7 @@ use Rattle.repo_model.specs.Settings.{Settings}
 use Rattle.repo_model.specs.Shown.{shown_command, shown_parcel}
 use Rattle.repo_routes.specs.Judge.{judge}
 use Rattle.repo_course.specs.declared.act.Act.{Act}
-use Rattle.repo_course.specs.declared.act.Act.TheVariants.{Ask, Continue, Take, Read, Send, Say, Stop}
+use Rattle.repo_course.specs.declared.act.Act.TheVariants.{Ask, Continue, Take, Read, Send, Clean, Say, Stop}
 use Rattle.repo_course.specs.declared.act.After.{After}
 use Rattle.repo_course.specs.declared.act.After.TheVariants as after
 use Rattle.repo_course.specs.declared.act.Coming.{Coming}
@@ -24,7 +24,7 @@ use Rattle.repo_course.specs.declared.outcomes.End.TheVariants as stream
 use Rattle.repo_course.specs.declared.outcomes.Took.{Took}
 use Rattle.repo_course.specs.declared.outcomes.Took.TheVariants as took
 use Rattle.repo_course.specs.Answers.{at_end}
-use Rattle.repo_course.specs.Course.{Body, Course, Stored, asks, continues, takes, reads, says, stops, after_continue, cut_off, course_of, gives_up, refuses_head, starves, without_memory, sends_file, after_look, after_send, after_may_put, after_take, after_put, after_side, after_put_side, after_document, after_put_doc, after_status}
+use Rattle.repo_course.specs.Course.{Body, Course, Stored, asks, continues, takes, reads, cleans, says, stops, after_clean, after_continue, cut_off, course_of, gives_up, refuses_head, starves, without_memory, sends_file, after_look, after_send, after_may_put, after_take, after_put, after_side, after_put_side, after_document, after_put_doc, after_status}
 
 -- a body that was taken, as plain data
 abbrev pub shown_stored : {X : Type 0} {G : Ghosts X} → Result (Parcel X G) Took → Stored
@@ -72,6 +72,7 @@ left_of manner (Continue coming) = continues (after_continue (left_uninvited com
 left_of manner (Take body) = takes_body manner body
 left_of manner (Read body) = reads_body manner body
 left_of manner (Send lease parcel) = sends_file manner lease (shown_parcel parcel)
+left_of manner (Clean repos) = cleans repos (after_clean manner)
 left_of manner (Say said own) = says said own
 left_of manner (Stop end) = stops end
 
@@ -94,6 +95,7 @@ rank_of (Continue coming) = 6
 rank_of (Take body) = 5
 rank_of (Read body) = 5
 rank_of (Send lease parcel) = 3
+rank_of (Clean repos) = 1
 rank_of (Say said own) = 0
 rank_of (Stop end) = 0
 

@@ -15,7 +15,7 @@ use Rattle.repo_routes.specs.declared.refusal.Refusal.{Refusal}
 use Rattle.repo_routes.specs.declared.refusal.Refusal.TheVariants as refusal
 use Rattle.repo_course.specs.declared.manner.Manner.{Manner}
 use Rattle.repo_course.specs.declared.said.Said.{Said}
-use Rattle.repo_course.specs.declared.said.Said.TheVariants.{BadHead, HeadTooLong, Refused, Text, Doc, NotThere, KindRefused, Created, Same, Relisted, Taken, NoDigest, Agreed, Differs, NoDocument, Noted, Counts, NoDraft, Spent, StoreFault, BlobFault, NoMemory}
+use Rattle.repo_course.specs.declared.said.Said.TheVariants.{BadHead, HeadTooLong, Refused, Text, Doc, NotThere, KindRefused, Created, Same, Relisted, Taken, NoDigest, Agreed, Differs, NoDocument, Noted, Counts, Cleaned, NoDraft, Spent, StoreFault, BlobFault, NoMemory}
 
 -- a text of one line
 abbrev pub line : List ℕ → List ℕ
@@ -40,6 +40,7 @@ line_answer code text = text_answer code (line text)
 abbrev pub methods_text : Allow → List ℕ
 methods_text allow.Read = codes "GET, HEAD"
 methods_text allow.ReadAndPut = codes "GET, HEAD, PUT"
+methods_text allow.Post = codes "POST"
 
 -- why a head is refused
 abbrev pub refusal_answer : Refusal → Answer
@@ -78,6 +79,9 @@ counts_text files fading cached documents sessions =
     ++ count_line (codes "documents ") documents
     ++ count_line (codes "sessions ") sessions
 
+abbrev pub cleaned_text : (unlisted removed : ℕ) → List ℕ
+cleaned_text unlisted removed = count_line (codes "unlisted ") unlisted ++ count_line (codes "removed ") removed
+
 -- the answer that says so, with its body, behind which the connection goes on
 abbrev pub full_answer : Said → Answer
 full_answer BadHead = line_answer status.BadRequest (codes "bad-head")
@@ -97,6 +101,7 @@ full_answer (Differs said kept) = line_answer status.UnprocessableEntity (differ
 full_answer (NoDocument at) = line_answer status.BadRequest (codes "document " ++ decimal at)
 full_answer Noted = line_answer status.Created (codes "noted")
 full_answer (Counts files fading cached documents sessions) = text_answer status.Ok (counts_text files fading cached documents sessions)
+full_answer (Cleaned unlisted removed) = text_answer status.Ok (cleaned_text unlisted removed)
 full_answer NoDraft = line_answer status.InternalServerError (codes "no-draft")
 full_answer Spent = line_answer status.InternalServerError (codes "spent")
 full_answer StoreFault = line_answer status.ServiceUnavailable (codes "store-fault")

@@ -17,6 +17,9 @@ use Rattle.repo_routes.specs.Intent.{Intent, Judged}
 use Rattle.repo_routes.specs.declared.judging.Refused.{Refused}
 use Rattle.repo_course.specs.Answers.{at_end}
 use Rattle.repo_course.specs.declared.manner.Manner.{Manner}
+use Rattle.repo_course.specs.declared.outcomes.CleanFault.{CleanFault}
+use Rattle.repo_course.specs.declared.outcomes.CleanFault.TheVariants as clean
+use Rattle.repo_course.specs.declared.outcomes.Cleaned.{Cleaned}
 use Rattle.repo_course.specs.declared.outcomes.Continued.{Continued}
 use Rattle.repo_course.specs.declared.outcomes.Continued.TheVariants as continued
 use Rattle.repo_course.specs.declared.outcomes.End.{End}
@@ -36,6 +39,10 @@ Stored = Result Blob Took
 abbrev pub Body : Type 0
 Body = Result (List ℕ) Took
 
+-- what comes of a pass over the repositories
+abbrev pub Pass : Type 0
+Pass = Result Cleaned CleanFault
+
 -- what comes next, and then what follows each result
 pub data Course : Type 0 where
   -- a command of the machine
@@ -48,6 +55,8 @@ pub data Course : Type 0 where
   reads : (length : ℕ) → (Body → Course) → Course
   -- the head of the answer with a file is written, and the bytes of its blob where it is not the head alone
   sends : Blob → Manner → (Sent → Course) → Course
+  -- a pass over these repositories
+  cleans : (repos : List (List ℕ)) → (Pass → Course) → Course
   -- an answer that says so; then the stream ends where the request or a body that was not read asks for it, or goes on
   says : Said → Manner → Course
   -- nothing more is written; then the stream ends so, or goes on
@@ -159,6 +168,12 @@ abbrev pub after_status : Manner → Reply → Course
 after_status manner (counts files fading cached documents sessions) = says (said.Counts files fading cached documents sessions) manner
 after_status manner reply = without_memory manner
 
+abbrev pub after_clean : Manner → Pass → Course
+after_clean manner (Ok pass) = says (said.Cleaned pass.unlisted pass.removed) manner
+after_clean manner (Err clean.StoreFault) = says said.StoreFault manner
+after_clean manner (Err clean.BlobFault) = says said.BlobFault manner
+after_clean manner (Err clean.NoMemory) = without_memory manner
+
 -- the course by what a request asks for, which expects `100 Continue` before its body or not
 abbrev pub course_for : Manner → Bool → Intent → Course
 course_for manner expects (judged.reads repo path) = asks (look repo path []) (after_look manner)
@@ -169,6 +184,7 @@ course_for manner expects (judged.puts_side repo path side length) =
 course_for manner expects (judged.puts_document repo path length) =
     invites expects cut_off (reads length (after_document repo path manner))
 course_for manner expects judged.counts = asks status (after_status manner)
+course_for manner expects (judged.cleans repos) = cleans repos (after_clean manner)
 
 -- the course of a request, which may be the last of its connection
 abbrev pub course : Judged → Bool → Course

@@ -1,6 +1,7 @@
 -- How a stream is served: for each request the steps of its course, one after another, each with the causes of its result.
 use Rattle.std.specs.Prelude.{◌≡◌, ℕ, zero, suc, ◌<◌, ◌⊎◌, ◌==◌, Bool, true, false, List, [], ◌∷◌, ◌++◌, length, Option, Some, None, IfSome, IsSome, Ok, Err}
 use Rattle.outside.specs.declared.tells.Tells.{Ghosts}
+use Rattle.outside.specs.Blobs.{Shelf, with_blob}
 use Rattle.outside.specs.Faults.{Rose}
 use Rattle.outside.specs.Told.{in_front, behind, IsAtEnd, IsWhereTold}
 use Rattle.mvn_digest.specs.Digests.{digests_of}
@@ -23,7 +24,8 @@ use Rattle.repo_course.specs.declared.outcomes.Sent.{Sent}
 use Rattle.repo_course.specs.declared.outcomes.Sent.TheVariants as sent
 use Rattle.repo_course.specs.declared.outcomes.Took.TheVariants as took
 use Rattle.repo_course.specs.Answers.{answer_of, at_end, file_answer, memory_answer}
-use Rattle.repo_course.specs.Course.{Body, Course, Stored, asks, continues, takes, reads, sends, says, stops, course_of, end_of, refuses_head, starves, without_memory}
+use Rattle.repo_course.specs.Cleaning.{Passes, Store, store}
+use Rattle.repo_course.specs.Course.{Body, Course, Pass, Stored, asks, continues, takes, reads, sends, cleans, says, stops, course_of, end_of, refuses_head, starves, without_memory}
 
 -- what a server sees of its surroundings while it serves a stream
 pub record Outside : Type 0 where
@@ -34,16 +36,26 @@ pub record Outside : Type 0 where
   pub read_faults : ℕ
   pub write_faults : ℕ
   pub blob_faults : ℕ
+  -- what the blobs tell of themselves
+  pub shelf : Shelf
 
 -- what is seen of a stream that tells this, some of whose bytes are held
-abbrev pub outside : {X : Type 0} → Ghosts X → List ℕ → X → ℕ → Outside
-outside G held stream blob_faults = record {
+abbrev pub outside : {X : Type 0} → Ghosts X → List ℕ → X → ℕ → Shelf → Outside
+outside G held stream blob_faults shelf = record {
   input = unread held (G.left stream);
   output = G.taken stream;
   read_faults = G.read_faults stream;
   write_faults = G.write_faults stream;
   blob_faults = blob_faults;
+  shelf = shelf;
 }
+
+-- what is seen of the blobs, and the same of a store of others
+abbrev pub store_of : Outside → Store
+store_of o = store o.shelf o.blob_faults
+
+abbrev pub with_store : Store → Outside → Outside
+with_store kept o = record o { shelf = kept.shelf; blob_faults = kept.faults }
 
 -- these bytes written too
 abbrev pub writes : List ℕ → Outside → Outside
@@ -80,10 +92,10 @@ Reads count (Err took.SourceFault) old new =
 Reads count (Err took.BlobFault) old new = ⊥
 Reads count (Err took.NoMemory) old new = (new ≡ old) ⊎ ((body : List ℕ) × ReadsBody count body old new)
 
--- What comes of taking a body. Where the blobs tell their bytes, the stored one tells the body's.
+-- What comes of taking a body: it stands under its draft. Where the blobs tell their bytes, the stored one tells the body's.
 abbrev pub Takes : Type 0 → ℕ → ℕ → Stored → Outside → Outside → Type 0
 Takes tells draft count (Ok blob) old new =
-    (body : List ℕ) × ReadsBody count body old new
+    (body : List ℕ) × ReadsBody count body (record old { shelf = with_blob draft body old.shelf }) new
     × (blob.number ≡ draft) × (blob.print ≡ print_of body) × IsWhereTold blob.bytes body × (tells → IsSome blob.bytes)
 Takes tells draft count (Err took.BlobFault) old new =
     (faults : ℕ) × (body : List ℕ) × Rose old.blob_faults faults × ReadsBody count body (record old { blob_faults = faults }) new
@@ -142,6 +154,9 @@ Follows tells (reads count next) entries old new end =
 Follows tells (sends blob manner next) entries old new end =
     (result : Sent) × (mid : Outside) × SendsAnswer manner.head_only blob (shown (file_answer blob manner)) result old mid
     × Follows tells (next result) entries mid new end
+Follows tells (cleans repos next) entries old new end =
+    (mine later : List Entry) × (pass : Pass) × (kept : Store) × (entries ≡ mine ++ later)
+    × Passes repos mine (store_of old) kept pass × Follows tells (next pass) later (with_store kept old) new end
 Follows tells (says said manner) entries old new end =
     (entries ≡ []) × Says (answer_of said manner) (memory_answer manner.head_only) (end_of manner) old new end
 Follows tells (stops next) entries old new end = (entries ≡ []) × (new ≡ old) × (end ≡ next)

@@ -5,7 +5,7 @@ use crate::said::Said;
 use mvn_coords::Side;
 use outside::{Held, Parcel};
 use repo_model::Command;
-use texts::Text;
+use texts::{Text, Texts};
 
 /// The body of a file, of `length` bytes, to be stored under a draft and put at its path.
 #[derive(Drop)]
@@ -84,6 +84,8 @@ pub enum Act<H: Held> {
     Read(SmallBody),
     /// Sends the file that was lent, or its head alone.
     Send { lease: u64, parcel: Parcel<H> },
+    /// Purges these repositories, in this order, and removes garbage.
+    Clean(Texts),
     /// Writes an answer; then the stream ends, or goes on.
     Say { said: Said, manner: Manner },
     /// Writes nothing more; then the stream ends so, or goes on.

@@ -4,7 +4,7 @@ ghost use Rattle.http_wire.specs.Answer.{shown};
 ghost use Rattle.mvn_coords.specs.Fault.{name_of_fault};
 ghost use Rattle.repo_routes.specs.declared.refusal.Refusal.TheVariants as refused;
 ghost use Rattle.repo_model.specs.Shown.{shown_parcel};
-ghost use Rattle.repo_course.specs.Answers.{answer_of, count_line, counts_text, differs_text, file_answer, full_answer, in_manner, line_answer, methods_text, print_text, refusal_answer, taken_text, text_answer};
+ghost use Rattle.repo_course.specs.Answers.{answer_of, cleaned_text, count_line, counts_text, differs_text, file_answer, full_answer, in_manner, line_answer, methods_text, print_text, refusal_answer, taken_text, text_answer};
 
 use crate::manner::Manner;
 use crate::said::Said;
@@ -62,6 +62,7 @@ fn methods_text(methods: Allow) -> &'static str
     match methods {
         Allow::Read => "GET, HEAD",
         Allow::ReadAndPut => "GET, HEAD, PUT",
+        Allow::Post => "POST",
     }
 }
 
@@ -172,6 +173,16 @@ fn counts_text(
     Ok(text)
 }
 
+/// The lines that say what a pass over the repositories has done.
+fn cleaned_text(alloc: Global, unlisted: u64, removed: u64) -> Result<Vec<u8>, AllocError>
+    ensures { IfOk result (λ text. text.items ≡ cleaned_text unlisted removed) }
+{
+    let mut text = Vec::new(alloc);
+    push_count(alloc, &mut text, b"unlisted ", unlisted)?;
+    push_count(alloc, &mut text, b"removed ", removed)?;
+    Ok(text)
+}
+
 /// The answer that says so, with its body. Want of memory is never said so, but by `http_wire::no_memory_answer`, which takes
 /// none.
 fn full_answer(alloc: Global, said: Said) -> Result<Answer, AllocError>
@@ -220,6 +231,10 @@ fn full_answer(alloc: Global, said: Said) -> Result<Answer, AllocError>
             sessions,
         } => {
             let text = counts_text(alloc, files, fading, cached, documents, sessions)?;
+            Ok(text_answer(Status::Ok, Bytes::from_vec(text)))
+        }
+        Said::Cleaned { unlisted, removed } => {
+            let text = cleaned_text(alloc, unlisted, removed)?;
             Ok(text_answer(Status::Ok, Bytes::from_vec(text)))
         }
         Said::NoDraft => line_answer(alloc, Status::InternalServerError, b"no-draft"),

@@ -1,7 +1,7 @@
 //! The courses of requests as pure machines: which command or act comes next, and what is answered.
 //!
 //! [`start`] gives the first [`Act`] for what was read of a stream, and [`after_reply`], [`after_continue`], [`after_take`],
-//! [`after_read`] and [`after_send`] the next one for each result. Each is what `specs/Course.antt` says, and nothing here
+//! [`after_read`], [`after_send`] and [`after_clean`] the next one for each result. Each is what `specs/Course.antt` says, and nothing here
 //! touches the outside.
 #![tactic(auto)]
 
@@ -22,6 +22,6 @@ pub use bodies::{after_continue, after_read, after_take};
 pub use limits::TURNS;
 pub use manner::Manner;
 pub use opening::start;
-pub use outcomes::{Continued, End, Sent, Took};
+pub use outcomes::{CleanFault, Cleaned, Continued, End, Sent, Took};
 pub use said::Said;
-pub use steps::{after_reply, after_send};
+pub use steps::{after_clean, after_reply, after_send};

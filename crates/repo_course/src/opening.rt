@@ -86,6 +86,7 @@ fn first_act<H: Held>(alloc: Global, intent: Intent, expects: bool) -> Result<Ac
             ))
         }
         Intent::Status => Ok(Act::Ask(Command::Status, After::Status)),
+        Intent::Clean(repos) => Ok(Act::Clean(repos)),
     }
 }
 

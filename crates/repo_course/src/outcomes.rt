@@ -47,3 +47,23 @@ pub enum Took {
     /// There was no memory for the body, or none to store it or to read what it says.
     NoMemory,
 }
+
+/// What a pass over the repositories has done.
+#[derive(Clone, Copy, Debug, PartialEq, Eq)]
+pub struct Cleaned {
+    /// How many files were unlisted.
+    pub unlisted: u64,
+    /// How many blobs were removed.
+    pub removed: u64,
+}
+
+/// Why a pass over the repositories ended before it was done. What it did until then stands.
+#[derive(Clone, Copy, Debug, PartialEq, Eq)]
+pub enum CleanFault {
+    /// The records failed.
+    StoreFault,
+    /// A blob could not be removed. The repository does not know it any more.
+    BlobFault,
+    /// There was no memory.
+    NoMemory,
+}

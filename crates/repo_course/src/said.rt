@@ -57,6 +57,11 @@ pub enum Said {
         documents: u64,
         sessions: u64,
     },
+    /// So many files were unlisted, and so many blobs removed.
+    Cleaned {
+        unlisted: u64,
+        removed: u64,
+    },
     /// The number that the body was stored under is no draft.
     NoDraft,
     /// The next number to draw is 2^63.

@@ -6,11 +6,11 @@ ghost use Rattle.repo_model.specs.Command.{done};
 ghost use Rattle.repo_model.specs.Shown.{shown_reply};
 ghost use Rattle.repo_course.specs.declared.manner.Manner.{Manner as AnyManner};
 ghost use Rattle.repo_course.specs.Acts.{after_reply, left_of, left_of_body, left_uninvited, rank_after, rank_of};
-ghost use Rattle.repo_course.specs.Course.{after_look, after_may_put, after_put, after_put_doc, after_put_side, after_send, after_status, asks, invites, says, without_memory};
+ghost use Rattle.repo_course.specs.Course.{after_clean, after_look, after_may_put, after_put, after_put_doc, after_put_side, after_send, after_status, asks, invites, says, without_memory};
 
 use crate::act::{Act, After, Coming, FileBody};
 use crate::manner::Manner;
-use crate::outcomes::{End, Sent, Took};
+use crate::outcomes::{CleanFault, Cleaned, End, Sent, Took};
 use crate::said::Said;
 use mvn_coords::Side;
 use mvn_digest::{Digest, Digests, MD5_BYTES, SHA1_BYTES, SideText, side_text};
@@ -224,4 +224,17 @@ pub fn after_send<H: Held>(manner: Manner, lease: u64, sent: Sent) -> Act<H>
     ensures shorter { rank_of result < 3 }
 {
     Act::Ask(Command::Done { lease }, After::Done(sent))
+}
+
+/// What follows a pass over the repositories: the answer that says what it has done, or why it ended.
+pub fn after_clean<H: Held>(manner: Manner, pass: Result<Cleaned, CleanFault>) -> Act<H>
+    ensures left { left_of manner result ≡ after_clean manner pass }
+    ensures shorter { rank_of result < 1 }
+{
+    match pass {
+        Ok(Cleaned { unlisted, removed }) => say(Said::Cleaned { unlisted, removed }, manner),
+        Err(CleanFault::StoreFault) => say(Said::StoreFault, manner),
+        Err(CleanFault::BlobFault) => say(Said::BlobFault, manner),
+        Err(CleanFault::NoMemory) => no_memory(manner),
+    }
 }

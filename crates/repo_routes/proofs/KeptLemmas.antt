@@ -18,7 +18,7 @@ use Rattle.repo_routes.specs.Framing.{check_host, is_put, length_of}
 use Rattle.repo_routes.specs.Intent.{Intent}
 use Rattle.repo_routes.specs.Judge.{IsIntent, check_body, intent_of, intent_on}
 use Rattle.repo_routes.specs.Paths.{asked_at, check_limit, decoded, intent_at, limit_of, path_refusal, put_at, put_of, side_of, thing_at, thing_or}
-use Rattle.repo_routes.specs.Routes.{Route, in_repository, status, check_method, check_repository, has_repository, route_of}
+use Rattle.repo_routes.specs.Routes.{Route, in_repository, status, clean, check_method, check_repository, has_repository, route_of}
 use Rattle.repo_routes.specs.Steps.{◌>>=◌, need}
 use Rattle.repo_routes.specs.Target.{target_path}
 
@@ -89,6 +89,7 @@ on-kept : (settings : Settings) (head : Head) (length : ℕ) (route : Route) →
     → IfOk (intent_on settings head length route) (IsIntent settings)
 on-kept settings head length (in_repository repo written) there = at-kept settings head length repo written there
 on-kept settings head length status there = tt
+on-kept settings head length clean there = refl
 
 pub intent-kept : (settings : Settings) (head : Head) → IfOk (intent_of settings head) (IsIntent settings)
 unfolding intent_of check_repository

@@ -3,12 +3,12 @@ use Rattle.std.specs.Prelude.{⊤}
 use Rattle.percent_encoding.specs.Percent.{percent_decode}
 use Rattle.mvn_coords.specs.Path.{parts_of}
 use Rattle.http_wire.proofs.OnLiterals.{http_wire_on_literals}
-use Rattle.repo_routes.specs.Framing.{asks_continue, check_host, ends_connection, expects_continue, has_body, is_head, is_put, is_read, length_of}
+use Rattle.repo_routes.specs.Framing.{asks_continue, check_host, ends_connection, expects_continue, has_body, is_head, is_post, is_put, is_read, length_of}
 use Rattle.repo_routes.specs.Judge.{check_body, intent_of, judge}
 use Rattle.repo_routes.specs.Paths.{asked_at, check_limit, decoded, intent_at, limit_of, path_refusal, put_at, thing_at}
 use Rattle.repo_routes.specs.Routes.{check_method, check_repository, repository_route, route_at, route_of}
 use Rattle.repo_routes.specs.Target.{origin_form, path_behind, target_path, without_query}
 
 unfoldable pub routes_on_literals : ⊤
-unfolding http_wire_on_literals percent_decode parts_of asks_continue check_host ends_connection expects_continue has_body is_head is_put is_read length_of check_body intent_of judge asked_at check_limit decoded intent_at limit_of path_refusal put_at thing_at check_method check_repository repository_route route_at route_of origin_form path_behind target_path without_query
+unfolding http_wire_on_literals percent_decode parts_of asks_continue check_host ends_connection expects_continue has_body is_head is_post is_put is_read length_of check_body intent_of judge asked_at check_limit decoded intent_at limit_of path_refusal put_at thing_at check_method check_repository repository_route route_at route_of origin_form path_behind target_path without_query
 routes_on_literals = tt

@@ -146,20 +146,39 @@ module _ {K : Type 0} where
   ended : (b : ℕ) (key : K) (path : List ℕ) → seek 0 (([], key) ∷ []) (b ∷ path) ≡ None
   ended b key path = seek-byte (([], key) ∷ []) b path refl refl ∙ seek-none 0 path
 
-  -- a row of a word alone
-  pub word-row : (word : List ℕ) (key : K) (path : List ℕ) → is_word word ≡ true
-      → seek 0 ((word, key) ∷ []) path ≡ cond (bytes_eq path word) (Some key) None
+  -- one more row, of a word
+  one-word : (same : Bool) (word : List ℕ) (key : K) (rows : RowsOf K) (path : List ℕ) (other : Option K)
+      → seek 0 ((word, key) ∷ rows) path ≡ cond (bytes_eq path word) (Some key) (seek 0 rows path)
+      → or_else (seek 0 (cond same ((word, key) ∷ rows) rows) path) other ≡ cond (same && bytes_eq path word) (Some key) (or_else (seek 0 rows path) other)
+  one-word true word key rows path other found =
+      rw found
+      (elim (bytes_eq path word) as (λ is. or_else (cond is (Some key) (seek 0 rows path)) other ≡ cond is (Some key) (or_else (seek 0 rows path) other)) [ true ↦ refl | false ↦ refl ])
+  one-word false word key rows path other found = refl
+
+  abbrev search_by : Option K → (parameters catch_alls : RowsOf K) → ℕ → List ℕ → Option K
+  search_by found parameters catch_alls b path =
+      or_else found (or_else (seek ((param_step parameters (b ∷ path)).0 - 1) (param_step parameters (b ∷ path)).1 path) (own catch_alls))
+
+  -- a path is that of the first row, a word, or of the others
+  pub word-first : (word : List ℕ) (key : K) (rows : RowsOf K) (path : List ℕ) → is_word word ≡ true
+      → seek 0 ((word, key) ∷ rows) path ≡ cond (bytes_eq path word) (Some key) (seek 0 rows path)
   unfolding is_word seek
-  word-row [] key [] small = refl
-  word-row [] key (b ∷ path) small = ended b key path
-  word-row (x ∷ word) key [] small = refl
-  word-row (x ∷ word) key (b ∷ path) small =
+  word-first [] key rows [] small = refl
+  word-first [] key rows (b ∷ path) small = refl
+  word-first (x ∷ word) key rows [] small = refl
+  word-first (x ∷ word) key rows (b ∷ path) small =
       let parts = both (nat_lt x 256) (is_word word) small in
-      literal x b word key path parts.0
-      ∙ (rw (turned b x) (elim (nat_eq x b) as (λ same. cond same (seek 0 ((word, key) ∷ []) path) None ≡ cond (same && bytes_eq path word) (Some key) None) [
-        | true ↦ word-row word key path parts.1
-        | false ↦ refl
-      ]))
+      let no_parameter : (x == 256) ≡ false = grind (arith, nat_tests) in
+      let no_catch_all : (x == 257) ≡ false = grind (arith, nat_tests) in
+      let all : RowsOf K = (x ∷ word, key) ∷ rows in
+      let parameters : step param_token all ≡ step param_token rows = rw no_parameter refl in
+      let catch_alls : step catch_all_token all ≡ step catch_all_token rows = rw no_catch_all refl in
+      let other : Option K = or_else (seek ((param_step (step param_token rows) (b ∷ path)).0 - 1) (param_step (step param_token rows) (b ∷ path)).1 path) (own (step catch_all_token rows)) in
+      seek-cons all b path
+      ∙ ap (λ p. search_by (seek 0 (step b all) path) p (step catch_all_token all) b path) parameters
+      ∙ ap (λ q. search_by (seek 0 (step b all) path) (step param_token rows) q b path) catch_alls
+      ∙ one-word (x == b) word key (step b rows) path other (word-first word key (step b rows) path parts.1)
+      ∙ ap (λ same. cond (same && bytes_eq path word) (Some key) (or_else (seek 0 (step b rows) path) other)) (turned x b)
 
   catch-all-byte : (key : K) (b : ℕ) (rest : List ℕ) → seek 0 ((catch_all_token ∷ [], key) ∷ []) (b ∷ rest) ≡ Some key
   unfolding seek

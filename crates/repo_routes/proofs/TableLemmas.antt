@@ -1,4 +1,4 @@
--- The two patterns of the server find the routes of `specs/Routes.antt`.
+-- The patterns of the server find the routes of `specs/Routes.antt`.
 use Rattle.std.specs.Prelude.{option_and_then}
 use Rattle.std.specs.Option.{option_map}
 use Rattle.std.specs.List.{after_first, before_first, position_or_len}
@@ -11,8 +11,8 @@ use Rattle.matchit.specs.Router.{RouteOf}
 use Rattle.matchit.specs.Seek.{has_slash, or_else, seek}
 use Rattle.repo_routes.specs.declared.routes.Place.{Place}
 use Rattle.repo_routes.specs.declared.routes.Place.TheVariants as place
-use Rattle.repo_routes.specs.Routes.{Route, in_repository, status, below_repository, place_of, repository_route, route_at}
-use Rattle.repo_routes.proofs.RouterLemmas.{along, and-false, filled, is_word, or-none, parameter, seek-byte, seek-none, strip, with-slash, without-slash, word-row}
+use Rattle.repo_routes.specs.Routes.{Route, in_repository, status, clean, below_repository, place_of, repository_route, route_at}
+use Rattle.repo_routes.proofs.RouterLemmas.{along, and-false, filled, is_word, parameter, strip, with-slash, without-slash, word-first}
 
 abbrev is_slash : ℕ → Bool
 is_slash b = b == 47
@@ -88,46 +88,10 @@ module _ {K : Type 0} where
   parts-row : (key : K) (text : List ℕ) → seek 0 (parameter key) text ≡ cond (has_both text) (Some key) None
   parts-row key text = by-parts key text (cut text)
 
-  -- two patterns that part behind the first slash: `/a..` and `/r..`
-  module _ (a r : List ℕ) (s t : K) where
-    part-by : (x y : Bool) (path : List ℕ) → (x ≡ true → y ≡ true → ⊥)
-        → seek 0 (cond x ((a, s) ∷ cond y ((r, t) ∷ []) []) (cond y ((r, t) ∷ []) [])) path ≡ or_else (seek 0 (cond x ((a, s) ∷ []) []) path) (seek 0 (cond y ((r, t) ∷ []) []) path)
-    part-by true true path apart = absurd (apart refl refl)
-    part-by true false path apart = rw (seek-none 0 path) (sym (or-none (seek 0 ((a, s) ∷ []) path)))
-    part-by false true path apart = rw (seek-none 0 path) refl
-    part-by false false path apart = rw (seek-none 0 path) refl
-
-    letters-apart : (b : ℕ) → (97 == b) ≡ true → (114 == b) ≡ true → ⊥
-    letters-apart b x y = grind (arith, nat_tests)
-
-    part : (path : List ℕ)
-        → seek 0 ((97 ∷ a, s) ∷ (114 ∷ r, t) ∷ []) path ≡ or_else (seek 0 ((97 ∷ a, s) ∷ []) path) (seek 0 ((114 ∷ r, t) ∷ []) path)
-    unfolding seek
-    part [] = refl
-    part (b ∷ path) =
-        seek-byte ((97 ∷ a, s) ∷ (114 ∷ r, t) ∷ []) b path refl refl
-        ∙ part-by (97 == b) (114 == b) path (letters-apart b)
-        ∙ sym (rw (seek-byte ((97 ∷ a, s) ∷ []) b path refl refl, seek-byte ((114 ∷ r, t) ∷ []) b path refl refl) refl)
-
-    slash-by : (x : Bool) (path : List ℕ)
-        → seek 0 (cond x ((97 ∷ a, s) ∷ cond x ((114 ∷ r, t) ∷ []) []) (cond x ((114 ∷ r, t) ∷ []) [])) path ≡ or_else (seek 0 (cond x ((97 ∷ a, s) ∷ []) []) path) (seek 0 (cond x ((114 ∷ r, t) ∷ []) []) path)
-    slash-by true path = part path
-    slash-by false path = rw (seek-none 0 path) refl
-
-    -- a path is of one pattern or of the other
-    apart : (path : List ℕ)
-        → seek 0 ((47 ∷ 97 ∷ a, s) ∷ (47 ∷ 114 ∷ r, t) ∷ []) path ≡ or_else (seek 0 ((47 ∷ 97 ∷ a, s) ∷ []) path) (seek 0 ((47 ∷ 114 ∷ r, t) ∷ []) path)
-    unfolding seek
-    apart [] = refl
-    apart (b ∷ path) =
-        seek-byte ((47 ∷ 97 ∷ a, s) ∷ (47 ∷ 114 ∷ r, t) ∷ []) b path refl refl
-        ∙ slash-by (47 == b) path
-        ∙ sym (rw (seek-byte ((47 ∷ 97 ∷ a, s) ∷ []) b path refl refl, seek-byte ((47 ∷ 114 ∷ r, t) ∷ []) b path refl refl) refl)
-
--- the rows of both patterns
-abbrev pub table : RouteOf Place → RouteOf Place → RowsOf (RouteOf Place)
-table s t =
-    (codes "/api/status", s) ∷ (codes "/repository/" ++ param_token ∷ 47 ∷ catch_all_token ∷ [], t)
+-- the rows of the patterns
+abbrev pub table : RouteOf Place → RouteOf Place → RouteOf Place → RowsOf (RouteOf Place)
+table c s t =
+    (codes "/api/clean", c) ∷ (codes "/api/status", s) ∷ (codes "/repository/" ++ param_token ∷ 47 ∷ catch_all_token ∷ [], t)
     ∷ []
 
 abbrev value_of : Option (RouteOf Place) → Option Place
@@ -144,18 +108,25 @@ unfolding repository_route
 repository-found t None e = refl
 repository-found t (Some rest) e = rw (parts-row t rest) (repository-by t (has_both rest) (id_of rest) (rest_of rest) e)
 
-status-by : (s : RouteOf Place) (test : Bool) (other : Option (RouteOf Place)) (route : Option Route) → s.value ≡ place.Status
+word-by : (s : RouteOf Place) (test : Bool) (other : Option (RouteOf Place)) (here : Route) (route : Option Route) → s.value ≡ place_of here
     → value_of other ≡ option_map place_of route
-    → value_of (or_else (cond test (Some s) None) other) ≡ option_map place_of (cond test (Some status) route)
-status-by s true other route e same = ap (λ v. Some v) e
-status-by s false other route e same = same
+    → value_of (cond test (Some s) other) ≡ option_map place_of (cond test (Some here) route)
+word-by s true other here route e same = ap (λ v. Some v) e
+word-by s false other here route e same = same
 
-pub table-routes : (s t : RouteOf Place) → s.value ≡ place.Status → t.value ≡ place.Repository
-    → (path : List ℕ) → value_of (seek 0 (table s t) path) ≡ option_map place_of (route_at path)
+pub table-routes : (c s t : RouteOf Place) → c.value ≡ place.Clean → s.value ≡ place.Status → t.value ≡ place.Repository
+    → (path : List ℕ) → value_of (seek 0 (table c s t) path) ≡ option_map place_of (route_at path)
 unfolding route_at is_word parameter
-table-routes s t status_row repository_row path =
-    let word : seek 0 ((codes "/api/status", s) ∷ []) path ≡ cond (bytes_eq path (codes "/api/status")) (Some s) None = word-row (codes "/api/status") s path refl in
-    let front : seek 0 ((codes "/repository/" ++ param_token ∷ 47 ∷ catch_all_token ∷ [], t) ∷ []) path ≡ option_and_then (λ rest. seek 0 (parameter t) rest) (behind (codes "/repository/") path) =
+table-routes c s t clean_row status_row repository_row path =
+    let pattern : RowsOf (RouteOf Place) = (codes "/repository/" ++ param_token ∷ 47 ∷ catch_all_token ∷ [], t) ∷ [] in
+    let words : RowsOf (RouteOf Place) = (codes "/api/status", s) ∷ pattern in
+    let one : seek 0 (table c s t) path ≡ cond (bytes_eq path (codes "/api/clean")) (Some c) (seek 0 words path) = word-first (codes "/api/clean") c words path refl in
+    let two : seek 0 words path ≡ cond (bytes_eq path (codes "/api/status")) (Some s) (seek 0 pattern path) = word-first (codes "/api/status") s pattern path refl in
+    let front : seek 0 pattern path ≡ option_and_then (λ rest. seek 0 (parameter t) rest) (behind (codes "/repository/") path) =
     along (codes "/repository/") (param_token ∷ 47 ∷ catch_all_token ∷ []) t path refl ∙ ap (option_and_then (λ rest. seek 0 (parameter t) rest)) (strip-behind (codes "/repository/") path) in
-    ap value_of (apart _ _ s t path ∙ ap (λ found. or_else found (seek 0 ((codes "/repository/" ++ param_token ∷ 47 ∷ catch_all_token ∷ [], t) ∷ []) path)) word ∙ ap (or_else (cond (bytes_eq path (codes "/api/status")) (Some s) None)) front)
-    ∙ status-by s (bytes_eq path (codes "/api/status")) _ (below_repository path) status_row (repository-found t (behind (codes "/repository/") path) repository_row)
+    let below : value_of (seek 0 pattern path) ≡ option_map place_of (below_repository path) =
+    ap value_of front ∙ repository-found t (behind (codes "/repository/") path) repository_row in
+    let rest : Option Route = cond (bytes_eq path (codes "/api/status")) (Some status) (below_repository path) in
+    let others : value_of (seek 0 words path) ≡ option_map place_of rest =
+    ap value_of two ∙ word-by s (bytes_eq path (codes "/api/status")) (seek 0 pattern path) status (below_repository path) status_row below in
+    ap value_of one ∙ word-by c (bytes_eq path (codes "/api/clean")) (seek 0 words path) clean rest clean_row others

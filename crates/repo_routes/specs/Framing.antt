@@ -25,6 +25,9 @@ is_put head = has_method (codes "PUT") head
 unfoldable pub is_read : Head → Bool
 is_read head = has_method (codes "GET") head || is_head head
 
+unfoldable pub is_post : Head → Bool
+is_post head = has_method (codes "POST") head
+
 -- how many fields have the name
 abbrev pub field_count : List ℕ → Head → ℕ
 field_count name head = count_by (is_named name) head.fields

@@ -14,6 +14,8 @@ pub data Intent : Type 0 where
   puts_document : (repo path : List ℕ) (length : ℕ) → Intent
   -- GET or HEAD of the repository's counts
   counts : Intent
+  -- POST of a cleaning: these hosted repositories are purged, in this order, and garbage is removed
+  cleans : (repos : List (List ℕ)) → Intent
 
 -- a request that is not refused
 pub record Judged : Type 0 where

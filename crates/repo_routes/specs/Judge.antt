@@ -1,16 +1,16 @@
 -- How a request head is judged: what it asks for, or its first refusal, and whether the connection ends then (RFC 9110, section 15.5; RFC 9112, section 9.6).
-use Rattle.std.specs.Prelude.{◌≡◌, ℕ, ◌≤◌, Bool, true, false, ◌||◌, not, IsTrue, nat_lt, Some, Result, Ok, Err}
+use Rattle.std.specs.Prelude.{◌≡◌, ℕ, ◌≤◌, Bool, true, false, ◌||◌, not, IsTrue, nat_lt, List, map, Some, Result, Ok, Err}
 use Rattle.mvn_coords.specs.Kind.{kind}
 use Rattle.http_wire.specs.Head.{Head}
 use Rattle.repo_model.specs.Command.{is_file_path, is_there, names_document, names_something}
-use Rattle.repo_model.specs.Settings.{Settings}
+use Rattle.repo_model.specs.Settings.{Rule, Settings}
 use Rattle.repo_routes.specs.declared.refusal.Refusal.{Refusal}
 use Rattle.repo_routes.specs.declared.refusal.Refusal.TheVariants as refusal
 use Rattle.repo_routes.specs.declared.judging.Refused.{Refused}
 use Rattle.repo_routes.specs.Framing.{check_host, ends_connection, expects_continue, has_body, is_head, is_put, length_of}
-use Rattle.repo_routes.specs.Intent.{Intent, Judged, reads, puts_file, puts_side, puts_document, counts}
+use Rattle.repo_routes.specs.Intent.{Intent, Judged, reads, puts_file, puts_side, puts_document, counts, cleans}
 use Rattle.repo_routes.specs.Paths.{intent_at, longest_document, longest_side, side_of}
-use Rattle.repo_routes.specs.Routes.{Route, in_repository, status, check_method, check_repository, route_of}
+use Rattle.repo_routes.specs.Routes.{Route, in_repository, status, clean, check_method, check_repository, route_of}
 use Rattle.repo_routes.specs.Steps.{◌>>=◌, ◌>>◌, need}
 use Rattle.repo_routes.specs.Target.{target_path}
 
@@ -18,10 +18,15 @@ use Rattle.repo_routes.specs.Target.{target_path}
 unfoldable pub check_body : Head → ℕ → Result (Unit {0}) Refusal
 check_body head length = need (is_put head || not (nat_lt 0 length)) refusal.UnexpectedBody
 
+-- the ids of the hosted repositories, as written
+abbrev pub hosted_ids : Settings → List (List ℕ)
+hosted_ids settings = map (λ (rule : Rule). rule.id) settings.hosted
+
 -- what is asked of a route
 abbrev pub intent_on : Settings → Head → ℕ → Route → Result Intent Refusal
 intent_on settings head length (in_repository repo written) = intent_at settings head length repo written
 intent_on settings head length status = Ok counts
+intent_on settings head length clean = Ok (cleans (hosted_ids settings))
 
 -- what a head asks for, or the refusal of the first step that refuses: target, host, length, route, repository, method, body, path, limit
 unfoldable pub intent_of : Settings → Head → Result Intent Refusal
@@ -77,6 +82,7 @@ IsIntent settings (puts_side repo path side length) =
 IsIntent settings (puts_document repo path length) =
     IsTrue (is_there repo settings) × IsTrue (names_document (kind path)) × (length ≤ longest_document)
 IsIntent settings counts = Unit {0}
+IsIntent settings (cleans repos) = repos ≡ hosted_ids settings
 
 abbrev pub IsJudged : Settings → Judged → Type 0
 IsJudged settings judged = IsIntent settings judged.intent

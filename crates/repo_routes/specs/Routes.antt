@@ -7,14 +7,14 @@ use Rattle.http_wire.specs.Head.{Head}
 use Rattle.repo_model.specs.Command.{is_there}
 use Rattle.repo_model.specs.Settings.{Settings}
 use Rattle.repo_routes.specs.declared.refusal.Allow.{Allow}
-use Rattle.repo_routes.specs.declared.refusal.Allow.TheVariants.{Read, ReadAndPut}
+use Rattle.repo_routes.specs.declared.refusal.Allow.TheVariants.{Post, Read, ReadAndPut}
 use Rattle.repo_routes.specs.declared.refusal.Refusal.{Refusal}
 use Rattle.repo_routes.specs.declared.refusal.Refusal.TheVariants as refusal
 use Rattle.repo_routes.specs.declared.routes.Place.{Place}
 use Rattle.repo_routes.specs.declared.routes.Place.TheVariants as place
 use Rattle.repo_routes.specs.declared.routes.Route as code
 use Rattle.repo_routes.specs.declared.routes.Route.TheVariants as way
-use Rattle.repo_routes.specs.Framing.{is_put, is_read}
+use Rattle.repo_routes.specs.Framing.{is_post, is_put, is_read}
 use Rattle.repo_routes.specs.Steps.{need}
 
 pub data Route : Type 0 where
@@ -22,6 +22,8 @@ pub data Route : Type 0 where
   in_repository : (repo written : List ℕ) → Route
   -- /api/status
   status : Route
+  -- /api/clean
+  clean : Route
 
 -- the id and the path behind it; neither is empty
 unfoldable pub repository_route : List ℕ → Option Route
@@ -35,7 +37,9 @@ below_repository path = option_and_then repository_route (behind (codes "/reposi
 
 -- the route of a path as written: no escape is read in it
 unfoldable pub route_at : List ℕ → Option Route
-route_at path = if bytes_eq path (codes "/api/status") then Some status else below_repository path
+route_at path =
+    if bytes_eq path (codes "/api/clean") then Some clean
+    else if bytes_eq path (codes "/api/status") then Some status else below_repository path
 
 unfoldable pub route_of : List ℕ → Result Route Refusal
 route_of path = ok_or (route_at path) refusal.NoRoute
@@ -44,11 +48,13 @@ route_of path = ok_or (route_at path) refusal.NoRoute
 abbrev pub place_of : Route → Place
 place_of (in_repository repo written) = place.Repository
 place_of status = place.Status
+place_of clean = place.Clean
 
 -- a route names no repository, or one that is there; the id is taken as written
 abbrev pub has_repository : Settings → Route → Bool
 has_repository settings (in_repository repo written) = is_there repo settings
 has_repository settings status = true
+has_repository settings clean = true
 
 unfoldable pub check_repository : Settings → Route → Result (Unit {0}) Refusal
 check_repository settings route = need (has_repository settings route) refusal.NoRepository
@@ -57,10 +63,12 @@ check_repository settings route = need (has_repository settings route) refusal.N
 abbrev pub allowed : Route → Allow
 allowed (in_repository repo written) = ReadAndPut
 allowed status = Read
+allowed clean = Post
 
 abbrev pub allows : Allow → Head → Bool
 allows Read head = is_read head
 allows ReadAndPut head = is_read head || is_put head
+allows Post head = is_post head
 
 unfoldable pub check_method : Route → Head → Result (Unit {0}) Refusal
 check_method route head = need (allows (allowed route) head) (refusal.Method (allowed route))
@@ -69,3 +77,4 @@ check_method route head = need (allows (allowed route) head) (refusal.Method (al
 abbrev pub shown_route : code.Route → Route
 shown_route (way.InRepository repo written) = in_repository repo.now written.now
 shown_route way.Status = status
+shown_route way.Clean = clean

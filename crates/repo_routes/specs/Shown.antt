@@ -4,7 +4,7 @@ use Rattle.repo_routes.specs.declared.intent.Intent as code
 use Rattle.repo_routes.specs.declared.intent.Intent.TheVariants as asked
 use Rattle.repo_routes.specs.declared.judging.Judged as judged
 use Rattle.repo_routes.specs.declared.judging.Refused.{Refused}
-use Rattle.repo_routes.specs.Intent.{Intent, Judged, reads, puts_file, puts_side, puts_document, counts}
+use Rattle.repo_routes.specs.Intent.{Intent, Judged, reads, puts_file, puts_side, puts_document, counts, cleans}
 
 abbrev pub shown_intent : code.Intent → Intent
 shown_intent (asked.Read repo path) = reads repo path
@@ -12,6 +12,7 @@ shown_intent (asked.PutFile repo path length) = puts_file repo path length
 shown_intent (asked.PutSide repo path side length) = puts_side repo path side length
 shown_intent (asked.PutDocument repo path length) = puts_document repo path length
 shown_intent asked.Status = counts
+shown_intent (asked.Clean repos) = cleans repos
 
 abbrev pub shown_request : judged.Judged → Judged
 shown_request judged = record {

@@ -6,10 +6,10 @@ use Rattle.http_wire.specs.declared.requests.Field.{Field}
 use Rattle.http_wire.specs.Head.{Head}
 use Rattle.repo_model.specs.Settings.{Settings, daily}
 use Rattle.repo_routes.specs.declared.judging.Refused.{Refused}
-use Rattle.repo_routes.specs.declared.refusal.Allow.TheVariants.{Read, ReadAndPut}
+use Rattle.repo_routes.specs.declared.refusal.Allow.TheVariants.{Post, Read, ReadAndPut}
 use Rattle.repo_routes.specs.declared.refusal.Refusal.{Refusal}
 use Rattle.repo_routes.specs.declared.refusal.Refusal.TheVariants.{BadTarget, BadHost, NoLength, BadLength, NoRoute, NoRepository, Method, UnexpectedBody, BadPath, NoPath, TooLarge}
-use Rattle.repo_routes.specs.Intent.{Intent, Judged, reads, puts_file, puts_side, puts_document, counts}
+use Rattle.repo_routes.specs.Intent.{Intent, Judged, reads, puts_file, puts_side, puts_document, counts, cleans}
 use Rattle.repo_routes.specs.Judge.{judge}
 
 -- a hosted repository `releases`, a proxy `central` and a group `all`; files of at most 2,000 bytes
@@ -82,6 +82,7 @@ pub record RefusesInOrder : Type 0 where
   pub repository : judge settings (head (codes "DELETE") (codes "/repository/no/x") (length_is (codes "5") ∷ [])) ≡ refusal NoRepository true
   pub method : judge settings (head (codes "DELETE") (codes "/repository/releases/x") (length_is (codes "5") ∷ [])) ≡ refusal (Method ReadAndPut) true
   pub body : judge settings (head (codes "GET") (codes "/repository/releases/x") (length_is (codes "5") ∷ [])) ≡ refusal UnexpectedBody true
+  pub clean_body : judge settings (head (codes "POST") (codes "/api/clean") (length_is (codes "5") ∷ [])) ≡ refusal UnexpectedBody true
   pub path : judge settings (head (codes "PUT") (codes "/repository/releases/x") (length_is (codes "99999") ∷ [])) ≡ refusal (BadPath Short) true
   pub limit : judge settings (head (codes "PUT") at_jar (length_is (codes "2001") ∷ [])) ≡ refusal (TooLarge 2000) true
 
@@ -93,6 +94,13 @@ pub record RefusesWithoutBody : Type 0 where
   pub of_head : judge settings (head (codes "HEAD") (codes "/repository/releases/x") []) ≡ head_refusal (NoPath Short) false
   pub of_head_at_host : judge settings (bare (codes "HEAD") (codes "/") []) ≡ head_refusal BadHost true
   pub small_letters : judge settings (head (codes "get") (codes "/api/status") []) ≡ refusal (Method Read) false
+  pub get_clean : judge settings (head (codes "GET") (codes "/api/clean") []) ≡ refusal (Method Post) false
+  pub head_clean : judge settings (head (codes "HEAD") (codes "/api/clean") []) ≡ head_refusal (Method Post) false
+  pub put_clean : judge settings (head (codes "PUT") (codes "/api/clean") (length_is (codes "0") ∷ [])) ≡ refusal (Method Post) false
+  pub post_file : judge settings (head (codes "POST") at_jar []) ≡ refusal (Method ReadAndPut) false
+  pub post_status : judge settings (head (codes "POST") (codes "/api/status") []) ≡ refusal (Method Read) false
+  pub below_clean : judge settings (head (codes "POST") (codes "/api/clean/") []) ≡ refusal NoRoute false
+  pub sessions : judge settings (head (codes "POST") (codes "/api/sessions/1/commit") []) ≡ refusal NoRoute false
   pub proxy : judge settings (head (codes "GET") (codes "/repository/central/x") []) ≡ refusal NoRepository false
   pub group : judge settings (head (codes "GET") (codes "/repository/all/x") []) ≡ refusal NoRepository false
   pub escape : judge settings (head (codes "GET") (codes "/repository/releases/%zz") []) ≡ refusal (NoPath BadSegment) false
@@ -104,6 +112,8 @@ pub record AsksFor : Type 0 where
   pub file : judge settings (head (codes "GET") at_jar []) ≡ request (reads (codes "releases") jar)
   pub no_body : judge settings (head (codes "GET") (codes "http://h/repository/releases/a%2Fb/1/b-1.jar?x") (length_is (codes "0") ∷ [])) ≡ request (reads (codes "releases") jar)
   pub status : judge settings (head (codes "GET") (codes "/api/status?x") []) ≡ request counts
+  pub clean : judge settings (head (codes "POST") (codes "/api/clean") []) ≡ request (cleans (codes "releases" ∷ []))
+  pub clean_without_body : judge settings (head (codes "POST") (codes "http://h/api/clean?x") (length_is (codes "0") ∷ [])) ≡ request (cleans (codes "releases" ∷ []))
   pub put : judge settings (head (codes "PUT") at_jar (length_is (codes "2000") ∷ length_is (codes "02000") ∷ [])) ≡ request (puts_file (codes "releases") jar 2000)
   pub put_side : judge settings (head (codes "PUT") (at_jar ++ codes ".sha1") (length_is (codes "40") ∷ [])) ≡ request (puts_side (codes "releases") (jar ++ codes ".sha1") Sha1 40)
   pub put_document : judge settings (head (codes "PUT") (codes "/repository/releases/a/b/maven-metadata.xml") (length_is (codes "2001") ∷ []))

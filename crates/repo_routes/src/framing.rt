@@ -29,6 +29,14 @@ pub(crate) fn is_read(head: &Request) -> bool
     head.method() == "GET" || is_head(head)
 }
 
+/// Whether the method is POST.
+#[tactic(auto, unfolding(crate::specs::Framing::is_post))]
+pub(crate) fn is_post(head: &Request) -> bool
+    ensures { result ≡ spec.is_post head.now }
+{
+    head.method() == "POST"
+}
+
 /// The host: a request of HTTP/1.1 names it exactly once (RFC 9112, section 3.2).
 #[tactic(auto, unfolding(crate::specs::Framing::check_host))]
 pub(crate) fn check_host(head: &Request) -> Result<(), Refusal>

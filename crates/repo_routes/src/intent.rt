@@ -1,5 +1,5 @@
 use mvn_coords::Side;
-use texts::Text;
+use texts::{Text, Texts};
 
 /// What a request asks for. A path has no escapes, and names something of its kind; a length is that of the body, in
 /// bytes, and no longer than may be put there.
@@ -31,4 +31,6 @@ pub enum Intent {
     },
     /// GET or HEAD of the repository's counts.
     Status,
+    /// POST of a cleaning: the ids of the hosted repositories, as written.
+    Clean(Texts),
 }

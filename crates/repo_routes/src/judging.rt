@@ -1,5 +1,6 @@
 //! A request head judged: the request that it makes, or its refusal.
-ghost use Rattle.std.specs.Prelude.{◌≡◌, IfOk};
+ghost use Rattle.std.specs.Prelude.{◌≡◌, IfOk, map};
+ghost use Rattle.repo_model.specs.Settings.{Rule};
 ghost use Rattle.repo_routes.specs.Routes.{shown_route};
 ghost use Rattle.repo_routes.specs.Judge as spec;
 ghost use Rattle.repo_routes.specs.Shown.{shown_intent, shown_judged, shown_request};
@@ -15,8 +16,9 @@ use crate::refusal::Refusal;
 use crate::routes::{Route, Routes, check_method, check_repository};
 use crate::target::target_path;
 use http_wire::Request;
-use repo_config::Settings;
+use repo_config::{HostedRule, Settings};
 use std::alloc::{AllocError, Global};
+use texts::{Text, Texts};
 
 /// A request that is not refused.
 #[derive(Drop)]
@@ -53,6 +55,24 @@ fn check_body(head: &Request, length: u64) -> Result<(), Refusal>
     }
 }
 
+/// The ids of some repositories.
+fn ids_of(alloc: Global, rules: &[HostedRule]) -> Result<Texts, AllocError>
+    ensures { IfOk result (λ repos. repos ≡ map (λ (rule : Rule). rule.id) rules.now) }
+{
+    let mut repos = Vec::new(alloc);
+    for rule in rules {
+        repos.push(Text::new(alloc, rule.id())?)?;
+    }
+    Ok(Texts::from_vec(repos))
+}
+
+/// The ids of the hosted repositories, as written. The only error is want of memory.
+pub fn hosted_ids(alloc: Global, settings: &Settings) -> Result<Texts, AllocError>
+    ensures { IfOk result (λ repos. repos ≡ spec.hosted_ids settings.now) }
+{
+    ids_of(alloc, settings.hosted())
+}
+
 /// What a head asks for of its route.
 fn intent_on(
     alloc: Global,
@@ -68,6 +88,7 @@ fn intent_on(
             alloc, settings, head, length, repo, written,
         ),
         Route::Status => Ok(Intent::Status),
+        Route::Clean => Ok(Intent::Clean(hosted_ids(alloc, settings)?)),
     }
 }
 

@@ -17,7 +17,7 @@ mod routes;
 mod target;
 
 pub use intent::Intent;
-pub use judging::{Judged, Refused, judge};
+pub use judging::{Judged, Refused, hosted_ids, judge};
 pub use paths::{LONGEST_DOCUMENT, LONGEST_SIDE};
 pub use refusal::{Allow, Refusal};
 pub use routes::Routes;

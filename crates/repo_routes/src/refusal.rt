@@ -7,6 +7,8 @@ pub enum Allow {
     Read,
     /// GET, HEAD and PUT.
     ReadAndPut,
+    /// POST.
+    Post,
 }
 
 /// Why a request is refused: the first step of judging that refuses it.

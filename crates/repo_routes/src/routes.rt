@@ -7,7 +7,7 @@ ghost use Rattle.repo_model.specs.Command.{is_there};
 ghost use Rattle.repo_routes.specs.Routes as spec;
 ghost use Rattle.repo_routes.specs.Steps.{result_shown};
 
-use crate::framing::{is_put, is_read};
+use crate::framing::{is_post, is_put, is_read};
 use crate::refusal::{Allow, Refusal};
 use byte_cuts::text::{behind, is};
 use http_wire::Request;
@@ -23,6 +23,8 @@ pub(crate) enum Place {
     Repository,
     /// `/api/status`
     Status,
+    /// `/api/clean`
+    Clean,
 }
 
 /// The route of a path: for a path in a repository the repository's id and what stands behind it, as written.
@@ -30,6 +32,7 @@ pub(crate) enum Place {
 pub(crate) enum Route<'a> {
     InRepository { repo: &'a str, written: &'a str },
     Status,
+    Clean,
 }
 
 /// The routes of the server, found by their patterns: each value of the type finds the routes of `specs/Routes.antt`, and
@@ -83,6 +86,7 @@ impl Routes {
                 None => Err(Refusal::NoRoute),
             },
             Some(Place::Status) => Ok(Route::Status),
+            Some(Place::Clean) => Ok(Route::Clean),
             None => Err(Refusal::NoRoute),
         }
     }
@@ -139,6 +143,7 @@ fn allowed(route: Route<'_>) -> Allow
     match route {
         Route::InRepository { .. } => Allow::ReadAndPut,
         Route::Status => Allow::Read,
+        Route::Clean => Allow::Post,
     }
 }
 
@@ -148,6 +153,7 @@ fn allows(allow: Allow, head: &Request) -> bool
     match allow {
         Allow::Read => is_read(head),
         Allow::ReadAndPut => is_read(head) || is_put(head),
+        Allow::Post => is_post(head),
     }
 }
 
@@ -171,5 +177,6 @@ fn add_routes(router: &mut Router<Place>) -> Result<(), InsertError>
 {
     router.insert("/repository/{id}/{*path}", Place::Repository)?;
     router.insert("/api/status", Place::Status)?;
+    router.insert("/api/clean", Place::Clean)?;
     Ok(())
 }

@@ -1,8 +1,9 @@
 -- What a run does to its desks: only the first is another.
 use Rattle.std.proofs.Common.{◌≡◌, ℕ, ◌<◌, List, [], ◌∷◌, length, get_or, set, Option, refl, subst, ap, ◌∙◌, arith}
+use Rattle.repo_course.specs.Cleaning.{Store}
 use Rattle.repo_run.specs.Surroundings.{FirstOnly, desk_state}
 
-pub same_desk : {X : Type 0} (left left' given given' : Option (List X)) (faults faults' blobs : ℕ) → left' ≡ left → given' ≡ given → faults' ≡ faults
+pub same_desk : {X : Type 0} (left left' given given' : Option (List X)) (faults faults' : ℕ) (blobs : Store) → left' ≡ left → given' ≡ given → faults' ≡ faults
     → desk_state left' given' faults' blobs ≡ desk_state left given faults blobs
 same_desk left left' given given' faults faults' blobs l g f =
     ap (λ x. desk_state x given' faults' blobs) l ∙ ap (λ x. desk_state left x faults' blobs) g ∙ ap (λ x. desk_state left given x blobs) f

@@ -1,12 +1,18 @@
 -- A replay's first connection, from what the server says of the stream: its history, its bytes, its status.
-use Rattle.std.proofs.Common.{◌≡◌, ℕ, ◌+◌, ◌*◌, ◌≤◌, arith, length, List, [], Option, Some, None, inl, inr, refl, sym, subst, ap, ◌∙◌}
-use Rattle.std.specs.Prelude.{min}
+use Rattle.std.proofs.Common.{◌≡◌, ℕ, ◌+◌, ◌*◌, ◌≤◌, arith, length, length-append, List, [], Option, Some, None, inl, inr, refl, sym, subst, ap, ◌∙◌}
+use Rattle.std.specs.Prelude.{min, map, nat_le}
+use Rattle.std.proofs.lemmas.Bool.{and_parts, leb-true}
+use Rattle.std.proofs.lemmas.List.{length-map}
+use Rattle.repo_config.specs.Form.{IsSettings}
+use Rattle.repo_config.specs.Names.{ids_of}
+use Rattle.course_laws.specs.Duties.{most_asked}
+use Rattle.repo_course.specs.Cleaning.{Store}
 use Rattle.outside.specs.Faults.{last_count}
 use Rattle.outside.specs.Moments.{Moments}
 use Rattle.outside.specs.Told.{in_front}
 use Rattle.repo_core.specs.Whole.{Whole}
 use Rattle.repo_model.specs.History.{Entry, Legal, end}
-use Rattle.repo_model.specs.Settings.{Settings}
+use Rattle.repo_model.specs.Settings.{Rule, Settings}
 use Rattle.repo_model.specs.State.{State, opening}
 use Rattle.repo_course.specs.declared.limits.TheConstants.{TURNS}
 use Rattle.repo_course.specs.declared.outcomes.End.{End}
@@ -40,33 +46,42 @@ finished calls ending old new out out' status r w (inl a) = done (same-counts ol
 finished calls ending old new out out' status r w (inr (inl a)) = out_failed r w a.0.2 a.1
 finished calls ending old new out out' status r w (inr (inr a)) = memory_wanted r w a.1
 
-pub has-status : (calls : ℕ) (ending : End) (old new : Connection) (out out' : Output) (status : ℕ) (input input' : Option (List ℕ)) (faults faults' : ℕ)
-    → EndsByCause ending (outside_at input old faults) (outside_at input' new faults') → Reports ending calls out out' status
+pub has-status : (calls : ℕ) (ending : End) (old new : Connection) (out out' : Output) (status : ℕ) (input input' : Option (List ℕ)) (blobs blobs' : Store)
+    → EndsByCause ending (outside_at input old blobs) (outside_at input' new blobs') → Reports ending calls out out' status
     → HasStatus (counts old out) (counts new out') status
-has-status calls SourceFault old new out out' status input input' faults faults' ends told = source_failed ends.0 ends.1 told.1
-has-status calls SinkFault old new out out' status input input' faults faults' ends told = sink_failed ends.0 ends.1 (ap (λ (o : Output). o.faults) told.0) told.1
-has-status calls Closed old new out out' status input input' faults faults' ends told = finished calls Closed old new out out' status ends.0 ends.1 told
-has-status calls TornRequest old new out out' status input input' faults faults' ends told = finished calls TornRequest old new out out' status ends.0 ends.1 told
-has-status calls TurnLimit old new out out' status input input' faults faults' ends told = finished calls TurnLimit old new out out' status ends.0 ends.1 told
+has-status calls SourceFault old new out out' status input input' blobs blobs' ends told = source_failed ends.0 ends.1 told.1
+has-status calls SinkFault old new out out' status input input' blobs blobs' ends told = sink_failed ends.0 ends.1 (ap (λ (o : Output). o.faults) told.0) told.1
+has-status calls Closed old new out out' status input input' blobs blobs' ends told = finished calls Closed old new out out' status ends.0 ends.1 told
+has-status calls TornRequest old new out out' status input input' blobs blobs' ends told = finished calls TornRequest old new out out' status ends.0 ends.1 told
+has-status calls TurnLimit old new out out' status input input' blobs blobs' ends told = finished calls TurnLimit old new out out' status ends.0 ends.1 told
+
+-- a request of such settings makes at most 65 commands
+most-few : (settings : Settings) → IsSettings settings → most_asked settings ≤ 65
+unfolding most_asked
+most-few settings form =
+    let ids = leb-true (length (ids_of settings)) 64 (and_parts (nat_le 1 (length (ids_of settings))) (nat_le (length (ids_of settings)) 64) form.repositories).1 in
+    let parts = length-append (map (λ (rule : Rule). rule.id) settings.hosted) _ in
+    let hosted = length-map settings.hosted (λ (rule : Rule). rule.id) in
+    omega (arith, ids, parts, hosted)
 
 -- so few calls are all counted
-all-counted : (calls made : ℕ) → calls ≡ min (0 + made) last_count → made ≤ 0 + 3 * TURNS → calls ≡ made
-all-counted calls made counted few = omega arith
+all-counted : (calls made most : ℕ) → calls ≡ min (0 + made) last_count → made ≤ most * TURNS → most ≤ 65 → calls ≡ made
+all-counted calls made most counted few limit = omega (arith, counted, few, limit)
 
 -- a stream that begins with nothing read ahead
 pub nothing_held : (told : Option (List ℕ)) → in_front [] told ≡ told
 nothing_held None = refl
 nothing_held (Some bytes) = refl
 
-module _ (tells : Type 0) (settings : Settings) where
-  pub is-replayed : (clock clock' : Option Moments) (old new : Connection) (faults faults' : ℕ) (core : Whole) (held : List ℕ) (ending : End) (entries : List Entry)
+module _ (tells : Type 0) (settings : Settings) (form : IsSettings settings) where
+  pub is-replayed : (clock clock' : Option Moments) (old new : Connection) (blobs blobs' : Store) (core : Whole) (held : List ℕ) (ending : End) (entries : List Entry)
       → Makes (opened settings clock) entries core
-      → Serves settings tells TURNS entries (outside_at (in_front [] old.left) old faults) (outside_at (in_front held new.left) new faults') ending
-      → clock' ≡ core.state.clock → IsReplayed tells settings clock clock' old new faults faults' ending core.calls
-  is-replayed clock clock' old new faults faults' core held ending entries made begun clock-is =
-      let before = outside_at old.left old faults in
-      let after = outside_at (in_front held new.left) new faults' in
-      let served = subst (λ (input : Option (List ℕ)). Serves settings tells TURNS entries (outside_at input old faults) after ending) (nothing_held old.left) begun in
+      → Serves settings tells TURNS entries (outside_at (in_front [] old.left) old blobs) (outside_at (in_front held new.left) new blobs') ending
+      → clock' ≡ core.state.clock → IsReplayed tells settings clock clock' old new blobs blobs' ending core.calls
+  is-replayed clock clock' old new blobs blobs' core held ending entries made begun clock-is =
+      let before = outside_at old.left old blobs in
+      let after = outside_at (in_front held new.left) new blobs' in
+      let served = subst (λ (input : Option (List ℕ)). Serves settings tells TURNS entries (outside_at input old blobs) after ending) (nothing_held old.left) begun in
       let alone = core_alone entries (opened settings clock) core made in
       let drawn : IsDrawn (opened settings clock).state.yard = record { drafts = tt; leases = tt } in
       let left = serves_leaves tells settings TURNS entries (opened settings clock).state alone.legal before after ending served in
@@ -83,8 +98,8 @@ module _ (tells : Type 0) (settings : Settings) where
         legal = alone.legal;
         state = alone.ends;
         clock_is = clock-is;
-        counted = all-counted core.calls (length entries) (core_counted entries (opened settings clock) core (omega arith) made)
-            (serves_few tells settings TURNS entries before after ending served);
+        counted = all-counted core.calls (length entries) (most_asked settings) (core_counted entries (opened settings clock) core (omega arith) made)
+            (serves_few tells settings TURNS entries before after ending served) (most-few settings form);
         nothing_left = (ap (λ y. y.drafts) yard ∙ nothing.drafts, ap (λ y. y.leases) yard ∙ nothing.leases);
         drafts_found = left.found;
         ends = serves_shows tells settings TURNS entries before after ending served;
@@ -118,9 +133,9 @@ module _ (tells : Type 0) (settings : Settings) where
         let last = subst (λ (e : Option End). ReportsFirst e core'.calls out out' status) ends told in
         replay.none_left at-end desk (clock-is ∙ ap (λ (w : Whole). w.state.clock) same ∙ ap (λ (w : Whole). w.state.clock) is)
         (subst (λ (n : ℕ). Reports Closed n out out' status) (ap (λ (w : Whole). w.calls) same ∙ ap (λ (w : Whole). w.calls) is) last)
-    replays core core' ended is (one_served link link' left held faults ending entries took desk makes served ends) clock-is told =
+    replays core core' ended is (one_served link link' left held blobs ending entries took desk makes served ends) clock-is told =
         let last = subst (λ (e : Option End). ReportsFirst e core'.calls out out' status) ends told in
         let made = subst (λ (w : Whole). Makes w entries core') is makes in
-        let all = is-replayed clock clock' (connection_of link) (connection_of link') old.blob_faults faults core' held ending entries made served clock-is in
-        replay.one_served link link' left faults ending core'.calls took desk all last
-        (has-status core'.calls ending (connection_of link) (connection_of link') out out' status _ _ old.blob_faults faults all.ends last)
+        let all = is-replayed clock clock' (connection_of link) (connection_of link') old.blobs blobs core' held ending entries made served clock-is in
+        replay.one_served link link' left blobs ending core'.calls took desk all last
+        (has-status core'.calls ending (connection_of link) (connection_of link') out out' status _ _ old.blobs blobs all.ends last)

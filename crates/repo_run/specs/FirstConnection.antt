@@ -7,6 +7,7 @@ use Rattle.repo_core.specs.CoreTurn.{CoreTurn}
 use Rattle.repo_model.specs.History.{Entry}
 use Rattle.repo_model.specs.Settings.{Settings}
 use Rattle.repo_course.specs.Asking.{LeadsTo}
+use Rattle.repo_course.specs.Cleaning.{Store}
 use Rattle.repo_course.specs.declared.limits.TheConstants.{TURNS}
 use Rattle.repo_course.specs.declared.outcomes.End.{End}
 use Rattle.repo_course.specs.declared.outcomes.End.TheVariants.{Closed}
@@ -22,8 +23,8 @@ pub data ServesFirst {X : Type 0} (tells : Type 0) (settings : Settings) (connec
   port_failed : (faults : ℕ) → Rose old.port_faults faults → new ≡ record old { port_faults = faults } → core' ≡ core → result ≡ None
       → ServesFirst tells settings connection_of old new core core' result
   none_left : IsAtEnd old.left → new ≡ old → core' ≡ core → result ≡ Some Closed → ServesFirst tells settings connection_of old new core core' result
-  one_served : (link link' : X) (left : Option (List X)) (held : List ℕ) (faults : ℕ) (ending : End) (entries : List Entry) → old.left ≡ in_front (link ∷ []) left
-      → new ≡ record old { left = left; given_back = behind old.given_back (link' ∷ []); blob_faults = faults }
+  one_served : (link link' : X) (left : Option (List X)) (held : List ℕ) (blobs : Store) (ending : End) (entries : List Entry) → old.left ≡ in_front (link ∷ []) left
+      → new ≡ record old { left = left; given_back = behind old.given_back (link' ∷ []); blobs = blobs }
       → Makes core entries core' → Serves settings tells TURNS entries
-      (outside_at (in_front [] (connection_of link).left) (connection_of link) old.blob_faults) (outside_at (in_front held (connection_of link').left) (connection_of link') faults) ending
+      (outside_at (in_front [] (connection_of link).left) (connection_of link) old.blobs) (outside_at (in_front held (connection_of link').left) (connection_of link') blobs) ending
       → result ≡ Some ending → ServesFirst tells settings connection_of old new core core' result

@@ -8,6 +8,7 @@ use Rattle.repo_model.specs.State.{opening}
 use Rattle.repo_model.specs.Reply.{no_draft}
 use Rattle.repo_model.specs.History.{Entry, Legal, end}
 use Rattle.repo_core.specs.Whole.{Whole}
+use Rattle.repo_course.specs.Cleaning.{Store}
 use Rattle.repo_course.specs.declared.limits.TheConstants.{TURNS}
 use Rattle.repo_course.specs.declared.outcomes.End.{End}
 use Rattle.repo_course.specs.declared.outcomes.End.TheVariants.{Closed, SourceFault, SinkFault}
@@ -42,12 +43,12 @@ pub record AllTold (tells : Type 0) (clock : Option Moments) (old : Connection) 
   pub taken_is : old.taken ≡ Some before
 
 -- A connection is served by a repository that begins empty. Its calls, each once, in order and no other, are a legal history, as long as `calls`.
-pub record IsReplayed (tells : Type 0) (settings : Settings) (clock clock' : Option Moments) (old new : Connection) (faults faults' : ℕ) (ending : End) (calls : ℕ) : Type 0 where
+pub record IsReplayed (tells : Type 0) (settings : Settings) (clock clock' : Option Moments) (old new : Connection) (blobs blobs' : Store) (ending : End) (calls : ℕ) : Type 0 where
   pub entries : List Entry
   -- the repository in the end, and the bytes that were read ahead and not used
   pub core : Whole
   pub held : List ℕ
-  pub serves : Serves settings tells TURNS entries (outside_at old.left old faults) (outside_at (in_front held new.left) new faults') ending
+  pub serves : Serves settings tells TURNS entries (outside_at old.left old blobs) (outside_at (in_front held new.left) new blobs') ending
   pub made : Makes (opened settings clock) entries core
   pub legal : Legal settings (opening settings clock) entries
   pub state : core.state ≡ end settings (opening settings clock) entries
@@ -56,13 +57,13 @@ pub record IsReplayed (tells : Type 0) (settings : Settings) (clock clock' : Opt
   -- no draft and no lease stands in the end, and no call was told that its draft is not there
   pub nothing_left : (core.state.yard.drafts ≡ []) × (core.state.yard.leases ≡ [])
   pub drafts_found : AllByRecursion (λ (e : Entry). e.reply ≢ no_draft) entries
-  pub ends : EndsByCause ending (outside_at old.left old faults) (outside_at (in_front held new.left) new faults')
+  pub ends : EndsByCause ending (outside_at old.left old blobs) (outside_at (in_front held new.left) new blobs')
   -- where no blob failed, what was taken is what is answered if nothing fails, up to some place
-  pub played : (moments : Moments) (input before : List ℕ) → AllTold tells clock old moments input before → StoodStill faults faults'
-      → IsPlayedUpTo before (answers settings moments input) (outside_at old.left old faults) (outside_at (in_front held new.left) new faults') ending
+  pub played : (moments : Moments) (input before : List ℕ) → AllTold tells clock old moments input before → StoodStill blobs.faults blobs'.faults
+      → IsPlayedUpTo before (answers settings moments input) (outside_at old.left old blobs) (outside_at (in_front held new.left) new blobs') ending
   -- and all of it where nothing failed
   pub faultless : (moments : Moments) (input before : List ℕ) → AllTold tells clock old moments input before
-      → NoFaults (outside_at old.left old faults) (outside_at (in_front held new.left) new faults')
+      → NoFaults (outside_at old.left old blobs) (outside_at (in_front held new.left) new blobs')
       → IsAsPlayed before (answers settings moments input) new.taken ending
 
 -- a stream is over: its line, or the part of it that was printed, or that there was no memory for it
@@ -101,9 +102,9 @@ pub data ServesWith {X : Type 0} (tells : Type 0) (settings : Settings) (connect
   none_left : IsAtEnd old.left → new ≡ old → clock' ≡ clock → Reports Closed 0 out out' status
       → ServesWith tells settings connection_of clock clock' old new out out' status
   -- the first connection was served, and given back in this state
-  one_served : (link link' : X) (left : Option (List X)) (faults : ℕ) (ending : End) (calls : ℕ) → old.left ≡ in_front (link ∷ []) left
-      → new ≡ record old { left = left; given_back = behind old.given_back (link' ∷ []); blob_faults = faults }
-      → IsReplayed tells settings clock clock' (connection_of link) (connection_of link') old.blob_faults faults ending calls
+  one_served : (link link' : X) (left : Option (List X)) (blobs : Store) (ending : End) (calls : ℕ) → old.left ≡ in_front (link ∷ []) left
+      → new ≡ record old { left = left; given_back = behind old.given_back (link' ∷ []); blobs = blobs }
+      → IsReplayed tells settings clock clock' (connection_of link) (connection_of link') old.blobs blobs ending calls
       → Reports ending calls out out' status → HasStatus (counts (connection_of link) out) (counts (connection_of link') out') status
       → ServesWith tells settings connection_of clock clock' old new out out' status
 

@@ -2,6 +2,7 @@
 use Rattle.std.specs.Prelude.{◌≡◌, ◌⊎◌, ℕ, ◌<◌, List, ◌∷◌, length, take, Option}
 use Rattle.outside.specs.Faults.{Rose}
 use Rattle.outside.specs.Told.{behind}
+use Rattle.repo_course.specs.Cleaning.{Store}
 use Rattle.repo_course.specs.Serving.{Outside}
 
 -- what a connection tells of itself
@@ -17,16 +18,17 @@ abbrev pub connection : Option (List ℕ) → Option (List ℕ) → ℕ → ℕ 
 connection left taken read_faults write_faults =
     record { left = left; taken = taken; read_faults = read_faults; write_faults = write_faults }
 
--- a desk: the connections that its port has left and those that were given back to it, and its counts of faults
+-- a desk: the connections that its port has left and those that were given back to it, its port's count of faults, and what
+-- its blobs tell, with their count
 pub record DeskState (X : Type 0) : Type 0 where
   pub left : Option (List X)
   pub given_back : Option (List X)
   pub port_faults : ℕ
-  pub blob_faults : ℕ
+  pub blobs : Store
 
-abbrev pub desk_state : {X : Type 0} → Option (List X) → Option (List X) → ℕ → ℕ → DeskState X
-desk_state left given_back port_faults blob_faults =
-    record { left = left; given_back = given_back; port_faults = port_faults; blob_faults = blob_faults }
+abbrev pub desk_state : {X : Type 0} → Option (List X) → Option (List X) → ℕ → Store → DeskState X
+desk_state left given_back port_faults blobs =
+    record { left = left; given_back = given_back; port_faults = port_faults; blobs = blobs }
 
 -- the source of the settings: the bytes that it has left, where told, and its count of faults
 pub record File : Type 0 where
@@ -62,11 +64,12 @@ FirstOnly Related (old ∷ olds) (new ∷ news) = Related old new × (news ≡ o
 FirstOnly Related olds news = ⊥
 
 -- what a server sees of a connection and its desk, with these bytes not yet used
-abbrev pub outside_at : Option (List ℕ) → Connection → ℕ → Outside
-outside_at input c blob_faults = record {
+abbrev pub outside_at : Option (List ℕ) → Connection → Store → Outside
+outside_at input c blobs = record {
   input = input;
   output = c.taken;
   read_faults = c.read_faults;
   write_faults = c.write_faults;
-  blob_faults = blob_faults;
+  blob_faults = blobs.faults;
+  shelf = blobs.shelf;
 }

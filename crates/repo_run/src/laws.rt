@@ -4,6 +4,7 @@ ghost use Rattle.outside.specs.Faults.{last_count};
 ghost use Rattle.outside.specs.Moments.{Moments};
 ghost use Rattle.repo_core.specs.Whole.{Whole};
 ghost use Rattle.repo_course.specs.declared.outcomes.End.{End};
+ghost use Rattle.repo_course.specs.Cleaning.{Store};
 ghost use Rattle.repo_course.specs.Serving.{AllTell, Outside, Serves};
 ghost use Rattle.repo_model.specs.History.{Entry, Legal, end};
 ghost use Rattle.repo_model.specs.Settings.{Settings};
@@ -36,10 +37,10 @@ pub fn alone_nothing_is_left_behind<H: Held>()
 /// The worked PUT and GET of one file, as the connection of a replay that tells all, under settings whose hosted repositories
 /// are the worked ones: where nothing failed it has taken the worked answers byte for byte and was closed, or memory was wanted.
 pub fn worked_replay<H: Held>()
-    ensures { (settings : Settings) (clock clock' : Option Moments) (moments : Moments) (old new : Connection) (faults faults' : ℕ) (ending : End) (calls : ℕ) →
-        IsReplayed (AllTell H.bytes) (worked_settings settings) clock clock' old new faults faults' ending calls →
+    ensures { (settings : Settings) (clock clock' : Option Moments) (moments : Moments) (old new : Connection) (blobs blobs' : Store) (ending : End) (calls : ℕ) →
+        IsReplayed (AllTell H.bytes) (worked_settings settings) clock clock' old new blobs blobs' ending calls →
         AllTold (AllTell H.bytes) clock old moments (put_abc ++ last_get) [] →
-        NoFaults (outside_at old.left old faults) (outside_at new.left new faults') →
+        NoFaults (outside_at old.left old blobs) (outside_at new.left new blobs') →
         ((new.taken ≡ Some (created_201 ++ abc_200)) × (ending ≡ End.Closed)) ⊎ WantedMemory [] new.taken }
 {}
 

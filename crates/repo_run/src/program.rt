@@ -1,6 +1,7 @@
 //! A run of the program: its words, its settings, its one connection, its line and its status.
 ghost use Rattle.std.specs.Prelude.{◌≡◌, ◌<◌, map, vec_len, IfErr, IfOk};
 ghost use Rattle.std.specs.String.{string_bytes};
+ghost use Rattle.repo_course.specs.Cleaning.{store};
 ghost use Rattle.repo_course.specs.Serving.{AllTell};
 ghost use Rattle.repo_run.specs.FirstConnection.{ServesFirst};
 ghost use Rattle.repo_run.specs.Replay.{Replays, Runs, ServesWith, opened};
@@ -43,8 +44,8 @@ pub fn serve_first<P: Port, B: Blobs, C: Clock>(
     requires { core.old.settings ≡ settings.now }
     ensures { ServesFirst (AllTell B.Held.bytes) settings.now
         (λ link. connection (P.Link.left link) (P.Link.taken link) (P.Link.read_faults link) (P.Link.write_faults link))
-        (desk_state (P.left desk.old.port) (P.given_back desk.old.port) (P.faults desk.old.port) (B.faults desk.old.blobs))
-        (desk_state (P.left desk.new.port) (P.given_back desk.new.port) (P.faults desk.new.port) (B.faults desk.new.blobs))
+        (desk_state (P.left desk.old.port) (P.given_back desk.old.port) (P.faults desk.old.port) (store (B.shelf desk.old.blobs) (B.faults desk.old.blobs)))
+        (desk_state (P.left desk.new.port) (P.given_back desk.new.port) (P.faults desk.new.port) (store (B.shelf desk.new.blobs) (B.faults desk.new.blobs)))
         core.old core.new result }
 {
     match desk.port.next() {
@@ -89,11 +90,12 @@ fn serve<P: Port, B: Blobs, C: Clock, O: Sink>(
     ensures { FirstOnly (λ old new. ServesWith (AllTell B.Held.bytes) settings.now
         (λ link. connection (P.Link.left link) (P.Link.taken link) (P.Link.read_faults link) (P.Link.write_faults link))
         (C.moments clock) (C.moments result.clock)
-        (desk_state (P.left old.port) (P.given_back old.port) (P.faults old.port) (B.faults old.blobs))
-        (desk_state (P.left new.port) (P.given_back new.port) (P.faults new.port) (B.faults new.blobs))
+        (desk_state (P.left old.port) (P.given_back old.port) (P.faults old.port) (store (B.shelf old.blobs) (B.faults old.blobs)))
+        (desk_state (P.left new.port) (P.given_back new.port) (P.faults new.port) (store (B.shelf new.blobs) (B.faults new.blobs)))
         (output (O.taken out.old) (O.write_faults out.old)) (output (O.taken out.new) (O.write_faults out.new)) result.status)
         desks.items result.desks.items }
 {
+    settings.form();
     let mut core: Core<C, B::Held> = match core_of(alloc, settings, clock) {
         Ok(core) => core,
         Err((_, clock)) => {
@@ -128,8 +130,8 @@ fn replay<S: Source, P: Port, B: Blobs, C: Clock, O: Sink>(
         (λ link. connection (P.Link.left link) (P.Link.taken link) (P.Link.read_faults link) (P.Link.write_faults link))
         (file (S.left settings.old) (S.read_faults settings.old)) (file (S.left settings.new) (S.read_faults settings.new))
         (C.moments clock) (C.moments result.clock)
-        (desk_state (P.left old.port) (P.given_back old.port) (P.faults old.port) (B.faults old.blobs))
-        (desk_state (P.left new.port) (P.given_back new.port) (P.faults new.port) (B.faults new.blobs))
+        (desk_state (P.left old.port) (P.given_back old.port) (P.faults old.port) (store (B.shelf old.blobs) (B.faults old.blobs)))
+        (desk_state (P.left new.port) (P.given_back new.port) (P.faults new.port) (store (B.shelf new.blobs) (B.faults new.blobs)))
         (output (O.taken out.old) (O.write_faults out.old)) (output (O.taken out.new) (O.write_faults out.new)) result.status)
         desks.items result.desks.items }
 {
@@ -184,8 +186,8 @@ pub fn run<S: Source, P: Port, B: Blobs, C: Clock, O: Sink>(
         (λ link. connection (P.Link.left link) (P.Link.taken link) (P.Link.read_faults link) (P.Link.write_faults link))
         (file (S.left settings.old) (S.read_faults settings.old)) (file (S.left settings.new) (S.read_faults settings.new))
         (C.moments clock) (C.moments result.clock)
-        (desk_state (P.left old.port) (P.given_back old.port) (P.faults old.port) (B.faults old.blobs))
-        (desk_state (P.left new.port) (P.given_back new.port) (P.faults new.port) (B.faults new.blobs))
+        (desk_state (P.left old.port) (P.given_back old.port) (P.faults old.port) (store (B.shelf old.blobs) (B.faults old.blobs)))
+        (desk_state (P.left new.port) (P.given_back new.port) (P.faults new.port) (store (B.shelf new.blobs) (B.faults new.blobs)))
         (output (O.taken out.old) (O.write_faults out.old)) (output (O.taken out.new) (O.write_faults out.new)) result.status)
         desks.items result.desks.items }
 {

@@ -1,5 +1,6 @@
 //! Bodies taken into a store, and files sent from it.
 ghost use Rattle.std.specs.Prelude.{◌≡◌, ◌≤◌, ℕ, length as list_length, List, Option};
+ghost use Rattle.outside.specs.Blobs.{Shelf};
 ghost use Rattle.outside.specs.Told.{in_front, IsWhereTold};
 ghost use Rattle.repo_course.specs.Acts.{shown_stored};
 ghost use Rattle.repo_course.specs.Serving.{AllTell, Outside, outside, Reads, Sends, Takes};
@@ -16,8 +17,8 @@ use texts::Bytes;
 /// Stores a body under a draft, with its digests. The body was read from a stream that tells `rest` behind it.
 fn store_body<B: Blobs>(blobs: &mut B, draft: u64, body: &[u8]) -> Result<Parcel<B::Held>, Took>
     ensures { (o : Outside) → Takes (AllTell B.Held.bytes) draft (list_length body.now) (shown_stored result)
-        (record o { input = in_front body.now o.input; blob_faults = B.faults blobs.old })
-        (record o { blob_faults = B.faults blobs.new }) }
+        (record o { input = in_front body.now o.input; blob_faults = B.faults blobs.old; shelf = B.shelf blobs.old })
+        (record o { blob_faults = B.faults blobs.new; shelf = B.shelf blobs.new }) }
 {
     let mut hashes = Hashes::new();
     hashes.update(body);
@@ -47,8 +48,8 @@ pub fn take_body<B: Blobs, S: Source>(
     source: &mut S,
 ) -> Result<Parcel<B::Held>, Took>
     ensures takes { Takes (AllTell B.Held.bytes) draft length (shown_stored result)
-        (outside ⟦<S as Tells>⟧ wire.old source.old (B.faults blobs.old))
-        (outside ⟦<S as Tells>⟧ wire.new source.new (B.faults blobs.new)) }
+        (outside ⟦<S as Tells>⟧ wire.old source.old (B.faults blobs.old) (B.shelf blobs.old))
+        (outside ⟦<S as Tells>⟧ wire.new source.new (B.faults blobs.new) (B.shelf blobs.new)) }
     ensures unasked { length ≤ list_length wire.old → source.new ≡ source.old }
 {
     match wire.body(alloc, source, length) {
@@ -69,8 +70,8 @@ pub fn read_body<S: Source>(
     wire: &mut Wire,
     source: &mut S,
 ) -> Result<Bytes, Took>
-    ensures reads { (blobs : ℕ) → Reads length result
-        (outside ⟦<S as Tells>⟧ wire.old source.old blobs) (outside ⟦<S as Tells>⟧ wire.new source.new blobs) }
+    ensures reads { (blobs : ℕ) (shelf : Shelf) → Reads length result
+        (outside ⟦<S as Tells>⟧ wire.old source.old blobs shelf) (outside ⟦<S as Tells>⟧ wire.new source.new blobs shelf) }
     ensures unasked { length ≤ list_length wire.old → source.new ≡ source.old }
 {
     match wire.body(alloc, source, length) {
@@ -83,8 +84,8 @@ pub fn read_body<S: Source>(
 
 /// Writes the head of a file's answer and the file's bytes.
 fn write_file<O: Sink>(head: &[u8], bytes: &[u8], sink: &mut O) -> Sent
-    ensures { (blob : Blob) (held : List ℕ) (blobs : ℕ) → IsWhereTold blob.bytes bytes.now → Sends blob head.now result
-        (outside ⟦<O as Tells>⟧ held sink.old blobs) (outside ⟦<O as Tells>⟧ held sink.new blobs) }
+    ensures { (blob : Blob) (held : List ℕ) (blobs : ℕ) (shelf : Shelf) → IsWhereTold blob.bytes bytes.now → Sends blob head.now result
+        (outside ⟦<O as Tells>⟧ held sink.old blobs shelf) (outside ⟦<O as Tells>⟧ held sink.new blobs shelf) }
 {
     match write_all(sink, head) {
         Ok(()) => match write_all(sink, bytes) {
@@ -106,7 +107,7 @@ pub fn send_file<B: Blobs, O: Sink>(
     sink: &mut O,
 ) -> Sent
     ensures { (held : List ℕ) → Sends (shown_parcel parcel.now) head.now result
-        (outside ⟦<O as Tells>⟧ held sink.old (B.faults blobs.old)) (outside ⟦<O as Tells>⟧ held sink.new (B.faults blobs.new)) }
+        (outside ⟦<O as Tells>⟧ held sink.old (B.faults blobs.old) (B.shelf blobs.old)) (outside ⟦<O as Tells>⟧ held sink.new (B.faults blobs.new) (B.shelf blobs.new)) }
 {
     match blobs.read(&parcel.held) {
         Ok(bytes) => write_file(head, bytes.as_slice(), sink),

@@ -1,6 +1,7 @@
 //! Answers written.
 ghost use Rattle.std.specs.Prelude.{◌≡◌, ℕ, List, true};
 ghost use Rattle.http_wire.specs.Answer.{shown};
+ghost use Rattle.outside.specs.Blobs.{Shelf};
 ghost use Rattle.repo_course.specs.Answers.{answer_of, file_answer, memory_answer};
 ghost use Rattle.repo_course.specs.Course.{end_of};
 ghost use Rattle.repo_course.specs.Serving.{Continues, outside, Says, SendsAnswer, SendsHead};
@@ -15,8 +16,8 @@ use std::alloc::Global;
 
 /// Writes bytes. It says how the stream ends then: as `next` says, or by a fault of the sink, which took a part.
 fn write<O: Sink>(bytes: &[u8], next: Option<End>, sink: &mut O) -> Option<End>
-    ensures { (held : List ℕ) (blobs : ℕ) → IsWritten bytes.now next
-        (outside ⟦<O as Tells>⟧ held sink.old blobs) (outside ⟦<O as Tells>⟧ held sink.new blobs) result }
+    ensures { (held : List ℕ) (blobs : ℕ) (shelf : Shelf) → IsWritten bytes.now next
+        (outside ⟦<O as Tells>⟧ held sink.old blobs shelf) (outside ⟦<O as Tells>⟧ held sink.new blobs shelf) result }
 {
     match write_all(sink, bytes) {
         Ok(()) => next,
@@ -38,8 +39,8 @@ fn memory_bytes(head_only: bool) -> &'static [u8]
 /// Writes the answer that says so, or that memory was wanted in its place. It says how the stream ends then, as the answer's
 /// manner says where it was written.
 pub fn say<O: Sink>(alloc: Global, said: Said, manner: Manner, sink: &mut O) -> Option<End>
-    ensures { (held : List ℕ) (blobs : ℕ) → Says (answer_of said manner) (memory_answer manner.head_only) (end_of manner)
-        (outside ⟦<O as Tells>⟧ held sink.old blobs) (outside ⟦<O as Tells>⟧ held sink.new blobs) result }
+    ensures { (held : List ℕ) (blobs : ℕ) (shelf : Shelf) → Says (answer_of said manner) (memory_answer manner.head_only) (end_of manner)
+        (outside ⟦<O as Tells>⟧ held sink.old blobs shelf) (outside ⟦<O as Tells>⟧ held sink.new blobs shelf) result }
 {
     match rendered(alloc, said, manner) {
         Ok(bytes) => write(bytes.as_slice(), manner.end(), sink),
@@ -49,8 +50,8 @@ pub fn say<O: Sink>(alloc: Global, said: Said, manner: Manner, sink: &mut O) -> 
 
 /// Writes `100 Continue` (RFC 9110, section 15.2.1). It takes no memory.
 pub fn invite<O: Sink>(sink: &mut O) -> Continued
-    ensures { (held : List ℕ) (blobs : ℕ) → Continues result
-        (outside ⟦<O as Tells>⟧ held sink.old blobs) (outside ⟦<O as Tells>⟧ held sink.new blobs) }
+    ensures { (held : List ℕ) (blobs : ℕ) (shelf : Shelf) → Continues result
+        (outside ⟦<O as Tells>⟧ held sink.old blobs shelf) (outside ⟦<O as Tells>⟧ held sink.new blobs shelf) }
 {
     match write_all(sink, continue_answer()) {
         Ok(()) => Continued::Written,
@@ -60,8 +61,8 @@ pub fn invite<O: Sink>(sink: &mut O) -> Continued
 
 /// Writes the head of a file's answer alone.
 fn send_head<O: Sink>(head: &[u8], sink: &mut O) -> Sent
-    ensures { (held : List ℕ) (blobs : ℕ) → SendsHead head.now result
-        (outside ⟦<O as Tells>⟧ held sink.old blobs) (outside ⟦<O as Tells>⟧ held sink.new blobs) }
+    ensures { (held : List ℕ) (blobs : ℕ) (shelf : Shelf) → SendsHead head.now result
+        (outside ⟦<O as Tells>⟧ held sink.old blobs shelf) (outside ⟦<O as Tells>⟧ held sink.new blobs shelf) }
 {
     match write_all(sink, head) {
         Ok(()) => Sent::Whole,
@@ -78,7 +79,7 @@ pub fn send<B: Blobs, O: Sink>(
     sink: &mut O,
 ) -> Sent
     ensures sends { (held : List ℕ) → SendsAnswer manner.head_only (shown_parcel parcel.now) (shown (file_answer (shown_parcel parcel.now) manner)) result
-        (outside ⟦<O as Tells>⟧ held sink.old (B.faults blobs.old)) (outside ⟦<O as Tells>⟧ held sink.new (B.faults blobs.new)) }
+        (outside ⟦<O as Tells>⟧ held sink.old (B.faults blobs.old) (B.shelf blobs.old)) (outside ⟦<O as Tells>⟧ held sink.new (B.faults blobs.new) (B.shelf blobs.new)) }
     ensures unread { manner.head_only ≡ true → blobs.new ≡ blobs.old }
 {
     match file_head(alloc, parcel, manner) {

@@ -32,8 +32,8 @@ fn serve_turn<B: Blobs, A: Ask<Call = Command<B::Held>, Given = Reply<B::Held>>,
     requires settings { A.settings asker.old ≡ settings.now }
     ensures turn { (entries : List Entry) × LeadsTo A.asks asker.old entries asker.new
         × Turn settings.now (AllTell B.Held.bytes) last entries
-        (outside ⟦<T as Tells>⟧ wire.old stream.old (B.faults blobs.old))
-        (outside ⟦<T as Tells>⟧ wire.new stream.new (B.faults blobs.new)) result }
+        (outside ⟦<T as Tells>⟧ wire.old stream.old (B.faults blobs.old) (B.shelf blobs.old))
+        (outside ⟦<T as Tells>⟧ wire.new stream.new (B.faults blobs.new) (B.shelf blobs.new)) result }
     ensures ready { A.ready asker.new }
     ensures settings { A.settings asker.new ≡ A.settings asker.old }
 {
@@ -56,8 +56,8 @@ fn serve_turns<B: Blobs, A: Ask<Call = Command<B::Held>, Given = Reply<B::Held>>
     requires settings { A.settings asker.old ≡ settings.now }
     ensures serves { (held : List ℕ) × (entries : List Entry) × LeadsTo A.asks asker.old entries asker.new
         × Serves settings.now (AllTell B.Held.bytes) TURNS entries
-        (outside ⟦<T as Tells>⟧ [] stream.old (B.faults blobs.old))
-        (outside ⟦<T as Tells>⟧ held stream.new (B.faults blobs.new)) result }
+        (outside ⟦<T as Tells>⟧ [] stream.old (B.faults blobs.old) (B.shelf blobs.old))
+        (outside ⟦<T as Tells>⟧ held stream.new (B.faults blobs.new) (B.shelf blobs.new)) result }
     ensures ready { A.ready asker.new }
     ensures settings { A.settings asker.new ≡ A.settings asker.old }
 {
@@ -99,8 +99,8 @@ pub fn serve_stream<B: Blobs, A: Ask<Call = Command<B::Held>, Given = Reply<B::H
     ensures serves { (held : List ℕ) × (entries : List Entry) × LeadsTo A.asks asker.old entries asker.new
         × IsWoven (A.settings asker.old) (A.state asker.old) entries (A.state asker.new)
         × Serves settings.now (AllTell B.Held.bytes) TURNS entries
-        (outside ⟦<T as Tells>⟧ [] stream.old (B.faults blobs.old))
-        (outside ⟦<T as Tells>⟧ held stream.new (B.faults blobs.new)) result }
+        (outside ⟦<T as Tells>⟧ [] stream.old (B.faults blobs.old) (B.shelf blobs.old))
+        (outside ⟦<T as Tells>⟧ held stream.new (B.faults blobs.new) (B.shelf blobs.new)) result }
     ensures ready { A.ready asker.new }
     ensures settings { A.settings asker.new ≡ A.settings asker.old }
 {

@@ -43,6 +43,14 @@ fn side_name(side: Side) -> &'static str {
 fn intent_words(alloc: Global, intent: &Intent) -> Result<String, AllocError> {
     match intent {
         Intent::Status => String::from_str(alloc, "Status"),
+        Intent::Clean(repos) => {
+            let mut words = String::from_str(alloc, "Clean")?;
+            for repo in repos.as_slice() {
+                words.push_str(" ")?;
+                words.push_str(repo.as_str())?;
+            }
+            Ok(words)
+        }
         Intent::Read { repo, path } => {
             let (repo, path) = (repo.as_str(), path.as_str());
             format!(in alloc; "Read {repo} {path}")
@@ -77,6 +85,7 @@ fn refusal_words(alloc: Global, refusal: Refusal) -> Result<String, AllocError> 
         Refusal::NoRepository => String::from_str(alloc, "NoRepository"),
         Refusal::Method(Allow::Read) => String::from_str(alloc, "Method GET, HEAD"),
         Refusal::Method(Allow::ReadAndPut) => String::from_str(alloc, "Method GET, HEAD, PUT"),
+        Refusal::Method(Allow::Post) => String::from_str(alloc, "Method POST"),
         Refusal::UnexpectedBody => String::from_str(alloc, "UnexpectedBody"),
         Refusal::BadPath(fault) => {
             let name = fault.name();

@@ -73,7 +73,12 @@ const ROUTES: &str = "
     GET /api/statu HTTP/1.1;Host: a => NoRoute
     GET //api/status HTTP/1.1;Host: a => NoRoute
     GET /api%2Fstatus HTTP/1.1;Host: a => NoRoute
-    POST /api/clean HTTP/1.1;Host: a => NoRoute
+    POST /api/clean/ HTTP/1.1;Host: a => NoRoute
+    POST /api/clea HTTP/1.1;Host: a => NoRoute
+    POST /api/cleans HTTP/1.1;Host: a => NoRoute
+    POST /api/Clean HTTP/1.1;Host: a => NoRoute
+    POST /api%2Fclean HTTP/1.1;Host: a => NoRoute
+    POST /api/sessions/1/commit HTTP/1.1;Host: a => NoRoute
     POST /api/repositories/releases/sessions HTTP/1.1;Host: a => NoRoute
     GET /repository HTTP/1.1;Host: a => NoRoute
     GET /repository/ HTTP/1.1;Host: a => NoRoute
@@ -111,6 +116,13 @@ const METHODS: &str = "
     POST /api/status HTTP/1.1;Host: a => Method GET, HEAD
     PUT /api/status HTTP/1.1;Host: a;Content-Length: 1 => Method GET, HEAD close
     DELETE /api/status HTTP/1.0 => Method GET, HEAD close
+    GET /api/clean HTTP/1.1;Host: a => Method POST
+    HEAD /api/clean HTTP/1.1;Host: a => Method POST head
+    PUT /api/clean HTTP/1.1;Host: a;Content-Length: 0 => Method POST
+    PUT /api/clean HTTP/1.1;Host: a;Content-Length: 1 => Method POST close
+    DELETE /api/clean HTTP/1.1;Host: a => Method POST
+    post /api/clean HTTP/1.1;Host: a => Method POST
+    POST /repository/releases/a/b/1/b-1.jar HTTP/1.1;Host: a => Method GET, HEAD, PUT
 ";
 
 #[test]
@@ -120,6 +132,8 @@ fn repositories_and_methods(rt: HostRuntime) -> Result<(), Fail> {
 
 const BODIES: &str = "
     GET /api/status HTTP/1.1;Host: a;Content-Length: 1 => UnexpectedBody close
+    POST /api/clean HTTP/1.1;Host: a;Content-Length: 1 => UnexpectedBody close
+    POST /api/clean HTTP/1.1;Host: a;Transfer-Encoding: chunked => NoLength close
     HEAD /api/status HTTP/1.1;Host: a;Content-Length: 1 => UnexpectedBody head close
     GET /repository/releases/a HTTP/1.1;Host: a;Content-Length: 1 => UnexpectedBody close
     GET /api/status HTTP/1.1;Host: a;Content-Length: 0 => Status

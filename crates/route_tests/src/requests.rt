@@ -13,6 +13,9 @@ const READS: &str = "
     HEAD /repository/releases/a/b/1/b-1.jar HTTP/1.0 => Read releases a/b/1/b-1.jar head close
     GET /api/status HTTP/1.1;Host: a => Status
     HEAD http://a/api/status HTTP/1.1;Host: a => Status head
+    POST /api/clean HTTP/1.1;Host: a => Clean releases snapshots
+    POST http://a/api/clean?all HTTP/1.1;Host: a;Content-Length: 0 => Clean releases snapshots
+    POST /api/clean HTTP/1.0 => Clean releases snapshots close
 ";
 
 #[test]

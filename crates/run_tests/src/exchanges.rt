@@ -89,6 +89,8 @@ pub struct Exchange {
     pub name: &'static str,
     pub words: &'static [&'static str],
     pub settings: &'static str,
+    /// The seconds between two moments of the clock.
+    pub step: u64,
     pub input: Parts,
     pub pieces: Pieces,
     pub script: Script,
@@ -102,6 +104,7 @@ pub const EXCHANGE: Exchange = Exchange {
     name: "nothing comes",
     words: &["replay", "settings.toml", "--at", "1709208000"],
     settings: SETTINGS,
+    step: 0,
     input: &[],
     pieces: Pieces::WholeAndBytes,
     script: PLAIN,

@@ -3,6 +3,8 @@
 #![tactic(auto)]
 
 #[cfg(test)]
+mod cleans;
+#[cfg(test)]
 mod connections;
 #[cfg(test)]
 mod continued;

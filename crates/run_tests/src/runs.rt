@@ -1,6 +1,7 @@
 // The worked exchanges, each in the pieces that it names, and those where something fails.
 ghost use Rattle.std.specs.Prelude.{◌<◌, IfOk, vec_len};
 
+use crate::cleans::cleans;
 use crate::connections::connections;
 use crate::continued::continued;
 use crate::exchanges::{Exchange, Parts, Script, ends, faults, files};
@@ -138,13 +139,14 @@ fn desks_of(
     Ok(vec![in alloc; desk_of(alloc, input, script, most)?]?)
 }
 
-/// Runs the program with the words and the settings of an exchange, its clock at 2024-02-29T12:00:00Z, on one desk whose source gives so many bytes at most.
+/// Runs the program with the words and the settings of an exchange, its clock at 2024-02-29T12:00:00Z and its step from there,
+/// on one desk whose source gives so many bytes at most.
 fn run_of(alloc: Global, exchange: &Exchange, most: usize) -> Result<Over, AllocError> {
     let words = words_of(alloc, exchange.words)?;
     let mut settings = settings_of(alloc, exchange)?;
     let mut out = MemSink::new(alloc, exchange.script.line_room, FaultScript::none(alloc))?;
     let desks = desks_of(alloc, exchange.input, exchange.script, most)?;
-    let clock = ScriptClock::stepping(alloc, 1_709_208_000, 0);
+    let clock = ScriptClock::stepping(alloc, 1_709_208_000, exchange.step);
     let ran = run(
         alloc,
         words.as_slice(),
@@ -205,6 +207,12 @@ fn paths_are_read(rt: HostRuntime) -> Result<(), Fail> {
 #[test]
 fn documents_are_computed(rt: HostRuntime) -> Result<(), Fail> {
     assert_eq!(rt; first_wrong(rt.alloc(), snapshots())?, None);
+    Ok(())
+}
+
+#[test]
+fn repositories_are_cleaned(rt: HostRuntime) -> Result<(), Fail> {
+    assert_eq!(rt; first_wrong(rt.alloc(), cleans())?, None);
     Ok(())
 }
 

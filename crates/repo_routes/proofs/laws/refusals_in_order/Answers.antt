@@ -17,6 +17,7 @@ computed = record {
   repository = refl;
   method = refl;
   body = refl;
+  clean_body = refl;
   path = refl;
   limit = refl;
 }

@@ -8,4 +8,5 @@ unfolding matchit_on_literals
 returns c =
     let one = c.in_ok-insert.ensures in
     let two = c.in_ok-insert-2.ensures in
-    rw (two.1, one.1, c.requires) (table-routes _ _ refl refl)
+    let three = c.in_ok-insert-3.ensures in
+    rw (three.1, two.1, one.1, c.requires) (table-routes _ _ _ refl refl refl)

@@ -1,9 +1,11 @@
 use Rattle.std.proofs.Common.{◌∙◌, [], ◌∷◌, ◌++◌, refl, sym, subst, List, append_assoc}
 use Rattle.repo_model.specs.History.{Entry}
+use Rattle.repo_model.specs.Settings.{Settings}
 use Rattle.repo_model.specs.Shown.{shown_command, shown_reply}
 use Rattle.repo_course.specs.Acts.{after_reply, left_of}
 use Rattle.repo_course.specs.Course.{Course}
-use Rattle.repo_course.specs.Meets.{Meets}
+use Rattle.repo_course.specs.Cleaning.{store}
+use Rattle.repo_course.specs.Meets.{MeetAll, Meets}
 use Rattle.repo_course.specs.Serving.{AllTell, Follows, outside}
 use Rattle.repo_server.proofs.Bodies.{answers_same, reads_follows, reads_meets}
 use Rattle.repo_server.proofs.Entries.{asks_follows, leads_on, leads_one}
@@ -23,8 +25,8 @@ loop-act-preserved-in-Ask g c =
     record { command = g.A.Ask.asked c.in-Ask.command; moment = t.0; reply = g.A.Ask.answered c.ask-reply.result; faults = t.1 } in
     let here : Meets s (left_of c.args.manner c.loop-act.act) = c.loop-act.invariant.meets in
     let there = subst (λ act. Meets s (left_of c.args.manner act)) c.in-Ask.is here in
-    let now = outside g.T.Tells c.loop-act.wire c.loop-act.stream (g.B.Blobs.faults c.loop-act.blobs) in
-    let old = outside g.T.Tells c.args.wire.now c.args.stream.now (g.B.Blobs.faults c.args.blobs.now) in
+    let now = outside g.T.Tells c.loop-act.wire c.loop-act.stream (g.B.Blobs.faults c.loop-act.blobs) (g.B.Blobs.shelf c.loop-act.blobs) in
+    let old = outside g.T.Tells c.args.wire.now c.args.stream.now (g.B.Blobs.faults c.args.blobs.now) (g.B.Blobs.shelf c.args.blobs.now) in
     let tells = AllTell g.B.Held.Held.bytes in
     record {
       settings = c.ask-reply.ensures.settings ∙ c.loop-act.invariant.settings;
@@ -51,8 +53,9 @@ loop-act-preserved-in-Read g c =
     let here : Meets s (left_of c.args.manner c.loop-act.act) = c.loop-act.invariant.meets in
     let there = subst (λ act. Meets s (left_of c.args.manner act)) c.in-Read.is here in
     let blobs = g.B.Blobs.faults c.loop-act.blobs in
-    let now = outside g.T.Tells c.loop-act.wire c.loop-act.stream blobs in
-    let then = outside g.T.Tells c.read_body-read.new.wire c.read_body-read.new.source blobs in
+    let shelf = g.B.Blobs.shelf c.loop-act.blobs in
+    let now = outside g.T.Tells c.loop-act.wire c.loop-act.stream blobs shelf in
+    let then = outside g.T.Tells c.read_body-read.new.wire c.read_body-read.new.source blobs shelf in
     let left = left_of c.args.manner c.after_read-act.result in
     record {
       settings = c.loop-act.invariant.settings;
@@ -65,7 +68,42 @@ loop-act-preserved-in-Read g c =
             made.2 later final ending
             (subst (λ act. Follows tells (left_of c.args.manner act) later now final ending) (sym c.in-Read.is)
             (reads_follows c.in-Read.body c.args.manner tells c.read_body-read.result left later now then final ending
-            (c.read_body-read.ensures.reads blobs) c.after_read-act.ensures.left follows)),
+            (c.read_body-read.ensures.reads blobs shelf) c.after_read-act.ensures.left follows)),
+      );
+    }
+
+pub clean-pass-requires-clause-meets : goal.clean-pass-requires-clause-meets
+clean-pass-requires-clause-meets g c =
+    let s = g.A.Ask.settings c.args.asker.now in
+    let here : Meets s (left_of c.args.manner c.loop-act.act) = c.loop-act.invariant.meets in
+    let there = subst (λ act. Meets s (left_of c.args.manner act)) c.in-Clean.is here in
+    subst (λ (t : Settings). MeetAll t c.in-Clean.repos) (sym c.loop-act.invariant.settings) there.0
+
+pub loop-act-preserved : goal.loop-act-preserved
+loop-act-preserved g c =
+    let made = c.loop-act.invariant.made in
+    let passes = c.clean-pass.ensures.passes in
+    let s = g.A.Ask.settings c.args.asker.now in
+    let tells = AllTell g.B.Held.Held.bytes in
+    let here : Meets s (left_of c.args.manner c.loop-act.act) = c.loop-act.invariant.meets in
+    let there = subst (λ act. Meets s (left_of c.args.manner act)) c.in-Clean.is here in
+    let now = outside g.T.Tells c.loop-act.wire c.loop-act.stream (g.B.Blobs.faults c.loop-act.blobs) (g.B.Blobs.shelf c.loop-act.blobs) in
+    let then = outside g.T.Tells c.loop-act.wire c.loop-act.stream (g.B.Blobs.faults c.clean-pass.new.blobs) (g.B.Blobs.shelf c.clean-pass.new.blobs) in
+    let kept = store (g.B.Blobs.shelf c.clean-pass.new.blobs) (g.B.Blobs.faults c.clean-pass.new.blobs) in
+    let old = outside g.T.Tells c.args.wire.now c.args.stream.now (g.B.Blobs.faults c.args.blobs.now) (g.B.Blobs.shelf c.args.blobs.now) in
+    record {
+      settings = c.clean-pass.ensures.settings ∙ c.loop-act.invariant.settings;
+      ready = c.clean-pass.ensures.ready;
+      meets = subst (λ (course : Course). Meets s course) (sym c.after_clean-act.ensures.left) (there.1 c.clean-pass.result);
+      made = (
+        made.0 ++ passes.0,
+        leads_on g.A.Ask.asks made.0 passes.0 c.args.asker.now c.loop-act.asker c.clean-pass.new.asker made.1 passes.1,
+        λ later final ending follows.
+            subst (λ (es : List Entry). Follows tells (left_of c.args.manner c.args.first) es old final ending) (sym (append_assoc made.0 passes.0 later))
+            (made.2 (passes.0 ++ later) final ending
+            (subst (λ act. Follows tells (left_of c.args.manner act) (passes.0 ++ later) now final ending) (sym c.in-Clean.is)
+            (passes.0, later, c.clean-pass.result, kept, refl, passes.2,
+            subst (λ (course : Course). Follows tells course later then final ending) c.after_clean-act.ensures.left follows))),
       );
     }
 
@@ -74,7 +112,7 @@ returns-in-Say-clause-follows g c =
     let made = c.loop-act.invariant.made in (
       made.0 ++ [],
       leads_on g.A.Ask.asks made.0 [] _ c.loop-act.asker _ made.1 refl,
-      made.2 [] _ _ (rw c.in-Say.is (refl, c.say.ensures c.loop-act.wire (g.B.Blobs.faults c.loop-act.blobs))),
+      made.2 [] _ _ (rw c.in-Say.is (refl, c.say.ensures c.loop-act.wire (g.B.Blobs.faults c.loop-act.blobs) (g.B.Blobs.shelf c.loop-act.blobs))),
     )
 
 pub returns-in-Stop-clause-follows : goal.returns-in-Stop-clause-follows

@@ -8,7 +8,7 @@ use Rattle.repo_server.proofs.Fronts.{front_of_head, front_of_bytes}
 use Rattle.repo_server.proofs.files.write_file.Goals as goal
 
 pub returns-in-Err-write_all : goal.returns-in-Err-write_all
-returns-in-Err-write_all g c blob held blobs told =
+returns-in-Err-write_all g c blob held blobs shelf told =
     let head = c.in-Ok.ensures in
     let file = c.in-Err-write_all.ensures in
     let part = take file.part.0 c.args.bytes.now in
@@ -26,11 +26,12 @@ returns-in-Err-write_all g c blob held blobs told =
         read_faults = (file.read_faults ∙ head.read_faults) i;
         write_faults = faults;
         blob_faults = blobs;
+        shelf = shelf;
       },
     )
 
 pub returns-in-Err : goal.returns-in-Err
-returns-in-Err g c blob held blobs told =
+returns-in-Err g c blob held blobs shelf told =
     let e = c.in-Err.ensures in
     let faults = g.O.Tells.write_faults c.write_all.new.sink in (
       faults,
@@ -45,5 +46,6 @@ returns-in-Err g c blob held blobs told =
         read_faults = e.read_faults i;
         write_faults = faults;
         blob_faults = blobs;
+        shelf = shelf;
       },
     )

@@ -1,0 +1,213 @@
+// Cleanings: what a repository does not keep is unlisted, and goes once the grace period is over.
+use crate::exchanges::{EXCHANGE, Exchange, PLAIN, Script};
+use crate::literals::{ABC, CREATED, METHOD_AT_HOSTED, METHOD_AT_STATUS, NO_ROUTE, NOT_THERE, PUT_JAR_1};
+
+const PUT_JAR_2: &str =
+    "PUT /repository/snapshots/org/acme/lib/1.1-SNAPSHOT/lib-1.1-20240301.080000-2.jar HTTP/1.1\r\nHost: x\r\nContent-Length: 3\r\n\r\nabc";
+
+const GET_JAR_1: &str =
+    "GET /repository/snapshots/org/acme/lib/1.1-SNAPSHOT/lib-1.1-20240229.235959-1.jar HTTP/1.1\r\nHost: x\r\n\r\n";
+
+const GET_JAR_2: &str =
+    "GET /repository/snapshots/org/acme/lib/1.1-SNAPSHOT/lib-1.1-20240301.080000-2.jar HTTP/1.1\r\nHost: x\r\n\r\n";
+
+const GET_STATUS: &str = "GET /api/status HTTP/1.1\r\nHost: x\r\n\r\n";
+
+const CLEAN: &str = "POST /api/clean HTTP/1.1\r\nHost: x\r\n\r\n";
+
+const UNLISTED_AND_REMOVED: &str =
+    "HTTP/1.1 200 OK\r\nContent-Type: text/plain\r\nContent-Length: 21\r\n\r\nunlisted 1\nremoved 1\n";
+
+const UNLISTED: &str =
+    "HTTP/1.1 200 OK\r\nContent-Type: text/plain\r\nContent-Length: 21\r\n\r\nunlisted 1\nremoved 0\n";
+
+const REMOVED: &str =
+    "HTTP/1.1 200 OK\r\nContent-Type: text/plain\r\nContent-Length: 21\r\n\r\nunlisted 0\nremoved 1\n";
+
+const NOTHING: &str =
+    "HTTP/1.1 200 OK\r\nContent-Type: text/plain\r\nContent-Length: 21\r\n\r\nunlisted 0\nremoved 0\n";
+
+const NOTHING_LAST: &str =
+    "HTTP/1.1 200 OK\r\nContent-Type: text/plain\r\nContent-Length: 21\r\nConnection: close\r\n\r\nunlisted 0\nremoved 0\n";
+
+const ONE_FADING: &str =
+    "HTTP/1.1 200 OK\r\nContent-Type: text/plain\r\nContent-Length: 49\r\n\r\nfiles 2\nfading 1\ncached 0\ndocuments 0\nsessions 0\n";
+
+const ONE_LEFT: &str =
+    "HTTP/1.1 200 OK\r\nContent-Type: text/plain\r\nContent-Length: 49\r\n\r\nfiles 1\nfading 0\ncached 0\ndocuments 0\nsessions 0\n";
+
+const BLOB_FAULT: &str =
+    "HTTP/1.1 503 Service Unavailable\r\nContent-Type: text/plain\r\nContent-Length: 11\r\n\r\nblob-fault\n";
+
+const METHOD_AT_CLEAN: &str =
+    "HTTP/1.1 405 Method Not Allowed\r\nContent-Type: text/plain\r\nContent-Length: 7\r\nAllow: POST\r\n\r\nmethod\n";
+
+const METHOD_AT_CLEAN_OF_HEAD: &str =
+    "HTTP/1.1 405 Method Not Allowed\r\nContent-Type: text/plain\r\nContent-Length: 7\r\nAllow: POST\r\n\r\n";
+
+const UNEXPECTED_BODY_LAST: &str =
+    "HTTP/1.1 400 Bad Request\r\nContent-Type: text/plain\r\nContent-Length: 16\r\nConnection: close\r\n\r\nunexpected-body\n";
+
+/// A clock that steps by 61 seconds, one more than the grace period.
+const BY_61: Exchange = Exchange {
+    words: &["replay", "settings.toml", "--at", "1709208000", "--step", "61"],
+    step: 61,
+    ..EXCHANGE
+};
+
+/// A clock that steps by the grace period.
+const BY_60: Exchange = Exchange {
+    words: &["replay", "settings.toml", "--at", "1709208000", "--step", "60"],
+    step: 60,
+    ..EXCHANGE
+};
+
+static CLEANS: [Exchange; 10] = [
+    Exchange {
+        name: "an old build goes once the grace period is over",
+        input: &[(1, PUT_JAR_1), (1, PUT_JAR_2), (1, CLEAN)],
+        answers: &[(2, CREATED), (1, UNLISTED_AND_REMOVED)],
+        line: "calls 7 end Closed\n",
+        ..BY_61
+    },
+    Exchange {
+        name: "an old build stays until the grace period is over",
+        input: &[(1, PUT_JAR_1), (1, PUT_JAR_2), (1, CLEAN)],
+        answers: &[(2, CREATED), (1, UNLISTED)],
+        line: "calls 7 end Closed\n",
+        ..BY_60
+    },
+    Exchange {
+        name: "a second clean finds nothing more",
+        input: &[
+            (1, PUT_JAR_1),
+            (1, PUT_JAR_2),
+            (2, CLEAN),
+            (1, GET_JAR_1),
+            (1, GET_JAR_2),
+            (1, GET_STATUS),
+        ],
+        answers: &[
+            (2, CREATED),
+            (1, UNLISTED_AND_REMOVED),
+            (1, NOTHING),
+            (1, NOT_THERE),
+            (1, ABC),
+            (1, ONE_LEFT),
+        ],
+        line: "calls 14 end Closed\n",
+        ..BY_61
+    },
+    Exchange {
+        name: "an unlisted file is answered until a later clean takes it away",
+        input: &[
+            (1, PUT_JAR_1),
+            (1, PUT_JAR_2),
+            (1, CLEAN),
+            (1, GET_JAR_1),
+            (1, GET_STATUS),
+            (1, CLEAN),
+            (1, GET_JAR_1),
+        ],
+        answers: &[
+            (2, CREATED),
+            (1, UNLISTED),
+            (1, ABC),
+            (1, ONE_FADING),
+            (1, REMOVED),
+            (1, NOT_THERE),
+        ],
+        line: "calls 14 end Closed\n",
+        ..BY_60
+    },
+    Exchange {
+        name: "a removal that fails is told, and its blob is not named again",
+        input: &[(1, PUT_JAR_1), (1, PUT_JAR_2), (2, CLEAN), (1, GET_JAR_2)],
+        script: Script {
+            blobs: Some(2),
+            ..PLAIN
+        },
+        answers: &[
+            (2, CREATED),
+            (1, BLOB_FAULT),
+            (1, NOTHING),
+            (1, ABC),
+        ],
+        line: "calls 12 end Closed\n",
+        ..BY_61
+    },
+    Exchange {
+        name: "an empty store is clean",
+        input: &[
+            (1, CLEAN),
+            (
+                1,
+                "POST http://h/api/clean?x HTTP/1.1\r\nHost: x\r\nContent-Length: 0\r\n\r\n",
+            ),
+        ],
+        answers: &[(2, NOTHING)],
+        line: "calls 6 end Closed\n",
+        ..EXCHANGE
+    },
+    Exchange {
+        name: "a clean of HTTP/1.0 ends the connection",
+        input: &[(1, "POST /api/clean HTTP/1.0\r\n\r\n"), (1, CLEAN)],
+        answers: &[(1, NOTHING_LAST)],
+        line: "calls 3 end Closed\n",
+        ..EXCHANGE
+    },
+    Exchange {
+        name: "a clean is a POST",
+        input: &[
+            (1, "GET /api/clean HTTP/1.1\r\nHost: x\r\n\r\n"),
+            (1, "HEAD /api/clean HTTP/1.1\r\nHost: x\r\n\r\n"),
+            (
+                1,
+                "PUT /api/clean HTTP/1.1\r\nHost: x\r\nContent-Length: 0\r\n\r\n",
+            ),
+            (1, "DELETE /api/clean HTTP/1.1\r\nHost: x\r\n\r\n"),
+        ],
+        answers: &[
+            (1, METHOD_AT_CLEAN),
+            (1, METHOD_AT_CLEAN_OF_HEAD),
+            (2, METHOD_AT_CLEAN),
+        ],
+        line: "calls 0 end Closed\n",
+        ..EXCHANGE
+    },
+    Exchange {
+        name: "a clean has no body",
+        input: &[
+            (
+                1,
+                "POST /api/clean HTTP/1.1\r\nHost: x\r\nContent-Length: 3\r\n\r\nabc",
+            ),
+            (1, CLEAN),
+        ],
+        answers: &[(1, UNEXPECTED_BODY_LAST)],
+        line: "calls 0 end Closed\n",
+        ..EXCHANGE
+    },
+    Exchange {
+        name: "a POST is no method of other paths",
+        input: &[
+            (1, "POST /api/status HTTP/1.1\r\nHost: x\r\n\r\n"),
+            (
+                1,
+                "POST /repository/releases/org/acme/lib/1.0/lib-1.0.jar HTTP/1.1\r\nHost: x\r\n\r\n",
+            ),
+            (1, "POST /api/clean/ HTTP/1.1\r\nHost: x\r\n\r\n"),
+            (
+                1,
+                "POST /api/sessions/1/commit HTTP/1.1\r\nHost: x\r\n\r\n",
+            ),
+        ],
+        answers: &[(1, METHOD_AT_STATUS), (1, METHOD_AT_HOSTED), (2, NO_ROUTE)],
+        line: "calls 0 end Closed\n",
+        ..EXCHANGE
+    },
+];
+
+pub fn cleans() -> &'static [Exchange] {
+    &CLEANS
+}
