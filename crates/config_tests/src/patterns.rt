@@ -129,3 +129,21 @@ fn many_runs(rt: HostRuntime) -> Result<(), Fail> {
     assert!(rt; long.texts().len() == 1 && !long.allows(path.as_str()));
     Ok(())
 }
+
+// A segment of many stars against one that it misses only at its end.
+#[test]
+fn many_stars(rt: HostRuntime) -> Result<(), Fail> {
+    let alloc = rt.alloc();
+    let mut pattern = String::new(alloc);
+    let mut path = String::new(alloc);
+    for _ in 0..127 {
+        pattern.push_str("a*")?;
+        path.push_str("aa")?;
+    }
+    pattern.push_str("b")?;
+    let patterns = list(alloc, &[pattern.as_str()])?;
+    assert!(rt; !patterns.allows(path.as_str()));
+    path.push_str("b")?;
+    assert!(rt; patterns.allows(path.as_str()));
+    Ok(())
+}
