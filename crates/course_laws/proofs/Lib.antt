@@ -15,3 +15,5 @@ pub mod OnLiterals
 pub mod PutAndGet
 pub mod Caused
 pub mod Refusals
+pub mod Succeeding
+pub mod Granted

@@ -17,11 +17,12 @@ ghost use Rattle.repo_model.specs.Reply.{no_draft};
 ghost use Rattle.repo_model.specs.Settings.{Settings};
 ghost use Rattle.repo_model.specs.State.{State, opening};
 ghost use Rattle.course_laws.specs.AsPlayed.{BeginsAt, IsAsPlayed, IsPlayedUpTo, NoFaults, RowsTold, StoodStill, WantedMemory};
-ghost use Rattle.course_laws.specs.Causes.{AnswersDue, by_text_of, due_at_first};
+ghost use Rattle.course_laws.specs.Causes.{AnswersDue, by_text_of, due_at_first, for_text};
 ghost use Rattle.course_laws.specs.Complete.{IsComplete};
 ghost use Rattle.course_laws.specs.Duties.{Keeps, at_first, is_head_only, most_asked, most_of, unread_of};
 ghost use Rattle.course_laws.specs.Endings.{EndsByCause};
 ghost use Rattle.course_laws.specs.Faultless.{first_scene, play_stream};
+ghost use Rattle.course_laws.specs.Granted.{AllGranted, ComesWhole, IsAnsweredFor, Succeeds, manner_for, owed_at_first};
 ghost use Rattle.course_laws.specs.LeftBehind.{IsDrawn, LeavesNothing};
 ghost use Rattle.course_laws.specs.Refusals.{IsRefusedBy};
 ghost use Rattle.course_laws.specs.Worked as worked;
@@ -88,6 +89,25 @@ pub fn refusals_are_answered<H: Held>()
         (head : Head) (refused : Refused) →
         Turn settings (AllTell H.bytes) last entries old new ending → old.input ≡ Some input → front input ≡ Whole head rest →
         judge settings head ≡ Err refused → (entries ≡ []) × IsRefusedBy refused last old new ending }
+{}
+
+/// Each course of a request that is not refused by its head comes to an answer of 200 or 201, or sends the file that it was
+/// lent, where each command gets what it asks for, no act fails and the body is refused by nothing that it says. It invites the
+/// body where the client waits for that, and has read it then.
+pub fn courses_succeed()
+    ensures { (request : Judged) (last : Bool) →
+        Succeeds (for_text request.intent) (manner_for request last) (course_of (Ok request) last) (owed_at_first request) }
+{}
+
+/// A request of a served stream that nothing refuses, neither its head, nor a reply to its commands, nor what its body says, and
+/// whose body came whole, gets its answer of 200 or 201, whole, where no count of the stream and the blobs rose, unless memory
+/// was wanted; then that is answered. No more of the input is used than the head and the body. The input is told.
+pub fn granted_requests_are_answered<H: Held>()
+    ensures { (settings : Settings) (last : Bool) (entries : List Entry) (old new : Outside) (ending : Option End) (input rest : List ℕ)
+        (head : Head) (request : Judged) →
+        Turn settings (AllTell H.bytes) last entries old new ending → old.input ≡ Some input → front input ≡ Whole head rest →
+        judge settings head ≡ Ok request → ComesWhole request rest → AllGranted entries → NoFaults old new →
+        IsAnsweredFor request last rest entries old new ending }
 {}
 
 /// The body that a request's course has to read is the one that its head announces, and the connection of a request that is
