@@ -21,7 +21,7 @@ ghost use Rattle.course_laws.specs.Causes.{AnswersDue, by_text_of, due_at_first,
 ghost use Rattle.course_laws.specs.Complete.{IsComplete};
 ghost use Rattle.course_laws.specs.Duties.{Keeps, at_first, is_head_only, unread_of};
 ghost use Rattle.course_laws.specs.Endings.{EndsByCause};
-ghost use Rattle.course_laws.specs.Faultless.{first_scene, play_stream};
+ghost use Rattle.course_laws.specs.Faultless.{first_scene};
 ghost use Rattle.course_laws.specs.Granted.{AllGranted, ComesWhole, IsAnsweredFor, Succeeds, manner_for, owed_at_first};
 ghost use Rattle.course_laws.specs.LeftBehind.{IsDrawn, LeavesNothing};
 ghost use Rattle.course_laws.specs.Refusals.{IsRefusedBy};
@@ -121,28 +121,27 @@ pub fn bodies_are_whole()
 
 /// Where no blob failed, and the records did not, a stream that is served alone has taken what is played from the machine's
 /// state and the input, up to some place: all of it, or up to where the source or the sink failed, by which it ended, or up
-/// to where memory was wanted. Only the answer that says so may stand behind that. The blobs tell their bytes, and so do the
-/// files that stand there, the clock, the input and the output.
+/// to where memory was wanted. Only the answer that says so may stand behind that; where neither side failed, it stands behind
+/// the whole answers of the requests before, and maybe `100 Continue`. The blobs tell their bytes, and so do the files that
+/// stand there, the clock, the input and the output.
 pub fn broken_is_a_front<H: Held>()
     ensures { (settings : Settings) → AllTell H.bytes →
         (n : ℕ) (entries : List Entry) (start : State) (old new : Outside) (ending : End) (input before : List ℕ) →
         Legal settings start entries → StoodStill start.faults (end settings start entries).faults →
         BeginsAt start input before old → StoodStill old.blob_faults new.blob_faults →
         Serves settings (AllTell H.bytes) n entries old new ending →
-        let played = play_stream settings n (record { state = start; input = input }) in
-        IsPlayedUpTo before played old new ending }
+        IsPlayedUpTo settings n (record { state = start; input = input }) before old new ending }
 {}
 
-/// Where nothing failed, such a stream has taken exactly what is played, and ended as that does; or, from where memory was
-/// wanted, the answer that says so, and it was closed.
+/// Where nothing failed, such a stream has taken exactly what is played, and ended as that does; or the whole answers of the
+/// first requests, maybe `100 Continue` of the next, and the answer that says that memory was wanted, and it was closed.
 pub fn faultless_is_played<H: Held>()
     ensures { (settings : Settings) → AllTell H.bytes →
         (n : ℕ) (entries : List Entry) (start : State) (old new : Outside) (ending : End) (input before : List ℕ) →
         Legal settings start entries → StoodStill start.faults (end settings start entries).faults →
         BeginsAt start input before old → NoFaults old new →
         Serves settings (AllTell H.bytes) n entries old new ending →
-        let played = play_stream settings n (record { state = start; input = input }) in
-        IsAsPlayed before played new.output ending }
+        IsAsPlayed settings n (record { state = start; input = input }) before new.output ending }
 {}
 
 /// Before its first turn a repository has no files, so each file that stands there is told.
@@ -159,7 +158,7 @@ pub fn first_stream_is_played<H: Held>()
         Legal settings start entries → StoodStill 0 (end settings start entries).faults →
         old.input ≡ Some input → old.output ≡ Some before → StoodStill old.blob_faults new.blob_faults →
         Serves settings (AllTell H.bytes) n entries old new ending →
-        IsPlayedUpTo before (play_stream settings n (first_scene settings (Some clock) input)) old new ending }
+        IsPlayedUpTo settings n (first_scene settings (Some clock) input) before old new ending }
 {}
 
 /// What a stream without faults has taken is a function of the machine's state, the clock's moments in it, and the input:
