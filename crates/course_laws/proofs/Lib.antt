@@ -8,6 +8,7 @@ pub mod Complete
 pub mod Counts
 pub mod Told
 pub mod Early
+pub mod Unsent
 pub mod PlayedActs
 pub mod PlayedCourse
 pub mod PlayedStream
@@ -15,3 +16,5 @@ pub mod OnLiterals
 pub mod PutAndGet
 pub mod Caused
 pub mod Refusals
+pub mod Succeeding
+pub mod Granted

@@ -7,3 +7,4 @@ pub mod AsPlayed
 pub mod Worked
 pub mod Causes
 pub mod Refusals
+pub mod Granted
