@@ -382,7 +382,7 @@ passes-played settings repos entries old new done s legal calm told (removing fi
     let same = pass-is-played settings repos entries first last count blobs parts u c s legal calm told in (
       same,
       is ∙ ap (λ m. cleaned count (Ok m)) r.0 ∙ pass-done settings repos entries first last count blobs parts u c
-      ∙ ap (λ (es : List Entry). as_pass (done_by es)) same,
+          ∙ ap (λ (es : List Entry). as_pass (done_by es)) same,
     )
 passes-played settings repos entries old new done s legal calm told (removing first last count blobs (Err fault) parts u c r is) = absurd (cc)
 
