@@ -14,7 +14,7 @@ use Rattle.repo_model.specs.Reply.{Reply}
 use Rattle.repo_model.specs.Settings.{Rule, Settings}
 use Rattle.repo_course.specs.Answers.{answer_of, file_answer, memory_answer}
 use Rattle.repo_routes.specs.Intent.{Intent, reads as reads_path, puts_file, puts_side, puts_document, counts as counts_all, cleans as cleans_all}
-use Rattle.repo_routes.specs.Judge.{IsIntent, hosted_ids, intent_of, judge, outcome_of}
+use Rattle.repo_routes.specs.Judge.{IsIntent, intent_of, judge, outcome_of}
 use Rattle.repo_routes.proofs.KeptLemmas.{intent-kept}
 use Rattle.repo_routes.specs.declared.refusal.Refusal.{Refusal}
 use Rattle.repo_course.specs.Cleaning.{Store}

@@ -1,7 +1,8 @@
 -- A course that nothing refuses is followed to its answer, whole, unless memory was wanted, if no fault came.
-use Rattle.std.proofs.Common.{◌≡◌, ◌⊎◌, inl, inr, ℕ, zero, suc, ◌<◌, Bool, true, false, List, [], ◌∷◌, ◌++◌, length, take, drop, Option, Some, None, Result, Ok, Err, arith, refl, sym, subst, ap, ◌∙◌, append-nil}
+use Rattle.std.proofs.Common.{◌≡◌, ◌≢◌, ◌⊎◌, inl, inr, ℕ, zero, suc, ◌<◌, Bool, true, false, List, [], ◌∷◌, ◌++◌, length, take, drop, Option, Some, None, Result, Ok, Err, arith, refl, sym, subst, ap, ◌∙◌, append-nil}
 use Rattle.std.specs.Prelude.{IfSome, if◌then◌else◌, unwrap_or}
 use Rattle.std.proofs.Math.Seq.{drop-append_seam, take-append_seam}
+use Rattle.outside.specs.Blobs.{Shelf, with_blob}
 use Rattle.outside.specs.Faults.{Rose}
 use Rattle.outside.specs.Told.{IsWhereTold, behind}
 use Rattle.outside.proofs.ToldLemmas.{behind-behind}
@@ -9,17 +10,21 @@ use Rattle.http_wire.specs.Answer.{continue_bytes, shown}
 use Rattle.http_wire.specs.Front.{Front, Clean, Cut, Bad, Whole, front}
 use Rattle.http_wire.specs.Head.{Head}
 use Rattle.http_wire.specs.declared.answers.Answer.{Answer}
-use Rattle.repo_model.specs.Command.{Command, done}
+use Rattle.std.specs.List.{AllByRecursion}
+use Rattle.repo_model.specs.Command.{Command, done, unlist, collect}
 use Rattle.repo_model.specs.Data.{Blob}
 use Rattle.repo_model.specs.History.{Entry}
 use Rattle.repo_model.specs.Settings.{Settings}
 use Rattle.repo_routes.specs.Framing.{is_head}
-use Rattle.repo_routes.specs.Intent.{Judged}
+use Rattle.repo_model.specs.Reply.{Reply, store_fault}
+use Rattle.repo_routes.specs.Intent.{Intent, Judged, reads as reads_path, puts_file, puts_side, puts_document, counts, cleans as cleans_all}
 use Rattle.repo_routes.specs.Judge.{judge}
 use Rattle.repo_routes.specs.declared.judging.Refused.{Refused}
 use Rattle.repo_course.specs.Answers.{answer_of, file_answer, full_answer, memory_answer}
-use Rattle.repo_course.specs.Course.{Body, Course, Stored, asks, continues, takes, reads, sends, says, stops, course_of, end_of}
+use Rattle.repo_course.specs.Course.{Body, Course, Pass, Stored, asks, continues, takes, reads, sends, cleans, says, stops, course_of, end_of}
+use Rattle.repo_course.specs.Cleaning.{Passes, Store}
 use Rattle.repo_course.specs.declared.manner.Manner.{Manner}
+use Rattle.repo_course.specs.declared.outcomes.CleanFault.TheVariants as clean_fault
 use Rattle.repo_course.specs.declared.outcomes.Continued.{Continued}
 use Rattle.repo_course.specs.declared.outcomes.Continued.TheVariants as continued
 use Rattle.repo_course.specs.declared.outcomes.End.{End}
@@ -28,14 +33,16 @@ use Rattle.repo_course.specs.declared.outcomes.Sent.{Sent}
 use Rattle.repo_course.specs.declared.outcomes.Sent.TheVariants as sent
 use Rattle.repo_course.specs.declared.outcomes.Took.TheVariants as took
 use Rattle.repo_course.specs.declared.said.Said.{Said}
-use Rattle.repo_course.specs.Serving.{Begins, Continues, Follows, IsWhole, Opens, clean, torn, failed, refused, unread_head, starved as head_starved, served, Outside, Reads, ReadsBody, Says, whole, memory, cut, SendsAnswer, Takes, Turn, writes}
+use Rattle.repo_course.specs.Serving.{Begins, Continues, Follows, IsWhole, Opens, clean, torn, failed, refused, unread_head, starved as head_starved, served, Outside, Reads, ReadsBody, Says, whole, memory, cut, SendsAnswer, Takes, Turn, store_of, with_store, writes}
 use Rattle.course_laws.specs.AsPlayed.{NoFaults, StoodStill}
-use Rattle.course_laws.specs.Causes.{due_after, for_text}
-use Rattle.course_laws.specs.Duties.{by_memory, Keeps, Stand, stand_after, stand_continued, stand_read, stand_sent, stand_stored, at_first, has_read, starving, unread_of}
-use Rattle.course_laws.specs.Granted.{AllGranted, BodyIsTaken, ComesWhole, Grants, IsAnsweredFor, IsServed, IsSuccess, answered, sent as file_sent, starved, Owed, Rests, Succeeds, answer_by, behind_body, file_after, file_by, invitation, manner_for, owed_after, owed_at_first}
-use Rattle.course_laws.proofs.Counts.{Calm, Grew, calm-first, calm-then, follows-grew, opens-grew, reads-body-grew, sends-grew, takes-grew, continues-grew}
+use Rattle.course_laws.specs.Causes.{due_after, for_pass, for_text}
+use Rattle.course_laws.specs.Faultless.{done_by}
+use Rattle.course_laws.specs.Duties.{by_memory, Keeps, Stand, stand_after, stand_continued, stand_read, stand_sent, stand_stored, at_first, has_read, most_of, starving, unread_of}
+use Rattle.course_laws.specs.Granted.{AllGranted, BodyIsTaken, ComesWhole, Grants, IsAnsweredFor, IsServed, IsSuccess, answered, sent as file_sent, starved, Owed, Rests, Cleans, Succeeds, SucceedsAt, answer_by, behind_body, body_length, due_by, file_after, file_by, invitation, is_invited, manner_for, owed_after, owed_at_first}
+use Rattle.course_laws.proofs.Counts.{Calm, Grew, calm-first, calm-then, cleans-grew, follows-grew, opens-grew, reads-body-grew, sends-grew, takes-grew, continues-grew}
 use Rattle.course_laws.proofs.Early.{SaysMemory, ends-early}
 use Rattle.course_laws.proofs.Kept.{judged-keeps}
+use Rattle.course_laws.proofs.Passes.{ArePass, IsPassCommand, as_pass, pass-kept, pass-tells, passes-ask, passes-hold, passes-rose}
 use Rattle.course_laws.proofs.PlayedActs.{front-of, risen}
 use Rattle.course_laws.proofs.Succeeding.{request-succeeds}
 
@@ -129,30 +136,30 @@ module _ (manner : Manner) where
   -- seen from before bytes that were written first
   wrote-served : (first left : List ℕ) (answer : Option Said) (lent : Option Blob) (old mid new : Outside) (end : Option End) → mid ≡ writes first old
       → IsServed manner [] left answer lent mid new end → IsServed manner first left answer lent old new end
-  wrote-served first left answer lent old mid new end mid-is (answered said is success wrote ends) =
+  wrote-served first left answer lent old mid new end mid-is (answered said kept is success wrote ends) =
       let all = shown (answer_of said manner) in
-      answered said is success
-      (wrote ∙ ap (λ (m : Outside). writes all (record m { input = Some left })) mid-is ∙ writes-writes first all (record old { input = Some left })) ends
-  wrote-served first left answer lent old mid new end mid-is (file_sent blob bytes is told wrote ends) =
+      answered said kept is success
+      (wrote ∙ ap (λ (m : Outside). writes all (record m { input = Some left; shelf = kept })) mid-is ∙ writes-writes first all (record old { input = Some left; shelf = kept })) ends
+  wrote-served first left answer lent old mid new end mid-is (file_sent blob bytes kept is told wrote ends) =
       let all = shown (file_answer blob manner) ++ (if manner.head_only then [] else bytes) in
-      file_sent blob bytes is told
-      (wrote ∙ ap (λ (m : Outside). writes all (record m { input = Some left })) mid-is ∙ writes-writes first all (record old { input = Some left })) ends
+      file_sent blob bytes kept is told
+      (wrote ∙ ap (λ (m : Outside). writes all (record m { input = Some left; shelf = kept })) mid-is ∙ writes-writes first all (record old { input = Some left; shelf = kept })) ends
   wrote-served first left answer lent old mid new end mid-is (starved part head_only which output ends) =
       let said = shown (memory_answer head_only) in
       let none : part ≡ [] = elim which [ inl e ↦ e | inr e ↦ e ] in
       starved first head_only (inr refl)
       (output ∙ ap (λ p. behind mid.output (p ++ said)) none ∙ ap (λ (m : Outside). behind m.output said) mid-is ∙ behind-behind old.output first said) ends
 
-  -- seen from before bytes that were read
-  read-served : (invited left : List ℕ) (answer : Option Said) (lent : Option Blob) (old mid new : Outside) (rest : Option (List ℕ)) (end : Option End)
-      → mid ≡ record old { input = rest } → IsServed manner invited left answer lent mid new end → IsServed manner invited left answer lent old new end
-  read-served invited left answer lent old mid new rest end mid-is (answered said is success wrote ends) =
-      answered said is success
-      (wrote ∙ ap (λ (m : Outside). writes (invited ++ shown (answer_of said manner)) (record m { input = Some left })) mid-is) ends
-  read-served invited left answer lent old mid new rest end mid-is (file_sent blob bytes is told wrote ends) =
-      file_sent blob bytes is told
-      (wrote ∙ ap (λ (m : Outside). writes (invited ++ (shown (file_answer blob manner) ++ (if manner.head_only then [] else bytes))) (record m { input = Some left })) mid-is) ends
-  read-served invited left answer lent old mid new rest end mid-is (starved part head_only which output ends) =
+  -- seen from before bytes that were read, and stored or not
+  read-served : (invited left : List ℕ) (answer : Option Said) (lent : Option Blob) (old mid new : Outside) (rest : Option (List ℕ)) (end : Option End) (shelf : Shelf)
+      → mid ≡ record old { input = rest; shelf = shelf } → IsServed manner invited left answer lent mid new end → IsServed manner invited left answer lent old new end
+  read-served invited left answer lent old mid new rest end shelf mid-is (answered said kept is success wrote ends) =
+      answered said kept is success
+      (wrote ∙ ap (λ (m : Outside). writes (invited ++ shown (answer_of said manner)) (record m { input = Some left; shelf = kept })) mid-is) ends
+  read-served invited left answer lent old mid new rest end shelf mid-is (file_sent blob bytes kept is told wrote ends) =
+      file_sent blob bytes kept is told
+      (wrote ∙ ap (λ (m : Outside). writes (invited ++ (shown (file_answer blob manner) ++ (if manner.head_only then [] else bytes))) (record m { input = Some left; shelf = kept })) mid-is) ends
+  read-served invited left answer lent old mid new rest end shelf mid-is (starved part head_only which output ends) =
       starved part head_only which (output ∙ ap (λ (m : Outside). behind m.output (part ++ shown (memory_answer head_only))) mid-is) ends
 
   -- memory was wanted, and that is answered
@@ -184,6 +191,7 @@ module _ (tells : Type 0) (manner : Manner) (by_text : List ℕ → Option Said)
   rests-so (takes number count next) r entries old new end lent f = absurd r
   rests-so (reads count next) r entries old new end lent f = absurd r
   rests-so (sends blob own next) r entries old new end lent f = absurd r
+  rests-so (cleans repos next) r entries old new end lent f = absurd r
   rests-so (says said own) r entries old new end lent f = absurd r
   rests-so (stops next) r entries old new end lent f = (f.1, f.2 ∙ r, subst (λ (es : List Entry). file_by es lent ≡ lent) (sym f.0) refl)
 
@@ -200,7 +208,7 @@ module _ (tells : Type 0) (manner : Manner) (by_text : List ℕ → Option Said)
       → Says (answer_of said manner) (memory_answer manner.head_only) (end_of manner) old new end → IsServed manner [] input o.answer o.file old new end
   says-so said o due success old new end input input-is q said-it =
       elim (whole-said (answer_of said manner) (memory_answer manner.head_only) (end_of manner) old new end q said-it) [
-        | inl w ↦ answered said due success (w.0 ∙ ap (λ (i : Option (List ℕ)). writes (shown (answer_of said manner)) (record old { input = i })) input-is) w.1
+        | inl w ↦ answered said old.shelf due success (w.0 ∙ ap (λ (i : Option (List ℕ)). writes (shown (answer_of said manner)) (record old { input = i })) input-is) w.1
         | inr w ↦ starved [] manner.head_only (inl refl) (ap (λ o. o.output) w.0) w.1
       ]
 
@@ -222,12 +230,12 @@ module _ (tells : Type 0) (manner : Manner) (by_text : List ℕ → Option Said)
   -- behind a body that was read
   body-so : (next : Course) → Serves-so next → (o : Owed) (count : ℕ) → o.unread ≡ Some count → Succeeds by_text manner next (record o { unread = None })
       → (n : ℕ) (s : Stand) → Keeps manner.head_only next n s → (entries : List Entry) → AllGranted entries → (old mid new : Outside) (end : Option End)
-      (input body : List ℕ) → old.input ≡ Some input → Quiet mid new → ReadsBody count body old mid → Follows tells next entries mid new end
-      → Served o input entries old new end
-  body-so next ih o count unread su n s k entries all old mid new end input body input-is q t f =
+      (input body : List ℕ) (shelf : Shelf) → old.input ≡ Some input → Quiet mid new → ReadsBody count body (record old { shelf = shelf }) mid
+      → Follows tells next entries mid new end → Served o input entries old new end
+  body-so next ih o count unread su n s k entries all old mid new end input body shelf input-is q t f =
       let got = front-of input body t.0 (sym input-is ∙ t.2) in
       let later = ih (record o { unread = None }) su n s k entries all mid new end got.0 (ap (λ o. o.input) t.3 ∙ got.1) tt q f in
-      let here = read-served manner (invitation o.invites) got.0 (answer_by entries o.answer) (file_by entries o.file) old mid new t.0 end t.3 later in
+      let here = read-served manner (invitation o.invites) got.0 (answer_by entries o.answer) (file_by entries o.file) old mid new t.0 end shelf t.3 later in
       let rest-is : drop count input ≡ got.0 = (λ i. drop (sym t.1 i) (got.2 i)) ∙ drop-append_seam body got.0 in
       let left-is : behind_body o.unread input ≡ got.0 = ap (λ (u : Option ℕ). behind_body u input) unread ∙ rest-is in
       subst (λ left. IsServed manner (invitation o.invites) left (answer_by entries o.answer) (file_by entries o.file) old new end) (sym left-is) here
@@ -245,7 +253,7 @@ module _ (tells : Type 0) (manner : Manner) (by_text : List ℕ → Option Said)
       → BodyIsTaken by_text o.unread input → Quiet old mid → Quiet mid new → Takes tells number count stored old mid → Follows tells (next stored) entries mid new end
       → Served o input entries old new end
   takes-so number count next ih (Ok blob) o su n s k entries all old mid new end input input-is taken q more t f =
-      body-so (next (Ok blob)) (ih (Ok blob)) o count su.1 (su.2 blob) n (stand_stored (Ok blob) s) (k.3 (Ok blob)) entries all old mid new end input t.0 input-is more t.1 f
+      body-so (next (Ok blob)) (ih (Ok blob)) o count su.1 (su.2 blob) n (stand_stored (Ok blob) s) (k.3 (Ok blob)) entries all old mid new end input t.0 (with_blob number t.0 old.shelf) input-is more t.1 f
   takes-so number count next ih (Err took.Torn) o su n s k entries all old mid new end input input-is taken q more t f =
       body-is-there by_text o.unread count input old su.1 input-is taken t.0
   takes-so number count next ih (Err took.SourceFault) o su n s k entries all old mid new end input input-is taken q more t f =
@@ -265,7 +273,7 @@ module _ (tells : Type 0) (manner : Manner) (by_text : List ℕ → Option Said)
       let says = (subst (λ u. BodyIsTaken by_text u input) su.1 taken).1 in
       let bytes-are : take count input ≡ bytes = (λ i. take (sym t.1 i) (got.2 i)) ∙ take-append_seam bytes got.0 in
       body-so (next (Ok bytes)) (ih (Ok bytes)) o count su.1 (su.2 bytes (subst (λ b. by_text b ≡ None) bytes-are says)) n (stand_read (Ok bytes) s) (k.2 (Ok bytes))
-      entries all old mid new end input bytes input-is more t f
+      entries all old mid new end input bytes old.shelf input-is more t f
   reads-so count next ih (Err took.Torn) o su n s k entries all old mid new end input input-is taken q more t f =
       body-is-there by_text o.unread count input old su.1 input-is taken t.0
   reads-so count next ih (Err took.SourceFault) o su n s k entries all old mid new end input input-is taken q more t f =
@@ -284,7 +292,7 @@ module _ (tells : Type 0) (manner : Manner) (by_text : List ℕ → Option Said)
       let wrote = sent-whole manner.head_only blob (shown (file_answer blob manner)) old mid t in
       let rest = rests-so (next sent.Whole) r entries mid new end o.file f in
       ready-served o input (answer_by entries o.answer) (file_by entries o.file) old new end invites unread
-      (file_sent blob wrote.0 (rest.2 ∙ lent) wrote.1
+      (file_sent blob wrote.0 old.shelf (rest.2 ∙ lent) wrote.1
       (rest.0 ∙ wrote.2 ∙ ap (λ (i : Option (List ℕ)). writes (shown (file_answer blob manner) ++ (if manner.head_only then [] else wrote.0)) (record old { input = i })) input-is) rest.1)
   sends-so blob next sent.BlobFault o lent r n s k invites unread entries old mid new end input input-is q more t f =
       sent-blob-fault manner.head_only blob (shown (file_answer blob manner)) old mid t q
@@ -322,12 +330,89 @@ module _ (tells : Type 0) (manner : Manner) (by_text : List ℕ → Option Said)
       sends-so blob next f.0 o su.1 su.3 n s (subst (λ (m : Manner). (result : Sent) → Keeps manner.head_only (next result) n (stand_sent m result s)) su.2 k.5) su.0.0 su.0.1
       entries old f.1 new end input input-is (quiet-first old f.1 new rest q) (quiet-then old f.1 new first rest q)
       (subst (λ (m : Manner). SendsAnswer m.head_only blob (shown (file_answer blob m)) f.0 old f.1) su.2 f.2) f.3
+  follows-so (cleans repos next) o su n s k entries all old new end input input-is taken q f = absurd su
   follows-so (says said own) o su n s k entries all old new end input input-is taken q f =
       subst (λ (es : List Entry). Served o input es old new end) (sym f.0)
       (ready-served o input o.answer o.file old new end su.0.0 su.0.1
       (says-so said o su.1 su.2 old new end input input-is q
       (subst (λ (m : Manner). Says (answer_of said m) (memory_answer m.head_only) (end_of m) old new end) su.3 f.1)))
   follows-so (stops next) o su n s k entries all old new end input input-is taken q f = absurd su
+
+-- no reply to a command of a pass that was granted is that the records failed
+granted-holds : (command : Command) (reply : Reply) → IsPassCommand command → Grants command reply → reply ≢ store_fault
+granted-holds (unlist repo) reply asked granted is = subst (λ r. Grants (unlist repo) r) is granted
+granted-holds collect reply asked granted is = subst (λ r. Grants collect r) is granted
+granted-holds _ reply asked granted is = absurd asked
+
+all-hold : (mine later : List Entry) → ArePass mine → AllGranted (mine ++ later) → AllByRecursion (λ (e : Entry). e.reply ≢ store_fault) mine
+all-hold [] later asked all = tt
+all-hold (e ∷ mine) later asked all = (granted-holds e.command e.reply asked.0 all.0, all-hold mine later asked.1 all.1)
+
+module _ (settings : Settings) (tells : Type 0) (manner : Manner) where
+  -- a pass that is followed so is answered
+  pass-so : (repos asked : List (List ℕ)) (next : Pass → Course) → Cleans repos manner (cleans asked next) → (pass : Pass) (n : ℕ) (s : Stand)
+      → Keeps manner.head_only (cleans asked next) n s → (mine later : List Entry) (kept : Store) → AllGranted (mine ++ later)
+      → (old new : Outside) (end : Option End) (input : List ℕ) → old.input ≡ Some input → Quiet old (with_store kept old)
+      → Quiet (with_store kept old) new → Passes asked mine (store_of old) kept pass → Follows tells (next pass) later (with_store kept old) new end
+      → IsServed manner [] input (for_pass (Ok (done_by (mine ++ later)))) (file_by (mine ++ later) None) old new end
+  pass-so repos asked next su (Ok did) n s k mine later kept all old new end input input-is q more t f =
+      let mid = with_store kept old in
+      let answer = su.1 did in
+      let ends = subst (λ (c : Course). Follows tells c later mid new end) answer.3 f in
+      let mine-are : mine ++ later ≡ mine = ap (λ (es : List Entry). mine ++ es) ends.0 ∙ append-nil mine in
+      let due : for_pass (Ok (done_by (mine ++ later))) ≡ Some answer.0 =
+      ap (λ (es : List Entry). for_pass (as_pass (done_by es))) mine-are
+      ∙ ap for_pass (sym (pass-tells settings asked mine (store_of old) kept did t)) ∙ answer.1 in
+      let still = pass-kept asked mine (store_of old) kept did t in
+      elim (whole-said (answer_of answer.0 manner) (memory_answer manner.head_only) (end_of manner) mid new end more ends.1) [
+        | inl w ↦ answered answer.0 kept.shelf due answer.2
+            (w.0 ∙ (λ i. writes (shown (answer_of answer.0 manner)) (record old { input = input-is i; shelf = kept.shelf; blob_faults = still i }))) w.1
+        | inr w ↦ starved [] manner.head_only (inl refl) (ap (λ o. o.output) w.0) w.1
+      ]
+  pass-so repos asked next su (Err clean_fault.NoMemory) n s k mine later kept all old new end input input-is q more t f =
+      starved-so manner manner.head_only [] input (for_pass (Ok (done_by (mine ++ later)))) (file_by (mine ++ later) None) old (with_store kept old) new end refl more
+      (ends-early tells manner.head_only (next (Err clean_fault.NoMemory)) 0 (starving s) by_memory (k.3 (Err clean_fault.NoMemory)) refl later (with_store kept old) new end f)
+  pass-so repos asked next su (Err clean_fault.BlobFault) n s k mine later kept all old new end input input-is q more t f =
+      no-blob-fault old (with_store kept old) kept.faults (passes-rose asked mine (store_of old) kept t) refl q
+  pass-so repos asked next su (Err clean_fault.StoreFault) n s k mine later kept all old new end input input-is q more t f =
+      absurd (passes-hold asked mine (store_of old) kept _ t (all-hold mine later (passes-ask asked mine (store_of old) kept _ t) all) refl)
+
+  pass-served : (repos : List (List ℕ)) (c : Course) → Cleans repos manner c → (n : ℕ) (s : Stand) → Keeps manner.head_only c n s → (entries : List Entry)
+      → AllGranted entries → (old new : Outside) (end : Option End) (input : List ℕ) → old.input ≡ Some input → Quiet old new
+      → Follows tells c entries old new end → IsServed manner [] input (for_pass (Ok (done_by entries))) (file_by entries None) old new end
+  pass-served repos (cleans asked next) su n s k entries all old new end input input-is q f =
+      let mid = with_store f.3 old in
+      let first = cleans-grew asked f.0 old f.3 f.2 f.5 in
+      let rest = follows-grew tells (next f.2) f.1 mid new end f.6 in
+      subst (λ (es : List Entry). IsServed manner [] input (for_pass (Ok (done_by es))) (file_by es None) old new end) (sym f.4)
+      (pass-so repos asked next su f.2 n s k f.0 f.1 f.3 (subst AllGranted f.4 all) old new end input input-is
+      (quiet-first old mid new rest q) (quiet-then old mid new first rest q) f.5 f.6)
+  pass-served repos (asks command next) su n s k entries all old new end input input-is q f = absurd su
+  pass-served repos (continues next) su n s k entries all old new end input input-is q f = absurd su
+  pass-served repos (takes number count next) su n s k entries all old new end input input-is q f = absurd su
+  pass-served repos (reads count next) su n s k entries all old new end input input-is q f = absurd su
+  pass-served repos (sends blob own next) su n s k entries all old new end input input-is q f = absurd su
+  pass-served repos (says said own) su n s k entries all old new end input input-is q f = absurd su
+  pass-served repos (stops next) su n s k entries all old new end input input-is q f = absurd su
+
+  -- by what is asked for
+  intent-served : (expects : Bool) (intent : Intent) (c : Course)
+      → SucceedsAt intent manner c (record { invites = is_invited intent expects; unread = body_length intent; answer = None; file = None })
+      → (n : ℕ) (s : Stand) → Keeps manner.head_only c n s → (entries : List Entry) → AllGranted entries → (old new : Outside) (end : Option End)
+      (input : List ℕ) → old.input ≡ Some input → BodyIsTaken (for_text intent) (body_length intent) input → Quiet old new → Follows tells c entries old new end
+      → IsServed manner (invitation (is_invited intent expects)) (behind_body (body_length intent) input) (due_by intent entries) (file_by entries None) old new end
+  intent-served expects (reads_path repo path) c su n s k entries all old new end input input-is taken q f =
+      follows-so tells manner (for_text (reads_path repo path)) c _ su n s k entries all old new end input input-is taken q f
+  intent-served expects (puts_file repo path count) c su n s k entries all old new end input input-is taken q f =
+      follows-so tells manner (for_text (puts_file repo path count)) c _ su n s k entries all old new end input input-is taken q f
+  intent-served expects (puts_side repo path side count) c su n s k entries all old new end input input-is taken q f =
+      follows-so tells manner (for_text (puts_side repo path side count)) c _ su n s k entries all old new end input input-is taken q f
+  intent-served expects (puts_document repo path count) c su n s k entries all old new end input input-is taken q f =
+      follows-so tells manner (for_text (puts_document repo path count)) c _ su n s k entries all old new end input input-is taken q f
+  intent-served expects counts c su n s k entries all old new end input input-is taken q f =
+      follows-so tells manner (for_text counts) c _ su n s k entries all old new end input input-is taken q f
+  intent-served expects (cleans_all repos) c su n s k entries all old new end input input-is taken q f =
+      pass-served repos c su.1 n s k entries all old new end input input-is q f
 
 calm-of : (a b : ℕ) → StoodStill a b → Calm a b
 calm-of a b stood = (let h = stood.0 in omega arith, let h = stood.0 in let k = stood.1 in omega arith)
@@ -362,16 +447,16 @@ module _ (settings : Settings) (tells : Type 0) (last : Bool) where
           (quiet-first old mid new (follows-grew tells c entries mid new end f) quiet)
       opened (refused fault it still is) = let what : Whole head rest ≡ Bad fault = begins (λ w. w ≡ Bad fault) it in absurd (cc)
       opened (unread_head it still is) =
-          starved-so (manner_for request last) false (invitation (owed_at_first request).invites) (behind_body (owed_at_first request).unread rest) (answer_by entries None) (file_by entries None) old mid new end
+          starved-so (manner_for request last) false (invitation (owed_at_first request).invites) (behind_body (owed_at_first request).unread rest) (due_by request.intent entries) (file_by entries None) old mid new end
           (ap (λ o. o.output) still) (more (unread_head it still is)) (follows _ is).1
       opened (head_starved other left it uses is) =
-          starved-so (manner_for request last) (is_head other) (invitation (owed_at_first request).invites) (behind_body (owed_at_first request).unread rest) (answer_by entries None) (file_by entries None) old mid new end
+          starved-so (manner_for request last) (is_head other) (invitation (owed_at_first request).invites) (behind_body (owed_at_first request).unread rest) (due_by request.intent entries) (file_by entries None) old mid new end
           (ap (λ o. o.output) uses) (more (head_starved other left it uses is)) (follows _ is).1
       opened (served other left it uses is) =
           let whole-is = begins (IsWhole other left) it in
           let same : head ≡ other = whole-is.0 in
           let course-is : c ≡ course_of (Ok request) last = is ∙ ap (λ (r : Result Judged Refused). course_of r last) (ap (judge settings) (sym same) ∙ judged) in
-          read-served (manner_for request last) (invitation (owed_at_first request).invites) (behind_body (owed_at_first request).unread rest) (answer_by entries None) (file_by entries None) old mid new left end uses
-          (follows-so tells (manner_for request last) (for_text request.intent) (course_of (Ok request) last) (owed_at_first request) (request-succeeds request last) 3 (at_first (unread_of (Ok request)))
+          read-served (manner_for request last) (invitation (owed_at_first request).invites) (behind_body (owed_at_first request).unread rest) (due_by request.intent entries) (file_by entries None) old mid new left end old.shelf uses
+          (intent-served settings tells (manner_for request last) request.expects request.intent (course_of (Ok request) last) (request-succeeds request last) (most_of (Ok request)) (at_first (unread_of (Ok request)))
           (judged-keeps (Ok request) last) entries all mid new end rest (ap (λ o. o.input) uses ∙ whole-is.1) comes (more (served other left it uses is))
           (follows (course_of (Ok request) last) course-is))

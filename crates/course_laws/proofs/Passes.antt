@@ -1,5 +1,5 @@
 -- What the entries of a pass over repositories do: they change no draft and no lease, keep what is told, and where nothing fails they are those that are played.
-use Rattle.std.proofs.Common.{◌≡◌, ◌≢◌, ◌⊎◌, inl, inr, ℕ, zero, suc, ◌+◌, ◌≤◌, Bool, true, false, if◌then◌else◌, List, [], ◌∷◌, ◌++◌, length, map, filter, take, arith, Option, Some, None, Result, Ok, Err, refl, sym, subst, ap, ◌∙◌, length-append, IsTrue}
+use Rattle.std.proofs.Common.{◌≡◌, ◌≢◌, ◌⊎◌, inl, inr, ℕ, zero, suc, ◌+◌, ◌≤◌, true, false, if◌then◌else◌, List, [], ◌∷◌, ◌++◌, length, map, filter, take, arith, Option, Some, None, Result, Ok, Err, refl, sym, subst, ap, ◌∙◌, length-append}
 use Rattle.std.specs.Prelude.{IsSome, min, sum, sum_by}
 use Rattle.std.specs.List.{AllByRecursion, flat_map}
 use Rattle.std.proofs.lemmas.List.{length-map, map-append}
@@ -8,12 +8,12 @@ use Rattle.outside.specs.Faults.{Rose, last_count}
 use Rattle.repo_model.specs.Command.{Command, unlist, collect}
 use Rattle.repo_model.specs.Data.{Hosted, Row}
 use Rattle.repo_model.specs.Effect.{Effect, fades, expires, forgets, with_effect, with_effects}
-use Rattle.repo_model.specs.History.{Entry, Fits, IsReply, Legal, after, due, wants_memory, failed, effects_of, end as end_of, ticked}
+use Rattle.repo_model.specs.History.{Entry, IsReply, Legal, after, due, wants_memory, failed, effects_of, end as end_of, ticked}
 use Rattle.repo_model.specs.Purge.{due_rows, expire_all, expired_of, is_over, most_rows}
-use Rattle.repo_model.specs.Reply.{Reply, collected, is_collect_reply, is_free, is_unlist_reply, no_draft, no_memory, store_fault, unlisted}
+use Rattle.repo_model.specs.Reply.{Reply, collected, is_free, no_draft, no_memory, store_fault, unlisted}
 use Rattle.repo_model.specs.Settings.{Settings}
 use Rattle.repo_model.specs.State.{State, Yard, hosted_of}
-use Rattle.repo_model.specs.Turn.{Turn, turn, unlent, unlist_of}
+use Rattle.repo_model.specs.Turn.{turn, unlent, unlist_of}
 use Rattle.repo_course.specs.Cleaning.{Passes, not_unlisted, not_collected, removing, SaysCollected, Store, Unlists, cause_of, cleaned, commands_in, replies_in}
 use Rattle.repo_course.specs.Course.{Pass}
 use Rattle.repo_course.specs.declared.outcomes.CleanFault.{CleanFault}
@@ -64,7 +64,7 @@ module _ {X : Type 0} (P : X → Type 0) where
 
 -- the commands of a pass
 
-abbrev IsPassCommand : Command → Type 0
+abbrev pub IsPassCommand : Command → Type 0
 IsPassCommand (unlist repo) = Unit {0}
 IsPassCommand collect = Unit {0}
 IsPassCommand _ = ⊥
@@ -369,7 +369,7 @@ module _ (settings : Settings) (repos : List (List ℕ)) (entries first : List E
       let counted : count ≡ min (sum_by (λ (e : Entry). unlisted_by e.reply) entries) last_count = u.3 ∙ ap (λ n. min n last_count) (sym unlisted-sum) in
       ap Ok (λ i. record { unlisted = counted i; removed = sym garbage-sum i })
 
-abbrev as_pass : Cleaned → Pass
+abbrev pub as_pass : Cleaned → Pass
 as_pass done = Ok done
 
 -- one that is done is the one that is played
@@ -382,7 +382,7 @@ passes-played settings repos entries old new done s legal calm told (removing fi
     let same = pass-is-played settings repos entries first last count blobs parts u c s legal calm told in (
       same,
       is ∙ ap (λ m. cleaned count (Ok m)) r.0 ∙ pass-done settings repos entries first last count blobs parts u c
-      ∙ ap (λ (es : List Entry). as_pass (done_by es)) same,
+          ∙ ap (λ (es : List Entry). as_pass (done_by es)) same,
     )
 passes-played settings repos entries old new done s legal calm told (removing first last count blobs (Err fault) parts u c r is) = absurd (cc)
 
@@ -405,3 +405,18 @@ passes-rose repos entries old new (removing first last count blobs (Err clean.St
 passes-rose repos entries old new (removing first last count blobs (Err clean.BlobFault) parts u c r is) =
     subst (λ (s : Store). Rose old.faults s.faults) (sym r.4.2) r.4.1
 passes-rose repos entries old new (removing first last count blobs (Err clean.NoMemory) parts u c r is) = absurd (cc)
+
+-- one that is done tells what its entries did, and no blob failed
+pub pass-tells : (settings : Settings) (repos : List (List ℕ)) (entries : List Entry) (old new : Store) (done : Cleaned) → Passes repos entries old new (Ok done)
+    → as_pass done ≡ as_pass (done_by entries)
+pass-tells settings repos entries old new done (not_unlisted fault u still is) = absurd (cc)
+pass-tells settings repos entries old new done (not_collected first last count fault parts u c still is) = absurd (cc)
+pass-tells settings repos entries old new done (removing first last count blobs (Ok n) parts u c r is) =
+    is ∙ ap (λ m. cleaned count (Ok m)) r.0 ∙ pass-done settings repos entries first last count blobs parts u c
+pass-tells settings repos entries old new done (removing first last count blobs (Err fault) parts u c r is) = absurd (cc)
+
+pub pass-kept : (repos : List (List ℕ)) (entries : List Entry) (old new : Store) (done : Cleaned) → Passes repos entries old new (Ok done) → new.faults ≡ old.faults
+pass-kept repos entries old new done (not_unlisted fault u still is) = absurd (cc)
+pass-kept repos entries old new done (not_collected first last count fault parts u c still is) = absurd (cc)
+pass-kept repos entries old new done (removing first last count blobs (Ok n) parts u c r is) = ap (λ (s : Store). s.faults) r.1
+pass-kept repos entries old new done (removing first last count blobs (Err fault) parts u c r is) = absurd (cc)

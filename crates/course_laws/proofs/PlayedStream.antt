@@ -1,9 +1,9 @@
 -- A stream is served as it is played, up to where memory is wanted or the source or the sink fails, if nothing else fails.
-use Rattle.std.proofs.Common.{◌≡◌, ℕ, zero, suc, Bool, false, arith, inl, inr, List, [], ◌++◌, Option, Some, None, refl, sym, subst, ap, ◌∙◌, append_assoc, append-nil}
+use Rattle.std.proofs.Common.{◌≡◌, ◌⊎◌, ℕ, zero, suc, Bool, false, arith, inl, inr, List, [], ◌++◌, Option, Some, None, refl, sym, subst, ap, ◌∙◌, append_assoc, append-nil}
 use Rattle.std.specs.Prelude.{◌==◌}
 use Rattle.std.proofs.lemmas.Option.{none-some}
 use Rattle.outside.specs.Faults.{Rose}
-use Rattle.http_wire.specs.Answer.{shown}
+use Rattle.http_wire.specs.Answer.{continue_bytes, shown}
 use Rattle.http_wire.specs.Front.{Front, Clean, Cut, Bad, Whole, front}
 use Rattle.http_wire.specs.Head.{Head}
 use Rattle.repo_model.specs.History.{Entry, Legal, end as end_of}
@@ -16,38 +16,66 @@ use Rattle.repo_course.specs.Course.{Course, course_of}
 use Rattle.repo_course.specs.declared.outcomes.End.{End}
 use Rattle.repo_course.specs.declared.outcomes.End.TheVariants as stream
 use Rattle.repo_course.specs.Serving.{Begins, Follows, IsFrontOf, IsWhole, Opens, clean, torn, failed, refused, unread_head, starved, served, Outside, Serves, Turn}
-use Rattle.course_laws.specs.AsPlayed.{BeginsAt, IsAsPlayed, in_full, wants_memory, IsPlayedUpTo, unbroken, broken, NoFaults, StoodStill}
+use Rattle.course_laws.specs.AsPlayed.{BeginsAt, IsAnswers, IsAsPlayed, in_full, wants_memory, IsPlayedUpTo, unbroken, broken, NoFaults, StoodStill}
 use Rattle.course_laws.specs.Duties.{Keeps, Stand, at_first, failing, is_head_only, most_of, unread_of}
-use Rattle.course_laws.specs.Faultless.{Played, Scene, play, play_turn, play_stream, then_play, wrote}
+use Rattle.course_laws.specs.Faultless.{Played, Scene, play, play_turn, play_stream, then_play}
 use Rattle.course_laws.proofs.Counts.{Calm, Grew, calm-first, calm-then, follows-grew, not-risen, opens-grew, rose-before, serves-grew, turn-grew}
-use Rattle.course_laws.proofs.Early.{Outcome, Ready, early-before, no-more, outcome-before, says-memory, source-failed}
+use Rattle.course_laws.proofs.Early.{Outcome, Ready, early-before, no-more, outcome-before, outcome-so, says-memory, source-failed}
 use Rattle.course_laws.proofs.Kept.{asking, opens-keeps, shows_head, standing}
 use Rattle.course_laws.proofs.LeftBehind.{end_append, legal_cut}
 use Rattle.course_laws.proofs.PlayedActs.{InHandTold}
 use Rattle.course_laws.proofs.PlayedCourse.{course-play}
 use Rattle.course_laws.proofs.Told.{faults-grow}
+use Rattle.course_laws.proofs.Unsent.{MayStand}
 
-wrote-played : (before first : List ℕ) (p : Played End) (output : Option (List ℕ)) (end : End)
-    → IsAsPlayed (before ++ first) p output end → IsAsPlayed before (wrote first p) output end
-wrote-played before first p output end (in_full out ends) =
-    in_full (subst (λ b. output ≡ Some b) (append_assoc before first p.written) out) ends
-wrote-played before first p output end (wants_memory part head_only is-front out ends) =
-    wants_memory (first ++ part) head_only (is-front.0, ap (λ b. first ++ b) is-front.1 ∙ sym (append_assoc first part is-front.0))
-    (subst (λ b. output ≡ Some (b ++ shown (memory_answer head_only))) (append_assoc before first part) out) ends
+-- what may have been written of a request when memory is wanted
+abbrev AtTurn : List ℕ → Type 0
+AtTurn written = (written ≡ []) ⊎ (written ≡ continue_bytes)
 
-wrote-upto : (before first : List ℕ) (p : Played End) (old new : Outside) (end : End)
-    → IsPlayedUpTo (before ++ first) p old new end → IsPlayedUpTo before (wrote first p) old new end
-wrote-upto before first p old new end (unbroken played) = unbroken (wrote-played before first p new.output end played)
-wrote-upto before first p old new end (broken front part head_only is-front is-part out broke) =
-    broken (first ++ front) part head_only (is-front.0, ap (λ b. first ++ b) is-front.1 ∙ sym (append_assoc first front is-front.0)) is-part
-    (subst (λ b. new.output ≡ Some (b ++ part)) (append_assoc before first front) out) broke
+at-turn : (s : Stand) (written : List ℕ) → MayStand s written → AtTurn written
+at-turn s written may = elim may.1 [ inl e ↦ inl e | inr e ↦ inr e.1 ]
+
+module _ (settings : Settings) (left : ℕ) (scene : Scene) where
+  -- the first request, and a stream behind it
+  abbrev First : Played (Option End)
+  First = play_turn settings (left == 0) (front scene.input) scene
+
+  abbrev Behind : Option End → Played End
+  Behind end = then_play (play_stream settings left) end First.written First.scene
+
+  -- a front of what is behind the first request is one of the whole
+  front-behind : (none : None ≡ First.end) (written : List ℕ) → IsFrontOf written (play_stream settings left First.scene).written
+      → IsFrontOf (First.written ++ written) (Behind First.end).written
+  front-behind none written is-front =
+      subst (λ e. IsFrontOf (First.written ++ written) (Behind e).written) none
+      (is-front.0, ap (λ b. First.written ++ b) is-front.1 ∙ sym (append_assoc First.written written is-front.0))
+
+  wrote-played : None ≡ First.end → (before : List ℕ) (output : Option (List ℕ)) (end : End)
+      → IsAsPlayed settings left First.scene (before ++ First.written) output end → IsAsPlayed settings (suc left) scene before output end
+  unfolding play_stream IsAnswers
+  wrote-played none before output end (in_full out ends) =
+      in_full
+      (subst (λ e. output ≡ Some (before ++ (Behind e).written)) none
+      (subst (λ b. output ≡ Some b) (append_assoc before First.written (play_stream settings left First.scene).written) out))
+      (subst (λ e. end ≡ (Behind e).end) none ends)
+  wrote-played none before output end (wants_memory written head_only is-front answers out ends) =
+      wants_memory (First.written ++ written) head_only (front-behind none written is-front) (inr (inr (written, sym none, refl, answers)))
+      (subst (λ b. output ≡ Some (b ++ shown (memory_answer head_only))) (append_assoc before First.written written) out) ends
+
+  wrote-upto : None ≡ First.end → (before : List ℕ) (old new : Outside) (end : End)
+      → IsPlayedUpTo settings left First.scene (before ++ First.written) old new end → IsPlayedUpTo settings (suc left) scene before old new end
+  unfolding play_stream
+  wrote-upto none before old new end (unbroken played) = unbroken (wrote-played none before new.output end played)
+  wrote-upto none before old new end (broken written part head_only is-front is-part out broke) =
+      broken (First.written ++ written) part head_only (front-behind none written is-front) is-part
+      (subst (λ b. new.output ≡ Some (b ++ part)) (append_assoc before First.written written) out) broke
 
 -- seen from an earlier world
-upto-before : (before : List ℕ) (p : Played End) (old mid new : Outside) (end : End) → Grew old mid
-    → IsPlayedUpTo before p mid new end → IsPlayedUpTo before p old new end
-upto-before before p old mid new end g (unbroken played) = unbroken played
-upto-before before p old mid new end g (broken front part head_only is-front is-part out broke) =
-    broken front part head_only is-front is-part out (elim broke [
+upto-before : (settings : Settings) (n : ℕ) (scene : Scene) (before : List ℕ) (old mid new : Outside) (end : End) → Grew old mid
+    → IsPlayedUpTo settings n scene before mid new end → IsPlayedUpTo settings n scene before old new end
+upto-before settings n scene before old mid new end g (unbroken played) = unbroken played
+upto-before settings n scene before old mid new end g (broken written part head_only is-front is-part out broke) =
+    broken written part head_only is-front is-part out (elim broke [
       | inl s ↦ inl (s.0, rose-before old.read_faults mid.read_faults new.read_faults g.reads s.1)
       | inr s ↦ inr (s.0, rose-before old.write_faults mid.write_faults new.write_faults g.writes s.1)
     ])
@@ -64,16 +92,17 @@ same-Some a b is = cc
 module _ (settings : Settings) (tells : Type 0) (witness : tells) where
   -- what the front of the input asks for
   abbrev Turned : Bool → Front → State → List ℕ → List ℕ → Outside → Outside → State → Option End → Type 0
-  Turned last f st input before old new st' end = Outcome before (play_turn settings last f (record { state = st; input = input })) old new st' end
+  Turned last f st input before old new st' end = Outcome AtTurn before (play_turn settings last f (record { state = st; input = input })) old new st' end
 
   -- a course behind what was read, from where it stands
   played : (head_only : Bool) (c : Course) (n : ℕ) (s : Stand) → Keeps head_only c n s → s.blob ≡ None → (entries : List Entry) (st : State) → Legal settings st entries
       → Calm st.faults (end_of settings st entries).faults
       → (old mid new : Outside) (end : Option End) (input before : List ℕ) → Ready mid st input before → Calm mid.blob_faults new.blob_faults → Grew old mid
-      → Follows tells c entries mid new end → Outcome before (play settings c (record { state = st; input = input })) old new (end_of settings st entries) end
+      → Follows tells c entries mid new end → Outcome AtTurn before (play settings c (record { state = st; input = input })) old new (end_of settings st entries) end
   played head_only c n s k none entries st legal calm old mid new end input before ready quiet g f =
-      outcome-before before _ old mid new _ end g
-      (course-play settings tells witness head_only c n s k (subst (λ b. InHandTold b) (sym none) tt) entries st legal calm mid new end input before ready quiet f)
+      outcome-before AtTurn before _ old mid new _ end g
+      (outcome-so (MayStand s) AtTurn before _ mid new _ end (at-turn s)
+      (course-play settings tells witness head_only c n s k (subst (λ b. InHandTold b) (sym none) tt) entries st legal calm mid new end input before ready quiet f))
 
   -- the source alone was read
   ready-on : (old mid : Outside) (st : State) (input behind before : List ℕ) (rest : Option (List ℕ)) → Ready old st input before → mid ≡ record old { input = rest }
@@ -86,7 +115,7 @@ module _ (settings : Settings) (tells : Type 0) (witness : tells) where
   }
 
   abbrev Outcomes : Course → List ℕ → List ℕ → Outside → Outside → State → State → Option End → Type 0
-  Outcomes c input before old new st st' end = Outcome before (play settings c (record { state = st; input = input })) old new st' end
+  Outcomes c input before old new st st' end = Outcome AtTurn before (play settings c (record { state = st; input = input })) old new st' end
 
   served-turn : (last : Bool) (f : Front) (head : Head) (rest : Option (List ℕ)) → IsWhole head rest f
       → (old new : Outside) (st st' : State) (end : Option End) (input before : List ℕ)
@@ -115,7 +144,7 @@ module _ (settings : Settings) (tells : Type 0) (witness : tells) where
       at-once what begins mid still head_only s none c d is k f g more plays =
           let what-is = subst (λ (i : Option (List ℕ)). Begins i (λ f. f ≡ what)) ready.input_is begins in
           subst (λ f. Turned last f st input before old new (end_of settings st entries) end) (sym what-is)
-          (subst (λ p. Outcome before p old new (end_of settings st entries) end) (sym (plays (record { state = st; input = input })))
+          (subst (λ p. Outcome AtTurn before p old new (end_of settings st entries) end) (sym (plays (record { state = st; input = input })))
           (subst (λ d. Outcomes d input before old new st (end_of settings st entries) end) is
           (played head_only c 3 s k none entries st legal calm old mid new end input before (ready-on old mid st input input before old.input ready still ready.input_is)
           (quiet-behind mid g more) g f)))
@@ -126,18 +155,18 @@ module _ (settings : Settings) (tells : Type 0) (witness : tells) where
       opened c mid (torn begins still is) f k g more = at-once Cut begins mid still false (failing stream.TornRequest (at_first 0)) refl c _ is k f g more (λ scene. refl)
       opened c mid (failed faults rose still is) f k g more =
           let last_is = subst (λ (d : Course). Follows tells d entries mid new end) is f in
-          inr (no-more before _ [] old new end (_, refl)
+          inr (no-more AtTurn before _ [] old new end (_, refl)
           (ap (λ o. o.output) last_is.1 ∙ ap (λ o. o.output) still ∙ ready.output_is ∙ ap Some (sym (append-nil before)))
-          (source-failed old new end last_is.2
+          (source-failed AtTurn [] old new end last_is.2
           (subst (λ n. Rose old.read_faults n) (sym (ap (λ o. o.read_faults) last_is.1 ∙ ap (λ o. o.read_faults) still)) rose)))
       opened c mid (refused fault begins still is) f k g more =
           at-once (Bad fault) begins mid still false (at_first 0) refl c _ is k f g more (λ scene. refl)
       opened c mid (unread_head begins still is) f k g more =
           let said = subst (λ (d : Course). Follows tells d entries mid new end) is f in
-          inr (early-before before _ old mid new end g (says-memory false mid new end before _ said.1 (ap (λ o. o.output) still ∙ ready.output_is)))
+          inr (early-before AtTurn before _ old mid new end g (says-memory AtTurn (inl refl) false mid new end before _ said.1 (ap (λ o. o.output) still ∙ ready.output_is)))
       opened c mid (starved head rest begins uses is) f k g more =
           let said = subst (λ (d : Course). Follows tells d entries mid new end) is f in
-          inr (early-before before _ old mid new end g (says-memory (is_head head) mid new end before _ said.1 (ap (λ o. o.output) uses ∙ ready.output_is)))
+          inr (early-before AtTurn before _ old mid new end g (says-memory AtTurn (inl refl) (is_head head) mid new end before _ said.1 (ap (λ o. o.output) uses ∙ ready.output_is)))
       opened c mid (served head rest begins uses is) f k g more =
           served-turn last (front input) head rest (subst (λ (i : Option (List ℕ)). Begins i (IsWhole head rest)) ready.input_is begins)
           old new st (end_of settings st entries) end input before
@@ -147,36 +176,40 @@ module _ (settings : Settings) (tells : Type 0) (witness : tells) where
           (ready-on old mid st input behind before rest ready uses there) (quiet-behind mid g more) g f))
 
   -- the stream ended in this turn
-  last-turn : (next : Scene → Played End) (p : Played (Option End)) (before : List ℕ) (old new : Outside) (st : State) (end : End)
-      → Outcome before p old new st (Some end) → IsPlayedUpTo before (then_play next p.end p.written p.scene) old new end
-  last-turn next p before old new st end (inl a) =
-      unbroken (subst (λ e. IsAsPlayed before (then_play next e p.written p.scene) new.output end) a.ends (in_full a.output refl))
-  last-turn next p before old new st end (inr m) =
-      let more = front-then next p.end p.written p.scene in
-      let is-front : IsFrontOf m.front (then_play next p.end p.written p.scene).written = (
+  last-turn : (left : ℕ) (scene : Scene) (before : List ℕ) (old new : Outside) (st : State) (end : End)
+      → Outcome AtTurn before (First settings left scene) old new st (Some end) → IsPlayedUpTo settings (suc left) scene before old new end
+  unfolding play_stream IsAnswers
+  last-turn left scene before old new st end (inl a) =
+      unbroken (in_full (subst (λ e. new.output ≡ Some (before ++ (Behind settings left scene e).written)) a.ends a.output)
+      (subst (λ e. end ≡ (Behind settings left scene e).end) a.ends refl))
+  last-turn left scene before old new st end (inr m) =
+      let p = First settings left scene in
+      let more = front-then (play_stream settings left) p.end p.written p.scene in
+      let is-front : IsFrontOf m.front (Behind settings left scene p.end).written = (
         m.is_front.0 ++ more.0,
         more.1 ∙ ap (λ b. b ++ more.0) m.is_front.1 ∙ append_assoc m.front m.is_front.0 more.0,
       ) in
       elim m.why [
         | inl w ↦ unbroken (wants_memory m.front m.head_only is-front
+            (elim w.2 [ inl e ↦ inl e | inr e ↦ inr (inl (e, subst (λ b. IsFrontOf b p.written) e m.is_front)) ])
             (subst (λ b. new.output ≡ Some (before ++ m.front ++ b)) w.0 m.output) (same-Some end stream.Closed w.1))
         | inr (inl s) ↦ broken m.front m.part m.head_only is-front s.0 m.output (inl (same-Some end stream.SourceFault s.1.0, s.1.1))
         | inr (inr s) ↦ broken m.front m.part m.head_only is-front s.0 m.output (inr (same-Some end stream.SinkFault s.1.0, s.1.1))
       ]
 
   -- the stream goes on behind this turn
-  next-turn : (next : Scene → Played End) (p : Played (Option End)) (before : List ℕ) (old mid new : Outside) (st : State) (end : End) → Grew old mid
-      → Outcome before p old mid st None
-      → ((input before' : List ℕ) → Ready mid st input before' → IsPlayedUpTo before' (next (record { state = st; input = input })) mid new end)
-      → IsPlayedUpTo before (then_play next p.end p.written p.scene) old new end
-  next-turn next p before old mid new st end grows (inl a) rest =
+  next-turn : (left : ℕ) (scene : Scene) (before : List ℕ) (old mid new : Outside) (st : State) (end : End) → Grew old mid
+      → Outcome AtTurn before (First settings left scene) old mid st None
+      → ((input before' : List ℕ) → Ready mid st input before' → IsPlayedUpTo settings left (record { state = st; input = input }) before' mid new end)
+      → IsPlayedUpTo settings (suc left) scene before old new end
+  next-turn left scene before old mid new st end grows (inl a) rest =
+      let p = First settings left scene in
       let g = a.goes refl in
       let done = rest p.scene.input (before ++ p.written) g.ready in
-      subst (λ e. IsPlayedUpTo before (then_play next e p.written p.scene) old new end) a.ends
-      (wrote-upto before p.written (next p.scene) old new end
-      (upto-before (before ++ p.written) (next p.scene) old mid new end grows
-      (subst (λ s. IsPlayedUpTo (before ++ p.written) (next (record { state = s; input = p.scene.input })) mid new end) g.state done)))
-  next-turn next p before old mid new st end grows (inr m) rest =
+      wrote-upto settings left scene a.ends before old new end
+      (upto-before settings left p.scene (before ++ p.written) old mid new end grows
+      (subst (λ s. IsPlayedUpTo settings left (record { state = s; input = p.scene.input }) (before ++ p.written) mid new end) g.state done))
+  next-turn left scene before old mid new st end grows (inr m) rest =
       elim m.why [
         | inl w ↦ absurd (none-some stream.Closed w.1)
         | inr (inl s) ↦ absurd (none-some stream.SourceFault s.1.0)
@@ -185,12 +218,12 @@ module _ (settings : Settings) (tells : Type 0) (witness : tells) where
 
   stream-play : (n : ℕ) (entries : List Entry) (st : State) → Legal settings st entries → Calm st.faults (end_of settings st entries).faults
       → (old new : Outside) (end : End) (input before : List ℕ) → Ready old st input before → Calm old.blob_faults new.blob_faults
-      → Serves settings tells n entries old new end → IsPlayedUpTo before (play_stream settings n (record { state = st; input = input })) old new end
+      → Serves settings tells n entries old new end → IsPlayedUpTo settings n (record { state = st; input = input }) before old new end
   unfolding Serves play_stream
   stream-play zero entries st legal calm old new end input before ready quiet t =
       unbroken (in_full (ap (λ o. o.output) t.1 ∙ ready.output_is ∙ ap Some (sym (append-nil before))) t.2)
   stream-play (suc left) entries st legal calm old new end input before ready quiet (inl turn) =
-      last-turn (play_stream settings left) (play_turn settings (left == 0) (front input) (record { state = st; input = input })) before old new (end_of settings st entries) end
+      last-turn left (record { state = st; input = input }) before old new (end_of settings st entries) end
       (turn-play (left == 0) entries st legal calm old new (Some end) input before ready quiet turn)
   stream-play (suc left) entries st legal calm old new end input before ready quiet (inr t) =
       let all = subst (λ (es : List Entry). Legal settings st es) t.3 legal in
@@ -203,7 +236,7 @@ module _ (settings : Settings) (tells : Type 0) (witness : tells) where
       let mid = t.2 in
       let first = turn-grew tells settings (left == 0) t.0 old mid None t.4 in
       let later = serves-grew tells settings left t.1 mid new end t.5 in
-      next-turn (play_stream settings left) (play_turn settings (left == 0) (front input) (record { state = st; input = input })) before old mid new mid-state end first
+      next-turn left (record { state = st; input = input }) before old mid new mid-state end first
       (turn-play (left == 0) t.0 st cut.0 (calm-first st.faults mid-state.faults (end_of settings mid-state t.1).faults more calm-all) old mid None input before ready
       (calm-first old.blob_faults mid.blob_faults new.blob_faults later.blobs quiet) t.4)
       (λ input' before' ready'.
@@ -212,7 +245,7 @@ module _ (settings : Settings) (tells : Type 0) (witness : tells) where
 
   pub stream-upto : (n : ℕ) (entries : List Entry) (st : State) → Legal settings st entries → StoodStill st.faults (end_of settings st entries).faults
       → (old new : Outside) (end : End) (input before : List ℕ) → BeginsAt st input before old → StoodStill old.blob_faults new.blob_faults
-      → Serves settings tells n entries old new end → IsPlayedUpTo before (play_stream settings n (record { state = st; input = input })) old new end
+      → Serves settings tells n entries old new end → IsPlayedUpTo settings n (record { state = st; input = input }) before old new end
   stream-upto n entries st legal records old new end input before begins calm served_so =
       stream-play n entries st legal (calm-of records) old new end input before
       (record { input_is = begins.input_is; output_is = begins.output_is; rows = begins.rows; clock = begins.clock }) (calm-of calm) served_so
@@ -221,10 +254,10 @@ module _ (settings : Settings) (tells : Type 0) (witness : tells) where
       calm-of stood = (let h = stood.0 in omega arith, let h = stood.0 in let k = stood.1 in omega arith)
 
 -- where nothing failed
-unbroken-is : (before : List ℕ) (p : Played End) (old new : Outside) (end : End) → NoFaults old new → IsPlayedUpTo before p old new end
-    → IsAsPlayed before p new.output end
-unbroken-is before p old new end calm (unbroken played) = played
-unbroken-is before p old new end calm (broken front part head_only is-front is-part out broke) =
+unbroken-is : (settings : Settings) (n : ℕ) (scene : Scene) (before : List ℕ) (old new : Outside) (end : End) → NoFaults old new
+    → IsPlayedUpTo settings n scene before old new end → IsAsPlayed settings n scene before new.output end
+unbroken-is settings n scene before old new end calm (unbroken played) = played
+unbroken-is settings n scene before old new end calm (broken written part head_only is-front is-part out broke) =
     let reads = calm.reads in
     let writes = calm.writes in
     elim broke [
@@ -234,7 +267,7 @@ unbroken-is before p old new end calm (broken front part head_only is-front is-p
 
 pub as-played : (settings : Settings) (tells : Type 0) → tells → (n : ℕ) (entries : List Entry) (st : State) → Legal settings st entries
     → StoodStill st.faults (end_of settings st entries).faults → (old new : Outside) (end : End) (input before : List ℕ) → BeginsAt st input before old
-    → NoFaults old new → Serves settings tells n entries old new end → IsAsPlayed before (play_stream settings n (record { state = st; input = input })) new.output end
+    → NoFaults old new → Serves settings tells n entries old new end → IsAsPlayed settings n (record { state = st; input = input }) before new.output end
 as-played settings tells told n entries st legal records old new end input before begins calm served_so =
-    unbroken-is before (play_stream settings n (record { state = st; input = input })) old new end calm
+    unbroken-is settings n (record { state = st; input = input }) before old new end calm
     (stream-upto settings tells told n entries st legal records old new end input before begins calm.blobs served_so)

@@ -6,12 +6,13 @@ use Rattle.mvn_metadata.specs.Document.{Document}
 use Rattle.repo_model.specs.Command.{look, may_put, put as puts, put_side, put_doc, status}
 use Rattle.repo_model.specs.Data.{Blob, repository}
 use Rattle.repo_model.specs.Reply.{Reply, file, text, doc, draft, same, relisted, created, agreed, noted, counts as counts_reply}
-use Rattle.repo_routes.specs.Intent.{Intent, Judged, reads as reads_path, puts_file, puts_side, puts_document, counts}
+use Rattle.repo_routes.specs.Intent.{Intent, Judged, reads as reads_path, puts_file, puts_side, puts_document, counts, cleans}
 use Rattle.repo_course.specs.Course.{Course, reads, takes, after_document, after_look, after_may_put, after_put, after_put_doc, after_put_side, after_side, after_status, after_take, compares, course_for, course_of, cut_off, gives_up, invites, notes}
 use Rattle.repo_course.specs.declared.manner.Manner.{Manner}
 use Rattle.repo_course.specs.declared.said.Said.{Said}
+use Rattle.repo_course.specs.declared.said.Said.TheVariants.{Cleaned}
 use Rattle.course_laws.specs.Causes.{for_digest, for_document, for_text}
-use Rattle.course_laws.specs.Granted.{Grants, Owed, Succeeds, body_length, is_invited, manner_for, owed_after, owed_at_first}
+use Rattle.course_laws.specs.Granted.{Grants, Owed, Succeeds, SucceedsAt, body_length, is_invited, manner_for, owed_after, owed_at_first}
 
 module _ (manner : Manner) where
   -- nothing is owed but the answer
@@ -75,7 +76,7 @@ module _ (manner : Manner) where
     status-does reply granted = absurd granted
 
   for-does : (expects : Bool) (intent : Intent)
-      → Succeeds (for_text intent) manner (course_for manner expects intent)
+      → SucceedsAt intent manner (course_for manner expects intent)
       (record { invites = is_invited intent expects; unread = body_length intent; answer = None; file = None })
   for-does expects (reads_path repo path) = λ reply granted. look-does (for_text (reads_path repo path)) repo path reply granted
   for-does expects (puts_file repo path count) =
@@ -89,7 +90,8 @@ module _ (manner : Manner) where
       invites-does by_text expects cut_off (reads count (after_document repo path manner)) count
       (refl, refl, λ bytes says. notes-does by_text repo path (reading bytes) says)
   for-does expects counts = λ reply granted. status-does (for_text counts) reply granted
+  for-does expects (cleans repos) = ((refl, refl), (refl, λ did. (Cleaned did.unlisted did.removed, refl, tt, refl)))
 
 pub request-succeeds : (request : Judged) (last : Bool)
-    → Succeeds (for_text request.intent) (manner_for request last) (course_of (Ok request) last) (owed_at_first request)
+    → SucceedsAt request.intent (manner_for request last) (course_of (Ok request) last) (owed_at_first request)
 request-succeeds request last = for-does (manner_for request last) request.expects request.intent

@@ -1,15 +1,17 @@
 -- What a stream has written beside what is played where nothing fails: all of it, or up to where the source, the sink or memory failed.
-use Rattle.std.specs.Prelude.{◌≡◌, ◌⊎◌, ℕ, ◌<◌, Bool, List, ◌++◌, Option, Some, IsSome}
+use Rattle.std.specs.Prelude.{◌≡◌, ◌⊎◌, ℕ, zero, suc, ◌<◌, ◌==◌, Bool, List, [], ◌++◌, Option, Some, None, IsSome}
 use Rattle.std.specs.List.{AllByRecursion}
 use Rattle.outside.specs.Faults.{Rose, last_count}
-use Rattle.http_wire.specs.Answer.{shown}
+use Rattle.http_wire.specs.Answer.{continue_bytes, shown}
+use Rattle.http_wire.specs.Front.{front}
 use Rattle.repo_model.specs.Data.{Hosted, Row}
+use Rattle.repo_model.specs.Settings.{Settings}
 use Rattle.repo_model.specs.State.{State}
 use Rattle.repo_course.specs.Answers.{memory_answer}
 use Rattle.repo_course.specs.declared.outcomes.End.{End}
 use Rattle.repo_course.specs.declared.outcomes.End.TheVariants as stream
 use Rattle.repo_course.specs.Serving.{IsFrontOf, Outside}
-use Rattle.course_laws.specs.Faultless.{Played}
+use Rattle.course_laws.specs.Faultless.{Scene, play_stream, play_turn}
 
 -- the bytes of each file's blob are told
 abbrev pub RowsTold : State → Type 0
@@ -25,12 +27,25 @@ pub record NoFaults (old new : Outside) : Type 0 where
   pub writes : StoodStill old.write_faults new.write_faults
   pub blobs : StoodStill old.blob_faults new.blob_faults
 
--- The stream has taken what was played and ended so, or, from where memory was wanted, the answer that says so, or its head alone.
-pub data IsAsPlayed (before : List ℕ) (played : Played End) (output : Option (List ℕ)) (end : End) : Type 0 where
-  in_full : output ≡ Some (before ++ played.written) → end ≡ played.end → IsAsPlayed before played output end
-  wants_memory : (front : List ℕ) (head_only : Bool) → IsFrontOf front played.written
-      → output ≡ Some (before ++ front ++ shown (memory_answer head_only))
-      → end ≡ stream.Closed → IsAsPlayed before played output end
+-- Whole answers of the first requests, as they are played, and behind them nothing, or `100 Continue` where the next one is
+-- played so. A next one may still come.
+unfoldable pub IsAnswers : Settings → ℕ → Scene → List ℕ → Type 0
+IsAnswers settings zero scene written = ⊥
+IsAnswers settings (suc left) scene written =
+    let played = play_turn settings (left == 0) (front scene.input) scene in
+    (written ≡ [])
+    ⊎ ((written ≡ continue_bytes) × IsFrontOf continue_bytes played.written)
+    ⊎ ((rest : List ℕ) × (played.end ≡ None) × (written ≡ played.written ++ rest) × IsAnswers settings left played.scene rest)
+
+-- The stream of at most so many requests has taken what is played and ended so, or, from where memory was wanted, the answer
+-- that says so, or its head alone: behind the whole answers of the requests before it, and maybe its own `100 Continue`.
+pub data IsAsPlayed (settings : Settings) (n : ℕ) (scene : Scene) (before : List ℕ) (output : Option (List ℕ)) (end : End) : Type 0 where
+  in_full : output ≡ Some (before ++ (play_stream settings n scene).written) → end ≡ (play_stream settings n scene).end
+      → IsAsPlayed settings n scene before output end
+  wants_memory : (written : List ℕ) (head_only : Bool) → IsFrontOf written (play_stream settings n scene).written
+      → IsAnswers settings n scene written
+      → output ≡ Some (before ++ written ++ shown (memory_answer head_only))
+      → end ≡ stream.Closed → IsAsPlayed settings n scene before output end
 
 -- the source or the sink failed, and the stream ended by it
 abbrev pub Broke : Outside → Outside → End → Type 0
@@ -39,10 +54,11 @@ Broke old new end =
     ⊎ ((end ≡ stream.SinkFault) × Rose old.write_faults new.write_faults)
 
 -- As played, or up to where the source or the sink failed: a front of that, and behind it maybe a part of the answer that memory was wanted.
-pub data IsPlayedUpTo (before : List ℕ) (played : Played End) (old new : Outside) (end : End) : Type 0 where
-  unbroken : IsAsPlayed before played new.output end → IsPlayedUpTo before played old new end
-  broken : (front part : List ℕ) (head_only : Bool) → IsFrontOf front played.written → IsFrontOf part (shown (memory_answer head_only))
-      → new.output ≡ Some (before ++ front ++ part) → Broke old new end → IsPlayedUpTo before played old new end
+pub data IsPlayedUpTo (settings : Settings) (n : ℕ) (scene : Scene) (before : List ℕ) (old new : Outside) (end : End) : Type 0 where
+  unbroken : IsAsPlayed settings n scene before new.output end → IsPlayedUpTo settings n scene before old new end
+  broken : (written part : List ℕ) (head_only : Bool) → IsFrontOf written (play_stream settings n scene).written
+      → IsFrontOf part (shown (memory_answer head_only))
+      → new.output ≡ Some (before ++ written ++ part) → Broke old new end → IsPlayedUpTo settings n scene before old new end
 
 -- the stream tells this input and output, and the machine what it has
 pub record BeginsAt (start : State) (input output : List ℕ) (o : Outside) : Type 0 where

@@ -1,25 +1,28 @@
 -- How a request is answered that nothing refuses, neither its head, nor a reply to its commands, nor what its body says.
 use Rattle.std.specs.Prelude.{◌≡◌, ◌⊎◌, ℕ, ◌≤◌, Bool, true, false, if◌then◌else◌, List, [], ◌∷◌, ◌++◌, length, take, drop, Option, Some, None, Ok}
 use Rattle.std.specs.List.{AllByRecursion}
+use Rattle.outside.specs.Blobs.{Shelf}
 use Rattle.outside.specs.Told.{IsWhereTold, behind}
 use Rattle.http_wire.specs.Answer.{continue_bytes, shown}
 use Rattle.http_wire.specs.declared.answers.Status.{Status}
 use Rattle.http_wire.specs.declared.answers.Status.TheVariants as status_code
-use Rattle.repo_model.specs.Command.{Command, look, done, may_put, put, put_side, put_doc, status}
+use Rattle.repo_model.specs.Command.{Command, look, done, may_put, put, put_side, put_doc, status, unlist, collect}
 use Rattle.repo_model.specs.Data.{Blob}
 use Rattle.repo_model.specs.History.{Entry}
-use Rattle.repo_model.specs.Reply.{Reply, file, text, doc, draft, same, relisted, created, agreed, noted, counts as counts_reply}
-use Rattle.repo_routes.specs.Intent.{Intent, Judged, reads as reads_path, puts_file, puts_side, puts_document, counts}
+use Rattle.repo_model.specs.Reply.{Reply, file, text, doc, draft, same, relisted, created, agreed, noted, counts as counts_reply, unlisted, collected}
+use Rattle.repo_routes.specs.Intent.{Intent, Judged, reads as reads_path, puts_file, puts_side, puts_document, counts, cleans as cleans_all}
 use Rattle.repo_course.specs.Answers.{answer_of, file_answer, full_answer, memory_answer}
-use Rattle.repo_course.specs.Course.{Course, asks, continues, takes, reads, sends, says, stops, end_of}
+use Rattle.repo_course.specs.Course.{Course, asks, continues, takes, reads, sends, cleans, says, stops, end_of}
 use Rattle.repo_course.specs.Serving.{Outside, writes}
 use Rattle.repo_course.specs.declared.manner.Manner.{Manner}
+use Rattle.repo_course.specs.declared.outcomes.Cleaned.{Cleaned}
 use Rattle.repo_course.specs.declared.outcomes.Continued.TheVariants.{Written}
 use Rattle.repo_course.specs.declared.outcomes.End.{End}
 use Rattle.repo_course.specs.declared.outcomes.End.TheVariants as stream
 use Rattle.repo_course.specs.declared.outcomes.Sent.TheVariants.{Whole as whole}
 use Rattle.repo_course.specs.declared.said.Said.{Said}
-use Rattle.course_laws.specs.Causes.{due_after, for_text}
+use Rattle.course_laws.specs.Causes.{due_after, for_pass, for_text}
+use Rattle.course_laws.specs.Faultless.{done_by}
 
 -- 200 or 201
 abbrev pub IsSuccess : Status → Type 0
@@ -40,6 +43,8 @@ Grants (put repo path n blob) relisted = Unit {0}
 Grants (put_side place path said) agreed = Unit {0}
 Grants (put_doc place path) noted = Unit {0}
 Grants status (counts_reply files fading cached documents sessions) = Unit {0}
+Grants (unlist repo) (unlisted count) = Unit {0}
+Grants collect (collected expired blobs) = Unit {0}
 Grants command reply = ⊥
 
 abbrev pub AllGranted : List Entry → Type 0
@@ -86,7 +91,19 @@ Succeeds by_text manner (reads count next) o =
     × ((bytes : List ℕ) → by_text bytes ≡ None → Succeeds by_text manner (next (Ok bytes)) (record o { unread = None }))
 Succeeds by_text manner (sends blob own next) o = IsReady o × (o.file ≡ Some blob) × (own ≡ manner) × Rests manner (next whole)
 Succeeds by_text manner (says said own) o = IsReady o × (o.answer ≡ Some said) × IsSuccess (full_answer said).status × (own ≡ manner)
+Succeeds by_text manner (cleans repos next) o = ⊥
 Succeeds by_text manner (stops end) o = ⊥
+
+-- The pass over these repositories is the course, and what it did is answered, with 200 or 201 and in this manner.
+abbrev pub Cleans : List (List ℕ) → Manner → Course → Type 0
+Cleans repos manner (cleans asked next) =
+    (asked ≡ repos) × ((did : Cleaned) → (said : Said) × (for_pass (Ok did) ≡ Some said) × IsSuccess (full_answer said).status × (next (Ok did) ≡ says said manner))
+Cleans repos manner course = ⊥
+
+-- so for what a request asks for
+abbrev pub SucceedsAt : Intent → Manner → Course → Owed → Type 0
+SucceedsAt (cleans_all repos) manner course o = IsReady o × Cleans repos manner course
+SucceedsAt intent manner course o = Succeeds (for_text intent) manner course o
 
 -- the length of the body that comes with what is asked for, and whether it is to be invited
 abbrev pub body_length : Intent → Option ℕ
@@ -95,10 +112,12 @@ body_length (puts_file repo path count) = Some count
 body_length (puts_side repo path side count) = Some count
 body_length (puts_document repo path count) = Some count
 body_length counts = None
+body_length (cleans_all repos) = None
 
 abbrev pub is_invited : Intent → Bool → Bool
 is_invited (reads_path repo path) expects = false
 is_invited counts expects = false
+is_invited (cleans_all repos) expects = false
 is_invited intent expects = expects
 
 abbrev pub owed_at_first : Judged → Owed
@@ -121,6 +140,11 @@ abbrev pub file_by : List Entry → Option Blob → Option Blob
 file_by [] lent = lent
 file_by (e ∷ entries) lent = file_by entries (file_after e.command e.reply lent)
 
+-- what is due for what is asked for: what the replies came to, or what the pass of these entries did
+abbrev pub due_by : Intent → List Entry → Option Said
+due_by (cleans_all repos) entries = for_pass (Ok (done_by entries))
+due_by intent entries = answer_by entries None
+
 -- a body of this length came whole, and nothing that it says is refused
 abbrev pub BodyIsTaken : (List ℕ → Option Said) → Option ℕ → List ℕ → Type 0
 BodyIsTaken by_text None input = Unit {0}
@@ -136,14 +160,14 @@ invitation false = []
 
 -- What came to the sink and was used of the input, which is told: the invitation and the answer, whole; or the invitation and the
 -- file, whole, or the head of its answer alone; or, where memory was wanted, the answer that says so, in front of which the
--- invitation stands or nothing.
+-- invitation stands or nothing. Of the blobs that are told this says nothing.
 pub data IsServed (manner : Manner) (invited : List ℕ) (left : List ℕ) (answer : Option Said) (lent : Option Blob) (old new : Outside)
     (end : Option End) : Type 0 where
-  answered : (said : Said) → answer ≡ Some said → IsSuccess (full_answer said).status
-      → new ≡ writes (invited ++ shown (answer_of said manner)) (record old { input = Some left })
+  answered : (said : Said) (kept : Shelf) → answer ≡ Some said → IsSuccess (full_answer said).status
+      → new ≡ writes (invited ++ shown (answer_of said manner)) (record old { input = Some left; shelf = kept })
       → end ≡ end_of manner → IsServed manner invited left answer lent old new end
-  sent : (blob : Blob) (bytes : List ℕ) → lent ≡ Some blob → IsWhereTold blob.bytes bytes
-      → new ≡ writes (invited ++ (shown (file_answer blob manner) ++ (if manner.head_only then [] else bytes))) (record old { input = Some left })
+  sent : (blob : Blob) (bytes : List ℕ) (kept : Shelf) → lent ≡ Some blob → IsWhereTold blob.bytes bytes
+      → new ≡ writes (invited ++ (shown (file_answer blob manner) ++ (if manner.head_only then [] else bytes))) (record old { input = Some left; shelf = kept })
       → end ≡ end_of manner → IsServed manner invited left answer lent old new end
   starved : (part : List ℕ) (head_only : Bool) → (part ≡ []) ⊎ (part ≡ invited)
       → new.output ≡ behind old.output (part ++ shown (memory_answer head_only))
@@ -153,7 +177,7 @@ pub data IsServed (manner : Manner) (invited : List ℕ) (left : List ℕ) (answ
 abbrev pub IsAnsweredFor : Judged → Bool → List ℕ → List Entry → Outside → Outside → Option End → Type 0
 IsAnsweredFor request last input entries old new end =
     let owed = owed_at_first request in
-    IsServed (manner_for request last) (invitation owed.invites) (behind_body owed.unread input) (answer_by entries None) (file_by entries None) old new end
+    IsServed (manner_for request last) (invitation owed.invites) (behind_body owed.unread input) (due_by request.intent entries) (file_by entries None) old new end
 
 abbrev pub ComesWhole : Judged → List ℕ → Type 0
 ComesWhole request input = BodyIsTaken (for_text request.intent) (body_length request.intent) input

@@ -17,12 +17,12 @@ ghost use Rattle.repo_model.specs.Reply.{no_draft};
 ghost use Rattle.repo_model.specs.Settings.{Settings};
 ghost use Rattle.repo_model.specs.State.{State, opening};
 ghost use Rattle.course_laws.specs.AsPlayed.{BeginsAt, IsAsPlayed, IsPlayedUpTo, NoFaults, RowsTold, StoodStill, WantedMemory};
-ghost use Rattle.course_laws.specs.Causes.{AnswersDue, by_text_of, due_at_first, for_text};
+ghost use Rattle.course_laws.specs.Causes.{AnswersDue, by_text_of, due_at_first};
 ghost use Rattle.course_laws.specs.Complete.{IsComplete};
 ghost use Rattle.course_laws.specs.Duties.{Keeps, at_first, is_head_only, most_asked, most_of, unread_of};
 ghost use Rattle.course_laws.specs.Endings.{EndsByCause};
-ghost use Rattle.course_laws.specs.Faultless.{first_scene, play_stream};
-ghost use Rattle.course_laws.specs.Granted.{AllGranted, ComesWhole, IsAnsweredFor, Succeeds, manner_for, owed_at_first};
+ghost use Rattle.course_laws.specs.Faultless.{first_scene};
+ghost use Rattle.course_laws.specs.Granted.{AllGranted, ComesWhole, IsAnsweredFor, SucceedsAt, manner_for, owed_at_first};
 ghost use Rattle.course_laws.specs.LeftBehind.{IsDrawn, LeavesNothing};
 ghost use Rattle.course_laws.specs.Refusals.{IsRefusedBy};
 ghost use Rattle.course_laws.specs.Worked as worked;
@@ -92,11 +92,11 @@ pub fn refusals_are_answered<H: Held>()
 {}
 
 /// Each course of a request that is not refused by its head comes to an answer of 200 or 201, or sends the file that it was
-/// lent, where each command gets what it asks for, no act fails and the body is refused by nothing that it says. It invites the
-/// body where the client waits for that, and has read it then.
+/// lent, where each command gets what it asks for, no act fails and the body is refused by nothing that it says; a pass over the
+/// repositories is answered by what it did. It invites the body where the client waits for that, and has read it then.
 pub fn courses_succeed()
     ensures { (request : Judged) (last : Bool) →
-        Succeeds (for_text request.intent) (manner_for request last) (course_of (Ok request) last) (owed_at_first request) }
+        SucceedsAt request.intent (manner_for request last) (course_of (Ok request) last) (owed_at_first request) }
 {}
 
 /// A request of a served stream that nothing refuses, neither its head, nor a reply to its commands, nor what its body says, and
@@ -121,28 +121,27 @@ pub fn bodies_are_whole()
 
 /// Where no blob failed, and the records did not, a stream that is served alone has taken what is played from the machine's
 /// state and the input, up to some place: all of it, or up to where the source or the sink failed, by which it ended, or up
-/// to where memory was wanted. Only the answer that says so may stand behind that. The blobs tell their bytes, and so do the
-/// files that stand there, the clock, the input and the output.
+/// to where memory was wanted. Only the answer that says so may stand behind that; where neither side failed, it stands behind
+/// the whole answers of the requests before, and maybe `100 Continue`. The blobs tell their bytes, and so do the files that
+/// stand there, the clock, the input and the output.
 pub fn broken_is_a_front<H: Held>()
     ensures { (settings : Settings) → AllTell H.bytes →
         (n : ℕ) (entries : List Entry) (start : State) (old new : Outside) (ending : End) (input before : List ℕ) →
         Legal settings start entries → StoodStill start.faults (end settings start entries).faults →
         BeginsAt start input before old → StoodStill old.blob_faults new.blob_faults →
         Serves settings (AllTell H.bytes) n entries old new ending →
-        let played = play_stream settings n (record { state = start; input = input }) in
-        IsPlayedUpTo before played old new ending }
+        IsPlayedUpTo settings n (record { state = start; input = input }) before old new ending }
 {}
 
-/// Where nothing failed, such a stream has taken exactly what is played, and ended as that does; or, from where memory was
-/// wanted, the answer that says so, and it was closed.
+/// Where nothing failed, such a stream has taken exactly what is played, and ended as that does; or the whole answers of the
+/// first requests, maybe `100 Continue` of the next, and the answer that says that memory was wanted, and it was closed.
 pub fn faultless_is_played<H: Held>()
     ensures { (settings : Settings) → AllTell H.bytes →
         (n : ℕ) (entries : List Entry) (start : State) (old new : Outside) (ending : End) (input before : List ℕ) →
         Legal settings start entries → StoodStill start.faults (end settings start entries).faults →
         BeginsAt start input before old → NoFaults old new →
         Serves settings (AllTell H.bytes) n entries old new ending →
-        let played = play_stream settings n (record { state = start; input = input }) in
-        IsAsPlayed before played new.output ending }
+        IsAsPlayed settings n (record { state = start; input = input }) before new.output ending }
 {}
 
 /// Before its first turn a repository has no files, so each file that stands there is told.
@@ -159,7 +158,7 @@ pub fn first_stream_is_played<H: Held>()
         Legal settings start entries → StoodStill 0 (end settings start entries).faults →
         old.input ≡ Some input → old.output ≡ Some before → StoodStill old.blob_faults new.blob_faults →
         Serves settings (AllTell H.bytes) n entries old new ending →
-        IsPlayedUpTo before (play_stream settings n (first_scene settings (Some clock) input)) old new ending }
+        IsPlayedUpTo settings n (first_scene settings (Some clock) input) before old new ending }
 {}
 
 /// What a stream without faults has taken is a function of the machine's state, the clock's moments in it, and the input:

@@ -1,6 +1,6 @@
 -- A replay's first connection, from what the server says of the stream: its history, its bytes, its status.
-use Rattle.std.proofs.Common.{◌≡◌, ℕ, ◌+◌, ◌*◌, ◌≤◌, arith, length, length-append, List, [], Option, Some, None, inl, inr, refl, sym, subst, ap, ◌∙◌}
-use Rattle.std.specs.Prelude.{min, map, nat_le}
+use Rattle.std.proofs.Common.{◌≡◌, ◌++◌, ℕ, ◌+◌, ◌*◌, ◌≤◌, arith, length, length-append, List, [], Option, Some, None, inl, inr, refl, sym, subst, ap, ◌∙◌}
+use Rattle.std.specs.Prelude.{max, min, map, nat_le}
 use Rattle.std.proofs.lemmas.Bool.{and_parts, leb-true}
 use Rattle.std.proofs.lemmas.List.{length-map}
 use Rattle.repo_config.specs.Form.{IsSettings}
@@ -12,7 +12,7 @@ use Rattle.outside.specs.Moments.{Moments}
 use Rattle.outside.specs.Told.{in_front}
 use Rattle.repo_core.specs.Whole.{Whole}
 use Rattle.repo_model.specs.History.{Entry, Legal, end}
-use Rattle.repo_model.specs.Settings.{Rule, Settings}
+use Rattle.repo_model.specs.Settings.{GroupRule, ProxyRule, Rule, Settings}
 use Rattle.repo_model.specs.State.{State, opening}
 use Rattle.repo_course.specs.declared.limits.TheConstants.{TURNS}
 use Rattle.repo_course.specs.declared.outcomes.End.{End}
@@ -59,10 +59,18 @@ has-status calls TurnLimit old new out out' status input input' blobs blobs' end
 most-few : (settings : Settings) → IsSettings settings → most_asked settings ≤ 65
 unfolding most_asked
 most-few settings form =
-    let ids = leb-true (length (ids_of settings)) 64 (and_parts (nat_le 1 (length (ids_of settings))) (nat_le (length (ids_of settings)) 64) form.repositories).1 in
-    let parts = length-append (map (λ (rule : Rule). rule.id) settings.hosted) _ in
-    let hosted = length-map settings.hosted (λ (rule : Rule). rule.id) in
-    omega (arith, ids, parts, hosted)
+    let mine : List (List ℕ) = map (λ (rule : Rule). rule.id) settings.hosted in
+    let proxies : List (List ℕ) = map (λ (rule : ProxyRule). rule.id) settings.proxies in
+    let groups : List (List ℕ) = map (λ (rule : GroupRule). rule.id) settings.groups in
+    let count = length (ids_of settings) in
+    let ids : count ≤ 64 = leb-true count 64 (and_parts (nat_le 1 count) (nat_le count 64) form.repositories).1 in
+    let all : count ≡ length (mine ++ proxies) + length groups = length-append (mine ++ proxies) groups in
+    let parts : length (mine ++ proxies) ≡ length mine + length proxies = length-append mine proxies in
+    let hosted : length mine ≡ length settings.hosted = length-map settings.hosted (λ (rule : Rule). rule.id) in
+    few (length settings.hosted) (omega (arith, ids, all, parts, hosted))
+  where
+    few : (n : ℕ) → n ≤ 64 → max 3 (n + 1) ≤ 65
+    few n most = omega (arith, most)
 
 -- so few calls are all counted
 all-counted : (calls made most : ℕ) → calls ≡ min (0 + made) last_count → made ≤ most * TURNS → most ≤ 65 → calls ≡ made

@@ -15,7 +15,7 @@ use Rattle.repo_course.specs.declared.outcomes.End.TheVariants.{Closed, SourceFa
 use Rattle.repo_course.specs.Serving.{Serves}
 use Rattle.course_laws.specs.AsPlayed.{IsAsPlayed, IsPlayedUpTo, NoFaults, StoodStill}
 use Rattle.course_laws.specs.Endings.{EndsByCause}
-use Rattle.course_laws.specs.Faultless.{Played, first_scene, play_stream}
+use Rattle.course_laws.specs.Faultless.{first_scene}
 use Rattle.repo_config.specs.Source.{IsReadFrom}
 use Rattle.repo_config.specs.declared.source.SourceFault.TheVariants.{Refused}
 use Rattle.repo_config.specs.declared.faults.SettingsFault.{SettingsFault}
@@ -30,10 +30,6 @@ use Rattle.repo_run.specs.Surroundings.{Connection, DeskState, File, Output, Pri
 -- the repository of these settings before its first call, with these moments to come
 abbrev pub opened : Settings → Option Moments → Whole
 opened settings clock = record { settings = settings; state = opening settings clock; calls = 0 }
-
--- what a connection is answered that gives these bytes, if nothing fails: a function of the settings, the moments and the bytes
-abbrev pub answers : Settings → Moments → List ℕ → Played End
-answers settings moments input = play_stream settings TURNS (first_scene settings (Some moments) input)
 
 -- all is told: the blobs' bytes, the clock's moments, the bytes that the connection gives, and those that it has taken
 pub record AllTold (tells : Type 0) (clock : Option Moments) (old : Connection) (moments : Moments) (input before : List ℕ) : Type 0 where
@@ -60,11 +56,11 @@ pub record IsReplayed (tells : Type 0) (settings : Settings) (clock clock' : Opt
   pub ends : EndsByCause ending (outside_at old.left old blobs) (outside_at (in_front held new.left) new blobs')
   -- where no blob failed, what was taken is what is answered if nothing fails, up to some place
   pub played : (moments : Moments) (input before : List ℕ) → AllTold tells clock old moments input before → StoodStill blobs.faults blobs'.faults
-      → IsPlayedUpTo before (answers settings moments input) (outside_at old.left old blobs) (outside_at (in_front held new.left) new blobs') ending
+      → IsPlayedUpTo settings TURNS (first_scene settings (Some moments) input) before (outside_at old.left old blobs) (outside_at (in_front held new.left) new blobs') ending
   -- and all of it where nothing failed
   pub faultless : (moments : Moments) (input before : List ℕ) → AllTold tells clock old moments input before
       → NoFaults (outside_at old.left old blobs) (outside_at (in_front held new.left) new blobs')
-      → IsAsPlayed before (answers settings moments input) new.taken ending
+      → IsAsPlayed settings TURNS (first_scene settings (Some moments) input) before new.taken ending
 
 -- a stream is over: its line, or the part of it that was printed, or that there was no memory for it
 abbrev pub Finishes : ℕ → End → Output → Output → ℕ → Type 0

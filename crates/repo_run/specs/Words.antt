@@ -3,7 +3,6 @@ use Rattle.std.specs.Prelude.{ℕ, List, [], Option, Some, None}
 use Rattle.command_words.specs.Wanted.{wanted_of}
 use Rattle.command_words.specs.declared.wanted.Wanted as words
 use Rattle.command_words.specs.declared.wanted.Wanted.TheVariants as word
-use Rattle.repo_run.specs.declared.actions.Action.{Action}
 use Rattle.repo_run.specs.declared.actions.Action.TheVariants.{Replay, Nothing}
 use Rattle.repo_run.specs.declared.actions.Wanted.{Wanted}
 

@@ -1,6 +1,8 @@
 // Cleanings: what a repository does not keep is unlisted, and goes once the grace period is over.
 use crate::exchanges::{EXCHANGE, Exchange, PLAIN, Script};
-use crate::literals::{ABC, CREATED, METHOD_AT_HOSTED, METHOD_AT_STATUS, NO_ROUTE, NOT_THERE, PUT_JAR_1};
+use crate::literals::{
+    ABC, CREATED, METHOD_AT_HOSTED, METHOD_AT_STATUS, NO_ROUTE, NOT_THERE, PUT_JAR_1,
+};
 
 const PUT_JAR_2: &str =
     "PUT /repository/snapshots/org/acme/lib/1.1-SNAPSHOT/lib-1.1-20240301.080000-2.jar HTTP/1.1\r\nHost: x\r\nContent-Length: 3\r\n\r\nabc";
@@ -50,14 +52,28 @@ const UNEXPECTED_BODY_LAST: &str =
 
 /// A clock that steps by 61 seconds, one more than the grace period.
 const BY_61: Exchange = Exchange {
-    words: &["replay", "settings.toml", "--at", "1709208000", "--step", "61"],
+    words: &[
+        "replay",
+        "settings.toml",
+        "--at",
+        "1709208000",
+        "--step",
+        "61",
+    ],
     step: 61,
     ..EXCHANGE
 };
 
 /// A clock that steps by the grace period.
 const BY_60: Exchange = Exchange {
-    words: &["replay", "settings.toml", "--at", "1709208000", "--step", "60"],
+    words: &[
+        "replay",
+        "settings.toml",
+        "--at",
+        "1709208000",
+        "--step",
+        "60",
+    ],
     step: 60,
     ..EXCHANGE
 };
@@ -127,12 +143,7 @@ static CLEANS: [Exchange; 10] = [
             blobs: Some(2),
             ..PLAIN
         },
-        answers: &[
-            (2, CREATED),
-            (1, BLOB_FAULT),
-            (1, NOTHING),
-            (1, ABC),
-        ],
+        answers: &[(2, CREATED), (1, BLOB_FAULT), (1, NOTHING), (1, ABC)],
         line: "calls 12 end Closed\n",
         ..BY_61
     },
@@ -197,10 +208,7 @@ static CLEANS: [Exchange; 10] = [
                 "POST /repository/releases/org/acme/lib/1.0/lib-1.0.jar HTTP/1.1\r\nHost: x\r\n\r\n",
             ),
             (1, "POST /api/clean/ HTTP/1.1\r\nHost: x\r\n\r\n"),
-            (
-                1,
-                "POST /api/sessions/1/commit HTTP/1.1\r\nHost: x\r\n\r\n",
-            ),
+            (1, "POST /api/sessions/1/commit HTTP/1.1\r\nHost: x\r\n\r\n"),
         ],
         answers: &[(1, METHOD_AT_STATUS), (1, METHOD_AT_HOSTED), (2, NO_ROUTE)],
         line: "calls 0 end Closed\n",

@@ -101,9 +101,15 @@ loop-act-preserved g c =
         λ later final ending follows.
             subst (λ (es : List Entry). Follows tells (left_of c.args.manner c.args.first) es old final ending) (sym (append_assoc made.0 passes.0 later))
             (made.2 (passes.0 ++ later) final ending
-            (subst (λ act. Follows tells (left_of c.args.manner act) (passes.0 ++ later) now final ending) (sym c.in-Clean.is)
-            (passes.0, later, c.clean-pass.result, kept, refl, passes.2,
-            subst (λ (course : Course). Follows tells course later then final ending) c.after_clean-act.ensures.left follows))),
+            (subst (λ act. Follows tells (left_of c.args.manner act) (passes.0 ++ later) now final ending) (sym c.in-Clean.is) (
+              passes.0,
+              later,
+              c.clean-pass.result,
+              kept,
+              refl,
+              passes.2,
+              subst (λ (course : Course). Follows tells course later then final ending) c.after_clean-act.ensures.left follows,
+            ))),
       );
     }
 
