@@ -1,8 +1,9 @@
 //! Where an element stands in a document.
-ghost use Rattle.std.specs.Prelude.{◌≡◌, ◌-◌, ◌++◌, ◌∷◌, IfOk, OnOk, [], map, take, bytes_eq, List};
+ghost use Rattle.std.specs.Prelude.{◌≡◌, ◌-◌, ◌++◌, ◌∷◌, IfOk, OnOk, [], map, take, List};
 ghost use Rattle.xml_subset.specs.Element.{Element as ShownElement, shown};
 ghost use Rattle.mvn_doc.specs.Place as spec;
 
+use byte_cuts::bytes::is;
 use mvn_metadata::NoMemory;
 use std::alloc::Global;
 use std::marker::Model;
@@ -30,12 +31,6 @@ pub enum Place {
     Value,
     /// Any other element, and what stands inside it.
     Other,
-}
-
-fn is(name: &[u8], word: &[u8]) -> bool
-    ensures { result ≡ bytes_eq name.now word.now }
-{
-    name == word
 }
 
 fn in_metadata(name: &[u8]) -> Place
