@@ -1,0 +1,9 @@
+pub mod Ascii
+pub mod Loop
+pub mod FieldLaws
+pub mod Kept
+pub mod DocumentLaws
+pub mod ItemLaws
+pub mod Changes
+pub mod Fronts
+pub mod Sized

@@ -1,0 +1,5 @@
+use Rattle.repo_rows.proofs.Ascii.{no_path, document_path_utf8}
+use Rattle.repo_rows.proofs.strings.is_document_path.Goals as goal
+
+pub returns-in-Err : goal.returns-in-Err
+returns-in-Err c = no_path c.args.path.now _ c.in-Err.ensures.cases.0 (document_path_utf8 c.args.path.now)

@@ -1,0 +1,4 @@
+pub mod Reading
+pub mod Given
+pub mod Sizes
+pub mod Laws
