@@ -3,11 +3,17 @@
 #![tactic(auto)]
 
 #[cfg(test)]
+mod captures;
+#[cfg(test)]
 mod connections;
 #[cfg(test)]
 mod continued;
 #[cfg(test)]
 mod cores;
+#[cfg(test)]
+mod deployed_release;
+#[cfg(test)]
+mod deployed_snapshot;
 #[cfg(test)]
 mod exchanges;
 #[cfg(test)]
