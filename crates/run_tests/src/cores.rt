@@ -3,7 +3,7 @@ ghost use Rattle.std.specs.Prelude.{◌≡◌, IfOk};
 
 use crate::exchanges::{PLAIN, Parts, SETTINGS, Script};
 use crate::literals::{GET_LAST, PUT_ABC};
-use crate::runs::desk_of;
+use crate::runs::{desk_of, joined};
 use outside_memory::{MemHeld, ScriptClock};
 use repo_config::{Settings, read};
 use repo_core::Core;
@@ -61,7 +61,7 @@ fn served(
     input: Parts,
     script: Script,
 ) -> Result<(Option<End>, MemCore), AllocError> {
-    let mut desk = desk_of(alloc, input, script, 4096)?;
+    let mut desk = desk_of(alloc, joined(alloc, input)?, script, 4096)?;
     let settings = settings(alloc)?;
     let mut core = opened(alloc, &settings)?;
     let end = serve_first(alloc, &settings, &mut desk, &mut core);

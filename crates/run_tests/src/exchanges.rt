@@ -85,6 +85,7 @@ impl Pieces {
 
 /// A run of the program: its words, its settings, its input and the pieces that it comes in, and what the run has to write and
 /// to give.
+#[derive(Clone, Copy)]
 pub struct Exchange {
     pub name: &'static str,
     pub words: &'static [&'static str],

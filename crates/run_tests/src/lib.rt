@@ -3,6 +3,8 @@
 #![tactic(auto)]
 
 #[cfg(test)]
+mod captures;
+#[cfg(test)]
 mod cleans;
 #[cfg(test)]
 mod connections;
@@ -10,6 +12,10 @@ mod connections;
 mod continued;
 #[cfg(test)]
 mod cores;
+#[cfg(test)]
+mod deployed_release;
+#[cfg(test)]
+mod deployed_snapshot;
 #[cfg(test)]
 mod exchanges;
 #[cfg(test)]

@@ -1,10 +1,13 @@
 // The worked exchanges, each in the pieces that it names, and those where something fails.
 ghost use Rattle.std.specs.Prelude.{◌<◌, IfOk, vec_len};
 
+use crate::captures::Deploy;
 use crate::cleans::cleans;
 use crate::connections::connections;
 use crate::continued::continued;
-use crate::exchanges::{Exchange, Parts, Script, ends, faults, files};
+use crate::deployed_release::release;
+use crate::deployed_snapshot::snapshot;
+use crate::exchanges::{EXCHANGE, Exchange, Parts, Script, ends, faults, files};
 use crate::framing::framing;
 use crate::judged::judged;
 use crate::lengths::lengths;
@@ -17,7 +20,8 @@ use repo_run::{Desk, Ran, run};
 use std::alloc::{AllocError, Global};
 use std::test::Fail;
 
-fn joined(alloc: Global, parts: Parts) -> Result<Vec<u8>, AllocError> {
+/// The bytes of the parts.
+pub fn joined(alloc: Global, parts: Parts) -> Result<Vec<u8>, AllocError> {
     let mut all = Vec::new(alloc);
     for (times, text) in parts {
         for _ in 0..*times {
@@ -34,19 +38,18 @@ fn failing_at(alloc: Global, call: Option<u64>) -> Result<FaultScript, AllocErro
 
 fn source_of(
     alloc: Global,
-    input: Parts,
+    input: Vec<u8>,
     script: Script,
     most: usize,
 ) -> Result<MemSource, AllocError> {
     let faults = failing_at(alloc, script.reads)?;
-    let bytes = joined(alloc, input)?;
-    Ok(MemSource::new(bytes, most.max(1), faults))
+    Ok(MemSource::new(input, most.max(1), faults))
 }
 
 /// A connection that gives this input and has room for so many bytes.
 fn link_of(
     alloc: Global,
-    input: Parts,
+    input: Vec<u8>,
     script: Script,
     most: usize,
 ) -> Result<MemLink, AllocError> {
@@ -62,7 +65,7 @@ type MemDesk = Desk<MemPort, MemBlobs>;
 /// A port with one connection.
 fn port_of(
     alloc: Global,
-    input: Parts,
+    input: Vec<u8>,
     script: Script,
     most: usize,
 ) -> Result<MemPort, AllocError> {
@@ -74,7 +77,7 @@ fn port_of(
 /// A desk whose one connection gives this input.
 pub fn desk_of(
     alloc: Global,
-    input: Parts,
+    input: Vec<u8>,
     script: Script,
     most: usize,
 ) -> Result<MemDesk, AllocError> {
@@ -117,20 +120,17 @@ impl Over {
         }
     }
 
-    /// Whether the run wrote what it has to, and ended with this line and status.
-    fn is_as_said(&self, alloc: Global, exchange: &Exchange) -> Result<bool, AllocError> {
-        let answers = joined(alloc, exchange.answers)?;
-        Ok(
-            self.answers() == answers.as_slice()
-                && self.out.bytes() == exchange.line.as_bytes()
-                && self.ran.status == exchange.status,
-        )
+    /// Whether the run wrote these answers, and ended with the line and the status of the exchange.
+    fn is_as_said(&self, exchange: &Exchange, answers: &[u8]) -> bool {
+        self.answers() == answers
+            && self.out.bytes() == exchange.line.as_bytes()
+            && self.ran.status == exchange.status
     }
 }
 
 fn desks_of(
     alloc: Global,
-    input: Parts,
+    input: Vec<u8>,
     script: Script,
     most: usize,
 ) -> Result<Vec<MemDesk>, AllocError>
@@ -140,12 +140,17 @@ fn desks_of(
 }
 
 /// Runs the program with the words and the settings of an exchange, its clock at 2024-02-29T12:00:00Z and its step from there,
-/// on one desk whose source gives so many bytes at most.
-fn run_of(alloc: Global, exchange: &Exchange, most: usize) -> Result<Over, AllocError> {
+/// on one desk whose source gives this input, so many bytes at most.
+fn run_of(
+    alloc: Global,
+    exchange: &Exchange,
+    input: Vec<u8>,
+    most: usize,
+) -> Result<Over, AllocError> {
     let words = words_of(alloc, exchange.words)?;
     let mut settings = settings_of(alloc, exchange)?;
     let mut out = MemSink::new(alloc, exchange.script.line_room, FaultScript::none(alloc))?;
-    let desks = desks_of(alloc, exchange.input, exchange.script, most)?;
+    let desks = desks_of(alloc, input, exchange.script, most)?;
     let clock = ScriptClock::stepping(alloc, 1_709_208_000, exchange.step);
     let ran = run(
         alloc,
@@ -160,7 +165,21 @@ fn run_of(alloc: Global, exchange: &Exchange, most: usize) -> Result<Over, Alloc
 
 /// Whether an exchange goes as it has to, in pieces of so many bytes.
 fn goes_as_said(alloc: Global, exchange: &Exchange, most: usize) -> Result<bool, AllocError> {
-    run_of(alloc, exchange, most)?.is_as_said(alloc, exchange)
+    let input = joined(alloc, exchange.input)?;
+    let answers = joined(alloc, exchange.answers)?;
+    let over = run_of(alloc, exchange, input, most)?;
+    Ok(over.is_as_said(exchange, answers.as_slice()))
+}
+
+/// Whether a captured deploy is answered as it has to be, in pieces of so many bytes.
+fn is_deployed(alloc: Global, deploy: &Deploy, most: usize) -> Result<bool, AllocError> {
+    let exchange = Exchange {
+        line: deploy.line,
+        ..EXCHANGE
+    };
+    let answers = deploy.answers(alloc)?;
+    let over = run_of(alloc, &exchange, deploy.requests(alloc)?, most)?;
+    Ok(over.is_as_said(&exchange, answers.as_slice()))
 }
 
 /// In which pieces an exchange does not go as it has to.
@@ -255,5 +274,19 @@ fn runs_end_as_said(rt: HostRuntime) -> Result<(), Fail> {
 #[test]
 fn faults_are_told(rt: HostRuntime) -> Result<(), Fail> {
     assert_eq!(rt; first_wrong(rt.alloc(), faults())?, None);
+    Ok(())
+}
+
+#[test]
+fn a_captured_release_is_deployed(rt: HostRuntime) -> Result<(), Fail> {
+    assert!(rt; is_deployed(rt.alloc(), &release(), 1_000_000)?);
+    assert!(rt; is_deployed(rt.alloc(), &release(), 1)?);
+    Ok(())
+}
+
+#[test]
+fn a_captured_snapshot_is_deployed(rt: HostRuntime) -> Result<(), Fail> {
+    assert!(rt; is_deployed(rt.alloc(), &snapshot(), 1_000_000)?);
+    assert!(rt; is_deployed(rt.alloc(), &snapshot(), 1)?);
     Ok(())
 }
