@@ -37,7 +37,8 @@ pub fn ends_have_their_causes<H: Held>()
         Serves settings (AllTell H.bytes) n entries old new ending → EndsByCause ending old new }
 {}
 
-/// A request makes at most three commands, or for a pass over the repositories one for each and one more.
+/// A stream of at most `n` requests makes at most `n` times the commands of one: three, or where that is more one for each
+/// hosted repository and one more.
 pub fn calls_are_few<H: Held>()
     ensures { (settings : Settings) (n : ℕ) (entries : List Entry) (old new : Outside) (ending : End) →
         Serves settings (AllTell H.bytes) n entries old new ending → length entries ≤ most_asked settings * n }
@@ -65,9 +66,9 @@ pub fn courses_are_complete()
 {}
 
 /// Each course of a request, and each refusal, does what it owes, whatever is replied and however its acts end: it asks at
-/// most three commands, or one for each repository and one more, puts its draft or gives it up, gives its lease back and holds it while a file is sent, invites and reads
-/// its body at most once, answers once unless a side of the stream failed, lets the connection go on only where the body was
-/// read, and answers to HEAD by heads alone.
+/// most three commands, or for a pass one for each repository and one more, puts its draft or gives it up, gives its lease
+/// back and holds it while a file is sent, invites and reads its body at most once, answers once unless a side of the stream
+/// failed, lets the connection go on only where the body was read, and answers to HEAD by heads alone.
 pub fn courses_keep_their_duties()
     ensures requests { (judged : Result Judged Refused) (last : Bool) →
         Keeps (is_head_only judged) (course_of judged last) (most_of judged) (at_first (unread_of judged)) }

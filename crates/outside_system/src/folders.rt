@@ -47,8 +47,8 @@ fn place_file<R: Files>(rt: &R, part: &str, path: &str, bytes: &[u8]) -> io::Res
 }
 
 // Puts a blob's file in place of the one that stood there. The bytes are kept before the name is, and the name before
-// it returns. A stop on the way leaves at most a file whose name is no number, or the whole new file; a failure on the
-// way removes that file, so that a full disk is not filled by what was refused.
+// it returns. A stop on the way leaves at most a file whose name is no number, or the whole new file. Behind a failure the
+// first of these is removed, where the system allows it, so that a full disk is not filled by what was refused.
 fn put_file<R: Files + AllocGlobal>(
     rt: &R,
     folder: &str,
@@ -136,7 +136,7 @@ impl Held for FolderHeld {
 /// A call fails where the system refuses it; where the folder is missing, no number stands there and `store`, `read` and
 /// `list` fail. `store` answers Ok once the system keeps the bytes and their name, whatever stops afterwards. What a store
 /// that is stopped leaves is not listed, or it is the whole blob. A folder whose name is a number is no blob: it is
-/// neither listed nor adopted.
+/// neither listed nor adopted, and `store` fails at its number.
 #[derive(Drop)]
 pub struct FolderBlobs<R: Files + AllocGlobal + Clone + Drop> {
     rt: R,

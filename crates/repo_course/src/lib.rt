@@ -1,8 +1,8 @@
 //! The courses of requests as pure machines: which command or act comes next, and what is answered.
 //!
 //! [`start`] gives the first [`Act`] for what was read of a stream, and [`after_reply`], [`after_continue`], [`after_take`],
-//! [`after_read`], [`after_send`] and [`after_clean`] the next one for each result. Each is what `specs/Course.antt` says, and nothing here
-//! touches the outside.
+//! [`after_read`], [`after_send`] and [`after_clean`] the next one for each result. Each is what `specs/Course.antt` says, and
+//! nothing here touches the outside.
 #![tactic(auto)]
 
 mod act;

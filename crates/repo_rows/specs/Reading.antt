@@ -1,5 +1,5 @@
--- How items are read from bytes, from the left. A field that is cut short, unknown or not of its form is refused at its
--- start, which is told by the number of bytes left there.
+-- How items are read from bytes, from the left. A faulty field (one that is not there whole, a tag or a version that nobody
+-- knows, a value out of its form) is told by the number of bytes that are left where it begins.
 use Rattle.std.specs.Prelude.{ℕ, zero, suc, ◌-◌, Bool, ◌==◌, nat_lt, nat_le, if◌then◌else◌, List, [], ◌∷◌, length, take, drop, Option, Some, None, is_some, Result, Ok, Err, bytes_eq}
 use Rattle.std.specs.Int.{Width, w16, w32, w64, byte_len, from_be_bytes}
 use Rattle.mvn_coords.specs.Layout.{Directory}
@@ -136,7 +136,7 @@ unfoldable pub items_at : ℕ → Field (List Item)
 items_at zero bytes = Ok ([], bytes)
 items_at (suc n) bytes = item_at bytes >>= λ i. items_at n i.1 >>= λ is. Ok (i.0 ∷ is.0, is.1)
 
--- a change: the byte 1, the number of items and the items
+-- a change: its version, which is 1, how many items it has, and these
 unfoldable pub change_at : Field (List Item)
 change_at [] = Err 0
 change_at (version ∷ rest) = if version == 1 then (number_at w32 rest >>= λ n. items_at n.0 n.1) else Err (suc (length rest))

@@ -9,7 +9,7 @@ use std::alloc::{AllocError, AllocFailed};
 pub enum ReadFault {
     /// There was no memory left for it.
     NoMemory,
-    /// A field is cut short, unknown or not of its form; so many bytes were left at its start.
+    /// A field is faulty; so many bytes were left where it begins.
     Refused(usize),
 }
 
@@ -34,7 +34,8 @@ impl<T: Drop> From<AllocFailed<T>> for ReadFault {
 pub enum RowFault {
     /// There was no memory left for the call.
     NoMemory,
-    /// The first field that is cut short, unknown or not of its form begins at this byte, counted from 0.
+    /// The first faulty field begins at this byte, counted from 0: it is not there whole, it is a tag or a version that
+    /// nobody knows, or its value is out of its form.
     BadField { at: u64 },
 }
 
