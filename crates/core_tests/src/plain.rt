@@ -1,4 +1,4 @@
-// A plain, slow machine, written apart from the core: lists, filtered anew at every reply.
+// A plain, slow machine, written apart from the core: it keeps lists and looks through them for each command. It purges nothing.
 use crate::bench::Ask;
 use crate::said::{ABC, Content, NOTHING, Said};
 use std::alloc::{AllocError, Global};
