@@ -1,0 +1,163 @@
+-- What is left after a change is added behind the others.
+use Rattle.std.proofs.Common.{◌≡◌, ◌⊎◌, inl, inr, ℕ, List, [], ◌∷◌, ◌++◌, Ok, refl, sym, ◌∙◌, ap, subst}
+use Rattle.std.specs.Prelude.{Option, Some, None, IfSome}
+use Rattle.std.specs.Option.{ForSome, option_map}
+use Rattle.record_disk.specs.Disk.{Trace, AllImages, Throughout, Here, Told}
+use Rattle.record_disk.proofs.Moments.{joined, weaker, told_then}
+use Rattle.record_log.specs.Frames.{HoldsOneMore}
+use Rattle.record_log.specs.Log.{IsAtRest, StandsFor, LogState, HasAcknowledged}
+use Rattle.repo_model.specs.declared.item.Item.{Item}
+use Rattle.repo_model.specs.Tables.{Tables, applied}
+use Rattle.row_tables.specs.Applying.{with_items}
+use Rattle.row_tables.specs.Items.{IsChange, change_bytes}
+use Rattle.record_journal.specs.Loading.{built_up}
+use Rattle.record_journal.specs.Journal.{tables_by, tables_of, LoadsTo, MayLoad, Fits, IsStanding, IsReady, KeepsTables, Commits}
+use Rattle.record_journal.proofs.Loads.{loads_held, pushed, after_change, change_again}
+use Rattle.record_journal.proofs.Standing.{standing_tables, same_tables, standing_images, may_load}
+
+-- the change fits the tables that are told
+abbrev pub FitsTold : Option Tables → List Item → Type 0
+FitsTold told items = ForSome told (λ t. applied t items ≡ Ok (with_items t items))
+
+-- a frame of a change is added behind the others, or fails and stays pending
+module _ (items : List Item) (is : IsChange items) where
+  abbrev payload : List ℕ
+  payload = change_bytes items
+
+  abbrev pub Adding : ℕ → Trace → Trace → Type 0
+  Adding g s t = (ps : List (List ℕ)) → IsAtRest g ps s → Throughout (HoldsOneMore ps payload) s t
+
+  fits_known : (g : ℕ) (s : Trace) (known : IsStanding g None s) → FitsTold (tables_by (Some s) g None) items → applied known.tables items ≡ Ok (with_items known.tables items)
+  fits_known g s known fits = subst (λ o. FitsTold o items) (standing_tables g None s known) fits known.tables refl
+
+  builds_more : (ps : List (List ℕ)) (t : Tables) → built_up ps ≡ Ok t → applied t items ≡ Ok (with_items t items) → built_up (ps ++ payload ∷ []) ≡ Ok (with_items t items)
+  builds_more ps t builds fits = pushed 0 _ t (with_items t items) ps payload builds (after_change t payload items (change_again items is) fits)
+
+  pub added_crash : (a b : Option Trace) (g : ℕ) → Told a b (Adding g) → IfSome a (IsStanding g None) → FitsTold (tables_by a g None) items → Told a b (Commits (tables_by a g None) None items)
+  added_crash None None g told known fits = tt
+  added_crash None (Some t) g told known fits = told
+  added_crash (Some s) None g told known fits = told
+  added_crash (Some s) (Some t) g told known fits = λ u same.
+      subst (λ v. Throughout (λ image. MayLoad v None image ⊎ LoadsTo (with_items v items) image) s t) (same_tables g None s known u same)
+      (weaker (HoldsOneMore known.payloads payload) (λ image. MayLoad known.tables None image ⊎ LoadsTo (with_items known.tables items) image) s t lift (told known.payloads known.stands))
+    where
+      lift : (image : List ℕ) → HoldsOneMore known.payloads payload image → MayLoad known.tables None image ⊎ LoadsTo (with_items known.tables items) image
+      lift image (inl holds) = inl (loads_held image known.payloads holds ∙ known.builds)
+      lift image (inr holds) = inr (loads_held image (known.payloads ++ payload ∷ []) holds ∙ builds_more known.payloads known.tables known.builds (fits_known g s known fits))
+
+  -- it was added
+  pub added_ready : (a b : Option Trace) (g h : ℕ) (after : Option (List ℕ)) → after ≡ None → Told a b (Adding g) → IfSome a (IsStanding g None) → FitsTold (tables_by a g None) items
+      → ((ps : List (List ℕ)) → IfSome a (λ s. StandsFor g None ps s) → IfSome b (λ t. StandsFor h after (ps ++ payload ∷ []) t)) → IfSome b (IsStanding h after)
+  added_ready None None g h after none told known fits stays = tt
+  added_ready None (Some t) g h after none told known fits stays = absurd told
+  added_ready (Some s) None g h after none told known fits stays = tt
+  added_ready (Some s) (Some t) g h after none told known fits stays = record {
+    payloads = known.payloads ++ payload ∷ [];
+    stands = stays known.payloads known.stands;
+    tables = with_items known.tables items;
+    builds = builds_more known.payloads known.tables known.builds (fits_known g s known fits);
+    fits = subst (Fits (with_items known.tables items)) (sym none) tt;
+  }
+
+  pub added_tables : (a b : Option Trace) (g h : ℕ) (after : Option (List ℕ)) → after ≡ None → Told a b (Adding g) → IfSome a (IsStanding g None) → FitsTold (tables_by a g None) items
+      → ((ps : List (List ℕ)) → IfSome a (λ s. StandsFor g None ps s) → IfSome b (λ t. StandsFor h after (ps ++ payload ∷ []) t)) → tables_by b h after ≡ option_map (λ t. with_items t items) (tables_by a g None)
+  unfolding added_ready
+  added_tables None None g h after none told known fits stays = refl
+  added_tables None (Some t) g h after none told known fits stays = absurd told
+  added_tables (Some s) None g h after none told known fits stays = absurd told
+  added_tables (Some s) (Some t) g h after none told known fits stays =
+      standing_tables h after t (added_ready (Some s) (Some t) g h after none told known fits stays) ∙ ap (option_map (λ u. with_items u items)) (sym (standing_tables g None s known))
+
+  -- it failed
+  pub failed_ready : (a b : Option Trace) (g h : ℕ) (after : Option (List ℕ)) → after ≡ Some payload → Told a b (Adding g) → IfSome a (IsStanding g None) → FitsTold (tables_by a g None) items
+      → ((ps : List (List ℕ)) → IfSome a (λ s. StandsFor g None ps s) → IfSome b (λ t. StandsFor h after ps t)) → IfSome b (IsStanding h after)
+  failed_ready None None g h after some told known fits stays = tt
+  failed_ready None (Some t) g h after some told known fits stays = absurd told
+  failed_ready (Some s) None g h after some told known fits stays = tt
+  failed_ready (Some s) (Some t) g h after some told known fits stays = record {
+    payloads = known.payloads;
+    stands = stays known.payloads known.stands;
+    tables = known.tables;
+    builds = known.builds;
+    fits = subst (Fits known.tables) (sym some) (items, change_again items is, fits_known g s known fits);
+  }
+
+  pub failed_tables : (a b : Option Trace) (g h : ℕ) (after : Option (List ℕ)) → after ≡ Some payload → Told a b (Adding g) → IfSome a (IsStanding g None) → FitsTold (tables_by a g None) items
+      → ((ps : List (List ℕ)) → IfSome a (λ s. StandsFor g None ps s) → IfSome b (λ t. StandsFor h after ps t)) → tables_by b h after ≡ tables_by a g None
+  unfolding failed_ready
+  failed_tables None None g h after some told known fits stays = refl
+  failed_tables None (Some t) g h after some told known fits stays = absurd told
+  failed_tables (Some s) None g h after some told known fits stays = absurd told
+  failed_tables (Some s) (Some t) g h after some told known fits stays =
+      standing_tables h after t (failed_ready (Some s) (Some t) g h after some told known fits stays) ∙ sym (standing_tables g None s known)
+
+-- where nothing was done
+pub nothing_added : (a : Option Trace) (g : ℕ) (pending : Option (List ℕ)) (items : List Item) → IfSome a (IsStanding g pending) → Told a a (Commits (tables_by a g pending) pending items)
+nothing_added None g pending items known = tt
+nothing_added (Some s) g pending items known = λ u same. Here (λ image from. inl (subst (λ v. MayLoad v pending image) (same_tables g pending s known u same) (standing_images g pending s known image from)))
+
+-- a failed frame was taken off
+pub undone_first : (a b : Option Trace) (g : ℕ) (before after : Option (List ℕ)) (items : List Item) → IfSome a (IsStanding g before) → Told a b (KeepsTables (tables_by a g before) before after) → Told a b (Commits (tables_by a g before) before items)
+undone_first None None g before after items known told = tt
+undone_first None (Some t) g before after items known told = told
+undone_first (Some s) None g before after items known told = told
+undone_first (Some s) (Some t) g before after items known told = λ u same.
+    weaker (MayLoad u before) (λ image. MayLoad u before image ⊎ LoadsTo (with_items u items) image) s t (λ image may. inl may) (told.moments u same (subst (λ v. AllImages (MayLoad v before) s) (same_tables g before s known u same) (standing_images g before s known)))
+
+-- and then a change added
+pub then_added : (a b c : Option Trace) (told mid : Option Tables) (before : Option (List ℕ)) (items : List Item) → mid ≡ told → Told a b (Commits told before items) → Told b c (Commits mid None items) → Told a c (Commits told before items)
+then_added a b c told mid before items same first second = told_then a b c (Commits told before items) (Commits mid None items) (Commits told before items) go first second
+  where
+    lift : (t : Tables) (image : List ℕ) → MayLoad t None image ⊎ LoadsTo (with_items t items) image → MayLoad t before image ⊎ LoadsTo (with_items t items) image
+    lift t image (inl loads) = inl (may_load t before image loads)
+    lift t image (inr loads) = inr loads
+
+    go : (s t u : Trace) → Commits told before items s t → Commits mid None items t u → Commits told before items s u
+    go s t u one two v is =
+        joined (λ image. MayLoad v before image ⊎ LoadsTo (with_items v items) image) s t u (one v is)
+        (weaker (λ image. MayLoad v None image ⊎ LoadsTo (with_items v items) image) (λ image. MayLoad v before image ⊎ LoadsTo (with_items v items) image) t u (lift v) (two v (same ∙ is)))
+
+-- an append to a log that is ready
+module _ (items : List Item) (is : IsChange items) (old new : LogState) (bytes : List ℕ) (same : bytes ≡ change_bytes items) (undone : old.pending ≡ None)
+    (moments : Told old.trace new.trace (λ s t. (ps : List (List ℕ)) → IsAtRest old.gate ps s → Throughout (HoldsOneMore ps bytes) s t)) (ready : IsReady old) (fits : FitsTold (tables_of old) items) where
+  told_so : Told old.trace new.trace (Adding items is old.gate)
+  told_so = subst (λ l. Told old.trace new.trace (λ s t. (ps : List (List ℕ)) → IsAtRest old.gate ps s → Throughout (HoldsOneMore ps l) s t)) same moments
+
+  ready_so : IfSome old.trace (IsStanding old.gate None)
+  ready_so = subst (λ o. IfSome old.trace (IsStanding old.gate o)) undone ready
+
+  fits_so : FitsTold (tables_by old.trace old.gate None) items
+  fits_so = subst (λ o. FitsTold (tables_by old.trace old.gate o) items) undone fits
+
+  tables_so : tables_by old.trace old.gate None ≡ tables_of old
+  tables_so = ap (tables_by old.trace old.gate) (sym undone)
+
+  pub append_crash : Told old.trace new.trace (Commits (tables_of old) None items)
+  append_crash = subst (λ t. Told old.trace new.trace (Commits t None items)) tables_so (added_crash items is old.trace new.trace old.gate told_so ready_so fits_so)
+
+  more_so : ((ps : List (List ℕ)) → HasAcknowledged ps old → HasAcknowledged (ps ++ bytes ∷ []) new) → (ps : List (List ℕ)) → IfSome old.trace (λ s. StandsFor old.gate None ps s) → IfSome new.trace (λ t. StandsFor new.gate new.pending (ps ++ change_bytes items ∷ []) t)
+  more_so stays ps holds = subst (λ l. HasAcknowledged (ps ++ l ∷ []) new) same (stays ps (subst (λ o. IfSome old.trace (λ s. StandsFor old.gate o ps s)) (sym undone) holds))
+
+  pub append_ready : new.pending ≡ None → ((ps : List (List ℕ)) → HasAcknowledged ps old → HasAcknowledged (ps ++ bytes ∷ []) new) → IsReady new
+  append_ready none stays = added_ready items is old.trace new.trace old.gate new.gate new.pending none told_so ready_so fits_so (more_so stays)
+
+  pub append_tables : new.pending ≡ None → ((ps : List (List ℕ)) → HasAcknowledged ps old → HasAcknowledged (ps ++ bytes ∷ []) new) → tables_of new ≡ option_map (λ t. with_items t items) (tables_of old)
+  append_tables none stays = added_tables items is old.trace new.trace old.gate new.gate new.pending none told_so ready_so fits_so (more_so stays) ∙ ap (option_map (λ t. with_items t items)) tables_so
+
+  still_so : ((ps : List (List ℕ)) → HasAcknowledged ps old → HasAcknowledged ps new) → (ps : List (List ℕ)) → IfSome old.trace (λ s. StandsFor old.gate None ps s) → IfSome new.trace (λ t. StandsFor new.gate new.pending ps t)
+  still_so stays ps holds = stays ps (subst (λ o. IfSome old.trace (λ s. StandsFor old.gate o ps s)) (sym undone) holds)
+
+  pub append_failed_ready : new.pending ≡ Some bytes → ((ps : List (List ℕ)) → HasAcknowledged ps old → HasAcknowledged ps new) → IsReady new
+  append_failed_ready some stays = failed_ready items is old.trace new.trace old.gate new.gate new.pending (some ∙ ap Some same) told_so ready_so fits_so (still_so stays)
+
+  pub append_failed_tables : new.pending ≡ Some bytes → ((ps : List (List ℕ)) → HasAcknowledged ps old → HasAcknowledged ps new) → tables_of new ≡ tables_of old
+  append_failed_tables some stays = failed_tables items is old.trace new.trace old.gate new.gate new.pending (some ∙ ap Some same) told_so ready_so fits_so (still_so stays) ∙ tables_so
+
+-- where memory was wanting
+pub none_crash : (old new : LogState) (items : List Item) → new ≡ old → old.pending ≡ None → IsReady old → Told old.trace new.trace (Commits (tables_of old) None items)
+none_crash old new items same undone ready =
+    subst (λ (v : LogState). Told old.trace v.trace (Commits (tables_of old) None items)) (sym same)
+    (subst (λ o. Told old.trace old.trace (Commits (tables_of old) o items)) undone (nothing_added old.trace old.gate old.pending items ready))
+
+pub none_ready : (old new : LogState) → new ≡ old → IsReady old → IsReady new
+none_ready old new same ready = subst IsReady (sym same) ready

@@ -1,0 +1,6 @@
+pub mod Loads
+pub mod Walk
+pub mod Standing
+pub mod Undone
+pub mod Added
+pub mod Reloaded

@@ -1,0 +1,56 @@
+use Rattle.std.proofs.Common.{◌≡◌, ℕ, List, sym, ◌∙◌, ap, subst, Ok}
+use Rattle.std.specs.Prelude.{IfSome}
+use Rattle.record_disk.specs.Disk.{Told, IsDurable}
+use Rattle.record_log.specs.Frames.{Holds}
+use Rattle.record_log.specs.Log.{HasAcknowledged}
+use Rattle.record_journal.specs.Loading.{loading}
+use Rattle.record_journal.proofs.Reloaded.{Mending, loads_too, reload_crash, reload_tables, reload_ready, reload_recovers}
+use Rattle.record_journal.proofs.reloading.load_log.Goals as goal
+
+pub returns-in-Ok-mend-clause-crash : goal.returns-in-Ok-mend-clause-crash
+returns-in-Ok-mend-clause-crash g c =
+    let loads : loading c.in-Ok.bytes.items ≡ Ok c.in_ok-tables.tables = ap loading (sym c.deref.ensures.value) ∙ c.in_ok-tables.ensures.loads in
+    reload_crash c.args.log.now c.synced_bytes.new.log c.mend.new.self c.in-Ok.bytes.items c.in_ok-tables.tables loads c.in-Ok.ensures.undone c.mend.ensures.done c.in-Ok.ensures.durable
+    (subst (λ l. Told c.synced_bytes.new.log.trace c.mend.new.self.trace (Mending l)) c.deref-2.ensures.value c.mend.ensures.moments) c.synced_bytes.ensures.same c.synced_bytes.ensures.crash
+
+pub returns-in-Ok-mend-clause-first : goal.returns-in-Ok-mend-clause-first
+returns-in-Ok-mend-clause-first g c = λ none.
+    let loads : loading c.in-Ok.bytes.items ≡ Ok c.in_ok-tables.tables = ap loading (sym c.deref.ensures.value) ∙ c.in_ok-tables.ensures.loads in
+    reload_recovers c.args.log.now c.synced_bytes.new.log c.mend.new.self c.in-Ok.bytes.items c.in_ok-tables.tables loads c.in-Ok.ensures.undone c.mend.ensures.done c.in-Ok.ensures.durable
+    (subst (λ l. Told c.synced_bytes.new.log.trace c.mend.new.self.trace (Mending l)) c.deref-2.ensures.value c.mend.ensures.moments) (c.in-Ok.ensures.synced none)
+
+pub returns-in-Ok-mend-clause-loads : goal.returns-in-Ok-mend-clause-loads
+returns-in-Ok-mend-clause-loads g c =
+    let loads : loading c.in-Ok.bytes.items ≡ Ok c.in_ok-tables.tables = ap loading (sym c.deref.ensures.value) ∙ c.in_ok-tables.ensures.loads in
+    loads_too _ _ (loading c.in-Ok.bytes.items) (Ok c.in_ok-tables.tables) c.in-Ok.ensures.bytes loads
+
+pub returns-in-Ok-mend-clause-ready : goal.returns-in-Ok-mend-clause-ready
+returns-in-Ok-mend-clause-ready g c =
+    let loads : loading c.in-Ok.bytes.items ≡ Ok c.in_ok-tables.tables = ap loading (sym c.deref.ensures.value) ∙ c.in_ok-tables.ensures.loads in
+    reload_ready c.args.log.now c.synced_bytes.new.log c.mend.new.self c.in-Ok.bytes.items c.in_ok-tables.tables loads c.in-Ok.ensures.undone c.mend.ensures.done c.in-Ok.ensures.durable
+    (subst (λ l. Told c.synced_bytes.new.log.trace c.mend.new.self.trace (Mending l)) c.deref-2.ensures.value c.mend.ensures.moments)
+    (subst (λ l. IfSome c.synced_bytes.new.log.trace (λ s. IsDurable l s → (ps : List (List ℕ)) → Holds ps l → HasAcknowledged ps c.mend.new.self)) c.deref-2.ensures.value c.in-Ok-mend.ensures.ok)
+
+pub returns-in-Ok-mend-clause-same : goal.returns-in-Ok-mend-clause-same
+returns-in-Ok-mend-clause-same g c =
+    let loads : loading c.in-Ok.bytes.items ≡ Ok c.in_ok-tables.tables = ap loading (sym c.deref.ensures.value) ∙ c.in_ok-tables.ensures.loads in
+    reload_tables c.args.log.now c.synced_bytes.new.log c.mend.new.self c.in-Ok.bytes.items c.in_ok-tables.tables loads c.in-Ok.ensures.undone c.mend.ensures.done c.in-Ok.ensures.durable
+    (subst (λ l. Told c.synced_bytes.new.log.trace c.mend.new.self.trace (Mending l)) c.deref-2.ensures.value c.mend.ensures.moments) c.synced_bytes.ensures.same
+
+pub returns-clause-crash : goal.returns-clause-crash
+returns-clause-crash g c =
+    let loads : loading c.in-Ok.bytes.items ≡ Ok c.in_ok-tables.tables = ap loading (sym c.deref.ensures.value) ∙ c.in_ok-tables.ensures.loads in
+    reload_crash c.args.log.now c.synced_bytes.new.log c.mend.new.self c.in-Ok.bytes.items c.in_ok-tables.tables loads c.in-Ok.ensures.undone c.mend.ensures.done c.in-Ok.ensures.durable
+    (subst (λ l. Told c.synced_bytes.new.log.trace c.mend.new.self.trace (Mending l)) c.deref-2.ensures.value c.mend.ensures.moments) c.synced_bytes.ensures.same c.synced_bytes.ensures.crash
+
+pub returns-clause-first : goal.returns-clause-first
+returns-clause-first g c = λ none.
+    let loads : loading c.in-Ok.bytes.items ≡ Ok c.in_ok-tables.tables = ap loading (sym c.deref.ensures.value) ∙ c.in_ok-tables.ensures.loads in
+    reload_recovers c.args.log.now c.synced_bytes.new.log c.mend.new.self c.in-Ok.bytes.items c.in_ok-tables.tables loads c.in-Ok.ensures.undone c.mend.ensures.done c.in-Ok.ensures.durable
+    (subst (λ l. Told c.synced_bytes.new.log.trace c.mend.new.self.trace (Mending l)) c.deref-2.ensures.value c.mend.ensures.moments) (c.in-Ok.ensures.synced none)
+
+pub returns-clause-same : goal.returns-clause-same
+returns-clause-same g c =
+    let loads : loading c.in-Ok.bytes.items ≡ Ok c.in_ok-tables.tables = ap loading (sym c.deref.ensures.value) ∙ c.in_ok-tables.ensures.loads in
+    reload_tables c.args.log.now c.synced_bytes.new.log c.mend.new.self c.in-Ok.bytes.items c.in_ok-tables.tables loads c.in-Ok.ensures.undone c.mend.ensures.done c.in-Ok.ensures.durable
+    (subst (λ l. Told c.synced_bytes.new.log.trace c.mend.new.self.trace (Mending l)) c.deref-2.ensures.value c.mend.ensures.moments) c.synced_bytes.ensures.same

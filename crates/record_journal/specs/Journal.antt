@@ -1,0 +1,70 @@
+-- What a journal tells, and what a crash at any moment leaves of it.
+use Rattle.std.specs.Prelude.{◌≡◌, ◌⊎◌, ℕ, List, take, Option, Some, None, IsSome, IfSome, option_and_then, Ok}
+use Rattle.std.specs.Result.{result_ok}
+use Rattle.record_disk.specs.Disk.{Trace, After, Sync, content, AllImages, Throughout}
+use Rattle.record_log.specs.Log.{LogState, StandsFor}
+use Rattle.repo_model.specs.declared.item.Item.{Item}
+use Rattle.repo_model.specs.Tables.{Tables, applied}
+use Rattle.row_tables.specs.Applying.{with_items}
+use Rattle.record_journal.specs.Loading.{change_in, loading, built_up}
+
+-- the part of a file that its journal has acknowledged: what stands in front of a frame that failed
+abbrev pub acknowledged : ℕ → Option (List ℕ) → List ℕ → List ℕ
+acknowledged gate None file = file
+acknowledged gate (Some payload) file = take gate file
+
+-- the tables of a journal, where its disk tells them
+abbrev pub tables_by : Option Trace → ℕ → Option (List ℕ) → Option Tables
+tables_by trace gate pending = option_and_then (λ t. result_ok (loading (acknowledged gate pending (content t)))) trace
+
+abbrev pub tables_of : LogState → Option Tables
+tables_of log = tables_by log.trace log.gate log.pending
+
+-- a file that loads to these tables; or to these with the change of a payload
+abbrev pub LoadsTo : Tables → List ℕ → Type 0
+LoadsTo t file = loading file ≡ Ok t
+
+abbrev pub LoadsOneMore : Tables → List ℕ → List ℕ → Type 0
+LoadsOneMore t payload file = (items : List Item) × (change_in payload ≡ Ok items) × LoadsTo (with_items t items) file
+
+-- a file that loads to these tables, or to these with the pending change
+abbrev pub MayLoad : Tables → Option (List ℕ) → List ℕ → Type 0
+MayLoad t None file = LoadsTo t file
+MayLoad t (Some payload) file = LoadsTo t file ⊎ LoadsOneMore t payload file
+
+-- the pending payload is a change that fits the tables
+abbrev pub Fits : Tables → Option (List ℕ) → Type 0
+Fits t None = Unit {0}
+Fits t (Some payload) = (items : List Item) × (change_in payload ≡ Ok items) × (applied t items ≡ Ok (with_items t items))
+
+-- the frames of the acknowledged changes stand in the file, and behind them nothing, or what is left of one that failed
+pub record IsStanding (gate : ℕ) (pending : Option (List ℕ)) (trace : Trace) : Type 0 where
+  pub payloads : List (List ℕ)
+  pub stands : StandsFor gate pending payloads trace
+  pub tables : Tables
+  pub builds : built_up payloads ≡ Ok tables
+  pub fits : Fits tables pending
+
+-- the last load has given the tables
+abbrev pub IsReady : LogState → Type 0
+IsReady log = IfSome log.trace (IsStanding log.gate log.pending)
+
+-- only a journal that was ready has a frame that failed
+abbrev pub IsSteady : LogState → Type 0
+IsSteady log = IsSome log.pending → IsReady log
+
+-- Where every image loads to the tables that are told, or to these with the pending change, it does so at each moment from
+-- one trace to the other, and at the end of it with what is pending then.
+pub record KeepsTables (told : Option Tables) (before after : Option (List ℕ)) (old new : Trace) : Type 0 where
+  pub moments : (t : Tables) → told ≡ Some t → AllImages (MayLoad t before) old → Throughout (MayLoad t before) old new
+  pub images : (t : Tables) → told ≡ Some t → AllImages (MayLoad t before) old → AllImages (MayLoad t after) new
+
+-- Nothing was done; or the file was synced first, and where it then loads, each image does from then on, to the same tables.
+abbrev pub Recovers : Trace → Trace → Type 0
+Recovers old new = (new ≡ old) ⊎ ((t : Tables) → LoadsTo t (content old) → Throughout (LoadsTo t) (After Sync (content old) old) new)
+
+-- At each moment every image loads to the tables that are told, to these with the pending change, or to these with the one
+-- that is committed.
+abbrev pub Commits : Option Tables → Option (List ℕ) → List Item → Trace → Trace → Type 0
+Commits told pending items old new =
+    (t : Tables) → told ≡ Some t → Throughout (λ image. MayLoad t pending image ⊎ LoadsTo (with_items t items) image) old new

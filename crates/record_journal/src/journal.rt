@@ -1,0 +1,104 @@
+ghost use Rattle.std.specs.Prelude.{◌≡◌, ◌⊎◌, [], None, Some, Ok, IfOk, IfSome, IsOk, OnOk, OnErr};
+ghost use Rattle.std.specs.Option.{ForSome, option_map};
+ghost use Rattle.record_disk.specs.Disk.{content, Told};
+ghost use Rattle.repo_model.specs.Tables.{applied};
+ghost use Rattle.row_tables.specs.Applying.{with_items};
+ghost use Rattle.row_tables.specs.Items.{change_bytes};
+ghost use Rattle.row_tables.specs.Records.{HasLoadCause, HasCommitCause, IsRefusal};
+ghost use Rattle.record_journal.specs.Given.{LoadsUnlessFailed};
+ghost use Rattle.record_journal.specs.Journal.{acknowledged, tables_of, IsReady, KeepsTables, Recovers, Commits};
+ghost use Rattle.record_journal.specs.Loading.{loading};
+
+use crate::committing::commit_change;
+use crate::reloading::load_log;
+use record_disk::Disk;
+use record_log::Log;
+use row_tables::{Change, CommitFault, LoadFault, Records, Tables};
+use std::alloc::Global;
+use std::marker::Model;
+
+/// Records in one file of a disk. The change of a commit that failed stays pending until the next commit or load has taken
+/// it off the file.
+#[derive(Drop)]
+pub struct Journal<D: Disk> {
+    log: Log<D>,
+}
+
+impl<D: Disk> Model for Journal<D> {
+    ghost use Rattle.record_log.specs.Log.{LogState};
+    ghost use Rattle.record_log.specs.Codes.{log_code};
+
+    ghost Value = { LogState };
+
+    ghost coded = { log_code };
+
+    ghost use Rattle.record_journal.specs.Journal.{IsSteady};
+
+    ghost view = { λ j. j.log };
+
+    ghost invariant = { λ j. IsSteady j.log };
+}
+
+impl<D: Disk> Journal<D> {
+    /// A journal over a file, which is to be loaded.
+    pub fn new(disk: D) -> Journal<D>
+        ensures { (result.trace ≡ D.trace disk) × (result.faults ≡ D.faults disk) × (result.gate ≡ 0) × (result.pending ≡ None) }
+    {
+        Journal {
+            log: Log::new(disk),
+        }
+    }
+
+    /// The disk, lent.
+    pub fn disk(&self) -> &D
+        ensures { (D.trace result.now ≡ self.now.trace) × (D.faults result.now ≡ self.now.faults) }
+    {
+        self.log.disk()
+    }
+}
+
+impl<D: Disk> Records for Journal<D> {
+    ghost faults = { λ j. j.faults };
+
+    ghost tables = { tables_of };
+
+    ghost ready = { IsReady };
+
+    fn load(&mut self, alloc: Global) -> Result<Tables, LoadFault>
+        ensures cause { HasLoadCause self.old.faults self.new.faults result }
+        ensures told { IfOk result (λ t. IfSome (tables_of self.old) (λ told. t ≡ told)) }
+        ensures refused { IsRefusal result → tables_of self.old ≡ None }
+        ensures ready { OnOk result (IsReady self.new) }
+        ensures same { tables_of self.new ≡ tables_of self.old }
+
+        // The tables and the refusals are those of the file's frames.
+        ensures loads { IfSome self.old.trace (λ s. LoadsUnlessFailed (loading (acknowledged self.old.gate self.old.pending (content s))) result) }
+
+        // A crash at each moment of the call leaves a file that loads to the same tables, or to these with the pending change.
+        ensures crash { Told self.old.trace self.new.trace (KeepsTables (tables_of self.old) self.old.pending self.new.pending) }
+        ensures first { self.old.pending ≡ None → Told self.old.trace self.new.trace Recovers }
+        ensures undone { OnOk result (self.new.pending ≡ None) }
+    {
+        load_log(alloc, &mut self.log)
+    }
+
+    fn commit(&mut self, alloc: Global, change: &Change) -> Result<(), CommitFault>
+        requires ready { IsReady self.old }
+        requires fits { ForSome (tables_of self.old) (λ t. applied t change.now ≡ Ok (with_items t change.now)) }
+        ensures cause { HasCommitCause self.old.faults self.new.faults result }
+        ensures ok { OnOk result (tables_of self.new ≡ option_map (λ t. with_items t change.now) (tables_of self.old)) }
+        ensures err { OnErr result (tables_of self.new ≡ tables_of self.old) }
+        ensures ready { IsReady self.new }
+
+        // A crash at each moment of the call leaves a file that loads to the tables from before it, to these with the change,
+        // or to these with the change that was pending.
+        ensures crash { Told self.old.trace self.new.trace (Commits (tables_of self.old) self.old.pending change.now) }
+        ensures undone { OnOk result (self.new.pending ≡ None) }
+        ensures pending { OnErr result ((self.new.pending ≡ None) ⊎ (self.new.pending ≡ self.old.pending) ⊎ (self.new.pending ≡ Some (change_bytes change.now))) }
+
+        // An empty change has no frame.
+        ensures empty { change.now ≡ [] → self.old.pending ≡ None → IsOk result × (self.new ≡ self.old) }
+    {
+        commit_change(alloc, &mut self.log, change)
+    }
+}
