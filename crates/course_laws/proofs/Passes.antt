@@ -72,12 +72,6 @@ IsPassCommand _ = ⊥
 abbrev pub ArePass : List Entry → Type 0
 ArePass entries = AllByRecursion (λ (e : Entry). IsPassCommand e.command) entries
 
-command-of : Entry → Command
-command-of e = e.command
-
-reply-of : Entry → Reply
-reply-of e = e.reply
-
 asked-unlist : (entries : List Entry) (repos : List (List ℕ)) → commands_in entries ≡ map unlist repos → ArePass entries
 asked-unlist entries repos is =
     all-under IsPassCommand (λ (e : Entry). e.command) entries
