@@ -1,0 +1,131 @@
+-- A GET or HEAD is answered by the reply to its look.
+use Rattle.std.proofs.Common.{◌≡◌, ℕ, Bool, true, false, List, [], ◌∷◌, ◌++◌, Option, Some, None, Result, Ok, refl, sym, subst, ap, ◌∙◌, append-nil}
+use Rattle.std.specs.Prelude.{if◌then◌else◌, unwrap_or}
+use Rattle.outside.specs.Faults.{Rose}
+use Rattle.outside.specs.Told.{IsWhereTold}
+use Rattle.http_wire.specs.Answer.{shown}
+use Rattle.http_wire.specs.Front.{Front, Clean, Cut, Bad, Whole, front}
+use Rattle.http_wire.specs.Head.{Head}
+use Rattle.repo_model.specs.Command.{look}
+use Rattle.repo_model.specs.Data.{Blob}
+use Rattle.repo_model.specs.History.{Entry}
+use Rattle.repo_model.specs.Reply.{Reply, file, text, doc, missed, spent}
+use Rattle.repo_model.specs.Settings.{Settings}
+use Rattle.repo_routes.specs.Framing.{is_head}
+use Rattle.repo_routes.specs.Intent.{Judged, reads}
+use Rattle.repo_routes.specs.Judge.{judge}
+use Rattle.repo_routes.specs.declared.judging.Refused.{Refused}
+use Rattle.repo_course.specs.Answers.{file_answer}
+use Rattle.repo_course.specs.Course.{Course, asks, after_look, after_send, course_for, course_of, sends_file}
+use Rattle.repo_course.specs.declared.manner.Manner.{Manner}
+use Rattle.repo_course.specs.declared.outcomes.End.{End}
+use Rattle.repo_course.specs.declared.outcomes.Sent.{Sent}
+use Rattle.repo_course.specs.declared.outcomes.Sent.TheVariants as sent
+use Rattle.repo_course.specs.declared.said.Said.TheVariants as said
+use Rattle.repo_course.specs.Serving.{Begins, Follows, IsFrontOf, IsWhole, Opens, clean, torn, failed as source_failed, refused as no_head, unread_head, starved as head_starved, served, Outside, SendsAnswer, Turn, writes}
+use Rattle.course_laws.specs.Granted.{manner_for}
+use Rattle.closed_laws.specs.Answered.{IsLookedUp, looked, unread, failed, ShowsFile, whole, blob_fault, starved, cut, ShowsMemory, ShowsReply, ShowsSaid, file_shown}
+
+-- the bytes that a file's answer has behind its head
+abbrev rest_of : Bool → List ℕ → List ℕ
+rest_of only bytes = if only then [] else bytes
+
+any-told : (bytes : Option (List ℕ)) → IsWhereTold bytes (unwrap_or bytes [])
+any-told None = tt
+any-told (Some bytes) = refl
+
+-- what comes of sending the answer, with its bytes or its head alone
+sent-whole : (only : Bool) (blob : Blob) (head : List ℕ) (old mid : Outside) → SendsAnswer only blob head sent.Whole old mid
+    → (bytes : List ℕ) × IsWhereTold blob.bytes bytes × (mid ≡ writes (head ++ rest_of only bytes) old)
+sent-whole true blob head old mid t = (unwrap_or blob.bytes [], any-told blob.bytes, t ∙ ap (λ b. writes b old) (sym (append-nil head)))
+sent-whole false blob head old mid t = (t.0, t.1, t.2)
+
+not-sent : (only : Bool) (blob : Blob) (head : List ℕ) (old mid : Outside) → SendsAnswer only blob head sent.BlobFault old mid
+    → (faults : ℕ) × (only ≡ false) × Rose old.blob_faults faults × (mid ≡ record old { blob_faults = faults })
+not-sent true blob head old mid t = absurd t
+not-sent false blob head old mid t = (t.0, refl, t.1, t.2)
+
+sent-in-part : (only : Bool) (blob : Blob) (head : List ℕ) (old mid : Outside) → SendsAnswer only blob head sent.SinkFault old mid
+    → (faults : ℕ) × (bytes part : List ℕ) × Rose old.write_faults faults × IsWhereTold blob.bytes bytes
+    × IsFrontOf part (head ++ rest_of only bytes) × (mid ≡ writes part (record old { write_faults = faults }))
+sent-in-part true blob head old mid t =
+    (t.0, unwrap_or blob.bytes [], t.1, t.2, any-told blob.bytes, subst (IsFrontOf t.1) (sym (append-nil head)) t.3, t.4)
+sent-in-part false blob head old mid t = (t.0, t.1, t.2, t.3, t.4, t.5, t.6)
+
+sent-nothing : (only : Bool) (blob : Blob) (head : List ℕ) (old mid : Outside) → SendsAnswer only blob head sent.NoMemory old mid → mid ≡ old
+sent-nothing true blob head old mid t = t
+sent-nothing false blob head old mid t = t
+
+-- what is seen of an entry by its reply
+abbrev pub By : Entry → Manner → Outside → Outside → Option End → Type 0
+By e = ShowsReply e.reply
+
+module _ (tells : Type 0) (manner : Manner) where
+  -- a file that is sent, once its lease is given back
+  sent-seen : (blob : Blob) (result : Sent) (rest : List Entry) (old mid new : Outside) (end : Option End)
+      → SendsAnswer manner.head_only blob (shown (file_answer blob manner)) result old mid → Follows tells (after_send manner result) rest mid new end
+      → ShowsFile manner blob old new end
+  sent-seen blob sent.Whole rest old mid new end t f =
+      let w = sent-whole manner.head_only blob (shown (file_answer blob manner)) old mid t in whole w.0 w.1 (f.1 ∙ w.2) f.2
+  sent-seen blob sent.BlobFault rest old mid new end t f =
+      let w = not-sent manner.head_only blob (shown (file_answer blob manner)) old mid t in
+      blob_fault w.0 w.1 w.2 (subst (λ (o : Outside). ShowsSaid manner said.BlobFault o new end) w.3 f.1)
+  sent-seen blob sent.SinkFault rest old mid new end t f =
+      let w = sent-in-part manner.head_only blob (shown (file_answer blob manner)) old mid t in
+      cut w.0 w.1 w.2 w.3 w.4 w.5 (f.1 ∙ w.6) f.2
+  sent-seen blob sent.NoMemory rest old mid new end t f =
+      let still = sent-nothing manner.head_only blob (shown (file_answer blob manner)) old mid t in
+      starved (subst (λ (o : Outside). ShowsMemory manner.head_only o new end) still f.1)
+
+  file-seen : (lease : ℕ) (blob : Blob) (more : List Entry) (old new : Outside) (end : Option End)
+      → Follows tells (sends_file manner lease blob) more old new end → ShowsFile manner blob old new end
+  file-seen lease blob [] old new end f = absurd f.3
+  file-seen lease blob (back ∷ rest) old new end f = sent-seen blob f.0 rest old f.1 new end f.2 f.3.1
+
+  pub reply-seen : (reply : Reply) (more : List Entry) (old new : Outside) (end : Option End)
+      → Follows tells (after_look manner reply) more old new end → ShowsReply reply manner old new end
+  reply-seen (file lease blob) more old new end f = file-seen lease blob more old new end f
+  reply-seen (text bytes) more old new end f = f.1
+  reply-seen (doc bytes digests) more old new end f = f.1
+  reply-seen missed more old new end f = f.1
+  reply-seen spent more old new end f = f.1
+  reply-seen _ more old new end f = f.1
+
+  read-looked : (repo path rest : List ℕ) (entries : List Entry) (old mid new : Outside) (end : Option End) → mid ≡ record old { input = Some rest }
+      → Follows tells (asks (look repo path []) (after_look manner)) entries mid new end → IsLookedUp repo path By manner rest entries old new end
+  read-looked repo path rest [] old mid new end mid-is f = absurd f
+  read-looked repo path rest (e ∷ more) old mid new end mid-is f =
+      looked e more refl f.0 (subst (λ (o : Outside). ShowsReply e.reply manner o new end) mid-is (reply-seen e.reply more mid new end f.1))
+
+module _ (settings : Settings) (tells : Type 0) (last : Bool) where
+  pub turn-looked : (entries : List Entry) (old new : Outside) (end : Option End) (input rest repo path : List ℕ) (head : Head) (request : Judged)
+      → Turn settings tells last entries old new end → old.input ≡ Some input → front input ≡ Whole head rest → judge settings head ≡ Ok request
+      → request.intent ≡ reads repo path → IsLookedUp repo path By (manner_for request last) rest entries old new end
+  turn-looked entries old new end input rest repo path head request (c, mid, o, f) input-is front-is judged asks-it = opened o
+    where
+      manner : Manner
+      manner = manner_for request last
+
+      begins : (P : Front → Type 0) → Begins old.input P → P (Whole head rest)
+      begins P it = subst P front-is (subst (λ (i : Option (List ℕ)). Begins i P) input-is it)
+
+      follows : (d : Course) → c ≡ d → Follows tells d entries mid new end
+      follows d is = subst (λ (e : Course). Follows tells e entries mid new end) is f
+
+      opened : Opens settings last old mid c → IsLookedUp repo path By manner rest entries old new end
+      opened (clean it still is) = let what : Whole head rest ≡ Clean = begins (λ w. w ≡ Clean) it in absurd (cc)
+      opened (torn it still is) = let what : Whole head rest ≡ Cut = begins (λ w. w ≡ Cut) it in absurd (cc)
+      opened (source_failed faults rose still is) =
+          let ends = follows _ is in
+          failed ends.0 (subst (λ n. Rose old.read_faults n) (sym (ap (λ o. o.read_faults) ends.1 ∙ ap (λ o. o.read_faults) still)) rose)
+          (ap (λ o. o.output) ends.1 ∙ ap (λ o. o.output) still) ends.2
+      opened (no_head fault it still is) = let what : Whole head rest ≡ Bad fault = begins (λ w. w ≡ Bad fault) it in absurd (cc)
+      opened (unread_head it still is) = let said = follows _ is in unread mid false said.0 (old.input, still) said.1
+      opened (head_starved other left it uses is) = let said = follows _ is in unread mid (is_head other) said.0 (left, uses) said.1
+      opened (served other left it uses is) =
+          let both = begins (IsWhole other left) it in
+          let same : head ≡ other = both.0 in
+          let course-is : c ≡ course_for manner request.expects (reads repo path) =
+          is ∙ ap (λ (r : Result Judged Refused). course_of r last) (ap (judge settings) (sym same) ∙ judged) ∙ ap (course_for manner request.expects) asks-it in
+          read-looked tells manner repo path rest entries old mid new end (uses ∙ ap (λ (i : Option (List ℕ)). record old { input = i }) both.1)
+          (follows (course_for manner request.expects (reads repo path)) course-is)

@@ -1,0 +1,171 @@
+-- A turn whose first command is a look reads the head of a GET or HEAD of that path.
+use Rattle.std.proofs.Common.{◌≡◌, ℕ, Bool, true, false, List, [], ◌∷◌, ◌++◌, Option, Some, None, Result, Ok, Err, refl, sym, subst, ap, ◌∙◌}
+use Rattle.http_wire.specs.Head.{Head}
+use Rattle.mvn_coords.specs.declared.fault.Side.{Side}
+use Rattle.mvn_digest.specs.Sides.{read_side}
+use Rattle.mvn_doc.specs.Reading.{reading}
+use Rattle.mvn_metadata.specs.Document.{Document}
+use Rattle.repo_model.specs.Command.{Command, look, unlist, collect}
+use Rattle.repo_model.specs.Data.{Blob}
+use Rattle.repo_model.specs.History.{Entry}
+use Rattle.repo_model.specs.Reply.{Reply}
+use Rattle.repo_model.specs.Settings.{Settings}
+use Rattle.repo_routes.specs.Intent.{Intent, Judged, reads as reads_path, puts_file, puts_side, puts_document, counts, cleans as cleans_all}
+use Rattle.repo_routes.specs.Judge.{judge}
+use Rattle.repo_routes.specs.declared.judging.Refused.{Refused}
+use Rattle.repo_course.specs.Course.{Body, Course, Pass, Stored, asks, continues, takes, reads, sends, cleans, says, stops, after_clean, after_continue, after_document, after_fault, after_side, compares, course_for, course_of, cut_off, invites, notes}
+use Rattle.repo_course.specs.declared.manner.Manner.{Manner}
+use Rattle.repo_course.specs.declared.outcomes.CleanFault.TheVariants as clean_fault
+use Rattle.repo_course.specs.declared.outcomes.Continued.{Continued}
+use Rattle.repo_course.specs.declared.outcomes.Continued.TheVariants as continued
+use Rattle.repo_course.specs.declared.outcomes.End.{End}
+use Rattle.repo_course.specs.declared.outcomes.Sent.{Sent}
+use Rattle.repo_course.specs.declared.outcomes.Took.{Took}
+use Rattle.repo_course.specs.declared.outcomes.Took.TheVariants as took
+use Rattle.repo_course.specs.Serving.{Begins, Follows, IsWhole, Opens, clean, torn, failed, refused, unread_head, starved, served, Outside, Turn, store_of, with_store}
+use Rattle.course_laws.specs.Granted.{manner_for}
+use Rattle.course_laws.proofs.Passes.{ArePass, IsPassCommand, passes-ask}
+use Rattle.closed_laws.specs.Answered.{ReadShows, ShowsReply}
+use Rattle.closed_laws.proofs.AnsweredReads.{reply-seen}
+
+abbrev IsLook : Command → Type 0
+IsLook command = (repo : List ℕ) × (path : List ℕ) × (tried : List ℕ) × (command ≡ look repo path tried)
+
+-- the first command of the course is no look
+abbrev Unlooking : Course → Type 0
+Unlooking (asks command next) = IsLook command → ⊥
+Unlooking (continues next) = (result : Continued) → Unlooking (next result)
+Unlooking (takes draft count next) = (stored : Stored) → Unlooking (next stored)
+Unlooking (reads count next) = (body : Body) → Unlooking (next body)
+Unlooking (sends blob manner next) = (result : Sent) → Unlooking (next result)
+Unlooking (cleans repos next) = (pass : Pass) → Unlooking (next pass)
+Unlooking (says said manner) = Unit {0}
+Unlooking (stops end) = Unit {0}
+
+pass-is-no-look : (command : Command) → IsPassCommand command → IsLook command → ⊥
+pass-is-no-look (look repo path tried) asked looks = absurd asked
+pass-is-no-look (unlist repo) asked looks = let is : unlist repo ≡ look looks.0 looks.1 looks.2 = looks.3 in absurd (cc)
+pass-is-no-look collect asked looks = let is : collect ≡ look looks.0 looks.1 looks.2 = looks.3 in absurd (cc)
+pass-is-no-look _ asked looks = absurd asked
+
+-- what a pass asks first is no look, nor is what is asked behind it
+pass-first : (mine later : List Entry) (e : Entry) (more : List Entry) → ArePass mine → mine ++ later ≡ e ∷ more → IsLook e.command
+    → (later ≡ e ∷ more → ⊥) → ⊥
+pass-first [] later e more asked is looks behind = behind is
+pass-first (d ∷ mine) later e more asked is looks behind =
+    let same : d ≡ e = cc in pass-is-no-look e.command (subst (λ (x : Entry). IsPassCommand x.command) same asked.0) looks
+
+module _ (tells : Type 0) where
+  first-asked : (c : Course) → Unlooking c → (entries : List Entry) (e : Entry) (more : List Entry) → entries ≡ e ∷ more → IsLook e.command
+      → (old new : Outside) (end : Option End) → Follows tells c entries old new end → ⊥
+  first-asked (asks command next) un [] e more is looks old new end f = f
+  first-asked (asks command next) un (d ∷ entries) e more is looks old new end f =
+      let same : d ≡ e = cc in un (looks.0, looks.1, looks.2, sym f.0 ∙ ap (λ (x : Entry). x.command) same ∙ looks.3)
+  first-asked (continues next) un entries e more is looks old new end f = first-asked (next f.0) (un f.0) entries e more is looks f.1 new end f.3
+  first-asked (takes draft count next) un entries e more is looks old new end f = first-asked (next f.0) (un f.0) entries e more is looks f.1 new end f.3
+  first-asked (reads count next) un entries e more is looks old new end f = first-asked (next f.0) (un f.0) entries e more is looks f.1 new end f.3
+  first-asked (sends blob manner next) un entries e more is looks old new end f = first-asked (next f.0) (un f.0) entries e more is looks f.1 new end f.3
+  first-asked (cleans repos next) un entries e more is looks old new end f =
+      pass-first f.0 f.1 e more (passes-ask repos f.0 (store_of old) f.3 f.2 f.5) (sym f.4 ∙ is) looks
+      (λ later-is. first-asked (next f.2) (un f.2) f.1 e more later-is looks (with_store f.3 old) new end f.6)
+  first-asked (says said manner) un entries e more is looks old new end f = let none : e ∷ more ≡ [] = sym is ∙ f.0 in absurd (cc)
+  first-asked (stops next) un entries e more is looks old new end f = let none : e ∷ more ≡ [] = sym is ∙ f.0 in absurd (cc)
+
+-- only a read looks first
+fault-unlooking : (manner : Manner) (fault : Took) → Unlooking (after_fault manner fault)
+fault-unlooking manner took.Torn = tt
+fault-unlooking manner took.SourceFault = tt
+fault-unlooking manner took.BlobFault = tt
+fault-unlooking manner took.NoMemory = tt
+
+compares-unlooking : (repo path : List ℕ) (manner : Manner) (digest : Option (List ℕ)) → Unlooking (compares repo path manner digest)
+compares-unlooking repo path manner (Some digest) = λ (looks : IsLook _). absurd (let is = looks.3 in cc)
+compares-unlooking repo path manner None = tt
+
+notes-unlooking : (repo path : List ℕ) (manner : Manner) (read : Result Document ℕ) → Unlooking (notes repo path manner read)
+notes-unlooking repo path manner (Ok document) = λ (looks : IsLook _). absurd (let is = looks.3 in cc)
+notes-unlooking repo path manner (Err at) = tt
+
+side-unlooking : (repo path : List ℕ) (side : Side) (manner : Manner) (body : Body) → Unlooking (after_side repo path side manner body)
+side-unlooking repo path side manner (Ok bytes) = compares-unlooking repo path manner (read_side side bytes)
+side-unlooking repo path side manner (Err fault) = fault-unlooking manner fault
+
+document-unlooking : (repo path : List ℕ) (manner : Manner) (body : Body) → Unlooking (after_document repo path manner body)
+document-unlooking repo path manner (Ok bytes) = notes-unlooking repo path manner (reading bytes)
+document-unlooking repo path manner (Err fault) = fault-unlooking manner fault
+
+invited-unlooking : (expects : Bool) (body : Course) → Unlooking body → Unlooking (invites expects cut_off body)
+invited-unlooking false body un = un
+invited-unlooking true body un = by-result
+  where
+    by-result : (result : Continued) → Unlooking (after_continue cut_off body result)
+    by-result continued.Written = un
+    by-result continued.SinkFault = tt
+
+clean-unlooking : (manner : Manner) (pass : Pass) → Unlooking (after_clean manner pass)
+clean-unlooking manner (Ok done) = tt
+clean-unlooking manner (Err clean_fault.StoreFault) = tt
+clean-unlooking manner (Err clean_fault.BlobFault) = tt
+clean-unlooking manner (Err clean_fault.NoMemory) = tt
+
+-- something was asked
+not-none : {P : Type 0} (e : Entry) (more : List Entry) → e ∷ more ≡ [] → P
+not-none e more none = absurd (cc)
+
+module _ (settings : Settings) (tells : Type 0) (last : Bool) (e : Entry) (more : List Entry) (repo path tried : List ℕ) (looks : e.command ≡ look repo path tried) where
+  module _ (old mid new : Outside) (end : Option End) where
+    abbrev Goal : Type 0
+    Goal = ReadShows settings last repo path (ShowsReply e.reply) old new end
+
+    never : (d : Course) → Unlooking d → Follows tells d (e ∷ more) mid new end → Goal
+    never d un f = absurd (first-asked tells d un (e ∷ more) e more refl (repo, path, tried, looks) mid new end f)
+
+    module _ (head : Head) (left : Option (List ℕ)) (comes : Begins old.input (IsWhole head left)) (uses : mid ≡ record old { input = left }) where
+      by-intent : (request : Judged) → judge settings head ≡ Ok request → (intent : Intent) → request.intent ≡ intent
+          → Follows tells (course_for (manner_for request last) request.expects intent) (e ∷ more) mid new end → Goal
+      by-intent request judged (reads_path r p) asks-it f =
+          let same : look r p [] ≡ look repo path tried = sym f.0 ∙ looks in
+          let repo-is : r ≡ repo = cc in
+          let path-is : p ≡ path = cc in
+          record {
+            head = head;
+            left = left;
+            request = request;
+            comes = comes;
+            judged = judged;
+            asks = asks-it ∙ ap (λ (x : List ℕ). reads_path x p) repo-is ∙ ap (reads_path repo) path-is;
+            shows = subst (λ (o : Outside). ShowsReply e.reply (manner_for request last) o new end) uses
+                (reply-seen tells (manner_for request last) e.reply more mid new end f.1);
+          }
+      by-intent request judged (puts_file r p count) asks-it f =
+          let un : Unlooking (course_for (manner_for request last) request.expects (puts_file r p count)) = λ (l : IsLook _). absurd (let is = l.3 in cc) in
+          never (course_for (manner_for request last) request.expects (puts_file r p count)) un f
+      by-intent request judged (puts_side r p side count) asks-it f =
+          never _ (invited-unlooking request.expects _ (side-unlooking r p side (manner_for request last))) f
+      by-intent request judged (puts_document r p count) asks-it f =
+          never _ (invited-unlooking request.expects _ (document-unlooking r p (manner_for request last))) f
+      by-intent request judged counts asks-it f =
+          let un : Unlooking (course_for (manner_for request last) request.expects counts) = λ (l : IsLook _). absurd (let is = l.3 in cc) in
+          never (course_for (manner_for request last) request.expects counts) un f
+      by-intent request judged (cleans_all repos) asks-it f =
+          never (course_for (manner_for request last) request.expects (cleans_all repos)) (clean-unlooking (manner_for request last)) f
+
+      by-outcome : (outcome : Result Judged Refused) → judge settings head ≡ outcome → Follows tells (course_of outcome last) (e ∷ more) mid new end → Goal
+      by-outcome (Ok request) judged f = by-intent request judged request.intent refl f
+      by-outcome (Err cause) judged f = not-none e more f.0
+
+  pub turn-answered : (old new : Outside) (end : Option End) → Turn settings tells last (e ∷ more) old new end
+      → ReadShows settings last repo path (ShowsReply e.reply) old new end
+  turn-answered old new end (c, mid, o, f) = opened o
+    where
+      follows : (d : Course) → c ≡ d → Follows tells d (e ∷ more) mid new end
+      follows d is = subst (λ (x : Course). Follows tells x (e ∷ more) mid new end) is f
+
+      opened : Opens settings last old mid c → ReadShows settings last repo path (ShowsReply e.reply) old new end
+      opened (clean it still is) = not-none e more (follows _ is).0
+      opened (torn it still is) = not-none e more (follows _ is).0
+      opened (failed faults rose still is) = not-none e more (follows _ is).0
+      opened (refused fault it still is) = not-none e more (follows _ is).0
+      opened (unread_head it still is) = not-none e more (follows _ is).0
+      opened (starved head left it uses is) = not-none e more (follows _ is).0
+      opened (served head left it uses is) = by-outcome old mid new end head left it uses (judge settings head) refl (follows _ is)

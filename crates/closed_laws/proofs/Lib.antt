@@ -1,0 +1,4 @@
+pub mod AnsweredReads
+pub mod FirstLooks
+pub mod NamedServed
+pub mod NamedStreams

@@ -1,0 +1,148 @@
+-- A file that a served document named is seen as its answer.
+use native.Mathlib.Omega.{arith}
+use Rattle.std.proofs.Common.{◌≡◌, ◌⊎◌, inl, inr, ℕ, ◌+◌, ◌≤◌, Bool, List, [], ◌∷◌, ◌++◌, Option, Some, None, Ok, refl, sym, subst, ap, ◌∙◌, append_assoc}
+use Rattle.std.specs.List.{AllByRecursion}
+use Rattle.http_wire.specs.declared.answers.Answer.{Answer}
+use Rattle.mvn_coords.specs.declared.fault.Side.{Side}
+use Rattle.mvn_digest.specs.Sides.{side_text}
+use Rattle.repo_model.specs.Command.{look}
+use Rattle.repo_model.specs.Data.{Blob, Row}
+use Rattle.repo_model.specs.History.{Entry, Fits, Legal, after, end}
+use Rattle.repo_model.specs.Reply.{Reply, file, text, spent, no_memory}
+use Rattle.repo_model.specs.Settings.{Settings}
+use Rattle.repo_model.specs.State.{State, rows_of}
+use Rattle.repo_laws.specs.Closed.{Answers, GivesFile, GivesText, StandsInTime, named}
+use Rattle.repo_laws.specs.Described.{IsAmong}
+use Rattle.repo_laws.specs.Sound.{AreNamedApart, IsSound, Sound}
+use Rattle.repo_laws.proofs.Closed.{answers-up-to, named-in-time}
+use Rattle.repo_laws.proofs.Histories.{sound-entry}
+use Rattle.repo_course.specs.Serving.{Outside, Says, whole as said_whole, memory as said_memory, cut as said_cut}
+use Rattle.repo_course.specs.declared.manner.Manner.{Manner}
+use Rattle.repo_course.specs.declared.outcomes.End.{End}
+use Rattle.repo_course.specs.declared.outcomes.End.TheVariants as stream
+use Rattle.repo_course.specs.declared.said.Said.{Said}
+use Rattle.repo_course.specs.declared.said.Said.TheVariants as said
+use Rattle.closed_laws.specs.Answered.{ReadShows, IsLookedUp, looked, unread, failed, ShowsFile, starved, ShowsMemory, ShowsReply, ShowsSaid}
+use Rattle.closed_laws.specs.Named.{IsSideOf, ShowsNamed, ShowsSide, WasNamed}
+use Rattle.closed_laws.proofs.AnsweredReads.{By}
+
+among-has : {X : Type 0} (P : X → Type 0) (x : X) (xs : List X) → AllByRecursion P xs → IsAmong x xs → P x
+among-has P x [] all among = absurd among
+among-has P x (y ∷ ys) all (inl is) = subst P is all.0
+among-has P x (y ∷ ys) all (inr more) = among-has P x ys all.1 more
+
+-- a history in two parts
+legal-parts : (settings : Settings) (before more : List Entry) (s : State) → Legal settings s (before ++ more)
+    → Legal settings s before × Legal settings (end settings s before) more
+legal-parts settings [] more s legal = (tt, legal)
+legal-parts settings (e ∷ before) more s legal = let (one, other) = legal-parts settings before more (after settings s e) legal.1 in ((legal.0, one), other)
+
+end-parts : (settings : Settings) (before more : List Entry) (s : State) → end settings s (before ++ more) ≡ end settings (end settings s before) more
+end-parts settings [] more s = refl
+end-parts settings (e ∷ before) more s = end-parts settings before more (after settings s e)
+
+module _ (settings : Settings) (apart : AreNamedApart settings.hosted) where
+  ends-sound : (entries : List Entry) (s : State) → Sound settings s → Legal settings s entries → Sound settings (end settings s entries)
+  ends-sound [] s sound legal = sound
+  ends-sound (e ∷ entries) s sound legal = ends-sound entries (after settings s e) (sound-entry settings apart s e legal.0 sound) legal.1
+
+  -- a look at what was named is answered with it
+  pub named-answers : (start : State) (before later : List Entry) (e : Entry) (repo : List ℕ) (row : Row) → Sound settings start
+      → Legal settings start (before ++ e ∷ later) → WasNamed settings start before repo row e.moment
+      → Answers repo row.path row.blob (end settings start before) e
+  named-answers start before later e repo row sound legal was =
+      let s = end settings start was.first in
+      let now = after settings s was.asked in
+      let t = was.asked.moment in
+      let all : Legal settings start (was.first ++ (was.asked ∷ was.rest)) × Legal settings (end settings start before) (e ∷ later) =
+      let both = legal-parts settings before (e ∷ later) start legal in (subst (Legal settings start) was.parts both.0, both.1) in
+      let cut : Legal settings start was.first × Legal settings s (was.asked ∷ was.rest) = legal-parts settings was.first (was.asked ∷ was.rest) start all.0 in
+      let sound_s : Sound settings s = ends-sound was.first start sound cut.0 in
+      let sound_now : Sound settings now = sound-entry settings apart s was.asked cut.1.0 sound_s in
+      let in_time = among-has (λ (r : Row). StandsInTime settings.grace t repo r.path r.blob now) row (named was.directory (rows_of repo s) was.served)
+      (named-in-time settings apart s was.asked repo was.directory was.served cut.1.0 sound_s) was.names in
+      let then_too = (answers-up-to settings apart was.rest now t repo row.path row.blob sound_now cut.1.1 in_time).1 in
+      let ends : end settings start before ≡ end settings now was.rest =
+      ap (end settings start) was.parts ∙ end-parts settings was.first (was.asked ∷ was.rest) start in
+      let last_sound : Sound settings (end settings now was.rest) = ends-sound was.rest now sound_now cut.1.1 in
+      let last_legal : Legal settings (end settings now was.rest) (e ∷ later) = subst (λ (x : State). Legal settings x (e ∷ later)) ends all.1 in
+      let answered = (answers-up-to settings apart (e ∷ later) (end settings now was.rest) t repo row.path row.blob last_sound last_legal then_too).0.0 was.in_time in
+      subst (λ (x : State). Answers repo row.path row.blob x e) (sym ends) answered
+
+-- what is seen of want of memory is among what is seen of an answer
+memory-said : (answer : Said) (manner : Manner) (old new : Outside) (end : Option End) → ShowsMemory manner.head_only old new end → ShowsSaid manner answer old new end
+memory-said answer manner old new end (said_whole is ends) = said_memory is ends
+memory-said answer manner old new end (said_memory is ends) = said_memory is ends
+memory-said answer manner old new end (said_cut faults all part rose (inl which) front is ends) = said_cut faults all part rose (inr which) front is ends
+memory-said answer manner old new end (said_cut faults all part rose (inr which) front is ends) = said_cut faults all part rose (inr which) front is ends
+
+-- a reply that gives the file, or the text, is seen so
+file-shown : (s : State) (blob : Blob) (reply : Reply) (manner : Manner) (old new : Outside) (end : Option End) → GivesFile s blob reply
+    → ShowsReply reply manner old new end → ShowsNamed s blob manner old new end
+file-shown s blob (file lease given) manner old new end gives seen = inl (subst (λ (b : Blob). ShowsFile manner b old new end) gives seen)
+file-shown s blob spent manner old new end gives seen = inr (gives, seen)
+file-shown s blob no_memory manner old new end gives seen = inl (starved seen)
+file-shown s blob _ manner old new end gives seen = absurd gives
+
+text-shown : (wanted : List ℕ) (reply : Reply) (manner : Manner) (old new : Outside) (end : Option End) → GivesText wanted reply
+    → ShowsReply reply manner old new end → ShowsSaid manner (said.Text wanted) old new end
+text-shown wanted (text bytes) manner old new end gives seen = subst (λ (b : List ℕ). ShowsSaid manner (said.Text b) old new end) gives seen
+text-shown wanted no_memory manner old new end gives seen = memory-said (said.Text wanted) manner old new end seen
+text-shown wanted _ manner old new end gives seen = absurd gives
+
+-- what is seen, where more is known of it
+answered-then : (settings : Settings) (last : Bool) (repo path : List ℕ) (P Q : Manner → Outside → Outside → Option End → Type 0)
+    → ((manner : Manner) (old new : Outside) (end : Option End) → P manner old new end → Q manner old new end)
+    → (old new : Outside) (end : Option End) → ReadShows settings last repo path P old new end → ReadShows settings last repo path Q old new end
+answered-then settings last repo path P Q then_too old new end a = record {
+  head = a.head;
+  left = a.left;
+  request = a.request;
+  comes = a.comes;
+  judged = a.judged;
+  asks = a.asks;
+  shows = then_too _ _ new end a.shows;
+}
+
+module _ (settings : Settings) (apart : AreNamedApart settings.hosted) (start : State) (sound : IsSound settings start) (before : List Entry) (repo : List ℕ) (row : Row) where
+  abbrev s : State
+  s = end settings start before
+
+  pub file-answered : (later : List Entry) (e : Entry) (tried : List ℕ) (last : Bool) (old new : Outside) (stop : Option End)
+      → Legal settings start (before ++ e ∷ later) → WasNamed settings start before repo row e.moment → e.command ≡ look repo row.path tried
+      → ReadShows settings last repo row.path (ShowsReply e.reply) old new stop
+      → ReadShows settings last repo row.path (ShowsNamed s row.blob) old new stop
+  file-answered later e tried last old new stop legal was looks a =
+      let gives = (named-answers settings apart start before later e repo row sound.order legal was).0 tried looks in
+      answered-then settings last repo row.path (ShowsReply e.reply) (ShowsNamed s row.blob) (λ m from to ending seen. file-shown s row.blob e.reply m from to ending gives seen) old new stop a
+
+  pub side-answered : (later : List Entry) (e : Entry) (at tried : List ℕ) (side : Side) (last : Bool) (old new : Outside) (stop : Option End)
+      → Legal settings start (before ++ e ∷ later) → WasNamed settings start before repo row e.moment → e.command ≡ look repo at tried → IsSideOf row.path side at
+      → ReadShows settings last repo at (ShowsReply e.reply) old new stop → ReadShows settings last repo at (ShowsSide side row.blob) old new stop
+  side-answered later e at tried side last old new stop legal was looks beside a =
+      let gives = (named-answers settings apart start before later e repo row sound.order legal was).1 at tried beside.0 side looks beside.1 beside.2 in
+      answered-then settings last repo at (ShowsReply e.reply) (ShowsSide side row.blob) (λ m from to ending seen. text-shown (side_text side row.blob.print.digests) e.reply m from to ending gives seen) old new stop a
+
+  pub file-looked : (entries later : List Entry) (manner : Manner) (left : List ℕ) (old new : Outside) (stop : Option End)
+      → IsLookedUp repo row.path By manner left entries old new stop
+      → IsLookedUp repo row.path
+      (λ e m from to ending. Legal settings start (before ++ e ∷ later) → WasNamed settings start before repo row e.moment → ShowsNamed s row.blob m from to ending)
+      manner left entries old new stop
+  file-looked entries later manner left old new stop (looked e more is looks seen) =
+      looked e more is looks (λ legal was.
+      let gives = (named-answers settings apart start before later e repo row sound.order legal was).0 [] looks in
+      file-shown s row.blob e.reply manner _ new stop gives seen)
+  file-looked entries later manner left old new stop (unread mid head_only none reads seen) = unread mid head_only none reads seen
+  file-looked entries later manner left old new stop (failed none rose still ends) = failed none rose still ends
+
+  pub side-looked : (entries later : List Entry) (at : List ℕ) (side : Side) (manner : Manner) (left : List ℕ) (old new : Outside) (stop : Option End)
+      → IsSideOf row.path side at → IsLookedUp repo at By manner left entries old new stop
+      → IsLookedUp repo at
+      (λ e m from to ending. Legal settings start (before ++ e ∷ later) → WasNamed settings start before repo row e.moment → ShowsSide side row.blob m from to ending)
+      manner left entries old new stop
+  side-looked entries later at side manner left old new stop beside (looked e more is looks seen) =
+      looked e more is looks (λ legal was.
+      let gives = (named-answers settings apart start before later e repo row sound.order legal was).1 at [] beside.0 side looks beside.1 beside.2 in
+      text-shown (side_text side row.blob.print.digests) e.reply manner _ new stop gives seen)
+  side-looked entries later at side manner left old new stop beside (unread mid head_only none reads seen) = unread mid head_only none reads seen
+  side-looked entries later at side manner left old new stop beside (failed none rose still ends) = failed none rose still ends

@@ -1,0 +1,77 @@
+-- How a GET or HEAD of a path is answered on the wire, by the reply to its look.
+use Rattle.std.specs.Prelude.{◌≡◌, ℕ, Bool, true, false, if◌then◌else◌, List, [], ◌∷◌, ◌++◌, Option, Some, None, Ok}
+use Rattle.outside.specs.Faults.{Rose}
+use Rattle.outside.specs.Told.{IsWhereTold}
+use Rattle.http_wire.specs.Answer.{shown}
+use Rattle.http_wire.specs.Head.{Head}
+use Rattle.repo_model.specs.Command.{look}
+use Rattle.repo_model.specs.Data.{Blob}
+use Rattle.repo_model.specs.History.{Entry}
+use Rattle.repo_model.specs.Reply.{Reply, file, text, doc, missed, spent}
+use Rattle.repo_model.specs.Settings.{Settings}
+use Rattle.repo_routes.specs.Intent.{Judged, reads}
+use Rattle.repo_routes.specs.Judge.{judge}
+use Rattle.repo_course.specs.Answers.{answer_of, file_answer, memory_answer}
+use Rattle.repo_course.specs.Course.{end_of}
+use Rattle.repo_course.specs.Serving.{Begins, IsFrontOf, IsWhole, Outside, ReadsOn, Says, writes}
+use Rattle.repo_course.specs.declared.manner.Manner.{Manner}
+use Rattle.repo_course.specs.declared.outcomes.End.{End}
+use Rattle.repo_course.specs.declared.outcomes.End.TheVariants as stream
+use Rattle.repo_course.specs.declared.said.Said.{Said}
+use Rattle.repo_course.specs.declared.said.Said.TheVariants as said
+use Rattle.course_laws.specs.Granted.{manner_for}
+
+-- what the answer with a file writes: its head with the length and both checksums, and these bytes where it is not the head alone
+abbrev pub file_shown : Manner → Blob → List ℕ → List ℕ
+file_shown manner blob bytes = shown (file_answer blob manner) ++ (if manner.head_only then [] else bytes)
+
+-- this is answered; or want of memory is, or a front of the one or the other is written where the count of the sink rose
+abbrev pub ShowsSaid : Manner → Said → Outside → Outside → Option End → Type 0
+ShowsSaid manner answer old new end = Says (answer_of answer manner) (memory_answer manner.head_only) (end_of manner) old new end
+
+-- want of memory is answered, and the stream ends; or a front of that is written where the count of the sink rose
+abbrev pub ShowsMemory : Bool → Outside → Outside → Option End → Type 0
+ShowsMemory head_only old new end = Says (memory_answer head_only) (memory_answer head_only) (Some stream.Closed) old new end
+
+-- What is seen of the answer with a file: 200 with its length and both checksums and its bytes, whole. Or the blobs did not give
+-- them, whose count rose then, and 503 `blob-fault` is answered, never to a HEAD; or memory was wanted; or the sink took a front.
+pub data ShowsFile (manner : Manner) (blob : Blob) (old new : Outside) (end : Option End) : Type 0 where
+  whole : (bytes : List ℕ) → IsWhereTold blob.bytes bytes → new ≡ writes (file_shown manner blob bytes) old → end ≡ end_of manner
+      → ShowsFile manner blob old new end
+  blob_fault : (faults : ℕ) → manner.head_only ≡ false → Rose old.blob_faults faults
+      → ShowsSaid manner said.BlobFault (record old { blob_faults = faults }) new end → ShowsFile manner blob old new end
+  starved : ShowsMemory manner.head_only old new end → ShowsFile manner blob old new end
+  cut : (faults : ℕ) (bytes part : List ℕ) → Rose old.write_faults faults → IsWhereTold blob.bytes bytes
+      → IsFrontOf part (file_shown manner blob bytes) → new ≡ writes part (record old { write_faults = faults })
+      → end ≡ Some stream.SinkFault → ShowsFile manner blob old new end
+
+-- what is seen of the answer by the reply to the look; any reply that a look can't get counts as want of memory
+abbrev pub ShowsReply : Reply → Manner → Outside → Outside → Option End → Type 0
+ShowsReply (file lease blob) manner old new end = ShowsFile manner blob old new end
+ShowsReply (text bytes) manner old new end = ShowsSaid manner (said.Text bytes) old new end
+ShowsReply (doc bytes digests) manner old new end = ShowsSaid manner (said.Doc bytes digests) old new end
+ShowsReply missed manner old new end = ShowsSaid manner said.NotThere old new end
+ShowsReply spent manner old new end = ShowsSaid manner said.Spent old new end
+ShowsReply reply manner old new end = ShowsMemory manner.head_only old new end
+
+-- A GET or HEAD of the path is read, all that is seen behind its head is this, and of the input no more is used.
+pub record ReadShows (settings : Settings) (last : Bool) (repo path : List ℕ) (Shows : Manner → Outside → Outside → Option End → Type 0)
+    (old new : Outside) (end : Option End) : Type 0 where
+  pub head : Head
+  pub left : Option (List ℕ)
+  pub request : Judged
+  pub comes : Begins old.input (IsWhole head left)
+  pub judged : judge settings head ≡ Ok request
+  pub asks : request.intent ≡ reads repo path
+  pub shows : Shows (manner_for request last) (record old { input = left }) new end
+
+-- What comes of such a request, behind whose head this is left of the input: it looks once at the path, and all that is seen is
+-- this for that entry. Or it asks nothing: memory was wanted for its head, or the source failed before it was read.
+pub data IsLookedUp (repo path : List ℕ) (Shows : Entry → Manner → Outside → Outside → Option End → Type 0) (manner : Manner) (left : List ℕ)
+    (entries : List Entry) (old new : Outside) (end : Option End) : Type 0 where
+  looked : (e : Entry) (more : List Entry) → entries ≡ e ∷ more → e.command ≡ look repo path []
+      → Shows e manner (record old { input = Some left }) new end → IsLookedUp repo path Shows manner left entries old new end
+  unread : (mid : Outside) (head_only : Bool) → entries ≡ [] → ReadsOn old mid → ShowsMemory head_only mid new end
+      → IsLookedUp repo path Shows manner left entries old new end
+  failed : entries ≡ [] → Rose old.read_faults new.read_faults → new.output ≡ old.output → end ≡ Some stream.SourceFault
+      → IsLookedUp repo path Shows manner left entries old new end
