@@ -8,7 +8,7 @@ use std::alloc::AllocError;
 pub enum FrameFault {
     /// There was no memory left for it.
     NoMemory,
-    /// The field or item that begins at this byte of its payload is cut short, not of its form, or does not fit.
+    /// The field or item that begins at this byte of its payload is not there whole, is out of its form, or does not fit.
     At(u64),
 }
 
