@@ -3,3 +3,4 @@ pub mod Stored
 pub mod Applying
 pub mod Records
 pub mod Recorded
+pub mod Commits

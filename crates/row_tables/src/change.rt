@@ -2,7 +2,7 @@ ghost use Rattle.std.specs.Prelude.{◌≡◌, ◌<◌, ◌^◌, ◌↔◌, [], 
 ghost use Rattle.row_tables.specs.Items.{IsChange, is_item, change_bytes};
 
 use repo_model::Item;
-use std::alloc::{AllocFailed, Global};
+use std::alloc::{AllocError, AllocFailed, Global};
 use std::marker::Model;
 
 /// Items that are recorded together: each has the recorded form, and together they have fewer than 2^32 bytes as they are
@@ -51,6 +51,15 @@ impl Change {
         ensures back { IfErr result (λ failed. failed.value ≡ item) }
     {
         self.items.push(item)
+    }
+
+    /// Adds items at its end. Where memory is wanting it stays as it is.
+    pub fn append(&mut self, mut items: Vec<Item>) -> Result<(), AllocError>
+        requires { IsChange (self.old ++ items.items) }
+        ensures ok { OnOk result (self.new ≡ self.old ++ items.items) }
+        ensures err { OnErr result (self.new ≡ self.old) }
+    {
+        self.items.append(&mut items)
     }
 
     /// The items, lent.

@@ -3,6 +3,7 @@ ghost use Rattle.std.specs.Prelude.{◌≡◌, ℕ, Option, None, IfOk, IfSome, 
 ghost use Rattle.std.specs.Option.{ForSome, option_map};
 ghost use Rattle.repo_model.specs.Tables.{Tables as Plain, applied};
 ghost use Rattle.row_tables.specs.Applying.{with_items};
+ghost use Rattle.row_tables.specs.Recorded.{IsBuiltUp};
 ghost use Rattle.row_tables.specs.Records.{HasLoadCause, HasCommitCause, IsRefusal};
 
 use crate::change::Change;
@@ -26,6 +27,7 @@ pub trait Records {
     fn load(&mut self, alloc: Global) -> Result<Tables, LoadFault>
         ensures cause { HasLoadCause (faults self.old) (faults self.new) result }
         ensures told { IfOk result (λ t. IfSome (tables self.old) (λ told. t ≡ told)) }
+        ensures built { IfOk result IsBuiltUp }
         ensures refused { IsRefusal result → tables self.old ≡ None }
         ensures ready { OnOk result (ready self.new) }
         ensures same { tables self.new ≡ tables self.old };

@@ -7,7 +7,7 @@ ghost use Rattle.repo_model.specs.Paths.{is_snapshot_path};
 ghost use Rattle.repo_model.specs.State.{change_where};
 ghost use Rattle.repo_model.specs.Tables.{RecordedSession, no_tables, names_blob, is_recorded, recorded_at, with_recorded, change_recorded, with_document, is_listed_row, is_fading_row, is_session, is_open_session};
 ghost use Rattle.row_tables.specs.Applying.{Tried};
-ghost use Rattle.row_tables.specs.Stored.{shown_entry, shown_document};
+ghost use Rattle.row_tables.specs.Stored.{shown_entry, shown_document, shown_rows, shown_sessions};
 
 use crate::documents::{KeptDocument, keep_document};
 use crate::files::{
@@ -73,6 +73,27 @@ impl Tables {
             sessions: Vec::new(alloc),
             last_blob: 0,
         }
+    }
+
+    /// The files of hosted repositories, in byte order of repository and then of path.
+    pub fn hosted(&self) -> &BTreeMap<Place, FileRow>
+        ensures { shown_rows result.now.entries ≡ self.now.hosted }
+    {
+        &self.hosted
+    }
+
+    /// The files of proxies, in byte order of proxy and then of path.
+    pub fn cached(&self) -> &BTreeMap<Place, FileRow>
+        ensures { shown_rows result.now.entries ≡ self.now.cached }
+    {
+        &self.cached
+    }
+
+    /// The sessions, in rising order of number.
+    pub fn sessions(&self) -> &[SessionRow]
+        ensures { shown_sessions result.now ≡ self.now.sessions }
+    {
+        &self.sessions
     }
 
     // Whether a file has the blob of a number.
