@@ -115,6 +115,7 @@ fn after_put<H: Held>(manner: Manner, draft: u64, reply: Reply<H>) -> Act<H>
         Reply::Relisted => say(Said::Relisted, manner),
         Reply::Taken { kept, sent } => say(Said::Taken { kept, sent }, manner),
         Reply::NoDraft => Act::Ask(Command::Drop { draft }, After::Say(Said::NoDraft)),
+        Reply::StoreFault => Act::Ask(Command::Drop { draft }, After::Say(Said::StoreFault)),
         _ => Act::Ask(Command::Drop { draft }, After::NoMemory),
     }
 }

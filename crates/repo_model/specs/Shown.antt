@@ -64,6 +64,7 @@ shown_reply (given.Collected expired blobs) = answered.collected expired blobs
 shown_reply (given.Counts files fading cached documents sessions) = answered.counts files fading cached documents sessions
 shown_reply given.Spent = answered.spent
 shown_reply given.NoMemory = answered.no_memory
+shown_reply given.StoreFault = answered.store_fault
 
 -- a call at a moment, what it answered, and how often the records had failed then
 abbrev pub entry_of : {X : Type 0} {G : Ghosts X} → Command X G → ℕ → Reply X G → ℕ → Entry

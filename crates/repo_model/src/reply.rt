@@ -77,4 +77,6 @@ pub enum Reply<H: Held> {
     Spent,
     /// There was no memory left for the turn.
     NoMemory,
+    /// The records failed: nothing is recorded, and nothing is changed.
+    StoreFault,
 }
