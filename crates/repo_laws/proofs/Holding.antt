@@ -66,7 +66,7 @@ from-parts t s parts = record {
 }
 
 -- items that fit one after another
-abbrev AllFit : Tables → List Item → Type 0
+abbrev pub AllFit : Tables → List Item → Type 0
 AllFit t [] = Unit {0}
 AllFit t (item ∷ items) = IsTrue (fits_on t item) × AllFit (item_on t item) items
 
@@ -230,6 +230,21 @@ fit-applied (item ∷ items) place t all = rw all.0 (fit-applied items (place + 
 fit-ordered : (items : List Item) (t : Tables) → AllFit t items → InOrder t → InOrder (with_items t items)
 fit-ordered [] t all ordered = ordered
 fit-ordered (item ∷ items) t all ordered = fit-ordered items (item_on t item) all.1 (ordered-kept t item ordered all.0)
+
+-- items that were applied fit, and the tables behind them are theirs
+pub applied-fit : (items : List Item) (place : ℕ) (t new : Tables) → applied_from place t items ≡ Ok new → AllFit t items
+applied-fit [] place t new is = tt
+applied-fit (item ∷ items) place t new is =
+    elim (fits_on t item) as (λ b. fits_on t item ≡ b → (if b then applied_from (place + 1) (item_on t item) items else Err place) ≡ Ok new → AllFit t (item ∷ items)) [
+      | true ↦ λ fits later. (fits, applied-fit items (place + 1) (item_on t item) new later)
+      | false ↦ λ misfit here. absurd (let e : Err place ≡ Ok new = here in cc)
+    ] refl is
+
+pub applied-is : (t new : Tables) (items : List Item) → applied t items ≡ Ok new → with_items t items ≡ new
+applied-is t new items is = let so : applied t items ≡ Ok (with_items t items) = fit-applied items 0 t (applied-fit items 0 t new is) in cc
+
+pub applied-ordered : (t new : Tables) (items : List Item) → InOrder t → applied t items ≡ Ok new → InOrder new
+applied-ordered t new items ordered is = subst InOrder (applied-is t new items is) (fit-ordered items t (applied-fit items 0 t new is) ordered)
 
 fit-append : (items more : List Item) (t : Tables) → AllFit t items → AllFit (with_items t items) more → AllFit t (items ++ more)
 fit-append [] more t all rest = rest

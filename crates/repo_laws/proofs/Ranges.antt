@@ -1,6 +1,6 @@
 -- Tables stay in range under what a turn records.
 use native.Mathlib.Omega.{arith}
-use Rattle.std.proofs.Common.{◌≡◌, ◌≤◌, ◌<◌, ℕ, Bool, true, false, not, cond, ◌||◌, List, [], ◌∷◌, Some, None, refl, ◌∙◌, ap, subst, eqb-true}
+use Rattle.std.proofs.Common.{◌≡◌, ◌≤◌, ◌<◌, ℕ, Bool, true, false, not, cond, ◌||◌, List, [], ◌∷◌, Some, None, Ok, refl, ◌∙◌, ap, subst, eqb-true}
 use Rattle.std.specs.Prelude.{◌==◌, nat_lt, find, count_by, if◌then◌else◌, IsTrue}
 use Rattle.std.specs.List.{AllByRecursion, list_any}
 use Rattle.std.specs.Ordering.{match_ordering}
@@ -16,7 +16,7 @@ use Rattle.repo_model.specs.Settings.{Settings}
 use Rattle.repo_model.specs.State.{State, change_where, is_open_at, is_staged, number_end}
 use Rattle.repo_model.specs.Effect.{Effect, draws, drops, creates, stages, delivers, discards, relists, fades, expires, forgets, lends, returns, opens, ends, list_again, fade, with_effect, items_of, recorded}
 use Rattle.repo_model.specs.May.{May, AllMay}
-use Rattle.repo_model.specs.Tables.{Tables, RecordedRow, RecordedDocument, RecordedSession, no_tables, place_cmp, is_recorded, recorded_at, recorded_row, with_document, is_session, is_listed_row, names_blob, item_on, fits_on}
+use Rattle.repo_model.specs.Tables.{Tables, RecordedRow, RecordedDocument, RecordedSession, no_tables, place_cmp, is_recorded, recorded_at, recorded_row, with_document, is_session, is_listed_row, names_blob, item_on, fits_on, applied}
 use Rattle.repo_model.specs.History.{Entry, Legal, latest_moment, ticked, effects_of, after}
 use Rattle.repo_laws.specs.Laws.{FadesRightly, staged_with, places_of}
 use Rattle.repo_laws.specs.Sound.{AreNamedApart, Sound, OnePlace, IsSound}
@@ -25,6 +25,7 @@ use Rattle.repo_laws.specs.InRange.{IsRowInRange, InRange, IsItemInRange}
 use Rattle.repo_laws.proofs.ByPath.{all-apart}
 use Rattle.repo_laws.proofs.Counts.{one_if, stages_it, count-cons, among-counts, staged_with-cons}
 use Rattle.repo_laws.proofs.Histories.{entry-may, one-place-ticked, sound-ticked}
+use Rattle.repo_laws.proofs.Holding.{AllFit, applied-fit, applied-is}
 use Rattle.repo_laws.proofs.HoldingLists.{all-change_where, all-filter, all-push, all-join}
 use Rattle.repo_laws.proofs.HoldingOrder.{recorded-there, all-with_recorded}
 use Rattle.repo_laws.proofs.Keeping.{keeps-sound}
@@ -176,6 +177,13 @@ IsRight item = IsItemInRange item × FadesSnapshot item
 range-items : (items : List Item) (t : Tables) → AllByRecursion IsRight items → InRange t → InRange (with_items t items)
 range-items [] t all range = range
 range-items (item ∷ items) t all range = range-items items (item_on t item) all.1 (range-step t item range all.0.0 all.0.1)
+
+range-fit : (items : List Item) (t : Tables) → AllFit t items → AllByRecursion IsItemInRange items → InRange t → InRange (with_items t items)
+range-fit [] t fits all range = range
+range-fit (item ∷ items) t fits all range = range-fit items (item_on t item) fits.1 all.1 (range-kept t item range all.0 fits.0)
+
+pub range-applied : (t new : Tables) (items : List Item) → InRange t → AllByRecursion IsItemInRange items → applied t items ≡ Ok new → InRange new
+range-applied t new items range all is = subst InRange (applied-is t new items is) (range-fit items t (applied-fit items 0 t new is) all range)
 
 -- ---- effects
 file-some : (path : List ℕ) (files : List Staged) (file : Staged) → find (is_staged path) files ≡ Some file → 0 < count_by (stages_it file.blob.number) files

@@ -1,5 +1,5 @@
 //! What a start makes of the tables, and what stays so from one run to the next.
-ghost use Rattle.std.specs.Prelude.{◌≡◌, ℕ, ◌+◌, ◌<◌, if◌then◌else◌, List, [], ◌∷◌, ◌++◌, Option, option_map, None, IsTrue};
+ghost use Rattle.std.specs.Prelude.{◌≡◌, ℕ, ◌+◌, ◌<◌, if◌then◌else◌, List, [], ◌∷◌, ◌++◌, Option, option_map, None, Ok, IsTrue};
 ghost use Rattle.std.specs.List.{AllByRecursion};
 ghost use Rattle.mvn_coords.specs.Layout.{Directory};
 ghost use Rattle.mvn_metadata.specs.Document.{Document};
@@ -9,7 +9,7 @@ ghost use Rattle.repo_model.specs.Data.{Row};
 ghost use Rattle.repo_model.specs.Settings.{Settings};
 ghost use Rattle.repo_model.specs.State.{State, is_among, number_end, opening, row_at, rows_of};
 ghost use Rattle.repo_model.specs.Command.{is_there};
-ghost use Rattle.repo_model.specs.Tables.{Tables, no_tables, recorded_at, item_on, fits_on};
+ghost use Rattle.repo_model.specs.Tables.{Tables, no_tables, recorded_at, item_on, fits_on, applied};
 ghost use Rattle.repo_model.specs.History.{Entry, Legal, end};
 ghost use Rattle.repo_model.specs.Restart.{with_bytes, started};
 ghost use Rattle.repo_laws.specs.Sound.{AreNamedApart, IsSound};
@@ -33,9 +33,11 @@ pub fn starts_stand_for_tables()
     ensures opening { (settings : Settings) (tells : ℕ → Option (List ℕ)) (clock : Option Moments) → started settings tells [] clock 0 no_tables ≡ opening settings clock }
 {}
 
-/// Tables stay in range under each item that fits and is itself in range, and under all that a legal history records.
+/// Tables stay in range under each item that fits and is itself in range, under such items one after another, and under all
+/// that a legal history records.
 pub fn tables_stay_in_range()
     ensures item { (t : Tables) (item : Item) → InRange t → IsItemInRange item → IsTrue (fits_on t item) → InRange (item_on t item) }
+    ensures items { (t new : Tables) (items : List Item) → InRange t → AllByRecursion IsItemInRange items → applied t items ≡ Ok new → InRange new }
     ensures empty { InRange no_tables }
     ensures history { (settings : Settings) (entries : List Entry) (s : State) (t : Tables) → AreNamedApart settings.hosted → Legal settings s entries
         → IsSound settings s → InRange t → InRange (with_items t (told settings s entries)) }

@@ -29,9 +29,10 @@ ghost use Rattle.repo_laws.specs.Holds.{InOrder, Holds, StandsFor, AreUpTo, with
 ghost use Rattle.repo_laws.specs.Items.{is_of_row, is_of_file, is_of_document, is_of_session, document_at, row_then, file_then, document_then, session_then};
 ghost use Rattle.repo_laws.specs.Staged.{StagedByPath, path_cmp, staged_cmp, row_paths};
 
-/// Each item that fits leaves tables in order: rows and documents in byte order of repository and path, sessions rising, each once, and each blob named once.
+/// Each item that fits, and each list of items that are applied, leaves tables in order: rows and documents in byte order of repository and path, sessions rising, each once, and each blob named once.
 pub fn tables_stay_in_order()
     ensures item { (t : Tables) (item : Item) → InOrder t → IsTrue (fits_on t item) → InOrder (item_on t item) }
+    ensures items { (t new : Tables) (items : List Item) → InOrder t → applied t items ≡ Ok new → InOrder new }
     ensures empty { InOrder no_tables }
 {}
 

@@ -1,8 +1,11 @@
-use Rattle.repo_laws.proofs.Ranges.{range-kept, no-tables-in-range, range-history}
+use Rattle.repo_laws.proofs.Ranges.{range-kept, range-applied, no-tables-in-range, range-history}
 use Rattle.repo_laws.proofs.restarts.tables_stay_in_range.Goals as goal
 
 pub returns-clause-item : goal.returns-clause-item
 returns-clause-item c = range-kept
+
+pub returns-clause-items : goal.returns-clause-items
+returns-clause-items c = range-applied
 
 pub returns-clause-empty : goal.returns-clause-empty
 returns-clause-empty c = no-tables-in-range

@@ -1,0 +1,2 @@
+mod DamageLemmas
+mod Merging

@@ -1,0 +1,4 @@
+pub mod Damages
+pub mod Faults
+pub mod Found
+pub mod Order

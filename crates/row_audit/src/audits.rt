@@ -1,0 +1,41 @@
+//! A look at all recorded files.
+ghost use Rattle.std.specs.Prelude.{◌≡◌, IfOk, IfSome, OnOk, None, length};
+ghost use Rattle.repo_model.specs.Tables.{Tables};
+ghost use Rattle.row_tables.specs.Recorded.{IsBuiltUp};
+ghost use Rattle.row_audit.specs.Damages.{AreDamaged};
+ghost use Rattle.row_audit.specs.Faults.{HasAuditCause, IsUnread};
+ghost use Rattle.row_audit.specs.Order.{all_rows as rows_of};
+
+use crate::damages::{Audit, damages};
+use crate::faults::AuditFault;
+use crate::order::all_rows;
+use outside::Blobs;
+use row_tables::Records;
+use std::alloc::Global;
+
+/// Loads the records and looks at every recorded file, of hosted repositories and of proxies: each blob is read once and compared
+/// with what was recorded of it. It changes neither the records nor the blobs.
+///
+/// It fails where the records or the store fail, where the records are another's or cannot be read, and where memory is
+/// wanting.
+pub fn audit<K: Records, B: Blobs>(
+    alloc: Global,
+    records: &mut K,
+    blobs: &mut B,
+) -> Result<Audit, AuditFault>
+    ensures audit { IfOk result (λ found. (t : Tables) × IsBuiltUp t × IfSome (K.tables records.old) (λ told. t ≡ told)
+        × (found.looked ≡ length (rows_of t)) × AreDamaged (B.shelf blobs.old) (rows_of t) found.damaged.items) }
+    ensures unread { IsUnread result → K.tables records.old ≡ None }
+    ensures cause { HasAuditCause (K.faults records.old) (K.faults records.new) (B.faults blobs.old) (B.faults blobs.new) result }
+    ensures ready { OnOk result (K.ready records.new) }
+    ensures tables { K.tables records.new ≡ K.tables records.old }
+    ensures kept { B.shelf blobs.new ≡ B.shelf blobs.old }
+{
+    let tables = records.load(alloc)?;
+    let rows = all_rows(alloc, &tables)?;
+    let damaged = damages(alloc, blobs, &rows)?;
+    Ok(Audit {
+        looked: rows.len() as u64,
+        damaged,
+    })
+}

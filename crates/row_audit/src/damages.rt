@@ -1,0 +1,75 @@
+//! The recorded files whose blobs are not what was recorded.
+ghost use Rattle.std.specs.Prelude.{◌≡◌, ◌∷◌, ◌++◌, [], IfOk, OnOk, map};
+ghost use Rattle.outside.specs.Blobs.{HasBlobCause};
+ghost use Rattle.row_tables.specs.Stored.{shown_entry};
+ghost use Rattle.row_audit.specs.Damages.{AreDamaged, damaged_row};
+
+use crate::looking::{Found, look_at};
+use outside::{BlobFault, Blobs};
+use repo_model::Print;
+use row_tables::{FileRow, Place};
+use std::alloc::{AllocError, Global};
+use texts::Text;
+
+/// A recorded file whose blob has another length or other digests than those recorded, or is not there.
+#[derive(Drop)]
+pub struct Damaged {
+    /// The id of its repository.
+    pub repo: Text,
+    /// Its path.
+    pub path: Text,
+    /// The fingerprint that was recorded.
+    pub recorded: Print,
+    /// That of the blob; none where there is no blob.
+    pub found: Option<Print>,
+}
+
+/// What a look at all recorded files has found.
+#[derive(Drop)]
+pub struct Audit {
+    /// How many files were looked at.
+    pub looked: u64,
+    /// The damaged ones, in byte order of repository and then of path, a hosted file before a proxy's.
+    pub damaged: Vec<Damaged>,
+}
+
+// Adds the file of a row, of whose blob this was found.
+fn push_damaged(
+    alloc: Global,
+    damaged: &mut Vec<Damaged>,
+    place: &Place,
+    row: &FileRow,
+    found: Option<Print>,
+) -> Result<(), AllocError>
+    ensures { OnOk result (damaged.new.items ≡ damaged.old.items ++ damaged_row (shown_entry (place.now, row.now)) found ∷ []) }
+{
+    let one = Damaged {
+        repo: Text::new(alloc, &place.0)?,
+        path: Text::new(alloc, &place.1)?,
+        recorded: row.print,
+        found,
+    };
+    damaged.push(one)?;
+    Ok(())
+}
+
+/// The damaged ones of some recorded files, in their order. Each blob is read once.
+pub fn damages<B: Blobs>(
+    alloc: Global,
+    blobs: &mut B,
+    rows: &[(&Place, &FileRow)],
+) -> Result<Vec<Damaged>, BlobFault>
+    ensures cause { HasBlobCause (B.faults blobs.old) (B.faults blobs.new) result }
+    ensures damaged { IfOk result (λ found. AreDamaged (B.shelf blobs.old) (map (λ e. shown_entry (e.0.now, e.1.now)) rows.now) found.items) }
+    ensures kept { B.shelf blobs.new ≡ B.shelf blobs.old }
+{
+    let mut damaged = Vec::new(alloc);
+    for entry in rows {
+        let (place, row) = *entry;
+        match look_at(blobs, row)? {
+            Found::Whole(_) => {}
+            Found::Other(found) => push_damaged(alloc, &mut damaged, place, row, found)?,
+        }
+    }
+    Ok(damaged)
+}

@@ -1,0 +1,13 @@
+//! Looks whether the blobs of all recorded files are what was recorded of them.
+#![tactic(auto)]
+
+mod audits;
+mod damages;
+mod faults;
+mod looking;
+mod order;
+
+pub use audits::audit;
+pub use damages::{Audit, Damaged};
+pub use faults::AuditFault;
+pub use looking::{Found, look_at};

@@ -1,0 +1,38 @@
+//! A look at the blob of one recorded file.
+ghost use Rattle.std.specs.Prelude.{◌≡◌, IfOk};
+ghost use Rattle.outside.specs.Blobs.{HasBlobCause};
+ghost use Rattle.row_audit.specs.Damages.{IsFound};
+ghost use Rattle.row_audit.specs.Found.{found_in, IsOther, IsParcelOf};
+
+use outside::{BlobFault, Blobs, CheckFault, Held, Parcel, adopt_checked};
+use repo_model::Print;
+use row_tables::FileRow;
+
+/// What a store has under the number of a recorded file's blob.
+#[derive(Drop)]
+pub enum Found<H: Held> {
+    /// The recorded content, taken into use.
+    Whole(Parcel<H>),
+    /// Another content, of this fingerprint; or none.
+    Other(Option<Print>),
+}
+
+/// Looks at the blob of a recorded file: reads it once, and compares its length and digests with the recorded ones.
+pub fn look_at<B: Blobs>(blobs: &mut B, row: &FileRow) -> Result<Found<B::Held>, BlobFault>
+    ensures cause { HasBlobCause (B.faults blobs.old) (B.faults blobs.new) result }
+    ensures found { IfOk result (λ f. IsFound (B.shelf blobs.old) row.now.blob (found_in row.now.print f)) }
+    ensures other { IfOk result (IsOther row.now.print) }
+    ensures parcel { IfOk result (IsParcelOf B.Held.bytes (B.shelf blobs.old) row.now.blob row.now.print) }
+    ensures kept { B.shelf blobs.new ≡ B.shelf blobs.old }
+{
+    let Print { length, digests } = row.print;
+    match adopt_checked(blobs, row.blob, length, digests) {
+        Ok(Some(parcel)) => Ok(Found::Whole(parcel)),
+        Ok(None) => Ok(Found::Other(None)),
+        Err(CheckFault::Differs { length, digests }) => {
+            Ok(Found::Other(Some(Print { length, digests })))
+        }
+        Err(CheckFault::Failed) => Err(BlobFault::Failed),
+        Err(CheckFault::NoMemory) => Err(BlobFault::NoMemory),
+    }
+}
