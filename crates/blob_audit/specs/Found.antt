@@ -3,8 +3,8 @@ use Rattle.std.specs.Prelude.{◌≡◌, ◌≢◌, ℕ, List, Option, Some, IfS
 use Rattle.outside.specs.Blobs.{Shelf, bytes_at}
 use Rattle.outside.specs.declared.stores.Held.{Ghosts}
 use Rattle.repo_model.specs.declared.print.Print.{Print}
-use Rattle.row_audit.specs.declared.looking.Found.{Found}
-use Rattle.row_audit.specs.declared.looking.Found.TheVariants.{Whole, Other}
+use Rattle.blob_audit.specs.declared.looking.Found.{Found}
+use Rattle.blob_audit.specs.declared.looking.Found.TheVariants.{Whole, Other}
 
 module _ {H : Type 0} {G : Ghosts H} where
   -- the fingerprint that is found, where this one was recorded

@@ -1,5 +1,5 @@
 ghost use Rattle.std.specs.Prelude.{◌≡◌};
-ghost use Rattle.row_audit.specs.declared.faults.AuditFault.TheVariants.{NoMemory as no_memory};
+ghost use Rattle.blob_audit.specs.declared.faults.AuditFault.TheVariants.{NoMemory as no_memory};
 
 use outside::BlobFault;
 use row_tables::LoadFault;
@@ -28,7 +28,7 @@ impl From<AllocError> for AuditFault {
 }
 
 impl From<LoadFault> for AuditFault {
-    ghost use Rattle.row_audit.specs.Faults.{load_fault};
+    ghost use Rattle.blob_audit.specs.Faults.{load_fault};
 
     ghost from_gives = { λ load fault. fault ≡ load_fault load };
 
@@ -43,7 +43,7 @@ impl From<LoadFault> for AuditFault {
 }
 
 impl From<BlobFault> for AuditFault {
-    ghost use Rattle.row_audit.specs.Faults.{blob_fault};
+    ghost use Rattle.blob_audit.specs.Faults.{blob_fault};
 
     ghost from_gives = { λ blob fault. fault ≡ blob_fault blob };
 

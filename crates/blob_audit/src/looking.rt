@@ -1,8 +1,8 @@
 //! A look at the blob of one recorded file.
 ghost use Rattle.std.specs.Prelude.{◌≡◌, IfOk};
 ghost use Rattle.outside.specs.Blobs.{HasBlobCause};
-ghost use Rattle.row_audit.specs.Damages.{IsFound};
-ghost use Rattle.row_audit.specs.Found.{found_in, IsOther, IsParcelOf};
+ghost use Rattle.blob_audit.specs.Damages.{IsFound};
+ghost use Rattle.blob_audit.specs.Found.{found_in, IsOther, IsParcelOf};
 
 use outside::{BlobFault, Blobs, CheckFault, Held, Parcel, adopt_checked};
 use repo_model::Print;

@@ -1,12 +1,12 @@
 -- When a look at all recorded files fails.
-use Rattle.std.specs.Prelude.{◌≡◌, ◌⊎◌, ℕ, Result, Ok, Err}
+use Rattle.std.specs.Prelude.{◌≡◌, ◌⊎◌, ℕ, Result, Err}
 use Rattle.outside.specs.Faults.{Rose}
 use Rattle.outside.specs.declared.faults.BlobFault.{BlobFault}
 use Rattle.outside.specs.declared.faults.BlobFault.TheVariants as blob
 use Rattle.row_tables.specs.declared.faults.LoadFault.{LoadFault}
 use Rattle.row_tables.specs.declared.faults.LoadFault.TheVariants as load
-use Rattle.row_audit.specs.declared.faults.AuditFault.{AuditFault}
-use Rattle.row_audit.specs.declared.faults.AuditFault.TheVariants.{NoMemory, Store, NotOurs, Row}
+use Rattle.blob_audit.specs.declared.faults.AuditFault.{AuditFault}
+use Rattle.blob_audit.specs.declared.faults.AuditFault.TheVariants.{NoMemory, Store, NotOurs, Row}
 
 -- a fault of the records, and one of the store
 abbrev pub load_fault : LoadFault → AuditFault

@@ -2,13 +2,13 @@
 ghost use Rattle.std.specs.Prelude.{◌≡◌, IfOk, IfSome, OnOk, None, length};
 ghost use Rattle.repo_model.specs.Tables.{Tables};
 ghost use Rattle.row_tables.specs.Recorded.{IsBuiltUp};
-ghost use Rattle.row_audit.specs.Damages.{AreDamaged};
-ghost use Rattle.row_audit.specs.Faults.{HasAuditCause, IsUnread};
-ghost use Rattle.row_audit.specs.Order.{all_rows as rows_of};
+ghost use Rattle.blob_audit.specs.Damages.{AreDamaged};
+ghost use Rattle.blob_audit.specs.Faults.{HasAuditCause, IsUnread};
+ghost use Rattle.blob_audit.specs.Order.{all_rows};
 
 use crate::damages::{Audit, damages};
 use crate::faults::AuditFault;
-use crate::order::all_rows;
+use crate::order::all_files;
 use outside::Blobs;
 use row_tables::Records;
 use std::alloc::Global;
@@ -24,7 +24,7 @@ pub fn audit<K: Records, B: Blobs>(
     blobs: &mut B,
 ) -> Result<Audit, AuditFault>
     ensures audit { IfOk result (λ found. (t : Tables) × IsBuiltUp t × IfSome (K.tables records.old) (λ told. t ≡ told)
-        × (found.looked ≡ length (rows_of t)) × AreDamaged (B.shelf blobs.old) (rows_of t) found.damaged.items) }
+        × (found.looked ≡ length (all_rows t)) × AreDamaged (B.shelf blobs.old) (all_rows t) found.damaged.items) }
     ensures unread { IsUnread result → K.tables records.old ≡ None }
     ensures cause { HasAuditCause (K.faults records.old) (K.faults records.new) (B.faults blobs.old) (B.faults blobs.new) result }
     ensures ready { OnOk result (K.ready records.new) }
@@ -32,10 +32,10 @@ pub fn audit<K: Records, B: Blobs>(
     ensures kept { B.shelf blobs.new ≡ B.shelf blobs.old }
 {
     let tables = records.load(alloc)?;
-    let rows = all_rows(alloc, &tables)?;
-    let damaged = damages(alloc, blobs, &rows)?;
+    let files = all_files(alloc, &tables)?;
+    let damaged = damages(alloc, blobs, &files)?;
     Ok(Audit {
-        looked: rows.len() as u64,
+        looked: files.len() as u64,
         damaged,
     })
 }

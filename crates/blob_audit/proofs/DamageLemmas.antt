@@ -1,12 +1,12 @@
 -- One more row behind rows that were looked at.
-use Rattle.std.proofs.Common.{◌≡◌, ℕ, ◌+◌, ◌<◌, List, [], ◌∷◌, ◌++◌, length, map, take, get_or, Option, Some, refl, sym, ap, ◌∙◌, subst}
+use Rattle.std.proofs.Common.{◌≡◌, ℕ, ◌+◌, ◌<◌, List, [], ◌∷◌, ◌++◌, length, map, take, get_or, Option, Some, sym, ap, ◌∙◌, subst}
 use Rattle.std.specs.Prelude.{◌≢◌}
 use Rattle.std.proofs.lemmas.List.{map-append, take_more}
 use Rattle.outside.specs.Blobs.{Shelf}
 use Rattle.repo_model.specs.Tables.{RecordedRow}
 use Rattle.repo_model.specs.declared.print.Print.{Print}
-use Rattle.row_audit.specs.declared.damages.Damaged.{Damaged}
-use Rattle.row_audit.specs.Damages.{IsFound, damaged_row, AreDamaged, none, whole, damaged}
+use Rattle.blob_audit.specs.declared.damages.Damaged.{Damaged}
+use Rattle.blob_audit.specs.Damages.{IsFound, damaged_row, AreDamaged, none, whole, damaged}
 
 module _ (shelf : Shelf) (r : RecordedRow) where
   more-whole : {rows : List RecordedRow} {damages : List Damaged} → AreDamaged shelf rows damages → IsFound shelf r.row.blob.number (Some r.row.blob.print)

@@ -1,13 +1,13 @@
 //! The recorded files whose blobs are not what was recorded.
 ghost use Rattle.std.specs.Prelude.{◌≡◌, ◌∷◌, ◌++◌, [], IfOk, OnOk, map};
 ghost use Rattle.outside.specs.Blobs.{HasBlobCause};
-ghost use Rattle.row_tables.specs.Stored.{shown_entry};
-ghost use Rattle.row_audit.specs.Damages.{AreDamaged, damaged_row};
+ghost use Rattle.blob_audit.specs.Damages.{AreDamaged, damaged_row};
+ghost use Rattle.blob_audit.specs.Files.{shown_file};
 
 use crate::looking::{Found, look_at};
+use crate::order::RecordedFile;
 use outside::{BlobFault, Blobs};
 use repo_model::Print;
-use row_tables::{FileRow, Place};
 use std::alloc::{AllocError, Global};
 use texts::Text;
 
@@ -33,20 +33,19 @@ pub struct Audit {
     pub damaged: Vec<Damaged>,
 }
 
-// Adds the file of a row, of whose blob this was found.
+// Adds a file of whose blob this was found.
 fn push_damaged(
     alloc: Global,
     damaged: &mut Vec<Damaged>,
-    place: &Place,
-    row: &FileRow,
+    file: &RecordedFile<'_>,
     found: Option<Print>,
 ) -> Result<(), AllocError>
-    ensures { OnOk result (damaged.new.items ≡ damaged.old.items ++ damaged_row (shown_entry (place.now, row.now)) found ∷ []) }
+    ensures { OnOk result (damaged.new.items ≡ damaged.old.items ++ damaged_row (shown_file file.now).row found ∷ []) }
 {
     let one = Damaged {
-        repo: Text::new(alloc, &place.0)?,
-        path: Text::new(alloc, &place.1)?,
-        recorded: row.print,
+        repo: Text::new(alloc, &file.place.0)?,
+        path: Text::new(alloc, &file.place.1)?,
+        recorded: file.row.print,
         found,
     };
     damaged.push(one)?;
@@ -57,18 +56,17 @@ fn push_damaged(
 pub fn damages<B: Blobs>(
     alloc: Global,
     blobs: &mut B,
-    rows: &[(&Place, &FileRow)],
+    files: &[RecordedFile<'_>],
 ) -> Result<Vec<Damaged>, BlobFault>
     ensures cause { HasBlobCause (B.faults blobs.old) (B.faults blobs.new) result }
-    ensures damaged { IfOk result (λ found. AreDamaged (B.shelf blobs.old) (map (λ e. shown_entry (e.0.now, e.1.now)) rows.now) found.items) }
+    ensures damaged { IfOk result (λ found. AreDamaged (B.shelf blobs.old) (map (λ f. (shown_file f).row) files.now) found.items) }
     ensures kept { B.shelf blobs.new ≡ B.shelf blobs.old }
 {
     let mut damaged = Vec::new(alloc);
-    for entry in rows {
-        let (place, row) = *entry;
-        match look_at(blobs, row)? {
+    for file in files {
+        match look_at(blobs, file.row)? {
             Found::Whole(_) => {}
-            Found::Other(found) => push_damaged(alloc, &mut damaged, place, row, found)?,
+            Found::Other(found) => push_damaged(alloc, &mut damaged, file, found)?,
         }
     }
     Ok(damaged)

@@ -1,4 +1,5 @@
 pub mod Damages
 pub mod Faults
+pub mod Files
 pub mod Found
 pub mod Order

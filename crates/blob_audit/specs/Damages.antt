@@ -1,11 +1,11 @@
 -- What a store has under the numbers of recorded files' blobs, beside what was recorded of them.
-use Rattle.std.specs.Prelude.{◌≡◌, ◌≢◌, ℕ, List, [], ◌∷◌, length, Option, Some, None, IfSome}
+use Rattle.std.specs.Prelude.{◌≡◌, ◌≢◌, ℕ, List, [], ◌∷◌, length, Option, Some, IfSome}
 use Rattle.std.specs.Option.{option_map}
 use Rattle.mvn_digest.specs.Digests.{digests_of}
 use Rattle.outside.specs.Blobs.{Shelf, bytes_at}
 use Rattle.repo_model.specs.Tables.{RecordedRow}
 use Rattle.repo_model.specs.declared.print.Print.{Print}
-use Rattle.row_audit.specs.declared.damages.Damaged.{Damaged}
+use Rattle.blob_audit.specs.declared.damages.Damaged.{Damaged}
 
 -- the fingerprint of a content
 abbrev pub print_of : List ℕ → Print
