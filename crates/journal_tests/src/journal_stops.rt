@@ -1,13 +1,13 @@
 // A journal that is stopped at each call of its disk: what a crash leaves loads to the tables from before, or to these and
 // one change more, and so it does while it is loaded again.
-ghost use Rattle.std.specs.Prelude.{◌≡◌, None, IfOk};
-ghost use Rattle.record_journal.specs.Journal.{tables_of};
+ghost use Rattle.std.specs.Prelude.{◌≡◌, None, IfOk, IsSome};
+ghost use Rattle.record_journal.specs.Journal.{tables_of, IsReady};
 
 use crate::changes::OPENED;
 use crate::images::images_of;
 use crate::journals::{ONE_SESSION, add, fits, journal_of, open};
 use crate::untold::Untold;
-use record_disk::DiskScript;
+use record_disk::{Disk, DiskScript};
 use record_journal::Journal;
 use std::alloc::{AllocError, Global};
 use std::test::Fail;
@@ -19,16 +19,19 @@ const PARTS: [u64; 3] = [0, 6, 100];
 const CALLS: u64 = 16;
 
 // The change that opens the session of a number.
-fn opened(number: u8) -> [u8; 14] {
+pub fn opened(number: u8) -> [u8; 14] {
     let mut bytes = OPENED;
     bytes[13] = number;
     bytes
 }
 
-// The last session that is opened in a file; None where it is refused.
-fn last_in(alloc: Global, file: &[u8]) -> Result<Option<u8>, AllocError> {
-    let mut journal = journal_of(alloc, file, DiskScript::none(alloc))?;
-    let Ok(mut tables) = open(alloc, &mut journal) else {
+// The last session that is opened in a journal; None where it is refused.
+pub fn last_of<D: Disk>(alloc: Global, journal: &mut Journal<D>) -> Result<Option<u8>, AllocError>
+    requires { tables_of journal.old ≡ None }
+    ensures untold { tables_of journal.new ≡ None }
+    ensures ready { IfOk result (λ last. IsSome last → IsReady journal.new) }
+{
+    let Ok(mut tables) = open(alloc, journal) else {
         return Ok(None);
     };
     for number in 1..10 {
@@ -37,6 +40,14 @@ fn last_in(alloc: Global, file: &[u8]) -> Result<Option<u8>, AllocError> {
         }
     }
     Ok(None)
+}
+
+// The same of a journal over this file.
+fn last_in(alloc: Global, file: &[u8]) -> Result<Option<u8>, AllocError> {
+    last_of(
+        alloc,
+        &mut journal_of(alloc, file, DiskScript::none(alloc))?,
+    )
 }
 
 // A journal over this file whose disk fails at one call.

@@ -5,7 +5,7 @@ ghost use Rattle.record_journal.specs.Journal.{tables_of, IsReady};
 use crate::changes::{DEPLOYED, OPENED};
 use crate::logs::{NEW, disk_of};
 use crate::untold::Untold;
-use record_disk::DiskScript;
+use record_disk::{Disk, DiskScript};
 use record_journal::Journal;
 use repo_rows::take;
 use row_tables::{ApplyFault, Change, CommitFault, LoadFault, Records, Tables};
@@ -26,7 +26,7 @@ pub fn journal_of(
 }
 
 // Loads a journal.
-pub fn open(alloc: Global, journal: &mut Journal<Untold>) -> Result<Tables, LoadFault>
+pub fn open<D: Disk>(alloc: Global, journal: &mut Journal<D>) -> Result<Tables, LoadFault>
     requires { tables_of journal.old ≡ None }
     ensures untold { tables_of journal.new ≡ None }
     ensures ready { OnOk result (IsReady journal.new) }
@@ -43,7 +43,11 @@ pub fn change_in(alloc: Global, bytes: &[u8]) -> Result<Change, AllocError> {
 }
 
 // Commits a change of these bytes.
-pub fn add(alloc: Global, journal: &mut Journal<Untold>, bytes: &[u8]) -> Result<(), CommitFault>
+pub fn add<D: Disk>(
+    alloc: Global,
+    journal: &mut Journal<D>,
+    bytes: &[u8],
+) -> Result<(), CommitFault>
     requires ready { IsReady journal.old }
     requires untold { tables_of journal.old ≡ None }
     ensures untold { tables_of journal.new ≡ None }

@@ -80,18 +80,20 @@ fn taken_again(alloc: Global, bytes: &[u8]) -> Result<Became, AllocError> {
     }
 }
 
-// A field is refused at its start: the bytes in front of it are cut short just there.
+// A field is refused at its start: the bytes in front of it are refused just where they end.
+fn begins_at(alloc: Global, bytes: &[u8], at: u64) -> Result<bool, AllocError> {
+    match bytes.get(..at as usize) {
+        Some(front) => Ok(taken_again(alloc, front)? == Became::Refused(at)),
+        None => Ok(false),
+    }
+}
+
+// Whether bytes are read as what they say, or refused where a field begins.
 fn is_well(alloc: Global, bytes: &[u8]) -> Result<bool, AllocError> {
     match taken_again(alloc, bytes)? {
         Became::Same(_) => Ok(true),
         Became::Other => Ok(false),
-        Became::Refused(at) => {
-            let front = bytes.get(..at as usize).unwrap_or(bytes);
-            match taken_again(alloc, front)? {
-                Became::Refused(again) => Ok(again == at),
-                _ => Ok(false),
-            }
-        }
+        Became::Refused(at) => begins_at(alloc, bytes, at),
     }
 }
 
@@ -127,7 +129,7 @@ fn fronts_are_refused(alloc: Global, seed: u64) -> Result<bool, AllocError> {
         for size in 0..bytes.len() {
             let front = bytes.get(..size).unwrap_or(&[]);
             match taken_again(alloc, front)? {
-                Became::Refused(at) if at <= size as u64 && is_well(alloc, front)? => {}
+                Became::Refused(at) if begins_at(alloc, front, at)? => {}
                 _ => return Ok(false),
             }
         }
