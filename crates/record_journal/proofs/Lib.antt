@@ -4,3 +4,4 @@ pub mod Standing
 pub mod Undone
 pub mod Added
 pub mod Reloaded
+pub mod Built

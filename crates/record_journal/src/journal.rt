@@ -4,6 +4,7 @@ ghost use Rattle.record_disk.specs.Disk.{content, Told};
 ghost use Rattle.repo_model.specs.Tables.{applied};
 ghost use Rattle.row_tables.specs.Applying.{with_items};
 ghost use Rattle.row_tables.specs.Items.{change_bytes};
+ghost use Rattle.row_tables.specs.Recorded.{IsBuiltUp};
 ghost use Rattle.row_tables.specs.Records.{HasLoadCause, HasCommitCause, IsRefusal};
 ghost use Rattle.record_journal.specs.Given.{LoadsUnlessFailed};
 ghost use Rattle.record_journal.specs.Journal.{acknowledged, tables_of, IsReady, KeepsTables, Recovers, Commits};
@@ -67,6 +68,7 @@ impl<D: Disk> Records for Journal<D> {
     fn load(&mut self, alloc: Global) -> Result<Tables, LoadFault>
         ensures cause { HasLoadCause self.old.faults self.new.faults result }
         ensures told { IfOk result (λ t. IfSome (tables_of self.old) (λ told. t ≡ told)) }
+        ensures built { IfOk result IsBuiltUp }
         ensures refused { IsRefusal result → tables_of self.old ≡ None }
         ensures ready { OnOk result (IsReady self.new) }
         ensures same { tables_of self.new ≡ tables_of self.old }

@@ -1,7 +1,8 @@
 //! How the frames of a file build up tables.
-ghost use Rattle.std.specs.Prelude.{◌≡◌, ◌<◌, ◌^◌, length, OnOk};
+ghost use Rattle.std.specs.Prelude.{◌≡◌, ◌<◌, ◌^◌, length, IfOk, OnOk};
 ghost use Rattle.record_log.specs.Frames.{IsWhole};
 ghost use Rattle.repo_model.specs.Tables.{no_tables};
+ghost use Rattle.row_tables.specs.Recorded.{IsBuiltUp};
 ghost use Rattle.record_journal.specs.Given.{AppliesFrame, Loads};
 ghost use Rattle.record_journal.specs.Loading.{after_frames, loading};
 
@@ -13,7 +14,8 @@ use std::alloc::Global;
 
 // Applies the change of a payload.
 fn apply_frame(alloc: Global, tables: &mut Tables, payload: &[u8]) -> Result<(), FrameFault>
-    ensures { AppliesFrame tables.old payload.now tables.new result }
+    ensures applies { AppliesFrame tables.old payload.now tables.new result }
+    ensures built { OnOk result (IsBuiltUp tables.old → IsBuiltUp tables.new) }
 {
     let (change, size) = match take(alloc, payload) {
         Ok(read) => read,
@@ -23,6 +25,7 @@ fn apply_frame(alloc: Global, tables: &mut Tables, payload: &[u8]) -> Result<(),
     if size != payload.len() {
         return Err(FrameFault::At(0));
     }
+    let _ = change.items();
     match tables.apply(alloc, &change) {
         Ok(()) => Ok(()),
         Err(ApplyFault::NoMemory) => Err(FrameFault::NoMemory),
@@ -33,7 +36,8 @@ fn apply_frame(alloc: Global, tables: &mut Tables, payload: &[u8]) -> Result<(),
 // The tables after frames.
 fn load_frames(alloc: Global, frames: &mut Frames<'_>) -> Result<Tables, LoadFault>
     requires { length frames.old.payloads < 2 ^ 64 }
-    ensures { Loads (after_frames 0 frames.old.is_cut no_tables frames.old.payloads) result }
+    ensures loads { Loads (after_frames 0 frames.old.is_cut no_tables frames.old.payloads) result }
+    ensures built { IfOk result IsBuiltUp }
 {
     let mut tables = Tables::new(alloc);
     let mut frame = 0u64;
@@ -62,6 +66,7 @@ fn size_of(file: &[u8]) -> usize
 pub fn tables_in(alloc: Global, file: &[u8]) -> Result<Tables, LoadFault>
     ensures loads { Loads (loading file.now) result }
     ensures whole { OnOk result (IsWhole file.now) }
+    ensures built { IfOk result IsBuiltUp }
 {
     let _size = size_of(file);
     match Frames::of(file) {

@@ -10,4 +10,4 @@ load_frames-requires c = omega (arith, few_frames c.args.file.now c.in-Some.fram
 
 pub returns-in-Some-clause-whole : goal.returns-in-Some-clause-whole
 returns-in-Some-clause-whole c =
-    whole_if c.args.file.now c.load_frames.result (subst (λ e. Loads e c.load_frames.result) (sym (ap loading_of c.in-Some.ensures)) c.load_frames.ensures)
+    whole_if c.args.file.now c.load_frames.result (subst (λ e. Loads e c.load_frames.result) (sym (ap loading_of c.in-Some.ensures)) c.load_frames.ensures.loads)
