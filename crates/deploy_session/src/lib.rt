@@ -1,0 +1,12 @@
+//! Deployment sessions: files are staged one after the other, to be deployed all at once or not at all.
+#![tactic(auto)]
+
+mod answers;
+mod files;
+mod known;
+mod recording;
+mod sessions;
+
+pub use answers::{Abort, Begin, Stage};
+pub use files::Files;
+pub use sessions::Sessions;
