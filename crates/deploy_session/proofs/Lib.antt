@@ -1,3 +1,4 @@
 mod FileLemmas
 mod KnownLemmas
 mod SessionLaws
+mod RestartLemmas

@@ -1,23 +1,25 @@
 -- What changes of sessions keep, and what the effects of an abort come to.
-use Rattle.std.proofs.Common.{◌≡◌, ℕ, ◌+◌, ◌-◌, ◌<◌, ◌≤◌, Bool, true, false, cond, not, ◌&&◌, ◌||◌, List, [], ◌∷◌, ◌++◌, map, length, Option, Some, None, option_map, nat_lt, nat_le, eqb, bytes_eq, refl, sym, ap, ◌∙◌, subst, arith, add-zero}
+use Rattle.std.proofs.Common.{◌≡◌, ℕ, ◌+◌, ◌-◌, ◌<◌, ◌≤◌, Bool, true, false, cond, not, ◌&&◌, ◌||◌, List, [], ◌∷◌, ◌++◌, map, length, Option, Some, None, option_map, Less, Equal, Greater, nat_cmp, nat_lt, nat_le, eqb, bytes_eq, refl, sym, ap, ◌∙◌, subst, arith, add-zero}
 use Rattle.std.specs.Prelude.{find, filter, count_by, is_none, IsTrue}
 use Rattle.std.proofs.lemmas.Bool.{and_parts, and_from, eqb-true, false≢true, le-leb, lt-leb, lt-ltb, ltb-true}
 use Rattle.std.proofs.lemmas.List.Folds.{list_all-append}
 use Rattle.std.proofs.lemmas.List.Sums.{sum_by-cons, sum_by-append}
 use Rattle.std.proofs.lemmas.Option.{none-some}
 use Rattle.std.proofs.lemmas.Slice.Eq.{bytes_eq-Decides}
+use Rattle.std.specs.Cmp.Lexicographic.{slice_cmp}
 use Rattle.std.specs.List.{list_all, list_any, flat_map}
+use Rattle.std.specs.Ordering.{match_ordering}
 use Rattle.repo_model.specs.declared.session.SessionResult.{SessionResult}
 use Rattle.repo_model.specs.declared.session.SessionResult.TheVariants.{Aborted}
 use Rattle.repo_model.specs.declared.item.Item.TheVariants.{SessionEnded}
 use Rattle.repo_model.specs.Data.{Blob, Staged, Session, is_same_print}
 use Rattle.repo_model.specs.Deploy.{discard_all}
-use Rattle.repo_model.specs.Effect.{Effect, drops, stages, discards, opens, ends, new_session, without_staged, sessions_after, recorded}
+use Rattle.repo_model.specs.Effect.{Effect, drops, stages, discards, opens, ends, new_session, with_staged, without_staged, sessions_after, recorded}
 use Rattle.repo_model.specs.State.{change_first, is_open, is_open_at, is_session, is_staged, most_sessions, most_staged, number_end}
 use Rattle.repo_model.specs.declared.print.Print.{Print}
 use Rattle.repo_model.specs.Reply as reply
 use Rattle.repo_model.specs.Turn.{Turn, says, with_open, abort_of, draws_or_spent, has_room, stage_at, stage_in, staged_at}
-use Rattle.deploy_session.specs.Known.{Known, IsSound, is_drawn, abort_turn, begin_turn, garbage_by, next_after_all, sessions_after_all}
+use Rattle.deploy_session.specs.Known.{Known, IsSound, has_recordable, is_drawn, is_recordable, abort_turn, begin_turn, garbage_by, next_after_all, sessions_after_all}
 use Rattle.deploy_session.specs.Shown.{standing}
 use Rattle.deploy_session.specs.declared.answers.Standing.TheVariants as stands
 
@@ -71,12 +73,36 @@ drawn_kept next test f alike (s ∷ ss) =
       | false ↦ ap (λ b. is_drawn next s && b) (drawn_kept next test f alike ss)
     ]
 
+-- a change after which the files can still be recorded
+pub formed_kept : (test : Session → Bool) (f : Session → Session) → ((s : Session) → has_recordable s ≡ true → has_recordable (f s) ≡ true) → (ss : List Session)
+    → list_all has_recordable ss ≡ true → list_all has_recordable (change_first test f ss) ≡ true
+formed_kept test f alike [] h = refl
+formed_kept test f alike (s ∷ ss) h =
+    let parts = and_parts (has_recordable s) (list_all has_recordable ss) h in
+    elim (test s) as (λ b. list_all has_recordable (cond b (f s ∷ ss) (s ∷ change_first test f ss)) ≡ true) [
+      | true ↦ and_from (has_recordable (f s)) (list_all has_recordable ss) (alike s parts.0) parts.1
+      | false ↦ and_from (has_recordable s) (list_all has_recordable (change_first test f ss)) parts.0 (formed_kept test f alike ss parts.1)
+    ]
+
+-- one more file that can be recorded
+pub recordable_more : (new : Staged) (files : List Staged) → is_recordable new ≡ true → list_all is_recordable files ≡ true → list_all is_recordable (with_staged new files) ≡ true
+recordable_more new [] is all = and_from (is_recordable new) true is refl
+recordable_more new (f ∷ files) is all =
+    let parts = and_parts (is_recordable f) (list_all is_recordable files) all in
+    let first = and_from (is_recordable new) (list_all is_recordable (f ∷ files)) is all in
+    elim (slice_cmp nat_cmp new.path f.path) as (λ o. list_all is_recordable (match_ordering o (new ∷ f ∷ files) (new ∷ f ∷ files) (f ∷ with_staged new files)) ≡ true) [
+      | Less ↦ first
+      | Equal ↦ first
+      | Greater ↦ and_from (is_recordable f) (list_all is_recordable (with_staged new files)) parts.0 (recordable_more new files is parts.1)
+    ]
+
 -- sessions of which one is changed, but not its number or whether it is open
 pub sound_kept : (count next : ℕ) (test : Session → Bool) (f : Session → Session) → ((s : Session) → is_open (f s) ≡ is_open s) → ((s : Session) → is_drawn next (f s) ≡ is_drawn next s)
-    → (ss : List Session) → IsSound count next ss → IsSound count next (change_first test f ss)
-sound_kept count next test f open_so drawn_so ss sound = record {
+    → ((s : Session) → has_recordable s ≡ true → has_recordable (f s) ≡ true) → (ss : List Session) → IsSound count next ss → IsSound count next (change_first test f ss)
+sound_kept count next test f open_so drawn_so formed_so ss sound = record {
   counted = sound.counted ∙ sym (open_kept test f open_so ss);
   drawn = subst IsTrue (sym (drawn_kept next test f drawn_so ss)) sound.drawn;
+  formed = formed_kept test f formed_so ss sound.formed;
   first = sound.first;
   last = sound.last;
 }
@@ -175,6 +201,7 @@ sound_more count next repo ss left sound =
       drawn = list_all-append (is_drawn (next + 1)) ss (one ∷ [])
           ∙ and_from (list_all (is_drawn (next + 1)) ss) (list_all (is_drawn (next + 1)) (one ∷ [])) (drawn_more next ss sound.drawn)
           (and_from (is_drawn (next + 1) one) true (and_from (nat_lt 0 next) (nat_lt next (next + 1)) (lt-ltb 0 next sound.first) (lt-ltb next (next + 1) (omega arith))) refl);
+      formed = list_all-append has_recordable ss (one ∷ []) ∙ and_from (list_all has_recordable ss) (list_all has_recordable (one ∷ [])) sound.formed refl;
       first = omega arith;
       last = omega (arith, left);
     }
@@ -304,6 +331,7 @@ sound_fewer count next n how ss one is sound =
       record {
         counted = omega (arith, fewer, sound.counted);
         drawn = subst IsTrue (sym (drawn_kept next (is_open_at n) (λ s. record s { staged = []; ended = Some how }) (λ s. refl) ss)) sound.drawn;
+        formed = formed_kept (is_open_at n) (λ s. record s { staged = []; ended = Some how }) (λ s h. refl) ss sound.formed;
         first = sound.first;
         last = sound.last;
       })

@@ -1,16 +1,23 @@
 -- The sessions that are known, what each call is due, and what effects make of them.
 use Rattle.std.specs.Prelude.{◌≡◌, ℕ, ◌+◌, ◌<◌, ◌≤◌, Bool, ◌&&◌, ◌==◌, nat_lt, nat_le, if◌then◌else◌, List, [], ◌∷◌, find, count_by, IsTrue}
 use Rattle.std.specs.List.{list_all}
-use Rattle.repo_model.specs.Data.{Blob, Session}
+use Rattle.repo_model.specs.Data.{Blob, Session, Staged}
 use Rattle.repo_model.specs.State.{is_open, is_open_at, is_session, most_sessions, number_end}
 use Rattle.repo_model.specs.Effect.{Effect, drops, discards, expires, opens, sessions_after}
 use Rattle.repo_model.specs.Reply.{sessions_full, opened}
+use Rattle.repo_model.specs.Restart.{greatest_session, sessions_from}
+use Rattle.repo_model.specs.Tables.{Tables}
 use Rattle.repo_model.specs.Turn.{Turn, says, draws_or_spent, with_open, stage_in, abort_of}
+use Rattle.row_tables.specs.Items.{is_count, is_file_path, is_number}
 
 -- sessions in rising order of number, open or ended, and the number of the next one
 pub record Known : Type 0 where
   pub sessions : List Session
   pub next : ℕ
+
+-- the sessions after a start over tables: one that was open is gone, and its number is not drawn again
+abbrev pub known_from : Tables → Known
+known_from t = record { sessions = sessions_from t.sessions; next = greatest_session t + 1 }
 
 -- the turns of a session that is opened, a file that is staged and a session that is given up
 abbrev pub begin_turn : Known → List ℕ → Turn
@@ -51,9 +58,17 @@ garbage_by effect = []
 abbrev pub is_drawn : ℕ → Session → Bool
 is_drawn next s = nat_lt 0 s.number && nat_lt s.number next
 
--- so many sessions are open, each was drawn, and the next number is at most 2 ^ 63
+-- a staged file can be recorded as a row: its path is a file's, its blob has a number, and its length lies below 2 ^ 63
+abbrev pub is_recordable : Staged → Bool
+is_recordable file = is_file_path file.path && (is_number file.blob.number && is_count file.blob.print.length)
+
+abbrev pub has_recordable : Session → Bool
+has_recordable s = list_all is_recordable s.staged
+
+-- so many sessions are open, each was drawn and its files can be recorded, and the next number is at most 2 ^ 63
 pub record IsSound (count next : ℕ) (sessions : List Session) : Type 0 where
   pub counted : count ≡ count_by is_open sessions
   pub drawn : IsTrue (list_all (is_drawn next) sessions)
+  pub formed : IsTrue (list_all has_recordable sessions)
   pub first : 0 < next
   pub last : next ≤ number_end

@@ -1,6 +1,6 @@
--- What calls that record need of the records, the tables behind them, and what calls that record answer where that fails.
+-- What calls that record need of the records, and what they answer where that fails.
 use Rattle.std.specs.Prelude.{◌≡◌, ℕ, List, Option, Ok}
-use Rattle.std.specs.Option.{ForSome, option_map}
+use Rattle.std.specs.Option.{ForSome}
 use Rattle.outside.specs.Faults.{Rose}
 use Rattle.repo_model.specs.declared.item.Item.{Item}
 use Rattle.repo_model.specs.Tables.{Tables, applied}
@@ -12,10 +12,6 @@ use Rattle.row_tables.specs.declared.faults.CommitFault.TheVariants as commit
 -- items that fit the tables, where these are told
 abbrev pub FitWhereTold : Option Tables → List Item → Type 0
 FitWhereTold tables items = ForSome tables (λ t. applied t items ≡ Ok (with_items t items))
-
--- the tables with these items, where they are told
-abbrev pub tables_with : List Item → Option Tables → Option Tables
-tables_with items tables = option_map (λ t. with_items t items) tables
 
 -- why nothing was recorded
 abbrev pub failed_by : CommitFault → Reply

@@ -1,11 +1,13 @@
 //! The sessions that are known, by number.
-ghost use Rattle.std.specs.Prelude.{◌≡◌, ℕ, [], None, Some, true, find, is_some, OnOk, OnErr};
+ghost use Rattle.std.specs.Prelude.{◌≡◌, ◌∷◌, ◌++◌, ℕ, [], None, Some, true, find, is_some, IsTrue, OnOk, OnErr};
+ghost use Rattle.std.specs.List.{list_all};
 ghost use Rattle.std.specs.Option.{option_map};
 ghost use Rattle.repo_model.specs.Data.{Blob};
 ghost use Rattle.repo_model.specs.Shown.{shown_parcel};
 ghost use Rattle.repo_model.specs.State.{is_open_at, is_session, change_first};
 ghost use Rattle.repo_model.specs.Effect.{stages, sessions_after};
 ghost use Rattle.repo_model.specs.Turn.{staged_at, stage_in};
+ghost use Rattle.deploy_session.specs.Known.{is_drawn};
 ghost use Rattle.deploy_session.specs.Shown.{shown_session, shown_sessions, IsJudged};
 
 use crate::answers::{Stage, Standing};
@@ -79,6 +81,20 @@ pub fn judge<H: Held>(
         Standing::Other(kept) => Err(Stage::Taken { kept, sent }),
         Standing::Same => Err(Stage::Same),
     }
+}
+
+/// Adds a session under a number that is greater than all.
+pub fn add<H: Held>(
+    known: &mut BTreeMap<u64, Session<H>>,
+    number: u64,
+    session: Session<H>,
+) -> Result<(), NoMemory>
+    requires { IsTrue (list_all (is_drawn number) (shown_sessions known.old.entries)) }
+    ensures ok { OnOk result (known.new.entries ≡ known.old.entries ++ (number, session) ∷ []) }
+    ensures err { OnErr result (known.new.entries ≡ known.old.entries) }
+{
+    known.insert(number, session)?;
+    Ok(())
 }
 
 /// Adds a file to the session that is open under a number, which has none at the path.

@@ -5,6 +5,7 @@ mod answers;
 mod files;
 mod known;
 mod recording;
+mod restart;
 mod sessions;
 
 pub use answers::{Abort, Begin, Stage};

@@ -4,10 +4,11 @@ ghost use Rattle.std.specs.List.{list_all};
 ghost use Rattle.repo_model.specs.declared.item.Item.TheVariants.{SessionOpened, SessionEnded};
 ghost use Rattle.repo_model.specs.Effect.{opens, sessions_after};
 ghost use Rattle.repo_model.specs.State.{is_open_at, change_first, number_end};
+ghost use Rattle.row_tables.specs.Commits.{tables_with};
 ghost use Rattle.row_tables.specs.Items.{IsChange};
 ghost use Rattle.row_tables.specs.Records.{HasCommitCause};
 ghost use Rattle.deploy_session.specs.Known.{is_drawn};
-ghost use Rattle.deploy_session.specs.Recording.{FitWhereTold, tables_with};
+ghost use Rattle.deploy_session.specs.Recording.{FitWhereTold};
 ghost use Rattle.deploy_session.specs.Shown.{shown_sessions};
 
 use crate::known::{self, Session};
@@ -53,20 +54,6 @@ fn ended_change(alloc: Global, number: u64) -> Result<Change, NoMemory>
     )
 }
 
-// Adds a session under a number that is greater than all.
-fn add<H: Held>(
-    known: &mut BTreeMap<u64, Session<H>>,
-    number: u64,
-    session: Session<H>,
-) -> Result<(), NoMemory>
-    requires { IsTrue (list_all (is_drawn number) (shown_sessions known.old.entries)) }
-    ensures ok { OnOk result (known.new.entries ≡ known.old.entries ++ (number, session) ∷ []) }
-    ensures err { OnErr result (known.new.entries ≡ known.old.entries) }
-{
-    known.insert(number, session)?;
-    Ok(())
-}
-
 /// Opens a session under a number that is greater than all, once that is recorded. Where that fails nothing is changed.
 pub fn begin<H: Held, K: Records>(
     alloc: Global,
@@ -95,7 +82,7 @@ pub fn begin<H: Held, K: Records>(
         ended: None,
     };
     // The session makes its own room, and goes again where it is not recorded.
-    add(known, number, session)?;
+    known::add(known, number, session)?;
     if let Err(fault) = records.commit(alloc, &change) {
         known.remove(&number);
         return Err(fault);

@@ -1,22 +1,26 @@
 //! Deployment sessions.
-ghost use Rattle.std.specs.Prelude.{◌≡◌, ◌≢◌, ◌⊎◌, if◌then◌else◌, count_by, find, [], None, IsTrue};
+ghost use Rattle.std.specs.Prelude.{◌≡◌, ◌≢◌, ◌<◌, ◌⊎◌, if◌then◌else◌, count_by, find, [], None, IsTrue, IfOk};
 ghost use Rattle.std.specs.List.{flat_map};
 ghost use Rattle.std.specs.Option.{option_map};
 ghost use Rattle.repo_model.specs.Effect.{recorded};
 ghost use Rattle.repo_model.specs.Reply.{is_free, no_memory, staged};
 ghost use Rattle.repo_model.specs.Shown.{shown_parcel};
-ghost use Rattle.repo_model.specs.State.{is_open, is_open_at};
-ghost use Rattle.deploy_session.specs.Known.{abort_turn, begin_turn, garbage_by, known_after, stage_turn};
-ghost use Rattle.deploy_session.specs.Recording.{FitWhereTold, HasReplyCause, tables_with};
+ghost use Rattle.repo_model.specs.State.{is_open, is_open_at, number_end};
+ghost use Rattle.row_tables.specs.Commits.{tables_with};
+ghost use Rattle.row_tables.specs.Items.{is_file_path, is_number};
+ghost use Rattle.row_tables.specs.Recorded.{IsBuiltUp};
+ghost use Rattle.deploy_session.specs.Known.{abort_turn, begin_turn, garbage_by, known_after, known_from, stage_turn};
+ghost use Rattle.deploy_session.specs.Recording.{FitWhereTold, HasReplyCause};
 ghost use Rattle.deploy_session.specs.Shown.{blobs_left, shown_abort, shown_begin, shown_files, shown_stage};
 
 use crate::answers::{Abort, Begin, Stage};
 use crate::files;
 use crate::known::{self, Session};
 use crate::recording;
-use outside::{Held, Parcel};
+use crate::restart;
+use outside::{Held, NoMemory, Parcel};
 use repo_model::{NUMBER_END, Numbers};
-use row_tables::Records;
+use row_tables::{Records, Tables};
 use std::alloc::Global;
 use std::collections::BTreeMap;
 use std::marker::Model;
@@ -57,6 +61,23 @@ impl<H: Held> Sessions<H> {
             open_count: 0,
             next: 1,
         }
+    }
+
+    /// The sessions after a start. Those that have ended keep their results; those that were open are gone, and their numbers
+    /// are not drawn again.
+    pub fn start(alloc: Global, tables: &Tables) -> Result<Sessions<H>, NoMemory>
+        requires { IsBuiltUp tables.now }
+        ensures { IfOk result (λ s. s ≡ known_from tables.now) }
+    {
+        let rows = tables.sessions();
+        let known = restart::ended_of(alloc, rows)?;
+        let last = restart::greatest_of(rows);
+        Ok(Sessions {
+            alloc,
+            known,
+            open_count: 0,
+            next: last + 1,
+        })
     }
 
     /// Opens a session for the hosted repository of an id, once that is recorded. Where that fails nothing is changed.
@@ -132,6 +153,9 @@ impl<H: Held> Sessions<H> {
 
     /// Stages a stored blob at a path of the session that is open under a number. A file that it has there stays.
     pub fn stage(&mut self, session: u64, path: &str, parcel: Parcel<H>) -> Stage
+        requires path { IsTrue (is_file_path path.now) }
+        requires blob { IsTrue (is_number parcel.blob) }
+        requires length { parcel.length < number_end }
         ensures reply { let turn = stage_turn self.old session path.now (shown_parcel parcel) in
             (shown_stage result ≡ turn.reply) ⊎ ((shown_stage result ≡ no_memory) × (turn.reply ≡ staged)) }
         ensures sessions { let turn = stage_turn self.old session path.now (shown_parcel parcel) in

@@ -8,7 +8,8 @@ use Rattle.repo_model.specs.Effect.{Effect, recorded}
 use Rattle.repo_model.specs.State.{is_open_at, is_session}
 use Rattle.repo_model.specs.Turn.{Turn}
 use Rattle.deploy_session.specs.Known.{Known, IsSound, abort_turn, garbage_by, known_after}
-use Rattle.deploy_session.specs.Recording.{FitWhereTold, tables_with}
+use Rattle.row_tables.specs.Commits.{tables_with}
+use Rattle.deploy_session.specs.Recording.{FitWhereTold}
 use Rattle.deploy_session.specs.Shown.{shown_files, shown_session, shown_sessions}
 use Rattle.deploy_session.proofs.SessionLaws.{abort_so, aborted, garbage_aborted, gone, next_aborted, number_range, open_of_session, recorded_aborted, sound_fewer}
 use Rattle.deploy_session.proofs.sessions.Sessions.abort.Goals as goal

@@ -1,12 +1,14 @@
-use Rattle.std.proofs.Common.{◌≡◌, List, Option, sym, ap, ◌∙◌, refl, subst}
+use Rattle.std.proofs.Common.{◌≡◌, ◌≤◌, ◌&&◌, true, List, Option, sym, ap, ◌∙◌, refl, subst, arith}
 use Rattle.std.specs.Prelude.{find}
+use Rattle.std.proofs.lemmas.Bool.{and_from, le-leb}
 use Rattle.repo_model.specs.Data as plain
 use Rattle.repo_model.specs.Effect.{Effect, stages, sessions_after, with_staged}
 use Rattle.repo_model.specs.Shown.{shown_parcel}
 use Rattle.repo_model.specs.State.{is_open_at}
-use Rattle.deploy_session.specs.Known.{Known, IsSound, known_after, sessions_after_all, next_after_all, stage_turn}
+use Rattle.row_tables.specs.Items.{is_count, is_file_path, is_number}
+use Rattle.deploy_session.specs.Known.{Known, IsSound, is_recordable, known_after, sessions_after_all, next_after_all, stage_turn}
 use Rattle.deploy_session.specs.Shown.{shown_sessions}
-use Rattle.deploy_session.proofs.SessionLaws.{staged_free, staged_effects, is_open_so, sound_kept}
+use Rattle.deploy_session.proofs.SessionLaws.{staged_free, staged_effects, is_open_so, recordable_more, sound_kept}
 use Rattle.deploy_session.proofs.sessions.Sessions.stage.Goals as goal
 
 pub add_file-requires : goal.add_file-requires
@@ -17,10 +19,15 @@ add_file-requires g c =
 
 pub invariant_of-self-2 : goal.invariant_of-self-2
 invariant_of-self-2 g c =
-    let blob = shown_parcel c.args.parcel in
     let y = c.self.inside in
+    let file : plain.Staged = record { path = c.args.path.now; blob = shown_parcel c.args.parcel } in
+    let short : c.args.parcel.length ≤ 9223372036854775807 = omega (arith, c.requires.length) in
+    let is : is_recordable file ≡ true =
+    and_from (is_file_path file.path) (is_number file.blob.number && is_count file.blob.print.length) c.requires.path
+    (and_from (is_number file.blob.number) (is_count file.blob.print.length) c.requires.blob (le-leb c.args.parcel.length 9223372036854775807 short)) in
     subst (IsSound y.open_count y.next) (sym c.in-Ok.ensures.ok)
-    (sound_kept y.open_count y.next (is_open_at c.args.session) (λ (s : plain.Session). record s { staged = with_staged (record { path = c.args.path.now; blob = blob }) s.staged }) (λ s. refl) (λ s. refl) (shown_sessions y.known.entries) c.self.invariant)
+    (sound_kept y.open_count y.next (is_open_at c.args.session) (λ (s : plain.Session). record s { staged = with_staged file s.staged }) (λ s. refl) (λ s. refl)
+    (λ s all. recordable_more file s.staged is all) (shown_sessions y.known.entries) c.self.invariant)
 
 pub returns-clause-sessions : goal.returns-clause-sessions
 returns-clause-sessions g c =
