@@ -1,12 +1,19 @@
 // What the tests share: sessions, their records and blobs, and what the calls answer as plain values.
+ghost use Rattle.std.specs.Prelude.{◌≡◌};
+ghost use Rattle.row_tables.specs.Items.{is_file_path};
+
 use crate::records::CountedRecords;
 use deploy_session::{Abort as GaveUp, Begin, Sessions, Stage};
+use mvn_coords::{Kind, kind_of};
 use mvn_digest::Hashes;
 use outside::{Blobs, Parcel};
 use outside_memory::{FaultScript, MemBlobs, MemHeld};
 use std::alloc::Global;
 use std::process::Abort;
 use std::test::Fail;
+
+// The greatest number of a blob, and the greatest length.
+const MOST: u64 = 9_223_372_036_854_775_807;
 
 /// What giving a session up came to.
 #[derive(Clone, Copy, Debug, PartialEq, Eq)]
@@ -19,7 +26,7 @@ pub enum Gone {
     Aborted(usize, u64),
 }
 
-fn gone_of(answer: &GaveUp) -> Gone {
+pub fn gone_of(answer: &GaveUp) -> Gone {
     match answer {
         GaveUp::NoSession => Gone::NoSession,
         GaveUp::Done(count) => Gone::Done(*count),
@@ -30,6 +37,12 @@ fn gone_of(answer: &GaveUp) -> Gone {
             Gone::Aborted(numbers.len(), numbers.first().copied().unwrap_or(0))
         }
     }
+}
+
+fn is_file(path: &str) -> bool
+    ensures { result ≡ is_file_path path.now }
+{
+    matches!(kind_of(path), Ok(Kind::File(_)))
 }
 
 /// Sessions, their records and their blobs.
@@ -77,7 +90,17 @@ impl Bench {
     /// Stages bytes, as the next blob.
     pub fn stage(&mut self, session: u64, path: &str, bytes: &[u8]) -> Result<Stage, Fail> {
         let parcel = self.parcel(bytes)?;
-        Ok(self.sessions.stage(session, path, parcel))
+        let Some(answer) = self.stage_parcel(session, path, parcel) else {
+            Err("no file's path or blob")?
+        };
+        Ok(answer)
+    }
+
+    fn stage_parcel(&mut self, session: u64, path: &str, parcel: Parcel<MemHeld>) -> Option<Stage> {
+        if !is_file(path) || parcel.blob == 0 || parcel.blob > MOST || parcel.length > MOST {
+            return None;
+        }
+        Some(self.sessions.stage(session, path, parcel))
     }
 
     pub fn abort(&mut self, session: u64) -> Gone {

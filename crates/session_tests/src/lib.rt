@@ -11,4 +11,6 @@ mod openings;
 #[cfg(test)]
 mod records;
 #[cfg(test)]
+mod restarts;
+#[cfg(test)]
 mod stagings;
