@@ -90,8 +90,9 @@ impl Bench {
     /// Stages bytes, as the next blob.
     pub fn stage(&mut self, session: u64, path: &str, bytes: &[u8]) -> Result<Stage, Fail> {
         let parcel = self.parcel(bytes)?;
-        let Some(answer) = self.stage_parcel(session, path, parcel) else {
-            Err("no file's path or blob")?
+        let answer = match self.stage_parcel(session, path, parcel) {
+            Some(answer) => answer,
+            None => Err("no file's path or blob")?,
         };
         Ok(answer)
     }

@@ -31,10 +31,10 @@ fn change_of(alloc: Global) -> Result<Change, NoMemory>
 
 // The sessions after a start over these records.
 fn started(alloc: Global, records: &mut MemRecords) -> Result<Sessions<MemHeld>, Fail> {
-    let Ok(tables) = records.load(alloc) else {
-        Err("not loaded")?
-    };
-    Ok(Sessions::start(alloc, &tables)?)
+    match records.load(alloc) {
+        Ok(tables) => Ok(Sessions::start(alloc, &tables)?),
+        Err(_) => Err("not loaded")?,
+    }
 }
 
 #[test]
@@ -42,9 +42,7 @@ fn results_outlast_a_stop_and_open_ones_do_not(rt: HostRuntime) -> Result<(), Fa
     let alloc = rt.alloc();
     let mut records = MemRecords::new(alloc, Vec::new(alloc));
     let change = change_of(alloc)?;
-    let Ok(()) = records.commit(alloc, &change) else {
-        Err("not committed")?
-    };
+    assert!(rt; records.commit(alloc, &change).is_ok());
     let mut sessions = started(alloc, &mut records)?;
     let mut later = CountedRecords::new();
     assert_eq!(rt; sessions.count(), 0);

@@ -32,8 +32,8 @@ fn other_bytes_do_not_take_its_place(rt: HostRuntime) -> Result<(), Fail> {
         Stage::Taken { kept, sent } => {
             assert_eq!(rt; kept.length, 3);
             assert_eq!(rt; sent.length, 0);
-            assert_eq!(rt; kept.digests.md5_text().as_slice(), b"900150983cd24fb0d6963f7d28e17f72");
-            assert_eq!(rt; sent.digests.md5_text().as_slice(), b"d41d8cd98f00b204e9800998ecf8427e");
+            assert_eq!(rt; kept.digests.md5_text().as_slice(), b"900150983cd24fb0d6963f7d28e17f72".as_slice());
+            assert_eq!(rt; sent.digests.md5_text().as_slice(), b"d41d8cd98f00b204e9800998ecf8427e".as_slice());
         }
         _ => Err("not taken")?,
     }
@@ -61,14 +61,15 @@ fn they_stand_in_byte_order(rt: HostRuntime) -> Result<(), Fail> {
     bench.begin_as(&rt, 1);
     assert_eq!(rt; bench.stage(1, POM, b"a")?, Stage::Staged);
     assert_eq!(rt; bench.stage(1, JAR, b"abc")?, Stage::Staged);
-    let Some((_, files)) = bench.sessions.opened(1) else {
-        Err("not open")?
+    let (_, files) = match bench.sessions.opened(1) {
+        Some(lent) => lent,
+        None => Err("not open")?,
     };
     let mut numbers = Vec::new(rt.alloc());
     for (_, parcel) in files {
         numbers.push(parcel.blob)?;
     }
-    assert_eq!(rt; numbers.as_slice(), &[2, 1]);
+    assert_eq!(rt; numbers.as_slice(), [2, 1].as_slice());
     Ok(())
 }
 
