@@ -156,17 +156,8 @@ staged_effects n path d blob (Some one) of h =
 pub opens_so : (k : Known) (repo : List ℕ) → count_by is_open k.sessions < most_sessions → eqb k.next number_end ≡ false
     → begin_turn k repo ≡ record { reply = reply.opened k.next; effects = opens k.next repo ∷ [] }
 opens_so k repo few left =
-    ap (λ b. cond {A = Turn} b (says reply.sessions_full) (draws_or_spent k.next (record { reply = reply.opened k.next; effects = opens k.next repo ∷ [] }))) (lt-leb (count_by is_open k.sessions) most_sessions few)
+    ap (λ b. cond {A = Turn} b (says reply.sessions_full) (draws_or_spent k.next (record { reply = reply.opened k.next; effects = opens k.next repo ∷ [] }))) (lt-leb most_sessions (count_by is_open k.sessions) few)
     ∙ ap (λ b. cond {A = Turn} b (says reply.spent) (record { reply = reply.opened k.next; effects = opens k.next repo ∷ [] })) left
-
-pub full_so : (k : Known) (repo : List ℕ) → most_sessions ≤ count_by is_open k.sessions → begin_turn k repo ≡ says reply.sessions_full
-full_so k repo many =
-    ap (λ b. cond {A = Turn} b (says reply.sessions_full) (draws_or_spent k.next (record { reply = reply.opened k.next; effects = opens k.next repo ∷ [] }))) (le-leb most_sessions (count_by is_open k.sessions) many)
-
-pub spent_so : (k : Known) (repo : List ℕ) → count_by is_open k.sessions < most_sessions → eqb k.next number_end ≡ true → begin_turn k repo ≡ says reply.spent
-spent_so k repo few is =
-    ap (λ b. cond {A = Turn} b (says reply.sessions_full) (draws_or_spent k.next (record { reply = reply.opened k.next; effects = opens k.next repo ∷ [] }))) (lt-leb (count_by is_open k.sessions) most_sessions few)
-    ∙ ap (λ b. cond {A = Turn} b (says reply.spent) (record { reply = reply.opened k.next; effects = opens k.next repo ∷ [] })) is
 
 -- one more session
 drawn_more : (next : ℕ) (ss : List Session) → list_all (is_drawn next) ss ≡ true → list_all (is_drawn (next + 1)) ss ≡ true
@@ -264,7 +255,7 @@ without-self : (files : List Staged) → without_all files files ≡ []
 without-self [] = refl
 without-self (f ∷ files) =
     let other : Staged → Bool = λ file. not (is_staged f.path file) in
-    ap (λ b. without_all files (cond (not b) (f ∷ filter other files) (filter other files))) (sym ((bytes_eq-Decides f.path f.path).1 refl))
+    ap (λ b. without_all files (cond (not b) (f ∷ filter other files) (filter other files))) ((bytes_eq-Decides f.path f.path).1 refl)
     ∙ without-filter files other files
     ∙ ap (filter other) (without-self files)
 
