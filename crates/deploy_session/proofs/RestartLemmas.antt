@@ -1,6 +1,6 @@
 -- What the items that build tables up say of their sessions, and what a start makes of these.
-use Rattle.std.proofs.Common.{◌≡◌, ℕ, zero, suc, ◌+◌, ◌<◌, ◌≤◌, max, Bool, true, false, cond, ◌&&◌, List, [], ◌∷◌, ◌++◌, fold, length, get_or, take, Option, Some, None, Result, Ok, Err, nat_lt, nat_le, refl, sym, ap, ◌∙◌, subst, arith}
-use Rattle.std.specs.Prelude.{count_by, IsTrue}
+use Rattle.std.proofs.Common.{◌≡◌, ℕ, zero, suc, ◌+◌, ◌<◌, ◌≤◌, max, Bool, true, false, cond, ◌&&◌, List, [], ◌∷◌, ◌++◌, fold, length, get_or, take, Option, Some, None, Ok, Err, nat_lt, nat_le, refl, sym, ap, ◌∙◌, subst, arith}
+use Rattle.std.specs.Prelude.{count_by}
 use Rattle.std.proofs.lemmas.Bool.{and_parts, and_from, leb-true, lt-ltb, ltb-true}
 use Rattle.std.proofs.lemmas.Grind.{flat_map-append}
 use Rattle.std.proofs.lemmas.List.{append-nil, map-append, take_more}
@@ -53,9 +53,10 @@ by_item t (Removed repo path) fits form so = so
 by_item t (CachedFile repo path blob print accepted) fits form so = so
 by_item t (CachedDoc repo path checked document) fits form so = so
 by_item t (SessionOpened n) fits form so =
-    let new : RecordedSession = record { number = n; result = None } in
-    (rising_push n new t.sessions refl so.0 fits,
-      list_all-append (λ (s : RecordedSession). is_number s.number) t.sessions (new ∷ []) ∙ and_from (are_numbers t.sessions) (are_numbers (new ∷ [])) so.1 (and_from (is_number n) true form refl))
+    let new : RecordedSession = record { number = n; result = None } in (
+      rising_push n new t.sessions refl so.0 fits,
+      list_all-append (λ (s : RecordedSession). is_number s.number) t.sessions (new ∷ []) ∙ and_from (are_numbers t.sessions) (are_numbers (new ∷ [])) so.1 (and_from (is_number n) true form refl),
+    )
 by_item t (SessionEnded n how) fits form so = (rising_changed n how t.sessions so.0, numbers_changed n how t.sessions ∙ so.1)
 
 by_items : (place : ℕ) (t : Tables) (items : List Item) (r : Tables) → applied_from place t items ≡ Ok r → list_all is_item items ≡ true → AreRecordedSessions t.sessions → AreRecordedSessions r.sessions

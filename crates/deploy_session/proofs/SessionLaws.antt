@@ -1,5 +1,5 @@
 -- What changes of sessions keep, and what the effects of an abort come to.
-use Rattle.std.proofs.Common.{◌≡◌, ℕ, ◌+◌, ◌-◌, ◌<◌, ◌≤◌, Bool, true, false, cond, not, ◌&&◌, ◌||◌, List, [], ◌∷◌, ◌++◌, map, length, Option, Some, None, option_map, Less, Equal, Greater, nat_cmp, nat_lt, nat_le, eqb, bytes_eq, refl, sym, ap, ◌∙◌, subst, arith, add-zero}
+use Rattle.std.proofs.Common.{◌≡◌, ℕ, ◌+◌, ◌-◌, ◌<◌, ◌≤◌, Bool, true, false, cond, not, ◌&&◌, ◌||◌, List, [], ◌∷◌, ◌++◌, map, length, Option, Some, None, option_map, Less, Equal, Greater, nat_cmp, nat_lt, nat_le, eqb, refl, sym, ap, ◌∙◌, subst, arith}
 use Rattle.std.specs.Prelude.{find, filter, count_by, is_none, IsTrue}
 use Rattle.std.proofs.lemmas.Bool.{and_parts, and_from, eqb-true, false≢true, le-leb, lt-leb, lt-ltb, ltb-true}
 use Rattle.std.proofs.lemmas.List.Folds.{list_all-append}
@@ -13,7 +13,6 @@ use Rattle.repo_model.specs.declared.session.SessionResult.{SessionResult}
 use Rattle.repo_model.specs.declared.session.SessionResult.TheVariants.{Aborted}
 use Rattle.repo_model.specs.declared.item.Item.TheVariants.{SessionEnded}
 use Rattle.repo_model.specs.Data.{Blob, Staged, Session, is_same_print}
-use Rattle.repo_model.specs.Deploy.{discard_all}
 use Rattle.repo_model.specs.Effect.{Effect, drops, stages, discards, opens, ends, new_session, with_staged, without_staged, sessions_after, recorded}
 use Rattle.repo_model.specs.State.{change_first, is_open, is_open_at, is_session, is_staged, most_sessions, most_staged, number_end}
 use Rattle.repo_model.specs.declared.print.Print.{Print}
@@ -237,13 +236,13 @@ filters p q [] = refl
 filters p q (f ∷ files) =
     elim (p f) as (λ a. p f ≡ a → filter p (cond (q f) (f ∷ filter q files) (filter q files)) ≡ filter q (cond a (f ∷ filter p files) (filter p files))) [
       | true ↦ λ pf. elim (q f) as (λ b. q f ≡ b → filter p (cond b (f ∷ filter q files) (filter q files)) ≡ cond b (f ∷ filter q (filter p files)) (filter q (filter p files))) [
-          | true ↦ λ qf. ap (λ a. cond a (f ∷ filter p (filter q files)) (filter p (filter q files))) pf ∙ ap (λ r. f ∷ r) (filters p q files)
-          | false ↦ λ qf. filters p q files
-        ] refl
+        | true ↦ λ qf. ap (λ a. cond a (f ∷ filter p (filter q files)) (filter p (filter q files))) pf ∙ ap (λ r. f ∷ r) (filters p q files)
+        | false ↦ λ qf. filters p q files
+      ] refl
       | false ↦ λ pf. elim (q f) as (λ b. filter p (cond b (f ∷ filter q files) (filter q files)) ≡ filter q (filter p files)) [
-          | true ↦ ap (λ a. cond a (f ∷ filter p (filter q files)) (filter p (filter q files))) pf ∙ filters p q files
-          | false ↦ filters p q files
-        ]
+        | true ↦ ap (λ a. cond a (f ∷ filter p (filter q files)) (filter p (filter q files))) pf ∙ filters p q files
+        | false ↦ filters p q files
+      ]
     ] refl
 
 without-filter : (gone : List Staged) (p : Staged → Bool) (files : List Staged) → without_all gone (filter p files) ≡ filter p (without_all gone files)
@@ -282,8 +281,8 @@ aborted n how one ss is =
     ∙ twice (is_open_at n) (λ s. record s { staged = without_all one.staged s.staged }) (λ s. record s { ended = Some how }) (λ s. refl) ss
     ∙ agree (is_open_at n) (λ s. record s { staged = without_all one.staged s.staged; ended = Some how }) (λ s. record s { staged = []; ended = Some how }) ss
     (λ s found.
-        let alike : one ≡ s = cc in
-        ap (λ (files : List Staged). record s { staged = files; ended = Some how }) (ap (λ (t : Session). without_all t.staged s.staged) alike ∙ without-self s.staged))
+    let alike : one ≡ s = cc in
+    ap (λ (files : List Staged). record s { staged = files; ended = Some how }) (ap (λ (t : Session). without_all t.staged s.staged) alike ∙ without-self s.staged))
 
 pub next_aborted : (n : ℕ) (how : SessionResult) (files : List Staged) (next : ℕ) → next_after_all (given_up n files ++ ends n how ∷ []) next ≡ next
 next_aborted n how [] next = refl
@@ -317,15 +316,16 @@ one_fewer n how (s ∷ ss) one is =
 pub sound_fewer : (count next n : ℕ) (how : SessionResult) (ss : List Session) (one : Session) → find (is_open_at n) ss ≡ Some one → IsSound count next ss
     → (0 < count) × IsSound (count - 1) next (change_first (is_open_at n) (λ s. record s { staged = []; ended = Some how }) ss)
 sound_fewer count next n how ss one is sound =
-    let fewer = one_fewer n how ss one is in
-    (omega (arith, fewer, sound.counted),
+    let fewer = one_fewer n how ss one is in (
+      omega (arith, fewer, sound.counted),
       record {
         counted = omega (arith, fewer, sound.counted);
         drawn = subst IsTrue (sym (drawn_kept next (is_open_at n) (λ s. record s { staged = []; ended = Some how }) (λ s. refl) ss)) sound.drawn;
         formed = formed_kept (is_open_at n) (λ s. record s { staged = []; ended = Some how }) (λ s h. refl) ss sound.formed;
         first = sound.first;
         last = sound.last;
-      })
+      },
+    )
 
 -- a session of files is given up
 abbrev pub gone : ℕ → List Staged → Turn

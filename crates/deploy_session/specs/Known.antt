@@ -1,5 +1,5 @@
 -- The sessions that are known, what each call is due, and what effects make of them.
-use Rattle.std.specs.Prelude.{◌≡◌, ℕ, ◌+◌, ◌<◌, ◌≤◌, Bool, ◌&&◌, ◌==◌, nat_lt, nat_le, if◌then◌else◌, List, [], ◌∷◌, find, count_by, IsTrue}
+use Rattle.std.specs.Prelude.{◌≡◌, ℕ, ◌+◌, ◌<◌, ◌≤◌, Bool, ◌&&◌, nat_lt, nat_le, if◌then◌else◌, List, [], ◌∷◌, find, count_by, IsTrue}
 use Rattle.std.specs.List.{list_all}
 use Rattle.repo_model.specs.Data.{Blob, Session, Staged}
 use Rattle.repo_model.specs.State.{is_open, is_open_at, is_session, most_sessions, number_end}

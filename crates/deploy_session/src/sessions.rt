@@ -14,10 +14,8 @@ ghost use Rattle.deploy_session.specs.Recording.{FitWhereTold, HasReplyCause};
 ghost use Rattle.deploy_session.specs.Shown.{blobs_left, shown_abort, shown_begin, shown_files, shown_stage};
 
 use crate::answers::{Abort, Begin, Stage};
-use crate::files;
 use crate::known::{self, Session};
-use crate::recording;
-use crate::restart;
+use crate::{files, recording, restart};
 use outside::{Held, NoMemory, Parcel};
 use repo_model::{NUMBER_END, Numbers};
 use row_tables::{Records, Tables};

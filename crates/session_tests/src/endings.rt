@@ -5,6 +5,7 @@ use std::process::Abort;
 use std::test::Fail;
 
 const JAR: &str = "org/acme/lib/2.0/lib-2.0.jar";
+
 const POM: &str = "org/acme/lib/2.0/lib-2.0.pom";
 
 #[test]

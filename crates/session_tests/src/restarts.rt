@@ -22,9 +22,15 @@ fn change_of(alloc: Global) -> Result<Change, NoMemory>
     let items = vec![in alloc;
         Item::SessionOpened(2),
         Item::SessionOpened(5),
-        Item::SessionEnded { session: 2, result: SessionResult::Done(3) },
+        Item::SessionEnded {
+            session: 2,
+            result: SessionResult::Done(3)
+        },
         Item::SessionOpened(9),
-        Item::SessionEnded { session: 5, result: SessionResult::Aborted },
+        Item::SessionEnded {
+            session: 5,
+            result: SessionResult::Aborted
+        },
     ]?;
     Ok(Change::of(items))
 }
@@ -47,7 +53,10 @@ fn results_outlast_a_stop_and_open_ones_do_not(rt: HostRuntime) -> Result<(), Fa
     let mut later = CountedRecords::new();
     assert_eq!(rt; sessions.count(), 0);
     assert_eq!(rt; gone_of(&sessions.abort(&mut later, 2)), Gone::Done(3));
-    assert_eq!(rt; gone_of(&sessions.abort(&mut later, 5)), Gone::Aborted(0, 0));
+    assert_eq!(rt;
+        gone_of(&sessions.abort(&mut later, 5)),
+        Gone::Aborted(0, 0)
+    );
     assert_eq!(rt; gone_of(&sessions.abort(&mut later, 9)), Gone::NoSession);
     assert!(rt; sessions.opened(9).is_none());
     assert!(rt; sessions.opened(2).is_none());

@@ -6,6 +6,7 @@ use std::process::Abort;
 use std::test::Fail;
 
 const JAR: &str = "org/acme/lib/2.0/lib-2.0.jar";
+
 const POM: &str = "org/acme/lib/2.0/lib-2.0.pom";
 
 #[test]
@@ -32,8 +33,14 @@ fn other_bytes_do_not_take_its_place(rt: HostRuntime) -> Result<(), Fail> {
         Stage::Taken { kept, sent } => {
             assert_eq!(rt; kept.length, 3);
             assert_eq!(rt; sent.length, 0);
-            assert_eq!(rt; kept.digests.md5_text().as_slice(), b"900150983cd24fb0d6963f7d28e17f72".as_slice());
-            assert_eq!(rt; sent.digests.md5_text().as_slice(), b"d41d8cd98f00b204e9800998ecf8427e".as_slice());
+            assert_eq!(rt;
+                kept.digests.md5_text().as_slice(),
+                b"900150983cd24fb0d6963f7d28e17f72".as_slice()
+            );
+            assert_eq!(rt;
+                sent.digests.md5_text().as_slice(),
+                b"d41d8cd98f00b204e9800998ecf8427e".as_slice()
+            );
         }
         _ => Err("not taken")?,
     }

@@ -1,4 +1,4 @@
-use Rattle.std.proofs.Common.{◌≡◌, [], Some, sym, ap, ◌∙◌, refl}
+use Rattle.std.proofs.Common.{[], Some, sym, ap, ◌∙◌}
 use Rattle.repo_model.specs.Data as plain
 use Rattle.deploy_session.specs.Shown.{shown_files, shown_sessions}
 use Rattle.deploy_session.proofs.KnownLemmas.{written, unwritten, open_there}

@@ -1,9 +1,9 @@
-use Rattle.std.proofs.Common.{◌≡◌, ◌≤◌, length, Option, sym, ap, ◌∙◌, arith}
+use Rattle.std.proofs.Common.{◌≤◌, length, Option, sym, ap, ◌∙◌, arith}
 use Rattle.std.proofs.lemmas.List.{length-map}
 use Rattle.repo_model.specs.Data as plain
 use Rattle.repo_model.specs.State.{most_staged}
 use Rattle.repo_model.specs.Turn.{stage_in}
-use Rattle.deploy_session.specs.Shown.{shown_file, shown_files, shown_session}
+use Rattle.deploy_session.specs.Shown.{shown_file, shown_session}
 use Rattle.deploy_session.proofs.SessionLaws.{free_so, full_turn}
 use Rattle.deploy_session.proofs.known.judge.Goals as goal
 

@@ -1,6 +1,5 @@
-use Rattle.std.proofs.Common.{◌≡◌, Bool, true, false, cond, Option, Some, None, sym, ap, ◌∙◌, refl}
+use Rattle.std.proofs.Common.{◌≡◌, true, false, cond, Option, Some, None, sym, ap, ◌∙◌, refl}
 use Rattle.std.specs.Prelude.{is_some, is_none}
-use Rattle.repo_model.specs.Data.{Session}
 use Rattle.repo_model.specs.declared.session.SessionResult.{SessionResult}
 use Rattle.deploy_session.specs.Shown.{shown_session}
 use Rattle.deploy_session.proofs.KnownLemmas.{found_open, if_open}

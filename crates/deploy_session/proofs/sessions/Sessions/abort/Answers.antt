@@ -1,11 +1,10 @@
-use Rattle.std.proofs.Common.{◌≡◌, ℕ, ◌<◌, ◌-◌, true, List, [], ◌∷◌, ◌++◌, Option, Some, sym, ap, ◌∙◌, refl, subst, arith}
-use Rattle.std.specs.Prelude.{find, is_some}
+use Rattle.std.proofs.Common.{◌≡◌, ℕ, ◌-◌, List, sym, ap, ◌∙◌, refl, subst, arith}
+use Rattle.std.specs.Prelude.{is_some}
 use Rattle.std.specs.List.{flat_map}
 use Rattle.repo_model.specs.declared.item.Item.{Item}
 use Rattle.repo_model.specs.declared.session.SessionResult.TheVariants.{Aborted}
 use Rattle.repo_model.specs.Data as plain
 use Rattle.repo_model.specs.Effect.{Effect, recorded}
-use Rattle.repo_model.specs.State.{is_open_at, is_session}
 use Rattle.repo_model.specs.Turn.{Turn}
 use Rattle.deploy_session.specs.Known.{Known, IsSound, abort_turn, garbage_by, known_after}
 use Rattle.row_tables.specs.Commits.{tables_with}
@@ -38,7 +37,7 @@ give_up-requires-clause-fits g c =
     let k : Known = record { sessions = shown_sessions y.known.entries; next = y.next } in
     let told = g.K.Records.tables c.args.records.now in
     let so : abort_turn c.args.self.now n ≡ gone n files =
-        ap (λ (h : Known). abort_turn h n) (sym c.self.view_is) ∙ abort_so k n (shown_session (n, c.in-Some.found.now)) (sym c.in-Some.ensures) c.in_default-ended.is refl in
+    ap (λ (h : Known). abort_turn h n) (sym c.self.view_is) ∙ abort_so k n (shown_session (n, c.in-Some.found.now)) (sym c.in-Some.ensures) c.in_default-ended.is refl in
     subst (FitWhereTold told) (recorded_aborted n Aborted files)
     (subst (λ (t : Turn). FitWhereTold told (recorded t.effects)) so c.requires.fits)
 
@@ -81,7 +80,7 @@ returns-clause-blobs g c =
     let files = shown_files c.in-Some.found.now.files.entries in
     let k : Known = record { sessions = shown_sessions y.known.entries; next = y.next } in
     let so : abort_turn c.args.self.now n ≡ gone n files =
-        ap (λ (h : Known). abort_turn h n) (sym c.self.view_is) ∙ abort_so k n (shown_session (n, c.in-Some.found.now)) (sym c.in-Some.ensures) c.in_default-ended.is refl in
+    ap (λ (h : Known). abort_turn h n) (sym c.self.view_is) ∙ abort_so k n (shown_session (n, c.in-Some.found.now)) (sym c.in-Some.ensures) c.in_default-ended.is refl in
     c.from_vec.ensures ∙ c.in-Ok.ensures ∙ sym (garbage_aborted n Aborted files) ∙ sym (ap (λ (t : Turn). flat_map garbage_by t.effects) so)
 
 pub returns-clause-tables : goal.returns-clause-tables
@@ -92,7 +91,7 @@ returns-clause-tables g c =
     let k : Known = record { sessions = shown_sessions y.known.entries; next = y.next } in
     let told = g.K.Records.tables c.args.records.now in
     let so : abort_turn c.args.self.now n ≡ gone n files =
-        ap (λ (h : Known). abort_turn h n) (sym c.self.view_is) ∙ abort_so k n (shown_session (n, c.in-Some.found.now)) (sym c.in-Some.ensures) c.in_default-ended.is refl in
+    ap (λ (h : Known). abort_turn h n) (sym c.self.view_is) ∙ abort_so k n (shown_session (n, c.in-Some.found.now)) (sym c.in-Some.ensures) c.in_default-ended.is refl in
     c.in_default-give_up.ensures.recorded
     ∙ sym (ap (λ (items : List Item). tables_with items told) (recorded_aborted n Aborted files))
     ∙ sym (ap (λ (t : Turn). tables_with (recorded t.effects) told) so)

@@ -1,6 +1,5 @@
-use Rattle.std.proofs.Common.{◌≡◌, List, Option, Some, None, sym, ap, ◌∙◌, refl}
+use Rattle.std.proofs.Common.{List, Option, Some, None, sym, ap, ◌∙◌}
 use Rattle.std.specs.Prelude.{find}
-use Rattle.repo_model.specs.Data as plain
 use Rattle.repo_model.specs.declared.session.SessionResult.{SessionResult}
 use Rattle.repo_model.specs.State.{is_open_at}
 use Rattle.deploy_session.specs.Known.{Known}

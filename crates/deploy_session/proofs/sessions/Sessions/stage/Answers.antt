@@ -1,8 +1,8 @@
-use Rattle.std.proofs.Common.{◌≡◌, ◌≤◌, ◌&&◌, true, List, Option, sym, ap, ◌∙◌, refl, subst, arith}
+use Rattle.std.proofs.Common.{◌≡◌, ◌≤◌, ◌&&◌, true, List, sym, ap, ◌∙◌, refl, subst, arith}
 use Rattle.std.specs.Prelude.{find}
 use Rattle.std.proofs.lemmas.Bool.{and_from, le-leb}
 use Rattle.repo_model.specs.Data as plain
-use Rattle.repo_model.specs.Effect.{Effect, stages, sessions_after, with_staged}
+use Rattle.repo_model.specs.Effect.{Effect, with_staged}
 use Rattle.repo_model.specs.Shown.{shown_parcel}
 use Rattle.repo_model.specs.State.{is_open_at}
 use Rattle.row_tables.specs.Items.{is_count, is_file_path, is_number}

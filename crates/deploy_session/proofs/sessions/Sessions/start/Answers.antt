@@ -1,4 +1,4 @@
-use Rattle.std.proofs.Common.{◌≡◌, ℕ, ◌+◌, ◌<◌, true, sym, ◌∙◌, subst, arith}
+use Rattle.std.proofs.Common.{◌≡◌, ℕ, ◌+◌, ◌<◌, true, sym, subst, arith}
 use Rattle.repo_model.specs.State.{number_end}
 use Rattle.row_tables.specs.Applying.{AreRising}
 use Rattle.row_tables.specs.Stored as stored
