@@ -1,0 +1,4 @@
+mod FileLemmas
+mod KnownLemmas
+mod SessionLaws
+mod RestartLemmas

@@ -1,0 +1,13 @@
+//! Deployment sessions: files are staged one after the other, to be deployed all at once or not at all.
+#![tactic(auto)]
+
+mod answers;
+mod files;
+mod known;
+mod recording;
+mod restart;
+mod sessions;
+
+pub use answers::{Abort, Begin, Stage};
+pub use files::Files;
+pub use sessions::Sessions;

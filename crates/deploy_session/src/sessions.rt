@@ -1,0 +1,178 @@
+//! Deployment sessions.
+ghost use Rattle.std.specs.Prelude.{◌≡◌, ◌≢◌, ◌<◌, ◌⊎◌, if◌then◌else◌, count_by, find, [], None, IsTrue, IfOk};
+ghost use Rattle.std.specs.List.{flat_map};
+ghost use Rattle.std.specs.Option.{option_map};
+ghost use Rattle.repo_model.specs.Effect.{recorded};
+ghost use Rattle.repo_model.specs.Reply.{is_free, no_memory, staged};
+ghost use Rattle.repo_model.specs.Shown.{shown_parcel};
+ghost use Rattle.repo_model.specs.State.{is_open, is_open_at, number_end};
+ghost use Rattle.row_tables.specs.Commits.{tables_with};
+ghost use Rattle.row_tables.specs.Items.{is_file_path, is_number};
+ghost use Rattle.row_tables.specs.Recorded.{IsBuiltUp};
+ghost use Rattle.deploy_session.specs.Known.{abort_turn, begin_turn, garbage_by, known_after, known_from, stage_turn};
+ghost use Rattle.deploy_session.specs.Recording.{FitWhereTold, HasReplyCause};
+ghost use Rattle.deploy_session.specs.Shown.{blobs_left, shown_abort, shown_begin, shown_files, shown_stage};
+
+use crate::answers::{Abort, Begin, Stage};
+use crate::known::{self, Session};
+use crate::{files, recording, restart};
+use outside::{Held, NoMemory, Parcel};
+use repo_model::{NUMBER_END, Numbers};
+use row_tables::{Records, Tables};
+use std::alloc::Global;
+use std::collections::BTreeMap;
+use std::marker::Model;
+
+/// The most sessions that are open.
+const MOST_SESSIONS: u64 = 64;
+
+/// Deployment sessions by number: those that are open, with their files, and the results of those that have ended.
+#[derive(Drop)]
+pub struct Sessions<H: Held> {
+    alloc: Global,
+    known: BTreeMap<u64, Session<H>>,
+    open_count: u64,
+    next: u64,
+}
+
+impl<H: Held> Model for Sessions<H> {
+    ghost use Rattle.deploy_session.specs.Known.{Known};
+
+    ghost Value = { Known };
+
+    ghost use Rattle.deploy_session.specs.Known.{IsSound};
+    ghost use Rattle.deploy_session.specs.Shown.{shown_sessions};
+
+    ghost view = { λ s. record { sessions = shown_sessions s.known.entries; next = s.next } };
+
+    ghost invariant = { λ s. IsSound s.open_count s.next (shown_sessions s.known.entries) };
+}
+
+impl<H: Held> Sessions<H> {
+    /// No sessions; the first will have the number 1.
+    pub fn new(alloc: Global) -> Sessions<H>
+        ensures { result ≡ record { sessions = []; next = 1 } }
+    {
+        Sessions {
+            alloc,
+            known: BTreeMap::new(alloc),
+            open_count: 0,
+            next: 1,
+        }
+    }
+
+    /// The sessions after a start. Those that have ended keep their results; those that were open are gone, and their numbers
+    /// are not drawn again.
+    pub fn start(alloc: Global, tables: &Tables) -> Result<Sessions<H>, NoMemory>
+        requires { IsBuiltUp tables.now }
+        ensures { IfOk result (λ s. s ≡ known_from tables.now) }
+    {
+        let rows = tables.sessions();
+        let known = restart::ended_of(alloc, rows)?;
+        let last = restart::greatest_of(rows);
+        Ok(Sessions {
+            alloc,
+            known,
+            open_count: 0,
+            next: last + 1,
+        })
+    }
+
+    /// Opens a session for the hosted repository of an id, once that is recorded. Where that fails nothing is changed.
+    pub fn begin<K: Records>(&mut self, records: &mut K, repo: &str) -> Begin
+        requires ready { K.ready records.old }
+        requires fits { FitWhereTold (K.tables records.old) (recorded (begin_turn self.old repo.now).effects) }
+        ensures reply { let turn = begin_turn self.old repo.now in
+            (shown_begin result ≡ turn.reply) ⊎ (IsTrue (is_free (shown_begin result)) × (recorded turn.effects ≢ [])) }
+        ensures sessions { let turn = begin_turn self.old repo.now in
+            self.new ≡ (if is_free (shown_begin result) then self.old else known_after turn.effects self.old) }
+        ensures tables { let turn = begin_turn self.old repo.now in
+            K.tables records.new ≡ (if is_free (shown_begin result) then K.tables records.old else tables_with (recorded turn.effects) (K.tables records.old)) }
+        ensures cause { HasReplyCause (K.faults records.old) (K.faults records.new) (shown_begin result) }
+        ensures ready { K.ready records.new }
+    {
+        if self.open_count >= MOST_SESSIONS {
+            return Begin::TooMany;
+        }
+        if self.next == NUMBER_END {
+            return Begin::Spent;
+        }
+        let number = self.next;
+        if let Err(fault) = recording::begin(self.alloc, &mut self.known, records, number, repo) {
+            return Begin::failed(fault);
+        }
+        self.open_count += 1;
+        self.next += 1;
+        Begin::Opened(number)
+    }
+
+    /// Gives the session of a number up, once that is recorded. Where that fails nothing is changed. One that has ended
+    /// answers how it ended, and nothing is changed either.
+    pub fn abort<K: Records>(&mut self, records: &mut K, session: u64) -> Abort
+        requires ready { K.ready records.old }
+        requires fits { FitWhereTold (K.tables records.old) (recorded (abort_turn self.old session).effects) }
+        ensures reply { let turn = abort_turn self.old session in
+            (shown_abort result ≡ turn.reply) ⊎ (IsTrue (is_free (shown_abort result)) × (recorded turn.effects ≢ [])) }
+        ensures sessions { let turn = abort_turn self.old session in
+            self.new ≡ (if is_free (shown_abort result) then self.old else known_after turn.effects self.old) }
+        ensures blobs { let turn = abort_turn self.old session in
+            blobs_left result ≡ (if is_free (shown_abort result) then [] else flat_map garbage_by turn.effects) }
+        ensures tables { let turn = abort_turn self.old session in
+            K.tables records.new ≡ (if is_free (shown_abort result) then K.tables records.old else tables_with (recorded turn.effects) (K.tables records.old)) }
+        ensures cause { HasReplyCause (K.faults records.old) (K.faults records.new) (shown_abort result) }
+        ensures ready { K.ready records.new }
+    {
+        let Some(found) = known::session_of(&self.known, session) else {
+            return Abort::NoSession;
+        };
+        if let Some(how) = found.ended {
+            return Abort::kept(self.alloc, how);
+        }
+        let Ok(blobs) = files::blobs_of(self.alloc, &found.files) else {
+            return Abort::NoMemory;
+        };
+        if let Err(fault) = recording::give_up(self.alloc, &mut self.known, records, session) {
+            return Abort::failed(fault);
+        }
+        self.open_count -= 1;
+        Abort::Aborted {
+            blobs: Numbers::from_vec(blobs),
+        }
+    }
+
+    /// The repository and the files of the session that is open under a number. It takes no memory.
+    pub fn opened(&self, session: u64) -> Option<(&str, &BTreeMap<String, Parcel<H>>)>
+        ensures { option_map (λ lent. record { number = session; repo = lent.0.now; staged = shown_files lent.1.now.entries; ended = None }) result
+            ≡ find (is_open_at session) self.now.sessions }
+    {
+        let found = known::open_of(&self.known, session)?;
+        Some((found.repo.as_str(), &found.files))
+    }
+
+    /// Stages a stored blob at a path of the session that is open under a number. A file that it has there stays.
+    pub fn stage(&mut self, session: u64, path: &str, parcel: Parcel<H>) -> Stage
+        requires path { IsTrue (is_file_path path.now) }
+        requires blob { IsTrue (is_number parcel.blob) }
+        requires length { parcel.length < number_end }
+        ensures reply { let turn = stage_turn self.old session path.now (shown_parcel parcel) in
+            (shown_stage result ≡ turn.reply) ⊎ ((shown_stage result ≡ no_memory) × (turn.reply ≡ staged)) }
+        ensures sessions { let turn = stage_turn self.old session path.now (shown_parcel parcel) in
+            self.new ≡ (if is_free (shown_stage result) then self.old else known_after turn.effects self.old) }
+    {
+        let sent = files::print_of(&parcel);
+        if let Err(answer) = known::judge(&self.known, session, path, sent) {
+            return answer;
+        }
+        let Ok(()) = known::add_file(self.alloc, &mut self.known, session, path, parcel) else {
+            return Stage::NoMemory;
+        };
+        Stage::Staged
+    }
+
+    /// How many sessions are open. It takes no memory.
+    pub fn count(&self) -> u64
+        ensures { result ≡ count_by is_open self.now.sessions }
+    {
+        self.open_count
+    }
+}
