@@ -11,12 +11,12 @@ use Rattle.http_wire.specs.Front.{Front, Clean, Cut, Bad, Whole, front}
 use Rattle.http_wire.specs.Head.{Head}
 use Rattle.http_wire.specs.declared.answers.Answer.{Answer}
 use Rattle.std.specs.List.{AllByRecursion}
-use Rattle.repo_model.specs.Command.{Command, done, unlist, collect}
-use Rattle.repo_model.specs.Data.{Blob}
+use Rattle.repo_model.specs.Command.{Command, look, done, may_put, put, put_side, put_doc, drop_draft, status, unlist, collect}
+use Rattle.repo_model.specs.Data.{Blob, repository}
 use Rattle.repo_model.specs.History.{Entry}
 use Rattle.repo_model.specs.Settings.{Settings}
 use Rattle.repo_routes.specs.Framing.{is_head}
-use Rattle.repo_model.specs.Reply.{Reply, store_fault}
+use Rattle.repo_model.specs.Reply.{Reply, no_memory, store_fault}
 use Rattle.repo_routes.specs.Intent.{Intent, Judged, reads as reads_path, puts_file, puts_side, puts_document, counts, cleans as cleans_all}
 use Rattle.repo_routes.specs.Judge.{judge}
 use Rattle.repo_routes.specs.declared.judging.Refused.{Refused}
@@ -37,7 +37,7 @@ use Rattle.repo_course.specs.Serving.{Begins, Continues, Follows, IsWhole, Opens
 use Rattle.course_laws.specs.AsPlayed.{NoFaults, StoodStill}
 use Rattle.course_laws.specs.Causes.{due_after, for_pass, for_text}
 use Rattle.course_laws.specs.Faultless.{done_by}
-use Rattle.course_laws.specs.Duties.{by_memory, Keeps, Stand, stand_after, stand_continued, stand_read, stand_sent, stand_stored, at_first, has_read, most_of, starving, unread_of}
+use Rattle.course_laws.specs.Duties.{by_memory, Keeps, MayAsk, Stand, stand_after, stand_continued, stand_read, stand_sent, stand_stored, at_first, has_read, most_of, starving, unread_of}
 use Rattle.course_laws.specs.Granted.{AllGranted, BodyIsTaken, ComesWhole, Grants, IsAnsweredFor, IsServed, IsSuccess, answered, sent as file_sent, starved, Owed, Rests, Cleans, Succeeds, SucceedsAt, answer_by, behind_body, body_length, due_by, file_after, file_by, invitation, is_invited, manner_for, owed_after, owed_at_first}
 use Rattle.course_laws.proofs.Counts.{Calm, Grew, calm-first, calm-then, cleans-grew, follows-grew, opens-grew, reads-body-grew, sends-grew, takes-grew, continues-grew}
 use Rattle.course_laws.proofs.Early.{SaysMemory, ends-early}
@@ -168,6 +168,24 @@ module _ (manner : Manner) where
   starved-so head_only invited left answer lent old mid new end kept q said =
       let so = memory-said head_only mid new end q said in
       starved [] head_only (inl refl) (ap (λ o. o.output) so.0 ∙ ap (λ out. behind out (shown (memory_answer head_only))) kept) so.1
+
+-- memory that is wanted for a command shows in what the course must end by; what only gives back is granted anyhow
+starves : (command : Command) (s : Stand) → MayAsk command s → Grants command no_memory ⊎ (stand_after command no_memory s ≡ starving s)
+starves (look repo path tried) s may = inr refl
+starves (done lease) s may = inl tt
+starves (may_put (repository repo) path) s may = inr refl
+starves (put repo path n blob) s may = inr refl
+starves (put_side (repository repo) path said) s may = inr refl
+starves (put_doc (repository repo) path) s may = inr refl
+starves (drop_draft n) s may = inl tt
+starves status s may = inr refl
+starves _ s may = absurd may
+
+granted-or-starved : (command : Command) (e : Entry) (s : Stand) → e.command ≡ command → MayAsk command s → Grants e.command e.reply ⊎ (e.reply ≡ no_memory)
+    → Grants command e.reply ⊎ (stand_after command e.reply s ≡ starving s)
+granted-or-starved command e s is may (inl granted) = inl (subst (λ c. Grants c e.reply) is granted)
+granted-or-starved command e s is may (inr none) =
+    subst (λ (r : Reply). Grants command r ⊎ (stand_after command r s ≡ starving s)) (sym none) (starves command s may)
 
 module _ (tells : Type 0) (manner : Manner) (by_text : List ℕ → Option Said) where
   abbrev Served : Owed → List ℕ → List Entry → Outside → Outside → Option End → Type 0
@@ -307,11 +325,15 @@ module _ (tells : Type 0) (manner : Manner) (by_text : List ℕ → Option Said)
   follows-so (asks command next) o su zero s k (e ∷ entries) all old new end input input-is taken q f = absurd k
   follows-so (asks command next) o su (suc n) s k [] all old new end input input-is taken q f = absurd f
   follows-so (asks command next) o su (suc n) s k (e ∷ entries) all old new end input input-is taken q f =
-      let granted = subst (λ c. Grants c e.reply) f.0 all.0 in
-      let rest = follows-so (next e.reply) (owed_after command e.reply o) (su e.reply granted) n (stand_after command e.reply s) (k.1 e.reply) entries all.1 old new end
-      input input-is taken q f.1 in
-      subst (λ (c : Command). IsServed manner (invitation o.invites) (behind_body o.unread input) (answer_by entries (due_after c e.reply o.answer)) (file_by entries (file_after c e.reply o.file)) old new end)
-      (sym f.0) rest
+      elim (granted-or-starved command e s f.0 k.0 all.0) [
+        | inl granted ↦ subst (λ (c : Command). IsServed manner (invitation o.invites) (behind_body o.unread input) (answer_by entries (due_after c e.reply o.answer)) (file_by entries (file_after c e.reply o.file)) old new end)
+            (sym f.0)
+            (follows-so (next e.reply) (owed_after command e.reply o) (su e.reply granted) n (stand_after command e.reply s) (k.1 e.reply) entries all.1 old new end
+            input input-is taken q f.1)
+        | inr so ↦ starved-so manner manner.head_only (invitation o.invites) (behind_body o.unread input) (answer_by (e ∷ entries) o.answer) (file_by (e ∷ entries) o.file) old old new end refl q
+            (ends-early tells manner.head_only (next e.reply) n (starving s) by_memory
+            (subst (λ (t : Stand). Keeps manner.head_only (next e.reply) n t) so (k.1 e.reply)) refl entries old new end f.1)
+      ]
   follows-so (continues next) o su n s k entries all old new end input input-is taken q f =
       continues-so next (follows-so (next continued.Written)) f.0 o su n s k entries all old f.1 new end input input-is taken q f.2 f.3
   follows-so (takes number count next) o su n s k entries all old new end input input-is taken q f =
@@ -339,10 +361,11 @@ module _ (tells : Type 0) (manner : Manner) (by_text : List ℕ → Option Said)
   follows-so (stops next) o su n s k entries all old new end input input-is taken q f = absurd su
 
 -- no reply to a command of a pass that was granted is that the records failed
-granted-holds : (command : Command) (reply : Reply) → IsPassCommand command → Grants command reply → reply ≢ store_fault
-granted-holds (unlist repo) reply asked granted is = subst (λ r. Grants (unlist repo) r) is granted
-granted-holds collect reply asked granted is = subst (λ r. Grants collect r) is granted
-granted-holds _ reply asked granted is = absurd asked
+granted-holds : (command : Command) (reply : Reply) → IsPassCommand command → Grants command reply ⊎ (reply ≡ no_memory) → reply ≢ store_fault
+granted-holds (unlist repo) reply asked (inl granted) is = subst (λ r. Grants (unlist repo) r) is granted
+granted-holds collect reply asked (inl granted) is = subst (λ r. Grants collect r) is granted
+granted-holds command reply asked (inr none) is = absurd (cc)
+granted-holds _ reply asked (inl granted) is = absurd asked
 
 all-hold : (mine later : List Entry) → ArePass mine → AllGranted (mine ++ later) → AllByRecursion (λ (e : Entry). e.reply ≢ store_fault) mine
 all-hold [] later asked all = tt

@@ -65,14 +65,15 @@ pub fn courses_are_complete()
     ensures no_heads { (settings : Settings) (fault : HeadFault) → IsComplete settings (refuses_head fault) }
 {}
 
-/// Each course of a request, and each refusal, does what it owes, whatever is replied and however its acts end: it asks at
-/// most three commands, or for a pass one for each repository and one more, puts its draft or gives it up, gives its lease
-/// back and holds it while a file is sent, invites and reads its body at most once, answers once unless a side of the stream
-/// failed, lets the connection go on only where the body was read, and answers to HEAD by heads alone.
+/// Each course of a request, and each refusal, does what it owes, whatever is replied and however its acts end: a request
+/// asks at most three commands, or for a pass one for each repository and one more, and a refusal none; it puts its draft or
+/// gives it up, gives its lease back and holds it while a file is sent, invites and reads its body at most once, answers once
+/// unless a side of the stream failed, lets the connection go on only where the body was read, and answers to HEAD by heads
+/// alone.
 pub fn courses_keep_their_duties()
     ensures requests { (judged : Result Judged Refused) (last : Bool) →
         Keeps (is_head_only judged) (course_of judged last) (most_of judged) (at_first (unread_of judged)) }
-    ensures no_heads { (fault : HeadFault) → Keeps false (refuses_head fault) 3 (at_first 0) }
+    ensures no_heads { (fault : HeadFault) → Keeps false (refuses_head fault) 0 (at_first 0) }
 {}
 
 /// Each course of a request, and each refusal, gives the answer that is due for what its acts came to, and no other: by the
@@ -102,7 +103,7 @@ pub fn courses_succeed()
 
 /// A request of a served stream that nothing refuses, neither its head, nor a reply to its commands, nor what its body says, and
 /// whose body came whole, gets its answer of 200 or 201, whole, where no count of the stream and the blobs rose, unless memory
-/// was wanted; then that is answered. No more of the input is used than the head and the body. The input is told.
+/// was wanted, by a command or for what is read or sent; then that is answered, behind a draft that was given up too. No more of the input is used than the head and the body. The input is told.
 pub fn granted_requests_are_answered<H: Held>()
     ensures { (settings : Settings) (last : Bool) (entries : List Entry) (old new : Outside) (ending : Option End) (input rest : List ℕ)
         (head : Head) (request : Judged) →
