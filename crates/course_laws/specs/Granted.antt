@@ -161,8 +161,8 @@ invitation true = continue_bytes
 invitation false = []
 
 -- What came to the sink and was used of the input, which is told: the invitation and the answer, whole; or the invitation and the
--- file, whole, or the head of its answer alone; or, where memory was wanted, the answer that says so, in front of which the
--- invitation stands or nothing. Of the blobs that are told this says nothing.
+-- file, whole, or the head of its answer alone; or, where memory was wanted, the answer that says so, its head alone
+-- to HEAD only, in front of which the invitation stands or nothing. Of the blobs that are told this says nothing.
 pub data IsServed (manner : Manner) (invited : List ℕ) (left : List ℕ) (answer : Option Said) (lent : Option Blob) (old new : Outside)
     (end : Option End) : Type 0 where
   answered : (said : Said) (kept : Shelf) → answer ≡ Some said → IsSuccess (full_answer said).status
@@ -171,7 +171,7 @@ pub data IsServed (manner : Manner) (invited : List ℕ) (left : List ℕ) (answ
   sent : (blob : Blob) (bytes : List ℕ) (kept : Shelf) → lent ≡ Some blob → IsWhereTold blob.bytes bytes
       → new ≡ writes (invited ++ (shown (file_answer blob manner) ++ (if manner.head_only then [] else bytes))) (record old { input = Some left; shelf = kept })
       → end ≡ end_of manner → IsServed manner invited left answer lent old new end
-  starved : (part : List ℕ) (head_only : Bool) → (part ≡ []) ⊎ (part ≡ invited)
+  starved : (part : List ℕ) (head_only : Bool) → (head_only ≡ true → manner.head_only ≡ true) → (part ≡ []) ⊎ (part ≡ invited)
       → new.output ≡ behind old.output (part ++ shown (memory_answer head_only))
       → end ≡ Some stream.Closed → IsServed manner invited left answer lent old new end
 
