@@ -1,5 +1,5 @@
 -- A request whose head is refused asks nothing, and is answered why.
-use Rattle.std.proofs.Common.{◌≡◌, ℕ, Bool, true, false, List, [], Option, Some, Result, Err, sym, subst, ap, ◌∙◌}
+use Rattle.std.proofs.Common.{◌≡◌, ℕ, Bool, false, List, [], Option, Some, Result, Err, sym, subst, ap, ◌∙◌}
 use Rattle.std.proofs.lemmas.Bool.{false≢true}
 use Rattle.outside.specs.Faults.{Rose}
 use Rattle.http_wire.specs.Front.{Front, Clean, Cut, Bad, Whole, front}
