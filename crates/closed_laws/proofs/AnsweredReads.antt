@@ -1,6 +1,7 @@
 -- A GET or HEAD is answered by the reply to its look.
 use Rattle.std.proofs.Common.{◌≡◌, ℕ, Bool, true, false, List, [], ◌∷◌, ◌++◌, Option, Some, None, Result, Ok, refl, sym, subst, ap, ◌∙◌, append-nil}
 use Rattle.std.specs.Prelude.{if◌then◌else◌, unwrap_or}
+use Rattle.std.proofs.lemmas.Bool.{false≢true}
 use Rattle.outside.specs.Faults.{Rose}
 use Rattle.outside.specs.Told.{IsWhereTold}
 use Rattle.http_wire.specs.Answer.{shown}
@@ -23,7 +24,9 @@ use Rattle.repo_course.specs.declared.outcomes.Sent.{Sent}
 use Rattle.repo_course.specs.declared.outcomes.Sent.TheVariants as sent
 use Rattle.repo_course.specs.declared.said.Said.TheVariants as said
 use Rattle.repo_course.specs.Serving.{Begins, Follows, IsFrontOf, IsWhole, Opens, clean, torn, failed as source_failed, refused as no_head, unread_head, starved as head_starved, served, Outside, SendsAnswer, Turn, writes}
+use Rattle.course_laws.specs.Duties.{is_head_only}
 use Rattle.course_laws.specs.Granted.{manner_for}
+use Rattle.course_laws.proofs.HeadOnly.{judged-head}
 use Rattle.closed_laws.specs.Answered.{IsLookedUp, looked, unread, failed, ShowsFile, whole, blob_fault, starved, cut, ShowsMemory, ShowsReply, ShowsSaid, file_shown}
 
 -- the bytes that a file's answer has behind its head
@@ -120,8 +123,12 @@ module _ (settings : Settings) (tells : Type 0) (last : Bool) where
           failed ends.0 (subst (λ n. Rose old.read_faults n) (sym (ap (λ o. o.read_faults) ends.1 ∙ ap (λ o. o.read_faults) still)) rose)
           (ap (λ o. o.output) ends.1 ∙ ap (λ o. o.output) still) ends.2
       opened (no_head fault it still is) = let what : Whole head rest ≡ Bad fault = begins (λ w. w ≡ Bad fault) it in absurd (cc)
-      opened (unread_head it still is) = let said = follows _ is in unread mid false said.0 (old.input, still) said.1
-      opened (head_starved other left it uses is) = let said = follows _ is in unread mid (is_head other) said.0 (left, uses) said.1
+      opened (unread_head it still is) = let said = follows _ is in unread mid false (λ alone. absurd (false≢true alone)) said.0 (old.input, still) said.1
+      opened (head_starved other left it uses is) =
+          let said = follows _ is in
+          let same : head ≡ other = (begins (IsWhole other left) it).0 in
+          let head-is : request.head_only ≡ is_head other = ap is_head_only (sym judged) ∙ judged-head settings head ∙ ap is_head same in
+          unread mid (is_head other) (λ alone. head-is ∙ alone) said.0 (left, uses) said.1
       opened (served other left it uses is) =
           let both = begins (IsWhole other left) it in
           let same : head ≡ other = both.0 in

@@ -132,7 +132,7 @@ module _ (settings : Settings) (apart : AreNamedApart settings.hosted) (start : 
       looked e more is looks (λ legal was.
       let gives = (named-answers settings apart start before later e repo row sound.order legal was).0 [] looks in
       file-shown s row.blob e.reply manner _ new stop gives seen)
-  file-looked entries later manner left old new stop (unread mid head_only none reads seen) = unread mid head_only none reads seen
+  file-looked entries later manner left old new stop (unread mid head_only to_head none reads seen) = unread mid head_only to_head none reads seen
   file-looked entries later manner left old new stop (failed none rose still ends) = failed none rose still ends
 
   pub side-looked : (entries later : List Entry) (at : List ℕ) (side : Side) (manner : Manner) (left : List ℕ) (old new : Outside) (stop : Option End)
@@ -144,5 +144,5 @@ module _ (settings : Settings) (apart : AreNamedApart settings.hosted) (start : 
       looked e more is looks (λ legal was.
       let gives = (named-answers settings apart start before later e repo row sound.order legal was).1 at [] beside.0 side looks beside.1 beside.2 in
       text-shown (side_text side row.blob.print.digests) e.reply manner _ new stop gives seen)
-  side-looked entries later at side manner left old new stop beside (unread mid head_only none reads seen) = unread mid head_only none reads seen
+  side-looked entries later at side manner left old new stop beside (unread mid head_only to_head none reads seen) = unread mid head_only to_head none reads seen
   side-looked entries later at side manner left old new stop beside (failed none rose still ends) = failed none rose still ends

@@ -66,12 +66,13 @@ pub record ReadShows (settings : Settings) (last : Bool) (repo path : List ℕ) 
   pub shows : Shows (manner_for request last) (record old { input = left }) new end
 
 -- What comes of such a request, behind whose head this is left of the input: it looks once at the path, and all that is seen is
--- this for that entry. Or it asks nothing: memory was wanted for its head, or the source failed before it was read.
+-- this for that entry. Or it asks nothing: memory was wanted for its head, which is answered by a head alone to HEAD only, or
+-- the source failed before it was read.
 pub data IsLookedUp (repo path : List ℕ) (Shows : Entry → Manner → Outside → Outside → Option End → Type 0) (manner : Manner) (left : List ℕ)
     (entries : List Entry) (old new : Outside) (end : Option End) : Type 0 where
   looked : (e : Entry) (more : List Entry) → entries ≡ e ∷ more → e.command ≡ look repo path []
       → Shows e manner (record old { input = Some left }) new end → IsLookedUp repo path Shows manner left entries old new end
-  unread : (mid : Outside) (head_only : Bool) → entries ≡ [] → ReadsOn old mid → ShowsMemory head_only mid new end
+  unread : (mid : Outside) (head_only : Bool) → (head_only ≡ true → manner.head_only ≡ true) → entries ≡ [] → ReadsOn old mid → ShowsMemory head_only mid new end
       → IsLookedUp repo path Shows manner left entries old new end
   failed : entries ≡ [] → Rose old.read_faults new.read_faults → new.output ≡ old.output → end ≡ Some stream.SourceFault
       → IsLookedUp repo path Shows manner left entries old new end

@@ -24,16 +24,16 @@ use Rattle.course_laws.specs.Faultless.{Played, Scene, due_entry, play, wrote}
 use Rattle.course_laws.proofs.Counts.{Grew, rose-before}
 use Rattle.course_laws.proofs.Kept.{reply-goes}
 
--- memory was wanted, behind what may stand there then, or the source or the sink failed
-abbrev pub Ended : (So : List ℕ → Type 0) (head_only : Bool) (front part : List ℕ) → Outside → Outside → Option End → Type 0
+-- memory was wanted, behind what may stand there then, and that was answered or the sink failed in it; or the source or the sink failed
+abbrev pub Ended : (So : Bool → List ℕ → Type 0) (head_only : Bool) (front part : List ℕ) → Outside → Outside → Option End → Type 0
 Ended So head_only front part old new end =
     let said = shown (memory_answer head_only) in
-    ((part ≡ said) × (end ≡ Some stream.Closed) × So front)
-    ⊎ (IsFrontOf part said × ((end ≡ Some stream.SourceFault) × Rose old.read_faults new.read_faults))
-    ⊎ (IsFrontOf part said × ((end ≡ Some stream.SinkFault) × Rose old.write_faults new.write_faults))
+    ((part ≡ said) × (end ≡ Some stream.Closed) × So head_only front)
+    ⊎ ((part ≡ []) × ((end ≡ Some stream.SourceFault) × Rose old.read_faults new.read_faults))
+    ⊎ (((part ≡ []) ⊎ (IsFrontOf part said × So head_only front)) × ((end ≡ Some stream.SinkFault) × Rose old.write_faults new.write_faults))
 
 -- it is as played up to some place, where memory was wanted, or the source or the sink failed
-pub record Early (So : List ℕ → Type 0) (before written : List ℕ) (old new : Outside) (end : Option End) : Type 0 where
+pub record Early (So : Bool → List ℕ → Type 0) (before written : List ℕ) (old new : Outside) (end : Option End) : Type 0 where
   pub front : List ℕ
   pub part : List ℕ
   pub head_only : Bool
@@ -58,12 +58,20 @@ pub record AsPlayed (before : List ℕ) (p : Played (Option End)) (o : Outside) 
   pub ends : end ≡ p.end
   pub goes : end ≡ None → Goes before p o s
 
-abbrev pub Outcome : (List ℕ → Type 0) → List ℕ → Played (Option End) → Outside → Outside → State → Option End → Type 0
+abbrev pub Outcome : (Bool → List ℕ → Type 0) → List ℕ → Played (Option End) → Outside → Outside → State → Option End → Type 0
 Outcome So before p old o s end = AsPlayed before p o s end ⊎ Early So before p.written old o end
 
+-- by what may stand in front then
+ended-so : (Then So : Bool → List ℕ → Type 0) (head_only : Bool) (front front' part : List ℕ) (old new : Outside) (end : Option End)
+    → (Then head_only front → So head_only front') → Ended Then head_only front part old new end → Ended So head_only front' part old new end
+ended-so Then So head_only front front' part old new end is (inl w) = inl (w.0, w.1, is w.2)
+ended-so Then So head_only front front' part old new end is (inr (inl w)) = inr (inl w)
+ended-so Then So head_only front front' part old new end is (inr (inr (inl none, w))) = inr (inr (inl none, w))
+ended-so Then So head_only front front' part old new end is (inr (inr (inr begun, w))) = inr (inr (inr (begun.0, is begun.1), w))
+
 -- behind bytes written first
-pub wrote-outcome : (Then So : List ℕ → Type 0) (before first : List ℕ) (p : Played (Option End)) (old o : Outside) (s : State) (end : Option End)
-    → ((front : List ℕ) → Then front → So (first ++ front)) → Outcome Then (before ++ first) p old o s end → Outcome So before (wrote first p) old o s end
+pub wrote-outcome : (Then So : Bool → List ℕ → Type 0) (before first : List ℕ) (p : Played (Option End)) (old o : Outside) (s : State) (end : Option End)
+    → ((alone : Bool) (front : List ℕ) → Then alone front → So alone (first ++ front)) → Outcome Then (before ++ first) p old o s end → Outcome So before (wrote first p) old o s end
 wrote-outcome Then So before first p old o s end grows (inl a) =
     let joined = append_assoc before first p.written in
     inl record {
@@ -81,12 +89,12 @@ wrote-outcome Then So before first p old o s end grows (inr m) =
       head_only = m.head_only;
       is_front = (m.is_front.0, ap (λ b. first ++ b) m.is_front.1 ∙ sym (append_assoc first m.front m.is_front.0));
       output = subst (λ b. o.output ≡ Some (b ++ m.part)) (append_assoc before first m.front) m.output;
-      why = elim m.why [ inl w ↦ inl (w.0, w.1, grows m.front w.2) | inr w ↦ inr w ];
+      why = ended-so Then So m.head_only m.front (first ++ m.front) m.part old o end (grows m.head_only m.front) m.why;
     }
 
 -- by what may stand there from where it began
-pub outcome-so : (Then So : List ℕ → Type 0) (before : List ℕ) (p : Played (Option End)) (old o : Outside) (s : State) (end : Option End)
-    → ((front : List ℕ) → Then front → So front) → Outcome Then before p old o s end → Outcome So before p old o s end
+pub outcome-so : (Then So : Bool → List ℕ → Type 0) (before : List ℕ) (p : Played (Option End)) (old o : Outside) (s : State) (end : Option End)
+    → ((alone : Bool) (front : List ℕ) → Then alone front → So alone front) → Outcome Then before p old o s end → Outcome So before p old o s end
 outcome-so Then So before p old o s end is (inl a) = inl a
 outcome-so Then So before p old o s end is (inr m) =
     inr record {
@@ -95,11 +103,11 @@ outcome-so Then So before p old o s end is (inr m) =
       head_only = m.head_only;
       is_front = m.is_front;
       output = m.output;
-      why = elim m.why [ inl w ↦ inl (w.0, w.1, is m.front w.2) | inr w ↦ inr w ];
+      why = ended-so Then So m.head_only m.front m.front m.part old o end (is m.head_only m.front) m.why;
     }
 
 -- seen from an earlier world
-pub early-before : (So : List ℕ → Type 0) (before written : List ℕ) (old mid new : Outside) (end : Option End) → Grew old mid
+pub early-before : (So : Bool → List ℕ → Type 0) (before written : List ℕ) (old mid new : Outside) (end : Option End) → Grew old mid
     → Early So before written mid new end → Early So before written old new end
 early-before So before written old mid new end g m = record {
   front = m.front;
@@ -114,13 +122,13 @@ early-before So before written old mid new end g m = record {
   ];
 }
 
-pub outcome-before : (So : List ℕ → Type 0) (before : List ℕ) (p : Played (Option End)) (old mid new : Outside) (s : State) (end : Option End) → Grew old mid
+pub outcome-before : (So : Bool → List ℕ → Type 0) (before : List ℕ) (p : Played (Option End)) (old mid new : Outside) (s : State) (end : Option End) → Grew old mid
     → Outcome So before p mid new s end → Outcome So before p old new s end
 outcome-before So before p old mid new s end g (inl a) = inl a
 outcome-before So before p old mid new s end g (inr m) = inr (early-before So before p.written old mid new end g m)
 
 -- nothing of what was played came before
-at-once : (So : List ℕ → Type 0) (head_only : Bool) (before written part : List ℕ) (old new : Outside) (end : Option End) → new.output ≡ Some (before ++ part)
+at-once : (So : Bool → List ℕ → Type 0) (head_only : Bool) (before written part : List ℕ) (old new : Outside) (end : Option End) → new.output ≡ Some (before ++ part)
     → Ended So head_only [] part old new end → Early So before written old new end
 at-once So head_only before written part old new end out why = record {
   front = [];
@@ -132,7 +140,7 @@ at-once So head_only before written part old new end out why = record {
 }
 
 -- a front of what was played, and no more
-pub no-more : (So : List ℕ → Type 0) (before written front : List ℕ) (old new : Outside) (end : Option End) → IsFrontOf front written
+pub no-more : (So : Bool → List ℕ → Type 0) (before written front : List ℕ) (old new : Outside) (end : Option End) → IsFrontOf front written
     → new.output ≡ Some (before ++ front) → Ended So false front [] old new end → Early So before written old new end
 no-more So before written front old new end is-front out why = record {
   front = front;
@@ -143,32 +151,32 @@ no-more So before written front old new end is-front out why = record {
   why = why;
 }
 
-pub source-failed : (So : List ℕ → Type 0) (front : List ℕ) (old new : Outside) (end : Option End) → end ≡ Some stream.SourceFault
+pub source-failed : (So : Bool → List ℕ → Type 0) (front : List ℕ) (old new : Outside) (end : Option End) → end ≡ Some stream.SourceFault
     → Rose old.read_faults new.read_faults → Ended So false front [] old new end
-source-failed So front old new end ends rose = inr (inl ((shown (memory_answer false), refl), (ends, rose)))
+source-failed So front old new end ends rose = inr (inl (refl, (ends, rose)))
 
-pub sink-failed : (So : List ℕ → Type 0) (front : List ℕ) (old new : Outside) (end : Option End) → end ≡ Some stream.SinkFault
+pub sink-failed : (So : Bool → List ℕ → Type 0) (front : List ℕ) (old new : Outside) (end : Option End) → end ≡ Some stream.SinkFault
     → Rose old.write_faults new.write_faults → Ended So false front [] old new end
-sink-failed So front old new end ends rose = inr (inr ((shown (memory_answer false), refl), (ends, rose)))
+sink-failed So front old new end ends rose = inr (inr (inl refl, (ends, rose)))
 
 -- the answer was written, or the one that says want of memory, or a part of one
-pub says-early : (So : List ℕ → Type 0) → So [] → (answer : Answer) (head_only : Bool) (next : Option End) (old new : Outside) (end : Option End) (before : List ℕ)
+pub says-early : (So : Bool → List ℕ → Type 0) (answer : Answer) (head_only : Bool) → So head_only [] → (next : Option End) (old new : Outside) (end : Option End) (before : List ℕ)
     → Says answer (memory_answer head_only) next old new end → old.output ≡ Some before
     → ((new ≡ writes (shown answer) old) × (new.output ≡ Some (before ++ shown answer)) × (end ≡ next))
     ⊎ Early So before (shown answer) old new end
-says-early So so answer head_only next old new end before (whole is ends) out =
+says-early So answer head_only so next old new end before (whole is ends) out =
     inl (is, ap (λ o. o.output) is ∙ ap (λ o. behind o (shown answer)) out, ends)
-says-early So so answer head_only next old new end before (memory is ends) out =
+says-early So answer head_only so next old new end before (memory is ends) out =
     let said = shown (memory_answer head_only) in
     inr (at-once So head_only before (shown answer) said old new end (ap (λ o. o.output) is ∙ ap (λ o. behind o said) out) (inl (refl, ends, so)))
-says-early So so answer head_only next old new end before (cut faults all part rose which front is ends) out =
+says-early So answer head_only so next old new end before (cut faults all part rose which front is ends) out =
     let written = ap (λ o. o.output) is ∙ ap (λ o. behind o part) out in
     let risen = subst (λ n. Rose old.write_faults n) (sym (ap (λ o. o.write_faults) is)) rose in
     inr (elim which [
       | inl e ↦ no-more So before (shown answer) part old new end (subst (λ b. IsFrontOf part b) e front) written
           (sink-failed So part old new end ends risen)
       | inr e ↦ at-once So head_only before (shown answer) part old new end written
-          (inr (inr (subst (λ b. IsFrontOf part b) e front, (ends, risen))))
+          (inr (inr (inr (subst (λ b. IsFrontOf part b) e front, so), (ends, risen))))
     ])
 
 -- memory was wanted, and the answer that says so, or its head alone, was begun
@@ -176,19 +184,19 @@ abbrev pub SaysMemory : Bool → Outside → Outside → Option End → Type 0
 SaysMemory head_only old new end = Says (memory_answer head_only) (memory_answer head_only) (Some stream.Closed) old new end
 
 -- want of memory is answered, whatever was to come
-pub says-memory : (So : List ℕ → Type 0) → So [] → (head_only : Bool) (old new : Outside) (end : Option End) (before written : List ℕ)
+pub says-memory : (So : Bool → List ℕ → Type 0) (head_only : Bool) → So head_only [] → (old new : Outside) (end : Option End) (before written : List ℕ)
     → SaysMemory head_only old new end → old.output ≡ Some before → Early So before written old new end
-says-memory So so head_only old new end before written (whole is ends) out =
+says-memory So head_only so old new end before written (whole is ends) out =
     let said = shown (memory_answer head_only) in
     at-once So head_only before written said old new end (ap (λ o. o.output) is ∙ ap (λ o. behind o said) out) (inl (refl, ends, so))
-says-memory So so head_only old new end before written (memory is ends) out =
+says-memory So head_only so old new end before written (memory is ends) out =
     let said = shown (memory_answer head_only) in
     at-once So head_only before written said old new end (ap (λ o. o.output) is ∙ ap (λ o. behind o said) out) (inl (refl, ends, so))
-says-memory So so head_only old new end before written (cut faults all part rose which front is ends) out =
+says-memory So head_only so old new end before written (cut faults all part rose which front is ends) out =
     let all-memory : all ≡ shown (memory_answer head_only) = elim which [ inl e ↦ e | inr e ↦ e ] in
     at-once So head_only before written part old new end (ap (λ o. o.output) is ∙ ap (λ o. behind o part) out)
     (inr (inr (
-      subst (λ b. IsFrontOf part b) all-memory front,
+      inr (subst (λ b. IsFrontOf part b) all-memory front, so),
       (ends, subst (λ n. Rose old.write_faults n) (sym (ap (λ o. o.write_faults) is)) rose),
     )))
 

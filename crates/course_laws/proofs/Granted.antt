@@ -1,6 +1,7 @@
 -- A course that nothing refuses is followed to its answer, whole, unless memory was wanted, if no fault came.
 use Rattle.std.proofs.Common.{◌≡◌, ◌≢◌, ◌⊎◌, inl, inr, ℕ, zero, suc, ◌<◌, Bool, true, false, List, [], ◌∷◌, ◌++◌, length, take, drop, Option, Some, None, Result, Ok, Err, arith, refl, sym, subst, ap, ◌∙◌, append-nil}
 use Rattle.std.specs.Prelude.{IfSome, if◌then◌else◌, unwrap_or}
+use Rattle.std.proofs.lemmas.Bool.{false≢true}
 use Rattle.std.proofs.Math.Seq.{drop-append_seam, take-append_seam}
 use Rattle.outside.specs.Blobs.{Shelf, with_blob}
 use Rattle.outside.specs.Faults.{Rose}
@@ -11,12 +12,12 @@ use Rattle.http_wire.specs.Front.{Front, Clean, Cut, Bad, Whole, front}
 use Rattle.http_wire.specs.Head.{Head}
 use Rattle.http_wire.specs.declared.answers.Answer.{Answer}
 use Rattle.std.specs.List.{AllByRecursion}
-use Rattle.repo_model.specs.Command.{Command, done, unlist, collect}
-use Rattle.repo_model.specs.Data.{Blob}
+use Rattle.repo_model.specs.Command.{Command, look, done, may_put, put, put_side, put_doc, drop_draft, status, unlist, collect}
+use Rattle.repo_model.specs.Data.{Blob, repository}
 use Rattle.repo_model.specs.History.{Entry}
 use Rattle.repo_model.specs.Settings.{Settings}
 use Rattle.repo_routes.specs.Framing.{is_head}
-use Rattle.repo_model.specs.Reply.{Reply, store_fault}
+use Rattle.repo_model.specs.Reply.{Reply, no_memory, store_fault}
 use Rattle.repo_routes.specs.Intent.{Intent, Judged, reads as reads_path, puts_file, puts_side, puts_document, counts, cleans as cleans_all}
 use Rattle.repo_routes.specs.Judge.{judge}
 use Rattle.repo_routes.specs.declared.judging.Refused.{Refused}
@@ -37,10 +38,11 @@ use Rattle.repo_course.specs.Serving.{Begins, Continues, Follows, IsWhole, Opens
 use Rattle.course_laws.specs.AsPlayed.{NoFaults, StoodStill}
 use Rattle.course_laws.specs.Causes.{due_after, for_pass, for_text}
 use Rattle.course_laws.specs.Faultless.{done_by}
-use Rattle.course_laws.specs.Duties.{by_memory, Keeps, Stand, stand_after, stand_continued, stand_read, stand_sent, stand_stored, at_first, has_read, most_of, starving, unread_of}
+use Rattle.course_laws.specs.Duties.{by_memory, is_head_only, Keeps, MayAsk, Stand, stand_after, stand_continued, stand_read, stand_sent, stand_stored, at_first, has_read, most_of, starving, unread_of}
 use Rattle.course_laws.specs.Granted.{AllGranted, BodyIsTaken, ComesWhole, Grants, IsAnsweredFor, IsServed, IsSuccess, answered, sent as file_sent, starved, Owed, Rests, Cleans, Succeeds, SucceedsAt, answer_by, behind_body, body_length, due_by, file_after, file_by, invitation, is_invited, manner_for, owed_after, owed_at_first}
 use Rattle.course_laws.proofs.Counts.{Calm, Grew, calm-first, calm-then, cleans-grew, follows-grew, opens-grew, reads-body-grew, sends-grew, takes-grew, continues-grew}
 use Rattle.course_laws.proofs.Early.{SaysMemory, ends-early}
+use Rattle.course_laws.proofs.HeadOnly.{judged-head}
 use Rattle.course_laws.proofs.Kept.{judged-keeps}
 use Rattle.course_laws.proofs.Passes.{ArePass, IsPassCommand, as_pass, pass-kept, pass-tells, passes-ask, passes-hold, passes-rose}
 use Rattle.course_laws.proofs.PlayedActs.{front-of, risen}
@@ -144,10 +146,10 @@ module _ (manner : Manner) where
       let all = shown (file_answer blob manner) ++ (if manner.head_only then [] else bytes) in
       file_sent blob bytes kept is told
       (wrote ∙ ap (λ (m : Outside). writes all (record m { input = Some left; shelf = kept })) mid-is ∙ writes-writes first all (record old { input = Some left; shelf = kept })) ends
-  wrote-served first left answer lent old mid new end mid-is (starved part head_only which output ends) =
+  wrote-served first left answer lent old mid new end mid-is (starved part head_only to_head which output ends) =
       let said = shown (memory_answer head_only) in
       let none : part ≡ [] = elim which [ inl e ↦ e | inr e ↦ e ] in
-      starved first head_only (inr refl)
+      starved first head_only to_head (inr refl)
       (output ∙ ap (λ p. behind mid.output (p ++ said)) none ∙ ap (λ (m : Outside). behind m.output said) mid-is ∙ behind-behind old.output first said) ends
 
   -- seen from before bytes that were read, and stored or not
@@ -159,15 +161,33 @@ module _ (manner : Manner) where
   read-served invited left answer lent old mid new rest end shelf mid-is (file_sent blob bytes kept is told wrote ends) =
       file_sent blob bytes kept is told
       (wrote ∙ ap (λ (m : Outside). writes (invited ++ (shown (file_answer blob manner) ++ (if manner.head_only then [] else bytes))) (record m { input = Some left; shelf = kept })) mid-is) ends
-  read-served invited left answer lent old mid new rest end shelf mid-is (starved part head_only which output ends) =
-      starved part head_only which (output ∙ ap (λ (m : Outside). behind m.output (part ++ shown (memory_answer head_only))) mid-is) ends
+  read-served invited left answer lent old mid new rest end shelf mid-is (starved part head_only to_head which output ends) =
+      starved part head_only to_head which (output ∙ ap (λ (m : Outside). behind m.output (part ++ shown (memory_answer head_only))) mid-is) ends
 
   -- memory was wanted, and that is answered
-  starved-so : (head_only : Bool) (invited left : List ℕ) (answer : Option Said) (lent : Option Blob) (old mid new : Outside) (end : Option End)
+  starved-so : (head_only : Bool) → (head_only ≡ true → manner.head_only ≡ true) → (invited left : List ℕ) (answer : Option Said) (lent : Option Blob) (old mid new : Outside) (end : Option End)
       → mid.output ≡ old.output → Quiet mid new → SaysMemory head_only mid new end → IsServed manner invited left answer lent old new end
-  starved-so head_only invited left answer lent old mid new end kept q said =
+  starved-so head_only to_head invited left answer lent old mid new end kept q said =
       let so = memory-said head_only mid new end q said in
-      starved [] head_only (inl refl) (ap (λ o. o.output) so.0 ∙ ap (λ out. behind out (shown (memory_answer head_only))) kept) so.1
+      starved [] head_only to_head (inl refl) (ap (λ o. o.output) so.0 ∙ ap (λ out. behind out (shown (memory_answer head_only))) kept) so.1
+
+-- memory that is wanted for a command shows in what the course must end by; what only gives back is granted anyhow
+starves : (command : Command) (s : Stand) → MayAsk command s → Grants command no_memory ⊎ (stand_after command no_memory s ≡ starving s)
+starves (look repo path tried) s may = inr refl
+starves (done lease) s may = inl tt
+starves (may_put (repository repo) path) s may = inr refl
+starves (put repo path n blob) s may = inr refl
+starves (put_side (repository repo) path said) s may = inr refl
+starves (put_doc (repository repo) path) s may = inr refl
+starves (drop_draft n) s may = inl tt
+starves status s may = inr refl
+starves _ s may = absurd may
+
+granted-or-starved : (command : Command) (e : Entry) (s : Stand) → e.command ≡ command → MayAsk command s → Grants e.command e.reply ⊎ (e.reply ≡ no_memory)
+    → Grants command e.reply ⊎ (stand_after command e.reply s ≡ starving s)
+granted-or-starved command e s is may (inl granted) = inl (subst (λ c. Grants c e.reply) is granted)
+granted-or-starved command e s is may (inr none) =
+    subst (λ (r : Reply). Grants command r ⊎ (stand_after command r s ≡ starving s)) (sym none) (starves command s may)
 
 module _ (tells : Type 0) (manner : Manner) (by_text : List ℕ → Option Said) where
   abbrev Served : Owed → List ℕ → List Entry → Outside → Outside → Option End → Type 0
@@ -209,7 +229,7 @@ module _ (tells : Type 0) (manner : Manner) (by_text : List ℕ → Option Said)
   says-so said o due success old new end input input-is q said-it =
       elim (whole-said (answer_of said manner) (memory_answer manner.head_only) (end_of manner) old new end q said-it) [
         | inl w ↦ answered said old.shelf due success (w.0 ∙ ap (λ (i : Option (List ℕ)). writes (shown (answer_of said manner)) (record old { input = i })) input-is) w.1
-        | inr w ↦ starved [] manner.head_only (inl refl) (ap (λ o. o.output) w.0) w.1
+        | inr w ↦ starved [] manner.head_only (λ alone. alone) (inl refl) (ap (λ o. o.output) w.0) w.1
       ]
 
   continues-so : (next : Continued → Course) → Serves-so (next continued.Written) → (result : Continued) (o : Owed)
@@ -244,7 +264,7 @@ module _ (tells : Type 0) (manner : Manner) (by_text : List ℕ → Option Said)
   memory-so : (next : Course) (o : Owed) (n : ℕ) (s : Stand) → Keeps manner.head_only next n (starving s) → (entries : List Entry) (old mid new : Outside)
       (end : Option End) (input : List ℕ) → mid.output ≡ old.output → Quiet mid new → Follows tells next entries mid new end → Served o input entries old new end
   memory-so next o n s k entries old mid new end input kept q f =
-      starved-so manner manner.head_only (invitation o.invites) (behind_body o.unread input) (answer_by entries o.answer) (file_by entries o.file) old mid new end kept q
+      starved-so manner manner.head_only (λ alone. alone) (invitation o.invites) (behind_body o.unread input) (answer_by entries o.answer) (file_by entries o.file) old mid new end kept q
       (ends-early tells manner.head_only next n (starving s) by_memory k refl entries mid new end f)
 
   takes-so : (number count : ℕ) (next : Stored → Course) → ((stored : Stored) → Serves-so (next stored)) → (stored : Stored) (o : Owed)
@@ -307,11 +327,15 @@ module _ (tells : Type 0) (manner : Manner) (by_text : List ℕ → Option Said)
   follows-so (asks command next) o su zero s k (e ∷ entries) all old new end input input-is taken q f = absurd k
   follows-so (asks command next) o su (suc n) s k [] all old new end input input-is taken q f = absurd f
   follows-so (asks command next) o su (suc n) s k (e ∷ entries) all old new end input input-is taken q f =
-      let granted = subst (λ c. Grants c e.reply) f.0 all.0 in
-      let rest = follows-so (next e.reply) (owed_after command e.reply o) (su e.reply granted) n (stand_after command e.reply s) (k.1 e.reply) entries all.1 old new end
-      input input-is taken q f.1 in
-      subst (λ (c : Command). IsServed manner (invitation o.invites) (behind_body o.unread input) (answer_by entries (due_after c e.reply o.answer)) (file_by entries (file_after c e.reply o.file)) old new end)
-      (sym f.0) rest
+      elim (granted-or-starved command e s f.0 k.0 all.0) [
+        | inl granted ↦ subst (λ (c : Command). IsServed manner (invitation o.invites) (behind_body o.unread input) (answer_by entries (due_after c e.reply o.answer)) (file_by entries (file_after c e.reply o.file)) old new end)
+            (sym f.0)
+            (follows-so (next e.reply) (owed_after command e.reply o) (su e.reply granted) n (stand_after command e.reply s) (k.1 e.reply) entries all.1 old new end
+            input input-is taken q f.1)
+        | inr so ↦ starved-so manner manner.head_only (λ alone. alone) (invitation o.invites) (behind_body o.unread input) (answer_by (e ∷ entries) o.answer) (file_by (e ∷ entries) o.file) old old new end refl q
+            (ends-early tells manner.head_only (next e.reply) n (starving s) by_memory
+            (subst (λ (t : Stand). Keeps manner.head_only (next e.reply) n t) so (k.1 e.reply)) refl entries old new end f.1)
+      ]
   follows-so (continues next) o su n s k entries all old new end input input-is taken q f =
       continues-so next (follows-so (next continued.Written)) f.0 o su n s k entries all old f.1 new end input input-is taken q f.2 f.3
   follows-so (takes number count next) o su n s k entries all old new end input input-is taken q f =
@@ -339,10 +363,11 @@ module _ (tells : Type 0) (manner : Manner) (by_text : List ℕ → Option Said)
   follows-so (stops next) o su n s k entries all old new end input input-is taken q f = absurd su
 
 -- no reply to a command of a pass that was granted is that the records failed
-granted-holds : (command : Command) (reply : Reply) → IsPassCommand command → Grants command reply → reply ≢ store_fault
-granted-holds (unlist repo) reply asked granted is = subst (λ r. Grants (unlist repo) r) is granted
-granted-holds collect reply asked granted is = subst (λ r. Grants collect r) is granted
-granted-holds _ reply asked granted is = absurd asked
+granted-holds : (command : Command) (reply : Reply) → IsPassCommand command → Grants command reply ⊎ (reply ≡ no_memory) → reply ≢ store_fault
+granted-holds (unlist repo) reply asked (inl granted) is = subst (λ r. Grants (unlist repo) r) is granted
+granted-holds collect reply asked (inl granted) is = subst (λ r. Grants collect r) is granted
+granted-holds command reply asked (inr none) is = absurd (cc)
+granted-holds _ reply asked (inl granted) is = absurd asked
 
 all-hold : (mine later : List Entry) → ArePass mine → AllGranted (mine ++ later) → AllByRecursion (λ (e : Entry). e.reply ≢ store_fault) mine
 all-hold [] later asked all = tt
@@ -367,10 +392,10 @@ module _ (settings : Settings) (tells : Type 0) (manner : Manner) where
       elim (whole-said (answer_of answer.0 manner) (memory_answer manner.head_only) (end_of manner) mid new end more ends.1) [
         | inl w ↦ answered answer.0 kept.shelf due answer.2
             (w.0 ∙ (λ i. writes (shown (answer_of answer.0 manner)) (record old { input = input-is i; shelf = kept.shelf; blob_faults = still i }))) w.1
-        | inr w ↦ starved [] manner.head_only (inl refl) (ap (λ o. o.output) w.0) w.1
+        | inr w ↦ starved [] manner.head_only (λ alone. alone) (inl refl) (ap (λ o. o.output) w.0) w.1
       ]
   pass-so repos asked next su (Err clean_fault.NoMemory) n s k mine later kept all old new end input input-is q more t f =
-      starved-so manner manner.head_only [] input (for_pass (Ok (done_by (mine ++ later)))) (file_by (mine ++ later) None) old (with_store kept old) new end refl more
+      starved-so manner manner.head_only (λ alone. alone) [] input (for_pass (Ok (done_by (mine ++ later)))) (file_by (mine ++ later) None) old (with_store kept old) new end refl more
       (ends-early tells manner.head_only (next (Err clean_fault.NoMemory)) 0 (starving s) by_memory (k.3 (Err clean_fault.NoMemory)) refl later (with_store kept old) new end f)
   pass-so repos asked next su (Err clean_fault.BlobFault) n s k mine later kept all old new end input input-is q more t f =
       no-blob-fault old (with_store kept old) kept.faults (passes-rose asked mine (store_of old) kept t) refl q
@@ -447,10 +472,12 @@ module _ (settings : Settings) (tells : Type 0) (last : Bool) where
           (quiet-first old mid new (follows-grew tells c entries mid new end f) quiet)
       opened (refused fault it still is) = let what : Whole head rest ≡ Bad fault = begins (λ w. w ≡ Bad fault) it in absurd (cc)
       opened (unread_head it still is) =
-          starved-so (manner_for request last) false (invitation (owed_at_first request).invites) (behind_body (owed_at_first request).unread rest) (due_by request.intent entries) (file_by entries None) old mid new end
+          starved-so (manner_for request last) false (λ alone. absurd (false≢true alone)) (invitation (owed_at_first request).invites) (behind_body (owed_at_first request).unread rest) (due_by request.intent entries) (file_by entries None) old mid new end
           (ap (λ o. o.output) still) (more (unread_head it still is)) (follows _ is).1
       opened (head_starved other left it uses is) =
-          starved-so (manner_for request last) (is_head other) (invitation (owed_at_first request).invites) (behind_body (owed_at_first request).unread rest) (due_by request.intent entries) (file_by entries None) old mid new end
+          let same : head ≡ other = (begins (IsWhole other left) it).0 in
+          let head-is : request.head_only ≡ is_head other = ap is_head_only (sym judged) ∙ judged-head settings head ∙ ap is_head same in
+          starved-so (manner_for request last) (is_head other) (λ alone. head-is ∙ alone) (invitation (owed_at_first request).invites) (behind_body (owed_at_first request).unread rest) (due_by request.intent entries) (file_by entries None) old mid new end
           (ap (λ o. o.output) uses) (more (head_starved other left it uses is)) (follows _ is).1
       opened (served other left it uses is) =
           let whole-is = begins (IsWhole other left) it in

@@ -189,9 +189,9 @@ judged-keeps (Ok request) last =
     for-keeps (record { close = request.close; last = last; head_only = request.head_only }) request.expects request.intent
 judged-keeps (Err cause) last = ((refl, refl), (tt, refl, λ is. refl), refl)
 
-pub no-head-keeps : (fault : HeadFault) → Keeps false (refuses_head fault) 3 (at_first 0)
-no-head-keeps Broken = ((refl, refl), (tt, refl, λ is. refl), refl)
-no-head-keeps TooLong = ((refl, refl), (tt, refl, λ is. refl), refl)
+pub no-head-keeps : (fault : HeadFault) (n : ℕ) → Keeps false (refuses_head fault) n (at_first 0)
+no-head-keeps Broken n = ((refl, refl), (tt, refl, λ is. refl), refl)
+no-head-keeps TooLong n = ((refl, refl), (tt, refl, λ is. refl), refl)
 
 -- how a stream stands before the course that it comes to, and whether that course's answers are heads alone
 abbrev pub standing : {settings : Settings} {last : Bool} {old new : Outside} {c : Course} → Opens settings last old new c → Stand
@@ -226,7 +226,7 @@ opens-keeps settings last old new c (torn begins still is) =
 opens-keeps settings last old new c (failed faults rose still is) =
     subst (λ (d : Course). Keeps false d 3 (failing stream.SourceFault (at_first 0))) (sym is) ((refl, refl), refl)
 opens-keeps settings last old new c (refused fault begins still is) =
-    subst (λ (d : Course). Keeps false d 3 (at_first 0)) (sym is) (no-head-keeps fault)
+    subst (λ (d : Course). Keeps false d 3 (at_first 0)) (sym is) (no-head-keeps fault 3)
 opens-keeps settings last old new c (unread_head begins still is) =
     subst (λ (d : Course). Keeps false d 3 (starving (at_first 0))) (sym is) ((refl, refl), (refl, refl, refl), refl)
 opens-keeps settings last old new c (starved head rest begins uses is) =

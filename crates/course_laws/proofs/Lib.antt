@@ -8,6 +8,7 @@ pub mod Complete
 pub mod Counts
 pub mod Told
 pub mod Early
+pub mod HeadOnly
 pub mod Unsent
 pub mod PlayedActs
 pub mod PlayedCourse

@@ -23,7 +23,7 @@ use Rattle.course_laws.specs.Duties.{by_memory, by_side, failing, starving, Keep
 use Rattle.course_laws.specs.Faultless.{Scene, body_of, play, taken_body, wrote}
 use Rattle.course_laws.proofs.Counts.{Calm, Grew, not-risen}
 use Rattle.course_laws.proofs.Early.{Early, Outcome, Ready, early-before, ends-early, no-more, outcome-before, plays-early, says-early, says-memory, sink-failed, source-failed, wrote-outcome}
-use Rattle.course_laws.proofs.Unsent.{MayStand}
+use Rattle.course_laws.proofs.Unsent.{MayStarve}
 
 -- what is told is these bytes, where it is told
 pub told-is : (bytes : Option (List ℕ)) (body : List ℕ) → IsWhereTold bytes body → IsSome bytes → bytes ≡ Some body
@@ -82,11 +82,11 @@ module _ (settings : Settings) (tells : Type 0) (head_only : Bool) where
   Plays c = (n : ℕ) (s : Stand) → Keeps head_only c n s → InHandTold s.blob → (entries : List Entry) (st : State) → Legal settings st entries
       → Calm st.faults (end_of settings st entries).faults → (old new : Outside) (end : Option End) (input before : List ℕ) → Ready old st input before
       → Calm old.blob_faults new.blob_faults → Follows tells c entries old new end
-      → Outcome (MayStand s) before (play settings c (at st input)) old new (end_of settings st entries) end
+      → Outcome (MayStarve head_only s) before (play settings c (at st input)) old new (end_of settings st entries) end
 
   -- bytes are written, and the course goes on
-  pub wrote-play : (So : List ℕ → Type 0) (all : List ℕ) (rest : Course) → Plays rest → (n : ℕ) (s : Stand)
-      → ((front : List ℕ) → MayStand s front → So (all ++ front)) → Keeps head_only rest n s → InHandTold s.blob → (entries : List Entry) (st : State)
+  pub wrote-play : (So : Bool → List ℕ → Type 0) (all : List ℕ) (rest : Course) → Plays rest → (n : ℕ) (s : Stand)
+      → ((alone : Bool) (front : List ℕ) → MayStarve head_only s alone front → So alone (all ++ front)) → Keeps head_only rest n s → InHandTold s.blob → (entries : List Entry) (st : State)
       → Legal settings st entries → Calm st.faults (end_of settings st entries).faults → (old mid new : Outside) (end : Option End) (input before : List ℕ)
       → Ready old st input before → Calm old.blob_faults new.blob_faults → mid ≡ writes all old → Follows tells rest entries mid new end
       → Outcome So before (wrote all (play settings rest (at st input))) old new (end_of settings st entries) end
@@ -98,13 +98,13 @@ module _ (settings : Settings) (tells : Type 0) (head_only : Bool) where
         rows = ready.rows;
         clock = ready.clock;
       } in
-      wrote-outcome (MayStand s) So before all (play settings rest (at st input)) old new (end_of settings st entries) end grows
-      (outcome-before (MayStand s) (before ++ all) _ old o new _ end (record { reads = omega arith; writes = omega arith; blobs = omega arith })
+      wrote-outcome (MayStarve head_only s) So before all (play settings rest (at st input)) old new (end_of settings st entries) end grows
+      (outcome-before (MayStarve head_only s) (before ++ all) _ old o new _ end (record { reads = omega arith; writes = omega arith; blobs = omega arith })
       (plays n s k hand entries st legal calm o new end input (before ++ all) ready' quiet
       (subst (λ m. Follows tells rest entries m new end) mid-is follows)))
 
   -- the sink failed, and has taken a front of what was to be written
-  pub sink-play : (So : List ℕ → Type 0) (all more part : List ℕ) (rest : Course) (n : ℕ) (s : Stand) → Keeps head_only rest n (failing stream.SinkFault s) → (faults : ℕ) (entries : List Entry)
+  pub sink-play : (So : Bool → List ℕ → Type 0) (all more part : List ℕ) (rest : Course) (n : ℕ) (s : Stand) → Keeps head_only rest n (failing stream.SinkFault s) → (faults : ℕ) (entries : List Entry)
       (st : State) (old mid new : Outside) (end : Option End) (input before : List ℕ) → Ready old st input before → Rose old.write_faults faults → IsFrontOf part all
       → mid ≡ writes part (record old { write_faults = faults }) → Follows tells rest entries mid new end → Early So before (all ++ more) old new end
   sink-play So all more part rest n s k faults entries st old mid new end input before ready rose front mid-is follows =
@@ -115,7 +115,7 @@ module _ (settings : Settings) (tells : Type 0) (head_only : Bool) where
       (subst (λ m. Rose old.write_faults m) (sym (ap (λ o. o.write_faults) last.0 ∙ ap (λ o. o.write_faults) mid-is)) rose))
 
   -- the stream ends inside a body
-  pub torn-play : (So : List ℕ → Type 0) (count : ℕ) (rest : Course) (n : ℕ) (s : Stand) → Keeps head_only rest n (failing stream.TornRequest s) → (entries : List Entry) (st : State)
+  pub torn-play : (So : Bool → List ℕ → Type 0) (count : ℕ) (rest : Course) (n : ℕ) (s : Stand) → Keeps head_only rest n (failing stream.TornRequest s) → (entries : List Entry) (st : State)
       (old mid new : Outside) (end : Option End) (input before : List ℕ) → Ready old st input before → Reads count (Err took.Torn) old mid
       → Follows tells rest entries mid new end → Outcome So before (play settings rest (at st (drop count input))) old new (end_of settings st entries) end
   torn-play So count rest n s k entries st old mid new end input before ready cause follows =
@@ -133,7 +133,7 @@ module _ (settings : Settings) (tells : Type 0) (head_only : Bool) where
   short-of count old mid st input before ready cause = subst (λ o. IfSome o (λ bytes. length bytes < count)) ready.input_is cause.0
 
   -- the source fails inside a body
-  pub source-play : (So : List ℕ → Type 0) (count : ℕ) (written : List ℕ) (rest : Course) (n : ℕ) (s : Stand) → Keeps head_only rest n (failing stream.SourceFault s) → (entries : List Entry)
+  pub source-play : (So : Bool → List ℕ → Type 0) (count : ℕ) (written : List ℕ) (rest : Course) (n : ℕ) (s : Stand) → Keeps head_only rest n (failing stream.SourceFault s) → (entries : List Entry)
       (st : State) (old mid new : Outside) (end : Option End) (input before : List ℕ) → Ready old st input before → Reads count (Err took.SourceFault) old mid
       → Follows tells rest entries mid new end → Early So before written old new end
   source-play So count written rest n s k entries st old mid new end input before ready cause follows =
@@ -144,23 +144,23 @@ module _ (settings : Settings) (tells : Type 0) (head_only : Bool) where
       (subst (λ m. Rose old.read_faults m) (sym (ap (λ o. o.read_faults) last.0 ∙ ap (λ o. o.read_faults) cause.2.1)) cause.1))
 
   -- memory is wanted, and nothing was written
-  pub memory-play : (So : List ℕ → Type 0) → So [] → (written : List ℕ) (rest : Course) (n : ℕ) (s : Stand) → Keeps head_only rest n (starving s) → (entries : List Entry) (st : State) (old mid new : Outside)
+  pub memory-play : (So : Bool → List ℕ → Type 0) → So head_only [] → (written : List ℕ) (rest : Course) (n : ℕ) (s : Stand) → Keeps head_only rest n (starving s) → (entries : List Entry) (st : State) (old mid new : Outside)
       (end : Option End) (input before : List ℕ) → Ready old st input before → Grew old mid → mid.output ≡ old.output → Follows tells rest entries mid new end
       → Early So before written old new end
   memory-play So so written rest n s k entries st old mid new end input before ready first kept follows =
       let said = ends-early tells head_only rest n (starving s) by_memory k refl entries mid new end follows in
-      early-before So before written old mid new end first (says-memory So so head_only mid new end before written said (kept ∙ ready.output_is))
+      early-before So before written old mid new end first (says-memory So head_only so mid new end before written said (kept ∙ ready.output_is))
 
   pub unwritten : (count : ℕ) (old mid : Outside) → Reads count (Err took.NoMemory) old mid → mid.output ≡ old.output
   unwritten count old mid (inl still) = ap (λ o. o.output) still
   unwritten count old mid (inr t) = ap (λ o. o.output) t.1.3
 
   -- an answer at the end of a turn, or nothing written there
-  pub says-play : (So : List ℕ → Type 0) → So [] → (said : Said) (manner : Manner) (st : State) (old new : Outside) (end : Option End) (input before : List ℕ) → Ready old st input before
+  pub says-play : (So : Bool → List ℕ → Type 0) (said : Said) (manner : Manner) → So manner.head_only [] → (st : State) (old new : Outside) (end : Option End) (input before : List ℕ) → Ready old st input before
       → Says (answer_of said manner) (memory_answer manner.head_only) (manner_end manner) old new end
       → Outcome So before (play settings (says said manner) (at st input)) old new st end
-  says-play So so said manner st old new end input before ready said-it =
-      elim (says-early So so (answer_of said manner) manner.head_only (manner_end manner) old new end before said-it ready.output_is) [
+  says-play So said manner so st old new end input before ready said-it =
+      elim (says-early So (answer_of said manner) manner.head_only so (manner_end manner) old new end before said-it ready.output_is) [
         | inl w ↦ inl record {
           output = w.1;
           ends = w.2;
@@ -178,7 +178,7 @@ module _ (settings : Settings) (tells : Type 0) (head_only : Bool) where
         | inr m ↦ inr m
       ]
 
-  pub stops-play : (So : List ℕ → Type 0) (next : Option End) (st : State) (old new : Outside) (end : Option End) (input before : List ℕ) → Ready old st input before
+  pub stops-play : (So : Bool → List ℕ → Type 0) (next : Option End) (st : State) (old new : Outside) (end : Option End) (input before : List ℕ) → Ready old st input before
       → new ≡ old → end ≡ next → Outcome So before (play settings (stops next) (at st input)) old new st end
   stops-play So next st old new end input before ready still ends =
       let out = ready.output_is ∙ ap Some (sym (append-nil before)) in

@@ -32,7 +32,7 @@ use Rattle.course_laws.proofs.Passes.{entries-clock, entries-told, no-store-faul
 use Rattle.course_laws.proofs.Counts.{Calm, Grew, calm-first, calm-then, cleans-grew, follows-grew, reads-body-grew, sends-grew, takes-grew}
 use Rattle.course_laws.proofs.Early.{Outcome, Ready, ends-early, outcome-before, outcome-so, says-memory}
 use Rattle.course_laws.proofs.PlayedActs.{InHandTold, Plays, at, body-torn, body-whole, bytes-are, front-of, memory-play, risen, says-play, short-of, sink-play, source-play, stops-play, taken-torn, taken-whole, told-is, torn-play, unwritten, wrote-play}
-use Rattle.course_laws.proofs.Unsent.{MayStand, read-may, reply-may, says-unsent, starves-unsent}
+use Rattle.course_laws.proofs.Unsent.{MayStarve, read-may, reply-may, says-unsent, starves-unsent}
 use Rattle.course_laws.proofs.Told.{CommandTold, ReplyTold, after-told, clock-stays, due-is, faults-are, faults-grow, moment-is, reply-told}
 
 reply-in-hand : (c : Command) (reply : Reply) (s : Stand) → MayAsk c s → ReplyTold reply → InHandTold s.blob → InHandTold (stand_after c reply s).blob
@@ -130,15 +130,15 @@ module _ (settings : Settings) (tells : Type 0) (witness : tells) (head_only : B
             let hand1 = reply-in-hand command d.reply s k.0 (reply-told settings st ready.rows command s k.0 told) hand in
             let follows = subst (λ r. Follows tells (next r) entries old new end) reply-is f.1 in
             let s1 = stand_after command d.reply s in
-            subst (λ (x : State). Outcome (MayStand s) before (play settings (next d.reply) (at x input)) old new (end_of settings st1 entries) end) state-is
-            (outcome-so (MayStand s1) (MayStand s) before (play settings (next d.reply) (at st1 input)) old new (end_of settings st1 entries) end (reply-may command d.reply s)
+            subst (λ (x : State). Outcome (MayStarve head_only s) before (play settings (next d.reply) (at x input)) old new (end_of settings st1 entries) end) state-is
+            (outcome-so (MayStarve head_only s1) (MayStarve head_only s) before (play settings (next d.reply) (at st1 input)) old new (end_of settings st1 entries) end (λ alone front may. (may.0, reply-may command d.reply s front may.1))
             (ih d.reply n s1 (k.1 d.reply) hand1 entries st1 legal.1 calm1 old new end input before ready1 quiet follows))
         | wants_memory replied can did ↦
             let early = memory-early command s k.0 (subst (λ c. IsTrue (takes_memory c)) f.0 can) in
             let follows = subst (λ r. Follows tells (next r) entries old new end) replied f.1 in
             let s1 = stand_after command no_memory s in
             let unsent = starves-unsent head_only (next no_memory) n s1 (k.1 no_memory) early in
-            inr (says-memory (MayStand s) (reply-may command no_memory s [] (unsent, inl refl)) head_only old new end before _
+            inr (says-memory (MayStarve head_only s) head_only (refl, reply-may command no_memory s [] (unsent, inl refl)) old new end before _
             (ends-early tells head_only (next no_memory) n (stand_after command no_memory s) by_memory (k.1 no_memory) early entries old new end follows) ready.output_is)
         | failed replied can rose ↦ risen st.faults e.faults (end_of settings st1 entries).faults rose (omega arith) calm
       ]
@@ -147,30 +147,33 @@ module _ (settings : Settings) (tells : Type 0) (witness : tells) (head_only : B
       → Keeps head_only (continues next) n s → InHandTold s.blob → (entries : List Entry) (st : State) → Legal settings st entries → Calm st.faults (end_of settings st entries).faults
       → (old mid new : Outside) (end : Option End) (input before : List ℕ) → Ready old st input before → Calm old.blob_faults new.blob_faults
       → Continues result old mid → Follows tells (next result) entries mid new end
-      → Outcome (MayStand s) before (play settings (continues next) (at st input)) old new (end_of settings st entries) end
+      → Outcome (MayStarve head_only s) before (play settings (continues next) (at st input)) old new (end_of settings st entries) end
   continues-play next ih continued.Written n s k hand entries st legal calm old mid new end input before ready quiet cause follows =
-      wrote-play settings tells head_only (MayStand s) continue_bytes (next continued.Written) (ih continued.Written) n (stand_continued continued.Written s)
-      (λ front may. (
+      wrote-play settings tells head_only (MayStarve head_only s) continue_bytes (next continued.Written) (ih continued.Written) n (stand_continued continued.Written s)
+      (λ alone front may. (
         may.0,
-        inr (
-          k.0,
-          elim may.1 [
-            | inl e ↦ ap (λ b. continue_bytes ++ b) e ∙ append-nil continue_bytes
-            | inr e ↦ (let no : true ≡ false = e.0 in absurd (cc))
-          ],
+        (
+          may.1.0,
+          inr (
+            k.0,
+            elim may.1.1 [
+              | inl e ↦ ap (λ b. continue_bytes ++ b) e ∙ append-nil continue_bytes
+              | inr e ↦ (let no : true ≡ false = e.0 in absurd (cc))
+            ],
+          ),
         ),
       ))
       (k.3 continued.Written) hand entries st legal calm
       old mid new end input before ready quiet cause follows
   continues-play next ih continued.SinkFault n s k hand entries st legal calm old mid new end input before ready quiet cause follows =
-      inr (sink-play settings tells head_only (MayStand s) continue_bytes (play settings (next continued.Written) (at st input)).written cause.1 (next continued.SinkFault) n s (k.3 continued.SinkFault) cause.0
+      inr (sink-play settings tells head_only (MayStarve head_only s) continue_bytes (play settings (next continued.Written) (at st input)).written cause.1 (next continued.SinkFault) n s (k.3 continued.SinkFault) cause.0
       entries st old mid new end input before ready cause.2 cause.3 cause.4 follows)
 
   takes-play : (number count : ℕ) (next : Stored → Course) → ((stored : Stored) → Plays settings tells head_only (next stored)) → (stored : Stored) (n : ℕ) (s : Stand)
       → Keeps head_only (takes number count next) n s → InHandTold s.blob → (entries : List Entry) (st : State) → Legal settings st entries → Calm st.faults (end_of settings st entries).faults
       → (old mid new : Outside) (end : Option End) (input before : List ℕ) → Ready old st input before → Calm old.blob_faults new.blob_faults
       → Grew old mid → Grew mid new → Takes tells number count stored old mid → Follows tells (next stored) entries mid new end
-      → Outcome (MayStand s) before (play settings (takes number count next) (at st input)) old new (end_of settings st entries) end
+      → Outcome (MayStarve head_only s) before (play settings (takes number count next) (at st input)) old new (end_of settings st entries) end
   takes-play number count next ih (Ok blob) n s k hand entries st legal calm old mid new end input before ready quiet first grows cause follows =
       let body = cause.0 in
       let got = front-of input body cause.1.0 (sym ready.input_is ∙ cause.1.2) in
@@ -189,21 +192,21 @@ module _ (settings : Settings) (tells : Type 0) (witness : tells) (head_only : B
       let whole-is : taken_body number count input ≡ Ok blob =
       ap (taken_body number count) got.2 ∙ taken-whole number count body got.0 blob cause.1.1 cause.2 told cause.3 in
       let rest-is : drop count input ≡ got.0 = (λ i. drop (sym cause.1.1 i) (got.2 i)) ∙ drop-append_seam body got.0 in
-      subst (λ (p : Stored × List ℕ). Outcome (MayStand s) before (play settings (next p.0) (at st p.1)) old new (end_of settings st entries) end)
+      subst (λ (p : Stored × List ℕ). Outcome (MayStarve head_only s) before (play settings (next p.0) (at st p.1)) old new (end_of settings st entries) end)
       (λ i. (sym whole-is i, sym rest-is i))
-      (outcome-before (MayStand s) before _ old o new _ end (record { reads = omega arith; writes = omega arith; blobs = omega arith })
-      (outcome-so (MayStand (has_read s)) (MayStand s) before _ o new _ end (read-may s) done))
+      (outcome-before (MayStarve head_only s) before _ old o new _ end (record { reads = omega arith; writes = omega arith; blobs = omega arith })
+      (outcome-so (MayStarve head_only (has_read s)) (MayStarve head_only s) before _ o new _ end (λ alone front may. (may.0, read-may s front may.1)) done))
   takes-play number count next ih (Err took.Torn) n s k hand entries st legal calm old mid new end input before ready quiet first grows cause follows =
-      subst (λ r. Outcome (MayStand s) before (play settings (next r) (at st (drop count input))) old new (end_of settings st entries) end)
+      subst (λ r. Outcome (MayStarve head_only s) before (play settings (next r) (at st (drop count input))) old new (end_of settings st entries) end)
       (sym (taken-torn number count input (short-of settings tells head_only count old mid st input before ready cause)))
-      (torn-play settings tells head_only (MayStand s) count (next (Err took.Torn)) n (has_read s) (k.3 (Err took.Torn)) entries st old mid new end input before ready cause follows)
+      (torn-play settings tells head_only (MayStarve head_only s) count (next (Err took.Torn)) n (has_read s) (k.3 (Err took.Torn)) entries st old mid new end input before ready cause follows)
   takes-play number count next ih (Err took.SourceFault) n s k hand entries st legal calm old mid new end input before ready quiet first grows cause follows =
-      inr (source-play settings tells head_only (MayStand s) count _ (next (Err took.SourceFault)) n (has_read s) (k.3 (Err took.SourceFault)) entries st old mid new end input before ready cause follows)
+      inr (source-play settings tells head_only (MayStarve head_only s) count _ (next (Err took.SourceFault)) n (has_read s) (k.3 (Err took.SourceFault)) entries st old mid new end input before ready cause follows)
   takes-play number count next ih (Err took.BlobFault) n s k hand entries st legal calm old mid new end input before ready quiet first grows cause follows =
       risen old.blob_faults cause.0 new.blob_faults cause.2 (subst (λ m. m ≤ new.blob_faults) (ap (λ o. o.blob_faults) cause.3.3) grows.blobs) quiet
   takes-play number count next ih (Err took.NoMemory) n s k hand entries st legal calm old mid new end input before ready quiet first grows cause follows =
-      inr (memory-play settings tells head_only (MayStand s)
-      (starves-unsent head_only (next (Err took.NoMemory)) n (starving (has_read s)) (k.3 (Err took.NoMemory)) refl, inl refl)
+      inr (memory-play settings tells head_only (MayStarve head_only s)
+      (refl, (starves-unsent head_only (next (Err took.NoMemory)) n (starving (has_read s)) (k.3 (Err took.NoMemory)) refl, inl refl))
       _ (next (Err took.NoMemory)) n (has_read s) (k.3 (Err took.NoMemory)) entries st old mid new end input before ready first
       (unwritten settings tells head_only count old mid cause) follows)
 
@@ -211,7 +214,7 @@ module _ (settings : Settings) (tells : Type 0) (witness : tells) (head_only : B
       → Keeps head_only (reads count next) n s → InHandTold s.blob → (entries : List Entry) (st : State) → Legal settings st entries → Calm st.faults (end_of settings st entries).faults
       → (old mid new : Outside) (end : Option End) (input before : List ℕ) → Ready old st input before → Calm old.blob_faults new.blob_faults
       → Grew old mid → Reads count body old mid → Follows tells (next body) entries mid new end
-      → Outcome (MayStand s) before (play settings (reads count next) (at st input)) old new (end_of settings st entries) end
+      → Outcome (MayStarve head_only s) before (play settings (reads count next) (at st input)) old new (end_of settings st entries) end
   reads-play count next ih (Ok body) n s k hand entries st legal calm old mid new end input before ready quiet first cause follows =
       let got = front-of input body cause.0 (sym ready.input_is ∙ cause.2) in
       let o : Outside = record old { input = Some got.0 } in
@@ -226,20 +229,20 @@ module _ (settings : Settings) (tells : Type 0) (witness : tells) (head_only : B
       (subst (λ m. Follows tells (next (Ok body)) entries m new end) mid-is follows) in
       let whole-is : body_of count input ≡ Ok body = ap (body_of count) got.2 ∙ body-whole count body got.0 cause.1 in
       let rest-is : drop count input ≡ got.0 = (λ i. drop (sym cause.1 i) (got.2 i)) ∙ drop-append_seam body got.0 in
-      subst (λ (p : Body × List ℕ). Outcome (MayStand s) before (play settings (next p.0) (at st p.1)) old new (end_of settings st entries) end)
+      subst (λ (p : Body × List ℕ). Outcome (MayStarve head_only s) before (play settings (next p.0) (at st p.1)) old new (end_of settings st entries) end)
       (λ i. (sym whole-is i, sym rest-is i))
-      (outcome-before (MayStand s) before _ old o new _ end (record { reads = omega arith; writes = omega arith; blobs = omega arith })
-      (outcome-so (MayStand (has_read s)) (MayStand s) before _ o new _ end (read-may s) done))
+      (outcome-before (MayStarve head_only s) before _ old o new _ end (record { reads = omega arith; writes = omega arith; blobs = omega arith })
+      (outcome-so (MayStarve head_only (has_read s)) (MayStarve head_only s) before _ o new _ end (λ alone front may. (may.0, read-may s front may.1)) done))
   reads-play count next ih (Err took.Torn) n s k hand entries st legal calm old mid new end input before ready quiet first cause follows =
-      subst (λ r. Outcome (MayStand s) before (play settings (next r) (at st (drop count input))) old new (end_of settings st entries) end)
+      subst (λ r. Outcome (MayStarve head_only s) before (play settings (next r) (at st (drop count input))) old new (end_of settings st entries) end)
       (sym (body-torn count input (short-of settings tells head_only count old mid st input before ready cause)))
-      (torn-play settings tells head_only (MayStand s) count (next (Err took.Torn)) n (has_read s) (k.2 (Err took.Torn)) entries st old mid new end input before ready cause follows)
+      (torn-play settings tells head_only (MayStarve head_only s) count (next (Err took.Torn)) n (has_read s) (k.2 (Err took.Torn)) entries st old mid new end input before ready cause follows)
   reads-play count next ih (Err took.SourceFault) n s k hand entries st legal calm old mid new end input before ready quiet first cause follows =
-      inr (source-play settings tells head_only (MayStand s) count _ (next (Err took.SourceFault)) n (has_read s) (k.2 (Err took.SourceFault)) entries st old mid new end input before ready cause follows)
+      inr (source-play settings tells head_only (MayStarve head_only s) count _ (next (Err took.SourceFault)) n (has_read s) (k.2 (Err took.SourceFault)) entries st old mid new end input before ready cause follows)
   reads-play count next ih (Err took.BlobFault) n s k hand entries st legal calm old mid new end input before ready quiet first cause follows = absurd cause
   reads-play count next ih (Err took.NoMemory) n s k hand entries st legal calm old mid new end input before ready quiet first cause follows =
-      inr (memory-play settings tells head_only (MayStand s)
-      (starves-unsent head_only (next (Err took.NoMemory)) n (starving (has_read s)) (k.2 (Err took.NoMemory)) refl, inl refl)
+      inr (memory-play settings tells head_only (MayStarve head_only s)
+      (refl, (starves-unsent head_only (next (Err took.NoMemory)) n (starving (has_read s)) (k.2 (Err took.NoMemory)) refl, inl refl))
       _ (next (Err took.NoMemory)) n (has_read s) (k.2 (Err took.NoMemory)) entries st old mid new end input before ready first
       (unwritten settings tells head_only count old mid cause) follows)
 
@@ -249,30 +252,30 @@ module _ (settings : Settings) (tells : Type 0) (witness : tells) (head_only : B
       → Legal settings st entries → Calm st.faults (end_of settings st entries).faults → (old mid new : Outside) (end : Option End) (input before : List ℕ)
       → Ready old st input before → Calm old.blob_faults new.blob_faults → Grew old mid → Grew mid new → SendsAnswer only blob head result old mid
       → Follows tells (next result) entries mid new end
-      → Outcome (MayStand s) before (wrote (head ++ (if only then [] else unwrap_or blob.bytes [])) (play settings (next sent.Whole) (at st input))) old new (end_of settings st entries) end
+      → Outcome (MayStarve head_only s) before (wrote (head ++ (if only then [] else unwrap_or blob.bytes [])) (play settings (next sent.Whole) (at st input))) old new (end_of settings st entries) end
   sends-play true blob manner head next ih sent.Whole n s is unsent k hand entries st legal calm old mid new end input before ready quiet first grows cause follows =
-      subst (λ all. Outcome (MayStand s) before (wrote all (play settings (next sent.Whole) (at st input))) old new (end_of settings st entries) end) (sym (append-nil head))
-      (wrote-play settings tells head_only (MayStand s) head (next sent.Whole) (ih sent.Whole) n (stand_sent manner sent.Whole s)
-      (λ front may. absurd (none-some manner (sym may.0))) (k sent.Whole) hand entries st legal calm old mid new end input before ready quiet cause follows)
+      subst (λ all. Outcome (MayStarve head_only s) before (wrote all (play settings (next sent.Whole) (at st input))) old new (end_of settings st entries) end) (sym (append-nil head))
+      (wrote-play settings tells head_only (MayStarve head_only s) head (next sent.Whole) (ih sent.Whole) n (stand_sent manner sent.Whole s)
+      (λ alone front may. absurd (none-some manner (sym may.1.0))) (k sent.Whole) hand entries st legal calm old mid new end input before ready quiet cause follows)
   sends-play true blob manner head next ih sent.BlobFault n s is unsent k hand entries st legal calm old mid new end input before ready quiet first grows cause follows = absurd cause
   sends-play true blob manner head next ih sent.SinkFault n s is unsent k hand entries st legal calm old mid new end input before ready quiet first grows cause follows =
-      inr (sink-play settings tells head_only (MayStand s) (head ++ []) (play settings (next sent.Whole) (at st input)).written cause.1 (next sent.SinkFault) n s (k sent.SinkFault) cause.0
+      inr (sink-play settings tells head_only (MayStarve head_only s) (head ++ []) (play settings (next sent.Whole) (at st input)).written cause.1 (next sent.SinkFault) n s (k sent.SinkFault) cause.0
       entries st old mid new end input before ready cause.2 (cause.3.0, append-nil head ∙ cause.3.1) cause.4 follows)
   sends-play true blob manner head next ih sent.NoMemory n s is unsent k hand entries st legal calm old mid new end input before ready quiet first grows cause follows =
-      inr (memory-play settings tells head_only (MayStand s) (unsent, inl refl) _ (next sent.NoMemory) n s (k sent.NoMemory) entries st old mid new end input before ready first (ap (λ o. o.output) cause) follows)
+      inr (memory-play settings tells head_only (MayStarve head_only s) (refl, (unsent, inl refl)) _ (next sent.NoMemory) n s (k sent.NoMemory) entries st old mid new end input before ready first (ap (λ o. o.output) cause) follows)
   sends-play false blob manner head next ih sent.Whole n s is unsent k hand entries st legal calm old mid new end input before ready quiet first grows cause follows =
       let bytes = bytes-are blob.bytes cause.0 (subst (λ b. InHandTold b) is hand) cause.1 in
-      wrote-play settings tells head_only (MayStand s) (head ++ unwrap_or blob.bytes []) (next sent.Whole) (ih sent.Whole) n (stand_sent manner sent.Whole s)
-      (λ front may. absurd (none-some manner (sym may.0))) (k sent.Whole) hand entries st legal calm old mid new end input before ready quiet
+      wrote-play settings tells head_only (MayStarve head_only s) (head ++ unwrap_or blob.bytes []) (next sent.Whole) (ih sent.Whole) n (stand_sent manner sent.Whole s)
+      (λ alone front may. absurd (none-some manner (sym may.1.0))) (k sent.Whole) hand entries st legal calm old mid new end input before ready quiet
       (cause.2 ∙ ap (λ b. writes (head ++ b) old) (sym bytes)) follows
   sends-play false blob manner head next ih sent.BlobFault n s is unsent k hand entries st legal calm old mid new end input before ready quiet first grows cause follows =
       risen old.blob_faults cause.0 new.blob_faults cause.1 (subst (λ m. m ≤ new.blob_faults) (ap (λ o. o.blob_faults) cause.2) grows.blobs) quiet
   sends-play false blob manner head next ih sent.SinkFault n s is unsent k hand entries st legal calm old mid new end input before ready quiet first grows cause follows =
       let bytes = bytes-are blob.bytes cause.1 (subst (λ b. InHandTold b) is hand) cause.4 in
-      inr (sink-play settings tells head_only (MayStand s) (head ++ unwrap_or blob.bytes []) (play settings (next sent.Whole) (at st input)).written cause.2 (next sent.SinkFault) n s (k sent.SinkFault) cause.0
+      inr (sink-play settings tells head_only (MayStarve head_only s) (head ++ unwrap_or blob.bytes []) (play settings (next sent.Whole) (at st input)).written cause.2 (next sent.SinkFault) n s (k sent.SinkFault) cause.0
       entries st old mid new end input before ready cause.3 (cause.5.0, ap (λ b. head ++ b) bytes ∙ cause.5.1) cause.6 follows)
   sends-play false blob manner head next ih sent.NoMemory n s is unsent k hand entries st legal calm old mid new end input before ready quiet first grows cause follows =
-      inr (memory-play settings tells head_only (MayStand s) (unsent, inl refl) _ (next sent.NoMemory) n s (k sent.NoMemory) entries st old mid new end input before ready first (ap (λ o. o.output) cause) follows)
+      inr (memory-play settings tells head_only (MayStarve head_only s) (refl, (unsent, inl refl)) _ (next sent.NoMemory) n s (k sent.NoMemory) entries st old mid new end input before ready first (ap (λ o. o.output) cause) follows)
 
   -- a pass
 
@@ -282,10 +285,10 @@ module _ (settings : Settings) (tells : Type 0) (witness : tells) (head_only : B
       → Calm (end_of settings st mine).faults (end_of settings (end_of settings st mine) later).faults
       → (old new : Outside) (kept : Store) (end : Option End) (input before : List ℕ) → Ready old st input before → Calm old.blob_faults new.blob_faults
       → Grew old (with_store kept old) → Grew (with_store kept old) new → Passes repos mine (store_of old) kept pass → Follows tells (next pass) later (with_store kept old) new end
-      → Outcome (MayStand s) before (play settings (cleans repos next) (at st input)) old new (end_of settings (end_of settings st mine) later) end
+      → Outcome (MayStarve head_only s) before (play settings (cleans repos next) (at st input)) old new (end_of settings (end_of settings st mine) later) end
   cleans-play repos next ih (Err clean_fault.NoMemory) n s k hand mine later st legal more calm calm1 old new kept end input before ready quiet first grows cause follows =
-      inr (memory-play settings tells head_only (MayStand s)
-      (starves-unsent head_only (next (Err clean_fault.NoMemory)) 0 (starving s) (k.3 (Err clean_fault.NoMemory)) refl, inl refl)
+      inr (memory-play settings tells head_only (MayStarve head_only s)
+      (refl, (starves-unsent head_only (next (Err clean_fault.NoMemory)) 0 (starving s) (k.3 (Err clean_fault.NoMemory)) refl, inl refl))
       _ (next (Err clean_fault.NoMemory)) 0 s (k.3 (Err clean_fault.NoMemory)) later (end_of settings st mine) old (with_store kept old) new end input before
       (record { input_is = ready.input_is; output_is = ready.output_is; rows = entries-told settings mine st (passes-ask repos mine _ kept _ cause) ready.rows; clock = entries-clock settings mine st ready.clock })
       first refl follows)
@@ -304,9 +307,9 @@ module _ (settings : Settings) (tells : Type 0) (witness : tells) (head_only : B
       let quiet1 : Calm kept.faults new.blob_faults = calm-then old.blob_faults kept.faults new.blob_faults first.blobs grows.blobs quiet in
       let played = passes-played settings repos mine (store_of old) kept did st legal calm ready.clock cause in
       let there = ih (Ok did) 0 s (k.3 (Ok did)) hand later (end_of settings st mine) more calm1 (with_store kept old) new end input before ready1 quiet1 follows in
-      subst (λ (p : List Entry × Pass). Outcome (MayStand s) before (play settings (next p.1) (at (end_of settings st p.0) input)) old new (end_of settings (end_of settings st mine) later) end)
+      subst (λ (p : List Entry × Pass). Outcome (MayStarve head_only s) before (play settings (next p.1) (at (end_of settings st p.0) input)) old new (end_of settings (end_of settings st mine) later) end)
       (λ i. (played.0 i, played.1 i))
-      (outcome-before (MayStand s) before _ old (with_store kept old) new _ end first there)
+      (outcome-before (MayStarve head_only s) before _ old (with_store kept old) new _ end first there)
 
   pub course-play : (c : Course) → Plays settings tells head_only c
   course-play (asks command next) n s k hand entries st legal calm old new end input before ready quiet f =
@@ -331,13 +334,13 @@ module _ (settings : Settings) (tells : Type 0) (witness : tells) (head_only : B
       let calm2 = subst (λ (x : State). Calm st.faults x.faults) ends calm in
       let up = faults-grow settings f.0 st cut.0 in
       let more = faults-grow settings f.1 mid cut.1 in
-      subst (λ (x : State). Outcome (MayStand s) before (play settings (cleans repos next) (at st input)) old new x end) (sym ends)
+      subst (λ (x : State). Outcome (MayStarve head_only s) before (play settings (cleans repos next) (at st input)) old new x end) (sym ends)
       (cleans-play repos next (λ r. course-play (next r)) f.2 n s k hand f.0 f.1 st cut.0 cut.1
       (calm-first st.faults mid.faults (end_of settings mid f.1).faults more calm2) (calm-then st.faults mid.faults (end_of settings mid f.1).faults up more calm2)
       old new f.3 end input before ready quiet (cleans-grew repos f.0 old f.3 f.2 f.5) (follows-grew tells (next f.2) f.1 (with_store f.3 old) new end f.6) f.5 f.6)
   course-play (says said manner) n s k hand entries st legal calm old new end input before ready quiet f =
-      subst (λ (es : List Entry). Outcome (MayStand s) before (play settings (says said manner) (at st input)) old new (end_of settings st es) end) (sym f.0)
-      (says-play settings tells head_only (MayStand s) (says-unsent s s.early said manner k.1, inl refl) said manner st old new end input before ready f.1)
+      subst (λ (es : List Entry). Outcome (MayStarve head_only s) before (play settings (says said manner) (at st input)) old new (end_of settings st es) end) (sym f.0)
+      (says-play settings tells head_only (MayStarve head_only s) said manner (k.2, (says-unsent s s.early said manner k.1, inl refl)) st old new end input before ready f.1)
   course-play (stops next) n s k hand entries st legal calm old new end input before ready quiet f =
-      subst (λ (es : List Entry). Outcome (MayStand s) before (play settings (stops next) (at st input)) old new (end_of settings st es) end) (sym f.0)
-      (stops-play settings tells head_only (MayStand s) next st old new end input before ready f.1 f.2)
+      subst (λ (es : List Entry). Outcome (MayStarve head_only s) before (play settings (stops next) (at st input)) old new (end_of settings st es) end) (sym f.0)
+      (stops-play settings tells head_only (MayStarve head_only s) next st old new end input before ready f.1 f.2)

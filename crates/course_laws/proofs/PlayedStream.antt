@@ -1,6 +1,7 @@
 -- A stream is served as it is played, up to where memory is wanted or the source or the sink fails, if nothing else fails.
-use Rattle.std.proofs.Common.{◌≡◌, ◌⊎◌, ℕ, zero, suc, Bool, false, arith, inl, inr, List, [], ◌++◌, Option, Some, None, refl, sym, subst, ap, ◌∙◌, append_assoc, append-nil}
+use Rattle.std.proofs.Common.{◌≡◌, ◌⊎◌, ℕ, zero, suc, Bool, true, false, arith, inl, inr, List, [], ◌++◌, Option, Some, None, refl, sym, subst, ap, ◌∙◌, append_assoc, append-nil}
 use Rattle.std.specs.Prelude.{◌==◌}
+use Rattle.std.proofs.lemmas.Bool.{false≢true}
 use Rattle.std.proofs.lemmas.Option.{none-some}
 use Rattle.outside.specs.Faults.{Rose}
 use Rattle.http_wire.specs.Answer.{continue_bytes, shown}
@@ -16,24 +17,38 @@ use Rattle.repo_course.specs.Course.{Course, course_of}
 use Rattle.repo_course.specs.declared.outcomes.End.{End}
 use Rattle.repo_course.specs.declared.outcomes.End.TheVariants as stream
 use Rattle.repo_course.specs.Serving.{Begins, Follows, IsFrontOf, IsWhole, Opens, clean, torn, failed, refused, unread_head, starved, served, Outside, Serves, Turn}
-use Rattle.course_laws.specs.AsPlayed.{BeginsAt, IsAnswers, IsAsPlayed, in_full, wants_memory, IsPlayedUpTo, unbroken, broken, NoFaults, StoodStill}
+use Rattle.course_laws.specs.AsPlayed.{AsksHead, BeginsAt, IsAnswers, IsAsPlayed, in_full, wants_memory, IsPlayedUpTo, unbroken, broken, cut_starved, NoFaults, StoodStill}
 use Rattle.course_laws.specs.Duties.{Keeps, Stand, at_first, failing, is_head_only, most_of, unread_of}
 use Rattle.course_laws.specs.Faultless.{Played, Scene, play, play_turn, play_stream, then_play}
 use Rattle.course_laws.proofs.Counts.{Calm, Grew, calm-first, calm-then, follows-grew, not-risen, opens-grew, rose-before, serves-grew, turn-grew}
 use Rattle.course_laws.proofs.Early.{Outcome, Ready, early-before, no-more, outcome-before, outcome-so, says-memory, source-failed}
+use Rattle.course_laws.proofs.HeadOnly.{judged-head}
 use Rattle.course_laws.proofs.Kept.{asking, opens-keeps, shows_head, standing}
 use Rattle.course_laws.proofs.LeftBehind.{end_append, legal_cut}
 use Rattle.course_laws.proofs.PlayedActs.{InHandTold}
 use Rattle.course_laws.proofs.PlayedCourse.{course-play}
 use Rattle.course_laws.proofs.Told.{faults-grow}
-use Rattle.course_laws.proofs.Unsent.{MayStand}
+use Rattle.course_laws.proofs.Unsent.{MayStarve}
 
--- what may have been written of a request when memory is wanted
-abbrev AtTurn : List ℕ → Type 0
-AtTurn written = (written ≡ []) ⊎ (written ≡ continue_bytes)
+-- an answer to this is its head alone only to HEAD
+abbrev MayBeAlone : Front → Bool → Type 0
+MayBeAlone f alone = alone ≡ true → AsksHead f
 
-at-turn : (s : Stand) (written : List ℕ) → MayStand s written → AtTurn written
-at-turn s written may = elim may.1 [ inl e ↦ inl e | inr e ↦ inr e.1 ]
+-- what may have been written of such a request when memory is wanted
+abbrev AtTurn : Front → Bool → List ℕ → Type 0
+AtTurn f alone written = MayBeAlone f alone × ((written ≡ []) ⊎ (written ≡ continue_bytes))
+
+at-turn : (f : Front) (head_only : Bool) → MayBeAlone f head_only → (s : Stand) (alone : Bool) (written : List ℕ) → MayStarve head_only s alone written → AtTurn f alone written
+at-turn f head_only asks s alone written may = (λ is. asks (sym may.0 ∙ is), elim may.1.1 [ inl e ↦ inl e | inr e ↦ inr e.1 ])
+
+at-once-so : (f : Front) → AtTurn f false []
+at-once-so f = (λ is. absurd (false≢true is), inl refl)
+
+asks-head : (f : Front) (head : Head) (rest : Option (List ℕ)) → IsWhole head rest f → is_head head ≡ true → AsksHead f
+asks-head Clean head rest comes is = absurd comes
+asks-head Cut head rest comes is = absurd comes
+asks-head (Bad fault) head rest comes is = absurd comes
+asks-head (Whole what behind) head rest comes is = ap is_head comes.0 ∙ is
 
 module _ (settings : Settings) (left : ℕ) (scene : Scene) where
   -- the first request, and a stream behind it
@@ -59,26 +74,31 @@ module _ (settings : Settings) (left : ℕ) (scene : Scene) where
       (subst (λ b. output ≡ Some b) (append_assoc before First.written (play_stream settings left First.scene).written) out))
       (subst (λ e. end ≡ (Behind e).end) none ends)
   wrote-played none before output end (wants_memory written head_only is-front answers out ends) =
-      wants_memory (First.written ++ written) head_only (front-behind none written is-front) (inr (inr (written, sym none, refl, answers)))
+      wants_memory (First.written ++ written) head_only (front-behind none written is-front) (inr (written, sym none, refl, answers))
       (subst (λ b. output ≡ Some (b ++ shown (memory_answer head_only))) (append_assoc before First.written written) out) ends
 
   wrote-upto : None ≡ First.end → (before : List ℕ) (old new : Outside) (end : End)
       → IsPlayedUpTo settings left First.scene (before ++ First.written) old new end → IsPlayedUpTo settings (suc left) scene before old new end
-  unfolding play_stream
+  unfolding play_stream IsAnswers
   wrote-upto none before old new end (unbroken played) = unbroken (wrote-played none before new.output end played)
-  wrote-upto none before old new end (broken written part head_only is-front is-part out broke) =
-      broken (First.written ++ written) part head_only (front-behind none written is-front) is-part
-      (subst (λ b. new.output ≡ Some (b ++ part)) (append_assoc before First.written written) out) broke
+  wrote-upto none before old new end (broken written is-front out broke) =
+      broken (First.written ++ written) (front-behind none written is-front)
+      (subst (λ b. new.output ≡ Some b) (append_assoc before First.written written) out) broke
+  wrote-upto none before old new end (cut_starved written part head_only is-front answers is-part out ends rose) =
+      cut_starved (First.written ++ written) part head_only (front-behind none written is-front) (inr (written, sym none, refl, answers)) is-part
+      (subst (λ b. new.output ≡ Some (b ++ part)) (append_assoc before First.written written) out) ends rose
 
 -- seen from an earlier world
 upto-before : (settings : Settings) (n : ℕ) (scene : Scene) (before : List ℕ) (old mid new : Outside) (end : End) → Grew old mid
     → IsPlayedUpTo settings n scene before mid new end → IsPlayedUpTo settings n scene before old new end
 upto-before settings n scene before old mid new end g (unbroken played) = unbroken played
-upto-before settings n scene before old mid new end g (broken written part head_only is-front is-part out broke) =
-    broken written part head_only is-front is-part out (elim broke [
+upto-before settings n scene before old mid new end g (broken written is-front out broke) =
+    broken written is-front out (elim broke [
       | inl s ↦ inl (s.0, rose-before old.read_faults mid.read_faults new.read_faults g.reads s.1)
       | inr s ↦ inr (s.0, rose-before old.write_faults mid.write_faults new.write_faults g.writes s.1)
     ])
+upto-before settings n scene before old mid new end g (cut_starved written part head_only is-front answers is-part out ends rose) =
+    cut_starved written part head_only is-front answers is-part out ends (rose-before old.write_faults mid.write_faults new.write_faults g.writes rose)
 
 -- what was written before the stream goes on is in front
 front-then : (next : Scene → Played End) (e : Option End) (written : List ℕ) (scene : Scene)
@@ -92,16 +112,16 @@ same-Some a b is = cc
 module _ (settings : Settings) (tells : Type 0) (witness : tells) where
   -- what the front of the input asks for
   abbrev Turned : Bool → Front → State → List ℕ → List ℕ → Outside → Outside → State → Option End → Type 0
-  Turned last f st input before old new st' end = Outcome AtTurn before (play_turn settings last f (record { state = st; input = input })) old new st' end
+  Turned last f st input before old new st' end = Outcome (AtTurn f) before (play_turn settings last f (record { state = st; input = input })) old new st' end
 
   -- a course behind what was read, from where it stands
-  played : (head_only : Bool) (c : Course) (n : ℕ) (s : Stand) → Keeps head_only c n s → s.blob ≡ None → (entries : List Entry) (st : State) → Legal settings st entries
+  played : (front_is : Front) (head_only : Bool) → MayBeAlone front_is head_only → (c : Course) (n : ℕ) (s : Stand) → Keeps head_only c n s → s.blob ≡ None → (entries : List Entry) (st : State) → Legal settings st entries
       → Calm st.faults (end_of settings st entries).faults
       → (old mid new : Outside) (end : Option End) (input before : List ℕ) → Ready mid st input before → Calm mid.blob_faults new.blob_faults → Grew old mid
-      → Follows tells c entries mid new end → Outcome AtTurn before (play settings c (record { state = st; input = input })) old new (end_of settings st entries) end
-  played head_only c n s k none entries st legal calm old mid new end input before ready quiet g f =
-      outcome-before AtTurn before _ old mid new _ end g
-      (outcome-so (MayStand s) AtTurn before _ mid new _ end (at-turn s)
+      → Follows tells c entries mid new end → Outcome (AtTurn front_is) before (play settings c (record { state = st; input = input })) old new (end_of settings st entries) end
+  played front_is head_only asks c n s k none entries st legal calm old mid new end input before ready quiet g f =
+      outcome-before (AtTurn front_is) before _ old mid new _ end g
+      (outcome-so (MayStarve head_only s) (AtTurn front_is) before _ mid new _ end (at-turn front_is head_only asks s)
       (course-play settings tells witness head_only c n s k (subst (λ b. InHandTold b) (sym none) tt) entries st legal calm mid new end input before ready quiet f))
 
   -- the source alone was read
@@ -114,18 +134,18 @@ module _ (settings : Settings) (tells : Type 0) (witness : tells) where
     clock = ready.clock;
   }
 
-  abbrev Outcomes : Course → List ℕ → List ℕ → Outside → Outside → State → State → Option End → Type 0
-  Outcomes c input before old new st st' end = Outcome AtTurn before (play settings c (record { state = st; input = input })) old new st' end
+  abbrev Outcomes : Front → Course → List ℕ → List ℕ → Outside → Outside → State → State → Option End → Type 0
+  Outcomes f c input before old new st st' end = Outcome (AtTurn f) before (play settings c (record { state = st; input = input })) old new st' end
 
   served-turn : (last : Bool) (f : Front) (head : Head) (rest : Option (List ℕ)) → IsWhole head rest f
       → (old new : Outside) (st st' : State) (end : Option End) (input before : List ℕ)
-      → ((behind : List ℕ) → rest ≡ Some behind → Outcomes (course_of (judge settings head) last) behind before old new st st' end)
+      → ((behind : List ℕ) → rest ≡ Some behind → Outcomes f (course_of (judge settings head) last) behind before old new st st' end)
       → Turned last f st input before old new st' end
   served-turn last Clean head rest comes old new st st' end input before done = absurd comes
   served-turn last Cut head rest comes old new st st' end input before done = absurd comes
   served-turn last (Bad fault) head rest comes old new st st' end input before done = absurd comes
   served-turn last (Whole what behind) head rest comes old new st st' end input before done =
-      subst (λ h. Outcomes (course_of (judge settings h) last) behind before old new st st' end) (sym comes.0) (done behind comes.1)
+      subst (λ h. Outcomes (Whole what behind) (course_of (judge settings h) last) behind before old new st st' end) (sym comes.0) (done behind comes.1)
 
   turn-play : (last : Bool) (entries : List Entry) (st : State) → Legal settings st entries → Calm st.faults (end_of settings st entries).faults
       → (old new : Outside) (end : Option End) (input before : List ℕ) → Ready old st input before → Calm old.blob_faults new.blob_faults
@@ -136,48 +156,51 @@ module _ (settings : Settings) (tells : Type 0) (witness : tells) where
       quiet-behind : (mid : Outside) → Grew old mid → Grew mid new → Calm mid.blob_faults new.blob_faults
       quiet-behind mid g more = calm-then old.blob_faults mid.blob_faults new.blob_faults g.blobs more.blobs quiet
 
+      comes : (head : Head) (rest : Option (List ℕ)) → Begins old.input (IsWhole head rest) → IsWhole head rest (front input)
+      comes head rest begins = subst (λ (i : Option (List ℕ)). Begins i (IsWhole head rest)) ready.input_is begins
+
       -- nothing was used, and this course follows
-      at-once : (what : Front) → Begins old.input (λ f. f ≡ what) → (mid : Outside) → mid ≡ old → (head_only : Bool) (s : Stand) → s.blob ≡ None → (c d : Course)
-          → c ≡ d → Keeps head_only c 3 s → Follows tells c entries mid new end → Grew old mid → Grew mid new
+      at-once : (what : Front) → Begins old.input (λ f. f ≡ what) → (mid : Outside) → mid ≡ old → (s : Stand) → s.blob ≡ None → (c d : Course)
+          → c ≡ d → Keeps false c 3 s → Follows tells c entries mid new end → Grew old mid → Grew mid new
           → ((scene : Scene) → play_turn settings last what scene ≡ play settings d scene)
           → Turned last (front input) st input before old new (end_of settings st entries) end
-      at-once what begins mid still head_only s none c d is k f g more plays =
+      at-once what begins mid still s none c d is k f g more plays =
           let what-is = subst (λ (i : Option (List ℕ)). Begins i (λ f. f ≡ what)) ready.input_is begins in
           subst (λ f. Turned last f st input before old new (end_of settings st entries) end) (sym what-is)
-          (subst (λ p. Outcome AtTurn before p old new (end_of settings st entries) end) (sym (plays (record { state = st; input = input })))
-          (subst (λ d. Outcomes d input before old new st (end_of settings st entries) end) is
-          (played head_only c 3 s k none entries st legal calm old mid new end input before (ready-on old mid st input input before old.input ready still ready.input_is)
+          (subst (λ p. Outcome (AtTurn what) before p old new (end_of settings st entries) end) (sym (plays (record { state = st; input = input })))
+          (subst (λ d. Outcomes what d input before old new st (end_of settings st entries) end) is
+          (played what false (at-once-so what).0 c 3 s k none entries st legal calm old mid new end input before (ready-on old mid st input input before old.input ready still ready.input_is)
           (quiet-behind mid g more) g f)))
 
       opened : (c : Course) (mid : Outside) (o : Opens settings last old mid c) → Follows tells c entries mid new end → Keeps (shows_head o) c (asking o) (standing o)
           → Grew old mid → Grew mid new → Turned last (front input) st input before old new (end_of settings st entries) end
-      opened c mid (clean begins still is) f k g more = at-once Clean begins mid still false (failing stream.Closed (at_first 0)) refl c _ is k f g more (λ scene. refl)
-      opened c mid (torn begins still is) f k g more = at-once Cut begins mid still false (failing stream.TornRequest (at_first 0)) refl c _ is k f g more (λ scene. refl)
+      opened c mid (clean begins still is) f k g more = at-once Clean begins mid still (failing stream.Closed (at_first 0)) refl c _ is k f g more (λ scene. refl)
+      opened c mid (torn begins still is) f k g more = at-once Cut begins mid still (failing stream.TornRequest (at_first 0)) refl c _ is k f g more (λ scene. refl)
       opened c mid (failed faults rose still is) f k g more =
           let last_is = subst (λ (d : Course). Follows tells d entries mid new end) is f in
-          inr (no-more AtTurn before _ [] old new end (_, refl)
+          inr (no-more (AtTurn (front input)) before _ [] old new end (_, refl)
           (ap (λ o. o.output) last_is.1 ∙ ap (λ o. o.output) still ∙ ready.output_is ∙ ap Some (sym (append-nil before)))
-          (source-failed AtTurn [] old new end last_is.2
+          (source-failed (AtTurn (front input)) [] old new end last_is.2
           (subst (λ n. Rose old.read_faults n) (sym (ap (λ o. o.read_faults) last_is.1 ∙ ap (λ o. o.read_faults) still)) rose)))
       opened c mid (refused fault begins still is) f k g more =
-          at-once (Bad fault) begins mid still false (at_first 0) refl c _ is k f g more (λ scene. refl)
+          at-once (Bad fault) begins mid still (at_first 0) refl c _ is k f g more (λ scene. refl)
       opened c mid (unread_head begins still is) f k g more =
           let said = subst (λ (d : Course). Follows tells d entries mid new end) is f in
-          inr (early-before AtTurn before _ old mid new end g (says-memory AtTurn (inl refl) false mid new end before _ said.1 (ap (λ o. o.output) still ∙ ready.output_is)))
+          inr (early-before (AtTurn (front input)) before _ old mid new end g (says-memory (AtTurn (front input)) false (at-once-so (front input)) mid new end before _ said.1 (ap (λ o. o.output) still ∙ ready.output_is)))
       opened c mid (starved head rest begins uses is) f k g more =
           let said = subst (λ (d : Course). Follows tells d entries mid new end) is f in
-          inr (early-before AtTurn before _ old mid new end g (says-memory AtTurn (inl refl) (is_head head) mid new end before _ said.1 (ap (λ o. o.output) uses ∙ ready.output_is)))
+          inr (early-before (AtTurn (front input)) before _ old mid new end g (says-memory (AtTurn (front input)) (is_head head) (asks-head (front input) head rest (comes head rest begins), inl refl) mid new end before _ said.1 (ap (λ o. o.output) uses ∙ ready.output_is)))
       opened c mid (served head rest begins uses is) f k g more =
-          served-turn last (front input) head rest (subst (λ (i : Option (List ℕ)). Begins i (IsWhole head rest)) ready.input_is begins)
+          served-turn last (front input) head rest (comes head rest begins)
           old new st (end_of settings st entries) end input before
           (λ behind there.
-          subst (λ d. Outcomes d behind before old new st (end_of settings st entries) end) is
-          (played (is_head_only (judge settings head)) c (most_of (judge settings head)) (at_first (unread_of (judge settings head))) k refl entries st legal calm old mid new end behind before
+          subst (λ d. Outcomes (front input) d behind before old new st (end_of settings st entries) end) is
+          (played (front input) (is_head_only (judge settings head)) (λ alone. asks-head (front input) head rest (comes head rest begins) (sym (judged-head settings head) ∙ alone)) c (most_of (judge settings head)) (at_first (unread_of (judge settings head))) k refl entries st legal calm old mid new end behind before
           (ready-on old mid st input behind before rest ready uses there) (quiet-behind mid g more) g f))
 
   -- the stream ended in this turn
   last-turn : (left : ℕ) (scene : Scene) (before : List ℕ) (old new : Outside) (st : State) (end : End)
-      → Outcome AtTurn before (First settings left scene) old new st (Some end) → IsPlayedUpTo settings (suc left) scene before old new end
+      → Outcome (AtTurn (front scene.input)) before (First settings left scene) old new st (Some end) → IsPlayedUpTo settings (suc left) scene before old new end
   unfolding play_stream IsAnswers
   last-turn left scene before old new st end (inl a) =
       unbroken (in_full (subst (λ e. new.output ≡ Some (before ++ (Behind settings left scene e).written)) a.ends a.output)
@@ -189,17 +212,24 @@ module _ (settings : Settings) (tells : Type 0) (witness : tells) where
         m.is_front.0 ++ more.0,
         more.1 ∙ ap (λ b. b ++ more.0) m.is_front.1 ∙ append_assoc m.front m.is_front.0 more.0,
       ) in
+      let alone : m.part ≡ [] → new.output ≡ Some (before ++ m.front) =
+      λ none. subst (λ b. new.output ≡ Some b) (ap (λ b. before ++ m.front ++ b) none ∙ append-nil (before ++ m.front)) m.output in
+      let begun : (m.front ≡ []) ⊎ (m.front ≡ continue_bytes) → (m.front ≡ []) ⊎ ((m.front ≡ continue_bytes) × IsFrontOf continue_bytes p.written) =
+      λ at. elim at [ inl e ↦ inl e | inr e ↦ inr (e, subst (λ b. IsFrontOf b p.written) e m.is_front) ] in
       elim m.why [
         | inl w ↦ unbroken (wants_memory m.front m.head_only is-front
-            (elim w.2 [ inl e ↦ inl e | inr e ↦ inr (inl (e, subst (λ b. IsFrontOf b p.written) e m.is_front)) ])
+            (inl (w.2.0, begun w.2.1))
             (subst (λ b. new.output ≡ Some (before ++ m.front ++ b)) w.0 m.output) (same-Some end stream.Closed w.1))
-        | inr (inl s) ↦ broken m.front m.part m.head_only is-front s.0 m.output (inl (same-Some end stream.SourceFault s.1.0, s.1.1))
-        | inr (inr s) ↦ broken m.front m.part m.head_only is-front s.0 m.output (inr (same-Some end stream.SinkFault s.1.0, s.1.1))
+        | inr (inl s) ↦ broken m.front is-front (alone s.0) (inl (same-Some end stream.SourceFault s.1.0, s.1.1))
+        | inr (inr s) ↦ elim s.0 [
+          | inl none ↦ broken m.front is-front (alone none) (inr (same-Some end stream.SinkFault s.1.0, s.1.1))
+          | inr cut ↦ cut_starved m.front m.part m.head_only is-front (inl (cut.1.0, begun cut.1.1)) cut.0 m.output (same-Some end stream.SinkFault s.1.0) s.1.1
+        ]
       ]
 
   -- the stream goes on behind this turn
   next-turn : (left : ℕ) (scene : Scene) (before : List ℕ) (old mid new : Outside) (st : State) (end : End) → Grew old mid
-      → Outcome AtTurn before (First settings left scene) old mid st None
+      → Outcome (AtTurn (front scene.input)) before (First settings left scene) old mid st None
       → ((input before' : List ℕ) → Ready mid st input before' → IsPlayedUpTo settings left (record { state = st; input = input }) before' mid new end)
       → IsPlayedUpTo settings (suc left) scene before old new end
   next-turn left scene before old mid new st end grows (inl a) rest =
@@ -257,13 +287,16 @@ module _ (settings : Settings) (tells : Type 0) (witness : tells) where
 unbroken-is : (settings : Settings) (n : ℕ) (scene : Scene) (before : List ℕ) (old new : Outside) (end : End) → NoFaults old new
     → IsPlayedUpTo settings n scene before old new end → IsAsPlayed settings n scene before new.output end
 unbroken-is settings n scene before old new end calm (unbroken played) = played
-unbroken-is settings n scene before old new end calm (broken written part head_only is-front is-part out broke) =
+unbroken-is settings n scene before old new end calm (broken written is-front out broke) =
     let reads = calm.reads in
     let writes = calm.writes in
     elim broke [
       | inl s ↦ absurd (not-risen old.read_faults new.read_faults s.1 (omega arith) (omega arith))
       | inr s ↦ absurd (not-risen old.write_faults new.write_faults s.1 (omega arith) (omega arith))
     ]
+unbroken-is settings n scene before old new end calm (cut_starved written part head_only is-front answers is-part out ends rose) =
+    let writes = calm.writes in
+    absurd (not-risen old.write_faults new.write_faults rose (omega arith) (omega arith))
 
 pub as-played : (settings : Settings) (tells : Type 0) → tells → (n : ℕ) (entries : List Entry) (st : State) → Legal settings st entries
     → StoodStill st.faults (end_of settings st entries).faults → (old new : Outside) (end : End) (input before : List ℕ) → BeginsAt st input before old

@@ -1,5 +1,6 @@
 -- A request whose head is refused asks nothing, and is answered why.
 use Rattle.std.proofs.Common.{◌≡◌, ℕ, Bool, false, List, [], Option, Some, Result, Err, sym, subst, ap, ◌∙◌}
+use Rattle.std.proofs.lemmas.Bool.{false≢true}
 use Rattle.outside.specs.Faults.{Rose}
 use Rattle.http_wire.specs.Front.{Front, Clean, Cut, Bad, Whole, front}
 use Rattle.http_wire.specs.Head.{Head}
@@ -12,6 +13,8 @@ use Rattle.repo_routes.specs.declared.judging.Refused.{Refused}
 use Rattle.repo_course.specs.Course.{Course, course_of}
 use Rattle.repo_course.specs.declared.outcomes.End.{End}
 use Rattle.repo_course.specs.Serving.{Begins, Follows, IsWhole, Opens, clean, torn, failed as source_failed, refused as no_head, unread_head, starved as head_starved, served, Outside, Turn}
+use Rattle.course_laws.specs.Duties.{is_head_only}
+use Rattle.course_laws.proofs.HeadOnly.{judged-head}
 use Rattle.course_laws.specs.Refusals.{IsRefusedBy, answered, starved, failed}
 
 module _ (settings : Settings) (tells : Type 0) (last : Bool) where
@@ -36,8 +39,12 @@ module _ (settings : Settings) (tells : Type 0) (last : Bool) where
                 (ap (λ o. o.output) ends.1 ∙ ap (λ o. o.output) still) ends.2,
           )
       opened (no_head fault it still is) = let what : Whole head rest ≡ Bad fault = begins (λ w. w ≡ Bad fault) it in absurd (cc)
-      opened (unread_head it still is) = let said = follows _ is in (said.0, starved mid false (old.input, still) said.1)
-      opened (head_starved other left it uses is) = let said = follows _ is in (said.0, starved mid (is_head other) (left, uses) said.1)
+      opened (unread_head it still is) = let said = follows _ is in (said.0, starved mid false (λ alone. absurd (false≢true alone)) (old.input, still) said.1)
+      opened (head_starved other left it uses is) =
+          let said = follows _ is in
+          let same : head ≡ other = (begins (IsWhole other left) it).0 in
+          let head-is : cause.head_only ≡ is_head other = ap is_head_only (sym judged) ∙ judged-head settings head ∙ ap is_head same in
+          (said.0, starved mid (is_head other) (λ alone. head-is ∙ alone) (left, uses) said.1)
       opened (served other left it uses is) =
           let same : head ≡ other = (begins (IsWhole other left) it).0 in
           let course-is : c ≡ course_of (Err cause) last = is ∙ ap (λ (r : Result Judged Refused). course_of r last) (ap (judge settings) (sym same) ∙ judged) in

@@ -14,6 +14,10 @@ use Rattle.course_laws.proofs.Kept.{reply-goes}
 abbrev pub MayStand : Stand → List ℕ → Type 0
 MayStand s written = (s.sent ≡ None) × ((written ≡ []) ⊎ ((s.invited ≡ false) × (written ≡ continue_bytes)))
 
+-- so, and the answer that says so is its head alone where the course's answers are
+abbrev pub MayStarve : Bool → Stand → Bool → List ℕ → Type 0
+MayStarve head_only s alone written = (alone ≡ head_only) × MayStand s written
+
 -- a reply changes neither what was sent nor what was invited
 module _ (P : Option Manner → Bool → Type 0) where
   looked-holds : (reply : Reply) (s : Stand) → P (looked reply s).sent (looked reply s).invited → P s.sent s.invited

@@ -1,12 +1,13 @@
 -- What a stream has written beside what is played where nothing fails: all of it, or up to where the source, the sink or memory failed.
-use Rattle.std.specs.Prelude.{◌≡◌, ◌⊎◌, ℕ, zero, suc, ◌<◌, ◌==◌, Bool, List, [], ◌++◌, Option, Some, None, IsSome}
+use Rattle.std.specs.Prelude.{◌≡◌, ◌⊎◌, ℕ, zero, suc, ◌<◌, ◌==◌, Bool, true, List, [], ◌++◌, Option, Some, None, IsSome}
 use Rattle.std.specs.List.{AllByRecursion}
 use Rattle.outside.specs.Faults.{Rose, last_count}
 use Rattle.http_wire.specs.Answer.{continue_bytes, shown}
-use Rattle.http_wire.specs.Front.{front}
+use Rattle.http_wire.specs.Front.{Front, Whole, front}
 use Rattle.repo_model.specs.Data.{Hosted, Row}
 use Rattle.repo_model.specs.Settings.{Settings}
 use Rattle.repo_model.specs.State.{State}
+use Rattle.repo_routes.specs.Framing.{is_head}
 use Rattle.repo_course.specs.Answers.{memory_answer}
 use Rattle.repo_course.specs.declared.outcomes.End.{End}
 use Rattle.repo_course.specs.declared.outcomes.End.TheVariants as stream
@@ -27,15 +28,20 @@ pub record NoFaults (old new : Outside) : Type 0 where
   pub writes : StoodStill old.write_faults new.write_faults
   pub blobs : StoodStill old.blob_faults new.blob_faults
 
+-- the head of a HEAD request comes
+abbrev pub AsksHead : Front → Type 0
+AsksHead (Whole head rest) = is_head head ≡ true
+AsksHead _ = ⊥
+
 -- Whole answers of the first requests, as they are played, and behind them nothing, or `100 Continue` where the next one is
--- played so. A next one may still come.
-unfoldable pub IsAnswers : Settings → ℕ → Scene → List ℕ → Type 0
-IsAnswers settings zero scene written = ⊥
-IsAnswers settings (suc left) scene written =
+-- played so. A next one may still come, and an answer to it that is its head alone is one to HEAD.
+unfoldable pub IsAnswers : Settings → ℕ → Scene → Bool → List ℕ → Type 0
+IsAnswers settings zero scene head_only written = ⊥
+IsAnswers settings (suc left) scene head_only written =
     let played = play_turn settings (left == 0) (front scene.input) scene in
-    (written ≡ [])
-    ⊎ ((written ≡ continue_bytes) × IsFrontOf continue_bytes played.written)
-    ⊎ ((rest : List ℕ) × (played.end ≡ None) × (written ≡ played.written ++ rest) × IsAnswers settings left played.scene rest)
+    ((head_only ≡ true → AsksHead (front scene.input))
+    × ((written ≡ []) ⊎ ((written ≡ continue_bytes) × IsFrontOf continue_bytes played.written)))
+    ⊎ ((rest : List ℕ) × (played.end ≡ None) × (written ≡ played.written ++ rest) × IsAnswers settings left played.scene head_only rest)
 
 -- The stream of at most so many requests has taken what is played and ended so, or, from where memory was wanted, the answer
 -- that says so, or its head alone: behind the whole answers of the requests before it, and maybe its own `100 Continue`.
@@ -43,7 +49,7 @@ pub data IsAsPlayed (settings : Settings) (n : ℕ) (scene : Scene) (before : Li
   in_full : output ≡ Some (before ++ (play_stream settings n scene).written) → end ≡ (play_stream settings n scene).end
       → IsAsPlayed settings n scene before output end
   wants_memory : (written : List ℕ) (head_only : Bool) → IsFrontOf written (play_stream settings n scene).written
-      → IsAnswers settings n scene written
+      → IsAnswers settings n scene head_only written
       → output ≡ Some (before ++ written ++ shown (memory_answer head_only))
       → end ≡ stream.Closed → IsAsPlayed settings n scene before output end
 
@@ -53,12 +59,15 @@ Broke old new end =
     ((end ≡ stream.SourceFault) × Rose old.read_faults new.read_faults)
     ⊎ ((end ≡ stream.SinkFault) × Rose old.write_faults new.write_faults)
 
--- As played, or up to where the source or the sink failed: a front of that, and behind it maybe a part of the answer that memory was wanted.
+-- As played, or a front of that, up to where the source or the sink failed; or the sink failed in the answer that memory was wanted.
 pub data IsPlayedUpTo (settings : Settings) (n : ℕ) (scene : Scene) (before : List ℕ) (old new : Outside) (end : End) : Type 0 where
   unbroken : IsAsPlayed settings n scene before new.output end → IsPlayedUpTo settings n scene before old new end
-  broken : (written part : List ℕ) (head_only : Bool) → IsFrontOf written (play_stream settings n scene).written
-      → IsFrontOf part (shown (memory_answer head_only))
-      → new.output ≡ Some (before ++ written ++ part) → Broke old new end → IsPlayedUpTo settings n scene before old new end
+  broken : (written : List ℕ) → IsFrontOf written (play_stream settings n scene).written → new.output ≡ Some (before ++ written)
+      → Broke old new end → IsPlayedUpTo settings n scene before old new end
+  cut_starved : (written part : List ℕ) (head_only : Bool) → IsFrontOf written (play_stream settings n scene).written
+      → IsAnswers settings n scene head_only written
+      → IsFrontOf part (shown (memory_answer head_only)) → new.output ≡ Some (before ++ written ++ part)
+      → end ≡ stream.SinkFault → Rose old.write_faults new.write_faults → IsPlayedUpTo settings n scene before old new end
 
 -- the stream tells this input and output, and the machine what it has
 pub record BeginsAt (start : State) (input output : List ℕ) (o : Outside) : Type 0 where

@@ -206,7 +206,7 @@ most_for intent = 3
 
 abbrev pub most_of : Result Judged Refused → ℕ
 most_of (Ok request) = most_for request.intent
-most_of (Err refused) = 3
+most_of (Err refused) = 0
 
 -- the most commands of a request under these settings
 unfoldable pub most_asked : Settings → ℕ

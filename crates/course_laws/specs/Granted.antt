@@ -6,10 +6,10 @@ use Rattle.outside.specs.Told.{IsWhereTold, behind}
 use Rattle.http_wire.specs.Answer.{continue_bytes, shown}
 use Rattle.http_wire.specs.declared.answers.Status.{Status}
 use Rattle.http_wire.specs.declared.answers.Status.TheVariants as status_code
-use Rattle.repo_model.specs.Command.{Command, look, done, may_put, put, put_side, put_doc, status, unlist, collect}
+use Rattle.repo_model.specs.Command.{Command, look, done, may_put, put, put_side, put_doc, drop_draft, status, unlist, collect}
 use Rattle.repo_model.specs.Data.{Blob}
 use Rattle.repo_model.specs.History.{Entry}
-use Rattle.repo_model.specs.Reply.{Reply, file, text, doc, draft, same, relisted, created, agreed, noted, counts as counts_reply, unlisted, collected}
+use Rattle.repo_model.specs.Reply.{Reply, file, text, doc, draft, same, relisted, created, agreed, noted, counts as counts_reply, unlisted, collected, no_memory}
 use Rattle.repo_routes.specs.Intent.{Intent, Judged, reads as reads_path, puts_file, puts_side, puts_document, counts, cleans as cleans_all}
 use Rattle.repo_course.specs.Answers.{answer_of, file_answer, full_answer, memory_answer}
 use Rattle.repo_course.specs.Course.{Course, asks, continues, takes, reads, sends, cleans, says, stops, end_of}
@@ -30,12 +30,13 @@ IsSuccess status_code.Ok = Unit {0}
 IsSuccess status_code.Created = Unit {0}
 IsSuccess _ = ⊥
 
--- The command gets what it asks for: it is not refused, no fault came, and no memory was wanting.
+-- The command gets what it asks for: it is not refused, no fault came, and no memory was wanting. To give back is never refused.
 abbrev pub Grants : Command → Reply → Type 0
 Grants (look repo path tried) (file lease blob) = Unit {0}
 Grants (look repo path tried) (text bytes) = Unit {0}
 Grants (look repo path tried) (doc bytes digests) = Unit {0}
 Grants (done lease) reply = Unit {0}
+Grants (drop_draft n) reply = Unit {0}
 Grants (may_put place path) (draft n) = Unit {0}
 Grants (put repo path n blob) created = Unit {0}
 Grants (put repo path n blob) same = Unit {0}
@@ -47,8 +48,9 @@ Grants (unlist repo) (unlisted count) = Unit {0}
 Grants collect (collected expired blobs) = Unit {0}
 Grants command reply = ⊥
 
+-- each command gets that, or memory was wanted for it
 abbrev pub AllGranted : List Entry → Type 0
-AllGranted entries = AllByRecursion (λ (e : Entry). Grants e.command e.reply) entries
+AllGranted entries = AllByRecursion (λ (e : Entry). Grants e.command e.reply ⊎ (e.reply ≡ no_memory)) entries
 
 -- the file that a reply lends
 abbrev pub file_after : Command → Reply → Option Blob → Option Blob
@@ -159,8 +161,8 @@ invitation true = continue_bytes
 invitation false = []
 
 -- What came to the sink and was used of the input, which is told: the invitation and the answer, whole; or the invitation and the
--- file, whole, or the head of its answer alone; or, where memory was wanted, the answer that says so, in front of which the
--- invitation stands or nothing. Of the blobs that are told this says nothing.
+-- file, whole, or the head of its answer alone; or, where memory was wanted, the answer that says so, its head alone
+-- to HEAD only, in front of which the invitation stands or nothing. Of the blobs that are told this says nothing.
 pub data IsServed (manner : Manner) (invited : List ℕ) (left : List ℕ) (answer : Option Said) (lent : Option Blob) (old new : Outside)
     (end : Option End) : Type 0 where
   answered : (said : Said) (kept : Shelf) → answer ≡ Some said → IsSuccess (full_answer said).status
@@ -169,7 +171,7 @@ pub data IsServed (manner : Manner) (invited : List ℕ) (left : List ℕ) (answ
   sent : (blob : Blob) (bytes : List ℕ) (kept : Shelf) → lent ≡ Some blob → IsWhereTold blob.bytes bytes
       → new ≡ writes (invited ++ (shown (file_answer blob manner) ++ (if manner.head_only then [] else bytes))) (record old { input = Some left; shelf = kept })
       → end ≡ end_of manner → IsServed manner invited left answer lent old new end
-  starved : (part : List ℕ) (head_only : Bool) → (part ≡ []) ⊎ (part ≡ invited)
+  starved : (part : List ℕ) (head_only : Bool) → (head_only ≡ true → manner.head_only ≡ true) → (part ≡ []) ⊎ (part ≡ invited)
       → new.output ≡ behind old.output (part ++ shown (memory_answer head_only))
       → end ≡ Some stream.Closed → IsServed manner invited left answer lent old new end
 

@@ -1,5 +1,5 @@
 -- How a request is answered whose head is refused.
-use Rattle.std.specs.Prelude.{◌≡◌, Bool, Option, Some}
+use Rattle.std.specs.Prelude.{◌≡◌, Bool, true, Option, Some}
 use Rattle.outside.specs.Faults.{Rose}
 use Rattle.repo_routes.specs.declared.judging.Refused.{Refused}
 use Rattle.repo_course.specs.Answers.{answer_of, memory_answer}
@@ -18,6 +18,6 @@ pub data IsRefusedBy (refused : Refused) (last : Bool) (old new : Outside) (end 
   answered : (mid : Outside) → ReadsOn old mid
       → Says (answer_of (said.Refused refused.refusal) (manner_of refused last)) (memory_answer refused.head_only) (end_of (manner_of refused last)) mid new end
       → IsRefusedBy refused last old new end
-  starved : (mid : Outside) (head_only : Bool) → ReadsOn old mid
+  starved : (mid : Outside) (head_only : Bool) → (head_only ≡ true → refused.head_only ≡ true) → ReadsOn old mid
       → Says (memory_answer head_only) (memory_answer head_only) (Some stream.Closed) mid new end → IsRefusedBy refused last old new end
   failed : Rose old.read_faults new.read_faults → new.output ≡ old.output → end ≡ Some stream.SourceFault → IsRefusedBy refused last old new end

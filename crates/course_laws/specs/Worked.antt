@@ -3,7 +3,6 @@ use Rattle.std.specs.Prelude.{◌≡◌, ℕ, true, false, List, [], ◌∷◌, 
 use Rattle.outside.specs.Moments.{Moments}
 use Rattle.repo_model.specs.Settings.{Rule, Settings}
 use Rattle.repo_course.specs.declared.outcomes.End.TheVariants.{Closed}
-use Rattle.repo_course.specs.declared.limits.TheConstants.{TURNS}
 use Rattle.repo_course.specs.Answers.{line}
 use Rattle.course_laws.specs.Faultless.{first_scene, play_stream}
 
@@ -22,7 +21,7 @@ worked_settings settings = record settings { max_file = 16777216; hosted = relea
 abbrev pub IsAnswered : List ℕ → List ℕ → Type 0
 IsAnswered input output =
     (settings : Settings) (clock : Option Moments) →
-    let played = play_stream (worked_settings settings) TURNS (first_scene (worked_settings settings) clock input) in
+    let played = play_stream (worked_settings settings) 1000 (first_scene (worked_settings settings) clock input) in
     (played.written ≡ output) × (played.end ≡ Closed)
 
 -- lines that end in CR LF, and an empty one

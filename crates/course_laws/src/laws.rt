@@ -65,14 +65,15 @@ pub fn courses_are_complete()
     ensures no_heads { (settings : Settings) (fault : HeadFault) → IsComplete settings (refuses_head fault) }
 {}
 
-/// Each course of a request, and each refusal, does what it owes, whatever is replied and however its acts end: it asks at
-/// most three commands, or for a pass one for each repository and one more, puts its draft or gives it up, gives its lease
-/// back and holds it while a file is sent, invites and reads its body at most once, answers once unless a side of the stream
-/// failed, lets the connection go on only where the body was read, and answers to HEAD by heads alone.
+/// Each course of a request, and each refusal, does what it owes, whatever is replied and however its acts end: a request
+/// asks at most three commands, or for a pass one for each repository and one more, and a refusal none; it puts its draft or
+/// gives it up, gives its lease back and holds it while a file is sent, invites and reads its body at most once, answers once
+/// unless a side of the stream failed, lets the connection go on only where the body was read, and answers to HEAD by heads
+/// alone.
 pub fn courses_keep_their_duties()
     ensures requests { (judged : Result Judged Refused) (last : Bool) →
         Keeps (is_head_only judged) (course_of judged last) (most_of judged) (at_first (unread_of judged)) }
-    ensures no_heads { (fault : HeadFault) → Keeps false (refuses_head fault) 3 (at_first 0) }
+    ensures no_heads { (fault : HeadFault) → Keeps false (refuses_head fault) 0 (at_first 0) }
 {}
 
 /// Each course of a request, and each refusal, gives the answer that is due for what its acts came to, and no other: by the
@@ -83,8 +84,8 @@ pub fn answers_have_their_causes()
     ensures no_heads { (fault : HeadFault) → AnswersDue (λ bytes. None) (refuses_head fault) (Some (head_said fault)) }
 {}
 
-/// A request of a served stream whose head is refused asks nothing, and its answer says why, unless memory was wanted or a
-/// side of the stream failed. The input is told.
+/// A request of a served stream whose head is refused asks nothing, and its answer says why, unless memory was wanted, which
+/// is answered by a head alone only to HEAD, or a side of the stream failed. The input is told.
 pub fn refusals_are_answered<H: Held>()
     ensures { (settings : Settings) (last : Bool) (entries : List Entry) (old new : Outside) (ending : Option End) (input rest : List ℕ)
         (head : Head) (refused : Refused) →
@@ -102,7 +103,8 @@ pub fn courses_succeed()
 
 /// A request of a served stream that nothing refuses, neither its head, nor a reply to its commands, nor what its body says, and
 /// whose body came whole, gets its answer of 200 or 201, whole, where no count of the stream and the blobs rose, unless memory
-/// was wanted; then that is answered. No more of the input is used than the head and the body. The input is told.
+/// was wanted, by a command or for what is read or sent; then that is answered, by a head alone only to HEAD, behind a draft
+/// that was given up too. No more of the input is used than the head and the body. The input is told.
 pub fn granted_requests_are_answered<H: Held>()
     ensures { (settings : Settings) (last : Bool) (entries : List Entry) (old new : Outside) (ending : Option End) (input rest : List ℕ)
         (head : Head) (request : Judged) →
@@ -122,9 +124,10 @@ pub fn bodies_are_whole()
 
 /// Where no blob failed, and the records did not, a stream that is served alone has taken what is played from the machine's
 /// state and the input, up to some place: all of it, or up to where the source or the sink failed, by which it ended, or up
-/// to where memory was wanted. Only the answer that says so may stand behind that; where neither side failed, it stands behind
-/// the whole answers of the requests before, and maybe `100 Continue`. The blobs tell their bytes, and so do the files that
-/// stand there, the clock, the input and the output.
+/// to where memory was wanted. Only the answer that says so may stand behind that, or a front of it where the sink failed in
+/// it; it stands behind the whole answers of the requests before, and maybe `100 Continue`, and is a head alone only where the
+/// next request is a HEAD. The blobs tell their bytes, and so do the files that stand there, the clock, the input and the
+/// output.
 pub fn broken_is_a_front<H: Held>()
     ensures { (settings : Settings) → AllTell H.bytes →
         (n : ℕ) (entries : List Entry) (start : State) (old new : Outside) (ending : End) (input before : List ℕ) →
@@ -135,7 +138,8 @@ pub fn broken_is_a_front<H: Held>()
 {}
 
 /// Where nothing failed, such a stream has taken exactly what is played, and ended as that does; or the whole answers of the
-/// first requests, maybe `100 Continue` of the next, and the answer that says that memory was wanted, and it was closed.
+/// first requests, maybe `100 Continue` of the next, and the answer that says that memory was wanted, its head alone only to
+/// HEAD, and it was closed.
 pub fn faultless_is_played<H: Held>()
     ensures { (settings : Settings) → AllTell H.bytes →
         (n : ℕ) (entries : List Entry) (start : State) (old new : Outside) (ending : End) (input before : List ℕ) →

@@ -14,7 +14,6 @@ use Rattle.repo_core.specs.Whole.{Whole}
 use Rattle.repo_model.specs.History.{Entry, Legal, end}
 use Rattle.repo_model.specs.Settings.{GroupRule, ProxyRule, Rule, Settings}
 use Rattle.repo_model.specs.State.{State, opening}
-use Rattle.repo_course.specs.declared.limits.TheConstants.{TURNS}
 use Rattle.repo_course.specs.declared.outcomes.End.{End}
 use Rattle.repo_course.specs.declared.outcomes.End.TheVariants.{Closed, TornRequest, TurnLimit, SourceFault, SinkFault}
 use Rattle.repo_course.specs.Serving.{Serves}
@@ -73,7 +72,7 @@ most-few settings form =
     few n most = omega (arith, most)
 
 -- so few calls are all counted
-all-counted : (calls made most : ℕ) → calls ≡ min (0 + made) last_count → made ≤ most * TURNS → most ≤ 65 → calls ≡ made
+all-counted : (calls made most : ℕ) → calls ≡ min (0 + made) last_count → made ≤ most * 1000 → most ≤ 65 → calls ≡ made
 all-counted calls made most counted few limit = omega (arith, counted, few, limit)
 
 -- a stream that begins with nothing read ahead
@@ -84,15 +83,15 @@ nothing_held (Some bytes) = refl
 module _ (tells : Type 0) (settings : Settings) (form : IsSettings settings) where
   pub is-replayed : (clock clock' : Option Moments) (old new : Connection) (blobs blobs' : Store) (core : Whole) (held : List ℕ) (ending : End) (entries : List Entry)
       → Makes (opened settings clock) entries core
-      → Serves settings tells TURNS entries (outside_at (in_front [] old.left) old blobs) (outside_at (in_front held new.left) new blobs') ending
+      → Serves settings tells 1000 entries (outside_at (in_front [] old.left) old blobs) (outside_at (in_front held new.left) new blobs') ending
       → clock' ≡ core.state.clock → IsReplayed tells settings clock clock' old new blobs blobs' ending core.calls
   is-replayed clock clock' old new blobs blobs' core held ending entries made begun clock-is =
       let before = outside_at old.left old blobs in
       let after = outside_at (in_front held new.left) new blobs' in
-      let served = subst (λ (input : Option (List ℕ)). Serves settings tells TURNS entries (outside_at input old blobs) after ending) (nothing_held old.left) begun in
+      let served = subst (λ (input : Option (List ℕ)). Serves settings tells 1000 entries (outside_at input old blobs) after ending) (nothing_held old.left) begun in
       let alone = core_alone entries (opened settings clock) core made in
       let drawn : IsDrawn (opened settings clock).state.yard = record { drafts = tt; leases = tt } in
-      let left = serves_leaves tells settings TURNS entries (opened settings clock).state alone.legal before after ending served in
+      let left = serves_leaves tells settings 1000 entries (opened settings clock).state alone.legal before after ending served in
       let nothing = left.nothing drawn in
       let yard = ap (λ (s : State). s.yard) alone.ends in
       let none = sym (ap (λ (s : State). s.faults) alone.ends) ∙ no_records entries (opened settings clock) core refl made in
@@ -107,20 +106,20 @@ module _ (tells : Type 0) (settings : Settings) (form : IsSettings settings) whe
         state = alone.ends;
         clock_is = clock-is;
         counted = all-counted core.calls (length entries) (most_asked settings) (core_counted entries (opened settings clock) core (omega arith) made)
-            (serves_few tells settings TURNS entries before after ending served) (most-few settings form);
+            (serves_few tells settings 1000 entries before after ending served) (most-few settings form);
         nothing_left = (ap (λ y. y.drafts) yard ∙ nothing.drafts, ap (λ y. y.leases) yard ∙ nothing.leases);
         drafts_found = left.found;
-        ends = serves_shows tells settings TURNS entries before after ending served;
+        ends = serves_shows tells settings 1000 entries before after ending served;
         played = λ moments input taken told calm.
             let start = opening settings (Some moments) in
-            stream-upto settings tells told.blobs_tell TURNS entries start
+            stream-upto settings tells told.blobs_tell 1000 entries start
             (subst (λ (c : Option Moments). Legal settings (opening settings c) entries) told.clock_is alone.legal)
             (subst (λ (c : Option Moments). StoodStill 0 (end settings (opening settings c) entries).faults) told.clock_is stood)
             before after ending input taken
             (record { input_is = told.left_is; output_is = told.taken_is; rows = opening-told settings (Some moments); clock = refl }) calm served;
         faultless = λ moments input taken told calm.
             let start = opening settings (Some moments) in
-            as-played settings tells told.blobs_tell TURNS entries start
+            as-played settings tells told.blobs_tell 1000 entries start
             (subst (λ (c : Option Moments). Legal settings (opening settings c) entries) told.clock_is alone.legal)
             (subst (λ (c : Option Moments). StoodStill 0 (end settings (opening settings c) entries).faults) told.clock_is stood)
             before after ending input taken

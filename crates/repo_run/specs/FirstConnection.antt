@@ -8,7 +8,6 @@ use Rattle.repo_model.specs.History.{Entry}
 use Rattle.repo_model.specs.Settings.{Settings}
 use Rattle.repo_course.specs.Asking.{LeadsTo}
 use Rattle.repo_course.specs.Cleaning.{Store}
-use Rattle.repo_course.specs.declared.limits.TheConstants.{TURNS}
 use Rattle.repo_course.specs.declared.outcomes.End.{End}
 use Rattle.repo_course.specs.declared.outcomes.End.TheVariants.{Closed}
 use Rattle.repo_course.specs.Serving.{Serves}
@@ -25,6 +24,6 @@ pub data ServesFirst {X : Type 0} (tells : Type 0) (settings : Settings) (connec
   none_left : IsAtEnd old.left → new ≡ old → core' ≡ core → result ≡ Some Closed → ServesFirst tells settings connection_of old new core core' result
   one_served : (link link' : X) (left : Option (List X)) (held : List ℕ) (blobs : Store) (ending : End) (entries : List Entry) → old.left ≡ in_front (link ∷ []) left
       → new ≡ record old { left = left; given_back = behind old.given_back (link' ∷ []); blobs = blobs }
-      → Makes core entries core' → Serves settings tells TURNS entries
+      → Makes core entries core' → Serves settings tells 1000 entries
       (outside_at (in_front [] (connection_of link).left) (connection_of link) old.blobs) (outside_at (in_front held (connection_of link').left) (connection_of link') blobs) ending
       → result ≡ Some ending → ServesFirst tells settings connection_of old new core core' result

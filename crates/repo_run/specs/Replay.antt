@@ -9,7 +9,6 @@ use Rattle.repo_model.specs.Reply.{no_draft}
 use Rattle.repo_model.specs.History.{Entry, Legal, end}
 use Rattle.repo_core.specs.Whole.{Whole}
 use Rattle.repo_course.specs.Cleaning.{Store}
-use Rattle.repo_course.specs.declared.limits.TheConstants.{TURNS}
 use Rattle.repo_course.specs.declared.outcomes.End.{End}
 use Rattle.repo_course.specs.declared.outcomes.End.TheVariants.{Closed, SourceFault, SinkFault}
 use Rattle.repo_course.specs.Serving.{Serves}
@@ -44,7 +43,7 @@ pub record IsReplayed (tells : Type 0) (settings : Settings) (clock clock' : Opt
   -- the repository in the end, and the bytes that were read ahead and not used
   pub core : Whole
   pub held : List ℕ
-  pub serves : Serves settings tells TURNS entries (outside_at old.left old blobs) (outside_at (in_front held new.left) new blobs') ending
+  pub serves : Serves settings tells 1000 entries (outside_at old.left old blobs) (outside_at (in_front held new.left) new blobs') ending
   pub made : Makes (opened settings clock) entries core
   pub legal : Legal settings (opening settings clock) entries
   pub state : core.state ≡ end settings (opening settings clock) entries
@@ -56,11 +55,11 @@ pub record IsReplayed (tells : Type 0) (settings : Settings) (clock clock' : Opt
   pub ends : EndsByCause ending (outside_at old.left old blobs) (outside_at (in_front held new.left) new blobs')
   -- where no blob failed, what was taken is what is answered if nothing fails, up to some place
   pub played : (moments : Moments) (input before : List ℕ) → AllTold tells clock old moments input before → StoodStill blobs.faults blobs'.faults
-      → IsPlayedUpTo settings TURNS (first_scene settings (Some moments) input) before (outside_at old.left old blobs) (outside_at (in_front held new.left) new blobs') ending
+      → IsPlayedUpTo settings 1000 (first_scene settings (Some moments) input) before (outside_at old.left old blobs) (outside_at (in_front held new.left) new blobs') ending
   -- and all of it where nothing failed
   pub faultless : (moments : Moments) (input before : List ℕ) → AllTold tells clock old moments input before
       → NoFaults (outside_at old.left old blobs) (outside_at (in_front held new.left) new blobs')
-      → IsAsPlayed settings TURNS (first_scene settings (Some moments) input) before new.taken ending
+      → IsAsPlayed settings 1000 (first_scene settings (Some moments) input) before new.taken ending
 
 -- a stream is over: its line, or the part of it that was printed, or that there was no memory for it
 abbrev pub Finishes : ℕ → End → Output → Output → ℕ → Type 0

@@ -1,7 +1,8 @@
 // Cleanings: what a repository does not keep is unlisted, and goes once the grace period is over.
 use crate::exchanges::{EXCHANGE, Exchange, PLAIN, Script};
 use crate::literals::{
-    ABC, CREATED, METHOD_AT_HOSTED, METHOD_AT_STATUS, NO_ROUTE, NOT_THERE, PUT_JAR_1,
+    ABC, CREATED, GET, METHOD_AT_HOSTED, METHOD_AT_STATUS, NO_ROUTE, NOT_THERE, PUT_ABC, PUT_JAR_1,
+    SAME,
 };
 
 const PUT_JAR_2: &str =
@@ -78,7 +79,7 @@ const BY_60: Exchange = Exchange {
     ..EXCHANGE
 };
 
-static CLEANS: [Exchange; 10] = [
+static CLEANS: [Exchange; 11] = [
     Exchange {
         name: "an old build goes once the grace period is over",
         input: &[(1, PUT_JAR_1), (1, PUT_JAR_2), (1, CLEAN)],
@@ -146,6 +147,19 @@ static CLEANS: [Exchange; 10] = [
         answers: &[(2, CREATED), (1, BLOB_FAULT), (1, NOTHING), (1, ABC)],
         line: "calls 12 end Closed\n",
         ..BY_61
+    },
+    Exchange {
+        name: "what was sent for nothing goes at once, and what stands there stays",
+        input: &[(2, PUT_ABC), (2, CLEAN), (1, GET)],
+        answers: &[
+            (1, CREATED),
+            (1, SAME),
+            (1, REMOVED),
+            (1, NOTHING),
+            (1, ABC),
+        ],
+        line: "calls 12 end Closed\n",
+        ..EXCHANGE
     },
     Exchange {
         name: "an empty store is clean",

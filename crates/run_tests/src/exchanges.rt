@@ -1,5 +1,5 @@
 // The worked exchanges: what comes in, and what has to be answered.
-use crate::literals::{ABC, ABC_LAST, CREATED, GET, GET_LAST, NOT_THERE, PUT_ABC};
+use crate::literals::{ABC, ABC_LAST, CREATED, GET, GET_LAST, NOT_THERE, PUT_ABC, SAME};
 
 /// The settings of the exchanges.
 pub const SETTINGS: &str =
@@ -25,8 +25,6 @@ const LONG_HEAD: &str =
 
 const NOTHING: &str =
     "HTTP/1.1 200 OK\r\nContent-Type: application/octet-stream\r\nContent-Length: 0\r\nX-Checksum-SHA1: da39a3ee5e6b4b0d3255bfef95601890afd80709\r\nX-Checksum-MD5: d41d8cd98f00b204e9800998ecf8427e\r\n\r\n";
-
-const SAME: &str = "HTTP/1.1 200 OK\r\nContent-Type: text/plain\r\nContent-Length: 5\r\n\r\nsame\n";
 
 const TAKEN: &str =
     "HTTP/1.1 409 Conflict\r\nContent-Type: text/plain\r\nContent-Length: 168\r\n\r\ntaken kept 3 a9993e364706816aba3e25717850c26c9cd0d89d 900150983cd24fb0d6963f7d28e17f72 sent 0 da39a3ee5e6b4b0d3255bfef95601890afd80709 d41d8cd98f00b204e9800998ecf8427e\n";
