@@ -6,14 +6,19 @@ use Rattle.repo_model.specs.Data.{Blob, Hosted, repository}
 use Rattle.repo_model.specs.Settings.{Settings}
 use Rattle.repo_model.specs.Paths.{takes}
 use Rattle.repo_model.specs.State.{Yard, row_at, rows_of, is_repository, is_among, number_end}
-use Rattle.repo_model.specs.Effect.{with_effects, yard_after, draws}
+use Rattle.repo_model.specs.Effect.{recorded, with_effects, yard_after, draws}
 use Rattle.repo_model.specs.Command.{may_put, put, meets, is_fit, is_parcel, rule_of}
 use Rattle.repo_model.specs.Reply.{Reply, spent, draft, kind_refused, no_draft, no_memory, is_free, takes_memory}
 use Rattle.repo_model.specs.Turn.{Turn, turn, says, in_repository, draws_draft, put_at}
 use Rattle.repo_core.specs.Hosted.{put_due}
-use Rattle.repo_core.specs.Turn.{IsDueOr, Turned}
-use Rattle.repo_core.specs.Whole.{Whole}
-use Rattle.repo_core.proofs.PutReplies.{put-reply, state_put, left-put}
+use Rattle.hosted_repo.specs.Recording.{HasReplyCause}
+use Rattle.repo_model.specs.Tables.{Tables}
+use Rattle.repo_model.specs.History.{commits}
+use Rattle.row_tables.specs.Commits.{tables_with}
+use Rattle.repo_core.specs.Turn.{IsDueOr, IsDueOrFree, IsAnswer, due, wants_memory, failed, Recorded, Turned}
+use Rattle.repo_core.specs.Whole.{Parts}
+use Rattle.repo_core.proofs.PutReplies.{by-free, put-reply, state_put, left-put}
+use Rattle.repo_core.proofs.Turning.{some-items, unless}
 
 -- where a draft may be drawn
 in-place : (path : List ℕ) (found : Option Hosted) (t : Turn) → in_repository path found t ≡ (if is_fit (λ h. takes h.rule path) found then t else says kind_refused)
@@ -28,7 +33,7 @@ if-not : {X : Type 0} (b : Bool) (x y : X) → false ≡ b → (if b then x else
 if-not true x y e = cc
 if-not false x y e = refl
 
-module _ (w : Whole) (repo path : List ℕ) where
+module _ (w : Parts) (repo path : List ℕ) where
   abbrev here : Option Hosted
   here = find (is_repository repo) w.state.hosted
 
@@ -65,24 +70,35 @@ module _ (w : Whole) (repo path : List ℕ) where
     pub turned-undrawn : (yard : Yard) → yard ≡ w.state.yard → Turned w (record w { state = record w.state { yard = yard } }) (may_put (repository repo) path) no_memory
     turned-undrawn yard same = record { settings = refl; calls = refl; answered = inr (refl, refl); left = ap (λ y. record w.state { yard = y }) same }
 
-module _ (w : Whole) (repo path : List ℕ) (n : ℕ) (blob : Blob) where
+module _ (w : Parts) (repo path : List ℕ) (n : ℕ) (blob : Blob) where
+  pub no-draft-items : is_among n w.state.yard.drafts ≡ false → recorded (turn w.settings w.state w.state.last (put repo path n blob)).effects ≡ []
+  no-draft-items none = ap (λ (t : Turn). recorded t.effects) (if-not (is_among n w.state.yard.drafts) (put_at repo path n blob w.state.last (row_at path (rows_of repo w.state))) (says no_draft) (sym none))
+
   pub turned-no_draft : is_among n w.state.yard.drafts ≡ false → Turned w w (put repo path n blob) no_draft
   turned-no_draft none =
       let so : turn w.settings w.state w.state.last (put repo path n blob) ≡ says no_draft = if-not (is_among n w.state.yard.drafts) (put_at repo path n blob w.state.last (row_at path (rows_of repo w.state))) (says no_draft) (sym none) in
       record { settings = refl; calls = refl; answered = inl (ap (λ (t : Turn). t.reply) (sym so)); left = ap (λ (t : Turn). with_effects w.state t.effects) (sym so) }
 
   -- a put that had an outcome
-  pub turned-put : (new : Whole) (reply : Reply) → new.settings ≡ w.settings → new.calls ≡ w.calls → is_among n w.state.yard.drafts ≡ true → blob.number ≡ n
-      → IsDueOr (put_due blob (row_at path (rows_of repo w.state))) reply → new.state ≡ state_put repo path n blob reply w.state → Turned w new (put repo path n blob) reply
-  turned-put new reply settings calls among named given left =
+  pub recorded-put : (new : Parts) (reply : Reply) (told told' : Option Tables) (faults faults' : ℕ) → new.settings ≡ w.settings → new.calls ≡ w.calls → is_among n w.state.yard.drafts ≡ true
+      → (let t = put_at repo path n blob w.state.last (row_at path (rows_of repo w.state)) in
+      IsDueOrFree (put_due blob (row_at path (rows_of repo w.state))) reply → (IsTrue (is_free reply) → recorded t.effects ≡ [] → ⊥) → new.state ≡ state_put repo path n blob reply w.state
+      → blob.number ≡ n → told' ≡ (if is_free reply then told else tables_with (recorded t.effects) told) → HasReplyCause faults faults' reply → Recorded w new (put repo path n blob) reply told told' faults faults')
+  recorded-put new reply told told' faults faults' settings calls among given asked left named tables cause =
       let found = row_at path (rows_of repo w.state) in
-      let so : turn w.settings w.state w.state.last (put repo path n blob) ≡ put_at repo path n blob w.state.last found = if-so (is_among n w.state.yard.drafts) (put_at repo path n blob w.state.last found) (says no_draft) (sym among) in
+      let t : Turn = put_at repo path n blob w.state.last found in
+      let so : turn w.settings w.state w.state.last (put repo path n blob) ≡ t = if-so (is_among n w.state.yard.drafts) t (says no_draft) (sym among) in
       record {
         settings = settings;
         calls = calls;
-        answered = elim given as (λ _. (reply ≡ (turn w.settings w.state w.state.last (put repo path n blob)).reply) ⊎ ((reply ≡ no_memory) × IsTrue (takes_memory (put repo path n blob))))
-            [ (inl is) ↦ inl (is ∙ put-reply repo path n w.state.last blob found ∙ ap (λ (t : Turn). t.reply) (sym so)) | (inr is) ↦ inr (is, refl) ];
-        left = left ∙ left-put w.state repo path n blob named reply found given ∙ ap (λ (t : Turn). with_effects w.state (if is_free reply then [] else t.effects)) (sym so);
+        answered = elim given as (λ _. IsAnswer w (put repo path n blob) reply) [
+          | (inl is) ↦ due (is ∙ put-reply repo path n w.state.last blob found ∙ ap (λ (u : Turn). u.reply) (sym so))
+          | (inr is) ↦ by-free (λ r. (r ≡ reply) → IsAnswer w (put repo path n blob) r) reply is (λ _. wants_memory refl refl)
+              (λ _. failed refl (subst (λ (u : Turn). IsTrue (commits (put repo path n blob) u.effects)) (sym so) (some-items (recorded t.effects) (asked is)))) refl
+        ];
+        left = left ∙ left-put w.state repo path n blob named reply found given ∙ ap (λ (u : Turn). with_effects w.state (if is_free reply then [] else u.effects)) (sym so);
+        tables = tables ∙ unless (is_free reply) t.effects told ∙ ap (λ (u : Turn). tables_with (recorded (if is_free reply then [] else u.effects)) told) (sym so);
+        cause = cause;
       }
 
 module _ (settings : Settings) (repo path : List ℕ) (n : ℕ) (blob : Blob) (asked : IsTrue (meets settings (put repo path n blob))) where
