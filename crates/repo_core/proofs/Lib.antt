@@ -4,6 +4,8 @@ mod ConditionLemmas
 mod CountLemmas
 mod DraftLemmas
 mod HostedLemmas
+mod ItemForms
+mod KeepLemmas
 mod ListLemmas
 mod LookLemmas
 mod LoopLemmas

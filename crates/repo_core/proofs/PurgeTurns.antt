@@ -1,5 +1,5 @@
 -- Unlist and Collect, as turns of the machine.
-use Rattle.std.proofs.Common.{◌≡◌, ℕ, ◌<◌, ◌≤◌, get_or, set, List, [], ◌∷◌, length, map, Option, Some, None, Result, Ok, Err, inl, inr, refl, sym, ap, ◌∙◌, subst}
+use Rattle.std.proofs.Common.{◌≡◌, ℕ, ◌<◌, ◌≤◌, if◌then◌else◌, get_or, set, List, [], ◌∷◌, length, map, Option, Some, None, Result, Ok, Err, inl, inr, refl, sym, ap, ◌∙◌, subst}
 use Rattle.std.specs.Prelude.{IfOk, OnErr, OnOk, find}
 use Rattle.std.specs.Option.{option_map_or}
 use Rattle.std.proofs.lemmas.Grind.{flat_map-append}
@@ -9,9 +9,13 @@ use Rattle.repo_model.specs.Command.{collect, unlist}
 use Rattle.repo_model.specs.Data.{Row, Hosted}
 use Rattle.repo_model.specs.Effect.{forgets, items_of, recorded, with_effect, with_effects, yard_after}
 use Rattle.repo_model.specs.Purge.{due_rows, expire_all, fade_all, most_rows}
-use Rattle.repo_model.specs.Reply.{collected, no_memory, unlisted}
+use Rattle.repo_model.specs.Reply.{Reply, collected, is_free, no_memory, store_fault, unlisted}
 use Rattle.repo_model.specs.State.{State, Yard, change_first, hosted_of, is_repository}
+use Rattle.repo_model.specs.Tables.{Tables}
 use Rattle.repo_model.specs.Turn.{turn, unlent, unlist_of}
+use Rattle.repo_model.specs.declared.item.Item.{Item}
+use Rattle.row_tables.specs.Commits.{tables_with}
+use Rattle.outside.specs.Faults.{Rose}
 use Rattle.repo_laws.specs.Laws.{rows_with}
 use Rattle.repo_laws.specs.Sound.{AreNamedApart}
 use Rattle.repo_laws.proofs.Histories.{with_effects-append}
@@ -20,12 +24,13 @@ use Rattle.repo_laws.proofs.Releases.{same_path}
 use Rattle.repo_core.specs.Hosted.{AreInUse, rows_in, with_rows}
 use Rattle.hosted_repo.specs.Expired.{blob_of}
 use Rattle.repo_core.specs.Purge.{AreKeptOnce, condemned_by, dropped_by, kept_without, shares}
-use Rattle.repo_core.specs.Turn.{Turned}
+use Rattle.repo_core.specs.Turn.{Recorded, Turned}
 use Rattle.repo_core.specs.Whole.{IsOrderly, Parts}
 use Rattle.repo_core.proofs.NameLemmas.{named-apart}
 use Rattle.repo_core.proofs.BlobLemmas.{all-still, gone-once, none-gone}
 use Rattle.repo_core.proofs.PurgeLemmas.{dropped-used, expired-all, faded, fading_all}
 use Rattle.repo_core.proofs.PutReplies.{rows-by, same-rows}
+use Rattle.repo_core.proofs.Turning.{failed-so, recorded-so, some-items}
 
 pub ok-then : {A E : Type 0} (P Q : A → Type 0) → ((x : A) → P x → Q x) → (r : Result A E) → IfOk r P → IfOk r Q
 ok-then P Q f (Ok x) p = f x p
@@ -81,12 +86,45 @@ turned-unlisted w repo n hosted count rows = record {
   left = ap (λ hs. record w.state { hosted = hs }) rows ∙ left-by w.state repo (hosted_of repo w.state) refl;
 }
 
--- memory was wanting
-pub unlist-without : (w : Parts) (repo : List ℕ) (hosted : List Hosted) → hosted ≡ w.state.hosted → Turned w (record w { state = record w.state { hosted = hosted } }) (unlist repo) no_memory
-unlist-without w repo hosted same = record { settings = refl; calls = refl; answered = inr (refl, refl); left = ap (λ hs. record w.state { hosted = hs }) same }
+-- rows of a repository were unlisted, once that was recorded; or memory was wanting; or the records failed
+module _ (w : Parts) (repo : List ℕ) (hosted : List Hosted) (told told' : Option Tables) (faults faults' : ℕ) where
+  abbrev then_left : Parts
+  then_left = record w { state = record w.state { hosted = hosted } }
 
-pub collect-without : (w : Parts) → Turned w w collect no_memory
-collect-without w = record { settings = refl; calls = refl; answered = inr (refl, refl); left = refl }
+  pub unlist-done : (n : ℕ) → unlisted n ≡ (unlist_of w.state.last (hosted_of repo w.state)).reply → hosted ≡ rows_unlisted repo w.state.last w.state.hosted
+      → told' ≡ tables_with (recorded (unlist_of w.state.last (hosted_of repo w.state)).effects) told → faults' ≡ faults → Recorded w then_left (unlist repo) (unlisted n) told told' faults faults'
+  unlist-done n count rows tables same = recorded-so w then_left (unlist repo) (unlisted n) told told' faults faults' (turned-unlisted w repo n hosted count rows) tables same
+
+  pub unlist-without : hosted ≡ w.state.hosted → told' ≡ told → faults' ≡ faults → Recorded w then_left (unlist repo) no_memory told told' faults faults'
+  unlist-without still tables same =
+      recorded-so w then_left (unlist repo) no_memory told told' faults faults' (record { settings = refl; calls = refl; answered = inr (refl, refl); left = ap (λ hs. record w.state { hosted = hs }) still }) tables same
+
+  pub unlist-failed : hosted ≡ w.state.hosted → told' ≡ told → (recorded (unlist_of w.state.last (hosted_of repo w.state)).effects ≡ [] → ⊥) → Rose faults faults'
+      → Recorded w then_left (unlist repo) store_fault told told' faults faults'
+  unlist-failed still tables asked rose =
+      failed-so w then_left (unlist repo) told told' faults faults' refl refl (ap (λ hs. record w.state { hosted = hs }) still) (some-items (recorded (unlist_of w.state.last (hosted_of repo w.state)).effects) asked) tables rose
+
+pub collect-without : (w : Parts) (told told' : Option Tables) (faults faults' : ℕ) → told' ≡ told → faults' ≡ faults → Recorded w w collect no_memory told told' faults faults'
+collect-without w told told' faults faults' tables same =
+    recorded-so w w collect no_memory told told' faults faults' (record { settings = refl; calls = refl; answered = inr (refl, refl); left = refl }) tables same
+
+pub collect-failed : (w : Parts) (told told' : Option Tables) (faults faults' : ℕ) → told' ≡ told → Rose faults faults' → Recorded w w collect store_fault told told' faults faults'
+collect-failed w told told' faults faults' tables rose = failed-so w w collect told told' faults faults' refl refl refl refl tables rose
+
+-- what a Collect records
+pub collect-items : (w : Parts) → recorded (turn w.settings w.state w.state.last collect).effects ≡ recorded (expire_all w.settings.grace w.state.last w.state.hosted)
+collect-items w =
+    let gone = expire_all w.settings.grace w.state.last w.state.hosted in
+    flat_map-append items_of gone (forgets (unlent (with_effects w.state gone).yard) ∷ []) ∙ append-nil (recorded gone)
+
+-- a Collect whose change was recorded
+pub collect-done : (w new : Parts) (reply : Reply) (change : List Item) (told told' : Option Tables) (faults faults' : ℕ) → Turned w new collect reply → is_free reply ≡ false
+    → change ≡ recorded (expire_all w.settings.grace w.state.last w.state.hosted) → told' ≡ tables_with change told → faults' ≡ faults → Recorded w new collect reply told told' faults faults'
+collect-done w new reply change told told' faults faults' turned bound made tables same =
+    recorded-so w new collect reply told told' faults faults' turned
+    (tables ∙ ap (λ items. tables_with items told) (made ∙ sym (collect-items w))
+    ∙ ap (λ b. if b then told else tables_with (recorded (turn w.settings w.state w.state.last collect).effects) told) (sym bound))
+    same
 
 -- what a Collect leaves: the rows whose grace is over are gone, and so is garbage that nobody has borrowed
 pub turned-collected : (w : Parts) (hosted : List Hosted) (between after : Yard) (n : ℕ) (blobs : List ℕ) → AreNamedApart (map (λ (h : Hosted). h.rule) w.state.hosted)
@@ -129,9 +167,3 @@ collected-used w kept orderly used =
 
 pub collected-once : (w : Parts) (kept : List ℕ) → IsOrderly w → AreInUse kept w.state.hosted → AreKeptOnce (map blob_of (expire_all w.settings.grace w.state.last w.state.hosted)) kept
 collected-once w kept orderly used = gone-once w.settings.grace w.state.last w.state orderly.places kept used
-
--- what a Collect records
-pub collect-items : (w : Parts) → recorded (turn w.settings w.state w.state.last collect).effects ≡ recorded (expire_all w.settings.grace w.state.last w.state.hosted)
-collect-items w =
-    let gone = expire_all w.settings.grace w.state.last w.state.hosted in
-    flat_map-append items_of gone (forgets (unlent (with_effects w.state gone).yard) ∷ []) ∙ append-nil (recorded gone)

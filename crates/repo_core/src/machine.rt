@@ -89,6 +89,8 @@ impl<C: Clock, H: Held> Machine<C, H> {
         ensures calls { IfOk result (λ core. core.calls ≡ 0) }
         ensures err { IfErr result (λ error. error.1 ≡ clock) }
     {
+        // Their ids have their form.
+        settings.form();
         let repos = match empty_repos(alloc, settings.hosted()) {
             Ok(repos) => repos,
             Err(error) => return Err((error, clock)),
@@ -131,6 +133,13 @@ impl<C: Clock, H: Held> Machine<C, H> {
         self.last = next_moment(&mut self.clock, self.last);
         self.calls = self.calls.saturating_add(1);
         self.answer(records, command)
+    }
+
+    /// The settings.
+    pub fn settings(&self) -> &Settings
+        ensures { result.now ≡ self.now.settings }
+    {
+        &self.settings
     }
 
     /// How many calls there were; the count stays at 2^64 - 1.

@@ -110,6 +110,13 @@ impl<K: Records, C: Clock, H: Held> Core<K, C, H> {
         fits(settings, command)
     }
 
+    /// The settings, which commands are to fit.
+    pub fn settings(&self) -> &Settings
+        ensures { result.now ≡ self.now.settings }
+    {
+        self.machine.settings()
+    }
+
     /// How many calls there were; the count stays at 2^64 - 1.
     pub fn calls(&self) -> u64
         ensures { result ≡ self.now.calls }
