@@ -1,9 +1,9 @@
 -- What is recorded has its form: ids of repositories, paths of files, numbers of drafts.
 use native.Mathlib.Omega.{arith}
-use Rattle.std.proofs.Common.{◌≡◌, ℕ, ◌<◌, ◌≤◌, Bool, true, false, ◌&&◌, ◌||◌, List, [], ◌∷◌, length, Option, Some, None, zero, suc, refl}
+use Rattle.std.proofs.Common.{◌≡◌, ℕ, ◌<◌, ◌≤◌, Bool, true, false, ◌&&◌, ◌||◌, List, [], ◌∷◌, length, Option, Some, None, zero, suc, ◌⊎◌, inl, inr, refl}
 use Rattle.std.specs.Prelude.{IsTrue, is_some, nat_le, nat_lt}
 use Rattle.std.specs.List.{AllByRecursion, list_all}
-use Rattle.std.proofs.lemmas.Bool.{and_from, and_parts, false≢true, le-leb}
+use Rattle.std.proofs.lemmas.Bool.{and_from, and_parts, cases_order, false≢true, le-leb, lt-ltb}
 use Rattle.mvn_coords.specs.Layout.{Coordinates}
 use Rattle.repo_model.specs.Settings.{Rule}
 use Rattle.repo_model.specs.Command.{is_fit}
@@ -45,9 +45,23 @@ pub fit-file : (path : List ℕ) (found : Option Rule) → is_fit (λ rule. take
 fit-file path None is = absurd (false≢true is)
 fit-file path (Some rule) is = taken-file rule (file_at path) is
 
+-- a draft was drawn
+below-next : (s : State) (n : ℕ) → OnePlace s → is_among n s.yard.drafts ≡ true → n < s.yard.next_draft
+below-next s n placed among = by (cases_order n s.yard.next_draft) where
+  past : s.yard.next_draft ≤ n → n < s.yard.next_draft
+  past le = absurd (omega (arith, placed.later n le, among-counts n s.yard.drafts among))
+
+  by : (n ≡ s.yard.next_draft) ⊎ ((n < s.yard.next_draft) ⊎ (s.yard.next_draft < n)) → n < s.yard.next_draft
+  by (inl same) = past (omega (arith, same))
+  by (inr (inl less)) = less
+  by (inr (inr more)) = past (omega (arith, more))
+
+not-zero : (s : State) (n : ℕ) → OnePlace s → is_among n s.yard.drafts ≡ true → 0 < n
+not-zero s zero placed among = absurd (omega (arith, placed.none, among-counts 0 s.yard.drafts among))
+not-zero s (suc m) placed among = omega arith
+
 -- a draft has a number
 pub draft-number : (s : State) (n : ℕ) → OnePlace s → s.yard.next_draft ≤ number_end → is_among n s.yard.drafts ≡ true → IsTrue (is_number n)
-draft-number s zero placed end among = absurd (omega (arith, placed.none, among-counts 0 s.yard.drafts among))
-draft-number s (suc m) placed end among =
-    let below : suc m < s.yard.next_draft = omega (arith, placed.later (suc m), among-counts (suc m) s.yard.drafts among) in
-    and_from (nat_lt 0 (suc m)) (nat_le (suc m) 9223372036854775807) (le-leb 1 (suc m) (omega arith)) (le-leb (suc m) 9223372036854775807 (omega (arith, below, end)))
+draft-number s n placed end among =
+    let below = below-next s n placed among in
+    and_from (nat_lt 0 n) (nat_le n 9223372036854775807) (lt-ltb 0 n (not-zero s n placed among)) (le-leb n 9223372036854775807 (omega (arith, below, end)))

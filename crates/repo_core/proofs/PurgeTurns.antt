@@ -1,5 +1,5 @@
 -- Unlist and Collect, as turns of the machine.
-use Rattle.std.proofs.Common.{◌≡◌, ℕ, ◌<◌, ◌≤◌, if◌then◌else◌, get_or, set, List, [], ◌∷◌, length, map, Option, Some, None, Result, Ok, Err, inl, inr, refl, sym, ap, ◌∙◌, subst}
+use Rattle.std.proofs.Common.{◌≡◌, ℕ, ◌<◌, ◌≤◌, false, if◌then◌else◌, get_or, set, List, [], ◌∷◌, length, map, Option, Some, None, Result, Ok, Err, inl, inr, refl, sym, ap, ◌∙◌, subst}
 use Rattle.std.specs.Prelude.{IfOk, OnErr, OnOk, find}
 use Rattle.std.specs.Option.{option_map_or}
 use Rattle.std.proofs.lemmas.Grind.{flat_map-append}
@@ -86,6 +86,11 @@ turned-unlisted w repo n hosted count rows = record {
   left = ap (λ hs. record w.state { hosted = hs }) rows ∙ left-by w.state repo (hosted_of repo w.state) refl;
 }
 
+-- what is recorded of the repository that was found
+pub told-by : (id : List ℕ) (items : List Hosted) (now : ℕ) (old : Hosted) (told told' : Option Tables) → find (is_repository id) items ≡ Some old → told' ≡ tables_with (recorded (fade_all old now)) told
+    → told' ≡ tables_with (recorded (unlist_of now (find (is_repository id) items)).effects) told
+told-by id items now old told told' here made = made ∙ ap (λ found. tables_with (recorded (unlist_of now found).effects) told) (sym here)
+
 -- rows of a repository were unlisted, once that was recorded; or memory was wanting; or the records failed
 module _ (w : Parts) (repo : List ℕ) (hosted : List Hosted) (told told' : Option Tables) (faults faults' : ℕ) where
   abbrev then_left : Parts
@@ -104,18 +109,27 @@ module _ (w : Parts) (repo : List ℕ) (hosted : List Hosted) (told told' : Opti
   unlist-failed still tables asked rose =
       failed-so w then_left (unlist repo) told told' faults faults' refl refl (ap (λ hs. record w.state { hosted = hs }) still) (some-items (recorded (unlist_of w.state.last (hosted_of repo w.state)).effects) asked) tables rose
 
-pub collect-without : (w : Parts) (told told' : Option Tables) (faults faults' : ℕ) → told' ≡ told → faults' ≡ faults → Recorded w w collect no_memory told told' faults faults'
-collect-without w told told' faults faults' tables same =
-    recorded-so w w collect no_memory told told' faults faults' (record { settings = refl; calls = refl; answered = inr (refl, refl); left = refl }) tables same
-
-pub collect-failed : (w : Parts) (told told' : Option Tables) (faults faults' : ℕ) → told' ≡ told → Rose faults faults' → Recorded w w collect store_fault told told' faults faults'
-collect-failed w told told' faults faults' tables rose = failed-so w w collect told told' faults faults' refl refl refl refl tables rose
-
 -- what a Collect records
 pub collect-items : (w : Parts) → recorded (turn w.settings w.state w.state.last collect).effects ≡ recorded (expire_all w.settings.grace w.state.last w.state.hosted)
 collect-items w =
     let gone = expire_all w.settings.grace w.state.last w.state.hosted in
     flat_map-append items_of gone (forgets (unlent (with_effects w.state gone).yard) ∷ []) ∙ append-nil (recorded gone)
+
+-- what goes at a Collect, as its parts see it
+module _ (w v : Parts) (same : v ≡ w) (grace : ℕ) where
+  pub blobs-at : (blobs : List ℕ) → grace ≡ w.settings.grace → blobs ≡ map blob_of (expire_all grace w.state.last w.state.hosted) → blobs ≡ map blob_of (expire_all v.settings.grace v.state.last v.state.hosted)
+  blobs-at blobs seconds made =
+      subst (λ (p : Parts). blobs ≡ map blob_of (expire_all p.settings.grace p.state.last p.state.hosted)) (sym same) (made ∙ ap (λ s. map blob_of (expire_all s w.state.last w.state.hosted)) seconds)
+
+  pub counts-at : (counts : List ℕ) → grace ≡ w.settings.grace → counts ≡ shares grace w.state.last most_rows w.state.hosted → counts ≡ shares v.settings.grace v.state.last most_rows v.state.hosted
+  counts-at counts seconds made =
+      subst (λ (p : Parts). counts ≡ shares p.settings.grace p.state.last most_rows p.state.hosted) (sym same) (made ∙ ap (λ s. shares s w.state.last most_rows w.state.hosted) seconds)
+
+  pub change-at : (hosted : List Hosted) (change : List Item) → grace ≡ v.settings.grace → hosted ≡ v.state.hosted → change ≡ recorded (expire_all grace v.state.last hosted)
+      → change ≡ recorded (expire_all w.settings.grace w.state.last w.state.hosted)
+  change-at hosted change seconds there made =
+      subst (λ (p : Parts). change ≡ recorded (expire_all p.settings.grace p.state.last p.state.hosted)) same
+      (made ∙ ap (λ s. recorded (expire_all s v.state.last hosted)) seconds ∙ ap (λ hs. recorded (expire_all v.settings.grace v.state.last hs)) there)
 
 -- a Collect whose change was recorded
 pub collect-done : (w new : Parts) (reply : Reply) (change : List Item) (told told' : Option Tables) (faults faults' : ℕ) → Turned w new collect reply → is_free reply ≡ false

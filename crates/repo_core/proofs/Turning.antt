@@ -59,18 +59,6 @@ turned-says w command reply is = record {
 no-open : (n : ℕ) (s : State) → s.sessions ≡ [] → open_of n s ≡ None
 no-open n s none = ap (find (is_open_at n)) none
 
-module _ (w : Parts) (none : w.state.sessions ≡ []) (n : ℕ) (path : List ℕ) where
-  pub may_put-nowhere : Turned w w (may_put (session n) path) no_session
-  may_put-nowhere = turned-says w (may_put (session n) path) no_session (ap (may_put_in w.state path) (no-open n w.state none))
-
-  pub put_side-nowhere : (said : List ℕ) → Turned w w (put_side (session n) path said) no_session
-  put_side-nowhere said =
-      turned-says w (put_side (session n) path said) no_session
-      (ap (λ found. with_open found (λ (one : Session). judged (kind path) said (λ at. staged_at at one.staged))) (no-open n w.state none))
-
-  pub put_doc-nowhere : Turned w w (put_doc (session n) path) no_session
-  put_doc-nowhere = turned-says w (put_doc (session n) path) no_session (ap (λ found. with_open found (λ (one : Session). says noted)) (no-open n w.state none))
-
 -- the counts of the rows, where there is no session
 pub turned-counts : (w : Parts) (files unlisted : ℕ) → w.state.sessions ≡ [] → files ≡ sum_by (λ (h : Hosted). length h.rows) w.state.hosted
     → unlisted ≡ sum_by (λ (h : Hosted). count_by fades h.rows) w.state.hosted → Turned w w status (counts files unlisted 0 0 0)
@@ -152,10 +140,10 @@ module _ (w begun new : Parts) (moment : ℕ) (command : Command) (reply : Reply
 
   -- the reply that is due is none of a failure, nor is want of memory
   bound-due : reply ≡ (turn begun.settings begun.state begun.state.last command).reply → reply ≡ store_fault → ⊥
-  bound-due is failed = false≢true (sym (no-free begun.settings begun.state begun.state.last command) ∙ ap is_free (sym is ∙ failed))
+  bound-due is fault = false≢true (sym (no-free begun.settings begun.state begun.state.last command) ∙ ap is_free (sym is ∙ fault))
 
   bound-memory : reply ≡ no_memory → reply ≡ store_fault → ⊥
-  bound-memory is failed = let x : no_memory ≡ store_fault = sym is ∙ failed in cc
+  bound-memory is fault = let x : no_memory ≡ store_fault = sym is ∙ fault in cc
 
   pub turned-fits : IsTrue (meets w.settings command) → MomentFits w.state moment → Fits w.settings old made
   turned-fits met fits = record {
@@ -188,10 +176,12 @@ ticked-orderly w moment calls orderly = record {
 }
 
 -- what fits the tables whatever the moment is, does so once the clock was read
-pub ticked-fit : (w : Parts) (tables : Option Tables) (command : Command) (moment calls : ℕ) → w.state.last ≤ moment → moment ≤ latest_moment → MayRecord w tables command
-    → FitWhereTold tables (recorded (turn w.settings (ticked w.state moment 0) moment command).effects)
-ticked-fit w tables command moment calls order limit may =
-    subst (λ (t : Turn). FitWhereTold tables (recorded t.effects)) (sym (turn-ticked w.settings w.state moment 0 moment command)) (may moment order limit)
+pub begun-fit : (w begun : Parts) (tables : Option Tables) (command : Command) (moment : ℕ) → begun.settings ≡ w.settings → begun.state ≡ ticked w.state moment 0 → w.state.last ≤ moment
+    → moment ≤ latest_moment → MayRecord w tables command → FitWhereTold tables (recorded (turn begun.settings begun.state begun.state.last command).effects)
+begun-fit w begun tables command moment settings state order limit may =
+    let same : turn w.settings w.state moment command ≡ turn begun.settings begun.state begun.state.last command =
+    sym (turn-ticked w.settings w.state moment 0 moment command) ∙ ap (λ (s : State). turn w.settings s s.last command) (sym state) ∙ ap (λ st. turn st begun.state begun.state.last command) (sym settings) in
+    subst (λ (t : Turn). FitWhereTold tables (recorded t.effects)) same (may moment order limit)
 
 -- items that are recorded are committed
 pub some-items : (items : List Item) → (items ≡ [] → ⊥) → not (length items == 0) ≡ true
@@ -229,6 +219,23 @@ alone old new command reply tables n none turned =
         | (inr is) ↦ let x : no_memory ≡ store_fault = sym is.0 ∙ failed in cc
       ]);
     }
+
+-- a command that says something and does nothing
+alone-says : (w : Parts) (command : Command) (reply : Reply) (tables : Option Tables) (n : ℕ) → turn w.settings w.state w.state.last command ≡ says reply → Recorded w w command reply tables tables n n
+alone-says w command reply tables n is = alone w w command reply tables n (ap (λ (t : Turn). recorded t.effects) is) (turned-says w command reply is)
+
+-- a place that is a session, where there is none
+module _ (w : Parts) (none : w.state.sessions ≡ []) (n : ℕ) (path : List ℕ) (tables : Option Tables) (faults : ℕ) where
+  pub may_put-nowhere : Recorded w w (may_put (session n) path) no_session tables tables faults faults
+  may_put-nowhere = alone-says w (may_put (session n) path) no_session tables faults (ap (may_put_in w.state path) (no-open n w.state none))
+
+  pub put_side-nowhere : (said : List ℕ) → Recorded w w (put_side (session n) path said) no_session tables tables faults faults
+  put_side-nowhere said =
+      alone-says w (put_side (session n) path said) no_session tables faults
+      (ap (λ found. with_open found (λ (one : Session). judged (kind path) said (λ at. staged_at at one.staged))) (no-open n w.state none))
+
+  pub put_doc-nowhere : Recorded w w (put_doc (session n) path) no_session tables tables faults faults
+  put_doc-nowhere = alone-says w (put_doc (session n) path) no_session tables faults (ap (λ found. with_open found (λ (one : Session). says noted)) (no-open n w.state none))
 
 -- the commands that record nothing
 shows-nothing : (next : ℕ) (seen : Seen) → recorded (shows next seen).effects ≡ []

@@ -7,9 +7,8 @@ use Rattle.repo_model.specs.Reply.{unlisted}
 use Rattle.repo_model.specs.State.{is_repository}
 use Rattle.repo_model.specs.Turn.{unlist_of}
 use Rattle.hosted_repo.specs.Recording.{FitWhereTold}
-use Rattle.row_tables.specs.Commits.{tables_with}
 use Rattle.repo_core.specs.Hosted.{rows_in}
-use Rattle.repo_core.proofs.PurgeTurns.{ok-then, on-err-then, on-ok-then, unlisted-place, untouched-place}
+use Rattle.repo_core.proofs.PurgeTurns.{ok-then, on-err-then, on-ok-then, told-by, unlisted-place, untouched-place}
 use Rattle.repo_core.proofs.hosted.unlist.Goals as goal
 
 pub unlist-requires-clause-fits : goal.unlist-requires-clause-fits
@@ -43,9 +42,7 @@ returns-clause-tables g c =
     let items = c.args.repos.now.items in
     let old = c.index_mut.result.now in
     let here : find (is_repository c.args.id.now) items ≡ Some old = (rw c.deref.ensures.value at (c.place_of-place.ensures.found old)) ∙ ap (λ (h : Hosted). Some h) (sym c.index_mut.ensures.value) in
-    on-ok-then _ _
-    (λ told. told ∙ ap (λ found. tables_with (recorded (unlist_of c.args.moment found).effects) (g.K.Records.tables c.args.records.now)) (sym here))
-    c.unlist.result c.unlist.ensures.tables
+    on-ok-then _ _ (told-by c.args.id.now items c.args.moment old (g.K.Records.tables c.args.records.now) (g.K.Records.tables c.unlist.new.records) here) c.unlist.result c.unlist.ensures.tables
 
 pub returns-clause-asked : goal.returns-clause-asked
 returns-clause-asked g c = λ failed none.

@@ -1,6 +1,9 @@
 use Rattle.repo_core.proofs.LoopLemmas.{found-more, found-start}
 use Rattle.repo_core.proofs.purges.expiring.Goals as goal
 
+pub loop-repo-init : goal.loop-repo-init
+loop-repo-init g c = rw (c.new-change.ensures, c.new-counts.ensures.items, c.new-blobs.ensures.items) (found-start c.args.grace c.args.now c.args.repos.now)
+
 pub loop-repo-preserved : goal.loop-repo-preserved
 loop-repo-preserved g c =
     let repos = c.args.repos.now in

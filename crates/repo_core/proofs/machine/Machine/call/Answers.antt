@@ -1,7 +1,8 @@
-use Rattle.std.proofs.Common.{subst}
+use Rattle.std.proofs.Common.{[]}
 use Rattle.repo_model.specs.History.{MomentFits}
 use Rattle.repo_model.specs.Shown.{shown_command, shown_reply}
-use Rattle.repo_core.proofs.Turning.{moment-given, ticked-fit, ticked-orderly, turned-fits, turned-after, turned-tables}
+use Rattle.repo_core.specs.Whole.{Parts}
+use Rattle.repo_core.proofs.Turning.{begun-fit, moment-given, ticked-orderly, turned-fits, turned-after, turned-tables}
 use Rattle.repo_core.proofs.machine.Machine.call.Goals as goal
 
 pub answer-requires-clause-orderly : goal.answer-requires-clause-orderly
@@ -11,9 +12,15 @@ answer-requires-clause-orderly g c =
 
 pub answer-requires-clause-items : goal.answer-requires-clause-items
 answer-requires-clause-items g c =
+    let w = c.args.self.now in
+    let moment = c.next_moment-self-inside.result in
     let read = c.next_moment-self-inside.ensures in
-    let may = rw (← c.self.view_is) at c.requires.items in
-    rw read.clock (ticked-fit _ (g.K.Records.tables c.args.records.now) (shown_command c.args.command) c.next_moment-self-inside.result _ read.order read.limit may)
+    let begun : Parts = record {
+      settings = c.self.inside.settings;
+      state = record { hosted = c.self.inside.repos.items; sessions = []; yard = c.self.inside.yard.yard; last = moment; clock = g.C.Clock.moments c.next_moment-self-inside.new.clock; faults = 0 };
+      calls = w.calls;
+    } in
+    begun-fit w begun (g.K.Records.tables c.args.records.now) (shown_command c.args.command) moment (rw (← c.self.view_is)) (rw (← c.self.view_is, read.clock)) (rw (← c.self.view_is) read.order) read.limit c.requires.items
 
 pub returns-clause-fits : goal.returns-clause-fits
 returns-clause-fits g c =

@@ -9,11 +9,11 @@ use Rattle.repo_model.specs.State.{is_among}
 use Rattle.repo_model.specs.Shown.{shown_parcel}
 use Rattle.repo_model.specs.Turn.{Turn}
 use Rattle.row_tables.specs.Items.{is_number}
-use Rattle.repo_core.specs.Hosted.{rules_of}
-use Rattle.repo_core.proofs.DraftLemmas.{fit-so, named-so, no-draft-items, put-turn, recorded-put, short-so, turned-no_draft}
+use Rattle.repo_core.specs.Hosted.{put_in, rules_of}
+use Rattle.repo_core.specs.Whole.{Parts}
+use Rattle.repo_core.proofs.DraftLemmas.{fit-so, named-so, put-turn, recorded-put, short-so}
 use Rattle.repo_core.proofs.HostedLemmas.{named-there, rules-kept}
 use Rattle.repo_core.proofs.ItemForms.{draft-number, fit-file}
-use Rattle.repo_core.proofs.Turning.{alone}
 use Rattle.repo_core.proofs.UseLemmas.{put-used}
 use Rattle.repo_core.proofs.machine.Machine.put.Goals as goal
 
@@ -41,10 +41,13 @@ put-outcome-requires-clause-length g c = short-so c.args.self.now.settings c.arg
 
 pub put-outcome-requires-clause-fits : goal.put-outcome-requires-clause-fits
 put-outcome-requires-clause-fits g c =
-    let among : is_among c.args.draft c.self.inside.yard.yard.drafts ≡ true = cc in
-    let named = named-so c.args.self.now.settings c.args.repo.now c.args.path.now c.args.draft (shown_parcel c.args.parcel) c.requires.meets in
-    let fits = rw (← c.self.view_is) at c.requires.items in
-    subst (λ (t : Turn). FitWhereTold (g.K.Records.tables c.args.records.now) (recorded t.effects)) (put-turn _ c.args.repo.now c.args.path.now c.args.draft (shown_parcel c.args.parcel) among named) fits
+    let w = c.args.self.now in
+    let blob = shown_parcel c.args.parcel in
+    let inside : is_among c.args.draft c.self.inside.yard.yard.drafts ≡ true = cc in
+    let among : is_among c.args.draft w.state.yard.drafts ≡ true = subst (λ (p : Parts). is_among c.args.draft p.state.yard.drafts ≡ true) c.self.view_is inside in
+    let named = named-so w.settings c.args.repo.now c.args.path.now c.args.draft blob c.requires.meets in
+    subst (λ (p : Parts). FitWhereTold (g.K.Records.tables c.args.records.now) (recorded (put_in c.args.repo.now c.args.path.now blob p.state.last p.state.hosted).effects)) (sym c.self.view_is)
+    (subst (λ (t : Turn). FitWhereTold (g.K.Records.tables c.args.records.now) (recorded t.effects)) (put-turn w c.args.repo.now c.args.path.now c.args.draft blob among named) c.requires.items)
 
 pub invariant_of-self : goal.invariant_of-self
 invariant_of-self g c =

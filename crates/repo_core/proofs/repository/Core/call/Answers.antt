@@ -1,9 +1,9 @@
-use Rattle.std.proofs.Common.{[], ◌∷◌}
-use Rattle.repo_model.specs.History.{Entry, after}
+use Rattle.std.proofs.Common.{[], ◌∷◌, subst, sym}
+use Rattle.repo_model.specs.History.{Entry, Fits, after}
 use Rattle.repo_model.specs.Shown.{entry_of, shown_command}
 use Rattle.repo_laws.specs.Laws.{KeepsReleases}
 use Rattle.repo_laws.proofs.Lasting.{releases-last}
-use Rattle.repo_core.specs.Whole.{IsKept, Whole, whole_of}
+use Rattle.repo_core.specs.Whole.{IsKept, Whole, counting, whole_of}
 use Rattle.repo_core.proofs.AnswerLemmas.{answers}
 use Rattle.repo_core.proofs.KeepLemmas.{may-record, orderly-kept}
 use Rattle.repo_core.proofs.NameLemmas.{named-apart}
@@ -27,6 +27,10 @@ invariant_of-self g c =
       ready = c.call.ensures.ready;
     }
 
+pub returns-clause-fits : goal.returns-clause-fits
+returns-clause-fits g c =
+    subst (λ (w : Whole). Fits w.settings w.state (entry_of c.args.command c.call.new.self.state.last c.call.result (g.K.Records.faults c.call.new.records))) c.self.view_is c.call.ensures.fits
+
 pub returns-clause-holds : goal.returns-clause-holds
 returns-clause-holds g c = λ t told.
     let faults = g.K.Records.faults c.call.new.records in
@@ -48,7 +52,7 @@ returns-clause-releases g c =
     let sound = c.self.invariant.kept.sound in
     let kept : KeepsReleases old.state (after old.settings old.state e) =
     releases-last old.settings (named-apart old.settings c.self.invariant.kept.form) (e ∷ []) old.state sound.order sound.fading (c.call.ensures.fits, tt) in
-    rw (← c.self.view_is, c.call.ensures.after) kept
+    subst (λ (w : Whole). KeepsReleases w.state (counting (g.K.Records.faults c.call.new.records) c.call.new.self.state)) c.self.view_is (subst (KeepsReleases old.state) (sym c.call.ensures.after) kept)
 
 pub returns-clause-sound : goal.returns-clause-sound
 returns-clause-sound g c =
