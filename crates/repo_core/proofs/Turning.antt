@@ -291,7 +291,7 @@ recorded-so old new command reply told told' faults faults' turned tables same =
 -- a turn whose records failed
 pub failed-so : (old new : Parts) (command : Command) (told told' : Option Tables) (faults faults' : ℕ) → new.settings ≡ old.settings → new.calls ≡ old.calls → new.state ≡ old.state
     → IsTrue (commits command (turn old.settings old.state old.state.last command).effects) → told' ≡ told → Rose faults faults' → Recorded old new command store_fault told told' faults faults'
-failed-so old new command told told' faults faults' settings calls state asked tables rose =
+failed-so before new command told told' faults faults' settings calls state asked tables rose =
     record { settings = settings; calls = calls; answered = failed refl asked; left = state; tables = tables ∙ quiet told; cause = rose }
 
 -- what the repository keeps is kept by a turn of it
