@@ -1,18 +1,16 @@
 -- What a turn records makes a change: each item has its form, and together they have fewer than 2^32 bytes.
 use native.Mathlib.Omega.{arith}
-use Rattle.std.proofs.Common.{◌≡◌, ℕ, ◌+◌, ◌*◌, ◌<◌, ◌≤◌, ◌^◌, Bool, true, false, cond, ◌&&◌, List, [], ◌∷◌, ◌++◌, length, map, take, Option, Some, None, refl, sym, ap, ◌∙◌, subst, eqb, ltb, leb, length-append}
-use Rattle.std.specs.Prelude.{IsTrue, is_some, filter}
+use Rattle.std.proofs.Common.{◌≡◌, ℕ, ◌+◌, ◌*◌, ◌≤◌, true, false, List, [], ◌∷◌, ◌++◌, length, refl, sym, ap, ◌∙◌, eqb, ltb, leb, length-append}
+use Rattle.std.specs.Prelude.{is_some}
 use Rattle.std.specs.Int.{w16, w32, w64, to_be_bytes}
 use Rattle.std.specs.List.{AllByRecursion, flat_map, list_all}
-use Rattle.std.proofs.lemmas.Bool.{and_from, and_parts, false≢true, ltb-true, ltb-false, leb-true, lt-ltb, le-leb, eqb-true}
-use Rattle.mvn_coords.specs.Kind.{kind}
+use Rattle.std.proofs.lemmas.Bool.{and_from, and_parts, false≢true, ltb-false, leb-true, eqb-true}
 use Rattle.mvn_coords.proofs.Judged.{kind_long}
 use Rattle.repo_model.specs.declared.item.Item.{Item}
 use Rattle.repo_model.specs.declared.item.Item.TheVariants.{HostedPut, Faded, Relisted, Removed}
 use Rattle.repo_model.specs.declared.print.Print.{Print}
-use Rattle.repo_model.specs.Effect.{Effect, recorded}
-use Rattle.repo_model.specs.Paths.{file_at, file_in}
-use Rattle.row_tables.specs.Items.{IsChange, change_bytes, is_count, is_file_path, is_id, is_item, is_moment, is_number, is_print, item_bytes, place_bytes, print_bytes, text_bytes}
+use Rattle.repo_model.specs.Paths.{file_in}
+use Rattle.row_tables.specs.Items.{IsChange, is_file_path, is_id, is_item, is_moment, is_number, is_print, item_bytes, place_bytes, print_bytes, text_bytes}
 
 -- a path of a file has at most 1,024 bytes
 pub short-file : (path : List ℕ) → is_file_path path ≡ true → length path ≤ 1024
@@ -53,31 +51,31 @@ module _ (repo path : List ℕ) (named : is_id repo ≡ true) (file : is_file_pa
       let rest = print_bytes print ++ to_be_bytes w64 accepted in
       let tail = to_be_bytes w64 blob ++ rest in
       record {
-        form = and_from named (and_from file (and_from number (and_from is moment)));
+        form = and_from _ _ named (and_from _ _ file (and_from _ _ number (and_from _ _ is moment)));
         size = omega (arith, length-append (place_bytes repo path) tail, length-append (to_be_bytes w64 blob) rest, length-append (print_bytes print) (to_be_bytes w64 accepted), place-size repo path, print-size print sha1 md5, id-size repo named, short-file path file);
       }
 
   pub fade-short : (moment : ℕ) → is_moment moment ≡ true → IsShort (Faded repo path moment)
   fade-short moment is = record {
-    form = and_from named (and_from file is);
+    form = and_from _ _ named (and_from _ _ file is);
     size = omega (arith, length-append (place_bytes repo path) (to_be_bytes w64 moment), place-size repo path, id-size repo named, short-file path file);
   }
 
   pub relist-short : (moment : ℕ) → is_moment moment ≡ true → IsShort (Relisted repo path moment)
   relist-short moment is = record {
-    form = and_from named (and_from file is);
+    form = and_from _ _ named (and_from _ _ file is);
     size = omega (arith, length-append (place_bytes repo path) (to_be_bytes w64 moment), place-size repo path, id-size repo named, short-file path file);
   }
 
   pub removed-short : IsShort (Removed repo path)
   removed-short = record {
-    form = and_from named file;
+    form = and_from _ _ named file;
     size = omega (arith, place-size repo path, id-size repo named, short-file path file);
   }
 
 all-form : (items : List Item) → AllByRecursion IsShort items → list_all is_item items ≡ true
 all-form [] all = refl
-all-form (item ∷ items) all = and_from all.0.form (all-form items all.1)
+all-form (item ∷ items) all = and_from (is_item item) (list_all is_item items) all.0.form (all-form items all.1)
 
 all-size : (items : List Item) → AllByRecursion IsShort items → length (flat_map item_bytes items) ≤ 1153 * length items
 all-size [] all = omega arith

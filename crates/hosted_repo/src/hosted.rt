@@ -28,7 +28,7 @@ use crate::put::{Put, Returned, Standing};
 use crate::row::Row;
 use crate::rule::Rule;
 use crate::seen::Seen;
-use crate::{NoMemory, documents, looks, purge, rows, storing};
+use crate::{NoMemory, changes, documents, looks, purge, rows, storing};
 use mvn_coords::{Dir, Kind};
 use mvn_metadata::Doc;
 use outside::{Held, Parcel};
@@ -162,6 +162,7 @@ impl<H: Held> Hosted<H> {
         ensures ready { K.ready records.new }
         ensures parcel { GivesBack result parcel }
     {
+        changes::sizes(parcel.digests);
         let id = &self.rule.id;
         match storing::create(self.alloc, &mut self.rows, records, id, path, parcel, now) {
             Ok(()) => Put::Created,
@@ -267,7 +268,7 @@ impl<H: Held> Hosted<H> {
         ensures unchanged { OnErr result (change.new ≡ change.old) }
         ensures untaken { OnErr result (blobs.new.items ≡ blobs.old.items) }
     {
-        let most = MOST_ROWS.saturating_sub(change.len()) as u64;
+        let most = MOST_ROWS.saturating_sub(change.items().len()) as u64;
         let gone = purge::expired_rows(self.alloc, &self.rows, now.saturating_sub(grace), most)?;
         purge::add_gone(self.alloc, &self.rule.id, &gone, change, blobs)
     }
