@@ -1,84 +1,30 @@
--- Drafts that are drawn, and blobs that are put under them, as turns of the machine.
-use Rattle.std.proofs.Common.{◌≡◌, ℕ, ◌<◌, Bool, true, false, if◌then◌else◌, List, [], ◌∷◌, Option, Some, None, ◌⊎◌, inl, inr, refl, sym, ap, ◌∙◌, subst, eqb-true}
-use Rattle.std.specs.Prelude.{◌==◌, IsTrue, find, nat_lt}
+-- Blobs that are put under drafts, as turns of the machine.
+use Rattle.std.proofs.Common.{◌≡◌, ℕ, ◌<◌, Bool, true, false, if◌then◌else◌, List, [], Option, inl, inr, refl, sym, ap, ◌∙◌, subst, eqb-true}
+use Rattle.std.specs.Prelude.{◌==◌, IsTrue, nat_lt}
 use Rattle.std.proofs.lemmas.Bool.{and_parts, ltb-true}
-use Rattle.repo_model.specs.Data.{Blob, Hosted, Row, repository}
+use Rattle.repo_model.specs.Data.{Blob, Row}
 use Rattle.repo_model.specs.Settings.{Settings}
 use Rattle.repo_model.specs.Paths.{takes}
-use Rattle.repo_model.specs.State.{Yard, row_at, rows_of, is_repository, is_among, number_end}
-use Rattle.repo_model.specs.Effect.{recorded, with_effects, yard_after, draws}
-use Rattle.repo_model.specs.Command.{may_put, put, meets, is_fit, is_parcel, rule_of}
-use Rattle.repo_model.specs.Reply.{Reply, spent, draft, kind_refused, no_draft, no_memory, is_free, takes_memory}
-use Rattle.repo_model.specs.Turn.{Turn, turn, says, in_repository, draws_draft, put_at}
+use Rattle.repo_model.specs.State.{row_at, rows_of, is_among, number_end}
+use Rattle.repo_model.specs.Effect.{recorded, with_effects}
+use Rattle.repo_model.specs.Command.{put, meets, is_fit, is_parcel, rule_of}
+use Rattle.repo_model.specs.Reply.{Reply, no_draft, is_free}
+use Rattle.repo_model.specs.Turn.{Turn, turn, says, put_at}
 use Rattle.repo_core.specs.Hosted.{put_due, put_in, rows_in}
 use Rattle.hosted_repo.specs.Recording.{HasReplyCause}
 use Rattle.repo_model.specs.Tables.{Tables}
 use Rattle.repo_model.specs.History.{commits}
 use Rattle.row_tables.specs.Commits.{tables_with}
-use Rattle.repo_core.specs.Turn.{IsDueOr, IsDueOrFree, IsAnswer, due, wants_memory, failed, Recorded, Turned}
+use Rattle.repo_core.specs.Turn.{IsDueOrFree, IsAnswer, due, wants_memory, failed, Recorded}
 use Rattle.repo_core.specs.Whole.{Parts}
 use Rattle.repo_core.proofs.PutReplies.{by-free, put-reply, state_put, left-put}
 use Rattle.repo_core.proofs.Turning.{some-items, unless}
-
--- where a draft may be drawn
-in-place : (path : List ℕ) (found : Option Hosted) (t : Turn) → in_repository path found t ≡ (if is_fit (λ h. takes h.rule path) found then t else says kind_refused)
-in-place path None t = refl
-in-place path (Some h) t = refl
 
 if-so : {X : Type 0} (b : Bool) (x y : X) → true ≡ b → (if b then x else y) ≡ x
 if-so true x y e = refl
 if-so false x y e = cc
 
-if-not : {X : Type 0} (b : Bool) (x y : X) → false ≡ b → (if b then x else y) ≡ y
-if-not true x y e = cc
-if-not false x y e = refl
-
-module _ (w : Parts) (repo path : List ℕ) where
-  abbrev here : Option Hosted
-  here = find (is_repository repo) w.state.hosted
-
-  asks : turn w.settings w.state w.state.last (may_put (repository repo) path) ≡ (if is_fit (λ h. takes h.rule path) here then draws_draft w.state.yard.next_draft else says kind_refused)
-  asks = in-place path here (draws_draft w.state.yard.next_draft)
-
-  by-turn : (t : Turn) → turn w.settings w.state w.state.last (may_put (repository repo) path) ≡ t → is_free t.reply ≡ false → Turned w (record w { state = with_effects w.state t.effects }) (may_put (repository repo) path) t.reply
-  by-turn t is bound = record {
-    settings = refl;
-    calls = refl;
-    answered = inl (ap (λ (u : Turn). u.reply) (sym is));
-    left = ap (λ (u : Turn). with_effects w.state u.effects) (sym is) ∙ ap (λ b. with_effects w.state (if b then [] else (turn w.settings w.state w.state.last (may_put (repository repo) path)).effects)) (sym bound);
-  }
-
-  pub turned-kind : false ≡ is_fit (λ h. takes h.rule path) here → Turned w w (may_put (repository repo) path) kind_refused
-  turned-kind other = by-turn (says kind_refused) (asks ∙ if-not (is_fit (λ h. takes h.rule path) here) (draws_draft w.state.yard.next_draft) (says kind_refused) other) refl
-
-  module _ (taken : true ≡ is_fit (λ h. takes h.rule path) here) where
-    draft_so : turn w.settings w.state w.state.last (may_put (repository repo) path) ≡ draws_draft w.state.yard.next_draft
-    draft_so = asks ∙ if-so (is_fit (λ h. takes h.rule path) here) (draws_draft w.state.yard.next_draft) (says kind_refused) taken
-
-    pub turned-spent : true ≡ (w.state.yard.next_draft == number_end) → Turned w w (may_put (repository repo) path) spent
-    turned-spent last =
-        by-turn (says spent) (draft_so ∙ if-so (w.state.yard.next_draft == number_end) (says spent) (record { reply = draft w.state.yard.next_draft; effects = draws ∷ [] }) last) refl
-
-    pub turned-drawn : (n : ℕ) (yard : Yard) → false ≡ (w.state.yard.next_draft == number_end) → n ≡ w.state.yard.next_draft → yard ≡ yard_after draws w.state.yard
-        → Turned w (record w { state = record w.state { yard = yard } }) (may_put (repository repo) path) (draft n)
-    turned-drawn n yard more named drawn =
-        let given : Turn = record { reply = draft w.state.yard.next_draft; effects = draws ∷ [] } in
-        let turned = by-turn given (draft_so ∙ if-not (w.state.yard.next_draft == number_end) (says spent) given more) refl in
-        subst (λ y. Turned w (record w { state = record w.state { yard = y } }) (may_put (repository repo) path) (draft n)) (sym drawn)
-        (subst (λ k. Turned w (record w { state = record w.state { yard = yard_after draws w.state.yard } }) (may_put (repository repo) path) (draft k)) (sym named) turned)
-
-    pub turned-undrawn : (yard : Yard) → yard ≡ w.state.yard → Turned w (record w { state = record w.state { yard = yard } }) (may_put (repository repo) path) no_memory
-    turned-undrawn yard same = record { settings = refl; calls = refl; answered = inr (refl, refl); left = ap (λ y. record w.state { yard = y }) same }
-
 module _ (w : Parts) (repo path : List ℕ) (n : ℕ) (blob : Blob) where
-  pub no-draft-items : is_among n w.state.yard.drafts ≡ false → recorded (turn w.settings w.state w.state.last (put repo path n blob)).effects ≡ []
-  no-draft-items none = ap (λ (t : Turn). recorded t.effects) (if-not (is_among n w.state.yard.drafts) (put_at repo path n blob w.state.last (row_at path (rows_of repo w.state))) (says no_draft) (sym none))
-
-  pub turned-no_draft : is_among n w.state.yard.drafts ≡ false → Turned w w (put repo path n blob) no_draft
-  turned-no_draft none =
-      let so : turn w.settings w.state w.state.last (put repo path n blob) ≡ says no_draft = if-not (is_among n w.state.yard.drafts) (put_at repo path n blob w.state.last (row_at path (rows_of repo w.state))) (says no_draft) (sym none) in
-      record { settings = refl; calls = refl; answered = inl (ap (λ (t : Turn). t.reply) (sym so)); left = ap (λ (t : Turn). with_effects w.state t.effects) (sym so) }
-
   module _ (among : is_among n w.state.yard.drafts ≡ true) where
     by-draft : turn w.settings w.state w.state.last (put repo path n blob) ≡ put_at repo path n blob w.state.last (row_at path (rows_of repo w.state))
     by-draft = if-so (is_among n w.state.yard.drafts) (put_at repo path n blob w.state.last (row_at path (rows_of repo w.state))) (says no_draft) (sym among)

@@ -1,6 +1,6 @@
 -- What is recorded has its form: ids of repositories, paths of files, numbers of drafts.
 use native.Mathlib.Omega.{arith}
-use Rattle.std.proofs.Common.{◌≡◌, ℕ, ◌<◌, ◌≤◌, Bool, true, false, ◌&&◌, ◌||◌, List, [], ◌∷◌, length, Option, Some, None, zero, suc, ◌⊎◌, inl, inr, refl}
+use Rattle.std.proofs.Common.{◌≡◌, ℕ, ◌<◌, ◌≤◌, true, ◌&&◌, ◌||◌, List, [], ◌∷◌, length, Option, Some, None, zero, suc, ◌⊎◌, inl, inr, refl}
 use Rattle.std.specs.Prelude.{IsTrue, is_some, nat_le, nat_lt}
 use Rattle.std.specs.List.{AllByRecursion, list_all}
 use Rattle.std.proofs.lemmas.Bool.{and_from, and_parts, cases_order, false≢true, le-leb, lt-ltb}
@@ -11,7 +11,6 @@ use Rattle.repo_model.specs.Paths.{file_at, takes, takes_file}
 use Rattle.repo_model.specs.State.{State, is_among, number_end}
 use Rattle.repo_config.specs.Form.{is_from_1_to, is_rule}
 use Rattle.repo_config.specs.Names as names
-use Rattle.repo_laws.specs.Laws.{count_of}
 use Rattle.repo_laws.specs.Sound.{OnePlace}
 use Rattle.repo_laws.proofs.Counts.{among-counts}
 use Rattle.row_tables.specs.Items.{is_file_path, is_id, is_id_byte, is_number}

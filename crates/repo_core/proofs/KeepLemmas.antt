@@ -8,7 +8,7 @@ use Rattle.repo_config.specs.Form.{IsSettings}
 use Rattle.repo_model.specs.Settings.{Settings}
 use Rattle.repo_model.specs.State.{State, opening}
 use Rattle.repo_model.specs.Command.{Command, meets}
-use Rattle.repo_model.specs.History.{latest_moment, ticked}
+use Rattle.repo_model.specs.History.{ticked}
 use Rattle.repo_model.specs.May.{AllMay}
 use Rattle.repo_model.specs.Tables.{Tables, no_tables}
 use Rattle.repo_model.specs.Turn.{turn}

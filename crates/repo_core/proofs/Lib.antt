@@ -1,6 +1,5 @@
 mod AnswerLemmas
 mod BlobLemmas
-mod ConditionLemmas
 mod CountLemmas
 mod DraftLemmas
 mod HostedLemmas

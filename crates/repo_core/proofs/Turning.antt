@@ -14,11 +14,11 @@ use Rattle.std.specs.Option.{option_map}
 use Rattle.repo_model.specs.Data.{Blob, Row, Hosted, Session, repository, session}
 use Rattle.repo_model.specs.Paths.{takes}
 use Rattle.repo_model.specs.Settings.{Settings}
-use Rattle.repo_model.specs.State.{State, hosted_of, is_among, is_open, is_open_at, number_end, open_of, row_at, rows_of}
-use Rattle.repo_model.specs.Effect.{Effect, draws, drops, lends, recorded, with_effect, with_effects}
+use Rattle.repo_model.specs.State.{State, hosted_of, is_open, is_open_at, number_end, open_of, row_at, rows_of}
+use Rattle.repo_model.specs.Effect.{Effect, draws, lends, recorded, with_effect, with_effects}
 use Rattle.repo_model.specs.Tables.{Tables}
 use Rattle.repo_model.specs.declared.item.Item.{Item}
-use Rattle.repo_model.specs.Command.{Command, look, may_put, put_side, put_doc, drop_draft, collect, status, meets}
+use Rattle.repo_model.specs.Command.{Command, look, may_put, put_side, put_doc, collect, status, meets}
 use Rattle.repo_model.specs.Reply.{Reply, agreed, counts, differs, draft, file, kind_refused, no_memory, no_session, noted, spent, store_fault, is_free}
 use Rattle.repo_model.specs.Purge.{expire_all}
 use Rattle.repo_model.specs.Turn.{Seen, Turn, compared, draws_draft, in_repository, is_doc, is_file, is_nothing, is_text, seen_at, shows, turn, says, collect_of, counts_of, judged, may_put_in, staged_at, with_open}
@@ -27,7 +27,7 @@ use Rattle.repo_model.specs.History.{Entry, IsReply, MomentFits, commits, latest
 use Rattle.outside.specs.Faults.{Rose}
 use Rattle.hosted_repo.specs.Recording.{FitWhereTold, HasReplyCause}
 use Rattle.repo_config.specs.Form.{IsSettings}
-use Rattle.repo_laws.specs.Sound.{IsSound, AreNamedApart}
+use Rattle.repo_laws.specs.Sound.{IsSound}
 use Rattle.repo_laws.proofs.Answered.{no-free}
 use Rattle.repo_laws.proofs.Holding.{entry-recorded}
 use Rattle.repo_laws.proofs.Histories.{one-place-ticked, sound-ticked, ticked-later}
@@ -268,9 +268,6 @@ may_put-quiet w repo path = draws-nothing path (hosted_of repo w.state) w.state.
 
 pub put_side-quiet : (w : Parts) (repo path said : List ℕ) → recorded (turn w.settings w.state w.state.last (put_side (repository repo) path said)).effects ≡ []
 put_side-quiet w repo path said = judges-nothing (kind path) said (λ at. option_map (λ (row : Row). row.blob) (row_at at (rows_of repo w.state)))
-
-pub drop-quiet : (w : Parts) (n : ℕ) → recorded (turn w.settings w.state w.state.last (drop_draft n)).effects ≡ []
-drop-quiet w n = elim (is_among n w.state.yard.drafts) as (λ b. recorded (if b then drops n ∷ [] else []) ≡ []) [ true ↦ refl | false ↦ refl ]
 
 -- a turn whose effects, if it had any, were recorded
 pub recorded-so : (old new : Parts) (command : Command) (reply : Reply) (told told' : Option Tables) (faults faults' : ℕ) → Turned old new command reply

@@ -1,5 +1,3 @@
-use Rattle.std.proofs.Common.{sym, ap, ◌∙◌, subst}
-use Rattle.repo_config.specs.Form.{IsSettings}
 use Rattle.repo_core.proofs.KeepLemmas.{opens-kept}
 use Rattle.repo_core.proofs.repository.Core.plain.Goals as goal
 
