@@ -5,6 +5,7 @@ use outside::{Blobs, Parcel};
 use outside_memory::{FaultScript, MemBlobs, MemHeld, ScriptClock};
 use repo_config::Settings;
 use repo_core::{Command, Core, Place, Reply};
+use row_tables::MemRecords;
 use std::alloc::{AllocError, Global};
 use std::process::Abort;
 use std::test::Fail;
@@ -73,11 +74,14 @@ pub enum Ask {
     StageDoc(u64, &'static str),
 }
 
+/// A core over memory.
+pub type MemCore = Core<MemRecords, ScriptClock, MemHeld>;
+
 /// A core and its blobs.
 #[derive(Drop)]
 pub struct Bench {
     alloc: Global,
-    pub core: Core<ScriptClock, MemHeld>,
+    pub core: MemCore,
     blobs: MemBlobs,
 }
 
@@ -127,13 +131,24 @@ impl Bench {
 
     /// The repositories of these settings, by this clock.
     pub fn of(alloc: Global, settings: &str, clock: ScriptClock) -> Result<Bench, Fail> {
-        match Core::plain(alloc, settings_of(alloc, settings)?, clock) {
+        Bench::over(alloc, settings, Vec::new(alloc), clock)
+    }
+
+    /// The same, over records whose commits with these numbers fail, the first having the number 0.
+    pub fn over(
+        alloc: Global,
+        settings: &str,
+        failing: Vec<u64>,
+        clock: ScriptClock,
+    ) -> Result<Bench, Fail> {
+        let records = MemRecords::new(alloc, failing);
+        match Core::plain(alloc, settings_of(alloc, settings)?, records, clock) {
             Ok(core) => Ok(Bench {
                 alloc,
                 core,
                 blobs: MemBlobs::new(alloc, FaultScript::none(alloc)),
             }),
-            Err((error, _)) => Err(error)?,
+            Err((error, _, _)) => Err(error)?,
         }
     }
 
@@ -196,7 +211,7 @@ impl Bench {
     // The reply, where the command meets its condition.
     fn reply(&mut self, ask: Ask) -> Result<Option<Reply<MemHeld>>, Fail> {
         let command = self.command(ask)?;
-        if !self.core.fits(&command) {
+        if !MemCore::fits(self.core.settings(), &command) {
             return Ok(None);
         }
         Ok(Some(self.core.call(command)))
@@ -205,7 +220,7 @@ impl Bench {
     /// Whether a command meets its condition.
     pub fn fits(&mut self, ask: Ask) -> Result<bool, Fail> {
         let command = self.command(ask)?;
-        Ok(self.core.fits(&command))
+        Ok(MemCore::fits(self.core.settings(), &command))
     }
 
     /// Whether the next command is answered so.

@@ -70,7 +70,7 @@ static FIT: [(Ask, bool); 11] = [
 // How many calls there were, and what the clock then tells.
 fn end_of(bench: Bench) -> (u64, u64) {
     let calls = bench.core.calls();
-    let mut clock = bench.core.end();
+    let (_, mut clock) = bench.core.end();
     (calls, clock.now())
 }
 

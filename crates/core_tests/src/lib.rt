@@ -9,6 +9,8 @@ mod cases;
 #[cfg(test)]
 mod documents;
 #[cfg(test)]
+mod failing;
+#[cfg(test)]
 mod generated;
 #[cfg(test)]
 mod kinds;

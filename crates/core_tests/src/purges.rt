@@ -6,13 +6,13 @@ use std::alloc::Global;
 use std::process::Abort;
 use std::test::Fail;
 
-const FIRST: &str = "org/acme/lib/1.1-SNAPSHOT/lib-1.1-20240229.235959-1.jar";
+pub const FIRST: &str = "org/acme/lib/1.1-SNAPSHOT/lib-1.1-20240229.235959-1.jar";
 
-const SECOND: &str = "org/acme/lib/1.1-SNAPSHOT/lib-1.1-20240301.080000-2.pom";
+pub const SECOND: &str = "org/acme/lib/1.1-SNAPSHOT/lib-1.1-20240301.080000-2.pom";
 
-const DOCUMENT: &str = "org/acme/lib/1.1-SNAPSHOT/maven-metadata.xml";
+pub const DOCUMENT: &str = "org/acme/lib/1.1-SNAPSHOT/maven-metadata.xml";
 
-const OF_SECOND: &str = "<?xml version=\"1.0\" encoding=\"UTF-8\"?>
+pub const OF_SECOND: &str = "<?xml version=\"1.0\" encoding=\"UTF-8\"?>
 <metadata modelVersion=\"1.1.0\">
   <groupId>org.acme</groupId>
   <artifactId>lib</artifactId>
@@ -34,7 +34,7 @@ const OF_SECOND: &str = "<?xml version=\"1.0\" encoding=\"UTF-8\"?>
 </metadata>
 ";
 
-const OF_BOTH: &str = "<?xml version=\"1.0\" encoding=\"UTF-8\"?>
+pub const OF_BOTH: &str = "<?xml version=\"1.0\" encoding=\"UTF-8\"?>
 <metadata modelVersion=\"1.1.0\">
   <groupId>org.acme</groupId>
   <artifactId>lib</artifactId>

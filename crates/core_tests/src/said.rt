@@ -54,6 +54,7 @@ pub enum Said {
     NoSession,
     // files, those that are unlisted, files and documents of proxies, sessions
     Counts([u64; 5]),
+    StoreFault,
     // none: the command does not meet its condition
     Unfit,
 }
@@ -86,6 +87,7 @@ fn is_word(reply: &Reply<MemHeld>, want: &Said) -> bool {
             | (Reply::Agreed, Said::Agreed)
             | (Reply::Noted, Said::Noted)
             | (Reply::NoSession, Said::NoSession)
+            | (Reply::StoreFault, Said::StoreFault)
     )
 }
 

@@ -1,5 +1,5 @@
 -- What stays as it was where rows fade.
-use Rattle.std.proofs.Common.{◌≡◌, ℕ, zero, suc, true, false, cond, List, [], ◌∷◌, map, filter, take, Option, Some, None, Result, Ok, Err, option_map, String, Global, string_bytes, bytes_eq, refl, sym, ap, ◌∙◌}
+use Rattle.std.proofs.Common.{◌≡◌, ℕ, zero, suc, true, false, cond, List, [], ◌∷◌, map, filter, take, Option, Some, None, Result, Ok, Err, option_map, bytes_eq, refl, sym, ap, ◌∙◌}
 use Rattle.std.specs.Prelude.{is_some}
 use Rattle.std.specs.List.{AllByRecursion}
 use Rattle.std.proofs.lemmas.Bool.{and_parts, both_ways, false≢true, false_from_ne_true}
@@ -18,7 +18,7 @@ use Rattle.repo_model.specs.Purge.{due_rows, is_due_at, is_due_build, most_rows}
 use Rattle.repo_model.specs.Settings.{Rule}
 use Rattle.repo_model.specs.State.{change_where, is_row, row_at}
 use Rattle.repo_model.specs.Turn.{Seen, is_file, is_text, or_nothing, seen_at}
-use Rattle.hosted_repo.specs.Dues.{fade_at_paths, is_due_row}
+use Rattle.hosted_repo.specs.Dues.{is_due_row}
 use Rattle.hosted_repo.specs.Rows.{rows_after_all}
 use Rattle.hosted_repo.specs.Seens.{is_of_document}
 
@@ -57,13 +57,13 @@ seen_same xs ys same path (Ok (kind.Doc d)) other = absurd (false≢true (sym ot
 seen_same xs ys same path (Ok (kind.DocSide d side)) other = absurd (false≢true (sym other))
 seen_same xs ys same path (Err fault) other = refl
 
-blob-paths : (repo : List ℕ) (now : ℕ) (paths : List (String Global)) (rows : List plain.Row) (path : List ℕ) → blob_at path (rows_after_all (fade_at_paths repo now paths) rows) ≡ blob_at path rows
-blob-paths repo now [] rows path = refl
-blob-paths repo now (p ∷ paths) rows path = blob-paths repo now paths (rows_after (fades repo (string_bytes p) now) rows) path ∙ blob-faded (string_bytes p) path now rows
+blob-rows : (repo : List ℕ) (now : ℕ) (due rows : List plain.Row) (path : List ℕ) → blob_at path (rows_after_all (map (λ (row : plain.Row). fades repo row.path now) due) rows) ≡ blob_at path rows
+blob-rows repo now [] rows path = refl
+blob-rows repo now (row ∷ due) rows path = blob-rows repo now due (rows_after (fades repo row.path now) rows) path ∙ blob-faded row.path path now rows
 
-pub answered_alike : (repo : List ℕ) (now : ℕ) (paths : List (String Global)) (rows : List plain.Row) (path : List ℕ) (k : Result Kind PathFault) → is_of_document k ≡ false
-    → seen_at (rows_after_all (fade_at_paths repo now paths) rows) path k ≡ seen_at rows path k
-answered_alike repo now paths rows path k other = seen_same (rows_after_all (fade_at_paths repo now paths) rows) rows (blob-paths repo now paths rows) path k other
+pub answered_alike : (repo : List ℕ) (now : ℕ) (due rows : List plain.Row) (path : List ℕ) (k : Result Kind PathFault) → is_of_document k ≡ false
+    → seen_at (rows_after_all (map (λ (row : plain.Row). fades repo row.path now) due) rows) path k ≡ seen_at rows path k
+answered_alike repo now due rows path k other = seen_same (rows_after_all (map (λ (row : plain.Row). fades repo row.path now) due) rows) rows (blob-rows repo now due rows) path k other
 
 -- ---- files of releases
 row-apart : (at path : List ℕ) (moment : ℕ) (rows : List plain.Row) → bytes_eq at path ≡ false → row_at path (change_where (is_row at) (fade moment) rows) ≡ row_at path rows

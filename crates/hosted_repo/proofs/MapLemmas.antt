@@ -1,5 +1,5 @@
 -- Rows in the entries of an ordered map.
-use Rattle.std.proofs.Common.{◌≡◌, ℕ, Bool, true, false, cond, List, [], ◌∷◌, Option, Some, None, option_map, String, Global, string_bytes, Bor, Ordering, Less, Equal, Greater, is_eq, nat_cmp, refl, sym, ◌∙◌, ap, bytes_eq}
+use Rattle.std.proofs.Common.{◌≡◌, ℕ, Bool, true, false, cond, List, [], ◌∷◌, Option, Some, None, option_map, String, Global, string_bytes, Bor, Ordering, Less, Equal, Greater, is_eq, nat_cmp, refl, sym, ◌∙◌, ap, subst, bytes_eq}
 use Rattle.std.proofs.lemmas.Map.Text.{is_eq-slice_cmp}
 use Rattle.std.proofs.lemmas.Slice.Eq.{bytes_eq-Decides}
 use Rattle.std.proofs.lemmas.Bool.{false_from_ne_true, both_ways}
@@ -8,7 +8,7 @@ use Rattle.std.specs.Cmp.Lexicographic.{slice_cmp}
 use Rattle.std.specs.Ordering.{match_ordering}
 use Rattle.std.specs.List.{AllByRecursion}
 use Rattle.std.specs.List.Sorted.{IsStrictlySortedBy}
-use Rattle.std.specs.Map.{lookup, set_value, keys_of}
+use Rattle.std.specs.Map.{lookup, set_value, keys_of, remove_entry}
 use Rattle.std.specs.Option.{option_copied}
 use Rattle.std.specs.BTreeMap.{is_at, insert_entry}
 use Rattle.std.specs.String.{string_cmp}
@@ -108,3 +108,53 @@ module _ {X : Type 0} {G : Ghosts X} where
         | false ↦ λ there.
             ap (λ rows. shown_entry e ∷ rows) (unwritten path f es (sym (ap (λ b. cond b (Some e.1) (lookup (at_text path) es)) (test ∙ there)) ∙ is))
       ] refl
+
+at_itself : (k : String Global) → at_text (string_bytes k) k ≡ true
+at_itself k = same_test (string_bytes k) (string_bytes k) ∙ (bytes_eq-Decides (string_bytes k) (string_bytes k)).1 refl
+
+module _ {X : Type 0} {G : Ghosts X} where
+  -- what a new entry at a path that had none is found as, and what is left once it is taken out again
+  found_new : (k : String Global) (v : Row X G) (es : List (String Global × Row X G)) → row_at (string_bytes k) (shown_rows es) ≡ None
+      → lookup (at_text (string_bytes k)) (insert_entry string_cmp es k v) ≡ Some v
+  found_new k v [] none = rw (at_itself k) refl
+  found_new k v (e ∷ es) none =
+      let here : (o : Ordering) → slice_cmp nat_cmp (string_bytes k) (string_bytes e.0) ≡ o → bytes_eq (string_bytes e.0) (string_bytes k) ≡ is_eq o =
+      λ o h. sym (same_test (string_bytes k) (string_bytes e.0)) ∙ ap is_eq h in
+      elim (slice_cmp nat_cmp (string_bytes k) (string_bytes e.0))
+      as (λ o. slice_cmp nat_cmp (string_bytes k) (string_bytes e.0) ≡ o
+      → lookup (at_text (string_bytes k)) (match_ordering o ((k, v) ∷ e ∷ es) ((e.0, v) ∷ es) (e ∷ insert_entry string_cmp es k v)) ≡ Some v) [
+        | Less ↦ λ h. rw (at_itself k) refl
+        | Equal ↦ λ h. absurd (none-some (shown_entry e) (sym (sym (ap (λ b. cond b (Some (shown_entry e)) (row_at (string_bytes k) (shown_rows es))) (here Equal h)) ∙ none)))
+        | Greater ↦ λ h.
+            ap (λ b. cond b (Some e.1) (lookup (at_text (string_bytes k)) (insert_entry string_cmp es k v))) (ap is_eq h)
+            ∙ found_new k v es (sym (ap (λ b. cond b (Some (shown_entry e)) (row_at (string_bytes k) (shown_rows es))) (here Greater h)) ∙ none)
+      ] refl
+
+  undone : (k : String Global) (v : Row X G) (es : List (String Global × Row X G)) → row_at (string_bytes k) (shown_rows es) ≡ None
+      → remove_entry (at_text (string_bytes k)) (insert_entry string_cmp es k v) ≡ es
+  undone k v [] none = rw (at_itself k) refl
+  undone k v (e ∷ es) none =
+      let here : (o : Ordering) → slice_cmp nat_cmp (string_bytes k) (string_bytes e.0) ≡ o → bytes_eq (string_bytes e.0) (string_bytes k) ≡ is_eq o =
+      λ o h. sym (same_test (string_bytes k) (string_bytes e.0)) ∙ ap is_eq h in
+      elim (slice_cmp nat_cmp (string_bytes k) (string_bytes e.0))
+      as (λ o. slice_cmp nat_cmp (string_bytes k) (string_bytes e.0) ≡ o
+      → remove_entry (at_text (string_bytes k)) (match_ordering o ((k, v) ∷ e ∷ es) ((e.0, v) ∷ es) (e ∷ insert_entry string_cmp es k v)) ≡ e ∷ es) [
+        | Less ↦ λ h. rw (at_itself k) refl
+        | Equal ↦ λ h. absurd (none-some (shown_entry e) (sym (sym (ap (λ b. cond b (Some (shown_entry e)) (row_at (string_bytes k) (shown_rows es))) (here Equal h)) ∙ none)))
+        | Greater ↦ λ h.
+            ap (λ b. cond b (insert_entry string_cmp es k v) (e ∷ remove_entry (at_text (string_bytes k)) (insert_entry string_cmp es k v))) (ap is_eq h)
+            ∙ ap (λ rest. e ∷ rest) (undone k v es (sym (ap (λ b. cond b (Some (shown_entry e)) (row_at (string_bytes k) (shown_rows es))) (here Greater h)) ∙ none))
+      ] refl
+
+module _ {X : Type 0} {G : Ghosts X} (path : List ℕ) (k : String Global) (v : Row X G) (es after : List (String Global × Row X G)) (is : string_bytes k ≡ path) (made : after ≡ insert_entry string_cmp es k v)
+    (none : row_at path (shown_rows es) ≡ None) where
+  -- the same at the entries that a map has after the new one
+  pub held : lookup (at_text path) after ≡ Some v
+  held =
+      ap (lookup (at_text path)) made
+      ∙ subst (λ (p : List ℕ). row_at p (shown_rows es) ≡ None → lookup (at_text p) (insert_entry string_cmp es k v) ≡ Some v) is (found_new k v es) none
+
+  pub put_back : remove_entry (at_text path) after ≡ es
+  put_back =
+      ap (remove_entry (at_text path)) made
+      ∙ subst (λ (p : List ℕ). row_at p (shown_rows es) ≡ None → remove_entry (at_text p) (insert_entry string_cmp es k v) ≡ es) is (undone k v es) none

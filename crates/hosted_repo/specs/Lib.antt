@@ -2,6 +2,7 @@ pub mod Documents
 pub mod Dues
 pub mod Expired
 pub mod Puts
+pub mod Recording
 pub mod Rows
 pub mod Rules
 pub mod Seens

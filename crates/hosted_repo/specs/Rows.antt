@@ -1,14 +1,18 @@
 -- Rows as the machine's plain data.
-use Rattle.std.specs.Prelude.{ℕ, ◌-◌, Bool, false, not, ◌&&◌, nat_lt, if◌then◌else◌, List, [], ◌∷◌, map, String, string_bytes}
+use Rattle.std.specs.Prelude.{ℕ, ◌-◌, Bool, false, not, ◌&&◌, nat_lt, if◌then◌else◌, IsTrue, List, [], ◌∷◌, map, String, string_bytes}
 use Rattle.std.specs.declared.alloc.Global.{Global}
+use Rattle.std.specs.List.{AllByRecursion}
 use Rattle.outside.specs.declared.stores.Held.{Ghosts}
 use Rattle.repo_model.specs.Data as plain
 use Rattle.repo_model.specs.Document.{is_listed}
 use Rattle.repo_model.specs.Effect.{Effect, rows_after}
 use Rattle.repo_model.specs.Shown.{shown_parcel}
+use Rattle.row_tables.specs.Items.{is_file_path}
 use Rattle.hosted_repo.specs.declared.row.Phase.{Phase}
 use Rattle.hosted_repo.specs.declared.row.Phase.TheVariants.{Listed, Fading}
 use Rattle.hosted_repo.specs.declared.row.Row.{Row}
+use Rattle.hosted_repo.specs.declared.rule.Rule.{Rule}
+use Rattle.hosted_repo.specs.Rules.{shown_rule}
 
 abbrev pub shown_phase : Phase → plain.Phase
 shown_phase Listed = plain.listed
@@ -28,6 +32,14 @@ module _ {X : Type 0} {G : Ghosts X} where
 
   abbrev pub shown_rows : List (String Global × Row X G) → List plain.Row
   shown_rows entries = map shown_entry entries
+
+  -- a repository of a rule with such rows
+  abbrev pub hosted_of : Rule → List (String Global × Row X G) → plain.Hosted
+  hosted_of rule entries = record { rule = shown_rule rule; rows = shown_rows entries }
+
+-- each row's path is that of a file
+abbrev pub AreFiles : List plain.Row → Type 0
+AreFiles rows = AllByRecursion (λ (row : plain.Row). IsTrue (is_file_path row.path)) rows
 
 -- the rows after some effects
 abbrev pub rows_after_all : List Effect → List plain.Row → List plain.Row

@@ -1,36 +1,43 @@
 //! A hosted repository.
-ghost use Rattle.std.specs.Prelude.{◌≡◌, ◌≤◌, ◌⊎◌, if◌then◌else◌, IfOk, OnOk, OnErr, ℕ, List, true, false, length, count_by, map, take, string_bytes};
+ghost use Rattle.std.specs.Prelude.{◌≡◌, ◌≢◌, ◌<◌, ◌≤◌, ◌-◌, ◌⊎◌, ◌∷◌, ◌++◌, [], if◌then◌else◌, min, IfOk, OnOk, OnErr, IsTrue, ℕ, List, true, false, length, count_by, map, take, string_bytes};
+ghost use Rattle.std.specs.List.{AllByRecursion};
 ghost use Rattle.std.specs.Option.{option_map};
 ghost use Rattle.mvn_coords.specs.Kind.{kind};
+ghost use Rattle.repo_model.specs.declared.item.Item.TheVariants.{HostedPut, Relisted};
 ghost use Rattle.repo_model.specs.Document.{document};
+ghost use Rattle.repo_model.specs.Effect.{list_again, new_row, recorded, with_row};
 ghost use Rattle.repo_model.specs.History.{latest_moment};
 ghost use Rattle.repo_model.specs.Paths.{takes_file, file_in, is_snapshot_path};
-ghost use Rattle.repo_model.specs.Purge.{due_rows, expired_of, fade_all};
-ghost use Rattle.repo_model.specs.Reply.{is_free, no_memory};
-ghost use Rattle.repo_model.specs.Shown.{shown_parcel};
-ghost use Rattle.repo_model.specs.State.{row_at, new_hosted};
-ghost use Rattle.repo_model.specs.Turn.{put_at, seen_at};
-ghost use Rattle.hosted_repo.specs.Dues.{fade_at_paths};
-ghost use Rattle.hosted_repo.specs.Expired.{shown_expired};
+ghost use Rattle.repo_model.specs.Purge.{due_rows, expired_of, fade_all, most_rows};
+ghost use Rattle.repo_model.specs.Reply.{created, is_free, relisted};
+ghost use Rattle.repo_model.specs.Shown.{shown_parcel, shown_print};
+ghost use Rattle.repo_model.specs.State.{change_where, is_row, number_end, row_at, new_hosted};
+ghost use Rattle.repo_model.specs.Turn.{seen_at};
+ghost use Rattle.row_tables.specs.Commits.{tables_with};
+ghost use Rattle.row_tables.specs.Items.{is_file_path, is_id, is_number};
+ghost use Rattle.hosted_repo.specs.Expired.{blob_of};
+ghost use Rattle.hosted_repo.specs.Recording.{FitWhereTold, HasKeptCause, HasReplyCause, IsRemoved};
 ghost use Rattle.hosted_repo.specs.Rules.{shown_rule};
 ghost use Rattle.hosted_repo.specs.Rows.{fades, shown_at, rows_after_all};
-ghost use Rattle.hosted_repo.specs.Puts.{shown_put, GivesBack};
+ghost use Rattle.hosted_repo.specs.Puts.{shown_put, put_turn, GivesBack};
 ghost use Rattle.hosted_repo.specs.Seens.{shown_seen, is_of_document};
 
-use crate::purge::Expired;
-use crate::put::{Put, Standing};
+use crate::kept::Kept;
+use crate::purge::MOST_ROWS;
+use crate::put::{Put, Returned, Standing};
 use crate::row::Row;
 use crate::rule::Rule;
 use crate::seen::Seen;
-use crate::{NoMemory, documents, looks, purge, rows};
+use crate::{NoMemory, changes, documents, looks, purge, rows, storing};
 use mvn_coords::{Dir, Kind};
 use mvn_metadata::Doc;
 use outside::{Held, Parcel};
+use row_tables::{Change, Records};
 use std::alloc::Global;
 use std::collections::BTreeMap;
 use std::marker::Model;
 
-/// A hosted repository: its rule and its rows, each path once, in byte order of path.
+/// A hosted repository: its rule and its rows, each path once and the path of a file, in byte order of path.
 #[derive(Drop)]
 pub struct Hosted<H: Held> {
     alloc: Global,
@@ -39,6 +46,7 @@ pub struct Hosted<H: Held> {
 }
 
 impl<H: Held> Model for Hosted<H> {
+    ghost use Rattle.std.specs.Prelude.{IsTrue};
     ghost use Rattle.repo_model.specs.Data as plain;
 
     ghost Value = { plain.Hosted };
@@ -47,11 +55,17 @@ impl<H: Held> Model for Hosted<H> {
     ghost use Rattle.hosted_repo.specs.Rules.{shown_rule};
 
     ghost view = { λ h. record { rule = shown_rule h.rule; rows = shown_rows h.rows.entries } };
+
+    ghost use Rattle.hosted_repo.specs.Rows.{AreFiles};
+    ghost use Rattle.row_tables.specs.Items.{is_id};
+
+    ghost invariant = { λ h. record { named : IsTrue (is_id h.rule.id); files : AreFiles (shown_rows h.rows.entries) } };
 }
 
 impl<H: Held> Hosted<H> {
-    /// A repository without rows.
+    /// A repository without rows. Its id has 1 to 64 bytes of a-z, 0-9 and -.
     pub fn new(alloc: Global, rule: Rule) -> Hosted<H>
+        requires { IsTrue (is_id rule.id) }
         ensures { result ≡ new_hosted (shown_rule rule) }
     {
         Hosted {
@@ -91,27 +105,100 @@ impl<H: Held> Hosted<H> {
     }
 
     /// Puts a stored blob at a path at a moment, in seconds since 1970 in UTC. A row of the same content stays its file and
-    /// is visible again, and one of another content stays as it is.
-    pub fn put(&mut self, path: &str, parcel: Parcel<H>, now: u64) -> Put<H>
-        requires { now ≤ latest_moment }
-        ensures reply { let turn = put_at self.old.rule.id path.now parcel.blob (shown_parcel parcel) now (row_at path.now self.old.rows) in
-            (shown_put result ≡ turn.reply) ⊎ (shown_put result ≡ no_memory) }
-        ensures rows { let turn = put_at self.old.rule.id path.now parcel.blob (shown_parcel parcel) now (row_at path.now self.old.rows) in
+    /// is visible again, and one of another content stays as it is. A new row, and one that is visible again, is recorded
+    /// first; where that fails nothing is changed.
+    pub fn put<K: Records>(
+        &mut self,
+        records: &mut K,
+        path: &str,
+        parcel: Parcel<H>,
+        now: u64,
+    ) -> Put<H>
+        requires moment { now ≤ latest_moment }
+        requires ready { K.ready records.old }
+        requires path { IsTrue (is_file_path path.now) }
+        requires blob { IsTrue (is_number parcel.blob) }
+        requires length { parcel.length < number_end }
+        requires fits { FitWhereTold (K.tables records.old) (recorded (put_turn self.old path.now (shown_parcel parcel) now).effects) }
+        ensures reply { let turn = put_turn self.old path.now (shown_parcel parcel) now in
+            (shown_put result ≡ turn.reply) ⊎ (IsTrue (is_free (shown_put result)) × (recorded turn.effects ≢ [])) }
+        ensures rows { let turn = put_turn self.old path.now (shown_parcel parcel) now in
             self.new ≡ (if is_free (shown_put result) then self.old else record self.old { rows = rows_after_all turn.effects self.old.rows }) }
-        ensures room { shown_put result ≡ no_memory → row_at path.now self.old.rows ≡ None }
+        ensures tables { let turn = put_turn self.old path.now (shown_parcel parcel) now in
+            K.tables records.new ≡ (if is_free (shown_put result) then K.tables records.old else tables_with (recorded turn.effects) (K.tables records.old)) }
+        ensures cause { HasReplyCause (K.faults records.old) (K.faults records.new) (shown_put result) }
+        ensures ready { K.ready records.new }
         ensures parcel { GivesBack result parcel }
     {
         match rows::standing(&self.rows, path, rows::print_of(&parcel)) {
-            Standing::Free => match rows::add(self.alloc, &mut self.rows, path, parcel, now) {
-                Ok(()) => Put::Created,
-                Err(parcel) => Put::NoMemory(parcel),
-            },
+            Standing::Free => self.create(records, path, parcel, now),
             Standing::Other(kept) => Put::Taken { kept, sent: parcel },
             Standing::Same => Put::Same(parcel),
-            Standing::Unlisted => {
-                rows::list_again(&mut self.rows, path, now);
-                Put::Relisted(parcel)
-            }
+            Standing::Unlisted => self.relist(records, path, parcel, now),
+        }
+    }
+
+    // Puts a stored blob at a path that has no row.
+    fn create<K: Records>(
+        &mut self,
+        records: &mut K,
+        path: &str,
+        parcel: Parcel<H>,
+        now: u64,
+    ) -> Put<H>
+        requires free { row_at path.now self.old.rows ≡ None }
+        requires moment { now ≤ latest_moment }
+        requires ready { K.ready records.old }
+        requires path { IsTrue (is_file_path path.now) }
+        requires blob { IsTrue (is_number parcel.blob) }
+        requires length { parcel.length < number_end }
+        requires fits { FitWhereTold (K.tables records.old) (HostedPut self.old.rule.id path.now parcel.blob (shown_print parcel) now ∷ []) }
+        ensures reply { (shown_put result ≡ created) ⊎ IsTrue (is_free (shown_put result)) }
+        ensures rows { self.new ≡ (if is_free (shown_put result) then self.old
+            else record self.old { rows = with_row (new_row path.now (shown_parcel parcel) now) self.old.rows }) }
+        ensures tables { K.tables records.new ≡ (if is_free (shown_put result) then K.tables records.old
+            else tables_with (HostedPut self.old.rule.id path.now parcel.blob (shown_print parcel) now ∷ []) (K.tables records.old)) }
+        ensures cause { HasReplyCause (K.faults records.old) (K.faults records.new) (shown_put result) }
+        ensures ready { K.ready records.new }
+        ensures parcel { GivesBack result parcel }
+    {
+        changes::sizes(parcel.digests);
+        let id = &self.rule.id;
+        match storing::create(self.alloc, &mut self.rows, records, id, path, parcel, now) {
+            Ok(()) => Put::Created,
+            Err(Returned { why, parcel }) => match why {
+                Kept::StoreFault => Put::StoreFault(parcel),
+                Kept::NoMemory => Put::NoMemory(parcel),
+            },
+        }
+    }
+
+    // Puts a stored blob at a path that has an unlisted row of the same content.
+    fn relist<K: Records>(
+        &mut self,
+        records: &mut K,
+        path: &str,
+        parcel: Parcel<H>,
+        now: u64,
+    ) -> Put<H>
+        requires moment { now ≤ latest_moment }
+        requires ready { K.ready records.old }
+        requires path { IsTrue (is_file_path path.now) }
+        requires fits { FitWhereTold (K.tables records.old) (Relisted self.old.rule.id path.now now ∷ []) }
+        ensures reply { (shown_put result ≡ relisted) ⊎ IsTrue (is_free (shown_put result)) }
+        ensures rows { self.new ≡ (if is_free (shown_put result) then self.old
+            else record self.old { rows = change_where (is_row path.now) (list_again now) self.old.rows }) }
+        ensures tables { K.tables records.new ≡ (if is_free (shown_put result) then K.tables records.old
+            else tables_with (Relisted self.old.rule.id path.now now ∷ []) (K.tables records.old)) }
+        ensures cause { HasReplyCause (K.faults records.old) (K.faults records.new) (shown_put result) }
+        ensures ready { K.ready records.new }
+        ensures parcel { GivesBack result parcel }
+    {
+        let id = &self.rule.id;
+        match storing::relist(self.alloc, &mut self.rows, records, id, path, now) {
+            Ok(()) => Put::Relisted(parcel),
+            Err(Kept::StoreFault) => Put::StoreFault(parcel),
+            Err(Kept::NoMemory) => Put::NoMemory(parcel),
         }
     }
 
@@ -139,24 +226,21 @@ impl<H: Held> Hosted<H> {
         purge::due_paths(self.alloc, &self.rows, &self.rule, now)
     }
 
-    /// Unlists the rows at some paths at a moment, in seconds since 1970 in UTC. They are still answered, and named by no
-    /// document. It takes no memory.
-    pub fn fade(&mut self, paths: &[String], now: u64)
-        ensures rows { self.new ≡ record self.old { rows = rows_after_all (fade_at_paths self.old.rule.id now paths.now) self.old.rows } }
-
-        // Files and their side files are answered as before.
-        ensures answered { (path : List ℕ) → is_of_document (kind path) ≡ false
-            → seen_at self.new.rows path (kind path) ≡ seen_at self.old.rows path (kind path) }
-    {
-        purge::fade_all(&mut self.rows, paths, now);
-    }
-
-    /// Unlists the rows that are to fade at a moment, at most 1,000,000, the first in byte order of path, and gives how many.
-    /// Where memory is wanting nothing is changed.
-    pub fn unlist(&mut self, now: u64) -> Result<u64, NoMemory>
+    /// Unlists the rows that are to fade at a moment, in seconds since 1970 in UTC, those of `due_paths`, and gives how many.
+    /// They are still answered, and named by no document. That they fade is recorded first; where that fails nothing is
+    /// changed.
+    pub fn unlist<K: Records>(&mut self, records: &mut K, now: u64) -> Result<u64, Kept>
+        requires moment { now ≤ latest_moment }
+        requires ready { K.ready records.old }
+        requires fits { FitWhereTold (K.tables records.old) (recorded (fade_all self.old now)) }
         ensures count { IfOk result (λ n. n ≡ length (due_rows self.old.rule now self.old.rows)) }
         ensures rows { OnOk result (self.new ≡ record self.old { rows = rows_after_all (fade_all self.old now) self.old.rows }) }
+        ensures tables { OnOk result (K.tables records.new ≡ tables_with (recorded (fade_all self.old now)) (K.tables records.old)) }
         ensures err { OnErr result (self.new ≡ self.old) }
+        ensures untold { OnErr result (K.tables records.new ≡ K.tables records.old) }
+        ensures cause { HasKeptCause (K.faults records.old) (K.faults records.new) result }
+        ensures asked { result ≡ Err Kept.StoreFault → recorded (fade_all self.old now) ≢ [] }
+        ensures ready { K.ready records.new }
 
         // Files of releases stay as they are, and all files and their side files are answered as before.
         ensures releases { (path : List ℕ) → is_snapshot_path path ≡ false
@@ -164,20 +248,33 @@ impl<H: Held> Hosted<H> {
         ensures answered { (path : List ℕ) → is_of_document (kind path) ≡ false
             → seen_at self.new.rows path (kind path) ≡ seen_at self.old.rows path (kind path) }
     {
-        let paths = self.due_paths(now)?;
-        self.fade(paths.as_slice(), now);
-        Ok(paths.len() as u64)
+        purge::unlist_rows(self.alloc, &mut self.rows, records, &self.rule, now)
     }
 
-    /// The first `most` rows whose grace period, in seconds, is over at a moment, in byte order of path, with their blobs: what
-    /// `drop_expired` takes away with their count.
-    pub fn expiring(&self, grace: u64, now: u64, most: u64) -> Result<Vec<Expired>, NoMemory>
-        ensures { IfOk result (λ found. map (shown_expired self.now.rule.id) found.items ≡ take most (expired_of grace now self.now)) }
+    /// The first rows whose grace period, in seconds, is over at a moment, in byte order of path: what `drop_expired` takes
+    /// away with their count. Their removals are added to a change while it has fewer than 1,000,000 items, and their blobs to
+    /// a list; it gives how many there are. Where memory is wanting both are as before.
+    pub fn expiring(
+        &self,
+        grace: u64,
+        now: u64,
+        change: &mut Change,
+        blobs: &mut Vec<u64>,
+    ) -> Result<u64, NoMemory>
+        requires { AllByRecursion IsRemoved change.old }
+        ensures count { IfOk result (λ n. n ≡ min (most_rows - length change.old) (length (expired_of grace now self.now))) }
+        ensures change { OnOk result (change.new ≡ change.old ++ recorded (take (most_rows - length change.old) (expired_of grace now self.now))) }
+        ensures blobs { OnOk result (blobs.new.items ≡ blobs.old.items ++ map blob_of (take (most_rows - length change.old) (expired_of grace now self.now))) }
+        ensures unchanged { OnErr result (change.new ≡ change.old) }
+        ensures untaken { OnErr result (blobs.new.items ≡ blobs.old.items) }
     {
-        purge::expired_rows(self.alloc, &self.rows, now.saturating_sub(grace), most)
+        let most = MOST_ROWS.saturating_sub(change.items().len()) as u64;
+        let gone = purge::expired_rows(self.alloc, &self.rows, now.saturating_sub(grace), most)?;
+        purge::add_gone(self.alloc, &self.rule.id, &gone, change, blobs)
     }
 
-    /// Takes the first `count` rows away whose grace period, in seconds, is over at a moment.
+    /// Takes the first `count` rows away whose grace period, in seconds, is over at a moment. It takes no memory; that they go
+    /// was recorded with `expiring`.
     pub fn drop_expired(&mut self, grace: u64, now: u64, count: u64)
         ensures { self.new ≡ record self.old { rows = rows_after_all (take count (expired_of grace now self.old)) self.old.rows } }
     {

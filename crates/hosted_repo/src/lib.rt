@@ -1,9 +1,11 @@
 //! A hosted repository: its rows in an ordered map, what they answer, and the documents of its directories.
 #![tactic(auto)]
 
+mod changes;
 mod documents;
 mod dues;
 mod hosted;
+mod kept;
 mod looks;
 mod purge;
 mod put;
@@ -11,10 +13,11 @@ mod row;
 mod rows;
 mod rule;
 mod seen;
+mod storing;
 mod walk;
 
 pub use hosted::Hosted;
-pub use purge::Expired;
+pub use kept::Kept;
 pub use put::Put;
 pub use row::{Phase, Row};
 pub use rows::print_of;

@@ -1,23 +1,30 @@
 //! The purge of snapshots in two phases: rows are unlisted, and gone once their grace period is over.
-ghost use Rattle.std.specs.Prelude.{◌≡◌, ℕ, List, map, filter, take, IfOk, string_bytes};
-ghost use Rattle.repo_model.specs.Effect.{expires};
-ghost use Rattle.repo_model.specs.Purge.{due_rows};
+ghost use Rattle.std.specs.Prelude.{◌≡◌, ◌≢◌, ◌++◌, ℕ, [], List, length, map, filter, take, IfOk, OnOk, OnErr, string_bytes};
+ghost use Rattle.repo_model.specs.Effect.{expires, recorded};
+ghost use Rattle.repo_model.specs.Purge.{due_rows, fade_all};
+ghost use Rattle.row_tables.specs.Commits.{tables_with};
+ghost use Rattle.row_tables.specs.Items.{IsChange};
 ghost use Rattle.hosted_repo.specs.Dues.{fade_at_paths};
 ghost use Rattle.hosted_repo.specs.Expired.{shown_expired};
-ghost use Rattle.hosted_repo.specs.Rows.{is_before, rows_after_all, shown_rows};
+ghost use Rattle.hosted_repo.specs.Recording.{FitWhereTold, HasKeptCause};
+ghost use Rattle.hosted_repo.specs.Rows.{hosted_of, is_before, rows_after_all, shown_rows};
 ghost use Rattle.hosted_repo.specs.Rules.{shown_rule};
 
 use crate::NoMemory;
+use crate::changes::{fade_change, removals};
 use crate::dues::is_due;
+use crate::kept::Kept;
 use crate::row::Row;
 use crate::rows::{fade, is_before};
 use crate::rule::Rule;
 use outside::Held;
+use row_tables::{Change, Records};
 use std::alloc::Global;
 use std::collections::BTreeMap;
+use texts::Text;
 
-/// The most rows that one purge unlists.
-const MOST_ROWS: usize = 1_000_000;
+/// The most rows that one purge unlists or takes away.
+pub const MOST_ROWS: usize = 1_000_000;
 
 /// A row whose grace period is over: its path, and the number of its blob.
 #[derive(Drop)]
@@ -60,6 +67,39 @@ pub fn fade_all<H: Held>(rows: &mut BTreeMap<String, Row<H>>, paths: &[String], 
     }
 }
 
+/// Unlists the rows of a repository that are to fade at a moment, once that is recorded, and gives how many. Where that fails
+/// nothing is changed.
+pub fn unlist_rows<H: Held, K: Records>(
+    alloc: Global,
+    rows: &mut BTreeMap<String, Row<H>>,
+    records: &mut K,
+    rule: &Rule,
+    now: u64,
+) -> Result<u64, Kept>
+    requires ready { K.ready records.old }
+    requires change { IsChange (recorded (fade_all (hosted_of rule.now rows.old.entries) now)) }
+    requires fits { FitWhereTold (K.tables records.old) (recorded (fade_all (hosted_of rule.now rows.old.entries) now)) }
+    ensures count { IfOk result (λ n. n ≡ length (due_rows (shown_rule rule.now) now (shown_rows rows.old.entries))) }
+    ensures rows { OnOk result (shown_rows rows.new.entries
+        ≡ rows_after_all (fade_all (hosted_of rule.now rows.old.entries) now) (shown_rows rows.old.entries)) }
+    ensures tables { OnOk result (K.tables records.new
+        ≡ tables_with (recorded (fade_all (hosted_of rule.now rows.old.entries) now)) (K.tables records.old)) }
+    ensures err { OnErr result (shown_rows rows.new.entries ≡ shown_rows rows.old.entries) }
+    ensures untold { OnErr result (K.tables records.new ≡ K.tables records.old) }
+    ensures cause { HasKeptCause (K.faults records.old) (K.faults records.new) result }
+    ensures asked { result ≡ Err Kept.StoreFault → recorded (fade_all (hosted_of rule.now rows.old.entries) now) ≢ [] }
+    ensures ready { K.ready records.new }
+{
+    let paths = due_paths(alloc, rows, rule, now)?;
+    if paths.is_empty() {
+        return Ok(0);
+    }
+    let change = fade_change(alloc, &rule.id, &paths, now)?;
+    records.commit(alloc, &change)?;
+    fade_all(rows, &paths, now);
+    Ok(paths.len() as u64)
+}
+
 /// The first rows that are unlisted since before a moment, at most so many.
 pub fn expired_rows<H: Held>(
     alloc: Global,
@@ -84,4 +124,40 @@ pub fn expired_rows<H: Held>(
         }
     }
     Ok(found)
+}
+
+/// Adds the removals of rows to a change and their blobs to a list, and gives how many there are. Where memory is wanting
+/// both are as before.
+pub fn add_gone(
+    alloc: Global,
+    repo: &Text,
+    gone: &[Expired],
+    change: &mut Change,
+    blobs: &mut Vec<u64>,
+) -> Result<u64, NoMemory>
+    requires { IsChange (change.old ++ recorded (map (shown_expired repo.now) gone.now)) }
+    ensures count { IfOk result (λ n. n ≡ length gone.now) }
+    ensures change { OnOk result (change.new ≡ change.old ++ recorded (map (shown_expired repo.now) gone.now)) }
+    ensures blobs { OnOk result (blobs.new.items ≡ blobs.old.items ++ map (λ e. e.blob) gone.now) }
+    ensures unchanged { OnErr result (change.new ≡ change.old) }
+    ensures untaken { OnErr result (blobs.new.items ≡ blobs.old.items) }
+{
+    let items = removals(alloc, repo, gone)?;
+    let mut numbers = blobs_of(alloc, gone)?;
+    let before = blobs.len();
+    blobs.append(&mut numbers)?;
+    match change.append(items) {
+        Ok(()) => Ok(gone.len() as u64),
+        Err(error) => {
+            blobs.truncate(before);
+            Err(error)
+        }
+    }
+}
+
+// The blobs of rows.
+fn blobs_of(alloc: Global, gone: &[Expired]) -> Result<Vec<u64>, NoMemory>
+    ensures { IfOk result (λ blobs. blobs.items ≡ map (λ e. e.blob) gone.now) }
+{
+    gone.iter().map(|row| row.blob).collect(alloc)
 }

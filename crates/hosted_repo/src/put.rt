@@ -1,4 +1,5 @@
 //! What putting a stored blob at a path comes to.
+use crate::kept::Kept;
 use outside::{Held, Parcel};
 use repo_model::Print;
 
@@ -13,8 +14,17 @@ pub enum Put<H: Held> {
     Relisted(Parcel<H>),
     /// The row at the path has another content, of this fingerprint.
     Taken { kept: Print, sent: Parcel<H> },
-    /// There was no memory left for a row.
+    /// The records failed. Their count of faults rose in that call, or stands at 2^64 - 1. Nothing is changed.
+    StoreFault(Parcel<H>),
+    /// There was no memory left. Nothing is changed.
     NoMemory(Parcel<H>),
+}
+
+/// A parcel that comes back, and why.
+#[derive(Drop)]
+pub struct Returned<H: Held> {
+    pub why: Kept,
+    pub parcel: Parcel<H>,
 }
 
 /// What stands at a path, beside a content.

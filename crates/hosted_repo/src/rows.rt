@@ -1,14 +1,14 @@
 //! Rows in an ordered map from path to row.
-ghost use Rattle.std.specs.Prelude.{◌≡◌, ◌≤◌, None, OnOk, OnErr, IfErr, count_by, not};
+ghost use Rattle.std.specs.Prelude.{◌≡◌, ◌≤◌, count_by, not};
 ghost use Rattle.std.specs.List.Sorted.{IsStrictlySortedBy};
 ghost use Rattle.std.specs.Map.{keys_of};
 ghost use Rattle.std.specs.Option.{option_map};
 ghost use Rattle.std.specs.String.{string_cmp};
 ghost use Rattle.repo_model.specs.State.{row_at, change_where, is_row};
-ghost use Rattle.repo_model.specs.Effect.{with_row, new_row, list_again, fade};
+ghost use Rattle.repo_model.specs.Effect.{list_again, fade};
 ghost use Rattle.repo_model.specs.Document.{is_listed};
 ghost use Rattle.repo_model.specs.History.{latest_moment};
-ghost use Rattle.repo_model.specs.Shown.{shown_print, shown_parcel};
+ghost use Rattle.repo_model.specs.Shown.{shown_print};
 ghost use Rattle.hosted_repo.specs.Rows.{fades, is_before, shown_at, shown_phase, shown_rows, without_first};
 ghost use Rattle.hosted_repo.specs.Puts.{standing};
 
@@ -16,7 +16,6 @@ use crate::put::Standing;
 use crate::row::{Phase, Row};
 use outside::{Held, Parcel};
 use repo_model::Print;
-use std::alloc::Global;
 use std::collections::BTreeMap;
 
 /// Rows by path, in byte order.
@@ -53,34 +52,6 @@ pub fn standing<H: Held>(rows: &BTreeMap<String, Row<H>>, path: &str, sent: Prin
     match row.phase {
         Phase::Listed => Standing::Same,
         Phase::Fading(_) => Standing::Unlisted,
-    }
-}
-
-/// Adds a visible row at a path that has none. Where memory is wanting the parcel comes back.
-pub fn add<H: Held>(
-    alloc: Global,
-    rows: &mut BTreeMap<String, Row<H>>,
-    path: &str,
-    parcel: Parcel<H>,
-    accepted: u64,
-) -> Result<(), Parcel<H>>
-    requires free { row_at path.now (shown_rows rows.old.entries) ≡ None }
-    requires moment { accepted ≤ latest_moment }
-    ensures ok { OnOk result (shown_rows rows.new.entries ≡ with_row (new_row path.now (shown_parcel parcel) accepted) (shown_rows rows.old.entries)) }
-    ensures err { OnErr result (rows.new.entries ≡ rows.old.entries) }
-    ensures back { IfErr result (λ p. p ≡ parcel) }
-{
-    let Ok(path) = String::from_str(alloc, path) else {
-        return Err(parcel);
-    };
-    let row = Row {
-        parcel,
-        accepted,
-        phase: Phase::Listed,
-    };
-    match rows.insert(path, row) {
-        Ok(_) => Ok(()),
-        Err(failed) => Err(failed.value.1.parcel),
     }
 }
 

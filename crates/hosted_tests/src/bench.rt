@@ -1,8 +1,10 @@
 // What the tests share: a repository over memory, and what it answers as plain values.
-ghost use Rattle.std.specs.Prelude.{◌≤◌};
+ghost use Rattle.std.specs.Prelude.{◌≡◌, ◌≤◌, IsTrue};
+ghost use Rattle.row_tables.specs.Items.{is_file_path, is_id};
 ghost use Rattle.repo_model.specs.History.{latest_moment};
 
-use hosted_repo::{Hosted, Put, Rule, Seen};
+use crate::records::CountedRecords;
+use hosted_repo::{Hosted, Kept, Put, Rule, Seen};
 use mvn_coords::{Dir, Kind, kind_of};
 use mvn_digest::Hashes;
 use outside::{Blobs, Parcel};
@@ -12,6 +14,9 @@ use std::alloc::Global;
 use std::process::Abort;
 use std::test::Fail;
 use texts::Text;
+
+// The greatest number of a blob, and the greatest length.
+const MOST: u64 = 9_223_372_036_854_775_807;
 
 // 2024-02-29 12:00:00 UTC.
 pub const T: u64 = 1_709_208_000;
@@ -25,7 +30,11 @@ pub enum Did {
     Relisted(u64),
     // with the lengths of both contents, and the blob that came back
     Taken(u64, u64, u64),
+    // the records failed, with the blob that came back
+    StoreFault(u64),
     NoMemory(u64),
+    // what was to be put is no file's path or blob
+    Unfit,
 }
 
 fn did_of(put: Put<MemHeld>) -> Did {
@@ -34,14 +43,22 @@ fn did_of(put: Put<MemHeld>) -> Did {
         Put::Same(parcel) => Did::Same(parcel.blob),
         Put::Relisted(parcel) => Did::Relisted(parcel.blob),
         Put::Taken { kept, sent } => Did::Taken(kept.length, sent.length, sent.blob),
+        Put::StoreFault(parcel) => Did::StoreFault(parcel.blob),
         Put::NoMemory(parcel) => Did::NoMemory(parcel.blob),
     }
 }
 
-/// A repository and its blobs.
+fn is_file(path: &str) -> bool
+    ensures { result ≡ is_file_path path.now }
+{
+    matches!(kind_of(path), Ok(Kind::File(_)))
+}
+
+/// A repository, its records and its blobs.
 #[derive(Drop)]
 pub struct Bench {
     pub repo: Hosted<MemHeld>,
+    pub records: CountedRecords,
     blobs: MemBlobs,
     next: u64,
 }
@@ -71,9 +88,12 @@ impl Bench {
         Ok(Bench::of(alloc, rule))
     }
 
-    fn of(alloc: Global, rule: Rule) -> Bench {
+    fn of(alloc: Global, rule: Rule) -> Bench
+        requires { IsTrue (is_id rule.id) }
+    {
         Bench {
             repo: Hosted::new(alloc, rule),
+            records: CountedRecords::new(),
             blobs: MemBlobs::new(alloc, FaultScript::none(alloc)),
             next: 1,
         }
@@ -95,7 +115,7 @@ impl Bench {
     /// Puts bytes at a path, as the next blob.
     pub fn put(&mut self, path: &str, bytes: &[u8]) -> Result<Did, Fail> {
         let parcel = self.parcel(bytes)?;
-        Ok(did_of(self.repo.put(path, parcel, T)))
+        Ok(self.put_parcel(path, parcel, T))
     }
 
     /// Puts `abc` at a path at a moment, as the next blob.
@@ -103,7 +123,23 @@ impl Bench {
         requires { now ≤ latest_moment }
     {
         let parcel = self.parcel(b"abc")?;
-        Ok(did_of(self.repo.put(path, parcel, now)))
+        Ok(self.put_parcel(path, parcel, now))
+    }
+
+    fn put_parcel(&mut self, path: &str, parcel: Parcel<MemHeld>, now: u64) -> Did
+        requires { now ≤ latest_moment }
+    {
+        if !is_file(path) || parcel.blob == 0 || parcel.blob > MOST || parcel.length > MOST {
+            return Did::Unfit;
+        }
+        did_of(self.repo.put(&mut self.records, path, parcel, now))
+    }
+
+    /// Unlists the rows that are to fade at a moment.
+    pub fn unlist(&mut self, now: u64) -> Result<u64, Kept>
+        requires { now ≤ latest_moment }
+    {
+        self.repo.unlist(&mut self.records, now)
     }
 
     /// Puts `abc` at some paths that are free.

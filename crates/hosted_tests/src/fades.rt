@@ -1,5 +1,7 @@
 // The purge in two phases: rows that are unlisted, and rows that go.
 use crate::bench::{Bench, Did};
+use repo_model::Item;
+use row_tables::Change;
 use std::alloc::Global;
 use std::process::Abort;
 use std::test::Fail;
@@ -34,20 +36,34 @@ fn expect_due(rt: &impl Abort, bench: &Bench, now: u64, want: &[&str]) -> Result
     Ok(())
 }
 
-// The rows that go with a grace of 60 seconds, at most so many: their paths and their blobs.
+// The rows that go with a grace of 60 seconds: their paths and their blobs.
 fn expect_expiring(
     rt: &impl Abort,
+    alloc: Global,
     bench: &Bench,
-    [now, most]: [u64; 2],
+    now: u64,
     want: &[(&str, u64)],
 ) -> Result<(), Fail> {
-    let found = bench.repo.expiring(60, now, most)?;
-    assert_eq!(rt; found.len(), want.len());
-    for (row, (path, blob)) in found.iter().zip(want) {
-        assert_eq!(rt; row.path.as_str().as_bytes(), path.as_bytes());
-        assert_eq!(rt; row.blob, *blob);
+    let mut change = Change::new(alloc);
+    let mut blobs = Vec::new(alloc);
+    let count = bench.repo.expiring(60, now, &mut change, &mut blobs)?;
+    assert_eq!(rt; count, want.len() as u64);
+    assert_eq!(rt; change.len(), want.len());
+    for (item, (path, _)) in change.items().iter().zip(want) {
+        assert!(rt; removes(item, path));
+    }
+    assert_eq!(rt; blobs.len(), want.len());
+    for (blob, (_, number)) in blobs.iter().zip(want) {
+        assert_eq!(rt; *blob, *number);
     }
     Ok(())
+}
+
+fn removes(item: &Item, at: &str) -> bool {
+    match item {
+        Item::Removed { repo, path } => repo.as_str() == "snapshots" && path.as_str() == at,
+        _ => false,
+    }
 }
 
 // Three builds of a file each, accepted one after the other, the oldest one at 1000.
@@ -127,9 +143,9 @@ fn releases_stay(rt: HostRuntime) -> Result<(), Fail> {
     let mut bench = Bench::kept(rt.alloc(), 0, 0)?;
     assert_eq!(rt; bench.put_at(RELEASE, 1_000)?, Did::Created);
     assert_eq!(rt; bench.put_at(JAR_1, 1_000)?, Did::Created);
-    assert_eq!(rt; bench.repo.unlist(9_000_000)?, 1);
+    assert_eq!(rt; bench.unlist(9_000_000)?, 1);
     assert_eq!(rt; bench.repo.counts(), (2, 1));
-    expect_expiring(&rt, &bench, [9_000_061, 9], &[(JAR_1, 2)])?;
+    expect_expiring(&rt, rt.alloc(), &bench, 9_000_061, &[(JAR_1, 2)])?;
     bench.expect_file(&rt, RELEASE, A, B)?;
     Ok(())
 }
@@ -154,7 +170,7 @@ fn deeper_directories_are_ranked_apart(rt: HostRuntime) -> Result<(), Fail> {
     let mut bench = Bench::kept(rt.alloc(), 1, 0)?;
     bench.fill(&rt, &[ABOVE_1, BELOW_1, BELOW_2, ABOVE_2, ABOVE_3, BESIDE])?;
     expect_due(&rt, &bench, 9_000_000_000, &[ABOVE_1, ABOVE_2, BELOW_1])?;
-    assert_eq!(rt; bench.repo.unlist(9_000_000_000)?, 3);
+    assert_eq!(rt; bench.unlist(9_000_000_000)?, 3);
     // once unlisted they are neither due nor ranked
     expect_due(&rt, &bench, 9_000_000_001, &[])?;
     assert_eq!(rt; bench.repo.counts(), (6, 3));
@@ -246,7 +262,7 @@ fn unlisted_rows_are_answered_and_not_named(rt: HostRuntime) -> Result<(), Fail>
     assert_eq!(rt; bench.put_at(POM_2, 1_000)?, Did::Created);
     bench.expect_document(&rt, OF_SNAPSHOT, JAR_AND_POM)?;
     bench.expect_document(&rt, OF_LIB, UPDATED_AT_1010)?;
-    assert_eq!(rt; bench.repo.unlist(2_000)?, 1);
+    assert_eq!(rt; bench.unlist(2_000)?, 1);
     bench.expect_document(&rt, OF_SNAPSHOT, POM_ALONE)?;
     bench.expect_document(&rt, OF_LIB, UPDATED_AT_1000)?;
     bench.expect_file(&rt, JAR_1, A, B)?;
@@ -255,7 +271,7 @@ fn unlisted_rows_are_answered_and_not_named(rt: HostRuntime) -> Result<(), Fail>
         "org/acme/lib/1.1-SNAPSHOT/lib-1.1-20240229.235959-1.jar.md5",
         B,
     )?;
-    assert_eq!(rt; bench.repo.unlist(2_001)?, 0);
+    assert_eq!(rt; bench.unlist(2_001)?, 0);
     Ok(())
 }
 
@@ -263,8 +279,8 @@ fn unlisted_rows_are_answered_and_not_named(rt: HostRuntime) -> Result<(), Fail>
 fn no_row_is_visible(rt: HostRuntime) -> Result<(), Fail> {
     let mut bench = Bench::kept(rt.alloc(), 0, 0)?;
     assert_eq!(rt; bench.put_at(JAR_1, 1_000)?, Did::Created);
-    assert_eq!(rt; bench.repo.unlist(1_000)?, 0);
-    assert_eq!(rt; bench.repo.unlist(1_001)?, 1);
+    assert_eq!(rt; bench.unlist(1_000)?, 0);
+    assert_eq!(rt; bench.unlist(1_001)?, 1);
     bench.expect_nothing(&rt, OF_SNAPSHOT)?;
     bench.expect_nothing(&rt, OF_LIB)?;
     bench.expect_file(&rt, JAR_1, A, B)?;
@@ -276,26 +292,25 @@ fn rows_go_after_the_grace(rt: HostRuntime) -> Result<(), Fail> {
     let mut bench = Bench::kept(rt.alloc(), 1, 0)?;
     assert_eq!(rt; bench.put_at(JAR_1, 1_000)?, Did::Created);
     assert_eq!(rt; bench.put_at(POM_2, 1_010)?, Did::Created);
-    assert_eq!(rt; bench.repo.unlist(2_000)?, 1);
-    expect_expiring(&rt, &bench, [2_060, 9], &[])?;
+    assert_eq!(rt; bench.unlist(2_000)?, 1);
+    expect_expiring(&rt, rt.alloc(), &bench, 2_060, &[])?;
     bench.repo.drop_expired(60, 2_060, 9);
     bench.expect_file(&rt, JAR_1, A, B)?;
-    expect_expiring(&rt, &bench, [2_061, 0], &[])?;
-    expect_expiring(&rt, &bench, [2_061, 9], &[(JAR_1, 1)])?;
+    expect_expiring(&rt, rt.alloc(), &bench, 2_061, &[(JAR_1, 1)])?;
     bench.repo.drop_expired(60, 2_061, 1);
     bench.expect_nothing(&rt, JAR_1)?;
     assert_eq!(rt; bench.repo.counts(), (1, 0));
-    expect_expiring(&rt, &bench, [9_000, 9], &[])?;
+    expect_expiring(&rt, rt.alloc(), &bench, 9_000, &[])?;
     Ok(())
 }
 
 #[test]
 fn the_first_rows_go(rt: HostRuntime) -> Result<(), Fail> {
     let mut bench = three(&rt, rt.alloc(), [0, 0])?;
-    assert_eq!(rt; bench.repo.unlist(2_000)?, 3);
-    expect_expiring(&rt, &bench, [2_061, 2], &[(JAR_1, 2), (POM_2, 3)])?;
+    assert_eq!(rt; bench.unlist(2_000)?, 3);
+    expect_expiring(&rt, rt.alloc(), &bench, 2_061, &[(JAR_1, 2), (POM_2, 3), (JAR_3, 1)])?;
     bench.repo.drop_expired(60, 2_061, 2);
-    expect_expiring(&rt, &bench, [2_061, 2], &[(JAR_3, 1)])?;
+    expect_expiring(&rt, rt.alloc(), &bench, 2_061, &[(JAR_3, 1)])?;
     Ok(())
 }
 
@@ -304,10 +319,10 @@ fn a_row_is_listed_again_between(rt: HostRuntime) -> Result<(), Fail> {
     let mut bench = Bench::kept(rt.alloc(), 1, 0)?;
     assert_eq!(rt; bench.put_at(JAR_1, 1_000)?, Did::Created);
     assert_eq!(rt; bench.put_at(POM_2, 1_010)?, Did::Created);
-    assert_eq!(rt; bench.repo.unlist(2_000)?, 1);
+    assert_eq!(rt; bench.unlist(2_000)?, 1);
     assert_eq!(rt; bench.put_at(JAR_1, 2_030)?, Did::Relisted(3));
     bench.expect_document(&rt, OF_SNAPSHOT, JAR_AND_POM)?;
-    expect_expiring(&rt, &bench, [2_061, 9], &[])?;
+    expect_expiring(&rt, rt.alloc(), &bench, 2_061, &[])?;
     bench.repo.drop_expired(60, 2_061, 9);
     bench.expect_file(&rt, JAR_1, A, B)?;
     // it was accepted anew

@@ -13,4 +13,6 @@ mod purges;
 #[cfg(test)]
 mod puts;
 #[cfg(test)]
+mod records;
+#[cfg(test)]
 mod yards;

@@ -1,5 +1,7 @@
 // Files put at paths, and what looks give of them.
 use crate::bench::{Bench, Did};
+use crate::records::Kind;
+use hosted_repo::Kept;
 use std::test::Fail;
 
 const JAR: &str = "org/acme/lib/1.0/lib-1.0.jar";
@@ -69,5 +71,51 @@ fn no_path_gives_nothing(rt: HostRuntime) -> Result<(), Fail> {
     bench.expect_nothing(&rt, "org/acme/lib/1.0/other-1.0.jar")?;
     bench.expect_nothing(&rt, "org/acme/lib/maven-metadata.xml")?;
     bench.expect_nothing(&rt, "org/acme/lib/maven-metadata.xml.sha1")?;
+    Ok(())
+}
+
+#[test]
+fn what_is_not_recorded_is_not_there(rt: HostRuntime) -> Result<(), Fail> {
+    let mut bench = Bench::new(rt.alloc(), true, false)?;
+    bench.records.fails = true;
+    assert_eq!(rt; bench.put(JAR, b"abc")?, Did::StoreFault(1));
+    bench.expect_nothing(&rt, JAR)?;
+    assert_eq!(rt; bench.repo.counts(), (0, 0));
+    bench.records.fails = false;
+    assert_eq!(rt; bench.put(JAR, b"")?, Did::Created);
+    assert_eq!(rt; bench.records.last, Some(Kind::HostedPut));
+
+    // What changes no row is not recorded.
+    bench.records.fails = true;
+    assert_eq!(rt; bench.put(JAR, b"")?, Did::Same(3));
+    assert_eq!(rt; bench.put(JAR, b"abc")?, Did::Taken(0, 3, 4));
+    assert_eq!(rt; bench.records.changes, 1);
+    Ok(())
+}
+
+const NEXT: &str = "org/acme/lib/1.1-SNAPSHOT/lib-1.1-20240301.080000-2.jar";
+
+#[test]
+fn what_is_not_recorded_stays(rt: HostRuntime) -> Result<(), Fail> {
+    let mut bench = Bench::kept(rt.alloc(), 1, 0)?;
+    assert_eq!(rt; bench.put_at(BUILD, 1_000)?, Did::Created);
+    assert_eq!(rt; bench.put_at(NEXT, 1_010)?, Did::Created);
+    bench.records.fails = true;
+    assert_eq!(rt; bench.unlist(2_000), Err(Kept::StoreFault));
+    assert_eq!(rt; bench.repo.counts(), (2, 0));
+    bench.records.fails = false;
+    assert_eq!(rt; bench.unlist(2_000), Ok(1));
+    assert_eq!(rt; (bench.records.changes, bench.records.items), (3, 3));
+    assert_eq!(rt; bench.records.last, Some(Kind::Faded));
+
+    // Nothing is due, so nothing is recorded.
+    bench.records.fails = true;
+    assert_eq!(rt; bench.unlist(2_001), Ok(0));
+    assert_eq!(rt; bench.put_at(BUILD, 2_010)?, Did::StoreFault(3));
+    assert_eq!(rt; bench.repo.counts(), (2, 1));
+    bench.records.fails = false;
+    assert_eq!(rt; bench.put_at(BUILD, 2_010)?, Did::Relisted(4));
+    assert_eq!(rt; bench.records.last, Some(Kind::Relisted));
+    assert_eq!(rt; bench.repo.counts(), (2, 0));
     Ok(())
 }

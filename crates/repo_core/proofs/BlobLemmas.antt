@@ -22,7 +22,8 @@ use Rattle.repo_laws.proofs.Making.{all-append}
 use Rattle.repo_laws.proofs.Places.{one-place-kept}
 use Rattle.repo_laws.proofs.Purges.{expires-all}
 use Rattle.repo_core.specs.Hosted.{AreInUse}
-use Rattle.repo_core.specs.Purge.{AreKeptOnce, blob_of, condemned_by, kept_without}
+use Rattle.hosted_repo.specs.Expired.{blob_of}
+use Rattle.repo_core.specs.Purge.{AreKeptOnce, condemned_by, kept_without}
 use Rattle.repo_core.proofs.UseLemmas.{RowsUsed}
 
 or-so : (b c d : Bool) → (IsTrue c → IsTrue d) → IsTrue (b || c) → IsTrue (b || d)

@@ -1,89 +1,59 @@
--- Drafts that are drawn, and blobs that are put under them, as turns of the machine.
-use Rattle.std.proofs.Common.{◌≡◌, ℕ, Bool, true, false, if◌then◌else◌, List, [], ◌∷◌, Option, Some, None, ◌⊎◌, inl, inr, refl, sym, ap, ◌∙◌, subst, eqb-true}
-use Rattle.std.specs.Prelude.{◌==◌, IsTrue, find, nat_lt}
-use Rattle.std.proofs.lemmas.Bool.{and_parts}
-use Rattle.repo_model.specs.Data.{Blob, Hosted, repository}
+-- Blobs that are put under drafts, as turns of the machine.
+use Rattle.std.proofs.Common.{◌≡◌, ℕ, ◌<◌, Bool, true, false, if◌then◌else◌, List, [], Option, inl, inr, refl, sym, ap, ◌∙◌, subst, eqb-true}
+use Rattle.std.specs.Prelude.{◌==◌, IsTrue, nat_lt}
+use Rattle.std.proofs.lemmas.Bool.{and_parts, ltb-true}
+use Rattle.repo_model.specs.Data.{Blob, Row}
 use Rattle.repo_model.specs.Settings.{Settings}
 use Rattle.repo_model.specs.Paths.{takes}
-use Rattle.repo_model.specs.State.{Yard, row_at, rows_of, is_repository, is_among, number_end}
-use Rattle.repo_model.specs.Effect.{with_effects, yard_after, draws}
-use Rattle.repo_model.specs.Command.{may_put, put, meets, is_fit, is_parcel, rule_of}
-use Rattle.repo_model.specs.Reply.{Reply, spent, draft, kind_refused, no_draft, no_memory, is_free, takes_memory}
-use Rattle.repo_model.specs.Turn.{Turn, turn, says, in_repository, draws_draft, put_at}
-use Rattle.repo_core.specs.Hosted.{put_due}
-use Rattle.repo_core.specs.Turn.{IsDueOr, Turned}
-use Rattle.repo_core.specs.Whole.{Whole}
-use Rattle.repo_core.proofs.PutReplies.{put-reply, state_put, left-put}
-
--- where a draft may be drawn
-in-place : (path : List ℕ) (found : Option Hosted) (t : Turn) → in_repository path found t ≡ (if is_fit (λ h. takes h.rule path) found then t else says kind_refused)
-in-place path None t = refl
-in-place path (Some h) t = refl
+use Rattle.repo_model.specs.State.{row_at, rows_of, is_among, number_end}
+use Rattle.repo_model.specs.Effect.{recorded, with_effects}
+use Rattle.repo_model.specs.Command.{put, meets, is_fit, is_parcel, rule_of}
+use Rattle.repo_model.specs.Reply.{Reply, no_draft, is_free}
+use Rattle.repo_model.specs.Turn.{Turn, turn, says, put_at}
+use Rattle.repo_core.specs.Hosted.{put_due, put_in, rows_in}
+use Rattle.hosted_repo.specs.Recording.{HasReplyCause}
+use Rattle.repo_model.specs.Tables.{Tables}
+use Rattle.repo_model.specs.History.{commits}
+use Rattle.row_tables.specs.Commits.{tables_with}
+use Rattle.repo_core.specs.Turn.{IsDueOrFree, IsAnswer, due, wants_memory, failed, Recorded}
+use Rattle.repo_core.specs.Whole.{Parts}
+use Rattle.repo_core.proofs.PutReplies.{by-free, put-reply, state_put, left-put}
+use Rattle.repo_core.proofs.Turning.{some-items, unless}
 
 if-so : {X : Type 0} (b : Bool) (x y : X) → true ≡ b → (if b then x else y) ≡ x
 if-so true x y e = refl
 if-so false x y e = cc
 
-if-not : {X : Type 0} (b : Bool) (x y : X) → false ≡ b → (if b then x else y) ≡ y
-if-not true x y e = cc
-if-not false x y e = refl
+module _ (w : Parts) (repo path : List ℕ) (n : ℕ) (blob : Blob) where
+  module _ (among : is_among n w.state.yard.drafts ≡ true) where
+    by-draft : turn w.settings w.state w.state.last (put repo path n blob) ≡ put_at repo path n blob w.state.last (row_at path (rows_of repo w.state))
+    by-draft = if-so (is_among n w.state.yard.drafts) (put_at repo path n blob w.state.last (row_at path (rows_of repo w.state))) (says no_draft) (sym among)
 
-module _ (w : Whole) (repo path : List ℕ) where
-  abbrev here : Option Hosted
-  here = find (is_repository repo) w.state.hosted
+    -- the turn of a put is that at its repository
+    pub put-turn : blob.number ≡ n → turn w.settings w.state w.state.last (put repo path n blob) ≡ put_in repo path blob w.state.last w.state.hosted
+    put-turn named = by-draft ∙ ap (λ k. put_at repo path k blob w.state.last (row_at path (rows_of repo w.state))) (sym named)
 
-  asks : turn w.settings w.state w.state.last (may_put (repository repo) path) ≡ (if is_fit (λ h. takes h.rule path) here then draws_draft w.state.yard.next_draft else says kind_refused)
-  asks = in-place path here (draws_draft w.state.yard.next_draft)
-
-  by-turn : (t : Turn) → turn w.settings w.state w.state.last (may_put (repository repo) path) ≡ t → is_free t.reply ≡ false → Turned w (record w { state = with_effects w.state t.effects }) (may_put (repository repo) path) t.reply
-  by-turn t is bound = record {
-    settings = refl;
-    calls = refl;
-    answered = inl (ap (λ (u : Turn). u.reply) (sym is));
-    left = ap (λ (u : Turn). with_effects w.state u.effects) (sym is) ∙ ap (λ b. with_effects w.state (if b then [] else (turn w.settings w.state w.state.last (may_put (repository repo) path)).effects)) (sym bound);
-  }
-
-  pub turned-kind : false ≡ is_fit (λ h. takes h.rule path) here → Turned w w (may_put (repository repo) path) kind_refused
-  turned-kind other = by-turn (says kind_refused) (asks ∙ if-not (is_fit (λ h. takes h.rule path) here) (draws_draft w.state.yard.next_draft) (says kind_refused) other) refl
-
-  module _ (taken : true ≡ is_fit (λ h. takes h.rule path) here) where
-    draft_so : turn w.settings w.state w.state.last (may_put (repository repo) path) ≡ draws_draft w.state.yard.next_draft
-    draft_so = asks ∙ if-so (is_fit (λ h. takes h.rule path) here) (draws_draft w.state.yard.next_draft) (says kind_refused) taken
-
-    pub turned-spent : true ≡ (w.state.yard.next_draft == number_end) → Turned w w (may_put (repository repo) path) spent
-    turned-spent last =
-        by-turn (says spent) (draft_so ∙ if-so (w.state.yard.next_draft == number_end) (says spent) (record { reply = draft w.state.yard.next_draft; effects = draws ∷ [] }) last) refl
-
-    pub turned-drawn : (n : ℕ) (yard : Yard) → false ≡ (w.state.yard.next_draft == number_end) → n ≡ w.state.yard.next_draft → yard ≡ yard_after draws w.state.yard
-        → Turned w (record w { state = record w.state { yard = yard } }) (may_put (repository repo) path) (draft n)
-    turned-drawn n yard more named drawn =
-        let given : Turn = record { reply = draft w.state.yard.next_draft; effects = draws ∷ [] } in
-        let turned = by-turn given (draft_so ∙ if-not (w.state.yard.next_draft == number_end) (says spent) given more) refl in
-        subst (λ y. Turned w (record w { state = record w.state { yard = y } }) (may_put (repository repo) path) (draft n)) (sym drawn)
-        (subst (λ k. Turned w (record w { state = record w.state { yard = yard_after draws w.state.yard } }) (may_put (repository repo) path) (draft k)) (sym named) turned)
-
-    pub turned-undrawn : (yard : Yard) → yard ≡ w.state.yard → Turned w (record w { state = record w.state { yard = yard } }) (may_put (repository repo) path) no_memory
-    turned-undrawn yard same = record { settings = refl; calls = refl; answered = inr (refl, refl); left = ap (λ y. record w.state { yard = y }) same }
-
-module _ (w : Whole) (repo path : List ℕ) (n : ℕ) (blob : Blob) where
-  pub turned-no_draft : is_among n w.state.yard.drafts ≡ false → Turned w w (put repo path n blob) no_draft
-  turned-no_draft none =
-      let so : turn w.settings w.state w.state.last (put repo path n blob) ≡ says no_draft = if-not (is_among n w.state.yard.drafts) (put_at repo path n blob w.state.last (row_at path (rows_of repo w.state))) (says no_draft) (sym none) in
-      record { settings = refl; calls = refl; answered = inl (ap (λ (t : Turn). t.reply) (sym so)); left = ap (λ (t : Turn). with_effects w.state t.effects) (sym so) }
-
-  -- a put that had an outcome
-  pub turned-put : (new : Whole) (reply : Reply) → new.settings ≡ w.settings → new.calls ≡ w.calls → is_among n w.state.yard.drafts ≡ true → blob.number ≡ n
-      → IsDueOr (put_due blob (row_at path (rows_of repo w.state))) reply → new.state ≡ state_put repo path n blob reply w.state → Turned w new (put repo path n blob) reply
-  turned-put new reply settings calls among named given left =
-      let found = row_at path (rows_of repo w.state) in
-      let so : turn w.settings w.state w.state.last (put repo path n blob) ≡ put_at repo path n blob w.state.last found = if-so (is_among n w.state.yard.drafts) (put_at repo path n blob w.state.last found) (says no_draft) (sym among) in
-      record {
-        settings = settings;
-        calls = calls;
-        answered = elim given as (λ _. (reply ≡ (turn w.settings w.state w.state.last (put repo path n blob)).reply) ⊎ ((reply ≡ no_memory) × IsTrue (takes_memory (put repo path n blob))))
-            [ (inl is) ↦ inl (is ∙ put-reply repo path n w.state.last blob found ∙ ap (λ (t : Turn). t.reply) (sym so)) | (inr is) ↦ inr (is, refl) ];
-        left = left ∙ left-put w.state repo path n blob named reply found given ∙ ap (λ (t : Turn). with_effects w.state (if is_free reply then [] else t.effects)) (sym so);
-      }
+    -- a put that had an outcome
+    pub recorded-put : (new : Parts) (reply : Reply) (told told' : Option Tables) (faults faults' : ℕ) → new.settings ≡ w.settings → new.calls ≡ w.calls → blob.number ≡ n
+        → IsDueOrFree (put_due blob (row_at path (rows_in repo w.state.hosted))) reply
+        → (IsTrue (is_free reply) → recorded (put_in repo path blob w.state.last w.state.hosted).effects ≡ [] → ⊥) → new.state ≡ state_put repo path n blob reply w.state
+        → told' ≡ (if is_free reply then told else tables_with (recorded (put_in repo path blob w.state.last w.state.hosted).effects) told) → HasReplyCause faults faults' reply
+        → Recorded w new (put repo path n blob) reply told told' faults faults'
+    recorded-put new reply told told' faults faults' settings calls named given asked left tables cause =
+        let found : Option Row = row_at path (rows_of repo w.state) in
+        let at_place : Turn = put_in repo path blob w.state.last w.state.hosted in
+        record {
+          settings = settings;
+          calls = calls;
+          answered = elim given as (λ _. IsAnswer w (put repo path n blob) reply) [
+            | (inl is) ↦ due (is ∙ put-reply repo path n w.state.last blob found ∙ ap (λ (u : Turn). u.reply) (sym by-draft))
+            | (inr is) ↦ by-free (λ r. (r ≡ reply) → IsAnswer w (put repo path n blob) r) reply is (λ _. wants_memory refl refl)
+                (λ _. failed refl (subst (λ (u : Turn). IsTrue (commits (put repo path n blob) u.effects)) (sym (put-turn named)) (some-items (recorded at_place.effects) (asked is)))) refl
+          ];
+          left = left ∙ left-put w.state repo path n blob named reply found given ∙ ap (λ (u : Turn). with_effects w.state (if is_free reply then [] else u.effects)) (sym by-draft);
+          tables = tables ∙ unless (is_free reply) at_place.effects told ∙ ap (λ (u : Turn). tables_with (recorded (if is_free reply then [] else u.effects)) told) (sym (put-turn named));
+          cause = cause;
+        }
 
 module _ (settings : Settings) (repo path : List ℕ) (n : ℕ) (blob : Blob) (asked : IsTrue (meets settings (put repo path n blob))) where
   abbrev taken_there : Bool
@@ -97,3 +67,6 @@ module _ (settings : Settings) (repo path : List ℕ) (n : ℕ) (blob : Blob) (a
 
   pub named-so : blob.number ≡ n
   named-so = eqb-true blob.number n (and_parts (blob.number == n) (nat_lt blob.print.length number_end) put_met.1).0
+
+  pub short-so : blob.print.length < number_end
+  short-so = ltb-true blob.print.length number_end (and_parts (blob.number == n) (nat_lt blob.print.length number_end) put_met.1).1

@@ -1,7 +1,8 @@
 -- Hosted repositories: the first of an id, its rows and what it takes.
-use Rattle.std.proofs.Common.{◌≡◌, ℕ, ◌+◌, ◌<◌, ◌≤◌, Bool, true, false, cond, ◌||◌, List, [], ◌∷◌, ◌++◌, take, drop, get_or, set, length, map, Option, Some, None, find, refl, ap, sym, ◌∙◌, subst, add-one}
+use native.Mathlib.Omega.{arith}
+use Rattle.std.proofs.Common.{◌≡◌, ℕ, ◌+◌, ◌<◌, ◌≤◌, Bool, true, false, cond, ◌||◌, List, [], ◌∷◌, ◌++◌, take, drop, get_or, set, length, map, Option, Some, None, find, refl, ap, sym, ◌∙◌, subst, add-one, suc, zero}
 use Rattle.std.specs.Option.{is_some, option_map, option_map_or}
-use Rattle.std.specs.List.{list_any}
+use Rattle.std.specs.List.{AllByRecursion, list_any}
 use Rattle.std.specs.Str.{bytes_eq}
 use Rattle.std.proofs.lemmas.Bool.{false≢true}
 use Rattle.std.proofs.lemmas.List.{drop_more, take_more, drop_all, map-append, set_split, append_assoc}
@@ -98,6 +99,12 @@ module _ (id : List ℕ) where
       ∙ ap (λ h. take i repos ++ h ∷ drop (i + 1) repos) shown
       ∙ ap (λ hs. take i repos ++ hs) (sym (changed-here id (is_repository id here) new.rows here (drop (i + 1) repos) is))
       ∙ subst (λ rs. take i repos ++ with_rows id new.rows rs ≡ with_rows id new.rows repos) rest (old.front new.rows)
+
+-- what holds of each rule holds of the one at a place
+pub rule-at : (P : Rule → Type 0) (rules : List Rule) (i : ℕ) (rule : Rule) → i < length rules → rule ≡ get_or rules i rule → AllByRecursion P rules → P rule
+rule-at P [] i rule within at all = absurd (omega (arith, within))
+rule-at P (first ∷ rules) zero rule within at all = subst P (sym at) all.0
+rule-at P (first ∷ rules) (suc i) rule within at all = rule-at P rules i rule (omega (arith, within)) at all.1
 
 -- one more repository without rows
 pub repos-more : (told : List Rule) (repos : List plain.Hosted) (i : ℕ) (rule : Rule) (repo : plain.Hosted) → i < length told → rule ≡ get_or told i rule → repo ≡ new_hosted rule

@@ -1,9 +1,10 @@
 mod AnswerLemmas
 mod BlobLemmas
-mod ConditionLemmas
 mod CountLemmas
 mod DraftLemmas
 mod HostedLemmas
+mod ItemForms
+mod KeepLemmas
 mod ListLemmas
 mod LookLemmas
 mod LoopLemmas

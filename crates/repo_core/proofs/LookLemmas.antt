@@ -16,7 +16,7 @@ use Rattle.repo_model.specs.Turn.{Turn, turn, says, Seen, is_file, is_text, is_d
 use Rattle.repo_core.specs.Hosted.{AreInUse, rows_in}
 use Rattle.repo_core.specs.Numbers.{yard_looked}
 use Rattle.repo_core.specs.Turn.{IsDueOr, Turned}
-use Rattle.repo_core.specs.Whole.{Whole}
+use Rattle.repo_core.specs.Whole.{Parts}
 use Rattle.repo_core.proofs.UseLemmas.{RowsUsed, row-used, rows-used}
 
 -- what a look leaves, by its reply
@@ -36,7 +36,7 @@ left-looked s (is_doc bytes) reply (inl is) = subst (λ r. Leaves s r []) (sym i
 left-looked s is_nothing reply (inl is) = subst (λ r. Leaves s r []) (sym is) refl
 
 -- the blob of a file is lent where a lease and memory are left
-pub turned-looked : (w : Whole) (repo path : List ℕ) (reply : Reply) (yard : Yard)
+pub turned-looked : (w : Parts) (repo path : List ℕ) (reply : Reply) (yard : Yard)
     → IsDueOr (shows w.state.yard.next_lease (seen_at (rows_in repo w.state.hosted) path (kind path))).reply reply → yard ≡ yard_looked reply w.state.yard
     → Turned w (record w { state = record w.state { yard = yard } }) (look repo path []) reply
 turned-looked w repo path reply yard given same = record {

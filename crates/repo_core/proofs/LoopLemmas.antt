@@ -1,57 +1,94 @@
 -- What the loops of the purge keep.
 use native.Mathlib.Omega.{arith}
-use Rattle.std.proofs.Common.{◌≡◌, ℕ, ◌+◌, ◌-◌, ◌<◌, ◌≤◌, min, List, [], ◌∷◌, ◌++◌, length, map, take, drop, get_or, set, suc, refl, sym, ap, ◌∙◌, subst}
+use Rattle.std.proofs.Common.{◌≡◌, ℕ, ◌+◌, ◌-◌, ◌<◌, ◌≤◌, min, List, [], ◌∷◌, ◌++◌, length, map, take, drop, get_or, set, suc, refl, sym, ap, ◌∙◌, subst, length-append}
 use Rattle.std.specs.List.{flat_map}
-use Rattle.std.proofs.lemmas.List.{append_assoc, drop_more, length-map, length-take, length-take-le, map-append, take_more}
-use Rattle.hosted_repo.specs.Expired.{shown_expired}
+use Rattle.std.proofs.lemmas.List.{append_assoc, drop_more, length-map, length-take, length-take-le, take_more, take-map}
+use Rattle.std.specs.Prelude.{filter}
+use Rattle.std.specs.List.{AllByRecursion}
+use Rattle.std.proofs.lemmas.Grind.{flat_map-append}
+use Rattle.hosted_repo.specs.Expired.{blob_of}
+use Rattle.hosted_repo.specs.Recording.{IsRemoved}
 use Rattle.hosted_repo.specs.Rows.{rows_after_all}
-use Rattle.hosted_repo.specs.declared.purge.Expired.{Expired}
-use Rattle.repo_model.specs.Data.{Hosted}
-use Rattle.repo_model.specs.Effect.{condemning, without_number}
-use Rattle.repo_model.specs.Purge.{expire_all, expired_of, most_rows}
+use Rattle.repo_model.specs.Data.{Row, Hosted}
+use Rattle.repo_model.specs.declared.item.Item.{Item}
+use Rattle.repo_model.specs.Effect.{Effect, condemning, expires, items_of, recorded, without_number}
+use Rattle.repo_model.specs.Purge.{expire_all, expired_of, is_over, most_rows}
+use Rattle.repo_laws.proofs.Making.{all-append}
 use Rattle.blob_yard.specs.Numbers.{Numbers}
-use Rattle.repo_core.specs.Purge.{AreKeptOnce, blob_of, condemned_by, dropped_by, kept_without, shares}
+use Rattle.repo_core.specs.Purge.{AreKeptOnce, condemned_by, dropped_by, kept_without, shares}
 use Rattle.repo_core.proofs.BlobLemmas.{map-both}
 use Rattle.repo_core.proofs.PurgeLemmas.{take-both}
 
--- the blobs of rows that go, as they are shown
-pub blobs-shown : (repo : List ℕ) (rows : List Expired) → map (λ (row : Expired). row.blob) rows ≡ map blob_of (map (shown_expired repo) rows)
-blobs-shown repo [] = refl
-blobs-shown repo (row ∷ rows) = ap (λ ns. row.blob ∷ ns) (blobs-shown repo rows)
-
 module _ (grace now : ℕ) where
   -- what is found of the repositories from a place on is still to come
-  pub record IsFound (repos : List Hosted) (i left : ℕ) (counts blobs : List ℕ) : Type 0 where
-    pub counts_so : shares grace now most_rows repos ≡ counts ++ shares grace now left (drop i repos)
-    pub blobs_so : map blob_of (expire_all grace now repos) ≡ blobs ++ map blob_of (take left (flat_map (expired_of grace now) (drop i repos)))
+  pub record IsFound (repos : List Hosted) (i : ℕ) (change : List Item) (counts blobs : List ℕ) : Type 0 where
+    pub counts_so : shares grace now most_rows repos ≡ counts ++ shares grace now (most_rows - length change) (drop i repos)
+    pub blobs_so : map blob_of (expire_all grace now repos) ≡ blobs ++ map blob_of (take (most_rows - length change) (flat_map (expired_of grace now) (drop i repos)))
+    pub change_so : recorded (expire_all grace now repos) ≡ change ++ recorded (take (most_rows - length change) (flat_map (expired_of grace now) (drop i repos)))
+    pub removed : AllByRecursion IsRemoved change
 
-  pub found-count : (left : ℕ) (h : Hosted) (more : List ℕ) → more ≡ map blob_of (take left (expired_of grace now h)) → length more ≡ min left (length (expired_of grace now h))
-  found-count left h more is =
-      ap length is ∙ length-map (take left (expired_of grace now h)) blob_of ∙ length-take left (expired_of grace now h)
+  one-each : (id : List ℕ) (rows : List Row) → length (recorded (map (λ (row : Row). expires id row.path row.blob.number) rows)) ≡ length rows
+  one-each id [] = refl
+  one-each id (row ∷ rows) = ap suc (one-each id rows)
 
-  pub found-more : (repos : List Hosted) (i left : ℕ) (h : Hosted) (counts blobs more : List ℕ) → i < length repos → h ≡ get_or repos i h → more ≡ map blob_of (take left (expired_of grace now h))
-      → IsFound repos i left counts blobs → IsFound repos (i + 1) (left - length more) (counts ++ length more ∷ []) (blobs ++ more)
-  found-more repos i left h counts blobs more within at is old =
-      let mine = expired_of grace now h in
+  all-removed : (id : List ℕ) (rows : List Row) → AllByRecursion IsRemoved (recorded (map (λ (row : Row). expires id row.path row.blob.number) rows))
+  all-removed id [] = tt
+  all-removed id (row ∷ rows) = (tt, all-removed id rows)
+
+  -- the first rows of a repository whose grace is over
+  abbrev pub mine_of : ℕ → Hosted → List Effect
+  mine_of k h = take k (expired_of grace now h)
+
+  abbrev over : Hosted → List Row
+  over h = filter (λ (row : Row). is_over grace now row.phase) h.rows
+
+  mine-so : (k : ℕ) (h : Hosted) → mine_of k h ≡ map (λ (row : Row). expires h.rule.id row.path row.blob.number) (take k (over h))
+  mine-so k h = take-map (λ (row : Row). expires h.rule.id row.path row.blob.number) k (over h)
+
+  mine-count : (k : ℕ) (h : Hosted) → length (recorded (mine_of k h)) ≡ min k (length (expired_of grace now h))
+  mine-count k h =
+      ap (λ es. length (recorded es)) (mine-so k h) ∙ one-each h.rule.id (take k (over h))
+      ∙ sym (length-map (take k (over h)) (λ (row : Row). expires h.rule.id row.path row.blob.number)) ∙ ap length (sym (mine-so k h)) ∙ length-take k (expired_of grace now h)
+
+  mine-removed : (k : ℕ) (h : Hosted) → AllByRecursion IsRemoved (recorded (mine_of k h))
+  mine-removed k h = subst (λ es. AllByRecursion IsRemoved (recorded es)) (sym (mine-so k h)) (all-removed h.rule.id (take k (over h)))
+
+  pub found-start : (repos : List Hosted) → IsFound repos 0 [] [] []
+  found-start repos = record { counts_so = refl; blobs_so = refl; change_so = refl; removed = tt }
+
+  pub found-more : (repos : List Hosted) (i n : ℕ) (h : Hosted) (change : List Item) (counts blobs : List ℕ) → i < length repos → h ≡ get_or repos i h
+      → n ≡ min (most_rows - length change) (length (expired_of grace now h)) → IsFound repos i change counts blobs
+      → IsFound repos (i + 1) (change ++ recorded (mine_of (most_rows - length change) h)) (counts ++ n ∷ []) (blobs ++ map blob_of (mine_of (most_rows - length change) h))
+  found-more repos i n h change counts blobs within at count old =
+      let left = most_rows - length change in
+      let all = expired_of grace now h in
+      let mine = mine_of left h in
       let later = drop (i + 1) repos in
       let rest : drop i repos ≡ h ∷ later = drop_more repos i h within ∙ ap (λ k. k ∷ later) (sym at) in
-      let count = found-count left h more is in
-      let fewer : left - length mine ≡ left - length more = omega (arith, count) in
+      let fewer : left - length all ≡ most_rows - length (change ++ recorded mine) = omega (arith, length-append change (recorded mine), mine-count left h) in
+      let behind = take (left - length all) (flat_map (expired_of grace now) later) in
       record {
         counts_so =
             old.counts_so
             ∙ ap (λ hs. counts ++ shares grace now left hs) rest
-            ∙ ap (λ n. counts ++ n ∷ shares grace now (left - length mine) later) (sym count)
-            ∙ ap (λ n. counts ++ length more ∷ shares grace now n later) fewer
-            ∙ sym (append_assoc counts (length more ∷ []) (shares grace now (left - length more) later));
+            ∙ ap (λ k. counts ++ k ∷ shares grace now (left - length all) later) (sym count)
+            ∙ ap (λ k. counts ++ n ∷ shares grace now k later) fewer
+            ∙ sym (append_assoc counts (n ∷ []) (shares grace now (most_rows - length (change ++ recorded mine)) later));
         blobs_so =
             old.blobs_so
             ∙ ap (λ hs. blobs ++ map blob_of (take left (flat_map (expired_of grace now) hs))) rest
-            ∙ ap (λ es. blobs ++ map blob_of es) (take-both grace now left mine (flat_map (expired_of grace now) later))
-            ∙ ap (λ ns. blobs ++ ns) (map-both (take left mine) (take (left - length mine) (flat_map (expired_of grace now) later)))
-            ∙ ap (λ ns. blobs ++ (ns ++ map blob_of (take (left - length mine) (flat_map (expired_of grace now) later)))) (sym is)
-            ∙ ap (λ n. blobs ++ (more ++ map blob_of (take n (flat_map (expired_of grace now) later)))) fewer
-            ∙ sym (append_assoc blobs more (map blob_of (take (left - length more) (flat_map (expired_of grace now) later))));
+            ∙ ap (λ es. blobs ++ map blob_of es) (take-both grace now left all (flat_map (expired_of grace now) later))
+            ∙ ap (λ ns. blobs ++ ns) (map-both mine behind)
+            ∙ sym (append_assoc blobs (map blob_of mine) (map blob_of behind))
+            ∙ ap (λ k. (blobs ++ map blob_of mine) ++ map blob_of (take k (flat_map (expired_of grace now) later))) fewer;
+        change_so =
+            old.change_so
+            ∙ ap (λ hs. change ++ recorded (take left (flat_map (expired_of grace now) hs))) rest
+            ∙ ap (λ es. change ++ recorded es) (take-both grace now left all (flat_map (expired_of grace now) later))
+            ∙ ap (λ is. change ++ is) (flat_map-append items_of mine behind)
+            ∙ sym (append_assoc change (recorded mine) (recorded behind))
+            ∙ ap (λ k. (change ++ recorded mine) ++ recorded (take k (flat_map (expired_of grace now) later))) fewer;
+        removed = all-append IsRemoved change (recorded mine) old.removed (mine-removed left h);
       }
 
   -- one more repository without rows whose grace is over
@@ -106,14 +143,3 @@ condemned-more blobs start i n yard within at old =
       kept_so = old.kept_so ∙ ap (λ ns. kept_without ns yard.kept) rest;
       once = (subst (λ ns. AreKeptOnce ns yard.kept) rest old.once).1;
     }
-
--- one more row's blob
-pub pushed-more : (found : List Expired) (i : ℕ) (row : Expired) (start blobs : List ℕ) → i < length found → row ≡ get_or found i row
-    → blobs ≡ start ++ map (λ (r : Expired). r.blob) (take i found) → blobs ++ row.blob ∷ [] ≡ start ++ map (λ (r : Expired). r.blob) (take (i + 1) found)
-pushed-more found i row start blobs within at before =
-    let blob : Expired → ℕ = λ r. r.blob in
-    let more : take (i + 1) found ≡ take i found ++ row ∷ [] = take_more found i row within ∙ ap (λ r. take i found ++ r ∷ []) (sym at) in
-    ap (λ ns. ns ++ row.blob ∷ []) before
-    ∙ append_assoc start (map blob (take i found)) (row.blob ∷ [])
-    ∙ ap (λ ns. start ++ ns) (sym (map-append blob (take i found) (row ∷ [])))
-    ∙ ap (λ rs. start ++ map blob rs) (sym more)

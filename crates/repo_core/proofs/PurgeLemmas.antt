@@ -18,7 +18,8 @@ use Rattle.repo_laws.proofs.Making.{all-append}
 use Rattle.repo_laws.proofs.Releases.{is_itself, other_path}
 use Rattle.hosted_repo.specs.Rows.{rows_after_all}
 use Rattle.repo_core.specs.Hosted.{AreInUse}
-use Rattle.repo_core.specs.Purge.{blob_of, condemned_by, dropped_by, shares}
+use Rattle.hosted_repo.specs.Expired.{blob_of}
+use Rattle.repo_core.specs.Purge.{condemned_by, dropped_by, shares}
 use Rattle.repo_core.proofs.PutReplies.{unchanged}
 use Rattle.repo_core.proofs.UseLemmas.{IsUsed, RowsUsed}
 

@@ -1,28 +1,36 @@
 -- Unlist and Collect, as turns of the machine.
-use Rattle.std.proofs.Common.{◌≡◌, ℕ, ◌<◌, ◌≤◌, get_or, set, List, [], ◌∷◌, length, map, Option, Some, None, Result, Ok, Err, inl, inr, refl, sym, ap, ◌∙◌, subst}
+use Rattle.std.proofs.Common.{◌≡◌, ℕ, ◌<◌, ◌≤◌, false, if◌then◌else◌, get_or, set, List, [], ◌∷◌, length, map, Option, Some, None, Result, Ok, Err, inl, inr, refl, sym, ap, ◌∙◌, subst}
 use Rattle.std.specs.Prelude.{IfOk, OnErr, OnOk, find}
 use Rattle.std.specs.Option.{option_map_or}
-use Rattle.std.proofs.lemmas.List.{get_or_default}
+use Rattle.std.proofs.lemmas.Grind.{flat_map-append}
+use Rattle.std.proofs.lemmas.List.{append-nil, get_or_default}
 use Rattle.hosted_repo.specs.Rows.{rows_after_all}
 use Rattle.repo_model.specs.Command.{collect, unlist}
 use Rattle.repo_model.specs.Data.{Row, Hosted}
-use Rattle.repo_model.specs.Effect.{forgets, with_effect, with_effects, yard_after}
+use Rattle.repo_model.specs.Effect.{forgets, items_of, recorded, with_effect, with_effects, yard_after}
 use Rattle.repo_model.specs.Purge.{due_rows, expire_all, fade_all, most_rows}
-use Rattle.repo_model.specs.Reply.{collected, no_memory, unlisted}
+use Rattle.repo_model.specs.Reply.{Reply, collected, is_free, no_memory, store_fault, unlisted}
 use Rattle.repo_model.specs.State.{State, Yard, change_first, hosted_of, is_repository}
-use Rattle.repo_model.specs.Turn.{unlent, unlist_of}
+use Rattle.repo_model.specs.Tables.{Tables}
+use Rattle.repo_model.specs.Turn.{turn, unlent, unlist_of}
+use Rattle.repo_model.specs.declared.item.Item.{Item}
+use Rattle.row_tables.specs.Commits.{tables_with}
+use Rattle.outside.specs.Faults.{Rose}
 use Rattle.repo_laws.specs.Laws.{rows_with}
 use Rattle.repo_laws.specs.Sound.{AreNamedApart}
 use Rattle.repo_laws.proofs.Histories.{with_effects-append}
 use Rattle.repo_laws.proofs.Lists.{found-passes}
 use Rattle.repo_laws.proofs.Releases.{same_path}
 use Rattle.repo_core.specs.Hosted.{AreInUse, rows_in, with_rows}
-use Rattle.repo_core.specs.Purge.{AreKeptOnce, blob_of, condemned_by, dropped_by, kept_without, shares}
-use Rattle.repo_core.specs.Turn.{Turned}
-use Rattle.repo_core.specs.Whole.{IsOrderly, Whole}
+use Rattle.hosted_repo.specs.Expired.{blob_of}
+use Rattle.repo_core.specs.Purge.{AreKeptOnce, condemned_by, dropped_by, kept_without, shares}
+use Rattle.repo_core.specs.Turn.{Recorded, Turned}
+use Rattle.repo_core.specs.Whole.{IsOrderly, Parts}
+use Rattle.repo_core.proofs.NameLemmas.{named-apart}
 use Rattle.repo_core.proofs.BlobLemmas.{all-still, gone-once, none-gone}
 use Rattle.repo_core.proofs.PurgeLemmas.{dropped-used, expired-all, faded, fading_all}
 use Rattle.repo_core.proofs.PutReplies.{rows-by, same-rows}
+use Rattle.repo_core.proofs.Turning.{failed-so, recorded-so, some-items}
 
 pub ok-then : {A E : Type 0} (P Q : A → Type 0) → ((x : A) → P x → Q x) → (r : Result A E) → IfOk r P → IfOk r Q
 ok-then P Q f (Ok x) p = f x p
@@ -69,7 +77,7 @@ left-by s repo (Some h) is =
     ∙ sym (faded h.rule.id s.last due s)
 
 -- rows of a repository were unlisted
-pub turned-unlisted : (w : Whole) (repo : List ℕ) (n : ℕ) (hosted : List Hosted) → unlisted n ≡ (unlist_of w.state.last (hosted_of repo w.state)).reply
+pub turned-unlisted : (w : Parts) (repo : List ℕ) (n : ℕ) (hosted : List Hosted) → unlisted n ≡ (unlist_of w.state.last (hosted_of repo w.state)).reply
     → hosted ≡ rows_unlisted repo w.state.last w.state.hosted → Turned w (record w { state = record w.state { hosted = hosted } }) (unlist repo) (unlisted n)
 turned-unlisted w repo n hosted count rows = record {
   settings = refl;
@@ -78,15 +86,62 @@ turned-unlisted w repo n hosted count rows = record {
   left = ap (λ hs. record w.state { hosted = hs }) rows ∙ left-by w.state repo (hosted_of repo w.state) refl;
 }
 
--- memory was wanting
-pub unlist-without : (w : Whole) (repo : List ℕ) (hosted : List Hosted) → hosted ≡ w.state.hosted → Turned w (record w { state = record w.state { hosted = hosted } }) (unlist repo) no_memory
-unlist-without w repo hosted same = record { settings = refl; calls = refl; answered = inr (refl, refl); left = ap (λ hs. record w.state { hosted = hs }) same }
+-- what is recorded of the repository that was found
+pub told-by : (id : List ℕ) (items : List Hosted) (now : ℕ) (old : Hosted) (told told' : Option Tables) → find (is_repository id) items ≡ Some old → told' ≡ tables_with (recorded (fade_all old now)) told
+    → told' ≡ tables_with (recorded (unlist_of now (find (is_repository id) items)).effects) told
+told-by id items now old told told' here made = made ∙ ap (λ found. tables_with (recorded (unlist_of now found).effects) told) (sym here)
 
-pub collect-without : (w : Whole) → Turned w w collect no_memory
-collect-without w = record { settings = refl; calls = refl; answered = inr (refl, refl); left = refl }
+-- rows of a repository were unlisted, once that was recorded; or memory was wanting; or the records failed
+module _ (w : Parts) (repo : List ℕ) (hosted : List Hosted) (told told' : Option Tables) (faults faults' : ℕ) where
+  abbrev then_left : Parts
+  then_left = record w { state = record w.state { hosted = hosted } }
+
+  pub unlist-done : (n : ℕ) → unlisted n ≡ (unlist_of w.state.last (hosted_of repo w.state)).reply → hosted ≡ rows_unlisted repo w.state.last w.state.hosted
+      → told' ≡ tables_with (recorded (unlist_of w.state.last (hosted_of repo w.state)).effects) told → faults' ≡ faults → Recorded w then_left (unlist repo) (unlisted n) told told' faults faults'
+  unlist-done n count rows tables same = recorded-so w then_left (unlist repo) (unlisted n) told told' faults faults' (turned-unlisted w repo n hosted count rows) tables same
+
+  pub unlist-without : hosted ≡ w.state.hosted → told' ≡ told → faults' ≡ faults → Recorded w then_left (unlist repo) no_memory told told' faults faults'
+  unlist-without still tables same =
+      recorded-so w then_left (unlist repo) no_memory told told' faults faults' (record { settings = refl; calls = refl; answered = inr (refl, refl); left = ap (λ hs. record w.state { hosted = hs }) still }) tables same
+
+  pub unlist-failed : hosted ≡ w.state.hosted → told' ≡ told → (recorded (unlist_of w.state.last (hosted_of repo w.state)).effects ≡ [] → ⊥) → Rose faults faults'
+      → Recorded w then_left (unlist repo) store_fault told told' faults faults'
+  unlist-failed still tables asked rose =
+      failed-so w then_left (unlist repo) told told' faults faults' refl refl (ap (λ hs. record w.state { hosted = hs }) still) (some-items (recorded (unlist_of w.state.last (hosted_of repo w.state)).effects) asked) tables rose
+
+-- what a Collect records
+pub collect-items : (w : Parts) → recorded (turn w.settings w.state w.state.last collect).effects ≡ recorded (expire_all w.settings.grace w.state.last w.state.hosted)
+collect-items w =
+    let gone = expire_all w.settings.grace w.state.last w.state.hosted in
+    flat_map-append items_of gone (forgets (unlent (with_effects w.state gone).yard) ∷ []) ∙ append-nil (recorded gone)
+
+-- what goes at a Collect, as its parts see it
+module _ (w v : Parts) (same : v ≡ w) (grace : ℕ) where
+  pub blobs-at : (blobs : List ℕ) → grace ≡ w.settings.grace → blobs ≡ map blob_of (expire_all grace w.state.last w.state.hosted) → blobs ≡ map blob_of (expire_all v.settings.grace v.state.last v.state.hosted)
+  blobs-at blobs seconds made =
+      subst (λ (p : Parts). blobs ≡ map blob_of (expire_all p.settings.grace p.state.last p.state.hosted)) (sym same) (made ∙ ap (λ s. map blob_of (expire_all s w.state.last w.state.hosted)) seconds)
+
+  pub counts-at : (counts : List ℕ) → grace ≡ w.settings.grace → counts ≡ shares grace w.state.last most_rows w.state.hosted → counts ≡ shares v.settings.grace v.state.last most_rows v.state.hosted
+  counts-at counts seconds made =
+      subst (λ (p : Parts). counts ≡ shares p.settings.grace p.state.last most_rows p.state.hosted) (sym same) (made ∙ ap (λ s. shares s w.state.last most_rows w.state.hosted) seconds)
+
+  pub change-at : (hosted : List Hosted) (change : List Item) → grace ≡ v.settings.grace → hosted ≡ v.state.hosted → change ≡ recorded (expire_all grace v.state.last hosted)
+      → change ≡ recorded (expire_all w.settings.grace w.state.last w.state.hosted)
+  change-at hosted change seconds there made =
+      subst (λ (p : Parts). change ≡ recorded (expire_all p.settings.grace p.state.last p.state.hosted)) same
+      (made ∙ ap (λ s. recorded (expire_all s v.state.last hosted)) seconds ∙ ap (λ hs. recorded (expire_all v.settings.grace v.state.last hs)) there)
+
+-- a Collect whose change was recorded
+pub collect-done : (w new : Parts) (reply : Reply) (change : List Item) (told told' : Option Tables) (faults faults' : ℕ) → Turned w new collect reply → is_free reply ≡ false
+    → change ≡ recorded (expire_all w.settings.grace w.state.last w.state.hosted) → told' ≡ tables_with change told → faults' ≡ faults → Recorded w new collect reply told told' faults faults'
+collect-done w new reply change told told' faults faults' turned bound made tables same =
+    recorded-so w new collect reply told told' faults faults' turned
+    (tables ∙ ap (λ items. tables_with items told) (made ∙ sym (collect-items w))
+    ∙ ap (λ b. if b then told else tables_with (recorded (turn w.settings w.state w.state.last collect).effects) told) (sym bound))
+    same
 
 -- what a Collect leaves: the rows whose grace is over are gone, and so is garbage that nobody has borrowed
-pub turned-collected : (w : Whole) (hosted : List Hosted) (between after : Yard) (n : ℕ) (blobs : List ℕ) → AreNamedApart (map (λ (h : Hosted). h.rule) w.state.hosted)
+pub turned-collected : (w : Parts) (hosted : List Hosted) (between after : Yard) (n : ℕ) (blobs : List ℕ) → AreNamedApart (map (λ (h : Hosted). h.rule) w.state.hosted)
     → hosted ≡ dropped_by w.settings.grace w.state.last (shares w.settings.grace w.state.last most_rows w.state.hosted) w.state.hosted
     → between ≡ condemned_by (map blob_of (expire_all w.settings.grace w.state.last w.state.hosted)) w.state.yard
     → n ≡ length (expire_all w.settings.grace w.state.last w.state.hosted) → blobs ≡ unlent between → after ≡ yard_after (forgets (unlent between)) between
@@ -110,18 +165,19 @@ turned-collected w hosted between after n blobs apart rows yard count told forgo
     }
 
 -- the rows that a Collect leaves are in use
-pub collected-used : (w : Whole) (kept : List ℕ) → IsOrderly w → AreInUse kept w.state.hosted → let grace = w.settings.grace in let s = w.state in
+pub collected-used : (w : Parts) (kept : List ℕ) → IsOrderly w → AreInUse kept w.state.hosted → let grace = w.settings.grace in let s = w.state in
     AreInUse (kept_without (map blob_of (expire_all grace s.last s.hosted)) kept) (dropped_by grace s.last (shares grace s.last most_rows s.hosted) s.hosted)
 collected-used w kept orderly used =
     let grace = w.settings.grace in
     let s = w.state in
     let gone = map blob_of (expire_all grace s.last s.hosted) in
-    let apart : AreNamedApart (map (λ (h : Hosted). h.rule) s.hosted) = subst AreNamedApart (sym orderly.order.rules) orderly.apart in
+    let named = named-apart w.settings orderly.form in
+    let apart : AreNamedApart (map (λ (h : Hosted). h.rule) s.hosted) = subst AreNamedApart (sym orderly.order.rules) named in
     let hosted = dropped_by grace s.last (shares grace s.last most_rows s.hosted) s.hosted in
     let is : with_effects s (expire_all grace s.last s.hosted) ≡ record s { hosted = hosted; yard = condemned_by gone s.yard } = expired-all grace s.last s apart in
     all-still gone kept hosted
-    (λ n some. none-gone grace s.last s orderly.places w.settings orderly.order orderly.apart (ap (λ (t : State). t.yard) is) n (subst (λ hs. 1 ≤ rows_with n hs) (sym (ap (λ (t : State). t.hosted) is)) some))
+    (λ n some. none-gone grace s.last s orderly.places w.settings orderly.order named (ap (λ (t : State). t.yard) is) n (subst (λ hs. 1 ≤ rows_with n hs) (sym (ap (λ (t : State). t.hosted) is)) some))
     (dropped-used grace s.last kept s.hosted apart used)
 
-pub collected-once : (w : Whole) (kept : List ℕ) → IsOrderly w → AreInUse kept w.state.hosted → AreKeptOnce (map blob_of (expire_all w.settings.grace w.state.last w.state.hosted)) kept
+pub collected-once : (w : Parts) (kept : List ℕ) → IsOrderly w → AreInUse kept w.state.hosted → AreKeptOnce (map blob_of (expire_all w.settings.grace w.state.last w.state.hosted)) kept
 collected-once w kept orderly used = gone-once w.settings.grace w.state.last w.state orderly.places kept used

@@ -1,20 +1,24 @@
 -- The reply that is due to a put, by the row at its path, and what the put leaves.
 use Rattle.std.proofs.Common.{◌≡◌, ℕ, Bool, true, false, cond, if◌then◌else◌, List, [], ◌∷◌, Option, Some, None, inl, inr, refl, sym, ap, ◌∙◌, subst}
 use Rattle.std.specs.Prelude.{find}
+use Rattle.std.proofs.lemmas.Bool.{false≢true}
 use Rattle.std.specs.Option.{option_map_or}
 use Rattle.repo_model.specs.declared.print.Print.{Print}
 use Rattle.repo_model.specs.Data.{Blob, Row, Phase, listed, fading, Hosted, is_same_print}
-use Rattle.repo_model.specs.State.{State, Yard, change_where, change_first, is_repository, is_row}
+use Rattle.repo_model.specs.State.{State, Yard, change_where, change_first, is_repository, is_row, row_at}
 use Rattle.repo_model.specs.Effect.{with_effects, yard_after, drops, with_row, new_row, list_again, without_draft}
-use Rattle.repo_model.specs.Reply.{Reply, taken, is_free}
+use Rattle.repo_model.specs.Reply.{Reply, no_memory, store_fault, taken, is_free}
 use Rattle.repo_model.specs.Turn.{Turn, put_again, put_at}
 use Rattle.hosted_repo.specs.Rows.{rows_after_all}
-use Rattle.repo_core.specs.Hosted.{rows_in, with_rows, put_due, rows_put}
+use Rattle.hosted_repo.specs.Puts.{put_turn}
+use Rattle.repo_laws.proofs.Lists.{found-passes}
+use Rattle.repo_laws.proofs.Releases.{same_path}
+use Rattle.repo_core.specs.Hosted.{rows_in, with_rows, put_due, put_in, rows_put}
 use Rattle.repo_core.specs.Numbers.{yard_put}
-use Rattle.repo_core.specs.Turn.{IsDueOr}
+use Rattle.repo_core.specs.Turn.{IsDueOrFree}
 
 -- what a put does where the path has a row, by whether the contents are the same
-abbrev put_by : Bool → List ℕ → List ℕ → ℕ → ℕ → Phase → Print → Print → Turn
+abbrev pub put_by : Bool → List ℕ → List ℕ → ℕ → ℕ → Phase → Print → Print → Turn
 put_by b repo path n now phase kept sent = if b then put_again repo path n now phase else record { reply = taken kept sent; effects = drops n ∷ [] }
 
 due-by : (b : Bool) (repo path : List ℕ) (n now : ℕ) (phase : Phase) (kept sent : Print) → (put_by b [] [] 0 0 phase kept sent).reply ≡ (put_by b repo path n now phase kept sent).reply
@@ -26,6 +30,23 @@ due-by false repo path n now phase kept sent = refl
 pub put-reply : (repo path : List ℕ) (n now : ℕ) (blob : Blob) (found : Option Row) → put_due blob found ≡ (put_at repo path n blob now found).reply
 put-reply repo path n now blob None = refl
 put-reply repo path n now blob (Some row) = due-by (is_same_print row.blob.print blob.print) repo path n now row.phase row.blob.print blob.print
+
+-- it changes something
+bound-by : (b : Bool) (repo path : List ℕ) (n now : ℕ) (phase : Phase) (kept sent : Print) → is_free (put_by b repo path n now phase kept sent).reply ≡ false
+bound-by true repo path n now listed kept sent = refl
+bound-by true repo path n now (fading since) kept sent = refl
+bound-by false repo path n now phase kept sent = refl
+
+pub put-bound : (repo path : List ℕ) (n now : ℕ) (blob : Blob) (found : Option Row) → is_free (put_at repo path n blob now found).reply ≡ false
+put-bound repo path n now blob None = refl
+put-bound repo path n now blob (Some row) = bound-by (is_same_print row.blob.print blob.print) repo path n now row.phase row.blob.print blob.print
+
+-- the turn of a put at the repository of an id
+pub put-here : (id path : List ℕ) (blob : Blob) (now : ℕ) (items : List Hosted) (old : Hosted) → find (is_repository id) items ≡ Some old → put_turn old path blob now ≡ put_in id path blob now items
+put-here id path blob now items old is =
+    let named : old.rule.id ≡ id = same_path old.rule.id id (found-passes (is_repository id) items old is) in
+    let rows : old.rows ≡ rows_in id items = ap (λ found. option_map_or (λ (h : Hosted). h.rows) found []) (sym is) in
+    ap (λ i. put_at i path blob.number blob now (row_at path old.rows)) named ∙ ap (λ rs. put_at id path blob.number blob now (row_at path rs)) rows
 
 -- what the effects of a put leave of the rows, by its reply
 abbrev RowsSo : Turn → List ℕ → Blob → ℕ → List Row → Type 0
@@ -40,22 +61,19 @@ pub rows-put : (repo path : List ℕ) (n now : ℕ) (blob : Blob) (found : Optio
 rows-put repo path n now blob None rows = refl
 rows-put repo path n now blob (Some row) rows = rows-by-content (is_same_print row.blob.print blob.print) repo path n now blob row.phase row.blob.print blob.print rows
 
--- the rows that a put leaves, whether memory was wanting or not
-pub rows-left : (repo path : List ℕ) (n now : ℕ) (blob : Blob) (found : Option Row) (h : Hosted) (reply : Reply) → IsDueOr (put_at repo path n blob now found).reply reply
+-- what holds of both replies that change nothing
+pub by-free : (P : Reply → Type 0) (reply : Reply) → is_free reply ≡ true → P no_memory → P store_fault → P reply
+by-free P no_memory is memory fault = memory
+by-free P store_fault is memory fault = fault
+by-free P reply is memory fault = absurd (false≢true is)
+
+-- the rows that a put leaves, whether it was done or not
+pub rows-left : (repo path : List ℕ) (n now : ℕ) (blob : Blob) (found : Option Row) (h : Hosted) (reply : Reply) → IsDueOrFree (put_at repo path n blob now found).reply reply
     → (if is_free reply then h else record h { rows = rows_after_all (put_at repo path n blob now found).effects h.rows }) ≡ record h { rows = rows_put path blob now reply h.rows }
-rows-left repo path n now blob found h reply (inr is) = subst (λ r. (if is_free r then h else record h { rows = rows_after_all (put_at repo path n blob now found).effects h.rows }) ≡ record h { rows = rows_put path blob now r h.rows }) (sym is) refl
+rows-left repo path n now blob found h reply (inr is) = by-free (λ r. (if is_free r then h else record h { rows = rows_after_all (put_at repo path n blob now found).effects h.rows }) ≡ record h { rows = rows_put path blob now r h.rows }) reply is refl refl
 rows-left repo path n now blob found h reply (inl is) =
     subst (λ r. (if is_free r then h else record h { rows = rows_after_all (put_at repo path n blob now found).effects h.rows }) ≡ record h { rows = rows_put path blob now r h.rows }) (sym is)
-    (bound (put_at repo path n blob now found) (never-free found) ∙ ap (λ rows. record h { rows = rows }) (rows-put repo path n now blob found h.rows)) where
-      never-by : (b : Bool) (phase : Phase) (kept sent : Print) → is_free (put_by b repo path n now phase kept sent).reply ≡ false
-      never-by true listed kept sent = refl
-      never-by true (fading since) kept sent = refl
-      never-by false phase kept sent = refl
-
-      never-free : (row : Option Row) → is_free (put_at repo path n blob now row).reply ≡ false
-      never-free None = refl
-      never-free (Some row) = never-by (is_same_print row.blob.print blob.print) row.phase row.blob.print blob.print
-
+    (bound (put_at repo path n blob now found) (put-bound repo path n now blob found) ∙ ap (λ rows. record h { rows = rows }) (rows-put repo path n now blob found h.rows)) where
       bound : (t : Turn) → is_free t.reply ≡ false → (if is_free t.reply then h else record h { rows = rows_after_all t.effects h.rows }) ≡ record h { rows = rows_after_all t.effects h.rows }
       bound t is_bound = ap (λ b. if b then h else record h { rows = rows_after_all t.effects h.rows }) is_bound
 
@@ -109,9 +127,9 @@ module _ (s : State) (repo path : List ℕ) (n : ℕ) (blob : Blob) (named : blo
   as-due (Some row) = by-content (is_same_print row.blob.print blob.print) row.phase row.blob.print blob.print
 
   -- a put leaves what its turn leaves
-  pub left-put : (reply : Reply) (found : Option Row) → IsDueOr (put_due blob found) reply
+  pub left-put : (reply : Reply) (found : Option Row) → IsDueOrFree (put_due blob found) reply
       → state_put repo path n blob reply s ≡ with_effects s (if is_free reply then [] else (put_at repo path n blob s.last found).effects)
   left-put reply found (inl is) =
       subst (λ r. state_put repo path n blob r s ≡ with_effects s (if is_free r then [] else (put_at repo path n blob s.last found).effects)) (sym (is ∙ put-reply repo path n s.last blob found)) (as-due found)
   left-put reply found (inr is) =
-      subst (λ r. state_put repo path n blob r s ≡ with_effects s (if is_free r then [] else (put_at repo path n blob s.last found).effects)) (sym is) (still s.yard)
+      by-free (λ r. state_put repo path n blob r s ≡ with_effects s (if is_free r then [] else (put_at repo path n blob s.last found).effects)) reply is (still s.yard) (still s.yard)

@@ -15,7 +15,7 @@ use Rattle.repo_model.specs.State.{row_at}
 use Rattle.repo_model.specs.Turn.{compared, judged, says}
 use Rattle.repo_core.specs.Hosted.{rows_in}
 use Rattle.repo_core.specs.Turn.{Turned}
-use Rattle.repo_core.specs.Whole.{Whole}
+use Rattle.repo_core.specs.Whole.{Parts}
 use Rattle.repo_core.proofs.Turning.{turned-says}
 
 by-content : (b : Bool) (said kept : List ℕ) → (if b then says agreed else says (differs said kept)) ≡ says (if b then says agreed else says (differs said kept)).reply
@@ -31,7 +31,7 @@ judged-says : (k : Result Kind PathFault) (said : List ℕ) (blob_at : List ℕ 
 judged-says (Ok (FileSide c side)) said blob_at = compared-says said (option_map (λ (blob : Blob). side_of blob.print.digests side) (blob_at (text_of c)))
 judged-says k said blob_at = refl
 
-pub turned-side : (w : Whole) (repo path said : List ℕ) (reply : Reply)
+pub turned-side : (w : Parts) (repo path said : List ℕ) (reply : Reply)
     → reply ≡ (judged (kind path) said (λ at. option_map (λ (row : Row). row.blob) (row_at at (rows_in repo w.state.hosted)))).reply → Turned w w (put_side (repository repo) path said) reply
 turned-side w repo path said reply is =
     let blob_at : List ℕ → Option Blob = λ at. option_map (λ (row : Row). row.blob) (row_at at (rows_in repo w.state.hosted)) in

@@ -1,32 +1,53 @@
 -- One turn of the parts of the repository, as an entry that fits the machine's state.
 use native.Mathlib.Omega.{arith}
-use Rattle.std.proofs.Common.{◌≡◌, ℕ, ◌≤◌, min, max, Bool, true, false, if◌then◌else◌, List, [], Option, Some, None, inl, inr, refl, sym, ap, ◌∙◌, subst}
-use Rattle.std.specs.Prelude.{IfSome, MatchOption, IsTrue, count_by, find, length, sum_by}
+use Rattle.std.proofs.Common.{◌≡◌, ℕ, ◌≤◌, min, max, Bool, true, false, if◌then◌else◌, List, [], ◌∷◌, Option, Some, None, Result, Ok, inl, inr, refl, sym, ap, ◌∙◌, subst}
+use Rattle.std.specs.Prelude.{IfSome, MatchOption, IsTrue, ◌==◌, bytes_eq, count_by, find, length, not, sum_by}
 use Rattle.hosted_repo.specs.Rows.{fades}
 use Rattle.mvn_coords.specs.Kind.{kind}
 use Rattle.outside.specs.Moments.{Moments}
-use Rattle.repo_model.specs.Data.{Hosted, Session, repository, session}
+use Rattle.mvn_coords.specs.declared.fault.PathFault.{PathFault}
+use Rattle.mvn_coords.specs.declared.kind.Kind.{Kind}
+use Rattle.mvn_coords.specs.declared.kind.Kind.TheVariants.{FileSide}
+use Rattle.mvn_coords.specs.Layout.{text_of}
+use Rattle.mvn_digest.specs.Sides.{side_of}
+use Rattle.std.specs.Option.{option_map}
+use Rattle.repo_model.specs.Data.{Blob, Row, Hosted, Session, repository, session}
+use Rattle.repo_model.specs.Paths.{takes}
 use Rattle.repo_model.specs.Settings.{Settings}
-use Rattle.repo_model.specs.State.{State, is_open, is_open_at, open_of}
-use Rattle.repo_model.specs.Effect.{with_effects}
+use Rattle.repo_model.specs.State.{State, hosted_of, is_open, is_open_at, number_end, open_of, row_at, rows_of}
+use Rattle.repo_model.specs.Effect.{Effect, draws, lends, recorded, with_effect, with_effects}
+use Rattle.repo_model.specs.Tables.{Tables}
+use Rattle.repo_model.specs.declared.item.Item.{Item}
 use Rattle.repo_model.specs.Command.{Command, look, may_put, put_side, put_doc, collect, status, meets}
-use Rattle.repo_model.specs.Reply.{Reply, counts, no_session, noted, is_free}
+use Rattle.repo_model.specs.Reply.{Reply, agreed, counts, differs, draft, file, kind_refused, no_memory, no_session, noted, spent, store_fault, is_free}
 use Rattle.repo_model.specs.Purge.{expire_all}
-use Rattle.repo_model.specs.Turn.{Turn, turn, says, collect_of, counts_of, judged, may_put_in, staged_at, with_open}
-use Rattle.repo_model.specs.History.{Entry, IsReply, due, wants_memory, DidCommit, MomentFits, latest_moment, ticked, Fits, effects_of, after}
-use Rattle.repo_laws.specs.Sound.{IsSound, AreNamedApart}
+use Rattle.repo_model.specs.Turn.{Seen, Turn, compared, draws_draft, in_repository, is_doc, is_file, is_nothing, is_text, seen_at, shows, turn, says, collect_of, counts_of, judged, may_put_in, staged_at, with_open}
+use Rattle.repo_model.specs.History as history
+use Rattle.repo_model.specs.History.{Entry, IsReply, MomentFits, commits, latest_moment, ticked, Fits, effects_of, after}
+use Rattle.outside.specs.Faults.{Rose}
+use Rattle.hosted_repo.specs.Recording.{FitWhereTold, HasReplyCause}
+use Rattle.repo_config.specs.Form.{IsSettings}
+use Rattle.repo_laws.specs.Sound.{IsSound}
+use Rattle.repo_laws.proofs.Answered.{no-free}
+use Rattle.repo_laws.proofs.Holding.{entry-recorded}
 use Rattle.repo_laws.proofs.Histories.{one-place-ticked, sound-ticked, ticked-later}
 use Rattle.repo_laws.proofs.Keeping.{keeps-sound}
 use Rattle.repo_laws.proofs.Moments.{last_of}
-use Rattle.repo_core.specs.Turn.{done_by, Turned}
-use Rattle.repo_core.specs.Whole.{Whole, IsKept, IsOrderly}
+use Rattle.row_tables.specs.Applying.{with_items}
+use Rattle.row_tables.specs.Commits.{tables_with}
+use Rattle.std.specs.Option.{ForSome}
+use Rattle.std.proofs.lemmas.Bool.{false≢true, ne_eqb}
+use Rattle.std.proofs.lemmas.Option.{none-some}
+use Rattle.repo_core.specs.Turn.{done_by, IsAnswer, due, wants_memory, failed, MayRecord, Recorded, Turned}
+use Rattle.repo_core.specs.Whole.{Parts, Whole, IsKept, IsOrderly, Tell, counting}
+use Rattle.repo_core.proofs.NameLemmas.{named-apart}
 
 nothing-done : (b : Bool) (s : State) → s ≡ with_effects s (if b then [] else [])
 nothing-done true s = refl
 nothing-done false s = refl
 
 -- a command that says something and does nothing
-pub turned-says : (w : Whole) (command : Command) (reply : Reply) → turn w.settings w.state w.state.last command ≡ says reply → Turned w w command reply
+pub turned-says : (w : Parts) (command : Command) (reply : Reply) → turn w.settings w.state w.state.last command ≡ says reply → Turned w w command reply
 turned-says w command reply is = record {
   settings = refl;
   calls = refl;
@@ -38,20 +59,8 @@ turned-says w command reply is = record {
 no-open : (n : ℕ) (s : State) → s.sessions ≡ [] → open_of n s ≡ None
 no-open n s none = ap (find (is_open_at n)) none
 
-module _ (w : Whole) (none : w.state.sessions ≡ []) (n : ℕ) (path : List ℕ) where
-  pub may_put-nowhere : Turned w w (may_put (session n) path) no_session
-  may_put-nowhere = turned-says w (may_put (session n) path) no_session (ap (may_put_in w.state path) (no-open n w.state none))
-
-  pub put_side-nowhere : (said : List ℕ) → Turned w w (put_side (session n) path said) no_session
-  put_side-nowhere said =
-      turned-says w (put_side (session n) path said) no_session
-      (ap (λ found. with_open found (λ (one : Session). judged (kind path) said (λ at. staged_at at one.staged))) (no-open n w.state none))
-
-  pub put_doc-nowhere : Turned w w (put_doc (session n) path) no_session
-  put_doc-nowhere = turned-says w (put_doc (session n) path) no_session (ap (λ found. with_open found (λ (one : Session). says noted)) (no-open n w.state none))
-
 -- the counts of the rows, where there is no session
-pub turned-counts : (w : Whole) (files unlisted : ℕ) → w.state.sessions ≡ [] → files ≡ sum_by (λ (h : Hosted). length h.rows) w.state.hosted
+pub turned-counts : (w : Parts) (files unlisted : ℕ) → w.state.sessions ≡ [] → files ≡ sum_by (λ (h : Hosted). length h.rows) w.state.hosted
     → unlisted ≡ sum_by (λ (h : Hosted). count_by fades h.rows) w.state.hosted → Turned w w status (counts files unlisted 0 0 0)
 turned-counts w files unlisted none all some =
     let rows = sum_by (λ (h : Hosted). length h.rows) w.state.hosted in
@@ -80,51 +89,225 @@ moment-by (Some moments) last moment given order limit = given
 pub moment-given : (s : State) (moment : ℕ) → IfSome s.clock (λ moments. moment ≡ max s.last (min latest_moment moments.next)) → s.last ≤ moment → moment ≤ latest_moment → MomentFits s moment
 moment-given s moment given order limit = moment-by s.clock s.last moment given order limit
 
--- a turn that began where the clock was read, as an entry
-module _ (w begun new : Whole) (moment : ℕ) (command : Command) (reply : Reply) (turned : Turned begun new command reply) (settings : begun.settings ≡ w.settings) (state : begun.state ≡ ticked w.state moment 0)
-    (none : w.state.faults ≡ 0) where
+-- a count that did not rise, or rose because the records failed
+not-failed : (before later : ℕ) (reply : Reply) → HasReplyCause before later reply → (reply ≡ store_fault → ⊥) → later ≡ before
+not-failed before later store_fault cause other = absurd (other refl)
+not-failed before later reply cause other = cause
+
+did-fail : (before later : ℕ) (reply : Reply) → HasReplyCause before later reply → reply ≡ store_fault → Rose before later
+did-fail before later reply cause is = subst (HasReplyCause before later) is cause
+
+no-less : (before later : ℕ) (reply : Reply) → HasReplyCause before later reply → before ≤ later
+no-less before later store_fault cause = cause.0
+no-less before later reply cause = omega (arith, cause)
+
+counting-later : (faults : ℕ) (es : List Effect) (s : State) → with_effects (counting faults s) es ≡ counting faults (with_effects s es)
+counting-later faults [] s = refl
+counting-later faults (e ∷ es) s = counting-later faults es (with_effect s e)
+
+-- what a turn says and does depends on no count
+pub turn-counting : (settings : Settings) (s : State) (faults now : ℕ) (c : Command) → turn settings (counting faults s) now c ≡ turn settings s now c
+turn-counting settings s faults now collect = ap (λ (t : State). collect_of (expire_all settings.grace now s.hosted) t.yard) (counting-later faults (expire_all settings.grace now s.hosted) s)
+turn-counting settings s faults now (look repo path tried) = refl
+turn-counting settings s faults now (may_put (repository repo) path) = refl
+turn-counting settings s faults now (may_put place path) = refl
+turn-counting settings s faults now (put_side (repository repo) path said) = refl
+turn-counting settings s faults now (put_side place path said) = refl
+turn-counting settings s faults now (put_doc (repository repo) path) = refl
+turn-counting settings s faults now (put_doc place path) = refl
+turn-counting settings s faults now c = refl
+
+-- a turn that began where the clock was read, as an entry; so often the records had failed before it and after it
+module _ (w begun new : Parts) (moment : ℕ) (command : Command) (reply : Reply) (told told' : Option Tables) (before later : ℕ) (turned : Recorded begun new command reply told told' before later)
+    (settings : begun.settings ≡ w.settings) (state : begun.state ≡ ticked w.state moment 0) where
+  abbrev old : State
+  old = counting before w.state
+
   abbrev made : Entry
-  made = record { command = command; moment = new.state.last; reply = reply; faults = 0 }
+  made = record { command = command; moment = new.state.last; reply = reply; faults = later }
 
   last_is : new.state.last ≡ moment
   last_is = ap (λ (s : State). s.last) turned.left ∙ last_of (done_by begun.settings begun.state command reply) begun.state ∙ ap (λ (s : State). s.last) state
 
-  turn_is : turn begun.settings begun.state begun.state.last command ≡ turn w.settings w.state new.state.last command
+  turn_is : turn begun.settings begun.state begun.state.last command ≡ turn w.settings old new.state.last command
   turn_is =
       ap (λ st. turn st begun.state begun.state.last command) settings ∙ ap (λ (s : State). turn w.settings s s.last command) state
       ∙ turn-ticked w.settings w.state moment 0 moment command ∙ ap (λ m. turn w.settings w.state m command) (sym last_is)
+      ∙ sym (turn-counting w.settings w.state before new.state.last command)
 
-  did : DidCommit w.settings w.state made
-  did _ = sym none
+  reply_is : (turn begun.settings begun.state begun.state.last command).reply ≡ (turn w.settings old new.state.last command).reply
+  reply_is = ap (λ (t : Turn). t.reply) turn_is
 
-  pub turned-fits : IsTrue (meets w.settings command) → MomentFits w.state moment → Fits w.settings w.state made
+  -- the reply that is due is none of a failure, nor is want of memory
+  bound-due : reply ≡ (turn begun.settings begun.state begun.state.last command).reply → reply ≡ store_fault → ⊥
+  bound-due is fault = false≢true (sym (no-free begun.settings begun.state begun.state.last command) ∙ ap is_free (sym is ∙ fault))
+
+  bound-memory : reply ≡ no_memory → reply ≡ store_fault → ⊥
+  bound-memory is fault = let x : no_memory ≡ store_fault = sym is ∙ fault in cc
+
+  pub turned-fits : IsTrue (meets w.settings command) → MomentFits w.state moment → Fits w.settings old made
   turned-fits met fits = record {
     condition = met;
     moment = subst (MomentFits w.state) (sym last_is) fits;
-    faults = omega (arith, none);
-    reply = elim turned.answered as (λ _. IsReply w.settings w.state made)
-        [ (inl is) ↦ due (is ∙ ap (λ (t : Turn). t.reply) turn_is) did | (inr is) ↦ wants_memory is.0 is.1 did ];
+    faults = no-less before later reply turned.cause;
+    reply = elim turned.answered as (λ _. IsReply w.settings old made) [
+      | (due is) ↦ history.due (is ∙ reply_is) (λ _. not-failed before later reply turned.cause (bound-due is))
+      | (wants_memory is may) ↦ history.wants_memory is may (λ _. not-failed before later reply turned.cause (bound-memory is))
+      | (failed is asked) ↦ history.failed is (subst (λ (t : Turn). IsTrue (commits command t.effects)) turn_is asked) (did-fail before later reply turned.cause is)
+    ];
   }
 
-  pub turned-after : new.state ≡ after w.settings w.state made
+  pub turned-after : counting later new.state ≡ after w.settings old made
   turned-after =
-      turned.left ∙ ap (λ (s : State). with_effects s (done_by begun.settings begun.state command reply)) state
-      ∙ ap (λ (t : Turn). with_effects (ticked w.state moment 0) (if is_free reply then [] else t.effects)) turn_is
-      ∙ ap (λ m. with_effects (ticked w.state m 0) (effects_of w.settings w.state made)) (sym last_is)
+      ap (counting later) (turned.left ∙ ap (λ (s : State). with_effects s (done_by begun.settings begun.state command reply)) state)
+      ∙ sym (counting-later later (done_by begun.settings begun.state command reply) (ticked w.state moment 0))
+      ∙ ap (λ (t : Turn). with_effects (ticked w.state moment later) (if is_free reply then [] else t.effects)) turn_is
+      ∙ ap (λ m. with_effects (ticked w.state m later) (effects_of w.settings old made)) (sym last_is)
+
+  pub turned-tables : told' ≡ tables_with (recorded (effects_of w.settings old made)) told
+  turned-tables = turned.tables ∙ ap (λ (t : Turn). tables_with (recorded (if is_free reply then [] else t.effects)) told) turn_is
 
 -- a state is as orderly once the clock was read
-pub ticked-orderly : (w : Whole) (moment calls : ℕ) → IsOrderly w → IsOrderly (record { settings = w.settings; state = ticked w.state moment 0; calls = calls })
+pub ticked-orderly : (w : Parts) (moment calls : ℕ) → IsOrderly w → IsOrderly (record { settings = w.settings; state = ticked w.state moment 0; calls = calls })
 ticked-orderly w moment calls orderly = record {
   order = sound-ticked w.settings w.state moment 0 orderly.order;
   places = one-place-ticked w.state moment 0 orderly.places;
-  apart = orderly.apart;
+  form = orderly.form;
 }
 
+-- what fits the tables whatever the moment is, does so once the clock was read
+pub begun-fit : (w begun : Parts) (tables : Option Tables) (command : Command) (moment : ℕ) → begun.settings ≡ w.settings → begun.state ≡ ticked w.state moment 0 → w.state.last ≤ moment
+    → moment ≤ latest_moment → MayRecord w tables command → FitWhereTold tables (recorded (turn begun.settings begun.state begun.state.last command).effects)
+begun-fit w begun tables command moment settings state order limit may =
+    let same : turn w.settings w.state moment command ≡ turn begun.settings begun.state begun.state.last command =
+    sym (turn-ticked w.settings w.state moment 0 moment command) ∙ ap (λ (s : State). turn w.settings s s.last command) (sym state) ∙ ap (λ st. turn st begun.state begun.state.last command) (sym settings) in
+    subst (λ (t : Turn). FitWhereTold tables (recorded t.effects)) same (may moment order limit)
+
+-- items that are recorded are committed
+pub some-items : (items : List Item) → (items ≡ [] → ⊥) → not (length items == 0) ≡ true
+some-items [] some = absurd (some refl)
+some-items (item ∷ items) some = ap not (ne_eqb (length (item ∷ items)) 0 (λ none. omega (arith, none)))
+
+-- a turn that asks no records records nothing
+pub quiet : (tables : Option Tables) → tables ≡ tables_with [] tables
+quiet None = refl
+quiet (Some t) = refl
+
+-- what is recorded unless the reply is one that changes nothing
+pub unless : (b : Bool) (es : List Effect) (tables : Option Tables) → (if b then tables else tables_with (recorded es) tables) ≡ tables_with (recorded (if b then [] else es)) tables
+unless true es tables = quiet tables
+unless false es tables = refl
+
+unfailed : (reply : Reply) (n : ℕ) → (reply ≡ store_fault → ⊥) → HasReplyCause n n reply
+unfailed store_fault n other = absurd (other refl)
+unfailed reply n other = refl
+
+pub alone : (old new : Parts) (command : Command) (reply : Reply) (tables : Option Tables) (n : ℕ) → recorded (turn old.settings old.state old.state.last command).effects ≡ []
+    → Turned old new command reply → Recorded old new command reply tables tables n n
+alone old new command reply tables n none turned =
+    let t = turn old.settings old.state old.state.last command in
+    let nothing : recorded (done_by old.settings old.state command reply) ≡ [] =
+    elim (is_free reply) as (λ b. recorded (if b then [] else t.effects) ≡ []) [ true ↦ refl | false ↦ none ] in
+    record {
+      settings = turned.settings;
+      calls = turned.calls;
+      answered = elim turned.answered as (λ _. IsAnswer old command reply) [ (inl is) ↦ due is | (inr is) ↦ wants_memory is.0 is.1 ];
+      left = turned.left;
+      tables = quiet tables ∙ ap (λ items. tables_with items tables) (sym nothing);
+      cause = unfailed reply n (λ failed. elim turned.answered as (λ _. ⊥) [
+        | (inl is) ↦ false≢true (sym (no-free old.settings old.state old.state.last command) ∙ ap is_free (sym is ∙ failed))
+        | (inr is) ↦ let x : no_memory ≡ store_fault = sym is.0 ∙ failed in cc
+      ]);
+    }
+
+-- a command that says something and does nothing
+alone-says : (w : Parts) (command : Command) (reply : Reply) (tables : Option Tables) (n : ℕ) → turn w.settings w.state w.state.last command ≡ says reply → Recorded w w command reply tables tables n n
+alone-says w command reply tables n is = alone w w command reply tables n (ap (λ (t : Turn). recorded t.effects) is) (turned-says w command reply is)
+
+-- a place that is a session, where there is none
+module _ (w : Parts) (none : w.state.sessions ≡ []) (n : ℕ) (path : List ℕ) (tables : Option Tables) (faults : ℕ) where
+  pub may_put-nowhere : Recorded w w (may_put (session n) path) no_session tables tables faults faults
+  may_put-nowhere = alone-says w (may_put (session n) path) no_session tables faults (ap (may_put_in w.state path) (no-open n w.state none))
+
+  pub put_side-nowhere : (said : List ℕ) → Recorded w w (put_side (session n) path said) no_session tables tables faults faults
+  put_side-nowhere said =
+      alone-says w (put_side (session n) path said) no_session tables faults
+      (ap (λ found. with_open found (λ (one : Session). judged (kind path) said (λ at. staged_at at one.staged))) (no-open n w.state none))
+
+  pub put_doc-nowhere : Recorded w w (put_doc (session n) path) no_session tables tables faults faults
+  put_doc-nowhere = alone-says w (put_doc (session n) path) no_session tables faults (ap (λ found. with_open found (λ (one : Session). says noted)) (no-open n w.state none))
+
+-- the commands that record nothing
+shows-nothing : (next : ℕ) (seen : Seen) → recorded (shows next seen).effects ≡ []
+shows-nothing next (is_file blob) = elim (next == number_end) as (λ b. recorded (if b then says spent else record { reply = file next blob; effects = lends blob.number ∷ [] }).effects ≡ []) [ true ↦ refl | false ↦ refl ]
+shows-nothing next (is_text bytes) = refl
+shows-nothing next (is_doc bytes) = refl
+shows-nothing next is_nothing = refl
+
+draws-nothing : (path : List ℕ) (found : Option Hosted) (next : ℕ) → recorded (in_repository path found (draws_draft next)).effects ≡ []
+draws-nothing path None next = refl
+draws-nothing path (Some h) next =
+    elim (takes h.rule path) as (λ b. recorded (if b then draws_draft next else says kind_refused).effects ≡ []) [
+      | true ↦ elim (next == number_end) as (λ b. recorded (if b then says spent else record { reply = draft next; effects = draws ∷ [] }).effects ≡ []) [ true ↦ refl | false ↦ refl ]
+      | false ↦ refl
+    ]
+
+compares-nothing : (said : List ℕ) (kept : Option (List ℕ)) → recorded (compared said kept).effects ≡ []
+compares-nothing said None = refl
+compares-nothing said (Some kept) = elim (bytes_eq said kept) as (λ b. recorded (if b then says agreed else says (differs said kept)).effects ≡ []) [ true ↦ refl | false ↦ refl ]
+
+judges-nothing : (k : Result Kind PathFault) (said : List ℕ) (blob_at : List ℕ → Option Blob) → recorded (judged k said blob_at).effects ≡ []
+judges-nothing (Ok (FileSide c side)) said blob_at = compares-nothing said (option_map (λ (blob : Blob). side_of blob.print.digests side) (blob_at (text_of c)))
+judges-nothing k said blob_at = refl
+
+pub look-quiet : (w : Parts) (repo path : List ℕ) → recorded (turn w.settings w.state w.state.last (look repo path [])).effects ≡ []
+look-quiet w repo path = shows-nothing w.state.yard.next_lease (seen_at (rows_of repo w.state) path (kind path))
+
+pub may_put-quiet : (w : Parts) (repo path : List ℕ) → recorded (turn w.settings w.state w.state.last (may_put (repository repo) path)).effects ≡ []
+may_put-quiet w repo path = draws-nothing path (hosted_of repo w.state) w.state.yard.next_draft
+
+pub put_side-quiet : (w : Parts) (repo path said : List ℕ) → recorded (turn w.settings w.state w.state.last (put_side (repository repo) path said)).effects ≡ []
+put_side-quiet w repo path said = judges-nothing (kind path) said (λ at. option_map (λ (row : Row). row.blob) (row_at at (rows_of repo w.state)))
+
+-- a turn whose effects, if it had any, were recorded
+pub recorded-so : (old new : Parts) (command : Command) (reply : Reply) (told told' : Option Tables) (faults faults' : ℕ) → Turned old new command reply
+    → told' ≡ (if is_free reply then told else tables_with (recorded (turn old.settings old.state old.state.last command).effects) told) → faults' ≡ faults
+    → Recorded old new command reply told told' faults faults'
+recorded-so old new command reply told told' faults faults' turned tables same = record {
+  settings = turned.settings;
+  calls = turned.calls;
+  answered = elim turned.answered as (λ _. IsAnswer old command reply) [ (inl is) ↦ due is | (inr is) ↦ wants_memory is.0 is.1 ];
+  left = turned.left;
+  tables = tables ∙ unless (is_free reply) (turn old.settings old.state old.state.last command).effects told;
+  cause = subst (λ n. HasReplyCause faults n reply) (sym same) (unfailed reply faults (λ failed. elim turned.answered as (λ _. ⊥) [
+    | (inl is) ↦ false≢true (sym (no-free old.settings old.state old.state.last command) ∙ ap is_free (sym is ∙ failed))
+    | (inr is) ↦ let x : no_memory ≡ store_fault = sym is.0 ∙ failed in cc
+  ]));
+}
+
+-- a turn whose records failed
+pub failed-so : (old new : Parts) (command : Command) (told told' : Option Tables) (faults faults' : ℕ) → new.settings ≡ old.settings → new.calls ≡ old.calls → new.state ≡ old.state
+    → IsTrue (commits command (turn old.settings old.state old.state.last command).effects) → told' ≡ told → Rose faults faults' → Recorded old new command store_fault told told' faults faults'
+failed-so before new command told told' faults faults' settings calls state asked tables rose =
+    record { settings = settings; calls = calls; answered = failed refl asked; left = state; tables = tables ∙ quiet told; cause = rose }
+
 -- what the repository keeps is kept by a turn of it
-pub kept-more : (old new : Whole) (e : Entry) → IsKept old → Fits old.settings old.state e → new.state ≡ after old.settings old.state e → new.settings ≡ old.settings → IsKept new
-kept-more old new e kept fits state settings =
-    let sound : IsSound old.settings (after old.settings old.state e) = keeps-sound old.settings kept.apart old.state e kept.sound fits in
+pub kept-more : (old new : Whole) (e : Entry) → IsKept old → Fits old.settings old.state e → new.state ≡ after old.settings old.state e → new.settings ≡ old.settings
+    → new.tables ≡ tables_with (recorded (effects_of old.settings old.state e)) old.tables → IsKept new
+kept-more old new e kept fits state settings tables =
+    let apart = named-apart old.settings kept.form in
+    let sound : IsSound old.settings (after old.settings old.state e) = keeps-sound old.settings apart old.state e kept.sound fits in
+    let items = recorded (effects_of old.settings old.state e) in
+    let told : ForSome (tables_with items old.tables) (Tell (after old.settings old.state e)) = tell-more old.tables kept.told in
     record {
       sound = subst (λ st. IsSound st new.state) (sym settings) (subst (IsSound old.settings) (sym state) sound);
-      apart = subst (λ (st : Settings). AreNamedApart st.hosted) (sym settings) kept.apart;
-    }
+      form = subst IsSettings (sym settings) kept.form;
+      told = subst (λ ts. ForSome ts (Tell new.state)) (sym tables) (subst (λ st. ForSome (tables_with items old.tables) (Tell st)) (sym state) told);
+    } where
+      tell-more : (ts : Option Tables) → ForSome ts (Tell old.state) → ForSome (tables_with (recorded (effects_of old.settings old.state e)) ts) (Tell (after old.settings old.state e))
+      tell-more None told t is = absurd (none-some t is)
+      tell-more (Some before) told t is =
+          let was = told before refl in
+          let more = entry-recorded old.settings (named-apart old.settings kept.form) old.state e before fits kept.sound.order kept.sound.places kept.sound.sessions was.order was.holds in
+          let same : with_items before (recorded (effects_of old.settings old.state e)) ≡ t = cc in
+          subst (Tell (after old.settings old.state e)) same (record { order = more.1; holds = more.2 })

@@ -39,10 +39,6 @@ pub rows-used : (kept id : List ℕ) (hosted : List Hosted) → AreInUse kept ho
 rows-used kept id [] used = tt
 rows-used kept id (h ∷ hosted) used = rows-by (is_repository id h) kept h (find (is_repository id) hosted) used.0 (rows-used kept id hosted used.1)
 
--- a row that is found
-pub found-used : (kept id path : List ℕ) (hosted : List Hosted) (found : Row) → AreInUse kept hosted → Some found ≡ row_at path (rows_in id hosted) → IsTrue (is_among found.blob.number kept)
-found-used kept id path hosted found used is = row-used kept path (rows_in id hosted) found (rows-used kept id hosted used) (sym is)
-
 or-right : (a b : Bool) → IsTrue b → IsTrue (a || b)
 or-right true b h = refl
 or-right false b h = h

@@ -2,14 +2,15 @@
 use Rattle.std.specs.Prelude.{◌≡◌, ◌+◌, min}
 use Rattle.outside.specs.Faults.{last_count}
 use Rattle.repo_model.specs.Settings.{Settings}
-use Rattle.repo_model.specs.History.{Entry, Fits, after}
+use Rattle.repo_model.specs.Effect.{recorded}
+use Rattle.repo_model.specs.History.{Entry, Fits, after, effects_of}
+use Rattle.row_tables.specs.Commits.{tables_with}
 use Rattle.repo_core.specs.Whole.{Whole}
 
--- under these settings the entry fits the state, the new state is the one that it leaves, and it was counted; there are no
--- records whose calls could fail
+-- under these settings the entry fits the state, the new state is the one that it leaves, what it did is recorded, and it was counted
 pub record CoreTurn (settings : Settings) (old : Whole) (entry : Entry) (new : Whole) : Type 0 where
   pub fits : Fits settings old.state entry
   pub state : new.state ≡ after settings old.state entry
-  pub records : entry.faults ≡ 0
+  pub tables : new.tables ≡ tables_with (recorded (effects_of settings old.state entry)) old.tables
   pub same : new.settings ≡ old.settings
   pub calls : new.calls ≡ min (old.calls + 1) last_count

@@ -5,10 +5,10 @@ use Rattle.std.specs.List.{AllByRecursion}
 use Rattle.std.specs.Prelude.{IsTrue}
 use Rattle.repo_model.specs.Data.{Blob, Row, Hosted, Place, repository, session}
 use Rattle.repo_model.specs.Settings.{Rule}
-use Rattle.repo_model.specs.State.{change_first, change_where, is_among, is_repository, is_row}
+use Rattle.repo_model.specs.State.{change_first, change_where, is_among, is_repository, is_row, row_at}
 use Rattle.repo_model.specs.Effect.{with_row, new_row, list_again}
 use Rattle.repo_model.specs.Reply.{Reply, created, relisted}
-use Rattle.repo_model.specs.Turn.{put_at}
+use Rattle.repo_model.specs.Turn.{Turn, put_at}
 
 -- what the repositories take
 abbrev pub rules_of : List Hosted → List Rule
@@ -30,6 +30,10 @@ with_rows id rows hosted = change_first (is_repository id) (λ h. record h { row
 -- the reply that is due to a put where that is the row at its path; it depends on nothing else
 abbrev pub put_due : Blob → Option Row → Reply
 put_due blob found = (put_at [] [] 0 blob 0 found).reply
+
+-- the turn of a put of a blob at a path of one of the repositories
+abbrev pub put_in : List ℕ → List ℕ → Blob → ℕ → List Hosted → Turn
+put_in id path blob moment hosted = put_at id path blob.number blob moment (row_at path (rows_in id hosted))
 
 -- the rows once a blob was put at a path and that was the reply
 abbrev pub rows_put : List ℕ → Blob → ℕ → Reply → List Row → List Row

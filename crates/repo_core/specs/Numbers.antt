@@ -2,7 +2,7 @@
 use Rattle.std.specs.Prelude.{ℕ, List}
 use Rattle.repo_model.specs.State.{Yard}
 use Rattle.repo_model.specs.Effect.{without_draft, yard_after, lends, drops, with_number}
-use Rattle.repo_model.specs.Reply.{Reply, file, created, no_memory}
+use Rattle.repo_model.specs.Reply.{Reply, file, created, no_memory, store_fault}
 
 -- a file was looked at, and that was the reply
 abbrev pub yard_looked : Reply → Yard → Yard
@@ -13,6 +13,7 @@ yard_looked _ yard = yard
 abbrev pub yard_put : ℕ → Reply → Yard → Yard
 yard_put draft created yard = without_draft draft yard
 yard_put draft no_memory yard = yard
+yard_put draft store_fault yard = yard
 yard_put draft _ yard = yard_after (drops draft) yard
 
 -- which numbers are in use then

@@ -2,14 +2,9 @@
 use Rattle.std.specs.Prelude.{ℕ, ◌-◌, min, List, [], ◌∷◌, length, take, IsTrue}
 use Rattle.repo_model.specs.Data.{Hosted}
 use Rattle.repo_model.specs.State.{Yard, is_among}
-use Rattle.repo_model.specs.Effect.{Effect, expires, condemning, without_number}
+use Rattle.repo_model.specs.Effect.{condemning, without_number}
 use Rattle.repo_model.specs.Purge.{expired_of}
 use Rattle.hosted_repo.specs.Rows.{rows_after_all}
-
--- the blob of a row that goes
-abbrev pub blob_of : Effect → ℕ
-blob_of (expires repo path blob) = blob
-blob_of effect = 0
 
 -- blobs become garbage, and are in use no longer
 abbrev pub condemned_by : List ℕ → Yard → Yard

@@ -1,24 +1,51 @@
 -- What one turn answers and leaves, its moment being settled.
-use Rattle.std.specs.Prelude.{◌≡◌, ◌⊎◌, IsTrue, if◌then◌else◌, List, []}
+use Rattle.std.specs.Prelude.{◌≡◌, ◌⊎◌, ℕ, ◌≤◌, IsTrue, if◌then◌else◌, List, [], Option}
+use Rattle.hosted_repo.specs.Recording.{FitWhereTold, HasReplyCause}
 use Rattle.repo_model.specs.Settings.{Settings}
 use Rattle.repo_model.specs.State.{State}
-use Rattle.repo_model.specs.Effect.{Effect, with_effects}
+use Rattle.repo_model.specs.Tables.{Tables}
+use Rattle.repo_model.specs.Effect.{Effect, recorded, with_effects}
 use Rattle.repo_model.specs.Command.{Command}
-use Rattle.repo_model.specs.Reply.{Reply, no_memory, takes_memory, is_free}
+use Rattle.repo_model.specs.History.{commits, latest_moment}
+use Rattle.repo_model.specs.Reply.{Reply, no_memory, store_fault, takes_memory, is_free}
 use Rattle.repo_model.specs.Turn.{turn}
-use Rattle.repo_core.specs.Whole.{Whole}
+use Rattle.row_tables.specs.Commits.{tables_with}
+use Rattle.repo_core.specs.Whole.{Parts}
 
--- the reply that is due, or want of memory
+-- the reply that is due, or want of memory; or one of those that change nothing
 abbrev pub IsDueOr : Reply → Reply → Type 0
 IsDueOr due reply = (reply ≡ due) ⊎ (reply ≡ no_memory)
+
+abbrev pub IsDueOrFree : Reply → Reply → Type 0
+IsDueOrFree due reply = (reply ≡ due) ⊎ IsTrue (is_free reply)
 
 -- what a command did that got this reply
 abbrev pub done_by : Settings → State → Command → Reply → List Effect
 done_by settings s command reply = if is_free reply then [] else (turn settings s s.last command).effects
 
--- a command's reply at the last moment, and what it leaves
-pub record Turned (old new : Whole) (command : Command) (reply : Reply) : Type 0 where
+-- a command's reply at the last moment, and what it leaves, where the records are not asked
+pub record Turned (old new : Parts) (command : Command) (reply : Reply) : Type 0 where
   pub settings : new.settings ≡ old.settings
   pub calls : new.calls ≡ old.calls
   pub answered : (reply ≡ (turn old.settings old.state old.state.last command).reply) ⊎ ((reply ≡ no_memory) × IsTrue (takes_memory command))
   pub left : new.state ≡ with_effects old.state (done_by old.settings old.state command reply)
+
+-- the reply is the one that is due, or memory was wanting, or the records failed, which were asked
+pub data IsAnswer (w : Parts) (command : Command) (reply : Reply) : Type 0 where
+  due : reply ≡ (turn w.settings w.state w.state.last command).reply → IsAnswer w command reply
+  wants_memory : reply ≡ no_memory → IsTrue (takes_memory command) → IsAnswer w command reply
+  failed : reply ≡ store_fault → IsTrue (commits command (turn w.settings w.state w.state.last command).effects) → IsAnswer w command reply
+
+-- a command's reply at the last moment, and what it leaves; the tables, where told, and the count of the records' faults before and after it
+pub record Recorded (old new : Parts) (command : Command) (reply : Reply) (told told' : Option Tables) (faults faults' : ℕ) : Type 0 where
+  pub settings : new.settings ≡ old.settings
+  pub calls : new.calls ≡ old.calls
+  pub answered : IsAnswer old command reply
+  pub left : new.state ≡ with_effects old.state (done_by old.settings old.state command reply)
+  pub tables : told' ≡ tables_with (recorded (done_by old.settings old.state command reply)) told
+  pub cause : HasReplyCause faults faults' reply
+
+-- whatever the moment of the turn is, what it records fits the tables
+abbrev pub MayRecord : Parts → Option Tables → Command → Type 0
+MayRecord w tables command =
+    (moment : ℕ) → w.state.last ≤ moment → moment ≤ latest_moment → FitWhereTold tables (recorded (turn w.settings w.state moment command).effects)

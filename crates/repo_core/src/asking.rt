@@ -2,8 +2,9 @@
 use crate::repository::Core;
 use outside::{Clock, Held};
 use repo_model::{Ask, Command, Reply};
+use row_tables::Records;
 
-impl<C: Clock, H: Held> Ask for Core<C, H> {
+impl<K: Records, C: Clock, H: Held> Ask for Core<K, C, H> {
     ghost use Rattle.std.specs.Prelude.{◌≡◌, ℕ, IsTrue, []};
     ghost use Rattle.repo_model.specs.Asking.{IsAnswerTo};
     ghost use Rattle.repo_model.specs.Command.{meets};

@@ -1,11 +1,11 @@
 //! The hosted repositories: which one is meant, which files it takes, and its rows.
-ghost use Rattle.std.specs.Prelude.{◌≡◌, ◌≤◌, ◌<◌, ◌^◌, length, map, find, is_some, count_by, sum_by, bytes_eq, slice_index_or, slice_set, IsTrue, IfOk, OnOk, OnErr};
+ghost use Rattle.std.specs.Prelude.{◌≡◌, ◌≢◌, ◌≤◌, ◌<◌, ◌^◌, [], if◌then◌else◌, length, map, find, is_some, count_by, sum_by, bytes_eq, slice_index_or, slice_set, IsTrue, IfOk, OnOk, OnErr};
 ghost use Rattle.std.specs.Option.{option_map};
-ghost use Rattle.std.specs.List.{list_any};
+ghost use Rattle.std.specs.List.{AllByRecursion, list_any};
 ghost use Rattle.repo_model.specs.Command.{is_fit};
 ghost use Rattle.repo_model.specs.History.{latest_moment};
 ghost use Rattle.repo_model.specs.Paths.{takes};
-ghost use Rattle.repo_model.specs.State.{row_at, is_repository, new_hosted};
+ghost use Rattle.repo_model.specs.State.{number_end, row_at, is_repository, new_hosted};
 ghost use Rattle.repo_model.specs.Shown.{shown_parcel};
 ghost use Rattle.repo_model.specs.Reply.{unlisted};
 ghost use Rattle.repo_model.specs.Turn.{seen_at, unlist_of};
@@ -14,13 +14,19 @@ ghost use Rattle.hosted_repo.specs.Rows.{fades, rows_after_all, shown_at};
 ghost use Rattle.hosted_repo.specs.Rules.{shown_rule};
 ghost use Rattle.hosted_repo.specs.Seens.{shown_seen};
 ghost use Rattle.mvn_coords.specs.Kind.{kind};
-ghost use Rattle.repo_core.specs.Hosted.{rules_of, rows_in, with_rows, put_due, rows_put};
-ghost use Rattle.repo_core.specs.Turn.{IsDueOr};
+ghost use Rattle.hosted_repo.specs.Recording.{FitWhereTold, HasKeptCause, HasReplyCause};
+ghost use Rattle.repo_model.specs.Effect.{recorded};
+ghost use Rattle.repo_model.specs.Reply.{is_free};
+ghost use Rattle.row_tables.specs.Commits.{tables_with};
+ghost use Rattle.row_tables.specs.Items.{is_file_path, is_id, is_number};
+ghost use Rattle.repo_core.specs.Hosted.{rules_of, rows_in, with_rows, put_due, put_in, rows_put};
+ghost use Rattle.repo_core.specs.Turn.{IsDueOrFree};
 
-use hosted_repo::{Hosted, Put, Row, Rule, Seen};
+use hosted_repo::{Hosted, Kept, Put, Row, Rule, Seen};
 use mvn_coords::kind_of;
 use outside::{Held, NoMemory, Parcel};
 use repo_config::HostedRule;
+use row_tables::Records;
 use std::alloc::Global;
 use texts::Text;
 
@@ -39,6 +45,7 @@ fn rule_of(alloc: Global, told: &HostedRule) -> Result<Rule, NoMemory>
 
 /// The hosted repositories of the settings, without rows.
 pub fn empty_repos<H: Held>(alloc: Global, rules: &[HostedRule]) -> Result<Vec<Hosted<H>>, NoMemory>
+    requires { AllByRecursion (λ rule. IsTrue (is_id rule.id)) rules.now }
     ensures { IfOk result (λ repos. repos.items ≡ map new_hosted rules.now) }
 {
     let mut repos = Vec::new(alloc);
@@ -112,9 +119,10 @@ pub fn seen_in<'a, H: Held>(
     }
 }
 
-/// Puts a stored blob at a path of the repository of an id, which is there.
-pub fn put<H: Held>(
+/// Puts a stored blob at a path of the repository of an id, which is there, once that is recorded.
+pub fn put<H: Held, K: Records>(
     repos: &mut Vec<Hosted<H>>,
+    records: &mut K,
     id: &str,
     path: &str,
     parcel: Parcel<H>,
@@ -122,25 +130,49 @@ pub fn put<H: Held>(
 ) -> Put<H>
     requires there { IsTrue (list_any (is_repository id.now) repos.old.items) }
     requires moment { moment ≤ latest_moment }
-    ensures reply { IsDueOr (put_due (shown_parcel parcel) (row_at path.now (rows_in id.now repos.old.items))) (shown_put result) }
+    requires ready { K.ready records.old }
+    requires path { IsTrue (is_file_path path.now) }
+    requires blob { IsTrue (is_number parcel.blob) }
+    requires length { parcel.length < number_end }
+    requires fits { FitWhereTold (K.tables records.old) (recorded (put_in id.now path.now (shown_parcel parcel) moment repos.old.items).effects) }
+    ensures reply { IsDueOrFree (put_due (shown_parcel parcel) (row_at path.now (rows_in id.now repos.old.items))) (shown_put result) }
+    ensures asked { IsTrue (is_free (shown_put result)) → recorded (put_in id.now path.now (shown_parcel parcel) moment repos.old.items).effects ≢ [] }
     ensures rows { repos.new.items ≡ with_rows id.now
         (rows_put path.now (shown_parcel parcel) moment (shown_put result) (rows_in id.now repos.old.items)) repos.old.items }
+    ensures tables { K.tables records.new ≡ (if is_free (shown_put result) then K.tables records.old
+        else tables_with (recorded (put_in id.now path.now (shown_parcel parcel) moment repos.old.items).effects) (K.tables records.old)) }
+    ensures cause { HasReplyCause (K.faults records.old) (K.faults records.new) (shown_put result) }
+    ensures ready { K.ready records.new }
 {
     let place = place_of(repos, id);
-    repos[place].put(path, parcel, moment)
+    repos[place].put(records, path, parcel, moment)
 }
 
-/// Unlists the rows of the repository of an id, which is there, that it no longer keeps at a moment, and gives how many. Where
-/// memory is wanting nothing is changed.
-pub fn unlist<H: Held>(repos: &mut Vec<Hosted<H>>, id: &str, moment: u64) -> Result<u64, NoMemory>
-    requires { IsTrue (list_any (is_repository id.now) repos.old.items) }
+/// Unlists the rows of the repository of an id, which is there, that it no longer keeps at a moment, once that is recorded, and
+/// gives how many. Where memory is wanting, or the records fail, nothing is changed.
+pub fn unlist<H: Held, K: Records>(
+    repos: &mut Vec<Hosted<H>>,
+    records: &mut K,
+    id: &str,
+    moment: u64,
+) -> Result<u64, Kept>
+    requires there { IsTrue (list_any (is_repository id.now) repos.old.items) }
+    requires moment { moment ≤ latest_moment }
+    requires ready { K.ready records.old }
+    requires fits { FitWhereTold (K.tables records.old) (recorded (unlist_of moment (find (is_repository id.now) repos.old.items)).effects) }
     ensures count { IfOk result (λ n. unlisted n ≡ (unlist_of moment (find (is_repository id.now) repos.old.items)).reply) }
     ensures rows { OnOk result (repos.new.items ≡ with_rows id.now
         (rows_after_all (unlist_of moment (find (is_repository id.now) repos.old.items)).effects (rows_in id.now repos.old.items)) repos.old.items) }
+    ensures tables { OnOk result (K.tables records.new
+        ≡ tables_with (recorded (unlist_of moment (find (is_repository id.now) repos.old.items)).effects) (K.tables records.old)) }
     ensures err { OnErr result (repos.new.items ≡ repos.old.items) }
+    ensures untold { OnErr result (K.tables records.new ≡ K.tables records.old) }
+    ensures cause { HasKeptCause (K.faults records.old) (K.faults records.new) result }
+    ensures asked { result ≡ Err Kept.StoreFault → recorded (unlist_of moment (find (is_repository id.now) repos.old.items)).effects ≢ [] }
+    ensures ready { K.ready records.new }
 {
     let place = place_of(repos, id);
-    repos[place].unlist(moment)
+    repos[place].unlist(records, moment)
 }
 
 /// How many rows the repositories have, and how many of them are unlisted.

@@ -1,18 +1,18 @@
 //! The parts of the repository, and one turn of them.
 ghost use Rattle.std.specs.Prelude.{◌≡◌};
 
-use crate::conditions::{is_digest, is_file_path, is_place, names_document, names_something};
-use crate::hosted::{counts, empty_repos, is_there, put, takes, unlist};
+use crate::hosted::{counts, empty_repos, put, takes, unlist};
 use crate::looks::look;
-use crate::purges::{condemn_all, drop_expired, expiring};
+use crate::purges::{Gone, condemn_all, drop_expired, expiring};
 use crate::puts::{compare_side, reply_of, settle};
 use crate::turn::next_moment;
 use blob_yard::{DrawFault, Yard};
-use hosted_repo::Hosted;
+use hosted_repo::{Hosted, Kept};
 use mvn_digest::Digest;
 use outside::{Clock, Held, NoMemory, Parcel};
 use repo_config::Settings;
-use repo_model::{Command, NUMBER_END, Numbers, Place, Reply};
+use repo_model::{Command, Numbers, Place, Reply};
+use row_tables::{CommitFault, Records};
 use std::alloc::Global;
 use std::marker::Model;
 
@@ -30,9 +30,9 @@ pub struct Machine<C: Clock, H: Held> {
 impl<C: Clock, H: Held> Model for Machine<C, H> {
     ghost use Rattle.std.specs.Prelude.{◌≡◌, ◌≤◌, []};
     ghost use Rattle.repo_model.specs.History.{latest_moment};
-    ghost use Rattle.repo_core.specs.Whole.{Whole};
+    ghost use Rattle.repo_core.specs.Whole.{Parts};
 
-    ghost Value = { Whole };
+    ghost Value = { Parts };
 
     ghost use Rattle.repo_core.specs.Hosted.{rules_of, AreInUse};
 
@@ -57,17 +57,24 @@ impl<C: Clock, H: Held> Model for Machine<C, H> {
 }
 
 impl<C: Clock, H: Held> Machine<C, H> {
-    ghost use Rattle.std.specs.Prelude.{◌≡◌, ◌+◌, min, [], IfOk, IfErr, IsTrue};
+    ghost use Rattle.std.specs.Prelude.{◌≡◌, ◌≤◌, ◌+◌, min, map, false, [], IfOk, IfErr, IsTrue, vec_capacity};
     ghost use Rattle.mvn_digest.specs.Sides.{bytes_in};
     ghost use Rattle.outside.specs.Faults.{last_count};
     ghost use Rattle.repo_model.specs.State.{opening};
     ghost use Rattle.repo_model.specs.Data.{repository};
     ghost use Rattle.repo_model.specs.Command.{meets, look, may_put, put, put_side, drop_draft, unlist, collect, status};
-    ghost use Rattle.repo_model.specs.History.{Fits, after};
-    ghost use Rattle.repo_model.specs.Reply.{no_session};
+    ghost use Rattle.repo_model.specs.Effect.{recorded};
+    ghost use Rattle.repo_model.specs.History.{Fits, after, effects_of};
+    ghost use Rattle.repo_model.specs.Purge.{expire_all, most_rows};
+    ghost use Rattle.repo_model.specs.Reply.{is_free, no_session};
     ghost use Rattle.repo_model.specs.Shown.{shown_parcel, shown_command, shown_reply, entry_of};
-    ghost use Rattle.repo_core.specs.Turn.{Turned};
-    ghost use Rattle.repo_core.specs.Whole.{IsOrderly};
+    ghost use Rattle.repo_model.specs.Turn.{turn};
+    ghost use Rattle.row_tables.specs.Commits.{tables_with};
+    ghost use Rattle.hosted_repo.specs.Expired.{blob_of};
+    ghost use Rattle.hosted_repo.specs.Recording.{FitWhereTold};
+    ghost use Rattle.repo_core.specs.Purge.{shares};
+    ghost use Rattle.repo_core.specs.Turn.{MayRecord, Recorded, Turned};
+    ghost use Rattle.repo_core.specs.Whole.{IsOrderly, counting};
 
     /// A repository without rows, by these settings.
     ///
@@ -82,6 +89,8 @@ impl<C: Clock, H: Held> Machine<C, H> {
         ensures calls { IfOk result (λ core. core.calls ≡ 0) }
         ensures err { IfErr result (λ error. error.1 ≡ clock) }
     {
+        // Their ids have their form.
+        settings.form();
         let repos = match empty_repos(alloc, settings.hosted()) {
             Ok(repos) => repos,
             Err(error) => return Err((error, clock)),
@@ -100,59 +109,37 @@ impl<C: Clock, H: Held> Machine<C, H> {
         })
     }
 
-    /// One turn: reads the clock once, and answers the command.
+    /// One turn: reads the clock once, and answers the command. What it does is recorded first.
     ///
-    /// The command meets its condition, as [`Machine::fits`] tells, and the state is in order. The turn is an entry that
-    /// fits the machine's state, and leaves the state that the machine says. `Done` and `Drop` take no memory. Where memory
-    /// is wanting, nothing changes but the moment.
-    pub fn call(&mut self, command: Command<H>) -> Reply<H>
+    /// The command meets its condition, the state is in order, and the records may commit what the command does. The turn is an
+    /// entry that fits the machine's state with the count of the records, and leaves the state that the machine says; the
+    /// tables, where told, are those with its items. `Done` and `Drop` take no memory. Where memory is wanting, or the records
+    /// fail, nothing changes but the moment.
+    pub fn call<K: Records>(&mut self, records: &mut K, command: Command<H>) -> Reply<H>
         requires meets { IsTrue (meets self.old.settings (shown_command command)) }
         requires orderly { IsOrderly self.old }
-        ensures fits { Fits self.old.settings self.old.state (entry_of command self.new.state.last result 0) }
-        ensures after { self.new.state ≡ after self.old.settings self.old.state (entry_of command self.new.state.last result 0) }
+        requires ready { K.ready records.old }
+        requires items { MayRecord self.old (K.tables records.old) (shown_command command) }
+        ensures fits { Fits self.old.settings (counting (K.faults records.old) self.old.state)
+            (entry_of command self.new.state.last result (K.faults records.new)) }
+        ensures after { counting (K.faults records.new) self.new.state ≡ after self.old.settings (counting (K.faults records.old) self.old.state)
+            (entry_of command self.new.state.last result (K.faults records.new)) }
+        ensures tables { K.tables records.new ≡ tables_with (recorded (effects_of self.old.settings (counting (K.faults records.old) self.old.state)
+            (entry_of command self.new.state.last result (K.faults records.new)))) (K.tables records.old) }
+        ensures ready { K.ready records.new }
         ensures settings { self.new.settings ≡ self.old.settings }
         ensures calls { self.new.calls ≡ min (self.old.calls + 1) last_count }
     {
         self.last = next_moment(&mut self.clock, self.last);
         self.calls = self.calls.saturating_add(1);
-        self.answer(command)
+        self.answer(records, command)
     }
 
-    /// Whether a command meets its condition: its repository is there, its path names what the command is about, and the
-    /// repository takes files of the path's kind where it is a `Put`, whose parcel has the draft's number and at most
-    /// 2^63 - 1 bytes; what a side file says is a digest of its side.
-    pub fn fits(&self, command: &Command<H>) -> bool
-        ensures { result ≡ meets self.now.settings (shown_command command.now) }
+    /// The settings.
+    pub fn settings(&self) -> &Settings
+        ensures { result.now ≡ self.now.settings }
     {
-        match command {
-            Command::Look { repo, path } => {
-                is_there(&self.repos, repo.as_str()) && names_something(path.as_str())
-            }
-            Command::MayPut { place, path } => {
-                is_place(&self.repos, place) && is_file_path(path.as_str())
-            }
-            Command::Put {
-                repo,
-                path,
-                draft,
-                parcel,
-            } => {
-                takes(&self.repos, repo.as_str(), path.as_str())
-                    && parcel.blob == *draft
-                    && parcel.length < NUMBER_END
-            }
-            Command::PutSide { place, path, said } => {
-                is_place(&self.repos, place) && is_digest(path.as_str(), said)
-            }
-            Command::PutDoc { place, path } => {
-                is_place(&self.repos, place) && names_document(path.as_str())
-            }
-            Command::Unlist { repo } => is_there(&self.repos, repo.as_str()),
-            Command::Done { lease: _ }
-            | Command::Drop { draft: _ }
-            | Command::Collect
-            | Command::Status => true,
-        }
+        &self.settings
     }
 
     /// How many calls there were; the count stays at 2^64 - 1.
@@ -178,10 +165,13 @@ impl<C: Clock, H: Held> Machine<C, H> {
     }
 
     // The answer at the turn's moment. There are no sessions.
-    fn answer(&mut self, command: Command<H>) -> Reply<H>
+    fn answer<K: Records>(&mut self, records: &mut K, command: Command<H>) -> Reply<H>
         requires meets { IsTrue (meets self.old.settings (shown_command command)) }
         requires orderly { IsOrderly self.old }
-        ensures { Turned self.old self.new (shown_command command) (shown_reply result) }
+        requires ready { K.ready records.old }
+        requires items { FitWhereTold (K.tables records.old) (recorded (turn self.old.settings self.old.state self.old.state.last (shown_command command)).effects) }
+        ensures turn { Recorded self.old self.new (shown_command command) (shown_reply result) (K.tables records.old) (K.tables records.new) (K.faults records.old) (K.faults records.new) }
+        ensures ready { K.ready records.new }
     {
         match command {
             Command::Look { repo, path } => self.look(repo.as_str(), path.as_str()),
@@ -198,7 +188,7 @@ impl<C: Clock, H: Held> Machine<C, H> {
                 path,
                 draft,
                 parcel,
-            } => self.put(repo.as_str(), path.as_str(), draft, parcel),
+            } => self.put(records, repo.as_str(), path.as_str(), draft, parcel),
             Command::PutSide { place, path, said } => match place {
                 Place::Repository(repo) => self.put_side(repo.as_str(), path.as_str(), said),
                 Place::Session(_) => self.refuse_session(),
@@ -208,8 +198,8 @@ impl<C: Clock, H: Held> Machine<C, H> {
                 Place::Session(_) => self.refuse_session(),
             },
             Command::Drop { draft } => self.drop_draft(draft),
-            Command::Unlist { repo } => self.unlist(repo.as_str()),
-            Command::Collect => self.collect(),
+            Command::Unlist { repo } => self.unlist(records, repo.as_str()),
+            Command::Collect => self.collect(records),
             Command::Status => self.status(),
         }
     }
@@ -242,14 +232,25 @@ impl<C: Clock, H: Held> Machine<C, H> {
         }
     }
 
-    fn put(&mut self, repo: &str, path: &str, draft: u64, parcel: Parcel<H>) -> Reply<H>
-        requires { IsTrue (meets self.old.settings (put repo.now path.now draft (shown_parcel parcel))) }
-        ensures { Turned self.old self.new (put repo.now path.now draft (shown_parcel parcel)) (shown_reply result) }
+    fn put<K: Records>(
+        &mut self,
+        records: &mut K,
+        repo: &str,
+        path: &str,
+        draft: u64,
+        parcel: Parcel<H>,
+    ) -> Reply<H>
+        requires meets { IsTrue (meets self.old.settings (put repo.now path.now draft (shown_parcel parcel))) }
+        requires orderly { IsOrderly self.old }
+        requires ready { K.ready records.old }
+        requires items { FitWhereTold (K.tables records.old) (recorded (turn self.old.settings self.old.state self.old.state.last (put repo.now path.now draft (shown_parcel parcel))).effects) }
+        ensures turn { Recorded self.old self.new (put repo.now path.now draft (shown_parcel parcel)) (shown_reply result) (K.tables records.old) (K.tables records.new) (K.faults records.old) (K.faults records.new) }
+        ensures ready { K.ready records.new }
     {
         if !self.yard.is_draft(draft) {
             return Reply::NoDraft;
         }
-        let outcome = put(&mut self.repos, repo, path, parcel, self.last);
+        let outcome = put(&mut self.repos, records, repo, path, parcel, self.last);
         settle(&mut self.yard, draft, &outcome);
         reply_of(outcome)
     }
@@ -267,28 +268,55 @@ impl<C: Clock, H: Held> Machine<C, H> {
         Reply::Dropped
     }
 
-    fn unlist(&mut self, repo: &str) -> Reply<H>
-        requires { IsTrue (meets self.old.settings (unlist repo.now)) }
-        ensures { Turned self.old self.new (unlist repo.now) (shown_reply result) }
+    fn unlist<K: Records>(&mut self, records: &mut K, repo: &str) -> Reply<H>
+        requires meets { IsTrue (meets self.old.settings (unlist repo.now)) }
+        requires orderly { IsOrderly self.old }
+        requires ready { K.ready records.old }
+        requires items { FitWhereTold (K.tables records.old) (recorded (turn self.old.settings self.old.state self.old.state.last (unlist repo.now)).effects) }
+        ensures turn { Recorded self.old self.new (unlist repo.now) (shown_reply result) (K.tables records.old) (K.tables records.new) (K.faults records.old) (K.faults records.new) }
+        ensures ready { K.ready records.new }
     {
-        match unlist(&mut self.repos, repo, self.last) {
+        match unlist(&mut self.repos, records, repo, self.last) {
             Ok(count) => Reply::Unlisted(count),
-            Err(_) => Reply::NoMemory,
+            Err(Kept::StoreFault) => Reply::StoreFault,
+            Err(Kept::NoMemory) => Reply::NoMemory,
         }
     }
 
-    fn collect(&mut self) -> Reply<H>
-        requires { IsOrderly self.old }
-        ensures { Turned self.old self.new collect (shown_reply result) }
+    // Collect always commits, an empty change too, so that nothing is given out to be removed that a failed commit may name.
+    fn collect<K: Records>(&mut self, records: &mut K) -> Reply<H>
+        requires orderly { IsOrderly self.old }
+        requires ready { K.ready records.old }
+        requires items { FitWhereTold (K.tables records.old) (recorded (turn self.old.settings self.old.state self.old.state.last collect).effects) }
+        ensures turn { Recorded self.old self.new collect (shown_reply result) (K.tables records.old) (K.tables records.new) (K.faults records.old) (K.faults records.new) }
+        ensures ready { K.ready records.new }
     {
         let alloc = *self.repos.allocator();
         let grace = self.settings.grace_seconds();
         let Ok(gone) = expiring(alloc, &self.repos, grace, self.last) else {
             return Reply::NoMemory;
         };
-        let Ok(mut blobs) = Vec::with_capacity(alloc, 100) else {
+        let Ok(blobs) = Vec::with_capacity(alloc, 100) else {
             return Reply::NoMemory;
         };
+        match records.commit(alloc, &gone.change) {
+            Ok(()) => self.drop_gone(grace, &gone, blobs),
+            Err(CommitFault::Failed) => Reply::StoreFault,
+            Err(CommitFault::NoMemory) => Reply::NoMemory,
+        }
+    }
+
+    // Takes rows away that were found, and gives garbage out.
+    fn drop_gone(&mut self, grace: u64, gone: &Gone, mut blobs: Vec<u64>) -> Reply<H>
+        requires orderly { IsOrderly self.old }
+        requires grace { grace ≡ self.old.settings.grace }
+        requires counts { gone.now.counts.items ≡ shares grace self.old.state.last most_rows self.old.state.hosted }
+        requires gone { gone.now.blobs.items ≡ map blob_of (expire_all grace self.old.state.last self.old.state.hosted) }
+        requires empty { blobs.items ≡ [] }
+        requires room { 100 ≤ vec_capacity blobs }
+        ensures turn { Turned self.old self.new collect (shown_reply result) }
+        ensures due { is_free (shown_reply result) ≡ false }
+    {
         drop_expired(&mut self.repos, grace, self.last, &gone.counts);
         condemn_all(&mut self.yard, &gone.blobs);
         self.yard.collect(&mut blobs);

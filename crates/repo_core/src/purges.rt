@@ -1,21 +1,22 @@
 //! The purge over all repositories: rows whose grace period is over go, and their blobs become garbage.
-ghost use Rattle.std.specs.Prelude.{◌≡◌, ◌≤◌, ◌++◌, length, map, vec_len, IfOk, OnOk};
+ghost use Rattle.std.specs.Prelude.{◌≡◌, ◌≤◌, length, map, vec_len, IfOk};
 ghost use Rattle.repo_model.specs.Purge.{expire_all, most_rows};
-ghost use Rattle.repo_core.specs.Purge.{AreKeptOnce, blob_of, condemned_by, dropped_by, kept_without, shares};
+ghost use Rattle.repo_model.specs.Effect.{recorded};
+ghost use Rattle.hosted_repo.specs.Expired.{blob_of};
+ghost use Rattle.repo_core.specs.Purge.{AreKeptOnce, condemned_by, dropped_by, kept_without, shares};
 
 use blob_yard::Yard;
-use hosted_repo::{Expired, Hosted};
+use hosted_repo::Hosted;
 use outside::{Held, NoMemory};
+use row_tables::Change;
 use std::alloc::Global;
 
-/// The most rows that go in one turn.
-const MOST_ROWS: u64 = 1_000_000;
-
-/// The rows of all repositories whose grace period is over: how many go in each, and their blobs.
+/// The rows of all repositories whose grace period is over: how many go in each, their blobs, and the change that they are.
 #[derive(Drop)]
 pub struct Gone {
     pub counts: Vec<u64>,
     pub blobs: Vec<u64>,
+    pub change: Change,
 }
 
 /// The first rows whose grace period, in seconds, is over at a moment, at most 1,000,000, in the order of the repositories and
@@ -28,28 +29,20 @@ pub fn expiring<H: Held>(
 ) -> Result<Gone, NoMemory>
     ensures counts { IfOk result (λ found. found.counts.items ≡ shares grace now most_rows repos.now) }
     ensures blobs { IfOk result (λ found. found.blobs.items ≡ map blob_of (expire_all grace now repos.now)) }
+    ensures change { IfOk result (λ found. found.change ≡ recorded (expire_all grace now repos.now)) }
 {
     let mut counts = Vec::new(alloc);
     let mut blobs = Vec::new(alloc);
-    let mut left = MOST_ROWS;
+    let mut change = Change::new(alloc);
     for repo in repos {
-        let found = repo.expiring(grace, now, left)?;
-        push_blobs(&mut blobs, &found)?;
-        let count = found.len() as u64;
+        let count = repo.expiring(grace, now, &mut change, &mut blobs)?;
         counts.push(count)?;
-        left -= count;
     }
-    Ok(Gone { counts, blobs })
-}
-
-// Adds the blobs of rows.
-fn push_blobs(blobs: &mut Vec<u64>, found: &[Expired]) -> Result<(), NoMemory>
-    ensures { OnOk result (blobs.new.items ≡ blobs.old.items ++ map (λ row. row.blob) found.now) }
-{
-    for row in found {
-        blobs.push(row.blob)?;
-    }
-    Ok(())
+    Ok(Gone {
+        counts,
+        blobs,
+        change,
+    })
 }
 
 /// Takes so many of the first rows whose grace period is over away in each repository.

@@ -30,7 +30,7 @@ pub fn settle<H: Held>(yard: &mut Yard, draft: u64, did: &Put<H>)
         Put::Created => {
             yard.keep(draft);
         }
-        Put::NoMemory(_) => {}
+        Put::StoreFault(_) | Put::NoMemory(_) => {}
         Put::Same(_) | Put::Relisted(_) | Put::Taken { .. } => {
             yard.drop_draft(draft);
         }
@@ -49,6 +49,7 @@ pub fn reply_of<H: Held>(did: Put<H>) -> Reply<H>
             kept,
             sent: print_of(&sent),
         },
+        Put::StoreFault(_) => Reply::StoreFault,
         Put::NoMemory(_) => Reply::NoMemory,
     }
 }

@@ -1,86 +1,120 @@
 //! The repository: each call is one turn of the machine, in a state that is sound.
 ghost use Rattle.std.specs.Prelude.{◌≡◌};
 
+use crate::conditions::fits;
 use crate::machine::Machine;
 use outside::{Clock, Held, NoMemory};
 use repo_config::Settings;
 use repo_model::{Command, Reply};
+use row_tables::Records;
 use std::alloc::Global;
 use std::marker::Model;
 
-/// The repository: hosted repositories with their rows, the blob numbers, a clock, and how many calls there were.
+/// The repository: hosted repositories with their rows, the blob numbers, the records, a clock, and how many calls there
+/// were.
 ///
 /// Its state is always sound: the repositories are those of the settings, their rows in byte order of path, each path once;
-/// each blob number stands in one place at most; what fades is a snapshot's.
+/// each blob number stands in one place at most; what fades is a snapshot's. The tables that the records tell, where they do,
+/// hold the state: its rows, the results of its sessions and its numbers.
 #[derive(Drop)]
-pub struct Core<C: Clock, H: Held> {
+pub struct Core<K: Records, C: Clock, H: Held> {
     machine: Machine<C, H>,
+    records: K,
 }
 
-impl<C: Clock, H: Held> Model for Core<C, H> {
-    ghost use Rattle.repo_core.specs.Whole.{Whole, IsKept};
+impl<K: Records, C: Clock, H: Held> Model for Core<K, C, H> {
+    ghost use Rattle.repo_core.specs.Whole.{Whole, IsKept, whole_of};
 
     ghost Value = { Whole };
 
-    ghost view = { λ c. c.machine };
+    ghost view = { λ c. whole_of c.machine (K.tables c.records) (K.faults c.records) };
 
-    ghost invariant = { λ c. IsKept c.machine };
+    ghost invariant = { λ c. record {
+      kept : IsKept (whole_of c.machine (K.tables c.records) (K.faults c.records));
+      ready : K.ready c.records;
+    } };
 }
 
-impl<C: Clock, H: Held> Core<C, H> {
+impl<K: Records, C: Clock, H: Held> Core<K, C, H> {
     ghost use Rattle.std.specs.Prelude.{◌≡◌, ◌+◌, min, IfOk, IfErr, IsTrue};
+    ghost use Rattle.std.specs.Option.{ForSome};
     ghost use Rattle.outside.specs.Faults.{last_count};
     ghost use Rattle.repo_model.specs.Asking.{IsAnswerTo};
     ghost use Rattle.repo_model.specs.State.{opening};
     ghost use Rattle.repo_model.specs.Command.{meets};
-    ghost use Rattle.repo_model.specs.History.{Fits, after};
+    ghost use Rattle.repo_model.specs.Effect.{recorded};
+    ghost use Rattle.repo_model.specs.History.{Fits, after, effects_of};
     ghost use Rattle.repo_model.specs.Shown.{shown_command, shown_reply, entry_of};
+    ghost use Rattle.repo_model.specs.Tables.{no_tables};
+    ghost use Rattle.repo_laws.specs.Holds.{Holds};
     ghost use Rattle.repo_laws.specs.Laws.{KeepsReleases};
     ghost use Rattle.repo_laws.specs.Sound.{IsSound};
+    ghost use Rattle.row_tables.specs.Commits.{tables_with};
+    ghost use Rattle.repo_core.specs.Whole.{counting};
 
-    /// A repository without rows, by these settings.
+    /// A repository without rows, by these settings, over records that are empty and ready.
     ///
-    /// Where memory is wanting the clock comes back as it was.
-    pub fn plain(alloc: Global, settings: Settings, clock: C) -> Result<Core<C, H>, (NoMemory, C)>
+    /// Where memory is wanting the records and the clock come back as they were.
+    pub fn plain(
+        alloc: Global,
+        settings: Settings,
+        records: K,
+        clock: C,
+    ) -> Result<Core<K, C, H>, (NoMemory, K, C)>
+        requires ready { K.ready records }
+        requires empty { ForSome (K.tables records) (λ t. t ≡ no_tables) }
         ensures settings { IfOk result (λ core. core.settings ≡ settings) }
-        ensures state { IfOk result (λ core. core.state ≡ opening settings (C.moments clock)) }
+        ensures state { IfOk result (λ core. core.state ≡ counting (K.faults records) (opening settings (C.moments clock))) }
+        ensures tables { IfOk result (λ core. core.tables ≡ K.tables records) }
         ensures calls { IfOk result (λ core. core.calls ≡ 0) }
-        ensures err { IfErr result (λ error. error.1 ≡ clock) }
+        ensures records { IfErr result (λ error. error.1 ≡ records) }
+        ensures clock { IfErr result (λ error. error.2 ≡ clock) }
     {
-        // Their ids differ.
+        // Their ids differ, and have their form.
         settings.form();
         match Machine::plain(alloc, settings, clock) {
-            Ok(machine) => Ok(Core { machine }),
-            Err(error) => Err(error),
+            Ok(machine) => Ok(Core { machine, records }),
+            Err((error, clock)) => Err((error, records, clock)),
         }
     }
 
-    /// One turn: reads the clock once, and answers the command.
+    /// One turn: reads the clock once, and answers the command. What it changes of rows and sessions is recorded first.
     ///
     /// The command meets its condition, as [`Core::fits`] tells. The turn is an entry that fits the machine's state, and
-    /// leaves the state that the machine says. Every command but `Done` and `Drop` may want memory; where it is wanting,
-    /// nothing changes but the moment. The row of a release is there afterwards with every field as before. A draft for a
-    /// file is given only where the repository takes the file.
+    /// leaves the state that the machine says; the tables, where told, are those with its items, and hold the new state.
+    /// Every command but `Done` and `Drop` may want memory; where it is wanting, or where the records fail, nothing changes
+    /// but the moment and the count of the records. The row of a release is there afterwards with every field as before. A
+    /// draft for a file is given only where the repository takes the file.
     pub fn call(&mut self, command: Command<H>) -> Reply<H>
         requires { IsTrue (meets self.old.settings (shown_command command)) }
-        ensures fits { Fits self.old.settings self.old.state (entry_of command self.new.state.last result 0) }
-        ensures after { self.new.state ≡ after self.old.settings self.old.state (entry_of command self.new.state.last result 0) }
+        ensures fits { Fits self.old.settings self.old.state (entry_of command self.new.state.last result self.new.state.faults) }
+        ensures after { self.new.state ≡ after self.old.settings self.old.state (entry_of command self.new.state.last result self.new.state.faults) }
+        ensures tables { self.new.tables ≡ tables_with (recorded (effects_of self.old.settings self.old.state
+            (entry_of command self.new.state.last result self.new.state.faults))) self.old.tables }
+        ensures holds { ForSome self.new.tables (λ t. Holds t self.new.state) }
         ensures answer { IsAnswerTo self.old.settings (shown_command command) (shown_reply result) }
         ensures settings { self.new.settings ≡ self.old.settings }
         ensures calls { self.new.calls ≡ min (self.old.calls + 1) last_count }
         ensures releases { KeepsReleases self.old.state self.new.state }
         ensures sound { IsSound self.new.settings self.new.state }
     {
-        self.machine.call(command)
+        self.machine.call(&mut self.records, command)
     }
 
-    /// Whether a command meets its condition: its repository is there, its path names what the command is about, and the
-    /// repository takes files of the path's kind where it is a `Put`, whose parcel has the draft's number and at most
-    /// 2^63 - 1 bytes; what a side file says is a digest of its side.
-    pub fn fits(&self, command: &Command<H>) -> bool
-        ensures { result ≡ meets self.now.settings (shown_command command.now) }
+    /// Whether a command meets its condition under these settings: its repository is there, its path names what the command is
+    /// about, and the repository takes files of the path's kind where it is a `Put`, whose parcel has the draft's number and at
+    /// most 2^63 - 1 bytes; what a side file says is a digest of its side.
+    pub fn fits(settings: &Settings, command: &Command<H>) -> bool
+        ensures { result ≡ meets settings.now (shown_command command.now) }
     {
-        self.machine.fits(command)
+        fits(settings, command)
+    }
+
+    /// The settings, which commands are to fit.
+    pub fn settings(&self) -> &Settings
+        ensures { result.now ≡ self.now.settings }
+    {
+        self.machine.settings()
     }
 
     /// How many calls there were; the count stays at 2^64 - 1.
@@ -90,11 +124,14 @@ impl<C: Clock, H: Held> Core<C, H> {
         self.machine.calls()
     }
 
-    /// Gives the clock back.
-    pub fn end(self) -> C
-        ensures { C.moments result ≡ self.state.clock }
+    /// Gives the records and the clock back.
+    pub fn end(self) -> (K, C)
+        ensures tables { K.tables result.0 ≡ self.tables }
+        ensures faults { K.faults result.0 ≡ self.state.faults }
+        ensures ready { K.ready result.0 }
+        ensures clock { C.moments result.1 ≡ self.state.clock }
     {
-        let Core { machine } = self;
-        machine.end()
+        let Core { machine, records } = self;
+        (records, machine.end())
     }
 }

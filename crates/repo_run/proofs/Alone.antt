@@ -1,4 +1,4 @@
--- A core that nobody else asks: its turns are one legal history, each of them was counted, and no records failed.
+-- A core that nobody else asks: its turns are one legal history, and each of them was counted.
 use Rattle.std.proofs.Common.{◌≡◌, ℕ, suc, ◌+◌, ◌≤◌, List, [], ◌∷◌, length, arith, subst, ap, ◌∙◌}
 use Rattle.std.specs.Prelude.{min}
 use Rattle.outside.specs.Faults.{last_count}
@@ -6,7 +6,6 @@ use Rattle.repo_core.specs.Whole.{Whole}
 use Rattle.repo_model.specs.History.{Entry, Legal, end}
 use Rattle.repo_model.specs.Settings.{Settings}
 use Rattle.repo_model.specs.State.{State}
-use Rattle.course_laws.proofs.Told.{faults-are}
 use Rattle.repo_run.specs.FirstConnection.{Makes}
 
 pub record IsAlone (old : Whole) (entries : List Entry) (new : Whole) : Type 0 where
@@ -36,9 +35,3 @@ core_counted (e ∷ es) old new le led =
     let now = led.1.calls in
     let rest = core_counted es led.0 new (omega arith) led.2 in
     rest ∙ ap (λ n. min (n + length es) last_count) now ∙ one_more old.calls (length es) le
-
-pub no_records : (entries : List Entry) (old new : Whole) → old.state.faults ≡ 0 → Makes old entries new → new.state.faults ≡ 0
-no_records [] old new none led = ap (λ (w : Whole). w.state.faults) led ∙ none
-no_records (e ∷ es) old new none led =
-    let turn = led.1 in
-    no_records es led.0 new (ap (λ (s : State). s.faults) turn.state ∙ faults-are old.settings old.state e ∙ turn.records) led.2

@@ -24,7 +24,7 @@ use Rattle.course_laws.proofs.Endings.{serves_few, serves_shows}
 use Rattle.course_laws.proofs.LeftBehind.{serves_leaves}
 use Rattle.course_laws.proofs.PlayedStream.{as-played, stream-upto}
 use Rattle.course_laws.proofs.Told.{opening-told}
-use Rattle.repo_run.proofs.Alone.{core_alone, core_counted, no_records}
+use Rattle.repo_run.proofs.Alone.{core_alone, core_counted}
 use Rattle.repo_run.specs.FirstConnection.{Makes, ServesFirst, port_failed, none_left, one_served}
 use Rattle.repo_run.specs.Replay.{AllTold, Finishes, IsReplayed, Reports, ReportsFirst, ServesWith, counts, opened}
 use Rattle.repo_run.specs.Replay as replay
@@ -84,8 +84,8 @@ module _ (tells : Type 0) (settings : Settings) (form : IsSettings settings) whe
   pub is-replayed : (clock clock' : Option Moments) (old new : Connection) (blobs blobs' : Store) (core : Whole) (held : List ℕ) (ending : End) (entries : List Entry)
       → Makes (opened settings clock) entries core
       → Serves settings tells 1000 entries (outside_at (in_front [] old.left) old blobs) (outside_at (in_front held new.left) new blobs') ending
-      → clock' ≡ core.state.clock → IsReplayed tells settings clock clock' old new blobs blobs' ending core.calls
-  is-replayed clock clock' old new blobs blobs' core held ending entries made begun clock-is =
+      → clock' ≡ core.state.clock → core.state.faults ≡ 0 → IsReplayed tells settings clock clock' old new blobs blobs' ending core.calls
+  is-replayed clock clock' old new blobs blobs' core held ending entries made begun clock-is unfailed =
       let before = outside_at old.left old blobs in
       let after = outside_at (in_front held new.left) new blobs' in
       let served = subst (λ (input : Option (List ℕ)). Serves settings tells 1000 entries (outside_at input old blobs) after ending) (nothing_held old.left) begun in
@@ -94,7 +94,7 @@ module _ (tells : Type 0) (settings : Settings) (form : IsSettings settings) whe
       let left = serves_leaves tells settings 1000 entries (opened settings clock).state alone.legal before after ending served in
       let nothing = left.nothing drawn in
       let yard = ap (λ (s : State). s.yard) alone.ends in
-      let none = sym (ap (λ (s : State). s.faults) alone.ends) ∙ no_records entries (opened settings clock) core refl made in
+      let none = sym (ap (λ (s : State). s.faults) alone.ends) ∙ unfailed in
       let stood : StoodStill 0 (end settings (opening settings clock) entries).faults = (none, omega (arith, none)) in
       record {
         entries = entries;
@@ -105,6 +105,7 @@ module _ (tells : Type 0) (settings : Settings) (form : IsSettings settings) whe
         legal = alone.legal;
         state = alone.ends;
         clock_is = clock-is;
+        unfailed = unfailed;
         counted = all-counted core.calls (length entries) (most_asked settings) (core_counted entries (opened settings clock) core (omega arith) made)
             (serves_few tells settings 1000 entries before after ending served) (most-few settings form);
         nothing_left = (ap (λ y. y.drafts) yard ∙ nothing.drafts, ap (λ y. y.leases) yard ∙ nothing.leases);
@@ -132,17 +133,17 @@ module _ (tells : Type 0) (settings : Settings) (form : IsSettings settings) whe
 
     -- what was served, with the line that tells it
     pub replays : (core core' : Whole) (ended : Option End) → core ≡ opened settings clock → ServesFirst tells settings connection_of old new core core' ended
-        → clock' ≡ core'.state.clock → ReportsFirst ended core'.calls out out' status → Replayed
-    replays core core' ended is (port_failed faults rose desk same ends) clock-is told =
+        → clock' ≡ core'.state.clock → core'.state.faults ≡ 0 → ReportsFirst ended core'.calls out out' status → Replayed
+    replays core core' ended is (port_failed faults rose desk same ends) clock-is unfailed told =
         let last = subst (λ (e : Option End). ReportsFirst e core'.calls out out' status) ends told in
         replay.port_failed faults rose desk (clock-is ∙ ap (λ (w : Whole). w.state.clock) same ∙ ap (λ (w : Whole). w.state.clock) is) last.0 last.1
-    replays core core' ended is (none_left at-end desk same ends) clock-is told =
+    replays core core' ended is (none_left at-end desk same ends) clock-is unfailed told =
         let last = subst (λ (e : Option End). ReportsFirst e core'.calls out out' status) ends told in
         replay.none_left at-end desk (clock-is ∙ ap (λ (w : Whole). w.state.clock) same ∙ ap (λ (w : Whole). w.state.clock) is)
         (subst (λ (n : ℕ). Reports Closed n out out' status) (ap (λ (w : Whole). w.calls) same ∙ ap (λ (w : Whole). w.calls) is) last)
-    replays core core' ended is (one_served link link' left held blobs ending entries took desk makes served ends) clock-is told =
+    replays core core' ended is (one_served link link' left held blobs ending entries took desk makes served ends) clock-is unfailed told =
         let last = subst (λ (e : Option End). ReportsFirst e core'.calls out out' status) ends told in
         let made = subst (λ (w : Whole). Makes w entries core') is makes in
-        let all = is-replayed clock clock' (connection_of link) (connection_of link') old.blobs blobs core' held ending entries made served clock-is in
+        let all = is-replayed clock clock' (connection_of link) (connection_of link') old.blobs blobs core' held ending entries made served clock-is unfailed in
         replay.one_served link link' left blobs ending core'.calls took desk all last
         (has-status core'.calls ending (connection_of link) (connection_of link') out out' status _ _ old.blobs blobs all.ends last)

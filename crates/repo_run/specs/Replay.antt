@@ -28,7 +28,7 @@ use Rattle.repo_run.specs.Surroundings.{Connection, DeskState, File, Output, Pri
 
 -- the repository of these settings before its first call, with these moments to come
 abbrev pub opened : Settings → Option Moments → Whole
-opened settings clock = record { settings = settings; state = opening settings clock; calls = 0 }
+opened settings clock = record { settings = settings; state = opening settings clock; tables = None; calls = 0 }
 
 -- all is told: the blobs' bytes, the clock's moments, the bytes that the connection gives, and those that it has taken
 pub record AllTold (tells : Type 0) (clock : Option Moments) (old : Connection) (moments : Moments) (input before : List ℕ) : Type 0 where
@@ -48,6 +48,8 @@ pub record IsReplayed (tells : Type 0) (settings : Settings) (clock clock' : Opt
   pub legal : Legal settings (opening settings clock) entries
   pub state : core.state ≡ end settings (opening settings clock) entries
   pub clock_is : clock' ≡ core.state.clock
+  -- its records never failed
+  pub unfailed : core.state.faults ≡ 0
   pub counted : calls ≡ length entries
   -- no draft and no lease stands in the end, and no call was told that its draft is not there
   pub nothing_left : (core.state.yard.drafts ≡ []) × (core.state.yard.leases ≡ [])

@@ -10,6 +10,7 @@ ghost use Rattle.repo_run.specs.Surroundings.{FirstOnly, connection, desk_state,
 ghost use Rattle.repo_run.specs.Words.{asked};
 
 use crate::actions::Action;
+use crate::records::NoRecords;
 use crate::reports::{INPUT, NO_MEMORY, REFUSED, fault, refuse, report_first};
 use crate::words::wanted;
 use outside::{Blobs, Clock, Held, NoMemory, Port, Sink, Source};
@@ -17,6 +18,7 @@ use repo_config::{Settings, SourceFault, read_from};
 use repo_core::Core;
 use repo_course::End;
 use repo_server::serve_stream;
+use row_tables::Records;
 use std::alloc::Global;
 
 /// What one worker owns: a listener, and the blobs that it reads and stores.
@@ -35,11 +37,11 @@ pub struct Ran<P: Port, B: Blobs, C: Clock> {
 }
 
 /// Serves the first stream of the desk's port, if there is one. `None` where the port failed.
-pub fn serve_first<P: Port, B: Blobs, C: Clock>(
+pub fn serve_first<P: Port, B: Blobs, K: Records, C: Clock>(
     alloc: Global,
     settings: &Settings,
     desk: &mut Desk<P, B>,
-    core: &mut Core<C, B::Held>,
+    core: &mut Core<K, C, B::Held>,
 ) -> Option<End>
     requires { core.old.settings ≡ settings.now }
     ensures { ServesFirst (AllTell B.Held.bytes) settings.now
@@ -64,7 +66,7 @@ fn core_of<C: Clock, H: Held>(
     alloc: Global,
     settings: &Settings,
     clock: C,
-) -> Result<Core<C, H>, (NoMemory, C)>
+) -> Result<Core<NoRecords, C, H>, (NoMemory, C)>
     ensures ok { IfOk result (λ core. core ≡ opened settings.now (C.moments clock)) }
     ensures err { IfErr result (λ error. error.1 ≡ clock) }
 {
@@ -72,9 +74,9 @@ fn core_of<C: Clock, H: Held>(
         Ok(own) => own,
         Err(error) => return Err((error, clock)),
     };
-    match Core::plain(alloc, own, clock) {
+    match Core::plain(alloc, own, NoRecords, clock) {
         Ok(core) => Ok(core),
-        Err(error) => Err(error),
+        Err((error, _, clock)) => Err((error, clock)),
     }
 }
 
@@ -96,7 +98,7 @@ fn serve<P: Port, B: Blobs, C: Clock, O: Sink>(
         desks.items result.desks.items }
 {
     settings.form();
-    let mut core: Core<C, B::Held> = match core_of(alloc, settings, clock) {
+    let mut core: Core<NoRecords, C, B::Held> = match core_of(alloc, settings, clock) {
         Ok(core) => core,
         Err((_, clock)) => {
             let status = fault(out, b"mvnrepod: memory\n", NO_MEMORY);
@@ -109,7 +111,7 @@ fn serve<P: Port, B: Blobs, C: Clock, O: Sink>(
     };
     let ended = serve_first(alloc, settings, &mut desks[0], &mut core);
     let status = report_first(alloc, out, core.calls(), ended);
-    let clock = core.end();
+    let (_, clock) = core.end();
     Ran {
         status,
         desks,

@@ -10,13 +10,14 @@ use repo_core::Core;
 use repo_course::End;
 use repo_model::{Command, Reply};
 use repo_run::serve_first;
+use row_tables::MemRecords;
 use std::alloc::{AllocError, Global};
 use std::test::Fail;
 use texts::Text;
 
 type Told = (Option<End>, u64, u64);
 
-pub type MemCore = Core<ScriptClock, MemHeld>;
+pub type MemCore = Core<MemRecords, ScriptClock, MemHeld>;
 
 /// The look at the file of the worked requests.
 fn look_of(alloc: Global) -> Result<Command<MemHeld>, AllocError> {
@@ -27,7 +28,7 @@ fn look_of(alloc: Global) -> Result<Command<MemHeld>, AllocError> {
 
 /// The number under which the core keeps the file that a command looks at; 0 where there is none.
 fn number_of(core: &mut MemCore, look: Command<MemHeld>) -> u64 {
-    if !core.fits(&look) {
+    if !MemCore::fits(core.settings(), &look) {
         return 0;
     }
     match core.call(look) {
@@ -49,9 +50,10 @@ pub fn opened(alloc: Global, settings: &Settings) -> Result<MemCore, AllocError>
     ensures { IfOk result (λ core. core.settings ≡ settings.now) }
 {
     let own = settings.copied(alloc)?;
-    match Core::plain(alloc, own, ScriptClock::stepping(alloc, 0, 0)) {
+    let records = MemRecords::new(alloc, Vec::new(alloc));
+    match Core::plain(alloc, own, records, ScriptClock::stepping(alloc, 0, 0)) {
         Ok(core) => Ok(core),
-        Err((error, _)) => Err(error),
+        Err((error, _, _)) => Err(error),
     }
 }
 

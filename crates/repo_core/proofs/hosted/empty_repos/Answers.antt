@@ -1,7 +1,15 @@
-use Rattle.std.proofs.Common.{ap, ◌∙◌}
+use Rattle.std.proofs.Common.{ap, subst, sym, ◌∙◌}
+use Rattle.std.specs.Prelude.{IsTrue}
 use Rattle.repo_model.specs.State.{new_hosted}
-use Rattle.repo_core.proofs.HostedLemmas.{repos-more}
+use Rattle.repo_model.specs.Settings.{Rule}
+use Rattle.row_tables.specs.Items.{is_id}
+use Rattle.repo_core.proofs.HostedLemmas.{repos-more, rule-at}
 use Rattle.repo_core.proofs.hosted.empty_repos.Goals as goal
+
+pub new-requires : goal.new-requires
+new-requires g c =
+    let made = ap (λ (rule : Rule). rule.id) c.in_ok-rule_of.ensures in
+    subst (λ id. IsTrue (is_id id)) (sym made) (rule-at (λ (rule : Rule). IsTrue (is_id rule.id)) c.args.rules.now c.loop-rule.rule-index c.rule-item.result c.loop-rule-test.true c.rule-item.is c.requires)
 
 pub loop-rule-preserved : goal.loop-rule-preserved
 loop-rule-preserved g c =

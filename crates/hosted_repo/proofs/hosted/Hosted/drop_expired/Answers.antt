@@ -1,15 +1,22 @@
-use Rattle.std.proofs.Common.{List, take, sym, ap, ◌∙◌}
+use Rattle.std.proofs.Common.{List, take, sym, ap, ◌∙◌, subst}
 use Rattle.repo_model.specs.Data as plain
 use Rattle.repo_model.specs.Purge.{expired_of}
 use Rattle.repo_model.specs.Settings.{Rule}
-use Rattle.hosted_repo.specs.Rows.{rows_after_all, shown_rows, without_first}
+use Rattle.hosted_repo.specs.Rows.{AreFiles, rows_after_all, shown_rows, without_first}
 use Rattle.hosted_repo.specs.Rules.{shown_rule}
 use Rattle.hosted_repo.proofs.Expiry.{dropped}
+use Rattle.hosted_repo.proofs.FormLemmas.{files-left}
 use Rattle.hosted_repo.proofs.RowLemmas.{rising-shown}
 use Rattle.hosted_repo.proofs.hosted.Hosted.drop_expired.Goals as goal
 
 abbrev whole : Rule → List plain.Row → plain.Hosted
 whole rule rows = record { rule = rule; rows = rows }
+
+pub invariant_of-self : goal.invariant_of-self
+invariant_of-self g c = record {
+  named = c.self.invariant.named;
+  files = subst AreFiles (sym c.drop_first.ensures.rows) (files-left c.args.count c.saturating_sub.result (shown_rows c.self.inside.rows.entries) c.self.invariant.files);
+}
 
 pub returns : goal.returns
 returns g c =

@@ -1,34 +1,74 @@
-use Rattle.std.proofs.Common.{List, length, map, string_bytes, ap, ◌∙◌, arith}
-use Rattle.std.proofs.lemmas.List.{length-map}
+use Rattle.std.proofs.Common.{◌≡◌, ℕ, IfOk, OnOk, List, Result, length, sym, ap, ◌∙◌, subst}
+use Rattle.std.proofs.lemmas.Result.{on_err_weaker, on_ok_weaker}
+use Rattle.mvn_coords.specs.Kind.{kind}
 use Rattle.repo_model.specs.Data as plain
-use Rattle.repo_model.specs.Effect.{Effect, fades}
-use Rattle.repo_model.specs.Purge.{due_rows}
-use Rattle.hosted_repo.specs.Rows.{rows_after_all}
+use Rattle.repo_model.specs.Effect.{recorded}
+use Rattle.repo_model.specs.Purge.{due_rows, fade_all}
 use Rattle.repo_model.specs.State.{row_at}
-use Rattle.hosted_repo.proofs.DueLemmas.{faded}
-use Rattle.hosted_repo.proofs.FadeLaws.{releases_kept}
+use Rattle.repo_model.specs.Turn.{seen_at}
+use Rattle.row_tables.specs.Commits.{tables_with}
+use Rattle.hosted_repo.specs.Recording.{FitWhereTold}
+use Rattle.hosted_repo.specs.Rows.{AreFiles, hosted_of, rows_after_all, shown_rows}
+use Rattle.hosted_repo.proofs.FadeLaws.{answered_alike, releases_kept}
+use Rattle.hosted_repo.proofs.FormLemmas.{fades-change, files-faded, from-both}
 use Rattle.hosted_repo.proofs.hosted.Hosted.unlist.Goals as goal
+
+pub unlist_rows-requires-clause-change : goal.unlist_rows-requires-clause-change
+unlist_rows-requires-clause-change g c = fades-change (hosted_of c.self.inside.rule c.self.inside.rows.entries) c.args.now c.self.invariant.named c.self.invariant.files c.requires.moment
+
+pub unlist_rows-requires-clause-fits : goal.unlist_rows-requires-clause-fits
+unlist_rows-requires-clause-fits g c =
+    subst (λ (h : plain.Hosted). FitWhereTold (g.K.Records.tables c.args.records.now) (recorded (fade_all h c.args.now))) (sym c.self.view_is) c.requires.fits
+
+pub invariant_of-self : goal.invariant_of-self
+invariant_of-self g c =
+    let h = hosted_of c.self.inside.rule c.self.inside.rows.entries in
+    record {
+      named = c.self.invariant.named;
+      files = from-both c.unlist_rows.result c.unlist_rows.ensures.rows c.unlist_rows.ensures.err
+          (λ made. subst AreFiles (sym made) (files-faded h.rule.id c.args.now (due_rows h.rule c.args.now h.rows) h.rows c.self.invariant.files))
+          (λ same. subst AreFiles (sym same) c.self.invariant.files);
+    }
 
 pub returns-clause-count : goal.returns-clause-count
 returns-clause-count g c =
-    let h = c.args.self.now in
-    let due = due_rows h.rule c.args.now h.rows in
-    let paths = c.in_ok-paths.paths in
-    omega (arith, ap length c.in_ok-paths.ensures, length-map paths.items string_bytes, length-map due (λ (row : plain.Row). row.path), paths.ok.0, c.len.ensures)
+    subst (λ (h : plain.Hosted). IfOk c.unlist_rows.result (λ n. n ≡ length (due_rows h.rule c.args.now h.rows))) c.self.view_is c.unlist_rows.ensures.count
+
+abbrev with : plain.Hosted → List plain.Row → plain.Hosted
+with h rows = record { rule = h.rule; rows = rows }
+
+with_rows : {T E : Type 0} (r : Result T E) (h k : plain.Hosted) (rows : List plain.Row) (now : ℕ) → h ≡ k → OnOk r (rows ≡ rows_after_all (fade_all h now) h.rows)
+    → OnOk r (with h rows ≡ with k (rows_after_all (fade_all k now) k.rows))
+with_rows r h k rows now same told =
+    on_ok_weaker r (λ (made : rows ≡ rows_after_all (fade_all h now) h.rows). ap (with h) made ∙ ap (λ (x : plain.Hosted). with x (rows_after_all (fade_all x now) x.rows)) same) told
 
 pub returns-clause-rows : goal.returns-clause-rows
 returns-clause-rows g c =
-    let h = c.args.self.now in
-    let paths = c.in_ok-paths.paths in
-    c.fade.ensures.rows
-    ∙ ap (λ (es : List Effect). record h { rows = rows_after_all es h.rows })
-    (ap (λ ps. map (λ p. fades h.rule.id (string_bytes p) c.args.now) ps) c.as_slice.ensures.value ∙ faded h.rule.id c.args.now paths.items (due_rows h.rule c.args.now h.rows) c.in_ok-paths.ensures)
+    with_rows c.unlist_rows.result (hosted_of c.self.inside.rule c.self.inside.rows.entries) c.args.self.now (shown_rows c.unlist_rows.new.rows.entries) c.args.now c.self.view_is c.unlist_rows.ensures.rows
+
+pub returns-clause-tables : goal.returns-clause-tables
+returns-clause-tables g c =
+    subst (λ (k : plain.Hosted). OnOk c.unlist_rows.result (g.K.Records.tables c.unlist_rows.new.records ≡ tables_with (recorded (fade_all k c.args.now)) (g.K.Records.tables c.args.records.now)))
+    c.self.view_is c.unlist_rows.ensures.tables
+
+pub returns-clause-err : goal.returns-clause-err
+returns-clause-err g c =
+    let h = hosted_of c.self.inside.rule c.self.inside.rows.entries in
+    on_err_weaker c.unlist_rows.result (λ same. ap (with h) same ∙ c.self.view_is) c.unlist_rows.ensures.err
+
+pub returns-clause-asked : goal.returns-clause-asked
+returns-clause-asked g c = λ failed none. c.unlist_rows.ensures.asked failed (ap (λ (k : plain.Hosted). recorded (fade_all k c.args.now)) c.self.view_is ∙ none)
 
 pub returns-clause-releases : goal.returns-clause-releases
 returns-clause-releases g c path other =
-    let h = c.args.self.now in
-    let paths = c.in_ok-paths.paths in
-    ap (λ (k : plain.Hosted). row_at path k.rows) c.fade.ensures.rows
-    ∙ ap (λ (es : List Effect). row_at path (rows_after_all es h.rows))
-    (ap (λ ps. map (λ p. fades h.rule.id (string_bytes p) c.args.now) ps) c.as_slice.ensures.value ∙ faded h.rule.id c.args.now paths.items (due_rows h.rule c.args.now h.rows) c.in_ok-paths.ensures)
-    ∙ releases_kept h.rule c.args.now h.rows path other
+    let h = hosted_of c.self.inside.rule c.self.inside.rows.entries in
+    from-both c.unlist_rows.result c.unlist_rows.ensures.rows c.unlist_rows.ensures.err (λ made. ap (row_at path) made ∙ releases_kept h.rule c.args.now h.rows path other) (λ same. ap (row_at path) same)
+    ∙ ap (λ (k : plain.Hosted). row_at path k.rows) c.self.view_is
+
+pub returns-clause-answered : goal.returns-clause-answered
+returns-clause-answered g c path other =
+    let h = hosted_of c.self.inside.rule c.self.inside.rows.entries in
+    from-both c.unlist_rows.result c.unlist_rows.ensures.rows c.unlist_rows.ensures.err
+    (λ made. ap (λ rows. seen_at rows path (kind path)) made ∙ answered_alike h.rule.id c.args.now (due_rows h.rule c.args.now h.rows) h.rows path (kind path) other)
+    (λ same. ap (λ rows. seen_at rows path (kind path)) same)
+    ∙ ap (λ (k : plain.Hosted). seen_at k.rows path (kind path)) c.self.view_is

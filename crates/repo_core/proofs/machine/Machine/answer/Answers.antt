@@ -1,18 +1,87 @@
+use Rattle.std.proofs.Common.{◌≡◌, [], sym, ap, ◌∙◌, subst}
+use Rattle.hosted_repo.specs.Recording.{FitWhereTold}
 use Rattle.mvn_digest.specs.Sides.{bytes_in}
-use Rattle.repo_core.proofs.Turning.{may_put-nowhere, put_doc-nowhere, put_side-nowhere}
+use Rattle.repo_model.specs.Command.{collect, look, may_put, put, put_side, unlist}
+use Rattle.repo_model.specs.Data.{repository}
+use Rattle.repo_model.specs.Effect.{recorded}
+use Rattle.repo_model.specs.Shown.{shown_command, shown_parcel, shown_place, shown_reply}
+use Rattle.repo_model.specs.Turn.{turn}
+use Rattle.repo_core.specs.Turn.{Recorded}
+use Rattle.repo_core.proofs.Turning.{alone, look-quiet, may_put-nowhere, may_put-quiet, put_doc-nowhere, put_side-nowhere, put_side-quiet}
 use Rattle.repo_core.proofs.machine.Machine.answer.Goals as goal
 
-pub returns-in-MayPut : goal.returns-in-MayPut
-returns-in-MayPut g c =
+pub returns-in-MayPut-clause-turn : goal.returns-in-MayPut-clause-turn
+returns-in-MayPut-clause-turn g c =
     let told = c.refuse_session.ensures in
-    rw (c.in-MayPut.is, c.in-Session.is, told.reply) (may_put-nowhere c.args.self.now told.none c.in-Session.field-0 c.in-MayPut.path)
+    rw (c.in-MayPut.is, c.in-Session.is, told.reply) (may_put-nowhere c.args.self.now told.none c.in-Session.field-0 c.in-MayPut.path _ _)
 
-pub returns-in-PutSide : goal.returns-in-PutSide
-returns-in-PutSide g c =
+pub returns-in-PutSide-clause-turn : goal.returns-in-PutSide-clause-turn
+returns-in-PutSide-clause-turn g c =
     let told = c.refuse_session-in-Session-place.ensures in
-    rw (c.in-PutSide.is, c.in-Session-place.is, told.reply) (put_side-nowhere c.args.self.now told.none c.in-Session-place.field-0 c.in-PutSide.path (bytes_in c.in-PutSide.said))
+    rw (c.in-PutSide.is, c.in-Session-place.is, told.reply) (put_side-nowhere c.args.self.now told.none c.in-Session-place.field-0 c.in-PutSide.path _ _ (bytes_in c.in-PutSide.said))
 
-pub returns-in-PutDoc : goal.returns-in-PutDoc
-returns-in-PutDoc g c =
+pub returns-in-PutDoc-clause-turn : goal.returns-in-PutDoc-clause-turn
+returns-in-PutDoc-clause-turn g c =
     let told = c.refuse_session-in-Session-place-2.ensures in
-    rw (c.in-PutDoc.is, c.in-Session-place-2.is, told.reply) (put_doc-nowhere c.args.self.now told.none c.in-Session-place-2.field-0 c.in-PutDoc.path)
+    rw (c.in-PutDoc.is, c.in-Session-place-2.is, told.reply) (put_doc-nowhere c.args.self.now told.none c.in-Session-place-2.field-0 c.in-PutDoc.path _ _)
+
+pub returns-in-Look-clause-turn : goal.returns-in-Look-clause-turn
+returns-in-Look-clause-turn g c =
+    let w = c.args.self.now in
+    let tables = g.K.Records.tables c.args.records.now in
+    let faults = g.K.Records.faults c.args.records.now in
+    let repo = c.as_str.result.now in
+    let path = c.as_str-in-Look.result.now in
+    let asked : look repo path [] ≡ shown_command c.args.command =
+    ap (λ r. look r path []) c.as_str.ensures ∙ ap (λ p. look c.in-Look.repo p []) c.as_str-in-Look.ensures ∙ ap (λ q. shown_command q) (sym c.in-Look.is) in
+    subst (λ q. Recorded w c.look.new.self q (shown_reply c.look.result) tables tables faults faults) asked
+    (alone w c.look.new.self (look repo path []) (shown_reply c.look.result) tables faults (look-quiet w repo path) c.look.ensures)
+
+pub returns-in-Repository-clause-turn : goal.returns-in-Repository-clause-turn
+returns-in-Repository-clause-turn g c =
+    let w = c.args.self.now in
+    let tables = g.K.Records.tables c.args.records.now in
+    let faults = g.K.Records.faults c.args.records.now in
+    let repo = c.as_str-in-Repository.result.now in
+    let path = c.as_str-in-Repository-2.result.now in
+    let asked : may_put (repository repo) path ≡ shown_command c.args.command =
+    ap (λ r. may_put (repository r) path) c.as_str-in-Repository.ensures ∙ ap (λ p. may_put (repository c.in-Repository.repo) p) c.as_str-in-Repository-2.ensures
+    ∙ ap (λ place. may_put (shown_place place) c.in-MayPut.path) (sym c.in-Repository.is) ∙ ap (λ q. shown_command q) (sym c.in-MayPut.is) in
+    subst (λ q. Recorded w c.may_put.new.self q (shown_reply c.may_put.result) tables tables faults faults) asked
+    (alone w c.may_put.new.self (may_put (repository repo) path) (shown_reply c.may_put.result) tables faults (may_put-quiet w repo path) c.may_put.ensures)
+
+pub returns-in-Repository-place-clause-turn : goal.returns-in-Repository-place-clause-turn
+returns-in-Repository-place-clause-turn g c =
+    let w = c.args.self.now in
+    let tables = g.K.Records.tables c.args.records.now in
+    let faults = g.K.Records.faults c.args.records.now in
+    let repo = c.as_str-in-Repository-place.result.now in
+    let path = c.as_str-in-Repository-place-2.result.now in
+    let said = bytes_in c.in-PutSide.said in
+    let asked : put_side (repository repo) path said ≡ shown_command c.args.command =
+    ap (λ r. put_side (repository r) path said) c.as_str-in-Repository-place.ensures ∙ ap (λ p. put_side (repository c.in-Repository-place.repo) p said) c.as_str-in-Repository-place-2.ensures
+    ∙ ap (λ place. put_side (shown_place place) c.in-PutSide.path said) (sym c.in-Repository-place.is) ∙ ap (λ q. shown_command q) (sym c.in-PutSide.is) in
+    subst (λ q. Recorded w c.put_side.new.self q (shown_reply c.put_side.result) tables tables faults faults) asked
+    (alone w c.put_side.new.self (put_side (repository repo) path said) (shown_reply c.put_side.result) tables faults (put_side-quiet w repo path said) c.put_side.ensures)
+
+pub put-requires-clause-items : goal.put-requires-clause-items
+put-requires-clause-items g c =
+    let w = c.args.self.now in
+    let blob = shown_parcel c.in-Put.parcel in
+    let repo = c.as_str-in-Put.result.now in
+    let path = c.as_str-in-Put-2.result.now in
+    let asked : shown_command c.args.command ≡ put repo path c.in-Put.draft blob =
+    ap (λ q. shown_command q) c.in-Put.is ∙ ap (λ r. put r c.in-Put.path c.in-Put.draft blob) (sym c.as_str-in-Put.ensures) ∙ ap (λ p. put repo p c.in-Put.draft blob) (sym c.as_str-in-Put-2.ensures) in
+    subst (λ q. FitWhereTold (g.K.Records.tables c.args.records.now) (recorded (turn w.settings w.state w.state.last q).effects)) asked c.requires.items
+
+pub unlist-requires-clause-items : goal.unlist-requires-clause-items
+unlist-requires-clause-items g c =
+    let w = c.args.self.now in
+    let asked : shown_command c.args.command ≡ unlist c.as_str-in-Unlist.result.now = ap (λ q. shown_command q) c.in-Unlist.is ∙ ap unlist (sym c.as_str-in-Unlist.ensures) in
+    subst (λ q. FitWhereTold (g.K.Records.tables c.args.records.now) (recorded (turn w.settings w.state w.state.last q).effects)) asked c.requires.items
+
+pub collect-requires-clause-items : goal.collect-requires-clause-items
+collect-requires-clause-items g c =
+    let w = c.args.self.now in
+    let asked : shown_command c.args.command ≡ collect = ap (λ q. shown_command q) c.in-Collect.is in
+    subst (λ q. FitWhereTold (g.K.Records.tables c.args.records.now) (recorded (turn w.settings w.state w.state.last q).effects)) asked c.requires.items

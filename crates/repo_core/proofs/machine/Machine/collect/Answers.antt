@@ -1,74 +1,16 @@
-use Rattle.std.proofs.Common.{◌≡◌, ◌≤◌, ◌++◌, length, map, sym, ap, ◌∙◌, subst, arith}
-use Rattle.std.proofs.lemmas.List.{length-map}
-use Rattle.blob_yard.specs.Numbers.{Numbers}
-use Rattle.repo_model.specs.Purge.{expire_all, most_rows}
-use Rattle.repo_model.specs.Turn.{unlent}
-use Rattle.repo_laws.specs.Sound.{AreNamedApart}
-use Rattle.repo_core.specs.Hosted.{AreInUse, rules_of}
-use Rattle.repo_core.specs.Purge.{AreKeptOnce, blob_of, condemned_by, dropped_by, kept_without, shares}
-use Rattle.repo_core.proofs.PurgeLemmas.{dropped-rules, shares-length}
-use Rattle.repo_core.proofs.PurgeTurns.{collected-once, collected-used, turned-collected}
+use Rattle.std.proofs.Common.{sym, ◌∙◌, subst}
+use Rattle.hosted_repo.specs.Recording.{FitWhereTold}
+use Rattle.repo_model.specs.Shown.{shown_reply}
+use Rattle.repo_core.proofs.PurgeTurns.{change-at, collect-done, collect-items}
 use Rattle.repo_core.proofs.machine.Machine.collect.Goals as goal
 
-pub drop_expired-requires : goal.drop_expired-requires
-drop_expired-requires g c =
-    let counted : length c.deref-2.result.now ≡ length c.deref.result.now = ap length (c.deref-2.ensures.value ∙ c.in-Ok.ensures.counts) ∙ shares-length c.grace_seconds-grace.result c.self.inside.last most_rows c.deref.result.now in
-    omega (arith, counted, c.deref.ensures.len)
+pub commit-requires-clause-fits : goal.commit-requires-clause-fits
+commit-requires-clause-fits g c =
+    let made = change-at c.args.self.now _ c.self.view_is c.grace_seconds-grace.result c.deref.result.now c.in-Ok.gone.change c.grace_seconds-grace.ensures c.deref.ensures.value c.in-Ok.ensures.change in
+    subst (FitWhereTold (g.K.Records.tables c.args.records.now)) (collect-items c.args.self.now ∙ sym made) c.requires.items
 
-pub condemn_all-requires : goal.condemn_all-requires
-condemn_all-requires g c =
-    let kept = c.self.inside.yard.kept in
-    let orderly = rw (← c.self.view_is) at c.requires in
-    let last = c.self.inside.last in
-    let told : c.deref-3.result.now ≡ map blob_of (expire_all c.self.inside.settings.grace last c.self.inside.repos.items) =
-    c.deref-3.ensures.value ∙ c.in-Ok.ensures.blobs ∙ ap (λ seconds. map blob_of (expire_all seconds last c.deref.result.now)) c.grace_seconds-grace.ensures
-    ∙ ap (λ hs. map blob_of (expire_all c.self.inside.settings.grace last hs)) c.deref.ensures.value in
-    subst (λ ns. AreKeptOnce ns kept) (sym told) (collected-once _ kept orderly c.self.invariant.blobs)
-
-pub invariant_of-self : goal.invariant_of-self
-invariant_of-self g c =
-    let kept = c.self.inside.yard.kept in
-    let items = c.self.inside.repos.items in
-    let grace = c.self.inside.settings.grace in
-    let last = c.self.inside.last in
-    let orderly = rw (← c.self.view_is) at c.requires in
-    let blobs_so : c.deref-3.result.now ≡ map blob_of (expire_all grace last items) =
-    c.deref-3.ensures.value ∙ c.in-Ok.ensures.blobs ∙ ap (λ seconds. map blob_of (expire_all seconds last c.deref.result.now)) c.grace_seconds-grace.ensures
-    ∙ ap (λ hs. map blob_of (expire_all grace last hs)) c.deref.ensures.value in
-    let counts_so : c.deref-2.result.now ≡ shares grace last most_rows items =
-    c.deref-2.ensures.value ∙ c.in-Ok.ensures.counts ∙ ap (λ seconds. shares seconds last most_rows c.deref.result.now) c.grace_seconds-grace.ensures
-    ∙ ap (λ hs. shares grace last most_rows hs) c.deref.ensures.value in
-    let hosted_so : c.drop_expired.new.repos.items ≡ dropped_by grace last (shares grace last most_rows items) items =
-    c.drop_expired.ensures ∙ ap (λ seconds. dropped_by seconds last c.deref-2.result.now items) c.grace_seconds-grace.ensures ∙ ap (λ ns. dropped_by grace last ns items) counts_so in
-    let kept_so : c.collect.new.self.kept ≡ kept_without (map blob_of (expire_all grace last items)) kept =
-    ap (λ (y : Numbers). y.kept) c.collect.ensures.forgotten ∙ ap (λ (y : Numbers). y.kept) c.condemn_all.ensures ∙ ap (λ ns. kept_without ns kept) blobs_so in
-    let few : length (shares grace last most_rows items) ≤ length items = omega (arith, shares-length grace last most_rows items) in
-    record {
-      moment = c.self.invariant.moment;
-      blobs = subst (λ k. AreInUse k c.drop_expired.new.repos.items) (sym kept_so)
-          (subst (AreInUse (kept_without (map blob_of (expire_all grace last items)) kept)) (sym hosted_so) (collected-used _ kept orderly c.self.invariant.blobs));
-      rules = ap rules_of hosted_so ∙ dropped-rules grace last (shares grace last most_rows items) items few ∙ c.self.invariant.rules;
-    }
-
-pub returns : goal.returns
-returns g c =
-    let items = c.self.inside.repos.items in
-    let grace = c.self.inside.settings.grace in
-    let last = c.self.inside.last in
-    let gone = expire_all grace last items in
-    let between = c.condemn_all.new.yard.yard in
-    let told : c.in-Ok.gone.blobs.items ≡ map blob_of gone =
-    c.in-Ok.ensures.blobs ∙ ap (λ seconds. map blob_of (expire_all seconds last c.deref.result.now)) c.grace_seconds-grace.ensures ∙ ap (λ hs. map blob_of (expire_all grace last hs)) c.deref.ensures.value in
-    let blobs_so : c.deref-3.result.now ≡ map blob_of gone = c.deref-3.ensures.value ∙ told in
-    let counts_so : c.deref-2.result.now ≡ shares grace last most_rows items =
-    c.deref-2.ensures.value ∙ c.in-Ok.ensures.counts ∙ ap (λ seconds. shares seconds last most_rows c.deref.result.now) c.grace_seconds-grace.ensures
-    ∙ ap (λ hs. shares grace last most_rows hs) c.deref.ensures.value in
-    let hosted_so : c.drop_expired.new.repos.items ≡ dropped_by grace last (shares grace last most_rows items) items =
-    c.drop_expired.ensures ∙ ap (λ seconds. dropped_by seconds last c.deref-2.result.now items) c.grace_seconds-grace.ensures ∙ ap (λ ns. dropped_by grace last ns items) counts_so in
-    let yard_so : between ≡ condemned_by (map blob_of gone) c.self.inside.yard.yard = ap (λ (y : Numbers). y.yard) c.condemn_all.ensures ∙ ap (λ ns. condemned_by ns c.self.inside.yard.yard) blobs_so in
-    let apart = subst AreNamedApart (sym c.self.invariant.rules) (rw (← c.self.view_is) at c.requires.apart) in
-    let count : c.len.result ≡ length gone = omega (arith, c.len.ensures, ap length told, length-map gone blob_of) in
-    let given : c.from_vec.result ≡ unlent between = c.from_vec.ensures ∙ c.collect.ensures.out ∙ ap (λ ns. ns ++ unlent between) c.in-Ok-with_capacity.ensures.items in
-    rw (← c.self.view_is)
-    (turned-collected _ c.drop_expired.new.repos.items between c.collect.new.self.yard c.len.result c.from_vec.result apart hosted_so yard_so count given
-    (ap (λ (y : Numbers). y.yard) c.collect.ensures.forgotten))
+pub returns-in-Ok-commit-clause-turn : goal.returns-in-Ok-commit-clause-turn
+returns-in-Ok-commit-clause-turn g c =
+    let made = change-at c.args.self.now _ c.self.view_is c.grace_seconds-grace.result c.deref.result.now c.in-Ok.gone.change c.grace_seconds-grace.ensures c.deref.ensures.value c.in-Ok.ensures.change in
+    collect-done c.args.self.now c.drop_gone.new.self (shown_reply c.drop_gone.result) c.in-Ok.gone.change (g.K.Records.tables c.args.records.now) (g.K.Records.tables c.commit.new.self)
+    (g.K.Records.faults c.args.records.now) (g.K.Records.faults c.commit.new.self) c.drop_gone.ensures.turn c.drop_gone.ensures.due made c.in-Ok-commit.ensures.ok c.in-Ok-commit.ensures.cause

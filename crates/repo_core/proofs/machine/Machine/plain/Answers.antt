@@ -3,8 +3,12 @@ use Rattle.repo_model.specs.Data.{Hosted}
 use Rattle.repo_model.specs.State.{State, Yard, new_hosted}
 use Rattle.repo_core.specs.Hosted.{AreInUse, rules_of}
 use Rattle.repo_core.proofs.HostedLemmas.{rules-new}
+use Rattle.repo_core.proofs.ItemForms.{ids-so}
 use Rattle.repo_core.proofs.UseLemmas.{none-used}
 use Rattle.repo_core.proofs.machine.Machine.plain.Goals as goal
+
+pub empty_repos-requires : goal.empty_repos-requires
+empty_repos-requires g c = rw c.hosted.ensures (ids-so c.args.settings.hosted c.form.ensures.hosted)
 
 pub invariant_of-result : goal.invariant_of-result
 invariant_of-result g c = record {

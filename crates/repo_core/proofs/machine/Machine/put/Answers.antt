@@ -1,26 +1,57 @@
 use Rattle.std.proofs.Common.{◌≡◌, true, refl, sym, ap, ◌∙◌, subst}
 use Rattle.std.specs.Prelude.{IsTrue}
-use Rattle.repo_model.specs.Command.{meets, put}
+use Rattle.hosted_repo.specs.Puts.{shown_put}
+use Rattle.hosted_repo.specs.Recording.{FitWhereTold}
+use Rattle.repo_model.specs.Command.{meets, put, rule_of}
+use Rattle.repo_model.specs.Effect.{recorded}
 use Rattle.repo_model.specs.Paths.{takes}
 use Rattle.repo_model.specs.State.{is_among}
 use Rattle.repo_model.specs.Shown.{shown_parcel}
-use Rattle.hosted_repo.specs.Puts.{shown_put}
-use Rattle.repo_core.specs.Hosted.{rules_of}
-use Rattle.repo_core.proofs.DraftLemmas.{turned-put, fit-so, named-so}
+use Rattle.repo_model.specs.Turn.{Turn}
+use Rattle.row_tables.specs.Items.{is_number}
+use Rattle.repo_core.specs.Hosted.{put_in, rules_of}
+use Rattle.repo_core.specs.Whole.{Parts}
+use Rattle.repo_core.proofs.DraftLemmas.{fit-so, named-so, put-turn, recorded-put, short-so}
 use Rattle.repo_core.proofs.HostedLemmas.{named-there, rules-kept}
+use Rattle.repo_core.proofs.ItemForms.{draft-number, fit-file}
 use Rattle.repo_core.proofs.UseLemmas.{put-used}
 use Rattle.repo_core.proofs.machine.Machine.put.Goals as goal
 
 pub put-outcome-requires-clause-there : goal.put-outcome-requires-clause-there
 put-outcome-requires-clause-there g c =
     let settings = c.self.inside.settings in
-    let asked = subst (λ w. IsTrue (meets w.settings (put c.args.repo.now c.args.path.now c.args.draft (shown_parcel c.args.parcel)))) (sym c.self.view_is) c.requires in
+    let asked = subst (λ w. IsTrue (meets w.settings (put c.args.repo.now c.args.path.now c.args.draft (shown_parcel c.args.parcel)))) (sym c.self.view_is) c.requires.meets in
     let fit = fit-so settings c.args.repo.now c.args.path.now c.args.draft (shown_parcel c.args.parcel) asked in
     named-there c.args.repo.now (λ rule. takes rule c.args.path.now) c.self.inside.repos.items (rw c.self.invariant.rules fit)
 
+pub put-outcome-requires-clause-path : goal.put-outcome-requires-clause-path
+put-outcome-requires-clause-path g c =
+    let settings = c.args.self.now.settings in
+    fit-file c.args.path.now (rule_of c.args.repo.now settings) (fit-so settings c.args.repo.now c.args.path.now c.args.draft (shown_parcel c.args.parcel) c.requires.meets)
+
+pub put-outcome-requires-clause-blob : goal.put-outcome-requires-clause-blob
+put-outcome-requires-clause-blob g c =
+    let among : is_among c.args.draft c.self.inside.yard.yard.drafts ≡ true = cc in
+    let named = named-so c.args.self.now.settings c.args.repo.now c.args.path.now c.args.draft (shown_parcel c.args.parcel) c.requires.meets in
+    let orderly = rw (← c.self.view_is) at c.requires.orderly in
+    subst (λ n. IsTrue (is_number n)) (sym named) (draft-number _ c.args.draft orderly.places orderly.order.draft among)
+
+pub put-outcome-requires-clause-length : goal.put-outcome-requires-clause-length
+put-outcome-requires-clause-length g c = short-so c.args.self.now.settings c.args.repo.now c.args.path.now c.args.draft (shown_parcel c.args.parcel) c.requires.meets
+
+pub put-outcome-requires-clause-fits : goal.put-outcome-requires-clause-fits
+put-outcome-requires-clause-fits g c =
+    let w = c.args.self.now in
+    let blob = shown_parcel c.args.parcel in
+    let inside : is_among c.args.draft c.self.inside.yard.yard.drafts ≡ true = cc in
+    let among : is_among c.args.draft w.state.yard.drafts ≡ true = subst (λ (p : Parts). is_among c.args.draft p.state.yard.drafts ≡ true) c.self.view_is inside in
+    let named = named-so w.settings c.args.repo.now c.args.path.now c.args.draft blob c.requires.meets in
+    subst (λ (p : Parts). FitWhereTold (g.K.Records.tables c.args.records.now) (recorded (put_in c.args.repo.now c.args.path.now blob p.state.last p.state.hosted).effects)) (sym c.self.view_is)
+    (subst (λ (t : Turn). FitWhereTold (g.K.Records.tables c.args.records.now) (recorded t.effects)) (put-turn w c.args.repo.now c.args.path.now c.args.draft blob among named) c.requires.items)
+
 pub invariant_of-self : goal.invariant_of-self
 invariant_of-self g c =
-    let named = named-so c.args.self.now.settings c.args.repo.now c.args.path.now c.args.draft (shown_parcel c.args.parcel) c.requires in
+    let named = named-so c.args.self.now.settings c.args.repo.now c.args.path.now c.args.draft (shown_parcel c.args.parcel) c.requires.meets in
     let used = put-used c.self.inside.yard.kept c.args.repo.now c.args.path.now c.args.draft c.self.inside.last (shown_parcel c.args.parcel) (shown_put c.put-outcome.result) c.self.inside.repos.items c.self.invariant.blobs named in
     record {
       moment = c.self.invariant.moment;
@@ -28,9 +59,10 @@ invariant_of-self g c =
       rules = ap rules_of c.put-outcome.ensures.rows ∙ rules-kept c.args.repo.now _ c.self.inside.repos.items ∙ c.self.invariant.rules;
     }
 
-pub returns : goal.returns
-returns g c =
+pub returns-clause-turn : goal.returns-clause-turn
+returns-clause-turn g c =
     let among : is_among c.args.draft c.self.inside.yard.yard.drafts ≡ true = cc in
+    let named = named-so c.args.self.now.settings c.args.repo.now c.args.path.now c.args.draft (shown_parcel c.args.parcel) c.requires.meets in
+    let did = c.put-outcome.ensures in
     rw (c.reply_of.ensures, ← c.self.view_is)
-    (turned-put _ c.args.repo.now c.args.path.now c.args.draft (shown_parcel c.args.parcel) _ (shown_put c.put-outcome.result) refl refl among
-    (named-so c.args.self.now.settings c.args.repo.now c.args.path.now c.args.draft (shown_parcel c.args.parcel) c.requires) c.put-outcome.ensures.reply (rw (c.put-outcome.ensures.rows, c.settle.ensures)))
+    (recorded-put _ c.args.repo.now c.args.path.now c.args.draft (shown_parcel c.args.parcel) among _ (shown_put c.put-outcome.result) _ _ _ _ refl refl named did.reply did.asked (rw (did.rows, c.settle.ensures)) did.tables did.cause)

@@ -1,17 +1,26 @@
-use Rattle.std.proofs.Common.{sym, ap, ◌∙◌, subst}
+use Rattle.std.proofs.Common.{Err, sym, ap, ◌∙◌, subst}
 use Rattle.std.specs.Prelude.{IsTrue}
+use Rattle.hosted_repo.specs.Recording.{FitWhereTold}
 use Rattle.repo_model.specs.Command.{meets, unlist}
+use Rattle.repo_model.specs.Effect.{recorded}
+use Rattle.repo_model.specs.State.{hosted_of}
+use Rattle.repo_model.specs.Turn.{unlist_of}
 use Rattle.repo_core.specs.Hosted.{AreInUse, rules_of}
+use Rattle.repo_core.specs.Whole.{Parts}
 use Rattle.repo_core.proofs.HostedLemmas.{rule-there, rules-kept}
-use Rattle.repo_core.proofs.PurgeTurns.{turned-unlisted, unlist-without}
+use Rattle.repo_core.proofs.PurgeTurns.{unlist-done, unlist-failed, unlist-without}
 use Rattle.repo_core.proofs.UseLemmas.{unlisted-used}
 use Rattle.repo_core.proofs.machine.Machine.unlist.Goals as goal
-use Rattle.repo_core.proofs.machine.Machine.unlist.Goals.{in-Ok, in-Err}
+use Rattle.repo_core.proofs.machine.Machine.unlist.Goals.{in-Ok, in-Err-StoreFault, in-Err-NoMemory}
 
-pub unlist-requires : goal.unlist-requires
-unlist-requires g c =
-    let there = subst (λ w. IsTrue (meets w.settings (unlist c.args.repo.now))) (sym c.self.view_is) c.requires in
+pub unlist-requires-clause-there : goal.unlist-requires-clause-there
+unlist-requires-clause-there g c =
+    let there = subst (λ (w : Parts). IsTrue (meets w.settings (unlist c.args.repo.now))) (sym c.self.view_is) c.requires.meets in
     rule-there c.args.repo.now c.self.inside.repos.items (rw c.self.invariant.rules there)
+
+pub unlist-requires-clause-fits : goal.unlist-requires-clause-fits
+unlist-requires-clause-fits g c =
+    subst (λ (w : Parts). FitWhereTold (g.K.Records.tables c.args.records.now) (recorded (unlist_of w.state.last (hosted_of c.args.repo.now w.state)).effects)) (sym c.self.view_is) c.requires.items
 
 pub invariant_of-self : goal.invariant_of-self
 invariant_of-self g c =
@@ -23,17 +32,34 @@ invariant_of-self g c =
         blobs = subst (AreInUse kept) (sym w.in-Ok.ensures.rows) (unlisted-used kept c.args.repo.now c.self.inside.last items c.self.invariant.blobs);
         rules = ap rules_of w.in-Ok.ensures.rows ∙ rules-kept c.args.repo.now _ items ∙ c.self.invariant.rules;
       }
-      | in-Err w ↦ record {
+      | in-Err-StoreFault w ↦ record {
         moment = c.self.invariant.moment;
-        blobs = subst (AreInUse kept) (sym w.in-Err.ensures.err) c.self.invariant.blobs;
-        rules = ap rules_of w.in-Err.ensures.err ∙ c.self.invariant.rules;
+        blobs = subst (AreInUse kept) (sym w.in-Err-StoreFault.ensures.err) c.self.invariant.blobs;
+        rules = ap rules_of w.in-Err-StoreFault.ensures.err ∙ c.self.invariant.rules;
+      }
+      | in-Err-NoMemory w ↦ record {
+        moment = c.self.invariant.moment;
+        blobs = subst (AreInUse kept) (sym w.in-Err-NoMemory.ensures.err) c.self.invariant.blobs;
+        rules = ap rules_of w.in-Err-NoMemory.ensures.err ∙ c.self.invariant.rules;
       }
     ]
 
-pub returns : goal.returns
-returns g c =
+pub returns-clause-turn : goal.returns-clause-turn
+returns-clause-turn g c =
     let hosted = c.unlist.new.repos.items in
+    let told = g.K.Records.tables c.args.records.now in
+    let told' = g.K.Records.tables c.unlist.new.records in
+    let before = g.K.Records.faults c.args.records.now in
+    let later = g.K.Records.faults c.unlist.new.records in
     elim c.match-unlist.branch [
-      | in-Ok w ↦ rw (← c.self.view_is, w.result-is) (turned-unlisted _ c.args.repo.now w.in-Ok.count hosted w.in-Ok.ensures.count w.in-Ok.ensures.rows)
-      | in-Err w ↦ rw (← c.self.view_is, w.result-is) (unlist-without _ c.args.repo.now hosted w.in-Err.ensures.err)
+      | in-Ok w ↦
+          let did = w.in-Ok.ensures in
+          rw (← c.self.view_is, w.result-is) (unlist-done _ c.args.repo.now hosted told told' before later w.in-Ok.count did.count did.rows did.tables did.cause)
+      | in-Err-StoreFault w ↦
+          let did = w.in-Err-StoreFault.ensures in
+          rw (← c.self.view_is, w.result-is)
+          (unlist-failed _ c.args.repo.now hosted told told' before later did.err did.untold (did.asked (ap Err w.in-Err-StoreFault.field-0-is)) (rw w.in-Err-StoreFault.field-0-is at did.cause))
+      | in-Err-NoMemory w ↦
+          let did = w.in-Err-NoMemory.ensures in
+          rw (← c.self.view_is, w.result-is) (unlist-without _ c.args.repo.now hosted told told' before later did.err did.untold (rw w.in-Err-NoMemory.field-0-is at did.cause))
     ]

@@ -1,30 +1,62 @@
-use Rattle.std.proofs.Common.{[], ◌∷◌}
-use Rattle.repo_model.specs.History.{after}
-use Rattle.repo_model.specs.Shown.{entry_of}
+use Rattle.std.proofs.Common.{[], ◌∷◌, subst, sym}
+use Rattle.repo_model.specs.History.{Entry, Fits, after}
+use Rattle.repo_model.specs.Shown.{entry_of, shown_command}
 use Rattle.repo_laws.specs.Laws.{KeepsReleases}
 use Rattle.repo_laws.proofs.Lasting.{releases-last}
+use Rattle.repo_core.specs.Whole.{IsKept, Whole, counting, whole_of}
 use Rattle.repo_core.proofs.AnswerLemmas.{answers}
+use Rattle.repo_core.proofs.KeepLemmas.{may-record, orderly-kept}
+use Rattle.repo_core.proofs.NameLemmas.{named-apart}
 use Rattle.repo_core.proofs.Turning.{kept-more}
 use Rattle.repo_core.proofs.repository.Core.call.Goals as goal
 
 pub call-requires-clause-orderly : goal.call-requires-clause-orderly
-call-requires-clause-orderly g c = record { order = c.self.invariant.sound.order; places = c.self.invariant.sound.places; apart = c.self.invariant.apart }
+call-requires-clause-orderly g c = orderly-kept c.self.inside.machine (g.K.Records.tables c.self.inside.records) (g.K.Records.faults c.self.inside.records) c.self.invariant.kept
+
+pub call-requires-clause-items : goal.call-requires-clause-items
+call-requires-clause-items g c =
+    may-record c.self.inside.machine (g.K.Records.tables c.self.inside.records) (g.K.Records.faults c.self.inside.records) c.self.invariant.kept (shown_command c.args.command) (rw (← c.self.view_is) at c.requires)
 
 pub invariant_of-self : goal.invariant_of-self
 invariant_of-self g c =
-    kept-more c.self.inside.machine c.call.new.self (entry_of c.args.command c.call.new.self.state.last c.call.result 0) c.self.invariant c.call.ensures.fits c.call.ensures.after c.call.ensures.settings
+    let faults = g.K.Records.faults c.call.new.records in
+    let old : Whole = whole_of c.self.inside.machine (g.K.Records.tables c.self.inside.records) (g.K.Records.faults c.self.inside.records) in
+    let new : Whole = whole_of c.call.new.self (g.K.Records.tables c.call.new.records) faults in
+    record {
+      kept = kept-more old new (entry_of c.args.command c.call.new.self.state.last c.call.result faults) c.self.invariant.kept c.call.ensures.fits c.call.ensures.after c.call.ensures.settings c.call.ensures.tables;
+      ready = c.call.ensures.ready;
+    }
+
+pub returns-clause-fits : goal.returns-clause-fits
+returns-clause-fits g c =
+    subst (λ (w : Whole). Fits w.settings w.state (entry_of c.args.command c.call.new.self.state.last c.call.result (g.K.Records.faults c.call.new.records))) c.self.view_is c.call.ensures.fits
+
+pub returns-clause-holds : goal.returns-clause-holds
+returns-clause-holds g c = λ t told.
+    let faults = g.K.Records.faults c.call.new.records in
+    let old : Whole = whole_of c.self.inside.machine (g.K.Records.tables c.self.inside.records) (g.K.Records.faults c.self.inside.records) in
+    let new : Whole = whole_of c.call.new.self (g.K.Records.tables c.call.new.records) faults in
+    let kept : IsKept new = kept-more old new (entry_of c.args.command c.call.new.self.state.last c.call.result faults) c.self.invariant.kept c.call.ensures.fits c.call.ensures.after c.call.ensures.settings c.call.ensures.tables in
+    (kept.told t told).holds
 
 pub returns-clause-answer : goal.returns-clause-answer
 returns-clause-answer g c =
-    rw (← c.self.view_is) (answers c.self.inside.machine.settings c.self.inside.machine.state c.self.invariant.sound (entry_of c.args.command c.call.new.self.state.last c.call.result 0) c.call.ensures.fits)
+    let old : Whole = whole_of c.self.inside.machine (g.K.Records.tables c.self.inside.records) (g.K.Records.faults c.self.inside.records) in
+    let e : Entry = entry_of c.args.command c.call.new.self.state.last c.call.result (g.K.Records.faults c.call.new.records) in
+    rw (← c.self.view_is) (answers old.settings old.state c.self.invariant.kept.sound e c.call.ensures.fits)
 
 pub returns-clause-releases : goal.returns-clause-releases
 returns-clause-releases g c =
-    let old = c.self.inside.machine in
-    let e = entry_of c.args.command c.call.new.self.state.last c.call.result 0 in
-    let kept : KeepsReleases old.state (after old.settings old.state e) = releases-last old.settings c.self.invariant.apart (e ∷ []) old.state c.self.invariant.sound.order c.self.invariant.sound.fading (c.call.ensures.fits, tt) in
-    rw (← c.self.view_is, c.call.ensures.after) kept
+    let old : Whole = whole_of c.self.inside.machine (g.K.Records.tables c.self.inside.records) (g.K.Records.faults c.self.inside.records) in
+    let e : Entry = entry_of c.args.command c.call.new.self.state.last c.call.result (g.K.Records.faults c.call.new.records) in
+    let sound = c.self.invariant.kept.sound in
+    let kept : KeepsReleases old.state (after old.settings old.state e) =
+    releases-last old.settings (named-apart old.settings c.self.invariant.kept.form) (e ∷ []) old.state sound.order sound.fading (c.call.ensures.fits, tt) in
+    subst (λ (w : Whole). KeepsReleases w.state (counting (g.K.Records.faults c.call.new.records) c.call.new.self.state)) c.self.view_is (subst (KeepsReleases old.state) (sym c.call.ensures.after) kept)
 
 pub returns-clause-sound : goal.returns-clause-sound
 returns-clause-sound g c =
-    (kept-more c.self.inside.machine c.call.new.self (entry_of c.args.command c.call.new.self.state.last c.call.result 0) c.self.invariant c.call.ensures.fits c.call.ensures.after c.call.ensures.settings).sound
+    let faults = g.K.Records.faults c.call.new.records in
+    let old : Whole = whole_of c.self.inside.machine (g.K.Records.tables c.self.inside.records) (g.K.Records.faults c.self.inside.records) in
+    let new : Whole = whole_of c.call.new.self (g.K.Records.tables c.call.new.records) faults in
+    (kept-more old new (entry_of c.args.command c.call.new.self.state.last c.call.result faults) c.self.invariant.kept c.call.ensures.fits c.call.ensures.after c.call.ensures.settings c.call.ensures.tables).sound

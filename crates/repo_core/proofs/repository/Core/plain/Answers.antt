@@ -1,16 +1,10 @@
-use Rattle.std.proofs.Common.{sym, ap, ◌∙◌, subst}
-use Rattle.repo_model.specs.State.{opening}
-use Rattle.repo_laws.specs.Sound.{IsSound, AreNamedApart}
-use Rattle.repo_laws.proofs.Keeping.{opens-sound}
-use Rattle.repo_core.proofs.NameLemmas.{named-apart}
+use Rattle.repo_core.proofs.KeepLemmas.{opens-kept}
 use Rattle.repo_core.proofs.repository.Core.plain.Goals as goal
 
 pub invariant_of-result : goal.invariant_of-result
-invariant_of-result g c =
-    let w = c.in-Ok.machine in
-    let told = c.in-Ok.ensures in
-    let clock = g.C.Clock.moments c.args.clock in
-    record {
-      sound = subst (IsSound w.settings) (sym (told.state ∙ ap (λ s. opening s clock) (sym told.settings))) (opens-sound w.settings clock);
-      apart = subst (λ s. AreNamedApart s.hosted) (sym told.settings) (named-apart c.args.settings c.form.ensures);
-    }
+invariant_of-result g c = record {
+  kept =
+      opens-kept c.args.settings (g.C.Clock.moments c.args.clock) (g.K.Records.faults c.args.records) c.in-Ok.machine (g.K.Records.tables c.args.records) c.in-Ok.ensures.settings c.in-Ok.ensures.state c.form.ensures
+      c.requires.empty;
+  ready = c.requires.ready;
+}

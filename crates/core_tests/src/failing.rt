@@ -1,0 +1,76 @@
+// Records that fail: the command is answered so, nothing but the moment is changed, and the next call goes on.
+use crate::bench::{ALL_KINDS, Ask, Bench};
+use crate::purges::{DOCUMENT, FIRST, OF_BOTH, OF_SECOND, SECOND};
+use crate::said::{ABC, Said};
+use outside_memory::ScriptClock;
+use std::process::Abort;
+use std::test::Fail;
+
+const JAR: &str = "org/acme/lib/1.0/lib-1.0.jar";
+
+// The answers over records of which one commit fails, and how many items are recorded in the end.
+fn follow(
+    rt: &impl Abort,
+    mut bench: Bench,
+    steps: &[(Ask, Said)],
+    recorded: usize,
+) -> Result<(), Fail> {
+    bench.follow(rt, steps)?;
+    let (records, _) = bench.core.end();
+    assert_eq!(rt; records.items().len(), recorded);
+    Ok(())
+}
+
+static OF_A_PUT: [(Ask, Said); 7] = [
+    (Ask::MayPut("releases", JAR), Said::Draft(1)),
+    (Ask::Put("releases", JAR, 1, b"abc"), Said::StoreFault),
+    (Ask::Look("releases", JAR), Said::Missed),
+    (Ask::Status, Said::Counts([0, 0, 0, 0, 0])),
+    // its draft is still one
+    (Ask::Put("releases", JAR, 1, b"abc"), Said::Created),
+    (Ask::Look("releases", JAR), Said::File(1, 1, ABC)),
+    (Ask::Status, Said::Counts([1, 0, 0, 0, 0])),
+];
+
+#[test]
+fn a_put_that_is_not_recorded_makes_no_row(rt: HostRuntime) -> Result<(), Fail> {
+    let alloc = rt.alloc();
+    let failing = Vec::from_slice(alloc, &[0])?;
+    let clock = ScriptClock::stepping(alloc, 1000, 1);
+    let bench = Bench::over(alloc, ALL_KINDS, failing, clock)?;
+    follow(&rt, bench, &OF_A_PUT, 1)
+}
+
+static OF_A_PURGE: [(Ask, Said); 18] = [
+    (Ask::MayPut("snapshots", FIRST), Said::Draft(1)),
+    (Ask::Put("snapshots", FIRST, 1, b"abc"), Said::Created),
+    (Ask::MayPut("snapshots", SECOND), Said::Draft(2)),
+    (Ask::Put("snapshots", SECOND, 2, b"a"), Said::Created),
+    // the third commit fails
+    (Ask::Unlist("snapshots"), Said::StoreFault),
+    (Ask::Look("snapshots", DOCUMENT), Said::Document(OF_BOTH)),
+    (Ask::Unlist("snapshots"), Said::Unlisted(1)),
+    (Ask::Look("snapshots", DOCUMENT), Said::Document(OF_SECOND)),
+    // the fifth
+    (Ask::MayPut("snapshots", FIRST), Said::Draft(3)),
+    (Ask::Put("snapshots", FIRST, 3, b"abc"), Said::StoreFault),
+    (Ask::Look("snapshots", DOCUMENT), Said::Document(OF_SECOND)),
+    (Ask::Status, Said::Counts([2, 1, 0, 0, 0])),
+    (Ask::Drop(3), Said::Dropped),
+    // the sixth
+    (Ask::Collect, Said::StoreFault),
+    (Ask::Status, Said::Counts([2, 1, 0, 0, 0])),
+    (Ask::Collect, Said::Collected(1, &[1, 3])),
+    (Ask::Status, Said::Counts([1, 0, 0, 0, 0])),
+    (Ask::Look("snapshots", FIRST), Said::Missed),
+];
+
+#[test]
+fn a_purge_that_is_not_recorded_takes_nothing_away(rt: HostRuntime) -> Result<(), Fail> {
+    let alloc = rt.alloc();
+    let failing = Vec::from_slice(alloc, &[2, 4, 5])?;
+    // moments that lie far apart, so that the grace period is soon over
+    let clock = ScriptClock::stepping(alloc, 1000, 100);
+    let bench = Bench::over(alloc, ALL_KINDS, failing, clock)?;
+    follow(&rt, bench, &OF_A_PURGE, 4)
+}

@@ -1,0 +1,28 @@
+use Rattle.std.proofs.Common.{[], ◌∷◌, sym, subst}
+use Rattle.repo_model.specs.Data as plain
+use Rattle.repo_model.specs.declared.item.Item.TheVariants.{HostedPut}
+use Rattle.repo_model.specs.Effect.{new_row}
+use Rattle.repo_model.specs.Shown.{shown_parcel, shown_print}
+use Rattle.hosted_repo.specs.Recording.{FitWhereTold}
+use Rattle.hosted_repo.specs.Rows.{AreFiles, shown_rows}
+use Rattle.hosted_repo.proofs.FormLemmas.{files-more, from-both, puts-change}
+use Rattle.hosted_repo.proofs.hosted.Hosted.create.Goals as goal
+
+pub create-requires-clause-change : goal.create-requires-clause-change
+create-requires-clause-change g c =
+    puts-change c.self.inside.rule.id c.self.invariant.named c.args.path.now c.args.parcel.blob (shown_print c.args.parcel) c.args.now c.requires.path c.requires.blob c.requires.length
+    c.sizes.ensures.sha1 c.sizes.ensures.md5 c.requires.moment
+
+pub create-requires-clause-fits : goal.create-requires-clause-fits
+create-requires-clause-fits g c =
+    subst (λ (h : plain.Hosted). FitWhereTold (g.K.Records.tables c.args.records.now) (HostedPut h.rule.id c.args.path.now c.args.parcel.blob (shown_print c.args.parcel) c.args.now ∷ [])) (sym c.self.view_is) c.requires.fits
+
+pub invariant_of-self : goal.invariant_of-self
+invariant_of-self g c =
+    let old = shown_rows c.self.inside.rows.entries in
+    record {
+      named = c.self.invariant.named;
+      files = from-both c.create.result c.create.ensures.ok c.create.ensures.err
+          (λ made. subst AreFiles (sym made) (files-more (new_row c.args.path.now (shown_parcel c.args.parcel) c.args.now) old c.requires.path c.self.invariant.files))
+          (λ same. subst AreFiles (sym same) c.self.invariant.files);
+    }

@@ -1,0 +1,23 @@
+use Rattle.std.proofs.Common.{[], ◌∷◌, sym, subst}
+use Rattle.repo_model.specs.Data as plain
+use Rattle.repo_model.specs.declared.item.Item.TheVariants.{Relisted}
+use Rattle.hosted_repo.specs.Recording.{FitWhereTold}
+use Rattle.hosted_repo.specs.Rows.{AreFiles, shown_rows}
+use Rattle.hosted_repo.proofs.FormLemmas.{files-again, from-both, relists-change}
+use Rattle.hosted_repo.proofs.hosted.Hosted.relist.Goals as goal
+
+pub relist-requires-clause-change : goal.relist-requires-clause-change
+relist-requires-clause-change g c = relists-change c.self.inside.rule.id c.self.invariant.named c.args.path.now c.args.now c.requires.path c.requires.moment
+
+pub relist-requires-clause-fits : goal.relist-requires-clause-fits
+relist-requires-clause-fits g c =
+    subst (λ (h : plain.Hosted). FitWhereTold (g.K.Records.tables c.args.records.now) (Relisted h.rule.id c.args.path.now c.args.now ∷ [])) (sym c.self.view_is) c.requires.fits
+
+pub invariant_of-self : goal.invariant_of-self
+invariant_of-self g c =
+    let old = shown_rows c.self.inside.rows.entries in
+    record {
+      named = c.self.invariant.named;
+      files = from-both c.relist.result c.relist.ensures.ok c.relist.ensures.err
+          (λ made. subst AreFiles (sym made) (files-again c.args.path.now c.args.now old c.self.invariant.files)) (λ same. subst AreFiles (sym same) c.self.invariant.files);
+    }
