@@ -1,5 +1,5 @@
 -- Rows in the entries of an ordered map.
-use Rattle.std.proofs.Common.{◌≡◌, ℕ, Bool, true, false, cond, List, [], ◌∷◌, Option, Some, None, option_map, String, Global, string_bytes, Bor, Ordering, Less, Equal, Greater, is_eq, nat_cmp, refl, sym, ◌∙◌, ap, bytes_eq}
+use Rattle.std.proofs.Common.{◌≡◌, ℕ, Bool, true, false, cond, List, [], ◌∷◌, Option, Some, None, option_map, String, Global, string_bytes, Bor, Ordering, Less, Equal, Greater, is_eq, nat_cmp, refl, sym, ◌∙◌, ap, subst, bytes_eq}
 use Rattle.std.proofs.lemmas.Map.Text.{is_eq-slice_cmp}
 use Rattle.std.proofs.lemmas.Slice.Eq.{bytes_eq-Decides}
 use Rattle.std.proofs.lemmas.Bool.{false_from_ne_true, both_ways}
@@ -114,7 +114,7 @@ at_itself k = same_test (string_bytes k) (string_bytes k) ∙ (bytes_eq-Decides 
 
 module _ {X : Type 0} {G : Ghosts X} where
   -- what a new entry at a path that had none is found as, and what is left once it is taken out again
-  pub found_new : (k : String Global) (v : Row X G) (es : List (String Global × Row X G)) → row_at (string_bytes k) (shown_rows es) ≡ None
+  found_new : (k : String Global) (v : Row X G) (es : List (String Global × Row X G)) → row_at (string_bytes k) (shown_rows es) ≡ None
       → lookup (at_text (string_bytes k)) (insert_entry string_cmp es k v) ≡ Some v
   found_new k v [] none = rw (at_itself k) refl
   found_new k v (e ∷ es) none =
@@ -130,7 +130,7 @@ module _ {X : Type 0} {G : Ghosts X} where
             ∙ found_new k v es (sym (ap (λ b. cond b (Some (shown_entry e)) (row_at (string_bytes k) (shown_rows es))) (here Greater h)) ∙ none)
       ] refl
 
-  pub undone : (k : String Global) (v : Row X G) (es : List (String Global × Row X G)) → row_at (string_bytes k) (shown_rows es) ≡ None
+  undone : (k : String Global) (v : Row X G) (es : List (String Global × Row X G)) → row_at (string_bytes k) (shown_rows es) ≡ None
       → remove_entry (at_text (string_bytes k)) (insert_entry string_cmp es k v) ≡ es
   undone k v [] none = rw (at_itself k) refl
   undone k v (e ∷ es) none =
@@ -145,3 +145,16 @@ module _ {X : Type 0} {G : Ghosts X} where
             ap (λ b. cond b (insert_entry string_cmp es k v) (e ∷ remove_entry (at_text (string_bytes k)) (insert_entry string_cmp es k v))) (ap is_eq h)
             ∙ ap (λ rest. e ∷ rest) (undone k v es (sym (ap (λ b. cond b (Some (shown_entry e)) (row_at (string_bytes k) (shown_rows es))) (here Greater h)) ∙ none))
       ] refl
+
+module _ {X : Type 0} {G : Ghosts X} (path : List ℕ) (k : String Global) (v : Row X G) (es after : List (String Global × Row X G)) (is : string_bytes k ≡ path) (made : after ≡ insert_entry string_cmp es k v)
+    (none : row_at path (shown_rows es) ≡ None) where
+  -- the same at the entries that a map has after the new one
+  pub held : lookup (at_text path) after ≡ Some v
+  held =
+      ap (lookup (at_text path)) made
+      ∙ subst (λ (p : List ℕ). row_at p (shown_rows es) ≡ None → lookup (at_text p) (insert_entry string_cmp es k v) ≡ Some v) is (found_new k v es) none
+
+  pub put_back : remove_entry (at_text path) after ≡ es
+  put_back =
+      ap (remove_entry (at_text path)) made
+      ∙ subst (λ (p : List ℕ). row_at p (shown_rows es) ≡ None → remove_entry (at_text p) (insert_entry string_cmp es k v) ≡ es) is (undone k v es) none

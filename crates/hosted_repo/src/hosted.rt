@@ -267,7 +267,7 @@ impl<H: Held> Hosted<H> {
         ensures unchanged { OnErr result (change.new ≡ change.old) }
         ensures untaken { OnErr result (blobs.new.items ≡ blobs.old.items) }
     {
-        let most = MOST_ROWS.saturating_sub(change.len()) as u64;
+        let most = MOST_ROWS.saturating_sub(change.items().len()) as u64;
         let gone = purge::expired_rows(self.alloc, &self.rows, now.saturating_sub(grace), most)?;
         purge::add_gone(self.alloc, &self.rule.id, &gone, change, blobs)
     }
