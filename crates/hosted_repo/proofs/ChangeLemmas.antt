@@ -53,31 +53,31 @@ module _ (repo path : List ℕ) (named : is_id repo ≡ true) (file : is_file_pa
       let rest = print_bytes print ++ to_be_bytes w64 accepted in
       let tail = to_be_bytes w64 blob ++ rest in
       record {
-        form = and_from named (and_from file (and_from number (and_from is moment)));
+        form = and_from _ _ named (and_from _ _ file (and_from _ _ number (and_from _ _ is moment)));
         size = omega (arith, length-append (place_bytes repo path) tail, length-append (to_be_bytes w64 blob) rest, length-append (print_bytes print) (to_be_bytes w64 accepted), place-size repo path, print-size print sha1 md5, id-size repo named, short-file path file);
       }
 
   pub fade-short : (moment : ℕ) → is_moment moment ≡ true → IsShort (Faded repo path moment)
   fade-short moment is = record {
-    form = and_from named (and_from file is);
+    form = and_from _ _ named (and_from _ _ file is);
     size = omega (arith, length-append (place_bytes repo path) (to_be_bytes w64 moment), place-size repo path, id-size repo named, short-file path file);
   }
 
   pub relist-short : (moment : ℕ) → is_moment moment ≡ true → IsShort (Relisted repo path moment)
   relist-short moment is = record {
-    form = and_from named (and_from file is);
+    form = and_from _ _ named (and_from _ _ file is);
     size = omega (arith, length-append (place_bytes repo path) (to_be_bytes w64 moment), place-size repo path, id-size repo named, short-file path file);
   }
 
   pub removed-short : IsShort (Removed repo path)
   removed-short = record {
-    form = and_from named file;
+    form = and_from _ _ named file;
     size = omega (arith, place-size repo path, id-size repo named, short-file path file);
   }
 
 all-form : (items : List Item) → AllByRecursion IsShort items → list_all is_item items ≡ true
 all-form [] all = refl
-all-form (item ∷ items) all = and_from all.0.form (all-form items all.1)
+all-form (item ∷ items) all = and_from (is_item item) (list_all is_item items) all.0.form (all-form items all.1)
 
 all-size : (items : List Item) → AllByRecursion IsShort items → length (flat_map item_bytes items) ≤ 1153 * length items
 all-size [] all = omega arith

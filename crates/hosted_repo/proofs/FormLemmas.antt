@@ -1,6 +1,6 @@
 -- Rows at paths of files: they stay so, and what is recorded of them makes a change.
 use native.Mathlib.Omega.{arith}
-use Rattle.std.proofs.Common.{◌≡◌, ℕ, ◌+◌, ◌-◌, ◌<◌, ◌≤◌, ◌^◌, Bool, true, false, cond, List, [], ◌∷◌, ◌++◌, length, map, take, zero, suc, refl, sym, ap, ◌∙◌, subst, leb, length-append}
+use Rattle.std.proofs.Common.{◌≡◌, ℕ, ◌+◌, ◌-◌, ◌<◌, ◌≤◌, ◌^◌, Bool, true, false, cond, ◌&&◌, List, [], ◌∷◌, ◌++◌, length, map, take, zero, suc, refl, sym, ap, ◌∙◌, subst, leb, length-append}
 use Rattle.std.specs.Prelude.{filter, IsTrue, OnErr, OnOk, Result, Ok, Err}
 use Rattle.std.specs.List.{AllByRecursion, list_all}
 use Rattle.std.specs.Ordering.{match_ordering, nat_cmp}
@@ -29,7 +29,7 @@ IsFileRow row = IsTrue (is_file_path row.path)
 -- what holds of all holds of those that pass a test, and of the first ones
 all-filter : {X : Type 0} (P : X → Type 0) (test : X → Bool) (xs : List X) → AllByRecursion P xs → AllByRecursion P (filter test xs)
 all-filter P test [] all = tt
-all-filter {X} P test (x ∷ xs) all = elim (test x) as (λ b. AllByRecursion P (cond b (x ∷ filter test xs) (filter test xs))) [ true ↦ (all.0, all-filter {X} P test xs all.1) | false ↦ all-filter {X} P test xs all.1 ]
+all-filter P test (x ∷ xs) all = elim (test x) as (λ b. AllByRecursion P (cond b (x ∷ filter test xs) (filter test xs))) [ true ↦ (all.0, all-filter P test xs all.1) | false ↦ all-filter P test xs all.1 ]
 
 all-take : {X : Type 0} (P : X → Type 0) (n : ℕ) (xs : List X) → AllByRecursion P xs → AllByRecursion P (take n xs)
 all-take P zero xs all = tt
@@ -87,7 +87,7 @@ module _ (id : List ℕ) (named : is_id id ≡ true) where
   pub puts-change : (path : List ℕ) (blob : ℕ) (print : Print) (now : ℕ) → is_file_path path ≡ true → is_number blob ≡ true → print.length < number_end → length print.digests.sha1 ≡ 20
       → length print.digests.md5 ≡ 16 → now ≤ latest_moment → IsChange (HostedPut id path blob print now ∷ [])
   puts-change path blob print now file number short sha1 md5 late =
-      let is : is_print print ≡ true = and_from (le-leb print.length 9223372036854775807 (omega (arith, short))) (and_from (eq-eqb (length print.digests.sha1) 20 sha1) (eq-eqb (length print.digests.md5) 16 md5)) in
+      let is : is_print print ≡ true = and_from _ _ (le-leb print.length 9223372036854775807 (omega (arith, short))) (and_from _ _ (eq-eqb (length print.digests.sha1) 20 sha1) (eq-eqb (length print.digests.md5) 16 md5)) in
       change-of (HostedPut id path blob print now ∷ []) (put-short id path named file blob print now number is sha1 md5 (moment-so now late), tt) (omega arith)
 
   pub relists-change : (path : List ℕ) (now : ℕ) → is_file_path path ≡ true → now ≤ latest_moment → IsChange (Relisted id path now ∷ [])
@@ -104,9 +104,10 @@ module _ (id : List ℕ) (named : is_id id ≡ true) where
 -- the rows of a repository that fade are a change
 pub fades-change : (h : plain.Hosted) (now : ℕ) → is_id h.rule.id ≡ true → AreFiles h.rows → now ≤ latest_moment → IsChange (recorded (fade_all h now))
 fades-change h now named files late =
+    let test : plain.Row → Bool = λ row. is_listed row.phase && is_due_at h.rule now h.rows (file_at row.path) in
     let due = due_rows h.rule now h.rows in
-    let due-files : AreFiles due = all-take IsFileRow most_rows _ (all-filter IsFileRow _ h.rows files) in
-    let few : length due ≤ most_rows = omega (arith, length-take most_rows (filter _ h.rows)) in
+    let due-files : AreFiles due = all-take IsFileRow most_rows (filter test h.rows) (all-filter IsFileRow test h.rows files) in
+    let few : length due ≤ most_rows = omega (arith, length-take most_rows (filter test h.rows)) in
     change-of (recorded (fade_all h now)) (fading-short h.rule.id named now late due due-files) (omega (arith, fading-count h.rule.id named now due, few))
 
 -- removals of their form are short

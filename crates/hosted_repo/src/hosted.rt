@@ -28,7 +28,7 @@ use crate::put::{Put, Returned, Standing};
 use crate::row::Row;
 use crate::rule::Rule;
 use crate::seen::Seen;
-use crate::{NoMemory, documents, looks, purge, rows, storing};
+use crate::{NoMemory, changes, documents, looks, purge, rows, storing};
 use mvn_coords::{Dir, Kind};
 use mvn_metadata::Doc;
 use outside::{Held, Parcel};
@@ -162,6 +162,7 @@ impl<H: Held> Hosted<H> {
         ensures ready { K.ready records.new }
         ensures parcel { GivesBack result parcel }
     {
+        changes::sizes(&parcel.digests);
         let id = &self.rule.id;
         match storing::create(self.alloc, &mut self.rows, records, id, path, parcel, now) {
             Ok(()) => Put::Created,

@@ -1,4 +1,4 @@
-use Rattle.std.proofs.Common.{◌≡◌, ℕ, IfOk, OnOk, List, length, refl, sym, ap, ◌∙◌, subst}
+use Rattle.std.proofs.Common.{◌≡◌, ℕ, IfOk, OnOk, List, Result, length, sym, ap, ◌∙◌, subst}
 use Rattle.std.proofs.lemmas.Result.{on_err_weaker, on_ok_weaker}
 use Rattle.mvn_coords.specs.Kind.{kind}
 use Rattle.repo_model.specs.Data as plain
@@ -38,16 +38,19 @@ returns-clause-count g c =
 abbrev with : plain.Hosted → List plain.Row → plain.Hosted
 with h rows = record { rule = h.rule; rows = rows }
 
+with_rows : {T E : Type 0} (r : Result T E) (h k : plain.Hosted) (rows : List plain.Row) (now : ℕ) → h ≡ k → OnOk r (rows ≡ rows_after_all (fade_all h now) h.rows)
+    → OnOk r (with h rows ≡ with k (rows_after_all (fade_all k now) k.rows))
+with_rows r h k rows now same told =
+    on_ok_weaker r (λ (made : rows ≡ rows_after_all (fade_all h now) h.rows). ap (with h) made ∙ ap (λ (x : plain.Hosted). with x (rows_after_all (fade_all x now) x.rows)) same) told
+
 pub returns-clause-rows : goal.returns-clause-rows
 returns-clause-rows g c =
-    let h = hosted_of c.self.inside.rule c.self.inside.rows.entries in
-    on_ok_weaker c.unlist_rows.result
-    (λ made. ap (with h) made ∙ ap (λ (k : plain.Hosted). with k (rows_after_all (fade_all k c.args.now) k.rows)) c.self.view_is) c.unlist_rows.ensures.rows
+    with_rows c.unlist_rows.result (hosted_of c.self.inside.rule c.self.inside.rows.entries) c.args.self.now (shown_rows c.unlist_rows.new.rows.entries) c.args.now c.self.view_is c.unlist_rows.ensures.rows
 
 pub returns-clause-tables : goal.returns-clause-tables
 returns-clause-tables g c =
-    on_ok_weaker c.unlist_rows.result
-    (λ told. told ∙ ap (λ (k : plain.Hosted). tables_with (recorded (fade_all k c.args.now)) (g.K.Records.tables c.args.records.now)) c.self.view_is) c.unlist_rows.ensures.tables
+    subst (λ (k : plain.Hosted). OnOk c.unlist_rows.result (g.K.Records.tables c.unlist_rows.new.records ≡ tables_with (recorded (fade_all k c.args.now)) (g.K.Records.tables c.args.records.now)))
+    c.self.view_is c.unlist_rows.ensures.tables
 
 pub returns-clause-err : goal.returns-clause-err
 returns-clause-err g c =

@@ -1,0 +1,61 @@
+use Rattle.std.proofs.Common.{◌≡◌, ℕ, true, false, cond, List, [], ◌∷◌, Option, Some, None, refl, sym, ap, ◌∙◌, subst}
+use Rattle.repo_model.specs.Data as plain
+use Rattle.repo_model.specs.Data.{is_same_print}
+use Rattle.repo_model.specs.declared.item.Item.TheVariants.{Relisted}
+use Rattle.repo_model.specs.declared.print.Print.{Print}
+use Rattle.repo_model.specs.Effect.{drops, recorded}
+use Rattle.repo_model.specs.Reply.{taken}
+use Rattle.repo_model.specs.Shown.{shown_parcel, shown_print}
+use Rattle.repo_model.specs.State.{row_at}
+use Rattle.repo_model.specs.Turn.{Turn, put_again, put_at}
+use Rattle.hosted_repo.specs.Puts.{standing, standing_by}
+use Rattle.hosted_repo.specs.Recording.{FitWhereTold}
+use Rattle.hosted_repo.specs.Rows.{shown_rows}
+use Rattle.hosted_repo.specs.declared.put.Standing.TheVariants as stands
+use Rattle.hosted_repo.proofs.hosted.Hosted.put.Goals as goal
+
+phase-free : (p : plain.Phase) → standing_by p ≡ stands.Free → ⊥
+phase-free plain.listed e = cc
+phase-free (plain.fading since) e = cc
+
+no_row : (sent : Print) (o : Option plain.Row) → standing sent o ≡ stands.Free → o ≡ None
+no_row sent None e = refl
+no_row sent (Some row) e =
+    elim (is_same_print row.blob.print sent) as (λ b. cond b (standing_by row.phase) (stands.Other row.blob.print) ≡ stands.Free → Some row ≡ None) [
+      | true ↦ λ h. absurd (phase-free row.phase h)
+      | false ↦ λ h. cc
+    ] e
+
+again : (repo path : List ℕ) (n now : ℕ) (p : plain.Phase) → standing_by p ≡ stands.Unlisted → recorded (put_again repo path n now p).effects ≡ Relisted repo path now ∷ []
+again repo path n now plain.listed e = cc
+again repo path n now (plain.fading since) e = refl
+
+is_again : (repo path : List ℕ) (n now : ℕ) (blob : plain.Blob) (o : Option plain.Row) → standing blob.print o ≡ stands.Unlisted
+    → recorded (put_at repo path n blob now o).effects ≡ Relisted repo path now ∷ []
+is_again repo path n now blob None e = cc
+is_again repo path n now blob (Some row) e =
+    let other : Turn = record { reply = taken row.blob.print blob.print; effects = drops n ∷ [] } in
+    elim (is_same_print row.blob.print blob.print)
+    as (λ b. cond b (standing_by row.phase) (stands.Other row.blob.print) ≡ stands.Unlisted → recorded (cond b (put_again repo path n now row.phase) other).effects ≡ Relisted repo path now ∷ []) [
+      | true ↦ λ h. again repo path n now row.phase h
+      | false ↦ λ h. cc
+    ] e
+
+pub create-requires-clause-fits : goal.create-requires-clause-fits
+create-requires-clause-fits g c =
+    let path = c.args.path.now in
+    let blob = shown_parcel c.args.parcel in
+    let old = c.args.self.now in
+    let rows = shown_rows c.self.inside.rows.entries in
+    let free = ap (λ (k : plain.Hosted). standing blob.print (row_at path k.rows)) (sym c.self.view_is) ∙ ap (λ (s : Print). standing s (row_at path rows)) (sym c.print_of.ensures) ∙ sym c.standing.ensures ∙ c.in-Free.is in
+    subst (λ (o : Option plain.Row). FitWhereTold (g.K.Records.tables c.args.records.now) (recorded (put_at old.rule.id path blob.number blob c.args.now o).effects))
+    (no_row blob.print (row_at path old.rows) free) c.requires.fits
+
+pub relist-requires-clause-fits : goal.relist-requires-clause-fits
+relist-requires-clause-fits g c =
+    let path = c.args.path.now in
+    let blob = shown_parcel c.args.parcel in
+    let old = c.args.self.now in
+    let rows = shown_rows c.self.inside.rows.entries in
+    let faded = ap (λ (k : plain.Hosted). standing blob.print (row_at path k.rows)) (sym c.self.view_is) ∙ ap (λ (s : Print). standing s (row_at path rows)) (sym c.print_of.ensures) ∙ sym c.standing.ensures ∙ c.in-Unlisted.is in
+    subst (FitWhereTold (g.K.Records.tables c.args.records.now)) (is_again old.rule.id path blob.number c.args.now blob (row_at path old.rows) faded) c.requires.fits
