@@ -1,18 +1,16 @@
 -- What a turn records makes a change: each item has its form, and together they have fewer than 2^32 bytes.
 use native.Mathlib.Omega.{arith}
-use Rattle.std.proofs.Common.{◌≡◌, ℕ, ◌+◌, ◌*◌, ◌<◌, ◌≤◌, ◌^◌, Bool, true, false, cond, ◌&&◌, List, [], ◌∷◌, ◌++◌, length, map, take, Option, Some, None, refl, sym, ap, ◌∙◌, subst, eqb, ltb, leb, length-append}
-use Rattle.std.specs.Prelude.{IsTrue, is_some, filter}
+use Rattle.std.proofs.Common.{◌≡◌, ℕ, ◌+◌, ◌*◌, ◌≤◌, true, false, List, [], ◌∷◌, ◌++◌, length, refl, sym, ap, ◌∙◌, eqb, ltb, leb, length-append}
+use Rattle.std.specs.Prelude.{is_some}
 use Rattle.std.specs.Int.{w16, w32, w64, to_be_bytes}
 use Rattle.std.specs.List.{AllByRecursion, flat_map, list_all}
-use Rattle.std.proofs.lemmas.Bool.{and_from, and_parts, false≢true, ltb-true, ltb-false, leb-true, lt-ltb, le-leb, eqb-true}
-use Rattle.mvn_coords.specs.Kind.{kind}
+use Rattle.std.proofs.lemmas.Bool.{and_from, and_parts, false≢true, ltb-false, leb-true, eqb-true}
 use Rattle.mvn_coords.proofs.Judged.{kind_long}
 use Rattle.repo_model.specs.declared.item.Item.{Item}
 use Rattle.repo_model.specs.declared.item.Item.TheVariants.{HostedPut, Faded, Relisted, Removed}
 use Rattle.repo_model.specs.declared.print.Print.{Print}
-use Rattle.repo_model.specs.Effect.{Effect, recorded}
-use Rattle.repo_model.specs.Paths.{file_at, file_in}
-use Rattle.row_tables.specs.Items.{IsChange, change_bytes, is_count, is_file_path, is_id, is_item, is_moment, is_number, is_print, item_bytes, place_bytes, print_bytes, text_bytes}
+use Rattle.repo_model.specs.Paths.{file_in}
+use Rattle.row_tables.specs.Items.{IsChange, is_file_path, is_id, is_item, is_moment, is_number, is_print, item_bytes, place_bytes, print_bytes, text_bytes}
 
 -- a path of a file has at most 1,024 bytes
 pub short-file : (path : List ℕ) → is_file_path path ≡ true → length path ≤ 1024

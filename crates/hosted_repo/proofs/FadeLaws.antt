@@ -1,5 +1,5 @@
 -- What stays as it was where rows fade.
-use Rattle.std.proofs.Common.{◌≡◌, ℕ, zero, suc, true, false, cond, List, [], ◌∷◌, map, filter, take, Option, Some, None, Result, Ok, Err, option_map, String, Global, string_bytes, bytes_eq, refl, sym, ap, ◌∙◌}
+use Rattle.std.proofs.Common.{◌≡◌, ℕ, zero, suc, true, false, cond, List, [], ◌∷◌, map, filter, take, Option, Some, None, Result, Ok, Err, option_map, bytes_eq, refl, sym, ap, ◌∙◌}
 use Rattle.std.specs.Prelude.{is_some}
 use Rattle.std.specs.List.{AllByRecursion}
 use Rattle.std.proofs.lemmas.Bool.{and_parts, both_ways, false≢true, false_from_ne_true}
@@ -18,7 +18,7 @@ use Rattle.repo_model.specs.Purge.{due_rows, is_due_at, is_due_build, most_rows}
 use Rattle.repo_model.specs.Settings.{Rule}
 use Rattle.repo_model.specs.State.{change_where, is_row, row_at}
 use Rattle.repo_model.specs.Turn.{Seen, is_file, is_text, or_nothing, seen_at}
-use Rattle.hosted_repo.specs.Dues.{fade_at_paths, is_due_row}
+use Rattle.hosted_repo.specs.Dues.{is_due_row}
 use Rattle.hosted_repo.specs.Rows.{rows_after_all}
 use Rattle.hosted_repo.specs.Seens.{is_of_document}
 

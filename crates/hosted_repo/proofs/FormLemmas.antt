@@ -1,6 +1,6 @@
 -- Rows at paths of files: they stay so, and what is recorded of them makes a change.
 use native.Mathlib.Omega.{arith}
-use Rattle.std.proofs.Common.{◌≡◌, ℕ, ◌+◌, ◌-◌, ◌<◌, ◌≤◌, ◌^◌, Bool, true, false, cond, ◌&&◌, List, [], ◌∷◌, ◌++◌, length, map, take, zero, suc, refl, sym, ap, ◌∙◌, subst, leb, length-append}
+use Rattle.std.proofs.Common.{◌≡◌, ℕ, ◌-◌, ◌<◌, ◌≤◌, Bool, true, false, cond, ◌&&◌, List, [], ◌∷◌, ◌++◌, length, map, take, zero, suc, refl, sym, ap, subst, leb, length-append}
 use Rattle.std.specs.Prelude.{filter, IsTrue, OnErr, OnOk, Result, Ok, Err}
 use Rattle.std.specs.List.{AllByRecursion, list_all}
 use Rattle.std.specs.Ordering.{match_ordering, nat_cmp}
@@ -13,7 +13,7 @@ use Rattle.repo_model.specs.declared.item.Item.{Item}
 use Rattle.repo_model.specs.declared.print.Print.{Print}
 use Rattle.repo_model.specs.declared.item.Item.TheVariants.{HostedPut, Faded, Relisted, Removed, CachedFile, CachedDoc, SessionOpened, SessionEnded}
 use Rattle.repo_model.specs.Document.{is_listed}
-use Rattle.repo_model.specs.Effect.{Effect, expires, fade, fades, items_of, list_again, recorded, with_row}
+use Rattle.repo_model.specs.Effect.{Effect, expires, fade, fades, list_again, recorded, with_row}
 use Rattle.repo_model.specs.History.{latest_moment}
 use Rattle.repo_model.specs.Paths.{file_at}
 use Rattle.repo_model.specs.Purge.{due_rows, expired_of, fade_all, is_due_at, is_over, most_rows}

@@ -15,11 +15,10 @@ use std::alloc::Global;
 use texts::Text;
 
 /// The digests of a content have 20 and 16 bytes.
-pub fn sizes(digests: &Digests)
-    ensures sha1 { length digests.now.sha1 ≡ 20 }
-    ensures md5 { length digests.now.md5 ≡ 16 }
-{
-}
+pub fn sizes(digests: Digests)
+    ensures sha1 { length digests.sha1 ≡ 20 }
+    ensures md5 { length digests.md5 ≡ 16 }
+{}
 
 // The change of one item.
 fn change_of(alloc: Global, item: Item) -> Result<Change, NoMemory>

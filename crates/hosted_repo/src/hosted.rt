@@ -162,7 +162,7 @@ impl<H: Held> Hosted<H> {
         ensures ready { K.ready records.new }
         ensures parcel { GivesBack result parcel }
     {
-        changes::sizes(&parcel.digests);
+        changes::sizes(parcel.digests);
         let id = &self.rule.id;
         match storing::create(self.alloc, &mut self.rows, records, id, path, parcel, now) {
             Ok(()) => Put::Created,

@@ -3,13 +3,13 @@ use Rattle.std.proofs.lemmas.Bool.{both_ways, eq-eqb}
 use Rattle.std.proofs.lemmas.List.{length-map, nil_from_length}
 use Rattle.repo_model.specs.Data as plain
 use Rattle.repo_model.specs.Effect.{Effect, fades, recorded}
-use Rattle.repo_model.specs.Purge.{due_rows, fade_all}
+use Rattle.repo_model.specs.Purge.{due_rows}
 use Rattle.repo_model.specs.Tables.{Tables}
 use Rattle.row_tables.specs.Commits.{tables_with}
 use Rattle.row_tables.specs.Items.{IsChange}
 use Rattle.hosted_repo.specs.Dues.{fade_at_paths}
 use Rattle.hosted_repo.specs.Recording.{FitWhereTold}
-use Rattle.hosted_repo.specs.Rows.{hosted_of, rows_after_all, shown_rows}
+use Rattle.hosted_repo.specs.Rows.{rows_after_all, shown_rows}
 use Rattle.hosted_repo.specs.Rules.{shown_rule}
 use Rattle.hosted_repo.proofs.DueLemmas.{faded}
 use Rattle.hosted_repo.proofs.purge.unlist_rows.Goals as goal

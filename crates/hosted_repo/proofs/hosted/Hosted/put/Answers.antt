@@ -5,7 +5,7 @@ use Rattle.repo_model.specs.declared.item.Item.TheVariants.{Relisted}
 use Rattle.repo_model.specs.declared.print.Print.{Print}
 use Rattle.repo_model.specs.Effect.{drops, recorded}
 use Rattle.repo_model.specs.Reply.{taken}
-use Rattle.repo_model.specs.Shown.{shown_parcel, shown_print}
+use Rattle.repo_model.specs.Shown.{shown_parcel}
 use Rattle.repo_model.specs.State.{row_at}
 use Rattle.repo_model.specs.Turn.{Turn, put_again, put_at}
 use Rattle.hosted_repo.specs.Puts.{standing, standing_by}

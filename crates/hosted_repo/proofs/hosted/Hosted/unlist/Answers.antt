@@ -9,7 +9,6 @@ use Rattle.repo_model.specs.Turn.{seen_at}
 use Rattle.row_tables.specs.Commits.{tables_with}
 use Rattle.hosted_repo.specs.Recording.{FitWhereTold}
 use Rattle.hosted_repo.specs.Rows.{AreFiles, hosted_of, rows_after_all, shown_rows}
-use Rattle.hosted_repo.specs.Rules.{shown_rule}
 use Rattle.hosted_repo.proofs.FadeLaws.{answered_alike, releases_kept}
 use Rattle.hosted_repo.proofs.FormLemmas.{fades-change, files-faded, from-both}
 use Rattle.hosted_repo.proofs.hosted.Hosted.unlist.Goals as goal
