@@ -3,6 +3,7 @@ pub mod Dues
 pub mod Expired
 pub mod Puts
 pub mod Recording
+pub mod Restored
 pub mod Rows
 pub mod Rules
 pub mod Seens

@@ -1,5 +1,5 @@
 //! A hosted repository.
-ghost use Rattle.std.specs.Prelude.{◌≡◌, ◌≢◌, ◌<◌, ◌≤◌, ◌-◌, ◌⊎◌, ◌∷◌, ◌++◌, [], if◌then◌else◌, min, IfOk, OnOk, OnErr, IsTrue, ℕ, List, true, false, length, count_by, map, take, string_bytes};
+ghost use Rattle.std.specs.Prelude.{◌≡◌, ◌≢◌, ◌<◌, ◌≤◌, ◌-◌, ◌⊎◌, ◌∷◌, ◌++◌, [], if◌then◌else◌, min, None, IfErr, IfOk, OnOk, OnErr, IsTrue, ℕ, List, true, false, length, count_by, map, take, string_bytes};
 ghost use Rattle.std.specs.List.{AllByRecursion};
 ghost use Rattle.std.specs.Option.{option_map};
 ghost use Rattle.mvn_coords.specs.Kind.{kind};
@@ -18,6 +18,7 @@ ghost use Rattle.row_tables.specs.Items.{is_file_path, is_id, is_number};
 ghost use Rattle.hosted_repo.specs.Expired.{blob_of};
 ghost use Rattle.hosted_repo.specs.Recording.{FitWhereTold, HasKeptCause, HasReplyCause, IsRemoved};
 ghost use Rattle.hosted_repo.specs.Rules.{shown_rule};
+ghost use Rattle.hosted_repo.specs.Restored.{kept_row};
 ghost use Rattle.hosted_repo.specs.Rows.{fades, shown_at, rows_after_all};
 ghost use Rattle.hosted_repo.specs.Puts.{shown_put, put_turn, GivesBack};
 ghost use Rattle.hosted_repo.specs.Seens.{shown_seen, is_of_document};
@@ -25,7 +26,7 @@ ghost use Rattle.hosted_repo.specs.Seens.{shown_seen, is_of_document};
 use crate::kept::Kept;
 use crate::purge::MOST_ROWS;
 use crate::put::{Put, Returned, Standing};
-use crate::row::Row;
+use crate::row::{Phase, Row};
 use crate::rule::Rule;
 use crate::seen::Seen;
 use crate::{NoMemory, changes, documents, looks, purge, rows, storing};
@@ -200,6 +201,30 @@ impl<H: Held> Hosted<H> {
             Err(Kept::StoreFault) => Put::StoreFault(parcel),
             Err(Kept::NoMemory) => Put::NoMemory(parcel),
         }
+    }
+
+    /// Takes up a row that is recorded, as it was kept: so a repository starts. Nothing is recorded anew. Where memory is wanting
+    /// the parcel comes back and nothing is changed.
+    pub fn restore(
+        &mut self,
+        path: &str,
+        parcel: Parcel<H>,
+        accepted: u64,
+        phase: Phase,
+    ) -> Result<(), Parcel<H>>
+        requires path { IsTrue (is_file_path path.now) }
+        requires free { row_at path.now self.old.rows ≡ None }
+        requires moment { accepted ≤ latest_moment }
+        ensures ok { OnOk result (self.new ≡ record self.old { rows = with_row (kept_row path.now (shown_parcel parcel) accepted phase) self.old.rows }) }
+        ensures err { OnErr result (self.new ≡ self.old) }
+        ensures back { IfErr result (λ back. back ≡ parcel) }
+    {
+        let row = Row {
+            parcel,
+            accepted,
+            phase,
+        };
+        rows::add(self.alloc, &mut self.rows, path, row)
     }
 
     /// The document of a directory, from its visible rows; none where there are none.

@@ -1,11 +1,11 @@
 //! Rows in an ordered map from path to row.
-ghost use Rattle.std.specs.Prelude.{◌≡◌, ◌≤◌, count_by, not};
+ghost use Rattle.std.specs.Prelude.{◌≡◌, ◌≤◌, None, OnErr, OnOk, IfErr, count_by, not};
 ghost use Rattle.std.specs.List.Sorted.{IsStrictlySortedBy};
 ghost use Rattle.std.specs.Map.{keys_of};
 ghost use Rattle.std.specs.Option.{option_map};
 ghost use Rattle.std.specs.String.{string_cmp};
 ghost use Rattle.repo_model.specs.State.{row_at, change_where, is_row};
-ghost use Rattle.repo_model.specs.Effect.{list_again, fade};
+ghost use Rattle.repo_model.specs.Effect.{list_again, fade, with_row};
 ghost use Rattle.repo_model.specs.Document.{is_listed};
 ghost use Rattle.repo_model.specs.History.{latest_moment};
 ghost use Rattle.repo_model.specs.Shown.{shown_print};
@@ -16,6 +16,7 @@ use crate::put::Standing;
 use crate::row::{Phase, Row};
 use outside::{Held, Parcel};
 use repo_model::Print;
+use std::alloc::Global;
 use std::collections::BTreeMap;
 
 /// Rows by path, in byte order.
@@ -52,6 +53,27 @@ pub fn standing<H: Held>(rows: &BTreeMap<String, Row<H>>, path: &str, sent: Prin
     match row.phase {
         Phase::Listed => Standing::Same,
         Phase::Fading(_) => Standing::Unlisted,
+    }
+}
+
+/// Adds a row at a path that has none. Where memory is wanting its parcel comes back.
+pub fn add<H: Held>(
+    alloc: Global,
+    rows: &mut BTreeMap<String, Row<H>>,
+    path: &str,
+    row: Row<H>,
+) -> Result<(), Parcel<H>>
+    requires { row_at path.now (shown_rows rows.old.entries) ≡ None }
+    ensures ok { OnOk result (shown_rows rows.new.entries ≡ with_row (shown_at path.now row) (shown_rows rows.old.entries)) }
+    ensures err { OnErr result (shown_rows rows.new.entries ≡ shown_rows rows.old.entries) }
+    ensures back { IfErr result (λ parcel. parcel ≡ row.parcel) }
+{
+    let Ok(path) = String::from_str(alloc, path) else {
+        return Err(row.parcel);
+    };
+    match rows.insert(path, row) {
+        Ok(_) => Ok(()),
+        Err(failed) => Err(failed.value.1.parcel),
     }
 }
 

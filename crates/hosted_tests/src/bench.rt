@@ -4,7 +4,7 @@ ghost use Rattle.row_tables.specs.Items.{is_file_path, is_id};
 ghost use Rattle.repo_model.specs.History.{latest_moment};
 
 use crate::records::CountedRecords;
-use hosted_repo::{Hosted, Kept, Put, Rule, Seen};
+use hosted_repo::{Hosted, Kept, Phase, Put, Rule, Seen};
 use mvn_coords::{Dir, Kind, kind_of};
 use mvn_digest::Hashes;
 use outside::{Blobs, Parcel};
@@ -133,6 +133,26 @@ impl Bench {
             return Did::Unfit;
         }
         did_of(self.repo.put(&mut self.records, path, parcel, now))
+    }
+
+    /// Takes bytes up at a path that has none, as the next blob; whether that was done.
+    pub fn restore(
+        &mut self,
+        path: &str,
+        bytes: &[u8],
+        accepted: u64,
+        phase: Phase,
+    ) -> Result<bool, Fail>
+        requires { accepted ≤ latest_moment }
+    {
+        let parcel = self.parcel(bytes)?;
+        if !is_file(path) {
+            return Ok(false);
+        }
+        match self.repo.row(path) {
+            Some(_) => Ok(false),
+            None => Ok(self.repo.restore(path, parcel, accepted, phase).is_ok()),
+        }
     }
 
     /// Unlists the rows that are to fade at a moment.

@@ -1,7 +1,7 @@
 // Files put at paths, and what looks give of them.
 use crate::bench::{Bench, Did};
 use crate::records::Kind;
-use hosted_repo::Kept;
+use hosted_repo::{Kept, Phase};
 use std::test::Fail;
 
 const JAR: &str = "org/acme/lib/1.0/lib-1.0.jar";
@@ -117,5 +117,20 @@ fn what_is_not_recorded_stays(rt: HostRuntime) -> Result<(), Fail> {
     assert_eq!(rt; bench.put_at(BUILD, 2_010)?, Did::Relisted(4));
     assert_eq!(rt; bench.records.last, Some(Kind::Relisted));
     assert_eq!(rt; bench.repo.counts(), (2, 0));
+    Ok(())
+}
+
+#[test]
+fn what_was_recorded_is_taken_up(rt: HostRuntime) -> Result<(), Fail> {
+    let mut bench = Bench::kept(rt.alloc(), 1, 0)?;
+    assert!(rt; bench.restore(NEXT, b"abc", 1_010, Phase::Listed)?);
+    assert!(rt; bench.restore(BUILD, b"abc", 1_000, Phase::Fading(2_000))?);
+    assert!(rt; bench.restore(JAR, b"", 1_005, Phase::Listed)?);
+    assert_eq!(rt; bench.repo.counts(), (3, 1));
+    assert_eq!(rt; bench.records.changes, 0);
+    bench.expect_file(&rt, JAR, E, F)?;
+    bench.expect_file(&rt, BUILD, A, B)?;
+    assert_eq!(rt; bench.put(JAR, b"")?, Did::Same(4));
+    assert_eq!(rt; bench.put_at(BUILD, 2_010)?, Did::Relisted(5));
     Ok(())
 }
