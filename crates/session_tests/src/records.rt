@@ -27,7 +27,9 @@ impl CountedRecords {
         }
     }
 
-    fn note(&mut self, item: &Item) {
+    fn note(&mut self, item: &Item)
+        ensures { self.new.faults ≡ self.old.faults }
+    {
         match item {
             Item::SessionOpened(number) => self.opened = *number,
             Item::SessionEnded { session, .. } => self.ended = *session,
