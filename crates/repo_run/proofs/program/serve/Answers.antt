@@ -1,5 +1,5 @@
 -- The repository opens empty, serves the first desk's first connection, and the line tells how it ended.
-use Rattle.std.proofs.Common.{ℕ, ◌<◌, subst}
+use Rattle.std.proofs.Common.{ℕ, ◌<◌, subst, sym}
 use Rattle.repo_course.specs.Serving.{AllTell}
 use Rattle.repo_course.specs.Cleaning.{store}
 use Rattle.repo_run.specs.Replay.{ServesWith, ReportsFirst}
@@ -17,15 +17,15 @@ returns g c =
     first-set c.args.desks.items first last
     (λ old new. ServesWith (AllTell g.B.Held.Held.bytes) c.args.settings.now
     (λ link. connection (g.P.Link.Tells.left link) (g.P.Link.Tells.taken link) (g.P.Link.Tells.read_faults link) (g.P.Link.Tells.write_faults link))
-    (g.C.Clock.moments c.args.clock) (g.C.Clock.moments c.end-clock.result)
+    (g.C.Clock.moments c.args.clock) (g.C.Clock.moments c.end-clock.result.1)
     (desk_state (g.P.Port.left old.port) (g.P.Port.given_back old.port) (g.P.Port.faults old.port) (store (g.B.Blobs.shelf old.blobs) (g.B.Blobs.faults old.blobs)))
     (desk_state (g.P.Port.left new.port) (g.P.Port.given_back new.port) (g.P.Port.faults new.port) (store (g.B.Blobs.shelf new.blobs) (g.B.Blobs.faults new.blobs)))
     out out' c.report_first-status.result)
     (subst (λ (n : ℕ). 0 < n) c.args.desks.ok.0 c.requires) c.index_mut.ensures.value
     (replays (AllTell g.B.Held.Held.bytes) c.args.settings.now c.form.ensures
     (λ link. connection (g.P.Link.Tells.left link) (g.P.Link.Tells.taken link) (g.P.Link.Tells.read_faults link) (g.P.Link.Tells.write_faults link))
-    (g.C.Clock.moments c.args.clock) (g.C.Clock.moments c.end-clock.result)
+    (g.C.Clock.moments c.args.clock) (g.C.Clock.moments c.end-clock.result.1)
     (desk_state (g.P.Port.left first.port) (g.P.Port.given_back first.port) (g.P.Port.faults first.port) (store (g.B.Blobs.shelf first.blobs) (g.B.Blobs.faults first.blobs)))
     (desk_state (g.P.Port.left last.port) (g.P.Port.given_back last.port) (g.P.Port.faults last.port) (store (g.B.Blobs.shelf last.blobs) (g.B.Blobs.faults last.blobs)))
     out out' c.report_first-status.result c.in-Ok.core c.serve_first-ended.new.core c.serve_first-ended.result c.in-Ok.ensures.ok c.serve_first-ended.ensures
-    c.end-clock.ensures (subst (λ (n : ℕ). ReportsFirst c.serve_first-ended.result n out out' c.report_first-status.result) c.calls.ensures c.report_first-status.ensures))
+    c.end-clock.ensures.clock (sym c.end-clock.ensures.faults) (subst (λ (n : ℕ). ReportsFirst c.serve_first-ended.result n out out' c.report_first-status.result) c.calls.ensures c.report_first-status.ensures))
