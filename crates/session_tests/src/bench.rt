@@ -108,6 +108,25 @@ impl Bench {
         gone_of(&self.sessions.abort(&mut self.records, session))
     }
 
+    /// Whether a session is open, and for this repository.
+    pub fn is_for(&self, session: u64, repo: &str) -> bool {
+        match self.sessions.opened(session) {
+            Some((found, _)) => found == repo,
+            None => false,
+        }
+    }
+
+    /// The blobs of an open session, in its files' order.
+    pub fn blobs(&self, alloc: Global, session: u64) -> Result<Vec<u64>, Fail> {
+        let mut numbers = Vec::new(alloc);
+        if let Some((_, files)) = self.sessions.opened(session) {
+            for (_, parcel) in files {
+                numbers.push(parcel.blob)?;
+            }
+        }
+        Ok(numbers)
+    }
+
     /// How many files an open session has.
     pub fn files(&self, session: u64) -> Option<usize> {
         let (_, files) = self.sessions.opened(session)?;

@@ -13,12 +13,8 @@ fn numbers_rise_from_one(rt: HostRuntime) -> Result<(), Fail> {
     assert_eq!(rt; bench.records.opened, 2);
     assert_eq!(rt; bench.records.changes, 2);
     assert_eq!(rt; bench.sessions.count(), 2);
-    let (repo, files) = match bench.sessions.opened(2) {
-        Some(lent) => lent,
-        None => Err("not open")?,
-    };
-    assert_eq!(rt; repo.as_bytes(), b"releases".as_slice());
-    assert_eq!(rt; files.len(), 0);
+    assert!(rt; bench.is_for(2, "releases"));
+    assert_eq!(rt; bench.files(2), Some(0));
     assert!(rt; bench.sessions.opened(3).is_none());
     assert!(rt; bench.sessions.opened(0).is_none());
     Ok(())

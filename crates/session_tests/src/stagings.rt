@@ -68,14 +68,7 @@ fn they_stand_in_byte_order(rt: HostRuntime) -> Result<(), Fail> {
     bench.begin_as(&rt, 1);
     assert_eq!(rt; bench.stage(1, POM, b"a")?, Stage::Staged);
     assert_eq!(rt; bench.stage(1, JAR, b"abc")?, Stage::Staged);
-    let (_, files) = match bench.sessions.opened(1) {
-        Some(lent) => lent,
-        None => Err("not open")?,
-    };
-    let mut numbers = Vec::new(rt.alloc());
-    for (_, parcel) in files {
-        numbers.push(parcel.blob)?;
-    }
+    let numbers = bench.blobs(rt.alloc(), 1)?;
     assert_eq!(rt; numbers.as_slice(), [2, 1].as_slice());
     Ok(())
 }
