@@ -1,9 +1,9 @@
 -- The rows of hosted repositories, and what putting a blob does to them.
-use Rattle.std.specs.Prelude.{ℕ, Bool, true, List, [], map, find, Option, is_some, bytes_eq}
+use Rattle.std.specs.Prelude.{ℕ, List, [], map, find, Option}
 use Rattle.std.specs.Option.{option_map_or}
 use Rattle.std.specs.List.{AllByRecursion}
 use Rattle.std.specs.Prelude.{IsTrue}
-use Rattle.repo_model.specs.Data.{Blob, Row, Hosted, Place, repository, session}
+use Rattle.repo_model.specs.Data.{Blob, Row, Hosted}
 use Rattle.repo_model.specs.Settings.{Rule}
 use Rattle.repo_model.specs.State.{change_first, change_where, is_among, is_repository, is_row, row_at}
 use Rattle.repo_model.specs.Effect.{with_row, new_row, list_again}
@@ -13,11 +13,6 @@ use Rattle.repo_model.specs.Turn.{Turn, put_at}
 -- what the repositories take
 abbrev pub rules_of : List Hosted → List Rule
 rules_of hosted = map (λ h. h.rule) hosted
-
--- whether a place is a repository of these rules, or a session
-abbrev pub is_place_among : List Rule → Place → Bool
-is_place_among rules (repository id) = is_some (find (λ rule. bytes_eq rule.id id) rules)
-is_place_among rules (session n) = true
 
 -- the rows of a repository; none where there is no such repository
 abbrev pub rows_in : List ℕ → List Hosted → List Row
