@@ -308,7 +308,13 @@ fn rows_go_after_the_grace(rt: HostRuntime) -> Result<(), Fail> {
 fn the_first_rows_go(rt: HostRuntime) -> Result<(), Fail> {
     let mut bench = three(&rt, rt.alloc(), [0, 0])?;
     assert_eq!(rt; bench.unlist(2_000)?, 3);
-    expect_expiring(&rt, rt.alloc(), &bench, 2_061, &[(JAR_1, 2), (POM_2, 3), (JAR_3, 1)])?;
+    expect_expiring(
+        &rt,
+        rt.alloc(),
+        &bench,
+        2_061,
+        &[(JAR_1, 2), (POM_2, 3), (JAR_3, 1)],
+    )?;
     bench.repo.drop_expired(60, 2_061, 2);
     expect_expiring(&rt, rt.alloc(), &bench, 2_061, &[(JAR_3, 1)])?;
     Ok(())
