@@ -74,3 +74,21 @@ fn a_purge_that_is_not_recorded_takes_nothing_away(rt: HostRuntime) -> Result<()
     let bench = Bench::over(alloc, ALL_KINDS, failing, clock)?;
     follow(&rt, bench, &OF_A_PURGE, 4)
 }
+
+static OF_NOTHING: [(Ask, Said); 5] = [
+    (Ask::MayPut("releases", JAR), Said::Draft(1)),
+    (Ask::Drop(1), Said::Dropped),
+    // no row has expired, and yet it is the first commit
+    (Ask::Collect, Said::StoreFault),
+    (Ask::Collect, Said::Collected(0, &[1])),
+    (Ask::Collect, Said::Collected(0, &[])),
+];
+
+#[test]
+fn garbage_is_given_out_behind_a_commit_alone(rt: HostRuntime) -> Result<(), Fail> {
+    let alloc = rt.alloc();
+    let failing = Vec::from_slice(alloc, &[0])?;
+    let clock = ScriptClock::stepping(alloc, 1000, 1);
+    let bench = Bench::over(alloc, ALL_KINDS, failing, clock)?;
+    follow(&rt, bench, &OF_NOTHING, 0)
+}
