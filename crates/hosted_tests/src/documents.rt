@@ -146,17 +146,17 @@ fn neighbours_stay_out(rt: HostRuntime) -> Result<(), Fail> {
 }
 
 static DEEP: [&str; 4] = [
-    "org/acme/deep/lib/1.1-SNAPSHOT/c/1/c-1.jar",
-    "org/acme/deep/lib/1.1-SNAPSHOT/lib-1.1-20240229.235959-1.jar",
-    "org/acme/deep/lib/1.1-SNAPSHOT/z/1/z-1.jar",
-    "org/acme/deep/lib/1.1-SNAPSHOT-x/lib-1.1-SNAPSHOT-x.jar",
+    "org/acme/deep/lib/2-SNAPSHOT/c/1/c-1.jar",
+    "org/acme/deep/lib/2-SNAPSHOT/lib-2-20240229.235959-1.jar",
+    "org/acme/deep/lib/2-SNAPSHOT/z/1/z-1.jar",
+    "org/acme/deep/lib/2-SNAPSHOT-x/lib-2-SNAPSHOT-x.jar",
 ];
 
 const OF_DEEP: &str = "<?xml version=\"1.0\" encoding=\"UTF-8\"?>
 <metadata modelVersion=\"1.1.0\">
   <groupId>org.acme.deep</groupId>
   <artifactId>lib</artifactId>
-  <version>1.1-SNAPSHOT</version>
+  <version>2-SNAPSHOT</version>
   <versioning>
     <snapshot>
       <timestamp>20240229.235959</timestamp>
@@ -166,7 +166,7 @@ const OF_DEEP: &str = "<?xml version=\"1.0\" encoding=\"UTF-8\"?>
     <snapshotVersions>
       <snapshotVersion>
         <extension>jar</extension>
-        <value>1.1-20240229.235959-1</value>
+        <value>2-20240229.235959-1</value>
         <updated>20240229235959</updated>
       </snapshotVersion>
     </snapshotVersions>
@@ -174,9 +174,9 @@ const OF_DEEP: &str = "<?xml version=\"1.0\" encoding=\"UTF-8\"?>
 </metadata>
 ";
 
-const DEEP_SHA1: &[u8] = b"678c9dbbe89f831c027c790034be45b971ae5a49";
+const DEEP_SHA1: &[u8] = b"78df468bcef0f9f6bd913fbb379be90ce39c26ac";
 
-const DEEP_MD5: &[u8] = b"3cba8f77adcfd0e51884062fc5adb0ce";
+const DEEP_MD5: &[u8] = b"d5ee6c49372606166c946d312ec2efcb";
 
 #[test]
 fn deeper_directories_stay_out(rt: HostRuntime) -> Result<(), Fail> {
@@ -184,18 +184,18 @@ fn deeper_directories_stay_out(rt: HostRuntime) -> Result<(), Fail> {
     bench.fill(&rt, &DEEP)?;
     bench.expect_document(
         &rt,
-        "org/acme/deep/lib/1.1-SNAPSHOT/maven-metadata.xml",
+        "org/acme/deep/lib/2-SNAPSHOT/maven-metadata.xml",
         OF_DEEP,
     )?;
     // SHA-1 and MD5 of that text
     bench.expect_side(
         &rt,
-        "org/acme/deep/lib/1.1-SNAPSHOT/maven-metadata.xml.sha1",
+        "org/acme/deep/lib/2-SNAPSHOT/maven-metadata.xml.sha1",
         DEEP_SHA1,
     )?;
     bench.expect_side(
         &rt,
-        "org/acme/deep/lib/1.1-SNAPSHOT/maven-metadata.xml.md5",
+        "org/acme/deep/lib/2-SNAPSHOT/maven-metadata.xml.md5",
         DEEP_MD5,
     )?;
     Ok(())
