@@ -3,6 +3,7 @@ use Rattle.std.specs.Prelude.{◌≡◌, ℕ, List, Result, Ok, Err}
 use Rattle.outside.specs.Faults.{Rose}
 use Rattle.outside_memory.specs.Script.{Script}
 use Rattle.repo_model.specs.declared.item.Item.{Item}
+use Rattle.repo_model.specs.Tables.{Tables}
 use Rattle.row_tables.specs.declared.faults.CommitFault.{CommitFault}
 use Rattle.row_tables.specs.declared.faults.CommitFault.TheVariants as commit
 use Rattle.row_tables.specs.declared.faults.LoadFault.{LoadFault}
@@ -28,6 +29,18 @@ IsRefusal (Err Failed) = ⊥
 IsRefusal (Err NoMemory) = ⊥
 IsRefusal (Err NotOurs) = Unit {0}
 IsRefusal (Err (Row frame at)) = Unit {0}
+
+-- the tables or the refusal that a load gives
+abbrev pub Expected : Type 0
+Expected = Result Tables LoadFault
+
+-- a load gives what is expected, unless it fails or wants memory
+abbrev pub LoadsUnlessFailed : Expected → Result Tables LoadFault → Type 0
+LoadsUnlessFailed expected (Ok t) = expected ≡ Ok t
+LoadsUnlessFailed expected (Err Failed) = Unit {0}
+LoadsUnlessFailed expected (Err NoMemory) = Unit {0}
+LoadsUnlessFailed expected (Err NotOurs) = expected ≡ Err NotOurs
+LoadsUnlessFailed expected (Err (Row frame at)) = expected ≡ Err (Row frame at)
 
 -- records in memory: the items committed, and which calls fail
 pub record MemState : Type 0 where

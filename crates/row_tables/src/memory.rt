@@ -1,4 +1,4 @@
-ghost use Rattle.std.specs.Prelude.{◌≡◌, [], Some, List, ℕ, OnOk, OnErr, IsErrOf, Contains};
+ghost use Rattle.std.specs.Prelude.{◌≡◌, [], Some, Ok, List, ℕ, OnOk, OnErr, IsErrOf, Contains};
 ghost use Rattle.outside.specs.Faults.{HasCause};
 ghost use Rattle.outside_memory.specs.Script.{script_of};
 ghost use Rattle.repo_model.specs.Tables.{no_tables};
@@ -73,6 +73,8 @@ impl Records for MemRecords {
     ghost faults = { λ m. m.script.faults };
 
     ghost tables = { λ m. Some (with_items no_tables m.items) };
+
+    ghost loading = { λ m. Some (Ok (with_items no_tables m.items)) };
 
     ghost ready = { λ _. Unit {0} };
 

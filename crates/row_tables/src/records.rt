@@ -1,10 +1,10 @@
 //! Where changes are recorded.
-ghost use Rattle.std.specs.Prelude.{◌≡◌, ℕ, Option, None, IfOk, IfSome, OnOk, OnErr, Ok};
+ghost use Rattle.std.specs.Prelude.{◌≡◌, ℕ, Bool, false, Option, None, IfOk, IfSome, OnOk, OnErr, Ok};
 ghost use Rattle.std.specs.Option.{ForSome, option_map};
 ghost use Rattle.repo_model.specs.Tables.{Tables as Plain, applied};
 ghost use Rattle.row_tables.specs.Applying.{with_items};
 ghost use Rattle.row_tables.specs.Recorded.{IsBuiltUp};
-ghost use Rattle.row_tables.specs.Records.{HasLoadCause, HasCommitCause, IsRefusal};
+ghost use Rattle.row_tables.specs.Records.{Expected, HasLoadCause, HasCommitCause, IsRefusal, LoadsUnlessFailed};
 
 use crate::change::Change;
 use crate::faults::{CommitFault, LoadFault};
@@ -19,6 +19,12 @@ pub trait Records {
     // What is recorded, where it is told.
     ghost tables: { Self → Option Plain } = { λ _. None };
 
+    // What a load gives that neither fails nor wants memory, where it is told.
+    ghost loading: { Self → Option Expected } = { λ _. None };
+
+    // A change whose commit failed may still be found by a later start.
+    ghost unsettled: { Self → Bool } = { λ _. false };
+
     // The last load has given the tables, so changes may be committed.
     ghost ready: { Self → Type 0 };
 
@@ -28,17 +34,20 @@ pub trait Records {
         ensures cause { HasLoadCause (faults self.old) (faults self.new) result }
         ensures told { IfOk result (λ t. IfSome (tables self.old) (λ told. t ≡ told)) }
         ensures built { IfOk result IsBuiltUp }
+        ensures loads { IfSome (loading self.old) (λ expected. LoadsUnlessFailed expected result) }
         ensures refused { IsRefusal result → tables self.old ≡ None }
         ensures ready { OnOk result (ready self.new) }
+        ensures settled { OnOk result (unsettled self.new ≡ false) }
         ensures same { tables self.new ≡ tables self.old };
 
-    /// Adds a change. At `Ok` it is recorded for good. At an error the tables are as before, and stay so once a later
-    /// commit or load succeeds.
+    /// Adds a change. At `Ok` it is recorded for good, and no change whose commit failed is found any more. At an error the
+    /// tables are as before, and stay so once a later commit or load succeeds.
     fn commit(&mut self, alloc: Global, change: &Change) -> Result<(), CommitFault>
         requires ready { ready self.old }
         requires fits { ForSome (tables self.old) (λ t. applied t change.now ≡ Ok (with_items t change.now)) }
         ensures cause { HasCommitCause (faults self.old) (faults self.new) result }
         ensures ok { OnOk result (tables self.new ≡ option_map (λ t. with_items t change.now) (tables self.old)) }
         ensures err { OnErr result (tables self.new ≡ tables self.old) }
+        ensures settled { OnOk result (unsettled self.new ≡ false) }
         ensures ready { ready self.new };
 }
