@@ -1,5 +1,5 @@
 -- A seat at the turns of a repository, as one who takes commands: its calls as entries of the repository.
-use Rattle.std.specs.Prelude.{◌≡◌, List, ◌++◌, map}
+use Rattle.std.specs.Prelude.{◌≡◌}
 use Rattle.repo_model.specs.Command.{Command}
 use Rattle.repo_model.specs.History.{Entry}
 use Rattle.repo_model.specs.Reply.{Reply}
@@ -8,8 +8,7 @@ use Rattle.repo_model.specs.State.{State}
 use Rattle.turn_lock.specs.declared.view.Entry.{Entry as Call}
 use Rattle.turn_lock.specs.declared.turns.Turns.{Turns}
 use Rattle.turn_lock.specs.declared.seat.SeatToken.{SeatToken as Seat}
-use Rattle.turn_lock.specs.History.{BeginsWith}
-use Rattle.turn_lock.specs.Seats.{IsSeatOf, Gains, number, seen, mine, joined, given, parts_of}
+use Rattle.turn_lock.specs.Seats.{IsSeatOf, Gains, number, joined, given, parts_of}
 use Rattle.turn_seats.specs.Turning.{entry_leaving, IsTurn}
 
 -- how an object and its calls are seen as a repository
@@ -40,14 +39,5 @@ module _ {T C R : Type 0} where
     pub reply : R
     pub gains : Gains old call reply new
     pub entry_is : entry ≡ entry_leaving (sight.asked call) (sight.answered reply) (sight.state gains.1)
-    pub seat : IsSeatOf steps turns new
-    pub stays : Stays old new
-
-  -- many calls of the seat: its own entries gained just these, and what it has seen goes on and is legal
-  pub record Gained (sight : Sight T C R) (steps : T → C → R → T → Type 0) (turns : Turns T C R) (old : Seat C R T) (entries : List Entry) (new : Seat C R T) : Type 0 where
-    pub calls : List (Call C R T)
-    pub mine_are : mine new ≡ mine old ++ calls
-    pub entries_are : entries ≡ map (entry_of sight) calls
-    pub saw : BeginsWith (seen new) (seen old)
     pub seat : IsSeatOf steps turns new
     pub stays : Stays old new

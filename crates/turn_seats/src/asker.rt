@@ -7,6 +7,7 @@ use std::sync::Wait;
 use turn_lock::{Seat, Thing, Turns};
 
 /// A seat with its turns. It waits for its turn, and then asks the object once.
+#[derive(Drop)]
 pub struct Asker<'a, T: Thing, W: Wait> {
     pub rt: &'a W,
     pub turns: &'a Turns<T>,
