@@ -1,0 +1,5 @@
+//! Tests of the connections over TCP, on the loopback interface.
+#![tactic(auto)]
+
+#[cfg(test)]
+mod connections;
