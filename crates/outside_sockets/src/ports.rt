@@ -4,6 +4,7 @@ ghost use Rattle.outside.specs.Faults.{HasCause};
 
 use crate::links::TcpLink;
 use outside::{Failed, Port};
+use outside_pace::Running;
 use std::io::{self, ErrorKind};
 use std::marker::Model;
 use std::net::{Ipv4Addr, Net, OpenListener, SocketAddr, SocketAddrV4};
@@ -20,10 +21,12 @@ const NO_ROOM: [i32; 4] = [24, 23, 105, 12];
 ///
 /// Where the port could not be taken, as one that is in use, each `next` fails. Else `next` waits for a connection, also where
 /// one was given up before it was accepted, and where the system has no room for another one now; any other error is a failure.
+/// The first failure tells those who watch the program's ports that this one has ended.
 #[derive(Drop)]
 pub struct TcpPort<R: Net + Clock + Clone + Drop> {
     rt: R,
     listener: Option<R::Listener>,
+    running: Option<Running>,
     faults: u64,
 }
 
@@ -36,8 +39,8 @@ impl<R: Net + Clock + Clone + Drop> Model for TcpPort<R> {
 }
 
 impl<R: Net + Clock + Clone + Drop> TcpPort<R> {
-    /// Takes a port of 127.0.0.1; 0 stands for one that is free.
-    pub fn bind(rt: R, port: u16) -> TcpPort<R>
+    /// Takes a port of 127.0.0.1; 0 stands for one that is free. `running` counts it among the program's ports.
+    pub fn bind(rt: R, port: u16, running: Running) -> TcpPort<R>
         ensures { result ≡ 0 }
     {
         let address = SocketAddr::V4(SocketAddrV4::new(Ipv4Addr::LOCALHOST, port));
@@ -45,12 +48,13 @@ impl<R: Net + Clock + Clone + Drop> TcpPort<R> {
         TcpPort {
             rt,
             listener,
+            running: Some(running),
             faults: 0,
         }
     }
 
     /// The same listener for one worker more, which takes its own connections from it.
-    pub fn twin(&self, rt: R) -> TcpPort<R>
+    pub fn twin(&self, rt: R, running: Running) -> TcpPort<R>
         ensures { result ≡ 0 }
     {
         let listener = match &self.listener {
@@ -60,6 +64,7 @@ impl<R: Net + Clock + Clone + Drop> TcpPort<R> {
         TcpPort {
             rt,
             listener,
+            running: Some(running),
             faults: 0,
         }
     }
@@ -134,6 +139,9 @@ impl<R: Net + Clock + Clone + Drop> Port for TcpPort<R> {
         match accepted {
             Ok(link) => Ok(Some(link)),
             Err(Failed) => {
+                if let Some(running) = self.running.take() {
+                    running.end_one();
+                }
                 self.faults = self.faults.saturating_add(1);
                 Err(Failed)
             }

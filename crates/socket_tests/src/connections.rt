@@ -1,4 +1,5 @@
 use outside::{Port, Sink, Source, write_all};
+use outside_pace::Running;
 use outside_sockets::{TcpLink, TcpPort};
 use std::io::{Read, Write};
 use std::net::{Ipv4Addr, Net, SocketAddr, SocketAddrV4};
@@ -25,7 +26,7 @@ fn link_of<R: Net + Clock + Clone + Drop>(
 
 #[test]
 fn bytes_go_both_ways(rt: HostRuntime) -> Result<(), Fail> {
-    let mut port = TcpPort::bind(rt.clone()?, 0);
+    let mut port = TcpPort::bind(rt.clone()?, 0, Running::new(rt.alloc(), 1)?);
     let mut peer = client(&rt, &port)?;
     peer.write_all(HEAD)?;
     let mut link = link_of(&mut port)?;
@@ -54,7 +55,7 @@ fn timed_read<S: Source>(
 // Silence behind an answer is the end, and stays it.
 #[test]
 fn silence_after_an_answer_is_the_end(rt: HostRuntime) -> Result<(), Fail> {
-    let mut port = TcpPort::bind(rt.clone()?, 0);
+    let mut port = TcpPort::bind(rt.clone()?, 0, Running::new(rt.alloc(), 1)?);
     let mut peer = client(&rt, &port)?;
     peer.write_all(HEAD)?;
     let mut link = link_of(&mut port)?;
@@ -75,7 +76,7 @@ fn silence_after_an_answer_is_the_end(rt: HostRuntime) -> Result<(), Fail> {
 // Behind an interim answer the body is waited for.
 #[test]
 fn a_body_may_come_late(rt: HostRuntime) -> Result<(), Fail> {
-    let mut port = TcpPort::bind(rt.clone()?, 0);
+    let mut port = TcpPort::bind(rt.clone()?, 0, Running::new(rt.alloc(), 1)?);
     let mut peer = client(&rt, &port)?;
     peer.write_all(HEAD)?;
     let mut link = link_of(&mut port)?;
@@ -97,7 +98,7 @@ fn a_body_may_come_late(rt: HostRuntime) -> Result<(), Fail> {
 // A connection that never says anything ends.
 #[test]
 fn silence_from_the_first_is_the_end(rt: HostRuntime) -> Result<(), Fail> {
-    let mut port = TcpPort::bind(rt.clone()?, 0);
+    let mut port = TcpPort::bind(rt.clone()?, 0, Running::new(rt.alloc(), 1)?);
     let _peer = client(&rt, &port)?;
     let mut link = link_of(&mut port)?;
     let mut buffer = [0; 64];
@@ -110,7 +111,7 @@ fn silence_from_the_first_is_the_end(rt: HostRuntime) -> Result<(), Fail> {
 // The bytes of a head have ten seconds in all; then a read fails.
 #[test]
 fn a_head_has_its_time(rt: HostRuntime) -> Result<(), Fail> {
-    let mut port = TcpPort::bind(rt.clone()?, 0);
+    let mut port = TcpPort::bind(rt.clone()?, 0, Running::new(rt.alloc(), 1)?);
     let mut peer = client(&rt, &port)?;
     peer.write_all(b"GET / HTTP/1.1\r\nHost: ")?;
     let mut link = link_of(&mut port)?;
@@ -126,7 +127,7 @@ fn a_head_has_its_time(rt: HostRuntime) -> Result<(), Fail> {
 // An answer reaches a client whose body was not read.
 #[test]
 fn a_refusal_reaches_a_client_that_sends(rt: HostRuntime) -> Result<(), Fail> {
-    let mut port = TcpPort::bind(rt.clone()?, 0);
+    let mut port = TcpPort::bind(rt.clone()?, 0, Running::new(rt.alloc(), 1)?);
     let mut peer = client(&rt, &port)?;
     peer.write_all(HEAD)?;
     peer.write_all(&[b'x'; 60_000])?;
@@ -144,11 +145,14 @@ fn a_refusal_reaches_a_client_that_sends(rt: HostRuntime) -> Result<(), Fail> {
 // A port that is in use fails at each connection.
 #[test]
 fn a_port_in_use_fails(rt: HostRuntime) -> Result<(), Fail> {
-    let port = TcpPort::bind(rt.clone()?, 0);
+    let port = TcpPort::bind(rt.clone()?, 0, Running::new(rt.alloc(), 1)?);
     let number = port.number().ok_or("no port")?;
-    let mut second = TcpPort::bind(rt.clone()?, number);
+    let running = Running::new(rt.alloc(), 1)?;
+    let mut second = TcpPort::bind(rt.clone()?, number, running.share()?);
+    assert!(rt; running.is_any());
     assert_eq!(rt; second.number(), None);
     assert!(rt; second.next().is_err());
+    assert!(rt; !running.is_any());
     assert!(rt; second.next().is_err());
     Ok(())
 }
@@ -156,8 +160,8 @@ fn a_port_in_use_fails(rt: HostRuntime) -> Result<(), Fail> {
 // Each twin takes connections of the one listener.
 #[test]
 fn twins_share_a_listener(rt: HostRuntime) -> Result<(), Fail> {
-    let mut port = TcpPort::bind(rt.clone()?, 0);
-    let mut twin = port.twin(rt.clone()?);
+    let mut port = TcpPort::bind(rt.clone()?, 0, Running::new(rt.alloc(), 1)?);
+    let mut twin = port.twin(rt.clone()?, Running::new(rt.alloc(), 1)?);
     assert_eq!(rt; twin.number(), port.number());
     let _first = client(&rt, &port)?;
     let _second = client(&rt, &port)?;
