@@ -1,5 +1,5 @@
 -- Desks and the cleaner at once, from the seat with all parts to the end of the history.
-use Rattle.std.specs.Prelude.{◌≡◌, ◌⊎◌, ℕ, Bool, List, [], map, Option}
+use Rattle.std.specs.Prelude.{◌≡◌, ℕ, Bool, List, [], map, Option}
 use Rattle.std.specs.List.{AllZip, list_any}
 use Rattle.outside.specs.declared.tells.Tells.{Ghosts}
 use Rattle.outside_pace.specs.Pauses.{Pauses}

@@ -1,10 +1,9 @@
-use Rattle.std.proofs.Common.{arith, sym, subst}
 use Rattle.repo_course.specs.Cleaning.{store}
 use Rattle.repo_course.specs.Serving.{AllTell}
 use Rattle.repo_model.specs.Shown.{shown_command, shown_reply}
 use Rattle.turn_lock.specs.History.{IsStep}
 use Rattle.desk_work.proofs.Done.{all_ready, jobs_done}
-use Rattle.desk_work.proofs.work.serve_all.Goals as goal
+use Rattle.desk_work.proofs.running.serve_all.Goals as goal
 
 pub run_jobs-requires-clause-jobs : goal.run_jobs-requires-clause-jobs
 run_jobs-requires-clause-jobs g c κs within =

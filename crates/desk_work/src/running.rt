@@ -1,4 +1,4 @@
-//! Desks and the cleaner at once.
+//! All desks at once, and the cleaner beside them.
 ghost use Rattle.std.specs.Prelude.{◌≡◌, ◌+◌, ◌<◌, ◌≤◌, [], All, IfOk, IfErr, map, vec_len, vec_capacity};
 ghost use Rattle.std.specs.List.{AllZip, list_any};
 ghost use Rattle.desk_work.specs.Passages.{KeptClean};
@@ -24,7 +24,14 @@ use turn_lock::Seat;
 use turn_seats::Repository;
 
 // Runs all desks at once, each in a thread of its own where one can be made, and the cleaner in this one.
-fn run_jobs<'a, P: Port + Drop + Send, B: Blobs + Drop + Send, Q: Pace + Drop, T: Repository<Call = Command<B::Held>, Reply = Reply<B::Held>> + Send, R: Threads + Wait + Sync>(
+fn run_jobs<
+    'a,
+    P: Port + Drop + Send,
+    B: Blobs + Drop + Send,
+    Q: Pace + Drop,
+    T: Repository<Call = Command<B::Held>, Reply = Reply<B::Held>> + Send,
+    R: Threads + Wait + Sync,
+>(
     rt: &R,
     jobs: Vec<DeskJob<'a, P, B, T>>,
     last: CleanerJob<'a, B, Q, T>,
@@ -37,12 +44,12 @@ where
     requires last { IsReady T.sight shown_command shown_reply (IsStep T.fixed T.may_ask T.turned) last.house.now.settings last.house.now.turns last.seat }
     requires room { (room.items ≡ []) × (vec_len jobs ≤ vec_capacity room) }
     ensures served { AllZip (λ job out. Serves ⟦<P::Link as Tells>⟧ (record {
-        left = P.left;
-        given_back = P.given_back;
-        faults = P.faults;
-        port = λ desk. desk.port;
-        blobs = λ desk. store (B.shelf desk.blobs) (B.faults desk.blobs);
-      }) job.house.now.settings (AllTell B.Held.bytes) T.sight (IsStep T.fixed T.may_ask T.turned) job.house.now.turns job.seat job.desk out) jobs.entry.items result.0.items }
+      left = P.left;
+      given_back = P.given_back;
+      faults = P.faults;
+      port = λ desk. desk.port;
+      blobs = λ desk. store (B.shelf desk.blobs) (B.faults desk.blobs);
+    }) job.house.now.settings (AllTell B.Held.bytes) T.sight (IsStep T.fixed T.may_ask T.turned) job.house.now.turns job.seat job.desk out) jobs.entry.items result.0.items }
     ensures cleaned { KeptClean last.entry.house.now.settings T.sight (IsStep T.fixed T.may_ask T.turned) last.entry.house.now.turns last.entry.seat result.1.0 (Q.pauses last.entry.cleaner.pace) (Q.pauses result.1.1.pace)
         (store (B.shelf last.entry.cleaner.blobs) (B.faults last.entry.cleaner.blobs)) (store (B.shelf result.1.1.blobs) (B.faults result.1.1.blobs)) }
     ensures len { vec_len result.0 ≡ vec_len jobs.entry }
@@ -51,7 +58,7 @@ where
 }
 
 // The desks in their order, in a room that was made before and is empty, and whether a port failed.
-fn parted<P: Port + Drop, B: Blobs + Drop>(
+pub fn parted<P: Port + Drop, B: Blobs + Drop>(
     back: Vec<(Desk<P, B>, bool)>,
     mut room: Vec<Desk<P, B>>,
 ) -> (Vec<Desk<P, B>>, bool)
@@ -69,7 +76,7 @@ fn parted<P: Port + Drop, B: Blobs + Drop>(
 
 // Gives each desk a seat, serves all of them at once, and cleans beside them with what is left of the seat. Where memory is
 // wanting nothing is done.
-fn serve_all<
+pub fn serve_all<
     P: Port + Drop + Send,
     B: Blobs + Drop + Send,
     Q: Pace + Drop,
@@ -83,7 +90,10 @@ fn serve_all<
     desks: Vec<Desk<P, B>>,
     cleaner: Cleaner<B, Q>,
     room: Vec<(Seat<T>, (Desk<P, B>, bool))>,
-) -> Result<(Vec<(Seat<T>, (Desk<P, B>, bool))>, (Seat<T>, Cleaner<B, Q>)), (Seat<T>, Vec<Desk<P, B>>, Cleaner<B, Q>)>
+) -> Result<
+    (Vec<(Seat<T>, (Desk<P, B>, bool))>, (Seat<T>, Cleaner<B, Q>)),
+    (Seat<T>, Vec<Desk<P, B>>, Cleaner<B, Q>),
+>
 where
     P::Link: Send,
     B::Held: Send,
@@ -91,12 +101,12 @@ where
     requires parts { vec_len desks < parts_of seat }
     requires room { (room.items ≡ []) × (vec_len desks ≤ vec_capacity room) }
     ensures done { IfOk result (λ r. AllZip (DeskDone ⟦<P::Link as Tells>⟧ (record {
-        left = P.left;
-        given_back = P.given_back;
-        faults = P.faults;
-        port = λ desk. desk.port;
-        blobs = λ desk. store (B.shelf desk.blobs) (B.faults desk.blobs);
-      }) house.now.settings (AllTell B.Held.bytes) T.sight (IsStep T.fixed T.may_ask T.turned) house.now.turns seat) desks.items r.0.items) }
+      left = P.left;
+      given_back = P.given_back;
+      faults = P.faults;
+      port = λ desk. desk.port;
+      blobs = λ desk. store (B.shelf desk.blobs) (B.faults desk.blobs);
+    }) house.now.settings (AllTell B.Held.bytes) T.sight (IsStep T.fixed T.may_ask T.turned) house.now.turns seat) desks.items r.0.items) }
     ensures cleaned { IfOk result (λ r. CleanedBeside house.now.settings T.sight (IsStep T.fixed T.may_ask T.turned) house.now.turns seat r.1.0 (Q.pauses cleaner.pace) (Q.pauses r.1.1.pace)
         (store (B.shelf cleaner.blobs) (B.faults cleaner.blobs)) (store (B.shelf r.1.1.blobs) (B.faults r.1.1.blobs))) }
     ensures parts { IfOk result (λ r. parts_of r.1.0 + vec_len r.0 ≡ parts_of seat) }
