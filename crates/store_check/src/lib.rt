@@ -1,0 +1,7 @@
+//! A check of what is recorded: which files are not there as they were recorded, as lines, with the status that tells it.
+#![tactic(auto)]
+
+mod checking;
+mod lines;
+
+pub use checking::check_store;
