@@ -2,9 +2,11 @@
 #![tactic(auto)]
 
 mod printing;
+mod reading;
 mod refusals;
 mod statuses;
 
 pub use printing::{fault, print};
+pub use reading::settings_of;
 pub use refusals::refuse;
 pub use statuses::{DONE, INPUT, NAMED, NO_MEMORY, OUTPUT, REFUSED, SETTINGS, STORE};

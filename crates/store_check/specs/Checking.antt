@@ -2,6 +2,7 @@
 use Rattle.std.specs.Prelude.{◌≡◌, ◌⊎◌, ℕ, List, [], ◌∷◌, length, Option, None, IfSome, Ok, Err}
 use Rattle.outside.specs.Blobs.{Shelf}
 use Rattle.outside.specs.Faults.{Rose}
+use Rattle.repo_model.specs.Settings.{Settings}
 use Rattle.repo_model.specs.Tables.{Tables}
 use Rattle.row_tables.specs.Recorded.{IsBuiltUp}
 use Rattle.row_tables.specs.Records.{Expected}
@@ -13,6 +14,7 @@ use Rattle.blob_audit.specs.declared.faults.AuditFault.{AuditFault}
 use Rattle.blob_audit.specs.declared.faults.AuditFault.TheVariants.{NoMemory, Store, NotOurs, Row}
 use Rattle.run_lines.specs.Lines.{memory_line}
 use Rattle.run_lines.specs.Printing.{Output, Prints, PrintsPart, PrintsWhole}
+use Rattle.run_lines.specs.Reading.{File, Reads}
 use Rattle.store_check.specs.Lines.{not_ours_line, report_text, row_line, store_line}
 
 -- what records tell of themselves: what is recorded, what a load gives, and their count of faults
@@ -59,3 +61,10 @@ pub data Checks (records : Recorded) (records_faults : ℕ) (shelf : Shelf) (blo
       → blobs' ≡ blobs → RefusesStore (Row frame at) out out' status → Checks records records_faults shelf blobs blobs' out out' status
   starved : records_faults ≡ records.faults → blobs' ≡ blobs → RefusesStore NoMemory out out' status
       → Checks records records_faults shelf blobs blobs' out out' status
+
+-- A check by settings: they are read and say nothing of what is looked at, or nothing is looked at.
+pub data ChecksBy (source source' : File) (records : Recorded) (records_faults : ℕ) (shelf : Shelf) (blobs blobs' : ℕ) (out out' : Output) (status : ℕ) : Type 0 where
+  refused : Reads source source' out out' (Err status) → records_faults ≡ records.faults → blobs' ≡ blobs
+      → ChecksBy source source' records records_faults shelf blobs blobs' out out' status
+  accepted : (settings : Settings) → Reads source source' out out (Ok settings) → Checks records records_faults shelf blobs blobs' out out' status
+      → ChecksBy source source' records records_faults shelf blobs blobs' out out' status

@@ -3,5 +3,7 @@
 
 mod checking;
 mod lines;
+mod running;
 
 pub use checking::check_store;
+pub use running::check;
