@@ -27,7 +27,7 @@ pub fn check<K: Records, B: Blobs, S: Source, O: Sink>(
     ensures kept { B.shelf blobs.new ≡ B.shelf blobs.old }
 {
     match settings_of(alloc, settings, out) {
-        Ok(_) => check_store(alloc, records, blobs, out),
+        Ok(_read) => check_store(alloc, records, blobs, out),
         Err(status) => status,
     }
 }
