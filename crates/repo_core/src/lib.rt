@@ -11,6 +11,7 @@ mod purges;
 mod puts;
 mod repository;
 mod starting;
+mod thing;
 mod turn;
 
 pub use blob_audit::Damaged;
