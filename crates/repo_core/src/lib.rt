@@ -9,6 +9,7 @@ mod machine;
 mod purges;
 mod puts;
 mod repository;
+mod thing;
 mod turn;
 
 pub use repo_model::{Command, Place, Reply};
