@@ -1,5 +1,5 @@
 //! Deployment sessions.
-ghost use Rattle.std.specs.Prelude.{◌≡◌, ◌≢◌, ◌<◌, ◌⊎◌, if◌then◌else◌, count_by, find, [], None, IsTrue, IfOk};
+ghost use Rattle.std.specs.Prelude.{◌≡◌, ◌≢◌, ◌<◌, ◌≤◌, ◌⊎◌, if◌then◌else◌, count_by, find, [], None, IsTrue, IfOk};
 ghost use Rattle.std.specs.List.{flat_map};
 ghost use Rattle.std.specs.Option.{option_map};
 ghost use Rattle.repo_model.specs.Effect.{recorded};
@@ -167,6 +167,14 @@ impl<H: Held> Sessions<H> {
             return Stage::NoMemory;
         };
         Stage::Staged
+    }
+
+    /// The number of the next session, at most 2^63. It takes no memory.
+    pub fn next_number(&self) -> u64
+        ensures value { result ≡ self.now.next }
+        ensures limit { result ≤ number_end }
+    {
+        self.next
     }
 
     /// How many sessions are open. It takes no memory.

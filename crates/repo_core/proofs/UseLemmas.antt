@@ -39,7 +39,7 @@ pub rows-used : (kept id : List ℕ) (hosted : List Hosted) → AreInUse kept ho
 rows-used kept id [] used = tt
 rows-used kept id (h ∷ hosted) used = rows-by (is_repository id h) kept h (find (is_repository id) hosted) used.0 (rows-used kept id hosted used.1)
 
-or-right : (a b : Bool) → IsTrue b → IsTrue (a || b)
+pub or-right : (a b : Bool) → IsTrue b → IsTrue (a || b)
 or-right true b h = refl
 or-right false b h = h
 
@@ -55,7 +55,7 @@ among-more m n (k ∷ ks) h =
       | false ↦ or-right (n == m) (is_among m (k ∷ ks)) h
     ]
 
-here-so : (n : ℕ) (rest : Bool) → IsTrue ((n == n) || rest)
+pub here-so : (n : ℕ) (rest : Bool) → IsTrue ((n == n) || rest)
 here-so n rest = search rules
 
 among-new : (n : ℕ) (ns : List ℕ) → IsTrue (is_among n (with_number n ns))

@@ -3,11 +3,10 @@ ghost use Rattle.std.specs.Prelude.{◌≡◌};
 
 use crate::conditions::fits;
 use crate::machine::Machine;
-use outside::{Clock, Held, NoMemory};
+use outside::{Clock, Held};
 use repo_config::Settings;
 use repo_model::{Command, Reply};
 use row_tables::Records;
-use std::alloc::Global;
 use std::marker::Model;
 
 /// The repository: hosted repositories with their rows, the blob numbers, the records, a clock, and how many calls there
@@ -36,46 +35,27 @@ impl<K: Records, C: Clock, H: Held> Model for Core<K, C, H> {
 }
 
 impl<K: Records, C: Clock, H: Held> Core<K, C, H> {
-    ghost use Rattle.std.specs.Prelude.{◌≡◌, ◌+◌, min, IfOk, IfErr, IsTrue};
+    ghost use Rattle.std.specs.Prelude.{◌≡◌, ◌+◌, min, IsTrue};
     ghost use Rattle.std.specs.Option.{ForSome};
     ghost use Rattle.outside.specs.Faults.{last_count};
     ghost use Rattle.repo_model.specs.Asking.{IsAnswerTo};
-    ghost use Rattle.repo_model.specs.State.{opening};
     ghost use Rattle.repo_model.specs.Command.{meets};
     ghost use Rattle.repo_model.specs.Effect.{recorded};
     ghost use Rattle.repo_model.specs.History.{Fits, after, effects_of};
     ghost use Rattle.repo_model.specs.Shown.{shown_command, shown_reply, entry_of};
-    ghost use Rattle.repo_model.specs.Tables.{no_tables};
     ghost use Rattle.repo_laws.specs.Holds.{Holds};
     ghost use Rattle.repo_laws.specs.Laws.{KeepsReleases};
     ghost use Rattle.repo_laws.specs.Sound.{IsSound};
     ghost use Rattle.row_tables.specs.Commits.{tables_with};
-    ghost use Rattle.repo_core.specs.Whole.{counting};
+    ghost use Rattle.repo_core.specs.Whole.{IsKept, whole_of};
 
-    /// A repository without rows, by these settings, over records that are empty and ready.
-    ///
-    /// Where memory is wanting the records and the clock come back as they were.
-    pub fn plain(
-        alloc: Global,
-        settings: Settings,
-        records: K,
-        clock: C,
-    ) -> Result<Core<K, C, H>, (NoMemory, K, C)>
+    /// The core of a machine and of records that are ready. The state is sound, and the tables, where told, hold it.
+    pub(crate) fn over(machine: Machine<C, H>, records: K) -> Core<K, C, H>
+        requires kept { IsKept (whole_of machine (K.tables records) (K.faults records)) }
         requires ready { K.ready records }
-        requires empty { ForSome (K.tables records) (λ t. t ≡ no_tables) }
-        ensures settings { IfOk result (λ core. core.settings ≡ settings) }
-        ensures state { IfOk result (λ core. core.state ≡ counting (K.faults records) (opening settings (C.moments clock))) }
-        ensures tables { IfOk result (λ core. core.tables ≡ K.tables records) }
-        ensures calls { IfOk result (λ core. core.calls ≡ 0) }
-        ensures records { IfErr result (λ error. error.1 ≡ records) }
-        ensures clock { IfErr result (λ error. error.2 ≡ clock) }
+        ensures { result ≡ whole_of machine (K.tables records) (K.faults records) }
     {
-        // Their ids differ, and have their form.
-        settings.form();
-        match Machine::plain(alloc, settings, clock) {
-            Ok(machine) => Ok(Core { machine, records }),
-            Err((error, clock)) => Err((error, records, clock)),
-        }
+        Core { machine, records }
     }
 
     /// One turn: reads the clock once, and answers the command. What it changes of rows and sessions is recorded first.
