@@ -1,5 +1,5 @@
 -- The next session number stays the same where no session is opened.
-use Rattle.std.proofs.Common.{◌≡◌, ℕ, List, [], ◌∷◌, refl, ◌∙◌}
+use Rattle.std.proofs.Common.{◌≡◌, ℕ, List, [], ◌∷◌, refl}
 use Rattle.repo_model.specs.State.{Yard}
 use Rattle.repo_model.specs.Effect.{condemning}
 use Rattle.repo_model.specs.Reply.{Reply, file, created, no_memory, store_fault}

@@ -1,6 +1,6 @@
 -- What a start makes of tables that were built up: a sound state that stands for them, whose parts fit one another.
 use native.Mathlib.Omega.{arith}
-use Rattle.std.proofs.Common.{◌≡◌, ℕ, ◌+◌, ◌<◌, ◌≤◌, ◌==◌, Bool, true, false, cond, ◌||◌, List, [], ◌∷◌, ◌++◌, map, Option, Some, None, refl, sym, ap, ◌∙◌, subst, rules}
+use Rattle.std.proofs.Common.{◌≡◌, ℕ, ◌+◌, ◌<◌, ◌≤◌, ◌==◌, Bool, true, false, cond, List, [], ◌∷◌, ◌++◌, map, Option, Some, None, refl, sym, ap, ◌∙◌, subst, rules}
 use Rattle.std.specs.Prelude.{filter, IfSome, IsTrue, unwrap_or}
 use Rattle.std.specs.List.{All, AllByRecursion}
 use Rattle.std.specs.Map.{keys_of}
@@ -10,15 +10,13 @@ use Rattle.std.proofs.lemmas.Option.{none-some}
 use Rattle.outside.specs.Blobs.{Numbered, Shelf, numbers_of}
 use Rattle.outside.specs.Moments.{Moments}
 use Rattle.outside.specs.Told.{IsWhereTold}
-use Rattle.blob_audit.specs.Damages.{AreDamaged}
-use Rattle.blob_audit.specs.Order.{all_rows}
 use Rattle.repo_config.specs.Form.{IsSettings}
 use Rattle.repo_model.specs.Data.{Hosted}
 use Rattle.repo_model.specs.History.{latest_moment}
 use Rattle.repo_model.specs.Restart.{blobs_named, greatest_number, hosted_from, is_of, recorded_of, started, with_bytes}
 use Rattle.repo_model.specs.Settings.{Rule, Settings}
-use Rattle.repo_model.specs.State.{State, Yard, is_among, number_end, opening}
-use Rattle.repo_model.specs.Tables.{Tables, RecordedRow, greatest_moment, no_tables}
+use Rattle.repo_model.specs.State.{State, is_among, number_end, opening}
+use Rattle.repo_model.specs.Tables.{Tables, RecordedRow, no_tables}
 use Rattle.repo_laws.specs.Holds.{InOrder, StandsFor}
 use Rattle.repo_laws.specs.InRange.{InRange, IsRowInRange}
 use Rattle.repo_laws.specs.Laws.{FadesRightly}
@@ -174,8 +172,8 @@ module _ (settings : Settings) (t : Tables) (old new : Shelf) (clock : Option Mo
       let is : t ≡ u = same ∙ (let e : them ≡ u = cc in e) in
       subst (λ (v : Tables). StandsFor v (counting faults s)) is (starts-stand faults)
 
-  pub starts-kept : (p : Parts) (faults : ℕ) (tables : Option Tables) → p.settings ≡ settings → p.state ≡ s → IfSome tables (λ them. t ≡ them) → IsKept (whole_of p tables faults)
-  starts-kept p faults tables same state told = record {
+  pub starts-kept : (p : Parts) (faults : ℕ) (unsettled : Bool) (tables : Option Tables) → p.settings ≡ settings → p.state ≡ s → IfSome tables (λ them. t ≡ them) → IsKept (whole_of p tables unsettled faults)
+  starts-kept p faults unsettled tables same state told = record {
     sound = subst (λ st. IsSound st (counting faults p.state)) (sym same) (subst (λ u. IsSound settings (counting faults u)) (sym state) (starts-sound faults));
     form = subst IsSettings (sym same) form;
     told = subst (λ u. ForSome tables (Tell (counting faults u))) (sym state) (tell tables told);

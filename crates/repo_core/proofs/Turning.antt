@@ -19,7 +19,7 @@ use Rattle.repo_model.specs.Effect.{Effect, draws, lends, recorded, with_effect,
 use Rattle.repo_model.specs.Tables.{Tables}
 use Rattle.repo_model.specs.declared.item.Item.{Item}
 use Rattle.repo_model.specs.Command.{Command, look, may_put, put_side, put_doc, collect, status, meets}
-use Rattle.repo_model.specs.Reply.{Reply, agreed, counts, differs, draft, file, kind_refused, no_memory, no_session, noted, spent, store_fault, is_free}
+use Rattle.repo_model.specs.Reply.{Reply, agreed, collected, counts, differs, draft, file, kind_refused, no_memory, no_session, noted, spent, store_fault, is_free}
 use Rattle.repo_model.specs.Purge.{expire_all}
 use Rattle.repo_model.specs.Turn.{Seen, Turn, compared, draws_draft, in_repository, is_doc, is_file, is_nothing, is_text, seen_at, shows, turn, says, collect_of, counts_of, judged, may_put_in, staged_at, with_open}
 use Rattle.repo_model.specs.History as history
@@ -38,7 +38,7 @@ use Rattle.row_tables.specs.Commits.{tables_with}
 use Rattle.std.specs.Option.{ForSome}
 use Rattle.std.proofs.lemmas.Bool.{false≢true, ne_eqb}
 use Rattle.std.proofs.lemmas.Option.{none-some}
-use Rattle.repo_core.specs.Turn.{done_by, IsAnswer, due, wants_memory, failed, MayRecord, Recorded, Turned}
+use Rattle.repo_core.specs.Turn.{done_by, IsAnswer, IsSettledBy, due, wants_memory, failed, MayRecord, Recorded, Turned}
 use Rattle.repo_core.specs.Whole.{AreClosed, Parts, Whole, IsKept, IsOrderly, Tell, counting}
 use Rattle.repo_core.proofs.NameLemmas.{named-apart}
 
@@ -196,6 +196,11 @@ begun-fit w begun tables command moment settings state order limit may =
 pub some-items : (items : List Item) → (items ≡ [] → ⊥) → not (length items == 0) ≡ true
 some-items [] some = absurd (some refl)
 some-items (item ∷ items) some = ap not (ne_eqb (length (item ∷ items)) 0 (λ none. omega (arith, none)))
+
+-- behind a commit
+pub settled-by : (reply : Reply) (unsettled : Bool) → unsettled ≡ false → IsSettledBy reply unsettled
+settled-by (collected expired blobs) unsettled is = is
+settled-by reply unsettled is = tt
 
 -- a turn that asks no records records nothing
 pub quiet : (tables : Option Tables) → tables ≡ tables_with [] tables

@@ -89,7 +89,7 @@ impl<C: Clock, H: Held> Machine<C, H> {
     ghost use Rattle.repo_core.specs.Hosted.{AreInUse, rules_of};
     ghost use Rattle.repo_core.specs.Purge.{shares};
     ghost use Rattle.repo_core.specs.Stock.{state_of};
-    ghost use Rattle.repo_core.specs.Turn.{MayRecord, Recorded, Turned};
+    ghost use Rattle.repo_core.specs.Turn.{IsSettled, IsSettledBy, MayRecord, Recorded, Turned};
     ghost use Rattle.repo_core.specs.Whole.{AreClosed, IsOrderly, counting};
 
     /// The repository that begins with a stock of files, numbers and sessions, of which none is open.
@@ -137,6 +137,7 @@ impl<C: Clock, H: Held> Machine<C, H> {
             (entry_of command self.new.state.last result (K.faults records.new)) }
         ensures tables { K.tables records.new ≡ tables_with (recorded (effects_of self.old.settings (counting (K.faults records.old) self.old.state)
             (entry_of command self.new.state.last result (K.faults records.new)))) (K.tables records.old) }
+        ensures settled { IsSettled (shown_command command) (shown_reply result) (K.unsettled records.new) }
         ensures ready { K.ready records.new }
         ensures settings { self.new.settings ≡ self.old.settings }
         ensures calls { self.new.calls ≡ min (self.old.calls + 1) last_count }
@@ -183,6 +184,7 @@ impl<C: Clock, H: Held> Machine<C, H> {
         requires ready { K.ready records.old }
         requires items { FitWhereTold (K.tables records.old) (recorded (turn self.old.settings self.old.state self.old.state.last (shown_command command)).effects) }
         ensures turn { Recorded self.old self.new (shown_command command) (shown_reply result) (K.tables records.old) (K.tables records.new) (K.faults records.old) (K.faults records.new) }
+        ensures settled { IsSettled (shown_command command) (shown_reply result) (K.unsettled records.new) }
         ensures ready { K.ready records.new }
     {
         match command {
@@ -301,6 +303,7 @@ impl<C: Clock, H: Held> Machine<C, H> {
         requires ready { K.ready records.old }
         requires items { FitWhereTold (K.tables records.old) (recorded (turn self.old.settings self.old.state self.old.state.last collect).effects) }
         ensures turn { Recorded self.old self.new collect (shown_reply result) (K.tables records.old) (K.tables records.new) (K.faults records.old) (K.faults records.new) }
+        ensures settled { IsSettledBy (shown_reply result) (K.unsettled records.new) }
         ensures ready { K.ready records.new }
     {
         let alloc = *self.repos.allocator();

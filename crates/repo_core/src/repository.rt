@@ -26,10 +26,10 @@ impl<K: Records, C: Clock, H: Held> Model for Core<K, C, H> {
 
     ghost Value = { Whole };
 
-    ghost view = { λ c. whole_of c.machine (K.tables c.records) (K.faults c.records) };
+    ghost view = { λ c. whole_of c.machine (K.tables c.records) (K.unsettled c.records) (K.faults c.records) };
 
     ghost invariant = { λ c. record {
-      kept : IsKept (whole_of c.machine (K.tables c.records) (K.faults c.records));
+      kept : IsKept (whole_of c.machine (K.tables c.records) (K.unsettled c.records) (K.faults c.records));
       ready : K.ready c.records;
     } };
 }
@@ -47,13 +47,14 @@ impl<K: Records, C: Clock, H: Held> Core<K, C, H> {
     ghost use Rattle.repo_laws.specs.Laws.{KeepsReleases};
     ghost use Rattle.repo_laws.specs.Sound.{IsSound};
     ghost use Rattle.row_tables.specs.Commits.{tables_with};
+    ghost use Rattle.repo_core.specs.Turn.{IsSettled};
     ghost use Rattle.repo_core.specs.Whole.{IsKept, whole_of};
 
     /// The core of a machine and of records that are ready. The state is sound, and the tables, where told, hold it.
     pub(crate) fn over(machine: Machine<C, H>, records: K) -> Core<K, C, H>
-        requires kept { IsKept (whole_of machine (K.tables records) (K.faults records)) }
+        requires kept { IsKept (whole_of machine (K.tables records) (K.unsettled records) (K.faults records)) }
         requires ready { K.ready records }
-        ensures { result ≡ whole_of machine (K.tables records) (K.faults records) }
+        ensures { result ≡ whole_of machine (K.tables records) (K.unsettled records) (K.faults records) }
     {
         Core { machine, records }
     }
@@ -64,7 +65,8 @@ impl<K: Records, C: Clock, H: Held> Core<K, C, H> {
     /// leaves the state that the machine says; the tables, where told, are those with its items, and hold the new state.
     /// Every command but `Done` and `Drop` may want memory; where it is wanting, or where the records fail, nothing changes
     /// but the moment and the count of the records. The row of a release is there afterwards with every field as before. A
-    /// draft for a file is given only where the repository takes the file.
+    /// draft for a file is given only where the repository takes the file. A `Collect` is always committed, an empty one too: where
+    /// it gives blobs out to be removed, no change whose commit failed, and which may name one of them, is found any more.
     pub fn call(&mut self, command: Command<H>) -> Reply<H>
         requires { IsTrue (meets self.old.settings (shown_command command)) }
         ensures fits { Fits self.old.settings self.old.state (entry_of command self.new.state.last result self.new.state.faults) }
@@ -72,6 +74,7 @@ impl<K: Records, C: Clock, H: Held> Core<K, C, H> {
         ensures tables { self.new.tables ≡ tables_with (recorded (effects_of self.old.settings self.old.state
             (entry_of command self.new.state.last result self.new.state.faults))) self.old.tables }
         ensures holds { ForSome self.new.tables (λ t. Holds t self.new.state) }
+        ensures settled { IsSettled (shown_command command) (shown_reply result) self.new.unsettled }
         ensures answer { IsAnswerTo self.old.settings (shown_command command) (shown_reply result) }
         ensures settings { self.new.settings ≡ self.old.settings }
         ensures calls { self.new.calls ≡ min (self.old.calls + 1) last_count }
@@ -108,6 +111,7 @@ impl<K: Records, C: Clock, H: Held> Core<K, C, H> {
     pub fn end(self) -> (K, C)
         ensures tables { K.tables result.0 ≡ self.tables }
         ensures faults { K.faults result.0 ≡ self.state.faults }
+        ensures settled { K.unsettled result.0 ≡ self.unsettled }
         ensures ready { K.ready result.0 }
         ensures clock { C.moments result.1 ≡ self.state.clock }
     {

@@ -3,7 +3,7 @@ use Rattle.std.specs.Prelude.{IfSome}
 use Rattle.std.specs.Option.{ForSome}
 use Rattle.repo_laws.specs.Holds.{StandsFor}
 use Rattle.repo_model.specs.State.{State, opening}
-use Rattle.repo_model.specs.Tables.{Tables, no_tables}
+use Rattle.repo_model.specs.Tables.{no_tables}
 use Rattle.repo_core.specs.Start.{Starts}
 use Rattle.repo_core.specs.Stock.{state_of}
 use Rattle.repo_core.specs.Whole.{Whole, counting}
@@ -38,7 +38,7 @@ over-requires-clause-kept g c =
     let new = g.B.Blobs.shelf c.stock_of.new.blobs in
     let told = subst (λ ts. IfSome ts (λ them. c.in-Ok.tables ≡ them)) (sym c.in-Ok.ensures.same) c.in-Ok.ensures.told in
     starts-kept c.args.settings c.in-Ok.tables old new clock (state_of c.in-Ok-stock_of.stock clock) c.in-Ok.ensures.built c.form.ensures (c.in-Ok-stock_of.ensures.starts clock) c.of.result
-    (g.K.Records.faults c.load.new.self) (g.K.Records.tables c.load.new.self) c.of.ensures.settings c.of.ensures.state told
+    (g.K.Records.faults c.load.new.self) (g.K.Records.unsettled c.load.new.self) (g.K.Records.tables c.load.new.self) c.of.ensures.settings c.of.ensures.state told
 
 pub returns-in-Ok-stock_of-clause-state : goal.returns-in-Ok-stock_of-clause-state
 returns-in-Ok-stock_of-clause-state g c =
