@@ -29,8 +29,12 @@ over_data name =
 abbrev pub bare : App
 bare = without_help (new_app (codes "mvnrepod"))
 
-abbrev pub program : App
-program =
+-- the program without what changes a folder
+abbrev pub looking : App
+looking =
     with_subcommand (with_subcommand (record bare { top = record bare.top { no_binary_name = true; disable_help_subcommand = true; subcommand_required = true } })
     replay.top)
     (over_data (codes "check")).top
+
+abbrev pub program : App
+program = with_subcommand looking (over_data (codes "clean")).top

@@ -17,6 +17,14 @@ const LONGEST_STEP: u64 = 86_400;
 pub(crate) fn program<'a>(alloc: Global) -> Result<Command<'a>, AllocError>
     ensures { IfOk result (λ command. (app_of command ≡ spec.program) × ((fields_of command).has_globals ≡ false)) }
 {
+    let clean = over_data(alloc, "clean")?;
+    looking(alloc)?.subcommand(clean)
+}
+
+/// The program without what changes a folder.
+fn looking<'a>(alloc: Global) -> Result<Command<'a>, AllocError>
+    ensures { IfOk result (λ command. (app_of command ≡ spec.looking) × ((fields_of command).has_globals ≡ false)) }
+{
     let replay = replay(alloc)?;
     let check = over_data(alloc, "check")?;
     without_help(Command::new(alloc, "mvnrepod"))

@@ -55,6 +55,9 @@ fn subcommand_in(alloc: Global, name: &str, found: &ArgMatches<'_>) -> Result<Wa
     if name == "check" {
         return check_in(alloc, found);
     }
+    if name == "clean" {
+        return clean_in(alloc, found);
+    }
     Err(WordsFault::Refused)
 }
 
@@ -74,6 +77,16 @@ fn check_in(alloc: Global, found: &ArgMatches<'_>) -> Result<Wanted, WordsFault>
     ensures fault { IfErr result (λ fault. fault ≡ WordsFault.NoMemory) }
 {
     Ok(Wanted::Check {
+        settings: owned(alloc, text_at(found, "settings"))?,
+        data: owned(alloc, text_at(found, "data"))?,
+    })
+}
+
+fn clean_in(alloc: Global, found: &ArgMatches<'_>) -> Result<Wanted, WordsFault>
+    ensures ok { IfOk result (λ wanted. wanted ≡ spec.clean_in (rows_of (found_of found.now))) }
+    ensures fault { IfErr result (λ fault. fault ≡ WordsFault.NoMemory) }
+{
+    Ok(Wanted::Clean {
         settings: owned(alloc, text_at(found, "settings"))?,
         data: owned(alloc, text_at(found, "data"))?,
     })

@@ -36,10 +36,7 @@ fn lock_of<R: Files<File = File> + AllocGlobal>(rt: &R, folder: &str) -> io::Res
     Ok(lock)
 }
 
-fn locked_disk<R: Files<File = File> + AllocGlobal>(
-    rt: &R,
-    folder: &str,
-) -> io::Result<FolderDisk>
+fn locked_disk<R: Files<File = File> + AllocGlobal>(rt: &R, folder: &str) -> io::Result<FolderDisk>
     ensures { IfOk result (λ disk. faults_of disk ≡ 0) }
 {
     make_folder(rt, folder)?;

@@ -6,7 +6,7 @@ ghost use Rattle.std.specs.Prelude.{◌≡◌, IfOk, vec_len};
 use data_folder::{blobs_in, open_disk};
 use outside::{Blobs, Duplex, NoMemory, Source, Stream};
 use outside_memory::{FaultScript, MemBlobs, MemLink, MemSource, ScriptClock, ScriptPort};
-use outside_system::{ReaderSource, WriterSink, file_source};
+use outside_system::{ReaderSource, SystemClock, WriterSink, file_source};
 use record_journal::Journal;
 use repo_run::{Action, Cleaner, Desk, NO_MEMORY, Wanted, run, wanted};
 use row_tables::MemRecords;
@@ -66,15 +66,16 @@ fn status_in_memory<S: Source, L: Stream + Drop>(
     let records = MemRecords::new(alloc, Vec::new(alloc));
     let clock = ScriptClock::stepping(alloc, wanted.at, wanted.step);
     let mut out = WriterSink::new(rt.stderr());
-    Ok(run(alloc, words, settings, desks, cleaner, records, clock, &mut out).status)
+    Ok(
+        run(
+            alloc, words, settings, desks, cleaner, records, clock, &mut out,
+        )
+        .status,
+    )
 }
 
 /// The status of a run over the folder that the words name. Its lines go to standard output.
-fn status_over_folder(
-    rt: &HostRuntime,
-    words: &[String],
-    wanted: &Wanted,
-) -> Result<u8, NoMemory> {
+fn status_over_folder(rt: &HostRuntime, words: &[String], wanted: &Wanted) -> Result<u8, NoMemory> {
     let alloc = rt.alloc();
     let folder = wanted.folder.as_str();
     let mut settings = file_source(rt, wanted.settings.as_str());
@@ -84,9 +85,21 @@ fn status_over_folder(
         blobs: blobs_in(rt, folder)?,
     };
     let records = Journal::new(open_disk(rt, folder));
-    let clock = ScriptClock::stepping(alloc, 0, 0);
+    let clock = SystemClock::new(rt.clone()?);
     let mut out = WriterSink::new(rt.stdout());
-    Ok(run(alloc, words, &mut settings, desks, cleaner, records, clock, &mut out).status)
+    Ok(
+        run(
+            alloc,
+            words,
+            &mut settings,
+            desks,
+            cleaner,
+            records,
+            clock,
+            &mut out,
+        )
+        .status,
+    )
 }
 
 /// Makes the objects that the words have, and runs the program with them.
@@ -98,7 +111,7 @@ fn status_for(rt: &HostRuntime, words: &[String], wanted: &Wanted) -> Result<u8,
             let links = vec![in alloc; standard(rt)]?;
             status_in_memory(rt, words, wanted, &mut settings, links)
         }
-        Action::Check => status_over_folder(rt, words, wanted),
+        Action::Check | Action::Clean => status_over_folder(rt, words, wanted),
         Action::Nothing => {
             let mut settings = MemSource::new(Vec::new(alloc), 1, FaultScript::none(alloc));
             let links: Vec<MemLink> = Vec::new(alloc);

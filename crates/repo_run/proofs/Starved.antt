@@ -1,5 +1,5 @@
 -- A run for whose words memory was wanting.
-use Rattle.std.proofs.Common.{◌≡◌, ℕ, List, Option, Some, None, Err, refl, inl, inr}
+use Rattle.std.proofs.Common.{◌≡◌, ℕ, List, Option, Some, None, Err, refl, inr}
 use Rattle.repo_config.specs.Source.{IsReadFrom}
 use Rattle.repo_config.specs.declared.faults.SettingsFault.TheVariants.{NoMemory}
 use Rattle.repo_config.specs.declared.source.SourceFault.TheVariants.{Refused}
@@ -8,7 +8,8 @@ use Rattle.run_lines.specs.Printing.{Output, Prints}
 use Rattle.run_lines.specs.Reading.{File, Reads}
 use Rattle.store_check.specs.Checking as checking
 use Rattle.repo_run.specs.declared.actions.Action.{Action}
-use Rattle.repo_run.specs.declared.actions.Action.TheVariants.{Replay, Check, Nothing}
+use Rattle.repo_run.specs.declared.actions.Action.TheVariants.{Replay, Check, Clean, Nothing}
+use Rattle.repo_run.specs.Clean as clean
 use Rattle.repo_run.specs.Replay.{refused}
 use Rattle.repo_run.specs.Running.{Runs}
 use Rattle.repo_run.specs.Surroundings.{Beside, Connection, DeskState}
@@ -24,7 +25,9 @@ unread-source source out out' status prints is = inr (NoMemory, refl, unread sou
 pub starved-run : {X : Type 0} (tells : Type 0) (connection_of : X → Connection) (command : Action) (old : Beside) (desk : DeskState X)
     (out' : Output) (status : ℕ) → Prints memory_line old.out out' → status ≡ 8 → Runs command tells connection_of old (record old { out = out' }) desk desk status
 starved-run tells connection_of Replay old desk out' status prints is =
-    (refused (unread-source old.source old.out out' status prints is) refl refl, (refl, refl), refl)
+    (refused (unread-source old.source old.out out' status prints is) refl (refl, refl) refl, refl)
 starved-run tells connection_of Check old desk out' status prints is =
     (checking.refused (unread-source old.source old.out out' status prints is) refl refl, refl, refl, refl, refl)
+starved-run tells connection_of Clean old desk out' status prints is =
+    (clean.refused (unread-source old.source old.out out' status prints is) refl (refl, refl) refl, refl)
 starved-run tells connection_of Nothing old desk out' status prints is = (inr (prints, is), refl, refl, (refl, refl), refl, refl)

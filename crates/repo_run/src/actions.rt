@@ -7,6 +7,8 @@ pub enum Action {
     Replay,
     /// To look whether all recorded files are there as they were recorded.
     Check,
+    /// To purge the repositories, and to remove what is garbage.
+    Clean,
     /// Nothing: the words are refused.
     Nothing,
 }

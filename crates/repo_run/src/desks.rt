@@ -24,3 +24,11 @@ pub struct Ran<P: Port, B: Blobs, K: Records, C: Clock> {
     pub records: K,
     pub clock: C,
 }
+
+/// What a command gives back: its status, and the records and the clock.
+#[derive(Drop)]
+pub(crate) struct Ended<K: Records, C: Clock> {
+    pub(crate) status: u8,
+    pub(crate) records: K,
+    pub(crate) clock: C,
+}

@@ -12,7 +12,8 @@ ghost use Rattle.repo_run.specs.Surroundings.{FirstOnly, beside, connection, des
 ghost use Rattle.repo_run.specs.Words.{asked};
 
 use crate::actions::Action;
-use crate::desks::{Cleaner, Desk, Ran};
+use crate::cleans::clean;
+use crate::desks::{Cleaner, Desk, Ended, Ran};
 use crate::replays::replay;
 use crate::words::wanted;
 use outside::{Blobs, Clock, Port, Sink, Source};
@@ -20,13 +21,6 @@ use row_tables::Records;
 use run_lines::{NO_MEMORY, REFUSED, fault};
 use std::alloc::Global;
 use store_check::check;
-
-/// What a command gives back.
-struct Ended<K: Records, C: Clock> {
-    status: u8,
-    records: K,
-    clock: C,
-}
 
 /// Does what a command asks for, with one desk.
 fn act<B: Blobs, S: Source, P: Port, K: Records, C: Clock, O: Sink>(
@@ -43,53 +37,61 @@ fn act<B: Blobs, S: Source, P: Port, K: Records, C: Clock, O: Sink>(
     ensures run { Runs command (AllTell B.Held.bytes)
         (λ link. connection (P.Link.left link) (P.Link.taken link) (P.Link.read_faults link) (P.Link.write_faults link))
         (beside (file (S.left settings.old) (S.read_faults settings.old)) (store (B.shelf cleaner.old.blobs) (B.faults cleaner.old.blobs))
-            (recorded (K.tables records) (K.loading records) (K.faults records)) (C.moments clock) (output (O.taken out.old) (O.write_faults out.old)))
+        (recorded (K.tables records) (K.loading records) (K.faults records)) (C.moments clock) (output (O.taken out.old) (O.write_faults out.old)))
         (beside (file (S.left settings.new) (S.read_faults settings.new)) (store (B.shelf cleaner.new.blobs) (B.faults cleaner.new.blobs))
-            (recorded (K.tables result.records) (K.loading result.records) (K.faults result.records)) (C.moments result.clock) (output (O.taken out.new) (O.write_faults out.new)))
+        (recorded (K.tables result.records) (K.loading result.records) (K.faults result.records)) (C.moments result.clock) (output (O.taken out.new) (O.write_faults out.new)))
         (desk_state (P.left desk.old.port) (P.given_back desk.old.port) (P.faults desk.old.port) (store (B.shelf desk.old.blobs) (B.faults desk.old.blobs)))
         (desk_state (P.left desk.new.port) (P.given_back desk.new.port) (P.faults desk.new.port) (store (B.shelf desk.new.blobs) (B.faults desk.new.blobs)))
         result.status }
 {
-    let mut records = records;
     match command {
-        Action::Replay => {
-            let (status, clock) = replay(alloc, settings, desk, clock, out);
-            Ended { status, records, clock }
-        }
+        Action::Replay => replay(alloc, settings, desk, records, clock, out),
         Action::Check => {
+            let mut records = records;
             let status = check(alloc, settings, &mut records, &mut desk.blobs, out);
-            Ended { status, records, clock }
+            Ended {
+                status,
+                records,
+                clock,
+            }
         }
+        Action::Clean => clean(alloc, settings, &mut cleaner.blobs, records, clock, out),
         Action::Nothing => {
             let status = fault(out, b"mvnrepod: words\n", REFUSED);
-            Ended { status, records, clock }
+            Ended {
+                status,
+                records,
+                clock,
+            }
         }
     }
 }
 
 /// Does what the words ask for. There is at least one desk, and all come back: the others as they were.
 ///
-/// `replay` reads the settings, takes the first connection from the first desk's port, serves it from an empty repository, at
-/// most 1,000 requests, and gives it back. `check` reads the settings, and looks at each recorded file in the first desk's
-/// blobs. Other words are refused. `out` takes one line, of a check one for each damaged file more, or a front of these where
-/// `out` fails.
+/// `replay` reads the settings, opens a repository of them over what is recorded and stored, takes the first connection from
+/// the first desk's port, serves it, at most 1,000 requests, and gives it back. `clean` opens a repository over the cleaner's
+/// blobs and makes one pass over it. `check` looks at each recorded file in the first desk's blobs, once the settings were
+/// read. Other words are refused. `out` takes one line, of a cleaning two, of a check one more for each damaged file, or a front
+/// of these where `out` fails.
 ///
 /// | status | where | line |
 /// |---|---|---|
 /// | 0 | the connection ended, or there was none, and nothing below applies | `calls N end END` |
 /// | 0 | a check, all files being as they were recorded | `checked N` |
+/// | 0 | a cleaning that was made to its end | `unlisted N`, `removed N` |
 /// | 2 | the words are refused | `mvnrepod: words` |
 /// | 3 | the settings are refused | `mvnrepod: settings NAME KEY` |
-/// | 4 | in a check the records or the blobs failed | `mvnrepod: store` |
+/// | 4 | the records or the blobs failed, before the port was asked or in a check or a cleaning | `mvnrepod: store` |
 /// | 4 | the records are another's, or do not read from a place on | `mvnrepod: not-ours`, `mvnrepod: row FRAME AT` |
+/// | 5 | a recorded file's blob is not what was recorded, and the words ask for no check | `mvnrepod: damaged ..` |
 /// | 6 | the source of the settings failed, the port, or the connection's source | `mvnrepod: input` |
 /// | 7 | the connection's sink failed, or `out` while the lines of status 0 or 9 were printed | none, or a front of these lines |
 /// | 8 | memory was wanting | `mvnrepod: memory` |
 /// | 9 | a check has named a file | `damaged ..` for each, then `checked N` |
 ///
-/// Each failure is one that its object counted. N is the number of calls of the repository, or of the files that were looked
-/// at; END is `Closed`, `TornRequest` or `TurnLimit`; NAME is the refusal of the settings and KEY the key or the id that it
-/// names, if any.
+/// Each failure is one that its object counted. N is a number of calls of the repository, of files or of blobs; END is
+/// `Closed`, `TornRequest` or `TurnLimit`; NAME is the refusal of the settings and KEY the key or the id that it names, if any.
 pub fn run<B: Blobs, S: Source, P: Port, K: Records, C: Clock, O: Sink>(
     alloc: Global,
     words: &[String],
@@ -105,9 +107,9 @@ pub fn run<B: Blobs, S: Source, P: Port, K: Records, C: Clock, O: Sink>(
     ensures run { FirstOnly (λ old new. Runs (asked (map string_bytes words.now)).command (AllTell B.Held.bytes)
         (λ link. connection (P.Link.left link) (P.Link.taken link) (P.Link.read_faults link) (P.Link.write_faults link))
         (beside (file (S.left settings.old) (S.read_faults settings.old)) (store (B.shelf cleaner.blobs) (B.faults cleaner.blobs))
-            (recorded (K.tables records) (K.loading records) (K.faults records)) (C.moments clock) (output (O.taken out.old) (O.write_faults out.old)))
+        (recorded (K.tables records) (K.loading records) (K.faults records)) (C.moments clock) (output (O.taken out.old) (O.write_faults out.old)))
         (beside (file (S.left settings.new) (S.read_faults settings.new)) (store (B.shelf result.cleaner.blobs) (B.faults result.cleaner.blobs))
-            (recorded (K.tables result.records) (K.loading result.records) (K.faults result.records)) (C.moments result.clock) (output (O.taken out.new) (O.write_faults out.new)))
+        (recorded (K.tables result.records) (K.loading result.records) (K.faults result.records)) (C.moments result.clock) (output (O.taken out.new) (O.write_faults out.new)))
         (desk_state (P.left old.port) (P.given_back old.port) (P.faults old.port) (store (B.shelf old.blobs) (B.faults old.blobs)))
         (desk_state (P.left new.port) (P.given_back new.port) (P.faults new.port) (store (B.shelf new.blobs) (B.faults new.blobs)))
         result.status) desks.items result.desks.items }
@@ -116,7 +118,11 @@ pub fn run<B: Blobs, S: Source, P: Port, K: Records, C: Clock, O: Sink>(
     let mut cleaner = cleaner;
     match wanted(alloc, words) {
         Ok(wanted) => {
-            let Ended { status, records, clock } = act(
+            let Ended {
+                status,
+                records,
+                clock,
+            } = act(
                 alloc,
                 wanted.command,
                 settings,

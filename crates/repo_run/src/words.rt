@@ -1,7 +1,7 @@
 //! What the words of the command line ask for.
 ghost use Rattle.std.specs.Prelude.{◌≡◌, [], map, IfOk};
 ghost use Rattle.std.specs.String.{string_bytes};
-ghost use Rattle.repo_run.specs.Words.{asked, asked_by};
+ghost use Rattle.repo_run.specs.Words.{asked, asked_by, over_folder};
 
 use crate::actions::{Action, Wanted};
 use command_words::{WordsFault, read_words};
@@ -27,6 +27,18 @@ fn nothing(alloc: Global) -> Wanted
     }
 }
 
+fn over_folder(command: Action, settings: Text, folder: Text) -> Wanted
+    ensures { result ≡ over_folder command settings folder }
+{
+    Wanted {
+        command,
+        settings,
+        folder,
+        at: 0,
+        step: 0,
+    }
+}
+
 fn asked_by(alloc: Global, words: command_words::Wanted) -> Wanted
     ensures { result ≡ asked_by (Some words) }
 {
@@ -38,18 +50,21 @@ fn asked_by(alloc: Global, words: command_words::Wanted) -> Wanted
             at,
             step,
         },
-        command_words::Wanted::Check { settings, data } => Wanted {
-            command: Action::Check,
+        command_words::Wanted::Check { settings, data } => over_folder(
+            Action::Check,
             settings,
-            folder: data,
-            at: 0,
-            step: 0,
-        },
+            data,
+        ),
+        command_words::Wanted::Clean { settings, data } => over_folder(
+            Action::Clean,
+            settings,
+            data,
+        ),
     }
 }
 
 /// Reads the words behind the program's name: `replay SETTINGS [--at T] [--step S]`, T up to 253402207200 and S up to 86400, or
-/// `check SETTINGS DATA`; all else asks for nothing.
+/// `check SETTINGS DATA` or `clean SETTINGS DATA`; all else asks for nothing.
 pub fn wanted(alloc: Global, words: &[String]) -> Result<Wanted, NoMemory>
     ensures { IfOk result (λ wanted. wanted ≡ asked (map string_bytes words.now)) }
 {

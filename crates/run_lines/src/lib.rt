@@ -9,4 +9,4 @@ mod statuses;
 pub use printing::{fault, print};
 pub use reading::settings_of;
 pub use refusals::refuse;
-pub use statuses::{DONE, INPUT, NAMED, NO_MEMORY, OUTPUT, REFUSED, SETTINGS, STORE};
+pub use statuses::{DAMAGED, DONE, INPUT, NAMED, NO_MEMORY, OUTPUT, REFUSED, SETTINGS, STORE};

@@ -12,6 +12,9 @@ pub const SETTINGS: u8 = 3;
 /// The records or the store of blobs failed, or what is recorded cannot be read.
 pub const STORE: u8 = 4;
 
+/// A recorded file's blob is not what was recorded, so that the repository was not opened.
+pub const DAMAGED: u8 = 5;
+
 /// The port failed, the source of the settings, or the source of the stream.
 pub const INPUT: u8 = 6;
 

@@ -15,7 +15,7 @@ use Rattle.blob_audit.specs.declared.faults.AuditFault.TheVariants.{NoMemory, St
 use Rattle.run_lines.specs.Lines.{memory_line}
 use Rattle.run_lines.specs.Printing.{Output, Prints, PrintsPart, PrintsWhole}
 use Rattle.run_lines.specs.Reading.{File, Reads}
-use Rattle.store_check.specs.Lines.{not_ours_line, report_text, row_line, store_line}
+use Rattle.store_check.specs.Lines.{not_ours_line, report_text, row_line, stopped_line, store_line}
 
 -- what records tell of themselves: what is recorded, what a load gives, and their count of faults
 pub record Recorded : Type 0 where
@@ -45,6 +45,11 @@ RefusesStore Store old new status = Prints store_line old new × (status ≡ 4)
 RefusesStore NotOurs old new status = Prints not_ours_line old new × (status ≡ 4)
 RefusesStore (Row frame at) old new status =
     (Prints (row_line frame at) old new × (status ≡ 4)) ⊎ (Prints memory_line old new × (status ≡ 8))
+
+-- which damaged file keeps a repository from being opened; for its line memory may be wanting
+abbrev pub RefusesDamaged : Damaged → Output → Output → ℕ → Type 0
+RefusesDamaged damaged old new status =
+    (Prints (stopped_line damaged) old new × (status ≡ 5)) ⊎ (Prints memory_line old new × (status ≡ 8))
 
 -- A check by what comes of it. The files are looked at, of tables that are those which the records tell; the records or the
 -- store fail, which one of their counts tells; the records are refused, as a load of them is told to be; memory is wanting.

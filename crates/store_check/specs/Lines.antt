@@ -24,6 +24,10 @@ damaged_text d =
 abbrev pub damaged_line : Damaged → List ℕ
 damaged_line d = line (damaged_text d)
 
+-- a repository is not opened, since this file is damaged
+abbrev pub stopped_line : Damaged → List ℕ
+stopped_line d = line (codes "mvnrepod: " ++ damaged_text d)
+
 -- how many files were looked at
 abbrev pub checked_line : ℕ → List ℕ
 checked_line looked = line (codes "checked " ++ decimal looked)

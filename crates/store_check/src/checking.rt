@@ -2,13 +2,13 @@
 ghost use Rattle.std.specs.Prelude.{◌≡◌};
 ghost use Rattle.blob_audit.specs.Faults.{HasAuditCause};
 ghost use Rattle.run_lines.specs.Printing.{output};
-ghost use Rattle.store_check.specs.Checking.{Checks, RefusesStore, Reports, recorded};
+ghost use Rattle.store_check.specs.Checking.{Checks, RefusesDamaged, RefusesStore, Reports, recorded};
 
-use crate::lines::{report_text, row_line};
-use blob_audit::{Audit, AuditFault, audit};
+use crate::lines::{report_text, row_line, stopped_line};
+use blob_audit::{Audit, AuditFault, Damaged, audit};
 use outside::{Blobs, Sink};
 use row_tables::Records;
-use run_lines::{DONE, NAMED, NO_MEMORY, OUTPUT, STORE, fault, print};
+use run_lines::{DAMAGED, DONE, NAMED, NO_MEMORY, OUTPUT, STORE, fault, print};
 use std::alloc::Global;
 
 /// Prints what a look at all recorded files has found, and gives the status that tells it.
@@ -38,8 +38,20 @@ fn refuse_row<O: Sink>(alloc: Global, out: &mut O, frame: u64, at: u64) -> u8
     }
 }
 
-/// Prints why the recorded files could not be looked at.
-fn refuse_store<O: Sink>(alloc: Global, out: &mut O, refusal: AuditFault) -> u8
+/// Prints which file is damaged, where that keeps a repository from being opened. Its status is 5, or 8 where memory is
+/// wanting for the line.
+pub fn refuse_damaged<O: Sink>(alloc: Global, out: &mut O, damaged: &Damaged) -> u8
+    ensures { RefusesDamaged damaged.now (output (O.taken out.old) (O.write_faults out.old)) (output (O.taken out.new) (O.write_faults out.new)) result }
+{
+    match stopped_line(alloc, damaged) {
+        Ok(line) => fault(out, line.as_slice(), DAMAGED),
+        Err(_) => fault(out, b"mvnrepod: memory\n", NO_MEMORY),
+    }
+}
+
+/// Prints why the recorded files could not be looked at, as far as that can be printed. Its status is 4, or 8 where memory
+/// was wanting, or is for the line.
+pub fn refuse_store<O: Sink>(alloc: Global, out: &mut O, refusal: AuditFault) -> u8
     ensures { RefusesStore refusal (output (O.taken out.old) (O.write_faults out.old)) (output (O.taken out.new) (O.write_faults out.new)) result }
 {
     match refusal {

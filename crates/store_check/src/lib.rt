@@ -5,5 +5,6 @@ mod checking;
 mod lines;
 mod running;
 
-pub use checking::check_store;
+pub use blob_audit::AuditFault;
+pub use checking::{check_store, refuse_damaged, refuse_store};
 pub use running::check;

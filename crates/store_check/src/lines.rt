@@ -1,7 +1,7 @@
 //! The lines of a check.
 ghost use Rattle.std.specs.Prelude.{◌≡◌, ◌++◌, IfOk, OnOk};
 ghost use Rattle.std.specs.List.{flat_map};
-ghost use Rattle.store_check.specs.Lines.{checked_line, damaged_line, damaged_text, found_text, print_text, report_text, row_line};
+ghost use Rattle.store_check.specs.Lines.{checked_line, damaged_line, damaged_text, found_text, print_text, report_text, row_line, stopped_line};
 
 use blob_audit::{Audit, Damaged};
 use repo_model::Print;
@@ -19,11 +19,7 @@ fn push_print(alloc: Global, text: &mut Vec<u8>, print: &Print) -> Result<(), Al
 }
 
 /// Adds what was found of a content, or that there was none.
-fn push_found(
-    alloc: Global,
-    text: &mut Vec<u8>,
-    found: &Option<Print>,
-) -> Result<(), AllocError>
+fn push_found(alloc: Global, text: &mut Vec<u8>, found: &Option<Print>) -> Result<(), AllocError>
     ensures { OnOk result (text.new.items ≡ text.old.items ++ found_text found.now) }
 {
     match found {
@@ -67,6 +63,16 @@ pub(crate) fn report_text(alloc: Global, found: &Audit) -> Result<Vec<u8>, Alloc
     text.extend_from_slice(found.looked.to_string(alloc)?.as_bytes())?;
     text.push(b'\n')?;
     Ok(text)
+}
+
+/// The line of a repository that is not opened, since a file is damaged.
+pub(crate) fn stopped_line(alloc: Global, damaged: &Damaged) -> Result<Vec<u8>, AllocError>
+    ensures { IfOk result (λ line. line.items ≡ stopped_line damaged.now) }
+{
+    let mut line = Vec::from_slice(alloc, b"mvnrepod: ")?;
+    push_damaged(alloc, &mut line, damaged)?;
+    line.push(b'\n')?;
+    Ok(line)
 }
 
 /// The line of records in which a frame cannot be read at a place of it.

@@ -9,4 +9,4 @@ returns-in-Ok g c =
     accepted c.in-Ok.settings (read.0, read.1, refl) (rw read.2 at c.serve.ensures)
 
 pub returns-in-Err : goal.returns-in-Err
-returns-in-Err g c = refused c.in-Err.ensures refl refl
+returns-in-Err g c = refused c.in-Err.ensures refl (refl, refl) refl
