@@ -29,7 +29,8 @@ use Rattle.repo_run.specs.FirstConnection.{Makes, ServesFirst, port_failed, none
 use Rattle.repo_run.specs.Replay.{AllTold, Finishes, IsReplayed, Reports, ReportsFirst, ServesWith, counts, opened}
 use Rattle.repo_run.specs.Replay as replay
 use Rattle.repo_run.specs.Status.{Counts, HasStatus, done, source_failed, sink_failed, out_failed, memory_wanted}
-use Rattle.repo_run.specs.Surroundings.{Connection, DeskState, Output, outside_at}
+use Rattle.run_lines.specs.Printing.{Output}
+use Rattle.repo_run.specs.Surroundings.{Connection, DeskState, outside_at}
 
 same-counts : (old new : Connection) (out out' : Output) → new.read_faults ≡ old.read_faults → new.write_faults ≡ old.write_faults
     → out'.faults ≡ out.faults → counts new out' ≡ counts old out

@@ -4,3 +4,4 @@ pub mod Surroundings
 pub mod Lines
 pub mod FirstConnection
 pub mod Replay
+pub mod Running

@@ -15,16 +15,14 @@ use Rattle.repo_course.specs.Serving.{Serves}
 use Rattle.course_laws.specs.AsPlayed.{IsAsPlayed, IsPlayedUpTo, NoFaults, StoodStill}
 use Rattle.course_laws.specs.Endings.{EndsByCause}
 use Rattle.course_laws.specs.Faultless.{first_scene}
-use Rattle.repo_config.specs.Source.{IsReadFrom}
-use Rattle.repo_config.specs.declared.source.SourceFault.TheVariants.{Refused}
-use Rattle.repo_config.specs.declared.faults.SettingsFault.{SettingsFault}
 use Rattle.repo_model.specs.Settings.{Settings}
-use Rattle.repo_run.specs.declared.actions.Action.{Action}
-use Rattle.repo_run.specs.declared.actions.Action.TheVariants.{Replay, Nothing}
 use Rattle.repo_run.specs.FirstConnection.{Makes}
-use Rattle.repo_run.specs.Lines.{words_line, input_line, memory_line, ending_line, refusal_line}
+use Rattle.run_lines.specs.Lines.{input_line, memory_line}
+use Rattle.run_lines.specs.Printing.{Output, Prints, PrintsPart, PrintsWhole}
+use Rattle.run_lines.specs.Reading.{File, Reads}
+use Rattle.repo_run.specs.Lines.{ending_line}
 use Rattle.repo_run.specs.Status.{HasStatus, Counts}
-use Rattle.repo_run.specs.Surroundings.{Connection, DeskState, File, Output, PrintsWhole, PrintsPart, Prints, outside_at}
+use Rattle.repo_run.specs.Surroundings.{Connection, DeskState, outside_at}
 
 -- the repository of these settings before its first call, with these moments to come
 abbrev pub opened : Settings → Option Moments → Whole
@@ -81,12 +79,6 @@ abbrev pub ReportsFirst : Option End → ℕ → Output → Output → ℕ → T
 ReportsFirst (Some ending) calls old new status = Reports ending calls old new status
 ReportsFirst None calls old new status = Prints input_line old new × (status ≡ 6)
 
--- why settings are refused, and that they are; or memory was wanting for the line, or for the reading itself
-abbrev pub Refuses : SettingsFault → Output → Output → ℕ → Type 0
-Refuses refusal old new status =
-    ((line : List ℕ) × (refusal_line refusal ≡ Some line) × Prints line old new × (status ≡ 3))
-    ⊎ (Prints memory_line old new × (status ≡ 8))
-
 abbrev pub counts : Connection → Output → Counts
 counts c out = record { source = c.read_faults; sink = c.write_faults; out = out.faults }
 
@@ -105,19 +97,10 @@ pub data ServesWith {X : Type 0} (tells : Type 0) (settings : Settings) (connect
       → Reports ending calls out out' status → HasStatus (counts (connection_of link) out) (counts (connection_of link') out') status
       → ServesWith tells settings connection_of clock clock' old new out out' status
 
--- A replay, by what comes of reading its settings from a source: it fails, what it says is refused, or it says settings.
+-- A replay, by what comes of reading its settings: there are none, or they are served by.
 pub data Replays {X : Type 0} (tells : Type 0) (connection_of : X → Connection) (source source' : File) (clock clock' : Option Moments) (old new : DeskState X) (out out' : Output) (status : ℕ) : Type 0 where
-  not_read : Rose source.faults source'.faults → new ≡ old → clock' ≡ clock → Prints input_line out out' → status ≡ 6
+  refused : Reads source source' out out' (Err status) → new ≡ old → clock' ≡ clock
       → Replays tells connection_of source source' clock clock' old new out out' status
-  refused : (refusal : SettingsFault) → source'.faults ≡ source.faults → IsReadFrom source.left (Err (Refused refusal)) → new ≡ old → clock' ≡ clock
-      → Refuses refusal out out' status → Replays tells connection_of source source' clock clock' old new out out' status
-  accepted : (settings : Settings) → source'.faults ≡ source.faults → IsReadFrom source.left (Ok settings)
+  accepted : (settings : Settings) → Reads source source' out out (Ok settings)
       → ServesWith tells settings connection_of clock clock' old new out out' status
       → Replays tells connection_of source source' clock clock' old new out out' status
-
--- what a run does, by what its words ask for
-abbrev pub Runs : {X : Type 0} → Action → Type 0 → (X → Connection) → File → File → Option Moments → Option Moments → DeskState X → DeskState X → Output → Output → ℕ → Type 0
-Runs Replay tells connection_of source source' clock clock' old new out out' status = Replays tells connection_of source source' clock clock' old new out out' status
-Runs Nothing tells connection_of source source' clock clock' old new out out' status =
-    (source' ≡ source) × (new ≡ old) × (clock' ≡ clock)
-    × ((Prints words_line out out' × (status ≡ 2)) ⊎ (Prints memory_line out out' × (status ≡ 8)))

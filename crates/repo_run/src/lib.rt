@@ -2,9 +2,11 @@
 #![tactic(auto)]
 
 mod actions;
+mod desks;
 mod laws;
 mod program;
 mod records;
+mod replays;
 mod reports;
 mod words;
 
@@ -12,7 +14,9 @@ pub use actions::{Action, Wanted};
 pub use laws::{
     alone_nothing_is_left_behind, sound_numbers_are_drawn, turns_are_a_history, worked_replay,
 };
-pub use program::{Desk, Ran, run, serve_first};
+pub use desks::{Cleaner, Desk, Ran};
+pub use program::run;
 pub use records::NoRecords;
-pub use reports::{DONE, INPUT, NO_MEMORY, OUTPUT, REFUSED, SETTINGS};
+pub use replays::serve_first;
+pub use run_lines::{DONE, INPUT, NAMED, NO_MEMORY, OUTPUT, REFUSED, SETTINGS, STORE};
 pub use words::wanted;

@@ -1,5 +1,5 @@
 use Rattle.std.proofs.Common.{Some, inl, sym, ap, ◌∙◌}
-use Rattle.repo_run.proofs.reports.refuse.Goals as goal
+use Rattle.run_lines.proofs.refusals.refuse.Goals as goal
 
 pub returns-in-Ok : goal.returns-in-Ok
 returns-in-Ok g c =

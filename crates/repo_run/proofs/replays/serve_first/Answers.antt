@@ -4,7 +4,7 @@ use Rattle.outside.specs.Told.{behind}
 use Rattle.repo_course.specs.Cleaning.{store}
 use Rattle.repo_run.specs.FirstConnection.{port_failed, one_served}
 use Rattle.repo_run.proofs.Desks.{same_desk}
-use Rattle.repo_run.proofs.program.serve_first.Goals as goal
+use Rattle.repo_run.proofs.replays.serve_first.Goals as goal
 
 pub returns-in-Ok-Some : goal.returns-in-Ok-Some
 returns-in-Ok-Some g c =
