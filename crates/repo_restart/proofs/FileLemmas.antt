@@ -1,6 +1,6 @@
 -- Recorded files one after another: those so far, the next one, and the rest.
 use Rattle.std.proofs.Common.{◌≡◌, ℕ, ◌+◌, ◌<◌, Bool, true, false, cond, List, [], ◌∷◌, ◌++◌, length, map, filter, take, drop, get_or, None, Result, Ok, Err, Less, refl, sym, ap, ◌∙◌, subst, append-nil, IsTrue}
-use Rattle.std.specs.Prelude.{◌≤◌, count_by, IsErrAnd}
+use Rattle.std.specs.Prelude.{◌≤◌, IsErrAnd}
 use Rattle.std.specs.List.{AllByRecursion}
 use Rattle.std.proofs.lemmas.Bool.{eq-eqb}
 use Rattle.std.proofs.lemmas.List.{map-append, take_more, drop_more, take-append-drop}

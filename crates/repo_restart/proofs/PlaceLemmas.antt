@@ -1,5 +1,5 @@
 -- The first element that passes a test, and the row of a recorded file as its repository keeps it.
-use Rattle.std.proofs.Common.{◌≡◌, ℕ, ◌+◌, ◌<◌, ◌≤◌, Bool, true, false, cond, not, List, [], ◌∷◌, length, find, get_or, set, Option, Some, None, refl, sym, ap, ◌∙◌, subst, arith, suc}
+use Rattle.std.proofs.Common.{◌≡◌, ℕ, ◌+◌, ◌<◌, ◌≤◌, Bool, true, false, cond, not, List, [], ◌∷◌, length, find, get_or, set, Some, None, refl, sym, ap, ◌∙◌, subst, arith, suc}
 use Rattle.std.specs.Prelude.{nat_lt}
 use Rattle.std.specs.List.{position, position_or_len}
 use Rattle.std.specs.Option.{option_map_or}
@@ -9,7 +9,7 @@ use Rattle.outside.specs.declared.parcels.Parcel.{Parcel}
 use Rattle.outside.specs.declared.stores.Held.{Ghosts}
 use Rattle.repo_model.specs.Data as plain
 use Rattle.repo_model.specs.Shown.{shown_parcel, shown_print}
-use Rattle.repo_model.specs.State.{change_first, is_repository, row_at}
+use Rattle.repo_model.specs.State.{change_first, is_repository}
 use Rattle.row_tables.specs.Stored.{shown_row}
 use Rattle.row_tables.specs.Stored as stored
 use Rattle.row_tables.specs.declared.files.FileRow.{FileRow}

@@ -1,6 +1,6 @@
 -- Repositories that have the rows so far have them and one more, once it is taken up.
 use Rattle.std.proofs.Common.{◌≡◌, ℕ, Bool, true, false, cond, List, [], ◌∷◌, ◌++◌, map, filter, find, Option, Some, None, Less, refl, sym, ap, ◌∙◌, subst, append-nil, bytes_eq}
-use Rattle.std.specs.Prelude.{◌==◌, ◌≤◌, count_by, IfSome, option_and_then}
+use Rattle.std.specs.Prelude.{◌==◌, IfSome, option_and_then}
 use Rattle.std.specs.List.{AllByRecursion}
 use Rattle.std.proofs.lemmas.Bool.{false≢true, eqb-true, eq-eqb}
 use Rattle.std.proofs.lemmas.List.{map-append}

@@ -21,7 +21,11 @@ use turn_seats::{Asker, Repository};
 ///
 /// The pass's entries are those that the seat gained: its own calls, one after another, in the one history, which begins with
 /// all that the seat had seen. The settings are those of the repository.
-pub fn clean_with<B: Blobs, T: Repository<Call = Command<B::Held>, Reply = Reply<B::Held>>, W: Wait>(
+pub fn clean_with<
+    B: Blobs,
+    T: Repository<Call = Command<B::Held>, Reply = Reply<B::Held>>,
+    W: Wait,
+>(
     rt: &W,
     alloc: Global,
     settings: &Settings,

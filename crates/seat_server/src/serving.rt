@@ -21,7 +21,12 @@ use turn_seats::{Asker, Repository};
 ///
 /// The stream's entries are those that the seat gained: its own calls, one after another, in the one history, which begins with
 /// all that the seat had seen. The settings are those of the repository.
-pub fn serve_with<B: Blobs, T: Repository<Call = Command<B::Held>, Reply = Reply<B::Held>>, S: Stream, W: Wait>(
+pub fn serve_with<
+    B: Blobs,
+    T: Repository<Call = Command<B::Held>, Reply = Reply<B::Held>>,
+    S: Stream,
+    W: Wait,
+>(
     rt: &W,
     alloc: Global,
     settings: &Settings,

@@ -13,7 +13,7 @@ use turn_seats::{Asker, Repository, end_all};
 // Asks once, whoever takes the commands.
 fn ask_once<A: Ask<Call = (), Given = u64>>(asker: &mut A) -> u64
     requires ready { A.ready asker.old }
-    requires meets { IsTrue (meets (A.settings asker.old) (A.asked ())) }
+    requires meets { IsTrue (meets (A.settings asker.old) (A.asked tt)) }
 {
     asker.ask(())
 }
@@ -26,7 +26,7 @@ fn seat_asks<T: Repository<Call = (), Reply = u64>, W: Wait>(
     times: u64,
 ) -> (Seat<T>, u64)
     requires seat { IsSeatOf (IsStep T.fixed T.may_ask T.turned) turns.now seat }
-    requires meets { IsTrue (meets (T.sight.settings (opening turns.now)) (T.sight.asked ())) }
+    requires meets { IsTrue (meets (T.sight.settings (opening turns.now)) (T.sight.asked tt)) }
     ensures seat { IsSeatOf (IsStep T.fixed T.may_ask T.turned) turns.now result.0 }
     ensures parts { parts_of result.0 ≡ parts_of seat }
 {

@@ -1,7 +1,4 @@
-use Rattle.std.proofs.Common.{◌≡◌, ℕ, ◌+◌, refl, sym, ap, ◌∙◌, cond, max}
-use Rattle.std.specs.Prelude.{nat_lt}
-use Rattle.std.proofs.lemmas.List.Sums.{fold-append}
-use Rattle.repo_model.specs.State.{number_end}
+use Rattle.std.proofs.Common.{◌+◌, refl}
 use Rattle.repo_restart.proofs.NumberLemmas.{above-both, among-permutation}
 use Rattle.repo_restart.proofs.ShelfLemmas.{clears, clears-front, clears-none, on-err}
 use Rattle.repo_restart.proofs.leftovers.clear.Goals as goal

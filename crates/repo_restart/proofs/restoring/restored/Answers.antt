@@ -1,7 +1,6 @@
-use Rattle.std.proofs.Common.{◌≡◌, ◌≤◌, List, [], ◌∷◌, length, map, take, get_or, refl, sym, ap, ◌∙◌, subst, arith}
+use Rattle.std.proofs.Common.{◌≤◌, List, [], ◌∷◌, length, refl, sym, ◌∙◌, subst, arith}
 use Rattle.std.proofs.lemmas.List.{take_all}
-use Rattle.repo_model.specs.Data as plain
-use Rattle.blob_audit.specs.Damages.{AreDamaged, IsFound, none}
+use Rattle.blob_audit.specs.Damages.{AreDamaged, none}
 use Rattle.blob_audit.specs.Files.{shown_file}
 use Rattle.blob_audit.specs.declared.damages.Damaged.{Damaged}
 use Rattle.blob_audit.specs.declared.order.RecordedFile.{RecordedFile}

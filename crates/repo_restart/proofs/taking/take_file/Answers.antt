@@ -1,4 +1,4 @@
-use Rattle.std.proofs.Common.{◌≡◌, [], ◌∷◌, sym, ap, subst}
+use Rattle.std.proofs.Common.{[], ◌∷◌, sym, subst}
 use Rattle.blob_audit.specs.Damages.{AreDamaged, IsFound, damaged, none}
 use Rattle.blob_audit.specs.Files.{shown_file}
 use Rattle.blob_audit.specs.Found.{found_in, IsOther}

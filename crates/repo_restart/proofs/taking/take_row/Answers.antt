@@ -1,12 +1,11 @@
-use Rattle.std.proofs.Common.{◌≡◌, Some, None, get_or, length, set, ◌<◌, refl, sym, ap, ◌∙◌, subst}
+use Rattle.std.proofs.Common.{◌≡◌, Some, None, set, sym, ap, ◌∙◌}
 use Rattle.std.specs.List.{position}
-use Rattle.std.proofs.lemmas.List.{get_or_default}
 use Rattle.repo_model.specs.Data as plain
 use Rattle.repo_model.specs.Effect.{with_row}
-use Rattle.repo_model.specs.State.{change_first, is_repository, row_at}
+use Rattle.repo_model.specs.State.{is_repository}
 use Rattle.blob_audit.specs.Files.{shown_file}
 use Rattle.repo_restart.specs.Taking.{holding}
-use Rattle.repo_restart.proofs.PlaceLemmas.{changed-at, kept-is, rows-at, unchanged, within-at}
+use Rattle.repo_restart.proofs.PlaceLemmas.{changed-at, kept-is, rows-at, unchanged}
 use Rattle.repo_restart.proofs.taking.take_row.Goals as goal
 
 pub returns-in_default : goal.returns-in_default
