@@ -1,2 +1,3 @@
+mod Shared
 mod Visiting
 mod Passing

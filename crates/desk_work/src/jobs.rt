@@ -11,11 +11,17 @@ use thread_jobs::Job;
 use turn_lock::{Seat, Thing, Turns};
 use turn_seats::Repository;
 
+/// The turns of a repository, and its settings.
+#[derive(Drop)]
+pub struct House<T: Thing> {
+    pub turns: Turns<T>,
+    pub settings: Settings,
+}
+
 /// A desk with its seat.
 #[derive(Drop)]
 pub struct DeskJob<'a, P: Port, B: Blobs, T: Thing> {
-    pub turns: &'a Turns<T>,
-    pub settings: &'a Settings,
+    pub house: &'a House<T>,
     pub seat: Seat<T>,
     pub desk: Desk<P, B>,
     pub alloc: Global,
@@ -34,7 +40,7 @@ impl<
 
     type Out = (Seat<T>, (Desk<P, B>, bool));
 
-    ghost ready = { λ job. IsReady T.sight shown_command shown_reply (IsStep T.fixed T.may_ask T.turned) job.settings.now job.turns.now job.seat };
+    ghost ready = { λ job. IsReady T.sight shown_command shown_reply (IsStep T.fixed T.may_ask T.turned) job.house.now.settings job.house.now.turns job.seat };
 
     ghost gives = { λ job out. Serves ⟦<P::Link as Tells>⟧ (record {
       left = P.left;
@@ -42,17 +48,16 @@ impl<
       faults = P.faults;
       port = λ desk. desk.port;
       blobs = λ desk. store (B.shelf desk.blobs) (B.faults desk.blobs);
-    }) job.settings.now (AllTell B.Held.bytes) T.sight (IsStep T.fixed T.may_ask T.turned) job.turns.now job.seat job.desk out };
+    }) job.house.now.settings (AllTell B.Held.bytes) T.sight (IsStep T.fixed T.may_ask T.turned) job.house.now.turns job.seat job.desk out };
 
     fn run<R: Wait>(self, rt: &R) -> (Seat<T>, (Desk<P, B>, bool)) {
         let DeskJob {
-            turns,
-            settings,
+            house,
             seat,
             mut desk,
             alloc,
         } = self;
-        let (seat, failed) = serve_desk(rt, alloc, settings, turns, seat, &mut desk);
+        let (seat, failed) = serve_desk(rt, alloc, &house.settings, &house.turns, seat, &mut desk);
         (seat, (desk, failed))
     }
 }
@@ -60,8 +65,7 @@ impl<
 /// The cleaner with its seat.
 #[derive(Drop)]
 pub struct CleanerJob<'a, B: Blobs, Q: Pace, T: Thing> {
-    pub turns: &'a Turns<T>,
-    pub settings: &'a Settings,
+    pub house: &'a House<T>,
     pub seat: Seat<T>,
     pub cleaner: Cleaner<B, Q>,
     pub alloc: Global,
@@ -80,20 +84,19 @@ impl<
 
     type Out = (Seat<T>, Cleaner<B, Q>);
 
-    ghost ready = { λ job. IsReady T.sight shown_command shown_reply (IsStep T.fixed T.may_ask T.turned) job.settings.now job.turns.now job.seat };
+    ghost ready = { λ job. IsReady T.sight shown_command shown_reply (IsStep T.fixed T.may_ask T.turned) job.house.now.settings job.house.now.turns job.seat };
 
-    ghost gives = { λ job out. KeptClean job.settings.now T.sight (IsStep T.fixed T.may_ask T.turned) job.turns.now job.seat out.0 (Q.pauses job.cleaner.pace) (Q.pauses out.1.pace)
+    ghost gives = { λ job out. KeptClean job.house.now.settings T.sight (IsStep T.fixed T.may_ask T.turned) job.house.now.turns job.seat out.0 (Q.pauses job.cleaner.pace) (Q.pauses out.1.pace)
         (store (B.shelf job.cleaner.blobs) (B.faults job.cleaner.blobs)) (store (B.shelf out.1.blobs) (B.faults out.1.blobs)) };
 
     fn run<R: Wait>(self, rt: &R) -> (Seat<T>, Cleaner<B, Q>) {
         let CleanerJob {
-            turns,
-            settings,
+            house,
             seat,
             mut cleaner,
             alloc,
         } = self;
-        let seat = keep_clean(rt, alloc, settings, turns, seat, &mut cleaner);
+        let seat = keep_clean(rt, alloc, &house.settings, &house.turns, seat, &mut cleaner);
         (seat, cleaner)
     }
 }

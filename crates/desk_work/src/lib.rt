@@ -4,7 +4,10 @@
 mod cleaner;
 mod desk;
 mod jobs;
+mod seating;
+mod work;
 
 pub use cleaner::{Cleaner, keep_clean};
 pub use desk::{Desk, serve_desk};
-pub use jobs::{CleanerJob, DeskJob};
+pub use jobs::{CleanerJob, DeskJob, House};
+pub use seating::seated;
