@@ -7,6 +7,10 @@ pub enum Wanted {
     /// To answer the requests of standard input under these settings, its clock beginning at `at` and going on by `step`
     /// seconds with each look at it.
     Replay { settings: Text, at: u64, step: u64 },
+    /// To look whether all files that are recorded in a folder are there as they were recorded.
+    Check { settings: Text, data: Text },
+    /// To purge the repositories of a folder under these settings, and to remove its garbage.
+    Clean { settings: Text, data: Text },
 }
 
 /// Why words ask for nothing.

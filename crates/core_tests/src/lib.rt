@@ -19,6 +19,10 @@ mod plain;
 #[cfg(test)]
 mod purges;
 #[cfg(test)]
+mod refusals;
+#[cfg(test)]
+mod restarts;
+#[cfg(test)]
 mod said;
 #[cfg(test)]
 mod sides;

@@ -12,6 +12,8 @@ mod NameLemmas
 mod PurgeLemmas
 mod PurgeTurns
 mod PutReplies
+mod StartLemmas
+mod SessionNumbers
 mod SideLemmas
 mod Turning
 mod UseLemmas

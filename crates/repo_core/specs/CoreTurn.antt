@@ -10,13 +10,16 @@ use Rattle.repo_model.specs.declared.reply.Reply.{Reply}
 use Rattle.repo_model.specs.Effect.{recorded}
 use Rattle.repo_model.specs.History.{Entry, Fits, after, effects_of}
 use Rattle.row_tables.specs.Commits.{tables_with}
+use Rattle.repo_core.specs.Turn.{IsSettled}
 use Rattle.repo_core.specs.Whole.{Whole}
 
--- under these settings the entry fits the state, the new state is the one that it leaves, what it did is recorded, and it was counted
+-- under these settings the entry fits the state, the new state is the one that it leaves, what it did is recorded, a Collect was
+-- committed, and the turn was counted
 pub record CoreTurn (settings : Settings) (old : Whole) (entry : Entry) (new : Whole) : Type 0 where
   pub fits : Fits settings old.state entry
   pub state : new.state ≡ after settings old.state entry
   pub tables : new.tables ≡ tables_with (recorded (effects_of settings old.state entry)) old.tables
+  pub settled : IsSettled entry.command entry.reply new.unsettled
   pub same : new.settings ≡ old.settings
   pub calls : new.calls ≡ min (old.calls + 1) last_count
 

@@ -1,46 +1,58 @@
 //! The parts of the repository, and one turn of them.
 ghost use Rattle.std.specs.Prelude.{◌≡◌};
 
-use crate::hosted::{counts, empty_repos, put, takes, unlist};
+use crate::hosted::{counts, put, takes, unlist};
 use crate::looks::look;
 use crate::purges::{Gone, condemn_all, drop_expired, expiring};
 use crate::puts::{compare_side, reply_of, settle};
 use crate::turn::next_moment;
 use blob_yard::{DrawFault, Yard};
+use deploy_session::Sessions;
 use hosted_repo::{Hosted, Kept};
 use mvn_digest::Digest;
-use outside::{Clock, Held, NoMemory, Parcel};
+use outside::{Clock, Held, Parcel};
 use repo_config::Settings;
 use repo_model::{Command, Numbers, Place, Reply};
 use row_tables::{CommitFault, Records};
-use std::alloc::Global;
 use std::marker::Model;
 
-/// Hosted repositories with their rows, the blob numbers, a clock, the settings, and how many calls there were.
+/// Hosted repositories with their rows, the numbers of blobs, the sessions, and the last moment.
+#[derive(Drop)]
+pub struct Stock<H: Held> {
+    pub repos: Vec<Hosted<H>>,
+    pub yard: Yard,
+    pub sessions: Sessions<H>,
+    pub last: u64,
+}
+
+/// Hosted repositories with their rows, the numbers of blobs, the sessions, a clock, the settings, and how many calls there
+/// were.
 #[derive(Drop)]
 pub struct Machine<C: Clock, H: Held> {
     settings: Settings,
     repos: Vec<Hosted<H>>,
     yard: Yard,
+    sessions: Sessions<H>,
     last: u64,
     clock: C,
     calls: u64,
 }
 
 impl<C: Clock, H: Held> Model for Machine<C, H> {
-    ghost use Rattle.std.specs.Prelude.{◌≡◌, ◌≤◌, []};
+    ghost use Rattle.std.specs.Prelude.{◌≡◌, ◌≤◌};
     ghost use Rattle.repo_model.specs.History.{latest_moment};
     ghost use Rattle.repo_core.specs.Whole.{Parts};
 
     ghost Value = { Parts };
 
     ghost use Rattle.repo_core.specs.Hosted.{rules_of, AreInUse};
+    ghost use Rattle.repo_core.specs.Whole.{AreClosed};
 
     ghost view = { λ c. record {
       settings = c.settings;
       state = record {
         hosted = c.repos.items;
-        sessions = [];
+        sessions = c.sessions.sessions;
         yard = c.yard.yard;
         last = c.last;
         clock = C.moments c.clock;
@@ -53,18 +65,20 @@ impl<C: Clock, H: Held> Model for Machine<C, H> {
       moment : c.last ≤ latest_moment;
       blobs : AreInUse c.yard.kept c.repos.items;
       rules : rules_of c.repos.items ≡ c.settings.hosted;
+      closed : AreClosed c.sessions.sessions;
+      numbers : c.yard.yard.next_session ≡ c.sessions.next;
     } };
 }
 
 impl<C: Clock, H: Held> Machine<C, H> {
-    ghost use Rattle.std.specs.Prelude.{◌≡◌, ◌≤◌, ◌+◌, min, map, false, [], IfOk, IfErr, IsTrue, vec_capacity};
+    ghost use Rattle.std.specs.Prelude.{◌≡◌, ◌≤◌, ◌+◌, ℕ, min, map, false, [], None, IsTrue, vec_capacity};
     ghost use Rattle.mvn_digest.specs.Sides.{bytes_in};
     ghost use Rattle.outside.specs.Faults.{last_count};
-    ghost use Rattle.repo_model.specs.State.{opening};
+    ghost use Rattle.repo_model.specs.State.{open_of};
     ghost use Rattle.repo_model.specs.Data.{repository};
     ghost use Rattle.repo_model.specs.Command.{meets, look, may_put, put, put_side, drop_draft, unlist, collect, status};
     ghost use Rattle.repo_model.specs.Effect.{recorded};
-    ghost use Rattle.repo_model.specs.History.{Fits, after, effects_of};
+    ghost use Rattle.repo_model.specs.History.{Fits, after, effects_of, latest_moment};
     ghost use Rattle.repo_model.specs.Purge.{expire_all, most_rows};
     ghost use Rattle.repo_model.specs.Reply.{is_free, no_session};
     ghost use Rattle.repo_model.specs.Shown.{shown_parcel, shown_command, shown_reply, entry_of};
@@ -72,41 +86,38 @@ impl<C: Clock, H: Held> Machine<C, H> {
     ghost use Rattle.row_tables.specs.Commits.{tables_with};
     ghost use Rattle.hosted_repo.specs.Expired.{blob_of};
     ghost use Rattle.hosted_repo.specs.Recording.{FitWhereTold};
+    ghost use Rattle.repo_core.specs.Hosted.{AreInUse, rules_of};
     ghost use Rattle.repo_core.specs.Purge.{shares};
-    ghost use Rattle.repo_core.specs.Turn.{MayRecord, Recorded, Turned};
-    ghost use Rattle.repo_core.specs.Whole.{IsOrderly, counting};
+    ghost use Rattle.repo_core.specs.Stock.{state_of};
+    ghost use Rattle.repo_core.specs.Turn.{IsSettled, IsSettledBy, MayRecord, Recorded, Turned};
+    ghost use Rattle.repo_core.specs.Whole.{AreClosed, IsOrderly, counting};
 
-    /// A repository without rows, by these settings.
-    ///
-    /// Where memory is wanting the clock comes back as it was.
-    pub fn plain(
-        alloc: Global,
-        settings: Settings,
-        clock: C,
-    ) -> Result<Machine<C, H>, (NoMemory, C)>
-        ensures settings { IfOk result (λ core. core.settings ≡ settings) }
-        ensures state { IfOk result (λ core. core.state ≡ opening settings (C.moments clock)) }
-        ensures calls { IfOk result (λ core. core.calls ≡ 0) }
-        ensures err { IfErr result (λ error. error.1 ≡ clock) }
+    /// The repository that begins with a stock of files, numbers and sessions, of which none is open.
+    pub fn of(settings: Settings, stock: Stock<H>, clock: C) -> Machine<C, H>
+        requires moment { stock.last ≤ latest_moment }
+        requires blobs { AreInUse stock.yard.kept stock.repos.items }
+        requires rules { rules_of stock.repos.items ≡ settings.hosted }
+        requires closed { AreClosed stock.sessions.sessions }
+        requires numbers { stock.yard.yard.next_session ≡ stock.sessions.next }
+        ensures settings { result.settings ≡ settings }
+        ensures state { result.state ≡ state_of stock (C.moments clock) }
+        ensures calls { result.calls ≡ 0 }
     {
-        // Their ids have their form.
-        settings.form();
-        let repos = match empty_repos(alloc, settings.hosted()) {
-            Ok(repos) => repos,
-            Err(error) => return Err((error, clock)),
-        };
-        let yard = match Yard::start(alloc, &[], 1, 1) {
-            Ok(yard) => yard,
-            Err(error) => return Err((error, clock)),
-        };
-        Ok(Machine {
+        let Stock {
+            repos,
+            yard,
+            sessions,
+            last,
+        } = stock;
+        Machine {
             settings,
             repos,
             yard,
-            last: 0,
+            sessions,
+            last,
             clock,
             calls: 0,
-        })
+        }
     }
 
     /// One turn: reads the clock once, and answers the command. What it does is recorded first.
@@ -126,6 +137,7 @@ impl<C: Clock, H: Held> Machine<C, H> {
             (entry_of command self.new.state.last result (K.faults records.new)) }
         ensures tables { K.tables records.new ≡ tables_with (recorded (effects_of self.old.settings (counting (K.faults records.old) self.old.state)
             (entry_of command self.new.state.last result (K.faults records.new)))) (K.tables records.old) }
+        ensures settled { IsSettled (shown_command command) (shown_reply result) (K.unsettled records.new) }
         ensures ready { K.ready records.new }
         ensures settings { self.new.settings ≡ self.old.settings }
         ensures calls { self.new.calls ≡ min (self.old.calls + 1) last_count }
@@ -157,6 +169,7 @@ impl<C: Clock, H: Held> Machine<C, H> {
             settings: _,
             repos: _,
             yard: _,
+            sessions: _,
             last: _,
             clock,
             calls: _,
@@ -164,13 +177,14 @@ impl<C: Clock, H: Held> Machine<C, H> {
         clock
     }
 
-    // The answer at the turn's moment. There are no sessions.
+    // The answer at the turn's moment. No session is open.
     fn answer<K: Records>(&mut self, records: &mut K, command: Command<H>) -> Reply<H>
         requires meets { IsTrue (meets self.old.settings (shown_command command)) }
         requires orderly { IsOrderly self.old }
         requires ready { K.ready records.old }
         requires items { FitWhereTold (K.tables records.old) (recorded (turn self.old.settings self.old.state self.old.state.last (shown_command command)).effects) }
         ensures turn { Recorded self.old self.new (shown_command command) (shown_reply result) (K.tables records.old) (K.tables records.new) (K.faults records.old) (K.faults records.new) }
+        ensures settled { IsSettled (shown_command command) (shown_reply result) (K.unsettled records.new) }
         ensures ready { K.ready records.new }
     {
         match command {
@@ -204,12 +218,12 @@ impl<C: Clock, H: Held> Machine<C, H> {
         }
     }
 
-    // The answer at a session, of which there are none.
+    // The answer at a session, of which none is open.
     fn refuse_session(&self) -> Reply<H>
         ensures reply { shown_reply result ≡ no_session }
-        ensures none { self.now.state.sessions ≡ [] }
+        ensures none { (n : ℕ) → open_of n self.now.state ≡ None }
     {
-        let _ = &self.repos;
+        let _ = &self.sessions;
         Reply::NoSession
     }
 
@@ -289,6 +303,7 @@ impl<C: Clock, H: Held> Machine<C, H> {
         requires ready { K.ready records.old }
         requires items { FitWhereTold (K.tables records.old) (recorded (turn self.old.settings self.old.state self.old.state.last collect).effects) }
         ensures turn { Recorded self.old self.new collect (shown_reply result) (K.tables records.old) (K.tables records.new) (K.faults records.old) (K.faults records.new) }
+        ensures settled { IsSettledBy (shown_reply result) (K.unsettled records.new) }
         ensures ready { K.ready records.new }
     {
         let alloc = *self.repos.allocator();
@@ -336,7 +351,7 @@ impl<C: Clock, H: Held> Machine<C, H> {
             fading,
             cached: 0,
             documents: 0,
-            sessions: 0,
+            sessions: self.sessions.count(),
         }
     }
 }

@@ -5,6 +5,10 @@ use texts::Text;
 pub enum Action {
     /// To answer the requests on standard input.
     Replay,
+    /// To look whether all recorded files are there as they were recorded.
+    Check,
+    /// To purge the repositories, and to remove what is garbage.
+    Clean,
     /// Nothing: the words are refused.
     Nothing,
 }
@@ -15,6 +19,8 @@ pub struct Wanted {
     pub command: Action,
     /// The path of the file with the settings.
     pub settings: Text,
+    /// The path of the folder with what is kept.
+    pub folder: Text,
     /// The moment at which the clock begins, in seconds since 1970 in UTC, and by how many seconds it goes on with each look.
     pub at: u64,
     pub step: u64,
