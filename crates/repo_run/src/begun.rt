@@ -13,7 +13,7 @@ use std::alloc::Global;
 use store_check::{AuditFault, refuse_damaged, refuse_store};
 
 /// The repository of these settings, over what is recorded and stored. At an error the records and the clock come back.
-pub(crate) fn begin<K: Records, B: Blobs, C: Clock>(
+pub fn begin<K: Records, B: Blobs, C: Clock>(
     alloc: Global,
     settings: &Settings,
     records: K,
@@ -38,7 +38,7 @@ pub(crate) fn begin<K: Records, B: Blobs, C: Clock>(
 }
 
 /// Prints why a repository was not opened, as far as that can be printed, and gives the status that tells it.
-pub(crate) fn refuse_start<O: Sink>(alloc: Global, out: &mut O, refusal: &StartFault) -> u8
+pub fn refuse_start<O: Sink>(alloc: Global, out: &mut O, refusal: &StartFault) -> u8
     ensures { RefusesStart refusal.now (output (O.taken out.old) (O.write_faults out.old)) (output (O.taken out.new) (O.write_faults out.new)) result }
 {
     match refusal {

@@ -12,6 +12,7 @@ mod reports;
 mod words;
 
 pub use actions::{Action, Wanted};
+pub use begun::{begin, refuse_start};
 pub use desks::{Cleaner, Desk, Ran};
 pub use laws::{
     alone_nothing_is_left_behind, sound_numbers_are_drawn, turns_are_a_history, worked_replay,

@@ -1,0 +1,222 @@
+//! A server, from its settings to its line.
+ghost use Rattle.std.specs.Prelude.{◌≡◌, ◌<◌, IsFalse, vec_len};
+ghost use Rattle.outside.specs.Faults.{last_count};
+ghost use Rattle.repo_course.specs.Cleaning.{store};
+ghost use Rattle.repo_course.specs.Serving.{AllTell};
+ghost use Rattle.run_lines.specs.Printing.{output};
+ghost use Rattle.run_lines.specs.Reading.{file};
+ghost use Rattle.run_serve.specs.Serving.{Serves, ServesBy, ServesWith, broom};
+ghost use Rattle.store_check.specs.Checking.{recorded};
+ghost use Rattle.turn_lock.specs.History.{IsStep};
+
+use crate::calls::tell_work;
+use desk_work::{Cleaner, Desk, Worked, work};
+use outside::{Blobs, Clock, Port, Sink, Source, Tells};
+use outside_pace::Pace;
+use repo_config::Settings;
+use repo_core::Core;
+use repo_run::{begin, refuse_start};
+use row_tables::Records;
+use run_lines::{NO_MEMORY, fault, settings_of};
+use std::alloc::Global;
+use std::sync::Wait;
+use std::thread::Threads;
+use turn_lock::{Thing, Turns};
+use turn_seats::Repository;
+
+/// What a server gives back: its status, and all objects, so that their counts of faults are seen.
+#[derive(Drop)]
+pub struct Served<P: Port, B: Blobs, Q: Pace, K: Records, C: Clock> {
+    pub status: u8,
+    pub desks: Vec<Desk<P, B>>,
+    pub cleaner: Cleaner<B, Q>,
+    pub records: K,
+    pub clock: C,
+}
+
+// Works with a repository that was opened, and prints how many calls there were.
+fn serve_core<
+    P: Port + Drop + Send,
+    B: Blobs + Drop + Send,
+    Q: Pace + Drop,
+    K: Records + Send,
+    C: Clock + Send,
+    O: Sink,
+    R: Threads + Wait + Sync,
+>(
+    rt: &R,
+    alloc: Global,
+    settings: Settings,
+    core: Core<K, C, B::Held>,
+    desks: Vec<Desk<P, B>>,
+    cleaner: Cleaner<B, Q>,
+    out: &mut O,
+) -> Served<P, B, Q, K, C>
+where
+    P::Link: Send,
+    B::Held: Send,
+    requires settings { core.settings ≡ settings }
+    ensures serves { ServesWith ⟦<P::Link as Tells>⟧ (record {
+      left = P.left;
+      given_back = P.given_back;
+      faults = P.faults;
+      port = λ desk. desk.port;
+      blobs = λ desk. store (B.shelf desk.blobs) (B.faults desk.blobs);
+    }) (AllTell B.Held.bytes) ⟦<Core<K, C, B::Held> as Repository>⟧.sight
+        (IsStep ⟦<Core<K, C, B::Held> as Thing>⟧.fixed ⟦<Core<K, C, B::Held> as Thing>⟧.may_ask ⟦<Core<K, C, B::Held> as Thing>⟧.turned) settings core
+        (recorded (K.tables result.records) (K.loading result.records) (K.faults result.records)) (C.moments result.clock) desks.items result.desks.items
+        (broom (Q.pauses cleaner.pace) (store (B.shelf cleaner.blobs) (B.faults cleaner.blobs)))
+        (broom (Q.pauses result.cleaner.pace) (store (B.shelf result.cleaner.blobs) (B.faults result.cleaner.blobs)))
+        (output (O.taken out.old) (O.write_faults out.old)) (output (O.taken out.new) (O.write_faults out.new)) result.status }
+{
+    let (turns, seat) = match Turns::begin(alloc, core) {
+        Ok(begun) => begun,
+        Err((core, _)) => {
+            let status = fault(out, b"mvnrepod: memory\n", NO_MEMORY);
+            let (records, clock) = core.end();
+            return Served {
+                status,
+                desks,
+                cleaner,
+                records,
+                clock,
+            };
+        }
+    };
+    let Worked {
+        desks,
+        cleaner,
+        repository,
+        calls,
+        refused,
+        failed,
+    } = work(rt, alloc, settings, turns, seat, desks, cleaner);
+    let status = tell_work(alloc, out, refused, failed, calls);
+    let (records, clock) = repository.end();
+    Served {
+        status,
+        desks,
+        cleaner,
+        records,
+        clock,
+    }
+}
+
+// Opens the repository of these settings over what is recorded and over the first desk's blobs, and works with it.
+fn serve_by<
+    P: Port + Drop + Send,
+    B: Blobs + Drop + Send,
+    Q: Pace + Drop,
+    K: Records + Send,
+    C: Clock + Send,
+    O: Sink,
+    R: Threads + Wait + Sync,
+>(
+    rt: &R,
+    alloc: Global,
+    settings: Settings,
+    desks: Vec<Desk<P, B>>,
+    cleaner: Cleaner<B, Q>,
+    records: K,
+    clock: C,
+    out: &mut O,
+) -> Served<P, B, Q, K, C>
+where
+    P::Link: Send,
+    B::Held: Send,
+    requires desks { 0 < vec_len desks }
+    ensures serves { ServesBy ⟦<P::Link as Tells>⟧ (record {
+      left = P.left;
+      given_back = P.given_back;
+      faults = P.faults;
+      port = λ desk. desk.port;
+      blobs = λ desk. store (B.shelf desk.blobs) (B.faults desk.blobs);
+    }) (AllTell B.Held.bytes) ⟦<Core<K, C, B::Held> as Repository>⟧.sight
+        (IsStep ⟦<Core<K, C, B::Held> as Thing>⟧.fixed ⟦<Core<K, C, B::Held> as Thing>⟧.may_ask ⟦<Core<K, C, B::Held> as Thing>⟧.turned) settings
+        (recorded (K.tables records) (K.loading records) (K.faults records)) (recorded (K.tables result.records) (K.loading result.records) (K.faults result.records))
+        (C.moments clock) (C.moments result.clock) desks.items result.desks.items
+        (broom (Q.pauses cleaner.pace) (store (B.shelf cleaner.blobs) (B.faults cleaner.blobs)))
+        (broom (Q.pauses result.cleaner.pace) (store (B.shelf result.cleaner.blobs) (B.faults result.cleaner.blobs)))
+        (output (O.taken out.old) (O.write_faults out.old)) (output (O.taken out.new) (O.write_faults out.new)) result.status }
+{
+    let mut desks = desks;
+    match begin(alloc, &settings, records, &mut desks[0].blobs, clock) {
+        Ok(core) => serve_core(rt, alloc, settings, core, desks, cleaner, out),
+        Err((refusal, records, clock)) => {
+            let status = refuse_start(alloc, out, &refusal);
+            Served {
+                status,
+                desks,
+                cleaner,
+                records,
+                clock,
+            }
+        }
+    }
+}
+
+/// Reads the settings, opens a repository of them over what is recorded and over the first desk's blobs, and serves by it:
+/// each desk the connections of its port, one after another and all desks at once, until none is left; and beside them the
+/// cleaner makes its passes, until its timer says that none is wanted. There is at least one desk, and all come back.
+///
+/// | status | where | line |
+/// |---|---|---|
+/// | 0 | no port handed out a connection any more, and nothing below applies | `calls N` |
+/// | 3 | the settings are refused | `mvnrepod: settings NAME KEY` |
+/// | 4 | the records or the blobs failed before any connection was served, or the records are another's or do not read from a place on | `mvnrepod: store`, `mvnrepod: not-ours`, `mvnrepod: row FRAME AT` |
+/// | 5 | a recorded file's blob is not what was recorded | `mvnrepod: damaged ..` |
+/// | 6 | the source of the settings failed, or a port | `mvnrepod: input` |
+/// | 7 | `out` failed at the line of status 0 | a front of it |
+/// | 8 | memory was wanting before any connection was served, or for a line | `mvnrepod: memory` |
+///
+/// Each failure is one that its object counted. N is the number of calls of the repository: the length of the one history of all
+/// desks and the cleaner, in which each call is answered as the one-thread repository would at that point.
+pub fn serve<
+    P: Port + Drop + Send,
+    B: Blobs + Drop + Send,
+    Q: Pace + Drop,
+    K: Records + Send,
+    C: Clock + Send,
+    S: Source,
+    O: Sink,
+    R: Threads + Wait + Sync,
+>(
+    rt: &R,
+    alloc: Global,
+    settings: &mut S,
+    desks: Vec<Desk<P, B>>,
+    cleaner: Cleaner<B, Q>,
+    records: K,
+    clock: C,
+    out: &mut O,
+) -> Served<P, B, Q, K, C>
+where
+    P::Link: Send,
+    B::Held: Send,
+    requires desks { 0 < vec_len desks }
+    ensures serves { Serves ⟦<P::Link as Tells>⟧ (record {
+      left = P.left;
+      given_back = P.given_back;
+      faults = P.faults;
+      port = λ desk. desk.port;
+      blobs = λ desk. store (B.shelf desk.blobs) (B.faults desk.blobs);
+    }) (AllTell B.Held.bytes) ⟦<Core<K, C, B::Held> as Repository>⟧.sight
+        (IsStep ⟦<Core<K, C, B::Held> as Thing>⟧.fixed ⟦<Core<K, C, B::Held> as Thing>⟧.may_ask ⟦<Core<K, C, B::Held> as Thing>⟧.turned)
+        (file (S.left settings.old) (S.read_faults settings.old)) (file (S.left settings.new) (S.read_faults settings.new))
+        (recorded (K.tables records) (K.loading records) (K.faults records)) (recorded (K.tables result.records) (K.loading result.records) (K.faults result.records))
+        (C.moments clock) (C.moments result.clock) desks.items result.desks.items
+        (broom (Q.pauses cleaner.pace) (store (B.shelf cleaner.blobs) (B.faults cleaner.blobs)))
+        (broom (Q.pauses result.cleaner.pace) (store (B.shelf result.cleaner.blobs) (B.faults result.cleaner.blobs)))
+        (output (O.taken out.old) (O.write_faults out.old)) (output (O.taken out.new) (O.write_faults out.new)) result.status }
+{
+    match settings_of(alloc, settings, out) {
+        Ok(settings) => serve_by(rt, alloc, settings, desks, cleaner, records, clock, out),
+        Err(status) => Served {
+            status,
+            desks,
+            cleaner,
+            records,
+            clock,
+        },
+    }
+}
