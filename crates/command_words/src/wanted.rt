@@ -11,6 +11,12 @@ pub enum Wanted {
     Check { settings: Text, data: Text },
     /// To purge the repositories of a folder under these settings, and to remove its garbage.
     Clean { settings: Text, data: Text },
+    /// To answer requests on this port of 127.0.0.1 under these settings, keeping everything in a folder.
+    Serve {
+        settings: Text,
+        data: Text,
+        port: u16,
+    },
 }
 
 /// Why words ask for nothing.
