@@ -1,3 +1,4 @@
 mod Shared
 mod Visiting
 mod Passing
+mod Done

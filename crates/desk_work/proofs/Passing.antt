@@ -1,5 +1,5 @@
 -- Passes one after another.
-use Rattle.std.proofs.Common.{◌≡◌, ℕ, zero, suc, Bool, true, false, Some, None, IfSome, List, [], ◌∷◌, ◌++◌, length, Option, Result, refl, sym, subst, ap, ◌∙◌, append-nil}
+use Rattle.std.proofs.Common.{◌≡◌, ℕ, Bool, true, false, Some, None, IfSome, List, [], ◌∷◌, ◌++◌, length, Option, Result, refl, sym, subst, ap, ◌∙◌, append-nil}
 use Rattle.std.specs.Option.{option_map}
 use Rattle.std.proofs.lemmas.Grind.{flat_map-append}
 use Rattle.outside_pace.specs.Pauses.{Pauses, first_answer, paused}

@@ -7,7 +7,7 @@ use Rattle.outside.specs.Told.{in_front, behind}
 use Rattle.repo_model.specs.History.{Entry}
 use Rattle.repo_model.specs.Settings.{Settings}
 use Rattle.repo_course.specs.declared.outcomes.End.{End}
-use Rattle.repo_course.specs.Cleaning.{Store, store}
+use Rattle.repo_course.specs.Cleaning.{Store}
 use Rattle.repo_course.specs.Serving.{outside, Serves}
 use Rattle.turn_lock.specs.declared.turns.Turns.{Turns}
 use Rattle.turn_lock.specs.declared.seat.SeatToken.{SeatToken as Seat}

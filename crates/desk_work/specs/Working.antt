@@ -1,5 +1,5 @@
 -- Desks and the cleaner at once, from the seat with all parts to the end of the history.
-use Rattle.std.specs.Prelude.{◌≡◌, ◌⊎◌, ℕ, Bool, List, [], map, Option}
+use Rattle.std.specs.Prelude.{◌≡◌, ℕ, Bool, List, [], map, Option}
 use Rattle.std.specs.List.{AllZip, list_any}
 use Rattle.outside.specs.declared.tells.Tells.{Ghosts}
 use Rattle.outside_pace.specs.Pauses.{Pauses}
@@ -46,16 +46,19 @@ Serves G looks settings tells sight steps turns seat desk out =
 abbrev pub DeskDone : {L P D T C R : Type 0} → Ghosts L → Looks L P D → Settings → Type 0 → Sight T C R → (T → C → R → T → Type 0) → Turns T C R → Seat C R T → D → Seat C R T × (D × Bool) → Type 0
 DeskDone {L} {P} {D} {T} {C} {R} G looks settings tells sight steps turns first desk out = (own : Seat C R T) × IsBegun first own × Serves G looks settings tells sight steps turns own desk out
 
+-- the cleaner made its passes with the first seat, but for the parts that were split off
+abbrev pub CleanedBeside : {T C R : Type 0} → Settings → Sight T C R → (T → C → R → T → Type 0) → Turns T C R → Seat C R T → Seat C R T → Option Pauses → Option Pauses → Store → Store → Type 0
+CleanedBeside {T} {C} {R} settings sight steps turns first new pauses pauses' before after =
+    (handed : Seat C R T) × Same first handed × KeptClean settings sight steps turns handed new pauses pauses' before after
+
 -- Each desk served with a seat of its own, and the cleaner made its passes with the seat handed in, but for the parts that were split off. Together these seats have all entries of one history of the
 -- repository, which ended: the object is its end, and the number of calls its length. The desks came back, and a port failed where one of them says so
 pub record Works {L P D T C R : Type 0} (G : Ghosts L) (looks : Looks L P D) (settings : Settings) (tells : Type 0) (sight : Sight T C R) (steps : T → C → R → T → Type 0) (turns : Turns T C R) (first : Seat C R T)
     (desks : List D) (pauses pauses' : Option Pauses) (before after : Store) (thing : T) (calls : ℕ) (back : List D) (failed : Bool) : Type 0 where
   pub outs : List (Seat C R T × (D × Bool))
   pub done : AllZip (DeskDone G looks settings tells sight steps turns first) desks outs
-  pub handed : Seat C R T
-  pub same : Same first handed
   pub cleaning : Seat C R T
-  pub kept_clean : KeptClean settings sight steps turns handed cleaning pauses pauses' before after
+  pub cleaned : CleanedBeside settings sight steps turns first cleaning pauses pauses' before after
   pub ended : Ended steps turns cleaning (map (λ (out : Seat C R T × (D × Bool)). out.0) outs) thing calls
   pub history : IsHistory sight (opening turns) ended.log
   pub leaves : sight.state thing ≡ machine.end (sight.settings (opening turns)) (sight.state (opening turns)) (map (entry_of sight) ended.log)

@@ -4,10 +4,10 @@
 mod cleaner;
 mod desk;
 mod jobs;
+mod running;
 mod seating;
-mod work;
+mod whole;
 
 pub use cleaner::{Cleaner, keep_clean};
 pub use desk::{Desk, serve_desk};
-pub use jobs::{CleanerJob, DeskJob, House};
-pub use seating::seated;
+pub use whole::{Worked, work};

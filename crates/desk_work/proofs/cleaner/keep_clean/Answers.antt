@@ -1,7 +1,6 @@
-use Rattle.std.proofs.Common.{true, false, refl, ap, ◌∙◌}
+use Rattle.std.proofs.Common.{true, false, ap, ◌∙◌}
 use Rattle.std.specs.Option.{option_map}
 use Rattle.outside_pace.specs.Pauses.{paused}
-use Rattle.repo_course.specs.Cleaning.{store}
 use Rattle.turn_lock.specs.History.{IsStep}
 use Rattle.desk_work.proofs.Passing.{answered, so_far_none, so_far_more, so_far_ends}
 use Rattle.desk_work.proofs.cleaner.keep_clean.Goals as goal

@@ -2,7 +2,7 @@ use denote.Param.Send.{sendable}
 use Rattle.std.proofs.Crossing.{crosses}
 use Rattle.turn_lock.proofs.Crosses.{token_crosses}
 use Rattle.desk_work.proofs.Shared.{job_crosses}
-use Rattle.desk_work.proofs.work.run_jobs.Goals as goal
+use Rattle.desk_work.proofs.running.run_jobs.Goals as goal
 
 pub run_all-requires-send-A : goal.run_all-requires-send-A
 run_all-requires-send-A g c κs within =
