@@ -18,6 +18,12 @@ computed = record {
   old = refl;
   expects = refl;
   expects_nothing = refl;
+  open = refl;
+  commit = refl;
+  abort = refl;
+  stage = refl;
+  stage_side = refl;
+  stage_document = refl;
 }
 
 pub returns : goal.returns
