@@ -1,5 +1,5 @@
 -- How a request head is judged: what it asks for, or its first refusal, and whether the connection ends then (RFC 9110, section 15.5; RFC 9112, section 9.6).
-use Rattle.std.specs.Prelude.{◌≡◌, ℕ, ◌≤◌, Bool, true, false, ◌||◌, not, IsTrue, nat_lt, List, map, Some, Result, Ok, Err}
+use Rattle.std.specs.Prelude.{◌≡◌, ℕ, ◌≤◌, Bool, true, false, ◌||◌, not, IsTrue, nat_lt, if◌then◌else◌, List, map, Some, Result, Ok, Err}
 use Rattle.mvn_coords.specs.Kind.{kind}
 use Rattle.http_wire.specs.Head.{Head}
 use Rattle.repo_model.specs.Command.{is_file_path, is_place, is_there, names_document, names_something}
