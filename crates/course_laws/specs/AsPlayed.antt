@@ -15,9 +15,10 @@ use Rattle.repo_course.specs.Serving.{IsFrontOf, Outside}
 use Rattle.course_laws.specs.Faultless.{Scene, play_stream, play_turn}
 
 -- the bytes of each file's blob are told, of those in sessions too
-pub record RowsTold (s : State) : Type 0 where
-  pub rows : AllByRecursion (λ (h : Hosted). AllByRecursion (λ (row : Row). IsSome row.blob.bytes) h.rows) s.hosted
-  pub staged : AllByRecursion (λ (x : Session). AllByRecursion (λ (file : Staged). IsSome file.blob.bytes) x.staged) s.sessions
+abbrev pub RowsTold : State → Type 0
+RowsTold s =
+    AllByRecursion (λ (h : Hosted). AllByRecursion (λ (row : Row). IsSome row.blob.bytes) h.rows) s.hosted
+    × AllByRecursion (λ (x : Session). AllByRecursion (λ (file : Staged). IsSome file.blob.bytes) x.staged) s.sessions
 
 -- the count stood still, and not because it is at the end of its type
 abbrev pub StoodStill : ℕ → ℕ → Type 0
