@@ -106,13 +106,7 @@ fn after_fault<H: Held>(manner: Manner, fault: Took) -> Act<H>
 }
 
 /// What follows the body of a side file: the digest that it says is compared, or it is refused.
-fn after_side<H: Held>(
-    manner: Manner,
-    place: Place,
-    path: Text,
-    side: Side,
-    text: &[u8],
-) -> Act<H>
+fn after_side<H: Held>(manner: Manner, place: Place, path: Text, side: Side, text: &[u8]) -> Act<H>
     ensures left { left_of manner result ≡ after_side (shown_place place) path side manner (Ok text.now) }
     ensures shorter { rank_of result < 5 }
 {
@@ -153,7 +147,13 @@ pub fn after_read<H: Held>(
     match read {
         Ok(bytes) => match body.form {
             Form::Side(side) => after_side(manner, body.place, body.path, side, bytes.as_slice()),
-            Form::Document => after_document(alloc, manner, body.place, body.path, bytes.as_slice()),
+            Form::Document => after_document(
+                alloc,
+                manner,
+                body.place,
+                body.path,
+                bytes.as_slice(),
+            ),
         },
         Err(fault) => after_fault(manner, fault),
     }

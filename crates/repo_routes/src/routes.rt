@@ -191,11 +191,8 @@ pub(crate) fn check_repository(settings: &Settings, route: Route<'_>) -> Result<
     ensures { result ≡ spec.check_repository settings.now (spec.shown_route route.entry) }
 {
     match route {
-        Route::InRepository { repo, .. } | Route::Sessions { repo }
-            if !is_there(settings, repo) =>
-        {
-            Err(Refusal::NoRepository)
-        }
+        Route::InRepository { repo, .. } | Route::Sessions { repo } if !is_there(settings, repo) =>
+            { Err(Refusal::NoRepository) }
         _ => Ok(()),
     }
 }

@@ -86,11 +86,7 @@ fn intent_words(alloc: Global, intent: &Intent) -> Result<String, AllocError> {
             side,
             length,
         } => {
-            let (place, path, side) = (
-                place_words(alloc, place)?,
-                path.as_str(),
-                side_name(*side),
-            );
+            let (place, path, side) = (place_words(alloc, place)?, path.as_str(), side_name(*side));
             format!(in alloc; "PutSide {place} {path} {side} {length}")
         }
         Intent::Open(repo) => {

@@ -25,6 +25,6 @@ loop-b-preserved c =
       value = omega (arith, next, digit, c.loop-b.invariant.value);
       digits = digits;
       small = λ early.
-      let short : length (take (i + 1) text) ≤ 18 = omega (arith, length-take-le (i + 1) text) in
-      let small = number_small (take (i + 1) text) digits short in omega (arith, next, digit, c.loop-b.invariant.value, small);
+          let short : length (take (i + 1) text) ≤ 18 = omega (arith, length-take-le (i + 1) text) in
+          let small = number_small (take (i + 1) text) digits short in omega (arith, next, digit, c.loop-b.invariant.value, small);
     }
