@@ -115,6 +115,7 @@ fn into_session(
 }
 
 /// What a head asks for of its route.
+#[tactic(auto, unfolding(crate::specs::Judge::of_session))]
 fn intent_on(
     alloc: Global,
     settings: &Settings,
