@@ -40,7 +40,7 @@ abbrev AllTold : List Row → Type 0
 AllTold rows = AllByRecursion IsTold rows
 
 abbrev IsStagedTold : Staged → Type 0
-IsStagedTold file = IsSome file.blob.bytes
+IsStagedTold item = IsSome item.blob.bytes
 
 abbrev SessionTold : Session → Type 0
 SessionTold x = AllByRecursion IsStagedTold x.staged
@@ -91,8 +91,8 @@ with-row-told new (row ∷ rows) told all =
 
 with-staged-told : (new : Staged) (files : List Staged) → IsStagedTold new → AllByRecursion IsStagedTold files → AllByRecursion IsStagedTold (with_staged new files)
 with-staged-told new [] told all = (told, tt)
-with-staged-told new (file ∷ files) told all =
-    placed IsStagedTold new file files (with_staged new files) told all (with-staged-told new files told all.1) (slice_cmp nat_cmp new.path file.path)
+with-staged-told new (item ∷ files) told all =
+    placed IsStagedTold new item files (with_staged new files) told all (with-staged-told new files told all.1) (slice_cmp nat_cmp new.path item.path)
 
 -- effects
 
@@ -123,7 +123,7 @@ sessions-told (stages n path blob) told sessions all =
     (λ x is. with-staged-told (record { path = path; blob = blob }) x.staged told is) sessions all
 sessions-told (delivers n repo path blob moment) told sessions all =
     changed-first SessionTold (is_open_at n) (without_staged path) (λ x is. filtered IsStagedTold _ x.staged is) sessions all
-sessions-told (discards n path draft) told sessions all =
+sessions-told (discards n path m) told sessions all =
     changed-first SessionTold (is_open_at n) (without_staged path) (λ x is. filtered IsStagedTold _ x.staged is) sessions all
 sessions-told (opens n repo) told sessions all = all-joined SessionTold sessions (new_session n repo ∷ []) all (tt, tt)
 sessions-told (ends n result) told sessions all =
@@ -252,20 +252,20 @@ module _ (settings : Settings) (s : State) (told : RowsTold s) where
   stage-tells path n blob some None = ((tt, tt), tt)
   stage-tells path n blob some (Some x) = stage-at-tells x path n blob some (staged_at path x.staged)
 
-  deliver-tells : (x : Session) (now : ℕ) (file : Staged) → IsStagedTold file → (o : Option Row) → AllByRecursion EffectTold (deliver_at x now file o)
-  deliver-tells x now file some None = (some, tt)
-  deliver-tells x now file some (Some row) = again row.phase
+  deliver-tells : (x : Session) (now : ℕ) (item : Staged) → IsStagedTold item → (o : Option Row) → AllByRecursion EffectTold (deliver_at x now item o)
+  deliver-tells x now item some None = (some, tt)
+  deliver-tells x now item some (Some row) = again row.phase
     where
-      again : (phase : Phase) → AllByRecursion EffectTold (deliver_again x now file phase)
+      again : (phase : Phase) → AllByRecursion EffectTold (deliver_again x now item phase)
       again listed = (tt, tt)
       again (fading since) = (tt, (tt, tt))
 
   delivers-tell : (x : Session) (now : ℕ) (rows : List Row) (files : List Staged) → AllByRecursion IsStagedTold files
-      → AllByRecursion EffectTold (flat_map (λ (file : Staged). deliver_at x now file (row_at file.path rows)) files)
+      → AllByRecursion EffectTold (flat_map (λ (item : Staged). deliver_at x now item (row_at item.path rows)) files)
   delivers-tell x now rows [] all = tt
-  delivers-tell x now rows (file ∷ files) all =
-      all-joined EffectTold (deliver_at x now file (row_at file.path rows)) (flat_map (λ (other : Staged). deliver_at x now other (row_at other.path rows)) files)
-      (deliver-tells x now file all.0 (row_at file.path rows)) (delivers-tell x now rows files all.1)
+  delivers-tell x now rows (item ∷ files) all =
+      all-joined EffectTold (deliver_at x now item (row_at item.path rows)) (flat_map (λ (other : Staged). deliver_at x now other (row_at other.path rows)) files)
+      (deliver-tells x now item all.0 (row_at item.path rows)) (delivers-tell x now rows files all.1)
 
   commit-by-tells : (x : Session) (now : ℕ) (rows : List Row) → SessionTold x → (other : Option Offence) (pom : Option (List ℕ)) → Tells (commit_by x now rows other pom)
   commit-by-tells x now rows all (Some other) pom = (tt, tt)
@@ -289,7 +289,7 @@ module _ (settings : Settings) (s : State) (told : RowsTold s) where
     where
       by-end : (o : Option SessionResult) → Tells (abort_of x o)
       by-end None =
-          (all-joined EffectTold (discard_all x) _ (all-mapped EffectTold (λ (file : Staged). discards x.number file.path file.blob.number) (λ file. tt) x.staged) (tt, tt), tt)
+          (all-joined EffectTold (discard_all x) _ (all-mapped EffectTold (λ (item : Staged). discards x.number item.path item.blob.number) (λ item. tt) x.staged) (tt, tt), tt)
       by-end (Some result) = (tt, tt)
 
   turn-tells : (c : Command) (x : Stand) (moment : ℕ) → MayAsk c x → CommandTold c → Tells (turn settings s moment c)

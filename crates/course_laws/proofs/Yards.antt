@@ -138,7 +138,7 @@ module _ (before : Yard) where
   -- effects that leave drafts, leases and the numbers to be drawn for them as they are
   abbrev IsStill : Effect → Type 0
   IsStill (delivers n repo path blob moment) = Unit {0}
-  IsStill (discards n path draft) = Unit {0}
+  IsStill (discards n path m) = Unit {0}
   IsStill (relists repo path moment) = Unit {0}
   IsStill (opens n repo) = Unit {0}
   IsStill (ends n result) = Unit {0}
@@ -149,8 +149,8 @@ module _ (before : Yard) where
   still-holds s (delivers n repo path blob moment ∷ es) st all h =
       still-holds s es (with_effect st (delivers n repo path blob moment)) all.1
       (record { drafts = h.drafts; leases = h.leases; next_draft = h.next_draft; next_lease = h.next_lease })
-  still-holds s (discards n path draft ∷ es) st all h =
-      still-holds s es (with_effect st (discards n path draft)) all.1
+  still-holds s (discards n path m ∷ es) st all h =
+      still-holds s es (with_effect st (discards n path m)) all.1
       (record { drafts = h.drafts; leases = h.leases; next_draft = h.next_draft; next_lease = h.next_lease })
   still-holds s (relists repo path moment ∷ es) st all h =
       still-holds s es (with_effect st (relists repo path moment)) all.1
@@ -174,11 +174,11 @@ module _ (before : Yard) where
         | false ↦ (still-holds s (opens next repo ∷ []) st (tt, tt) h, λ is. cc)
       ]
 
-  deliver-still : (x : Session) (now : ℕ) (file : Staged) (o : Option Row) → AllByRecursion IsStill (deliver_at x now file o)
-  deliver-still x now file None = (tt, tt)
-  deliver-still x now file (Some row) = again row.phase
+  deliver-still : (x : Session) (now : ℕ) (item : Staged) (o : Option Row) → AllByRecursion IsStill (deliver_at x now item o)
+  deliver-still x now item None = (tt, tt)
+  deliver-still x now item (Some row) = again row.phase
     where
-      again : (phase : Phase) → AllByRecursion IsStill (deliver_again x now file phase)
+      again : (phase : Phase) → AllByRecursion IsStill (deliver_again x now item phase)
       again listed = (tt, tt)
       again (fading since) = (tt, (tt, tt))
 
@@ -189,7 +189,7 @@ module _ (before : Yard) where
   commit-by-goes s st x now rows h None None = (
     still-holds s _ st
         (all-joined IsStill (deliver_all x now rows) _
-        (all-flat IsStill (λ (file : Staged). deliver_at x now file (row_at file.path rows)) (λ file. deliver-still x now file (row_at file.path rows)) x.staged) (tt, tt)) h,
+        (all-flat IsStill (λ (item : Staged). deliver_at x now item (row_at item.path rows)) (λ item. deliver-still x now item (row_at item.path rows)) x.staged) (tt, tt)) h,
     λ is. cc,
   )
 
@@ -201,7 +201,7 @@ module _ (before : Yard) where
   abort-of-goes : (s : Stand) (st : State) (x : Session) → Holds s st.yard → (o : Option SessionResult) → Goes (λ r. has_aborted r s) st (abort_of x o)
   abort-of-goes s st x h None = (
     still-holds s _ st
-        (all-joined IsStill (discard_all x) _ (all-mapped IsStill (λ (file : Staged). discards x.number file.path file.blob.number) (λ file. tt) x.staged) (tt, tt)) h,
+        (all-joined IsStill (discard_all x) _ (all-mapped IsStill (λ (item : Staged). discards x.number item.path item.blob.number) (λ item. tt) x.staged) (tt, tt)) h,
     λ is. cc,
   )
   abort-of-goes s st x h (Some result) = (h, λ is. cc)
