@@ -7,7 +7,7 @@ use Rattle.std.specs.Option.{option_and_then, option_map}
 use Rattle.std.proofs.lemmas.Bool.{false≢true}
 use Rattle.std.proofs.lemmas.Option.{none-some}
 use Rattle.mvn_coords.specs.Kind.{kind}
-use Rattle.deploy_session.specs.Known.{Known, abort_turn, begin_turn, commit_turn, garbage_by, known_after, next_after_all, sessions_after_all}
+use Rattle.deploy_session.specs.Known.{Known, abort_turn, begin_turn, garbage_by, known_after, next_after_all, sessions_after_all}
 use Rattle.hosted_repo.specs.Recording.{HasReplyCause}
 use Rattle.hosted_repo.specs.Rows.{rows_after_all}
 use Rattle.repo_model.specs.Command.{Command, abort, commit, may_put, open_session, put_doc, put_side, stage}
@@ -59,37 +59,34 @@ recorded-by w new command t reply told told' faults faults' is memory given sett
 }
 
 -- ---- a draft at a session
-drawn-left : (s : State) (reply : Reply) (yard : Yard) → Draws reply s.yard yard
-    → ((reply ≡ (draws_draft s.yard.next_draft).reply) ⊎ (reply ≡ no_memory)) × (record s { yard = yard } ≡ with_effects s (if is_free reply then [] else (draws_draft s.yard.next_draft).effects))
-drawn-left s reply yard did = (did.0, elim did.0 as (λ _. Left reply) [
-  | (inl is) ↦ ap (λ y. record s { yard = y }) (did.1 ∙ ap (λ r. yard_drawn r s.yard) is) ∙ by (s.yard.next_draft == number_end) refl
-      ∙ ap (λ r. with_effects s (if is_free r then [] else (draws_draft s.yard.next_draft).effects)) (sym is)
-  | (inr is) ↦ ap (λ y. record s { yard = y }) (did.1 ∙ ap (λ r. yard_drawn r s.yard) is) ∙ ap (λ r. with_effects s (if is_free r then [] else (draws_draft s.yard.next_draft).effects)) (sym is)
-]) where
-  Left : Reply → Type 0
-  Left r = record s { yard = yard } ≡ with_effects s (if is_free r then [] else (draws_draft s.yard.next_draft).effects)
+abbrev draft_by : Bool → ℕ → Turn
+draft_by end next = if end then says spent else record { reply = draft next; effects = draws ∷ [] }
 
-  abbrev drawn : Bool → Turn
-  drawn b = if b then says spent else record { reply = draft s.yard.next_draft; effects = draws ∷ [] }
+module _ (s : State) where
+  abbrev LeftDrawn : Turn → Reply → Type 0
+  LeftDrawn t r = record s { yard = yard_drawn r s.yard } ≡ with_effects s (if is_free r then [] else t.effects)
 
-  by : (b : Bool) → (s.yard.next_draft == number_end) ≡ b
-      → record s { yard = yard_drawn (drawn b).reply s.yard } ≡ with_effects s (if is_free (drawn b).reply then [] else (drawn b).effects)
-  by true is = refl
-  by false is = refl
+  drawn-as-due : (end : Bool) → LeftDrawn (draft_by end s.yard.next_draft) (draft_by end s.yard.next_draft).reply
+  drawn-as-due true = refl
+  drawn-as-due false = refl
 
+  drawn-left : (reply : Reply) (yard : Yard) → Draws reply s.yard yard → record s { yard = yard } ≡ with_effects s (if is_free reply then [] else (draws_draft s.yard.next_draft).effects)
+  drawn-left reply yard did = ap (λ y. record s { yard = y }) did.1 ∙ so did.0 where
+    so : (reply ≡ (draws_draft s.yard.next_draft).reply) ⊎ (reply ≡ no_memory) → LeftDrawn (draws_draft s.yard.next_draft) reply
+    so (inl is) = subst (LeftDrawn (draws_draft s.yard.next_draft)) (sym is) (drawn-as-due (s.yard.next_draft == number_end))
+    so (inr is) = subst (LeftDrawn (draws_draft s.yard.next_draft)) (sym is) refl
 
 pub turned-may_stage : (w : Parts) (n : ℕ) (path : List ℕ) (reply : Reply) (yard : Yard) → may_put_in w.state path (open_of n w.state) ≡ draws_draft w.state.yard.next_draft → Draws reply w.state.yard yard
     → Turned w (record w { state = record w.state { yard = yard } }) (may_put (session n) path) reply
 turned-may_stage w n path reply yard is did =
-    let left = drawn-left w.state reply yard did in
     record {
       settings = refl;
       calls = refl;
-      answered = elim left.0 as (λ _. (reply ≡ (may_put_in w.state path (open_of n w.state)).reply) ⊎ ((reply ≡ no_memory) × IsTrue (takes_memory (may_put (session n) path)))) [
+      answered = elim did.0 as (λ _. (reply ≡ (may_put_in w.state path (open_of n w.state)).reply) ⊎ ((reply ≡ no_memory) × IsTrue (takes_memory (may_put (session n) path)))) [
         | (inl so) ↦ inl (so ∙ ap (λ (t : Turn). t.reply) (sym is))
         | (inr so) ↦ inr (so, refl)
       ];
-      left = left.1 ∙ ap (λ (t : Turn). with_effects w.state (if is_free reply then [] else t.effects)) (sym is);
+      left = drawn-left w.state reply yard did ∙ ap (λ (t : Turn). with_effects w.state (if is_free reply then [] else t.effects)) (sym is);
     }
 
 -- ---- a session is opened
@@ -106,7 +103,7 @@ module _ (s : State) (repo : List ℕ) (k : Known) (sessions : k.sessions ≡ s.
       ∙ ap (λ ss. if nat_le most_sessions (count_by is_open ss) then says sessions_full else draws_or_spent s.yard.next_session (record { reply = opened s.yard.next_session; effects = opens s.yard.next_session repo ∷ [] })) (sym sessions)
       ∙ ap (λ m. if nat_le most_sessions (count_by is_open k.sessions) then says sessions_full else draws_or_spent m (record { reply = opened m; effects = opens m repo ∷ [] })) (sym next)
 
-  Leaves : Turn → Reply → Type 0
+  abbrev pub Leaves : Turn → Reply → Type 0
   Leaves t r = record s { sessions = (if is_free r then k else known_after t.effects k).sessions; yard = yard_opened r s.yard } ≡ with_effects s (if is_free r then [] else t.effects)
 
   open-by : (full end : Bool) → Leaves (open_by full end) (open_by full end).reply
@@ -231,7 +228,7 @@ module _ (w : Parts) (at : ℕ) (path : List ℕ) (n : ℕ) (blob : Blob) (among
 abbrev pub IsEnding : List ℕ → Effect → Type 0
 IsEnding repo (delivers n id path blob moment) = id ≡ repo
 IsEnding repo (relists id path moment) = id ≡ repo
-IsEnding repo (discards n path draft) = Unit {0}
+IsEnding repo (discards n path gone) = Unit {0}
 IsEnding repo (ends n result) = Unit {0}
 IsEnding repo effect = ⊥
 
@@ -239,7 +236,7 @@ pub ending-going : (repo : List ℕ) (es : List Effect) → AllByRecursion (IsEn
 ending-going repo [] all = tt
 ending-going repo (delivers n id path blob moment ∷ es) all = (tt, ending-going repo es all.1)
 ending-going repo (relists id path moment ∷ es) all = (tt, ending-going repo es all.1)
-ending-going repo (discards n path draft ∷ es) all = (tt, ending-going repo es all.1)
+ending-going repo (discards n path gone ∷ es) all = (tt, ending-going repo es all.1)
 ending-going repo (ends n result ∷ es) all = (tt, ending-going repo es all.1)
 ending-going repo (e ∷ es) all = absurd all.0
 
@@ -258,7 +255,7 @@ module _ (repo : List ℕ) where
       first-then (delivers n id path blob moment) es hosted (ap (λ r. change_first (is_repository r) (λ (h : Hosted). record h { rows = rows_after (delivers n id path blob moment) h.rows }) hosted) all.0) (λ hs. ending-rows es hs all.1)
   ending-rows (relists id path moment ∷ es) hosted all =
       first-then (relists id path moment) es hosted (ap (λ r. change_first (is_repository r) (λ (h : Hosted). record h { rows = rows_after (relists id path moment) h.rows }) hosted) all.0) (λ hs. ending-rows es hs all.1)
-  ending-rows (discards n path draft ∷ es) hosted all = ending-rows es hosted all.1
+  ending-rows (discards n path gone ∷ es) hosted all = ending-rows es hosted all.1
   ending-rows (ends n result ∷ es) hosted all = ending-rows es hosted all.1
   ending-rows (e ∷ es) hosted all = absurd all.0
 
@@ -279,19 +276,19 @@ module _ (repo : List ℕ) where
 
 -- where nothing is delivered or listed again, the repositories stay as they are
 abbrev pub IsGivingUp : Effect → Type 0
-IsGivingUp (discards n path draft) = Unit {0}
+IsGivingUp (discards n path gone) = Unit {0}
 IsGivingUp (ends n result) = Unit {0}
 IsGivingUp effect = ⊥
 
 pub giving-going : (es : List Effect) → AllByRecursion IsGivingUp es → AllByRecursion IsGoing es
 giving-going [] all = tt
-giving-going (discards n path draft ∷ es) all = (tt, giving-going es all.1)
+giving-going (discards n path gone ∷ es) all = (tt, giving-going es all.1)
 giving-going (ends n result ∷ es) all = (tt, giving-going es all.1)
 giving-going (e ∷ es) all = absurd all.0
 
 pub giving-rows : (es : List Effect) (hosted : List Hosted) → AllByRecursion IsGivingUp es → hosted_after_all es hosted ≡ hosted
 giving-rows [] hosted all = refl
-giving-rows (discards n path draft ∷ es) hosted all = giving-rows es hosted all.1
+giving-rows (discards n path gone ∷ es) hosted all = giving-rows es hosted all.1
 giving-rows (ends n result ∷ es) hosted all = giving-rows es hosted all.1
 giving-rows (e ∷ es) hosted all = absurd all.0
 
@@ -324,7 +321,7 @@ delivers-at one now file None = (refl, tt)
 delivers-at one now file (Some row) = by row.phase where
   by : (phase : Phase) → AllByRecursion (IsEnding one.repo) (deliver_again one now file phase)
   by listed = (tt, tt)
-  by (fading since) = (refl, tt, tt)
+  by (fading since) = (refl, (tt, tt))
 
 delivers-all : (one : Session) (now : ℕ) (rows : List Row) (files : List Staged) → AllByRecursion (IsEnding one.repo) (flat_map (λ (file : Staged). deliver_at one now file (row_at file.path rows)) files)
 delivers-all one now rows [] = tt

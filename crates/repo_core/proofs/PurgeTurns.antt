@@ -217,6 +217,6 @@ collected-staged w kept orderly used staged =
     let removal : AllByRecursion IsRemoval es = removals grace s.last s.hosted in
     let may : AllMay grace s.last s es = expires-all grace s.last s w.settings named orderly.order.rules (all-apart s.hosted orderly.order.rows) in
     let cover = covered-then grace s.last es s (removal-going es removal) may orderly.places kept (covers kept s.hosted s.sessions used staged) in
-    let then : AreStagedInUse (kept_without (garbage_of es) kept) (sessions_after_all es s.sessions) =
+    let so : AreStagedInUse (kept_without (garbage_of es) kept) (sessions_after_all es s.sessions) =
     covered-files (kept_without (garbage_of es) kept) (sessions_after_all es s.sessions) (λ n some. cover n (omega (arith, some))) in
-    subst (λ ns. AreStagedInUse (kept_without ns kept) s.sessions) (removal-garbage es removal) (subst (AreStagedInUse (kept_without (garbage_of es) kept)) (removal-sessions es s.sessions removal) then)
+    subst (λ ns. AreStagedInUse (kept_without ns kept) s.sessions) (removal-garbage es removal) (subst (AreStagedInUse (kept_without (garbage_of es) kept)) (removal-sessions es s.sessions removal) so)

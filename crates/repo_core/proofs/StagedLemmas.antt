@@ -84,17 +84,19 @@ file-in kept n (file ∷ files) used some =
 
 rows-in : (kept : List ℕ) (n : ℕ) (hosted : List Hosted) → AreInUse kept hosted → 1 ≤ rows_with n hosted → IsTrue (is_among n kept)
 rows-in kept n [] used some = absurd (let none : rows_with n [] ≡ 0 = refl in omega (arith, none, some))
-rows-in kept n (h ∷ hosted) used some = by (count_by (names n) h.rows) refl where
-  by : (k : ℕ) → count_by (names n) h.rows ≡ k → IsTrue (is_among n kept)
-  by zero is = rows-in kept n hosted used.1 (omega (arith, rows_with-cons n h hosted, is, some))
-  by (suc k) is = row-in kept n h.rows used.0 (omega (arith, is))
+rows-in kept n (h ∷ hosted) used some =
+    elim (count_by (names n) h.rows) as (λ k. count_by (names n) h.rows ≡ k → IsTrue (is_among n kept)) [
+      | zero ↦ λ is. rows-in kept n hosted used.1 (omega (arith, rows_with-cons n h hosted, is, some))
+      | (suc k) ↦ λ is. row-in kept n h.rows used.0 (omega (arith, is))
+    ] refl
 
 files-in : (kept : List ℕ) (n : ℕ) (sessions : List Session) → AreStagedInUse kept sessions → 1 ≤ staged_with n sessions → IsTrue (is_among n kept)
 files-in kept n [] used some = absurd (let none : staged_with n [] ≡ 0 = refl in omega (arith, none, some))
-files-in kept n (s ∷ sessions) used some = by (count_by (stages_it n) s.staged) refl where
-  by : (k : ℕ) → count_by (stages_it n) s.staged ≡ k → IsTrue (is_among n kept)
-  by zero is = files-in kept n sessions used.1 (omega (arith, staged_with-cons n s sessions, is, some))
-  by (suc k) is = file-in kept n s.staged used.0 (omega (arith, is))
+files-in kept n (s ∷ sessions) used some =
+    elim (count_by (stages_it n) s.staged) as (λ k. count_by (stages_it n) s.staged ≡ k → IsTrue (is_among n kept)) [
+      | zero ↦ λ is. files-in kept n sessions used.1 (omega (arith, staged_with-cons n s sessions, is, some))
+      | (suc k) ↦ λ is. file-in kept n s.staged used.0 (omega (arith, is))
+    ] refl
 
 pub covers : (kept : List ℕ) (hosted : List Hosted) (sessions : List Session) → AreInUse kept hosted → AreStagedInUse kept sessions → Covers kept hosted sessions
 covers kept hosted sessions rows files n some = by (rows_with n hosted) refl where
