@@ -6,11 +6,11 @@ use Rattle.mvn_digest.specs.Sides.{read_side}
 use Rattle.mvn_doc.specs.Reading.{reading}
 use Rattle.mvn_metadata.specs.Document.{Document}
 use Rattle.repo_model.specs.Command.{Command, look, unlist, collect}
-use Rattle.repo_model.specs.Data.{Blob}
+use Rattle.repo_model.specs.Data.{Blob, Place}
 use Rattle.repo_model.specs.History.{Entry}
 use Rattle.repo_model.specs.Reply.{Reply}
 use Rattle.repo_model.specs.Settings.{Settings}
-use Rattle.repo_routes.specs.Intent.{Intent, Judged, reads as reads_path, puts_file, puts_side, puts_document, counts, cleans as cleans_all}
+use Rattle.repo_routes.specs.Intent.{Intent, Judged, reads as reads_path, puts_file, puts_side, puts_document, counts, cleans as cleans_all, opens, commits, aborts}
 use Rattle.repo_routes.specs.Judge.{judge}
 use Rattle.repo_routes.specs.declared.judging.Refused.{Refused}
 use Rattle.repo_course.specs.Course.{Body, Course, Pass, Stored, asks, continues, takes, reads, sends, cleans, says, stops, after_clean, after_continue, after_document, after_fault, after_side, compares, course_for, course_of, cut_off, invites, notes}
@@ -78,21 +78,21 @@ fault-unlooking manner took.SourceFault = tt
 fault-unlooking manner took.BlobFault = tt
 fault-unlooking manner took.NoMemory = tt
 
-compares-unlooking : (repo path : List ℕ) (manner : Manner) (digest : Option (List ℕ)) → Unlooking (compares repo path manner digest)
-compares-unlooking repo path manner (Some digest) = λ (looks : IsLook _). absurd (let is = looks.3 in cc)
-compares-unlooking repo path manner None = tt
+compares-unlooking : (place : Place) (path : List ℕ) (manner : Manner) (digest : Option (List ℕ)) → Unlooking (compares place path manner digest)
+compares-unlooking place path manner (Some digest) = λ (looks : IsLook _). absurd (let is = looks.3 in cc)
+compares-unlooking place path manner None = tt
 
-notes-unlooking : (repo path : List ℕ) (manner : Manner) (read : Result Document ℕ) → Unlooking (notes repo path manner read)
-notes-unlooking repo path manner (Ok document) = λ (looks : IsLook _). absurd (let is = looks.3 in cc)
-notes-unlooking repo path manner (Err at) = tt
+notes-unlooking : (place : Place) (path : List ℕ) (manner : Manner) (read : Result Document ℕ) → Unlooking (notes place path manner read)
+notes-unlooking place path manner (Ok document) = λ (looks : IsLook _). absurd (let is = looks.3 in cc)
+notes-unlooking place path manner (Err at) = tt
 
-side-unlooking : (repo path : List ℕ) (side : Side) (manner : Manner) (body : Body) → Unlooking (after_side repo path side manner body)
-side-unlooking repo path side manner (Ok bytes) = compares-unlooking repo path manner (read_side side bytes)
-side-unlooking repo path side manner (Err fault) = fault-unlooking manner fault
+side-unlooking : (place : Place) (path : List ℕ) (side : Side) (manner : Manner) (body : Body) → Unlooking (after_side place path side manner body)
+side-unlooking place path side manner (Ok bytes) = compares-unlooking place path manner (read_side side bytes)
+side-unlooking place path side manner (Err fault) = fault-unlooking manner fault
 
-document-unlooking : (repo path : List ℕ) (manner : Manner) (body : Body) → Unlooking (after_document repo path manner body)
-document-unlooking repo path manner (Ok bytes) = notes-unlooking repo path manner (reading bytes)
-document-unlooking repo path manner (Err fault) = fault-unlooking manner fault
+document-unlooking : (place : Place) (path : List ℕ) (manner : Manner) (body : Body) → Unlooking (after_document place path manner body)
+document-unlooking place path manner (Ok bytes) = notes-unlooking place path manner (reading bytes)
+document-unlooking place path manner (Err fault) = fault-unlooking manner fault
 
 invited-unlooking : (expects : Bool) (body : Course) → Unlooking body → Unlooking (invites expects cut_off body)
 invited-unlooking false body un = un
@@ -147,6 +147,15 @@ module _ (settings : Settings) (tells : Type 0) (last : Bool) (e : Entry) (more 
       by-intent request judged counts asks-it f =
           let un : Unlooking (course_for (manner_for request last) request.expects counts) = λ (l : IsLook _). absurd (let is = l.3 in cc) in
           never (course_for (manner_for request last) request.expects counts) un f
+      by-intent request judged (opens r) asks-it f =
+          let un : Unlooking (course_for (manner_for request last) request.expects (opens r)) = λ (l : IsLook _). absurd (let is = l.3 in cc) in
+          never (course_for (manner_for request last) request.expects (opens r)) un f
+      by-intent request judged (commits n) asks-it f =
+          let un : Unlooking (course_for (manner_for request last) request.expects (commits n)) = λ (l : IsLook _). absurd (let is = l.3 in cc) in
+          never (course_for (manner_for request last) request.expects (commits n)) un f
+      by-intent request judged (aborts n) asks-it f =
+          let un : Unlooking (course_for (manner_for request last) request.expects (aborts n)) = λ (l : IsLook _). absurd (let is = l.3 in cc) in
+          never (course_for (manner_for request last) request.expects (aborts n)) un f
       by-intent request judged (cleans_all repos) asks-it f =
           never (course_for (manner_for request last) request.expects (cleans_all repos)) (clean-unlooking (manner_for request last)) f
 

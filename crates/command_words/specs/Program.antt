@@ -26,6 +26,10 @@ over_data name =
     (record (new_rule (codes "settings")) { required = true }))
     (record (new_rule (codes "data")) { required = true })
 
+-- `serve SETTINGS DATA PORT`
+abbrev pub serve : App
+serve = with_rule (over_data (codes "serve")) (record (new_rule (codes "port")) { required = true; parser = Some (Unsigned 1 65535) })
+
 abbrev pub bare : App
 bare = without_help (new_app (codes "mvnrepod"))
 
@@ -37,4 +41,4 @@ looking =
     (over_data (codes "check")).top
 
 abbrev pub program : App
-program = with_subcommand looking (over_data (codes "clean")).top
+program = with_subcommand (with_subcommand looking (over_data (codes "clean")).top) serve.top

@@ -13,12 +13,16 @@ const LAST_MOMENT: u64 = 253_402_207_200;
 
 const LONGEST_STEP: u64 = 86_400;
 
+/// The greatest port (RFC 793).
+const LAST_PORT: u64 = 65_535;
+
 /// The program, with a subcommand for each thing that it does. It has no words for help and its version.
 pub(crate) fn program<'a>(alloc: Global) -> Result<Command<'a>, AllocError>
     ensures { IfOk result (λ command. (app_of command ≡ spec.program) × ((fields_of command).has_globals ≡ false)) }
 {
     let clean = over_data(alloc, "clean")?;
-    looking(alloc)?.subcommand(clean)
+    let serve = serve(alloc)?;
+    looking(alloc)?.subcommand(clean)?.subcommand(serve)
 }
 
 /// The program without what changes a folder.
@@ -56,6 +60,15 @@ fn over_data<'a>(alloc: Global, name: &'a str) -> Result<Command<'a>, AllocError
     without_help(Command::new(alloc, name))
         .arg(settings)?
         .arg(data)
+}
+
+fn serve<'a>(alloc: Global) -> Result<Command<'a>, AllocError>
+    ensures { IfOk result (λ command. (app_of command ≡ spec.serve) × ((fields_of command).has_globals ≡ false)) }
+{
+    let port = Arg::new(alloc, "port")
+        .required(true)
+        .value_parser(ValueParser::Unsigned(1, LAST_PORT));
+    over_data(alloc, "serve")?.arg(port)
 }
 
 fn without_help<'a>(command: Command<'a>) -> Command<'a>

@@ -58,6 +58,9 @@ fn subcommand_in(alloc: Global, name: &str, found: &ArgMatches<'_>) -> Result<Wa
     if name == "clean" {
         return clean_in(alloc, found);
     }
+    if name == "serve" {
+        return serve_in(alloc, found);
+    }
     Err(WordsFault::Refused)
 }
 
@@ -92,6 +95,17 @@ fn clean_in(alloc: Global, found: &ArgMatches<'_>) -> Result<Wanted, WordsFault>
     })
 }
 
+fn serve_in(alloc: Global, found: &ArgMatches<'_>) -> Result<Wanted, WordsFault>
+    ensures ok { IfOk result (λ wanted. wanted ≡ spec.serve_in (rows_of (found_of found.now))) }
+    ensures fault { IfErr result (λ fault. fault ≡ WordsFault.NoMemory) }
+{
+    Ok(Wanted::Serve {
+        settings: owned(alloc, text_at(found, "settings"))?,
+        data: owned(alloc, text_at(found, "data"))?,
+        port: port_at(found, "port"),
+    })
+}
+
 fn owned(alloc: Global, text: &str) -> Result<Text, WordsFault>
     ensures ok { IfOk result (λ owned. owned ≡ text.now) }
     ensures fault { IfErr result (λ fault. fault ≡ WordsFault.NoMemory) }
@@ -118,6 +132,13 @@ fn number_at(found: &ArgMatches<'_>, id: &str) -> u64
         Some(text) => number_of(text),
         None => 0,
     }
+}
+
+fn port_at(found: &ArgMatches<'_>, id: &str) -> u16
+    ensures { result ≡ spec.port_of (spec.number_at id.now (rows_of (found_of found.now))) }
+{
+    let number = number_at(found, id);
+    if number < 1 << 16 { number as u16 } else { 0 }
 }
 
 fn number_of(text: &str) -> u64

@@ -68,8 +68,12 @@ pub enum Ask {
     Unlist(&'static str),
     Collect,
     Status,
+    Open(&'static str),
     // at a session
     MayStage(u64, &'static str),
+    Stage(u64, &'static str, u64, &'static [u8]),
+    Commit(u64),
+    Abort(u64),
     StageSide(u64, &'static str, Digest),
     StageDoc(u64, &'static str),
 }
@@ -228,6 +232,23 @@ impl Bench {
         })
     }
 
+    fn stage(
+        &mut self,
+        session: u64,
+        path: &str,
+        draft: u64,
+        bytes: &[u8],
+    ) -> Result<Command<MemHeld>, Fail> {
+        let parcel = self.parcel(draft, bytes)?;
+        let path = Text::new(self.alloc, path)?;
+        Ok(Command::Stage {
+            session,
+            path,
+            draft,
+            parcel,
+        })
+    }
+
     fn command(&mut self, ask: Ask) -> Result<Command<MemHeld>, Fail> {
         match ask {
             Ask::Done(lease) => Ok(Command::Done { lease }),
@@ -243,6 +264,12 @@ impl Bench {
             }),
             Ask::Collect => Ok(Command::Collect),
             Ask::Put(repo, path, draft, bytes) => self.put(repo, path, draft, bytes),
+            Ask::Open(repo) => Ok(Command::Open {
+                repo: Text::new(self.alloc, repo)?,
+            }),
+            Ask::Stage(session, path, draft, bytes) => self.stage(session, path, draft, bytes),
+            Ask::Commit(session) => Ok(Command::Commit { session }),
+            Ask::Abort(session) => Ok(Command::Abort { session }),
             Ask::Status => Ok(Command::Status),
             Ask::MayStage(number, path) => {
                 Ok(may_put(self.alloc, Place::Session(number), path)?)

@@ -25,4 +25,6 @@ mod restarts;
 #[cfg(test)]
 mod said;
 #[cfg(test)]
+mod sessions;
+#[cfg(test)]
 mod sides;

@@ -12,6 +12,7 @@ use Rattle.mvn_coords.specs.declared.fault.PathFault.{PathFault}
 use Rattle.mvn_coords.specs.declared.kind.Kind.{Kind}
 use Rattle.mvn_coords.specs.declared.kind.Kind.TheVariants.{File, FileSide, Doc, DocSide}
 use Rattle.mvn_coords.specs.Kind.{kind}
+use Rattle.repo_model.specs.Data.{Place, repository, session}
 use Rattle.repo_model.specs.Settings.{Settings}
 use Rattle.repo_routes.specs.declared.judging.Refused.{Refused}
 use Rattle.repo_routes.specs.declared.refusal.Refusal.{Refusal}
@@ -19,9 +20,10 @@ use Rattle.repo_routes.specs.declared.refusal.Refusal.TheVariants as refusal
 use Rattle.repo_routes.specs.Framing as framing
 use Rattle.repo_routes.specs.Framing.{check_host, ends_connection, has_body, is_head, is_post, is_put, is_read}
 use Rattle.repo_routes.specs.Intent.{Intent, Judged, reads as reads_path}
-use Rattle.repo_routes.specs.Judge.{check_body, intent_of, intent_on, judge, loses_place, outcome_of}
-use Rattle.repo_routes.specs.Paths.{asked_at, check_limit, decoded, intent_at, limit_of, path_refusal, put_at, put_of, thing_at, thing_of, thing_or}
-use Rattle.repo_routes.specs.Routes.{Route, in_repository, status, clean, allowed, allows, check_method, check_repository, route_of}
+use Rattle.repo_routes.specs.Judge.{check_body, in_repo, intent_of, intent_on, into_session, judge, loses_place, of_session, outcome_of}
+use Rattle.repo_routes.specs.Numbers.{session_of}
+use Rattle.repo_routes.specs.Paths.{check_limit, decoded, limit_of, path_refusal, put_at, put_of, put_to, read_from, thing_at, thing_of, thing_or}
+use Rattle.repo_routes.specs.Routes.{Route, in_repository, sessions, in_session, commit, abort, status, clean, allowed, allows, check_method, check_repository, route_of}
 use Rattle.repo_routes.specs.Steps.{◌>>=◌, need}
 use Rattle.repo_routes.specs.Target.{target_path}
 use Rattle.course_laws.specs.Duties.{length_of}
@@ -73,33 +75,58 @@ no-bytes false length test is =
       | false ↦ λ none yes. let le : length ≤ 0 = ltb-false 0 length none in omega arith
     ] refl test
 
-put-announced : (repo path : List ℕ) (length : ℕ) (k : Kind) → length_of (put_of repo path length (thing_of k)) ≡ length
-put-announced repo path length (File c) = refl
-put-announced repo path length (FileSide c side) = refl
-put-announced repo path length (Doc d) = refl
-put-announced repo path length (DocSide d side) = refl
+put-announced : (place : Place) (path : List ℕ) (length : ℕ) (k : Kind) → length_of (put_of place path length (thing_of k)) ≡ length
+put-announced place path length (File c) = refl
+put-announced place path length (FileSide c side) = refl
+put-announced place path length (Doc d) = refl
+put-announced place path length (DocSide d side) = refl
 
-asked-announced : (settings : Settings) (put : Bool) (repo path : List ℕ) (length : ℕ) (k : Kind) → (put || not (nat_lt 0 length)) ≡ true
-    → IfOk (cond put (put_at settings repo path length (thing_of k)) (Ok (reads_path repo path))) (λ intent. length_of intent ≡ length)
+kind-announced : (settings : Settings) (head : Head) (place : Place) (path : List ℕ) (length : ℕ) (k : Result Kind PathFault)
+    → IfOk (thing_or (path_refusal head) k >>= (λ what. put_at settings place path length what)) (λ intent. length_of intent ≡ length)
 unfolding put_at
-asked-announced settings true repo path length k test =
-    then-holds (check_limit (limit_of settings (thing_of k)) length) (λ _. Ok (put_of repo path length (thing_of k))) (λ intent. length_of intent ≡ length)
-    (λ u fits. put-announced repo path length k)
-asked-announced settings false repo path length k test = no-bytes false length test refl
+kind-announced settings head place path length (Ok k) =
+    then-holds (check_limit (limit_of settings (thing_of k)) length) (λ _. Ok (put_of place path length (thing_of k))) (λ intent. length_of intent ≡ length)
+    (λ u fits. put-announced place path length k)
+kind-announced settings head place path length (Err fault) = tt
 
-kind-announced : (settings : Settings) (head : Head) (repo path : List ℕ) (length : ℕ) (k : Result Kind PathFault)
-    → (is_put head || not (nat_lt 0 length)) ≡ true
-    → IfOk (thing_or (path_refusal head) k >>= (λ what. asked_at settings head length repo path what)) (λ intent. length_of intent ≡ length)
-unfolding asked_at
-kind-announced settings head repo path length (Ok k) test = asked-announced settings (is_put head) repo path length k test
-kind-announced settings head repo path length (Err fault) test = tt
+to-announced : (settings : Settings) (head : Head) (length : ℕ) (place : Place) (written : List ℕ)
+    → IfOk (put_to settings head length place written) (λ intent. length_of intent ≡ length)
+unfolding put_to thing_at
+to-announced settings head length place written =
+    then-holds (decoded head written) _ (λ intent. length_of intent ≡ length) (λ path _. kind-announced settings head place path length (kind path))
+
+from-announced : (head : Head) (length : ℕ) (repo written : List ℕ) → 0 ≡ length → IfOk (read_from head repo written) (λ intent. length_of intent ≡ length)
+unfolding read_from
+from-announced head length repo written none =
+    then-holds (decoded head written) _ (λ intent. length_of intent ≡ length)
+    (λ path _. then-holds (thing_at head path) (λ _. Ok (reads_path repo path)) (λ intent. length_of intent ≡ length) (λ what _. none))
+
+in-announced : (settings : Settings) (head : Head) (length : ℕ) (put : Bool) (repo written : List ℕ) → (put || not (nat_lt 0 length)) ≡ true
+    → IfOk (cond put (put_to settings head length (repository repo) written) (read_from head repo written)) (λ intent. length_of intent ≡ length)
+in-announced settings head length true repo written test = to-announced settings head length (repository repo) written
+in-announced settings head length false repo written test = from-announced head length repo written (no-bytes false length test refl)
+
+into-announced : (settings : Settings) (head : Head) (length : ℕ) (number written : List ℕ) → IfOk (into_session settings head length number written) (λ intent. length_of intent ≡ length)
+unfolding into_session
+into-announced settings head length number written =
+    then-holds (session_of number) _ (λ intent. length_of intent ≡ length)
+    (λ n _. then-holds (need (is_put head) refusal.Unread) (λ _. put_to settings head length (session n) written) (λ intent. length_of intent ≡ length)
+    (λ _ _. to-announced settings head length (session n) written))
+
+of-announced : (intent : ℕ → Intent) (length : ℕ) (number : List ℕ) → ((n : ℕ) → length_of (intent n) ≡ length) → IfOk (of_session intent number) (λ intent. length_of intent ≡ length)
+unfolding of_session
+of-announced intent length number all = then-holds (session_of number) (λ n. Ok (intent n)) (λ intent. length_of intent ≡ length) (λ n _. all n)
 
 on-announced : (settings : Settings) (head : Head) (length : ℕ) (route : Route) → allows (allowed route) head ≡ true
     → (is_put head || not (nat_lt 0 length)) ≡ true → IfOk (intent_on settings head length route) (λ intent. length_of intent ≡ length)
-unfolding intent_at thing_at
-on-announced settings head length (in_repository repo written) may test =
-    then-holds (decoded head written) _ (λ intent. length_of intent ≡ length)
-    (λ path _. kind-announced settings head repo path length (kind path) test)
+unfolding in_repo
+on-announced settings head length (in_repository repo written) may test = in-announced settings head length (is_put head) repo written test
+on-announced settings head length (sessions repo) may test = no-bytes (is_put head) length test (put-is-no-post head may)
+on-announced settings head length (in_session number written) may test = into-announced settings head length number written
+on-announced settings head length (commit number) may test =
+    of-announced Intent.commits length number (λ n. no-bytes (is_put head) length test (put-is-no-post head may))
+on-announced settings head length (abort number) may test =
+    of-announced Intent.aborts length number (λ n. no-bytes (is_put head) length test (put-is-no-post head may))
 on-announced settings head length status may test = no-bytes (is_put head) length test (put-is-no-read head may)
 on-announced settings head length clean may test = no-bytes (is_put head) length test (put-is-no-post head may)
 

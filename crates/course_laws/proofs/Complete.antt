@@ -1,6 +1,6 @@
 -- Each course that a head comes to is complete.
 use Rattle.std.proofs.Common.{◌≡◌, ◌≢◌, ℕ, ◌==◌, Bool, true, false, if◌then◌else◌, List, [], ◌∷◌, Option, Some, None, Result, Ok, Err, IsTrue, sym, subst, ap, ◌∙◌}
-use Rattle.std.specs.Prelude.{bytes_eq}
+use Rattle.std.specs.Prelude.{bytes_eq, count_by, nat_le}
 use Rattle.std.specs.Option.{option_map}
 use Rattle.http_wire.specs.declared.faults.HeadFault.{HeadFault}
 use Rattle.http_wire.specs.declared.faults.HeadFault.TheVariants.{Broken, TooLong}
@@ -13,19 +13,21 @@ use Rattle.mvn_coords.specs.Layout.{text_of}
 use Rattle.mvn_digest.specs.Sides.{read_side, side_of}
 use Rattle.mvn_doc.specs.Reading.{reading}
 use Rattle.mvn_metadata.specs.Document.{Document}
-use Rattle.repo_model.specs.Command.{Command, look, may_put, put as puts, put_doc, put_side, status}
-use Rattle.repo_model.specs.Data.{Blob, Hosted, Phase, Row, fading, listed, is_same_print, repository}
-use Rattle.repo_model.specs.Effect.{draws, drops, lends}
+use Rattle.repo_model.specs.Command.{Command, look, may_put, put as puts, put_doc, put_side, open_session, stage, commit, abort, status}
+use Rattle.repo_model.specs.Data.{Blob, Hosted, Phase, Place, Row, Session, fading, listed, is_same_print, repository, session}
+use Rattle.repo_model.specs.Effect.{draws, drops, lends, opens, stages}
+use Rattle.repo_model.specs.Deploy.{Offence, offence, without_pom}
+use Rattle.repo_model.specs.declared.session.SessionResult.{SessionResult}
 use Rattle.repo_model.specs.History.{Entry, IsReply, due, wants_memory, failed, commits}
 use Rattle.repo_model.specs.Paths.{takes as takes_path}
-use Rattle.repo_model.specs.Reply.{Reply, agreed, differs, draft, file, kind_refused, no_draft, no_memory, spent, taken}
+use Rattle.repo_model.specs.Reply.{Reply, agreed, differs, draft, file, kind_refused, no_draft, no_memory, noted, opened, same, session_full, sessions_full, spent, staged, store_fault, taken}
 use Rattle.repo_model.specs.Settings.{Settings}
-use Rattle.repo_model.specs.State.{State, hosted_of, is_among, number_end, row_at, rows_of}
-use Rattle.repo_model.specs.Turn.{Seen, Turn, compared, draws_draft, in_repository, is_doc, is_file, is_nothing, is_text, judged, put_again, put_at, says as replies, seen_at, shows, turn}
-use Rattle.repo_routes.specs.Intent.{Intent, Judged, reads as reads_path, puts_file, puts_side, puts_document, counts, cleans}
+use Rattle.repo_model.specs.State.{State, hosted_of, is_among, is_open, most_sessions, number_end, open_of, row_at, rows_of, session_of}
+use Rattle.repo_model.specs.Turn.{Seen, Turn, abort_of, commit_by, commit_of, compared, draws_draft, draws_or_spent, has_room, in_repository, is_doc, is_file, is_nothing, is_text, judged, may_put_in, put_again, put_at, says as replies, seen_at, shows, stage_at, stage_in, staged_at, turn, with_open}
+use Rattle.repo_routes.specs.Intent.{Intent, Judged, reads as reads_path, puts_file, puts_side, puts_document, counts, cleans, opens as opens_one, commits as commits_one, aborts as aborts_one}
 use Rattle.repo_routes.specs.declared.judging.Refused.{Refused}
 use Rattle.repo_course.specs.declared.outcomes.CleanFault.TheVariants as clean
-use Rattle.repo_course.specs.Course.{Body, Course, Pass, Stored, reads, takes, after_clean, after_continue, after_document, after_look, after_may_put, after_put, after_put_doc, after_put_side, after_send, after_side, after_status, after_take, compares, course_for, course_of, cut_off, gives_up, invites, notes, refuses_head}
+use Rattle.repo_course.specs.Course.{Body, Course, Pass, Stored, reads, takes, after_abort, after_clean, after_commit, after_continue, after_document, after_look, after_may_put, after_open, after_put, after_put_doc, after_put_side, after_send, after_side, after_stage, after_status, after_take, compares, course_for, course_of, cut_off, gives_up, invites, notes, refuses_head}
 use Rattle.repo_course.specs.declared.manner.Manner.{Manner}
 use Rattle.repo_course.specs.declared.outcomes.Continued.{Continued}
 use Rattle.repo_course.specs.declared.outcomes.Continued.TheVariants as continued
@@ -47,6 +49,14 @@ module _ (settings : Settings) where
   asked-complete command next s e is some answered (wants_memory replied can did) = absurd (some replied)
   asked-complete command next s e is some answered (failed replied can rose) =
       absurd (answered.1 (subst (λ d. IsTrue (commits d (turn settings s e.moment d).effects)) is can))
+
+  -- the same of one that is recorded, where that the records failed is answered too
+  recorded-complete : (command : Command) (next : Reply → Course) (s : State) (e : Entry) → e.command ≡ command → e.reply ≢ no_memory
+      → IsComplete settings (next (turn settings s e.moment command).reply) → IsComplete settings (next store_fault) → IsReply settings s e → IsComplete settings (next e.reply)
+  recorded-complete command next s e is some answered fault (due replied did) =
+      subst (λ r. IsComplete settings (next r)) (sym (replied ∙ ap (λ d. (turn settings s e.moment d).reply) is)) answered
+  recorded-complete command next s e is some answered fault (wants_memory replied can did) = absurd (some replied)
+  recorded-complete command next s e is some answered fault (failed replied can rose) = subst (λ r. IsComplete settings (next r)) (sym replied) fault
 
   module _ (manner : Manner) where
     -- what is at a path
@@ -96,12 +106,32 @@ module _ (settings : Settings) where
     put-complete n repo path blob s e is some (failed replied can rose) =
         subst (λ r. IsComplete settings (after_put n manner r)) (sym replied) (λ s e fits is some. tt)
 
-    take-complete : (repo path : List ℕ) (n : ℕ) (stored : Stored) → HadRoom stored → IsComplete settings (after_take repo path n manner stored)
-    take-complete repo path n (Ok blob) room = λ s e fits is some. put-complete n repo path blob s e is some fits.reply
-    take-complete repo path n (Err took.Torn) room = λ s e fits is some. tt
-    take-complete repo path n (Err took.SourceFault) room = λ s e fits is some. tt
-    take-complete repo path n (Err took.BlobFault) room = λ s e fits is some. tt
-    take-complete repo path n (Err took.NoMemory) room = absurd room
+    stage-at-answered : (number : ℕ) (x : Session) (path : List ℕ) (n : ℕ) (blob : Blob) (o : Option Blob)
+        → Answered (stage number path n blob) (after_stage n manner) (stage_at x path n blob o)
+    stage-at-answered number x path n blob None =
+        elim (has_room path x.staged)
+        as (λ b. Answered (stage number path n blob) (after_stage n manner) (if b then record { reply = staged; effects = stages x.number path blob ∷ [] } else record { reply = session_full; effects = drops n ∷ [] }))
+        [ true ↦ (tt, λ is. cc) | false ↦ (tt, λ is. cc) ]
+    stage-at-answered number x path n blob (Some kept) =
+        elim (is_same_print kept.print blob.print)
+        as (λ b. Answered (stage number path n blob) (after_stage n manner) (record { reply = if b then same else taken kept.print blob.print; effects = drops n ∷ [] }))
+        [ true ↦ (tt, λ is. cc) | false ↦ (tt, λ is. cc) ]
+
+    stage-answered : (number : ℕ) (path : List ℕ) (n : ℕ) (blob : Blob) (found : Option Session) (there : Bool)
+        → Answered (stage number path n blob) (after_stage n manner) (if there then stage_in path n blob found else replies no_draft)
+    stage-answered number path n blob None true = (tt, λ is. cc)
+    stage-answered number path n blob (Some x) true = stage-at-answered number x path n blob (staged_at path x.staged)
+    stage-answered number path n blob found false = (λ s e fits is some. tt, λ is. cc)
+
+    take-complete : (place : Place) (path : List ℕ) (n : ℕ) (stored : Stored) → HadRoom stored → IsComplete settings (after_take place path n manner stored)
+    take-complete (repository repo) path n (Ok blob) room = λ s e fits is some. put-complete n repo path blob s e is some fits.reply
+    take-complete (session number) path n (Ok blob) room = λ s e fits is some.
+        asked-complete (stage number path n blob) (after_stage n manner) s e is some
+        (stage-answered number path n blob (open_of number s) (is_among n s.yard.drafts)) fits.reply
+    take-complete place path n (Err took.Torn) room = λ s e fits is some. tt
+    take-complete place path n (Err took.SourceFault) room = λ s e fits is some. tt
+    take-complete place path n (Err took.BlobFault) room = λ s e fits is some. tt
+    take-complete place path n (Err took.NoMemory) room = absurd room
 
     invites-complete : (expects : Bool) (cut body : Course) → IsComplete settings cut → IsComplete settings body → IsComplete settings (invites expects cut body)
     invites-complete true cut body cuts bodies = pick
@@ -111,72 +141,109 @@ module _ (settings : Settings) where
         pick continued.SinkFault = cuts
     invites-complete false cut body cuts bodies = bodies
 
-    draws-answered : (repo path : List ℕ) (count : ℕ) (expects : Bool) (next : ℕ)
-        → Answered (may_put (repository repo) path) (after_may_put repo path count expects manner) (draws_draft next)
-    draws-answered repo path count expects next =
+    draws-answered : (place : Place) (path : List ℕ) (count : ℕ) (expects : Bool) (next : ℕ)
+        → Answered (may_put place path) (after_may_put place path count expects manner) (draws_draft next)
+    draws-answered place path count expects next =
         elim (next == number_end)
-        as (λ b. Answered (may_put (repository repo) path) (after_may_put repo path count expects manner) (if b then replies spent else record { reply = draft next; effects = draws ∷ [] })) [
+        as (λ b. Answered (may_put place path) (after_may_put place path count expects manner) (if b then replies spent else record { reply = draft next; effects = draws ∷ [] })) [
           | true ↦ (tt, λ is. cc)
           | false ↦ (
-            invites-complete expects (gives_up next cut_off) (takes next count (after_take repo path next manner)) (λ s e fits is some. tt)
-                (λ stored room. take-complete repo path next stored room),
+            invites-complete expects (gives_up next cut_off) (takes next count (after_take place path next manner)) (λ s e fits is some. tt)
+                (λ stored room. take-complete place path next stored room),
             λ is. cc,
           )
         ]
 
-    may_put-answered : (repo path : List ℕ) (count : ℕ) (expects : Bool) (next : ℕ) (found : Option Hosted)
-        → Answered (may_put (repository repo) path) (after_may_put repo path count expects manner) (in_repository path found (draws_draft next))
-    may_put-answered repo path count expects next None = (tt, λ is. cc)
-    may_put-answered repo path count expects next (Some here) =
+    in-answered : (place : Place) (path : List ℕ) (count : ℕ) (expects : Bool) (t : Turn) → Answered (may_put place path) (after_may_put place path count expects manner) t
+        → (found : Option Hosted) → Answered (may_put place path) (after_may_put place path count expects manner) (in_repository path found t)
+    in-answered place path count expects t answered None = (tt, λ is. cc)
+    in-answered place path count expects t answered (Some here) =
         elim (takes_path here.rule path)
-        as (λ b. Answered (may_put (repository repo) path) (after_may_put repo path count expects manner) (if b then draws_draft next else replies kind_refused))
-        [ true ↦ draws-answered repo path count expects next | false ↦ (tt, λ is. cc) ]
+        as (λ b. Answered (may_put place path) (after_may_put place path count expects manner) (if b then t else replies kind_refused))
+        [ true ↦ answered | false ↦ (tt, λ is. cc) ]
+
+    room-answered : (place : Place) (path : List ℕ) (count : ℕ) (expects : Bool) (next : ℕ) (room : Bool)
+        → Answered (may_put place path) (after_may_put place path count expects manner) (if room then draws_draft next else replies session_full)
+    room-answered place path count expects next true = draws-answered place path count expects next
+    room-answered place path count expects next false = (tt, λ is. cc)
+
+    in-session-answered : (number : ℕ) (path : List ℕ) (count : ℕ) (expects : Bool) (s : State) (found : Option Session)
+        → Answered (may_put (session number) path) (after_may_put (session number) path count expects manner) (may_put_in s path found)
+    in-session-answered number path count expects s None = (tt, λ is. cc)
+    in-session-answered number path count expects s (Some x) =
+        in-answered (session number) path count expects (if has_room path x.staged then draws_draft s.yard.next_draft else replies session_full)
+        (room-answered (session number) path count expects s.yard.next_draft (has_room path x.staged)) (hosted_of x.repo s)
+
+    may_put-answered : (place : Place) (path : List ℕ) (count : ℕ) (expects : Bool) (s : State) (moment : ℕ)
+        → Answered (may_put place path) (after_may_put place path count expects manner) (turn settings s moment (may_put place path))
+    may_put-answered (repository repo) path count expects s moment =
+        in-answered (repository repo) path count expects (draws_draft s.yard.next_draft) (draws-answered (repository repo) path count expects s.yard.next_draft) (hosted_of repo s)
+    may_put-answered (session number) path count expects s moment = in-session-answered number path count expects s (open_of number s)
 
     -- a side file
 
-    compared-answered : (repo path digest : List ℕ) (found : Option (List ℕ))
-        → Answered (put_side (repository repo) path digest) (after_put_side manner) (compared digest found)
-    compared-answered repo path digest None = (tt, λ is. cc)
-    compared-answered repo path digest (Some kept) =
+    compared-answered : (place : Place) (path digest : List ℕ) (found : Option (List ℕ))
+        → Answered (put_side place path digest) (after_put_side manner) (compared digest found)
+    compared-answered place path digest None = (tt, λ is. cc)
+    compared-answered place path digest (Some kept) =
         elim (bytes_eq digest kept)
-        as (λ b. Answered (put_side (repository repo) path digest) (after_put_side manner) (if b then replies agreed else replies (differs digest kept)))
+        as (λ b. Answered (put_side place path digest) (after_put_side manner) (if b then replies agreed else replies (differs digest kept)))
         [ true ↦ (tt, λ is. cc) | false ↦ (tt, λ is. cc) ]
 
-    side-answered : (repo path digest : List ℕ) (k : Result Kind PathFault) (blob_at : List ℕ → Option Blob)
-        → Answered (put_side (repository repo) path digest) (after_put_side manner) (judged k digest blob_at)
-    side-answered repo path digest (Ok (FileSide c side)) blob_at =
-        compared-answered repo path digest (option_map (λ (blob : Blob). side_of blob.print.digests side) (blob_at (text_of c)))
-    side-answered repo path digest (Ok (File c)) blob_at = (tt, λ is. cc)
-    side-answered repo path digest (Ok (Doc d)) blob_at = (tt, λ is. cc)
-    side-answered repo path digest (Ok (DocSide d side)) blob_at = (tt, λ is. cc)
-    side-answered repo path digest (Err fault) blob_at = (tt, λ is. cc)
+    side-answered : (place : Place) (path digest : List ℕ) (k : Result Kind PathFault) (blob_at : List ℕ → Option Blob)
+        → Answered (put_side place path digest) (after_put_side manner) (judged k digest blob_at)
+    side-answered place path digest (Ok (FileSide c side)) blob_at =
+        compared-answered place path digest (option_map (λ (blob : Blob). side_of blob.print.digests side) (blob_at (text_of c)))
+    side-answered place path digest (Ok (File c)) blob_at = (tt, λ is. cc)
+    side-answered place path digest (Ok (Doc d)) blob_at = (tt, λ is. cc)
+    side-answered place path digest (Ok (DocSide d side)) blob_at = (tt, λ is. cc)
+    side-answered place path digest (Err fault) blob_at = (tt, λ is. cc)
 
-    compares-complete : (repo path : List ℕ) (said : Option (List ℕ)) → IsComplete settings (compares repo path manner said)
-    compares-complete repo path (Some digest) = λ s e fits is some.
-        asked-complete (put_side (repository repo) path digest) (after_put_side manner) s e is some
-        (side-answered repo path digest (kind path) (λ at. option_map (λ (row : Row). row.blob) (row_at at (rows_of repo s)))) fits.reply
-    compares-complete repo path None = tt
+    put_side-answered : (place : Place) (path digest : List ℕ) (s : State) (moment : ℕ)
+        → Answered (put_side place path digest) (after_put_side manner) (turn settings s moment (put_side place path digest))
+    put_side-answered (repository repo) path digest s moment =
+        side-answered (repository repo) path digest (kind path) (λ at. option_map (λ (row : Row). row.blob) (row_at at (rows_of repo s)))
+    put_side-answered (session number) path digest s moment = in-found (open_of number s)
+      where
+        in-found : (found : Option Session)
+            → Answered (put_side (session number) path digest) (after_put_side manner) (with_open found (λ x. judged (kind path) digest (λ at. staged_at at x.staged)))
+        in-found None = (tt, λ is. cc)
+        in-found (Some x) = side-answered (session number) path digest (kind path) (λ at. staged_at at x.staged)
 
-    side-complete : (repo path : List ℕ) (side : Side) (body : Body) → HadRoom body → IsComplete settings (after_side repo path side manner body)
-    side-complete repo path side (Ok bytes) room = compares-complete repo path (read_side side bytes)
-    side-complete repo path side (Err took.Torn) room = tt
-    side-complete repo path side (Err took.SourceFault) room = tt
-    side-complete repo path side (Err took.BlobFault) room = tt
-    side-complete repo path side (Err took.NoMemory) room = absurd room
+    compares-complete : (place : Place) (path : List ℕ) (said : Option (List ℕ)) → IsComplete settings (compares place path manner said)
+    compares-complete place path (Some digest) = λ s e fits is some.
+        asked-complete (put_side place path digest) (after_put_side manner) s e is some (put_side-answered place path digest s e.moment) fits.reply
+    compares-complete place path None = tt
+
+    side-complete : (place : Place) (path : List ℕ) (side : Side) (body : Body) → HadRoom body → IsComplete settings (after_side place path side manner body)
+    side-complete place path side (Ok bytes) room = compares-complete place path (read_side side bytes)
+    side-complete place path side (Err took.Torn) room = tt
+    side-complete place path side (Err took.SourceFault) room = tt
+    side-complete place path side (Err took.BlobFault) room = tt
+    side-complete place path side (Err took.NoMemory) room = absurd room
 
     -- a document
 
-    notes-complete : (repo path : List ℕ) (document : Result Document ℕ) → IsComplete settings (notes repo path manner document)
-    notes-complete repo path (Ok document) = λ s e fits is some.
-        asked-complete (put_doc (repository repo) path) (after_put_doc manner) s e is some (tt, λ is. cc) fits.reply
-    notes-complete repo path (Err at) = tt
+    put_doc-answered : (place : Place) (path : List ℕ) (s : State) (moment : ℕ)
+        → Answered (put_doc place path) (after_put_doc manner) (turn settings s moment (put_doc place path))
+    put_doc-answered (repository repo) path s moment = (tt, λ is. cc)
+    put_doc-answered (session number) path s moment = in-found (open_of number s)
+      where
+        in-found : (found : Option Session) → Answered (put_doc (session number) path) (after_put_doc manner) (with_open found (λ x. replies noted))
+        in-found None = (tt, λ is. cc)
+        in-found (Some x) = (tt, λ is. cc)
 
-    document-complete : (repo path : List ℕ) (body : Body) → HadRoom body → IsComplete settings (after_document repo path manner body)
-    document-complete repo path (Ok bytes) room = notes-complete repo path (reading bytes)
-    document-complete repo path (Err took.Torn) room = tt
-    document-complete repo path (Err took.SourceFault) room = tt
-    document-complete repo path (Err took.BlobFault) room = tt
-    document-complete repo path (Err took.NoMemory) room = absurd room
+    notes-complete : (place : Place) (path : List ℕ) (document : Result Document ℕ) → IsComplete settings (notes place path manner document)
+    notes-complete place path (Ok document) = λ s e fits is some.
+        asked-complete (put_doc place path) (after_put_doc manner) s e is some (put_doc-answered place path s e.moment) fits.reply
+    notes-complete place path (Err at) = tt
+
+    document-complete : (place : Place) (path : List ℕ) (body : Body) → HadRoom body → IsComplete settings (after_document place path manner body)
+    document-complete place path (Ok bytes) room = notes-complete place path (reading bytes)
+    document-complete place path (Err took.Torn) room = tt
+    document-complete place path (Err took.SourceFault) room = tt
+    document-complete place path (Err took.BlobFault) room = tt
+    document-complete place path (Err took.NoMemory) room = absurd room
 
     clean-complete : (pass : Pass) → HadRoomToClean pass → IsComplete settings (after_clean manner pass)
     clean-complete (Ok done) room = tt
@@ -184,20 +251,58 @@ module _ (settings : Settings) where
     clean-complete (Err clean.BlobFault) room = tt
     clean-complete (Err clean.NoMemory) room = absurd room
 
+    -- a session
+
+    open-complete : (repo : List ℕ) (full : Bool) (next : ℕ)
+        → IsComplete settings (after_open manner (if full then replies sessions_full else draws_or_spent next (record { reply = opened next; effects = opens next repo ∷ [] })).reply)
+    open-complete repo true next = tt
+    open-complete repo false next =
+        elim (next == number_end)
+        as (λ b. IsComplete settings (after_open manner (if b then replies spent else record { reply = opened next; effects = opens next repo ∷ [] }).reply)) [ true ↦ tt | false ↦ tt ]
+
+    commit-complete : (s : State) (now : ℕ) (found : Option Session)
+        → IsComplete settings (after_commit manner (with_open found (λ known. commit_of known now (rows_of known.repo s) known.ended)).reply)
+    commit-complete s now None = tt
+    commit-complete s now (Some x) = by-end x.ended
+      where
+        by-faults : (other : Option Offence) (pom : Option (List ℕ)) → IsComplete settings (after_commit manner (commit_by x now (rows_of x.repo s) other pom).reply)
+        by-faults (Some other) pom = tt
+        by-faults None (Some directory) = tt
+        by-faults None None = tt
+
+        by-end : (o : Option SessionResult) → IsComplete settings (after_commit manner (commit_of x now (rows_of x.repo s) o).reply)
+        by-end None = by-faults (offence (rows_of x.repo s) x.staged) (without_pom (rows_of x.repo s) x.staged)
+        by-end (Some result) = tt
+
+    abort-complete : (found : Option Session) → IsComplete settings (after_abort manner (with_open found (λ known. abort_of known known.ended)).reply)
+    abort-complete None = tt
+    abort-complete (Some x) = by-end x.ended
+      where
+        by-end : (o : Option SessionResult) → IsComplete settings (after_abort manner (abort_of x o).reply)
+        by-end None = tt
+        by-end (Some result) = tt
+
     for-complete : (expects : Bool) (intent : Intent) → IsComplete settings (course_for manner expects intent)
     for-complete expects (reads_path repo path) = λ s e fits is some.
         asked-complete (look repo path []) (after_look manner) s e is some
         (shown-answered repo path s.yard.next_lease (seen_at (rows_of repo s) path (kind path))) fits.reply
-    for-complete expects (puts_file repo path count) = λ s e fits is some.
-        asked-complete (may_put (repository repo) path) (after_may_put repo path count expects manner) s e is some
-        (may_put-answered repo path count expects s.yard.next_draft (hosted_of repo s)) fits.reply
-    for-complete expects (puts_side repo path side count) =
-        invites-complete expects cut_off (reads count (after_side repo path side manner)) tt (side-complete repo path side)
-    for-complete expects (puts_document repo path count) =
-        invites-complete expects cut_off (reads count (after_document repo path manner)) tt (document-complete repo path)
+    for-complete expects (puts_file place path count) = λ s e fits is some.
+        asked-complete (may_put place path) (after_may_put place path count expects manner) s e is some
+        (may_put-answered place path count expects s e.moment) fits.reply
+    for-complete expects (puts_side place path side count) =
+        invites-complete expects cut_off (reads count (after_side place path side manner)) tt (side-complete place path side)
+    for-complete expects (puts_document place path count) =
+        invites-complete expects cut_off (reads count (after_document place path manner)) tt (document-complete place path)
     for-complete expects counts = λ s e fits is some.
         asked-complete status (after_status manner) s e is some (tt, λ is. cc) fits.reply
     for-complete expects (cleans repos) = clean-complete
+    for-complete expects (opens_one repo) = λ s e fits is some.
+        recorded-complete (open_session repo) (after_open manner) s e is some
+        (open-complete repo (nat_le most_sessions (count_by is_open s.sessions)) s.yard.next_session) tt fits.reply
+    for-complete expects (commits_one n) = λ s e fits is some.
+        recorded-complete (commit n) (after_commit manner) s e is some (commit-complete s e.moment (session_of n s)) tt fits.reply
+    for-complete expects (aborts_one n) = λ s e fits is some.
+        recorded-complete (abort n) (after_abort manner) s e is some (abort-complete (session_of n s)) tt fits.reply
 
   pub judged-complete : (judged : Result Judged Refused) (last : Bool) → IsComplete settings (course_of judged last)
   judged-complete (Ok request) last =

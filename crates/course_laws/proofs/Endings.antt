@@ -13,7 +13,7 @@ use Rattle.repo_model.specs.History.{Entry}
 use Rattle.repo_model.specs.Reply.{Reply}
 use Rattle.repo_model.specs.Settings.{Rule, Settings}
 use Rattle.repo_course.specs.Answers.{answer_of, file_answer, memory_answer}
-use Rattle.repo_routes.specs.Intent.{Intent, reads as reads_path, puts_file, puts_side, puts_document, counts as counts_all, cleans as cleans_all}
+use Rattle.repo_routes.specs.Intent.{Intent, reads as reads_path, puts_file, puts_side, puts_document, counts as counts_all, cleans as cleans_all, opens, commits, aborts}
 use Rattle.repo_routes.specs.Judge.{IsIntent, intent_of, judge, outcome_of}
 use Rattle.repo_routes.proofs.KeptLemmas.{intent-kept}
 use Rattle.repo_routes.specs.declared.refusal.Refusal.{Refusal}
@@ -249,10 +249,13 @@ module _ (tells : Type 0) where
     intent-few : (intent : Intent) → IsIntent settings intent → most_for intent ≤ most_asked settings
     unfolding most_asked
     intent-few (reads_path repo path) kept = omega arith
-    intent-few (puts_file repo path count) kept = omega arith
-    intent-few (puts_side repo path side count) kept = omega arith
-    intent-few (puts_document repo path count) kept = omega arith
+    intent-few (puts_file place path count) kept = omega arith
+    intent-few (puts_side place path side count) kept = omega arith
+    intent-few (puts_document place path count) kept = omega arith
     intent-few counts_all kept = omega arith
+    intent-few (opens repo) kept = omega arith
+    intent-few (commits n) kept = omega arith
+    intent-few (aborts n) kept = omega arith
     intent-few (cleans_all repos) kept =
         let all = ap length kept ∙ length-map settings.hosted (λ (rule : Rule). rule.id) in omega (arith, all)
 

@@ -12,13 +12,13 @@ use Rattle.http_wire.specs.Front.{Front, Clean, Cut, Bad, Whole, front}
 use Rattle.http_wire.specs.Head.{Head}
 use Rattle.http_wire.specs.declared.answers.Answer.{Answer}
 use Rattle.std.specs.List.{AllByRecursion}
-use Rattle.repo_model.specs.Command.{Command, look, done, may_put, put, put_side, put_doc, drop_draft, status, unlist, collect}
-use Rattle.repo_model.specs.Data.{Blob, repository}
+use Rattle.repo_model.specs.Command.{Command, look, done, may_put, put, put_side, put_doc, drop_draft, open_session, stage, commit, abort, status, unlist, collect}
+use Rattle.repo_model.specs.Data.{Blob}
 use Rattle.repo_model.specs.History.{Entry}
 use Rattle.repo_model.specs.Settings.{Settings}
 use Rattle.repo_routes.specs.Framing.{is_head}
 use Rattle.repo_model.specs.Reply.{Reply, no_memory, store_fault}
-use Rattle.repo_routes.specs.Intent.{Intent, Judged, reads as reads_path, puts_file, puts_side, puts_document, counts, cleans as cleans_all}
+use Rattle.repo_routes.specs.Intent.{Intent, Judged, reads as reads_path, puts_file, puts_side, puts_document, counts, cleans as cleans_all, opens, commits, aborts}
 use Rattle.repo_routes.specs.Judge.{judge}
 use Rattle.repo_routes.specs.declared.judging.Refused.{Refused}
 use Rattle.repo_course.specs.Answers.{answer_of, file_answer, full_answer, memory_answer}
@@ -175,10 +175,14 @@ module _ (manner : Manner) where
 starves : (command : Command) (s : Stand) → MayAsk command s → Grants command no_memory ⊎ (stand_after command no_memory s ≡ starving s)
 starves (look repo path tried) s may = inr refl
 starves (done lease) s may = inl tt
-starves (may_put (repository repo) path) s may = inr refl
+starves (may_put place path) s may = inr refl
 starves (put repo path n blob) s may = inr refl
-starves (put_side (repository repo) path said) s may = inr refl
-starves (put_doc (repository repo) path) s may = inr refl
+starves (put_side place path said) s may = inr refl
+starves (put_doc place path) s may = inr refl
+starves (open_session repo) s may = inr refl
+starves (stage at path n blob) s may = inr refl
+starves (commit n) s may = inr refl
+starves (abort n) s may = inr refl
 starves (drop_draft n) s may = inl tt
 starves status s may = inr refl
 starves _ s may = absurd may
@@ -428,14 +432,20 @@ module _ (settings : Settings) (tells : Type 0) (manner : Manner) where
       → IsServed manner (invitation (is_invited intent expects)) (behind_body (body_length intent) input) (due_by intent entries) (file_by entries None) old new end
   intent-served expects (reads_path repo path) c su n s k entries all old new end input input-is taken q f =
       follows-so tells manner (for_text (reads_path repo path)) c _ su n s k entries all old new end input input-is taken q f
-  intent-served expects (puts_file repo path count) c su n s k entries all old new end input input-is taken q f =
-      follows-so tells manner (for_text (puts_file repo path count)) c _ su n s k entries all old new end input input-is taken q f
-  intent-served expects (puts_side repo path side count) c su n s k entries all old new end input input-is taken q f =
-      follows-so tells manner (for_text (puts_side repo path side count)) c _ su n s k entries all old new end input input-is taken q f
-  intent-served expects (puts_document repo path count) c su n s k entries all old new end input input-is taken q f =
-      follows-so tells manner (for_text (puts_document repo path count)) c _ su n s k entries all old new end input input-is taken q f
+  intent-served expects (puts_file place path count) c su n s k entries all old new end input input-is taken q f =
+      follows-so tells manner (for_text (puts_file place path count)) c _ su n s k entries all old new end input input-is taken q f
+  intent-served expects (puts_side place path side count) c su n s k entries all old new end input input-is taken q f =
+      follows-so tells manner (for_text (puts_side place path side count)) c _ su n s k entries all old new end input input-is taken q f
+  intent-served expects (puts_document place path count) c su n s k entries all old new end input input-is taken q f =
+      follows-so tells manner (for_text (puts_document place path count)) c _ su n s k entries all old new end input input-is taken q f
   intent-served expects counts c su n s k entries all old new end input input-is taken q f =
       follows-so tells manner (for_text counts) c _ su n s k entries all old new end input input-is taken q f
+  intent-served expects (opens repo) c su n s k entries all old new end input input-is taken q f =
+      follows-so tells manner (for_text (opens repo)) c _ su n s k entries all old new end input input-is taken q f
+  intent-served expects (commits number) c su n s k entries all old new end input input-is taken q f =
+      follows-so tells manner (for_text (commits number)) c _ su n s k entries all old new end input input-is taken q f
+  intent-served expects (aborts number) c su n s k entries all old new end input input-is taken q f =
+      follows-so tells manner (for_text (aborts number)) c _ su n s k entries all old new end input input-is taken q f
   intent-served expects (cleans_all repos) c su n s k entries all old new end input input-is taken q f =
       pass-served repos c su.1 n s k entries all old new end input input-is q f
 

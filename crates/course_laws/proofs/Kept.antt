@@ -8,16 +8,16 @@ use Rattle.mvn_coords.specs.declared.fault.Side.{Side}
 use Rattle.mvn_digest.specs.Sides.{read_side}
 use Rattle.mvn_doc.specs.Reading.{reading}
 use Rattle.mvn_metadata.specs.Document.{Document}
-use Rattle.repo_model.specs.Command.{Command, look, done, may_put, put as puts, put_side, put_doc, drop_draft, status}
-use Rattle.repo_model.specs.Data.{Blob, repository, session}
-use Rattle.repo_model.specs.Reply.{Reply, file, text, doc, missed, kind_refused, draft, no_draft, taken, same, relisted, created, not_there, differs, agreed, noted, counts as counts_reply, spent, store_fault}
+use Rattle.repo_model.specs.Command.{Command, look, done, may_put, put as puts, put_side, put_doc, drop_draft, open_session, stage, commit, abort, status}
+use Rattle.repo_model.specs.Data.{Blob, Place, repository, session}
+use Rattle.repo_model.specs.Reply.{Reply, file, text, doc, missed, kind_refused, draft, no_draft, taken, same, relisted, created, not_there, differs, agreed, noted, no_session, sessions_full, opened, session_full, staged, offends, missing_pom, ended, counts as counts_reply, spent, store_fault}
 use Rattle.repo_model.specs.Settings.{Settings}
 use Rattle.repo_routes.specs.Framing.{is_head}
-use Rattle.repo_routes.specs.Intent.{Intent, Judged, reads as reads_path, puts_file, puts_side, puts_document, counts, cleans as cleans_all}
+use Rattle.repo_routes.specs.Intent.{Intent, Judged, reads as reads_path, puts_file, puts_side, puts_document, counts, cleans as cleans_all, opens, commits, aborts}
 use Rattle.repo_routes.specs.Judge.{judge}
 use Rattle.repo_routes.specs.declared.judging.Refused.{Refused}
 use Rattle.repo_course.specs.declared.outcomes.CleanFault.TheVariants as clean_fault
-use Rattle.repo_course.specs.Course.{Body, Course, Pass, Stored, asks, reads, takes, after_clean, after_continue, after_document, after_fault, after_look, after_may_put, after_put, after_put_doc, after_put_side, after_send, after_side, after_status, after_take, compares, course_for, course_of, cut_off, end_of, gives_up, invites, notes, refuses_head}
+use Rattle.repo_course.specs.Course.{Body, Course, Pass, Stored, asks, reads, takes, after_abort, after_clean, after_commit, after_continue, after_document, after_fault, after_look, after_may_put, after_open, after_put, after_put_doc, after_put_side, after_send, after_side, after_stage, after_status, after_take, compares, course_for, course_of, cut_off, end_of, gives_up, invites, notes, refuses_head}
 use Rattle.repo_course.specs.declared.manner.Manner.{Manner}
 use Rattle.repo_course.specs.declared.outcomes.Continued.{Continued}
 use Rattle.repo_course.specs.declared.outcomes.Continued.TheVariants as continued
@@ -28,7 +28,7 @@ use Rattle.repo_course.specs.declared.outcomes.Sent.TheVariants as sent
 use Rattle.repo_course.specs.declared.outcomes.Took.{Took}
 use Rattle.repo_course.specs.declared.outcomes.Took.TheVariants as took
 use Rattle.repo_course.specs.Serving.{Opens, clean, torn, failed, refused, unread_head, starved, served, Outside}
-use Rattle.course_laws.specs.Duties.{Keeps, most_for, most_of, stand_cleaned, MayAsk, Stand, stand_after, at_first, by_memory, failing, has_counted, has_put, has_put_doc, has_put_side, has_read, is_head_only, length_of, looked, asked_draft, stand_continued, stand_fault, stand_read, stand_sent, stand_stored, starving, unread_of}
+use Rattle.course_laws.specs.Duties.{Keeps, most_for, most_of, stand_cleaned, MayAsk, Stand, stand_after, at_first, by_memory, failing, has_aborted, has_committed, has_counted, has_opened, has_put, has_put_doc, has_put_side, has_read, has_staged, is_head_only, length_of, looked, asked_draft, stand_continued, stand_fault, stand_read, stand_sent, stand_stored, starving, unread_of}
 
 -- the stream goes on, or is closed
 abbrev pub IsCalm : Option End → Type 0
@@ -92,6 +92,15 @@ module _ (manner : Manner) where
   put-keeps n blob store_fault = (refl, λ reply. ((refl, refl), (tt, refl, λ is. refl), refl))
   put-keeps n blob reply = (refl, λ r. ((refl, refl), (refl, refl, refl), refl))
 
+  stage-keeps : (n : ℕ) (blob : Blob) (reply : Reply) → Owes (after_stage n manner reply) 1 (has_staged reply (drawn n (Some blob) 0 true))
+  stage-keeps n blob staged = ((refl, refl), (tt, refl, λ is. refl), refl)
+  stage-keeps n blob same = ((refl, refl), (tt, refl, λ is. refl), refl)
+  stage-keeps n blob (taken kept given) = ((refl, refl), (tt, refl, λ is. refl), refl)
+  stage-keeps n blob session_full = ((refl, refl), (tt, refl, λ is. refl), refl)
+  stage-keeps n blob no_session = ((refl, refl), (tt, refl, λ is. refl), refl)
+  stage-keeps n blob no_draft = (refl, λ reply. ((refl, refl), (tt, refl, λ is. refl), refl))
+  stage-keeps n blob reply = (refl, λ r. ((refl, refl), (refl, refl, refl), refl))
+
   -- a body that was not taken, where nothing is in hand
   fault-keeps : (fault : Took) (n : ℕ) → Owes (after_fault manner fault) n (stand_fault fault (empty 0 true))
   fault-keeps took.Torn n = ((refl, refl), refl)
@@ -99,13 +108,14 @@ module _ (manner : Manner) where
   fault-keeps took.BlobFault n = ((refl, refl), (tt, refl, λ is. refl), refl)
   fault-keeps took.NoMemory n = ((refl, refl), (refl, refl, refl), refl)
 
-  take-keeps : (repo path : List ℕ) (n : ℕ) (count : ℕ) (invited : Bool) (stored : Stored)
-      → Owes (after_take repo path n manner stored) 2 (stand_stored stored (drawn n None count invited))
-  take-keeps repo path n count invited (Ok blob) = ((refl, refl, refl), λ reply. put-keeps n blob reply)
-  take-keeps repo path n count invited (Err took.Torn) = (refl, λ reply. fault-keeps took.Torn 1)
-  take-keeps repo path n count invited (Err took.SourceFault) = (refl, λ reply. fault-keeps took.SourceFault 1)
-  take-keeps repo path n count invited (Err took.BlobFault) = (refl, λ reply. fault-keeps took.BlobFault 1)
-  take-keeps repo path n count invited (Err took.NoMemory) = (refl, λ reply. fault-keeps took.NoMemory 1)
+  take-keeps : (place : Place) (path : List ℕ) (n : ℕ) (count : ℕ) (invited : Bool) (stored : Stored)
+      → Owes (after_take place path n manner stored) 2 (stand_stored stored (drawn n None count invited))
+  take-keeps (repository repo) path n count invited (Ok blob) = ((refl, refl, refl), λ reply. put-keeps n blob reply)
+  take-keeps (session number) path n count invited (Ok blob) = ((refl, refl, refl), λ reply. stage-keeps n blob reply)
+  take-keeps place path n count invited (Err took.Torn) = (refl, λ reply. fault-keeps took.Torn 1)
+  take-keeps place path n count invited (Err took.SourceFault) = (refl, λ reply. fault-keeps took.SourceFault 1)
+  take-keeps place path n count invited (Err took.BlobFault) = (refl, λ reply. fault-keeps took.BlobFault 1)
+  take-keeps place path n count invited (Err took.NoMemory) = (refl, λ reply. fault-keeps took.NoMemory 1)
 
   -- `100 Continue` before a body, or none
   continue-keeps : (cut body : Course) (n : ℕ) (s : Stand) → Owes cut n (failing stream.SinkFault s) → Owes body n (record s { invited = true })
@@ -113,51 +123,55 @@ module _ (manner : Manner) where
   continue-keeps cut body n s cuts bodies continued.Written = bodies
   continue-keeps cut body n s cuts bodies continued.SinkFault = cuts
 
-  file-body-keeps : (repo path : List ℕ) (count : ℕ) (n : ℕ) (expects : Bool)
-      → Owes (invites expects (gives_up n cut_off) (takes n count (after_take repo path n manner))) 2 (drawn n None count false)
-  file-body-keeps repo path count n true = (
+  file-body-keeps : (place : Place) (path : List ℕ) (count : ℕ) (n : ℕ) (expects : Bool)
+      → Owes (invites expects (gives_up n cut_off) (takes n count (after_take place path n manner))) 2 (drawn n None count false)
+  file-body-keeps place path count n true = (
     refl,
     refl,
     refl,
-    continue-keeps (gives_up n cut_off) (takes n count (after_take repo path n manner)) 2 (drawn n None count false) (refl, λ reply. ((refl, refl), refl))
-        (refl, refl, refl, take-keeps repo path n count true),
+    continue-keeps (gives_up n cut_off) (takes n count (after_take place path n manner)) 2 (drawn n None count false) (refl, λ reply. ((refl, refl), refl))
+        (refl, refl, refl, take-keeps place path n count true),
   )
-  file-body-keeps repo path count n false = (refl, refl, refl, take-keeps repo path n count false)
+  file-body-keeps place path count n false = (refl, refl, refl, take-keeps place path n count false)
 
-  may_put-keeps : (repo path : List ℕ) (count : ℕ) (expects : Bool) (reply : Reply)
-      → Owes (after_may_put repo path count expects manner reply) 2 (asked_draft reply (at_first count))
-  may_put-keeps repo path count expects (draft n) = file-body-keeps repo path count n expects
-  may_put-keeps repo path count expects kind_refused = ((refl, refl), (tt, refl, unread-closes manner.close count), refl)
-  may_put-keeps repo path count expects spent = ((refl, refl), (tt, refl, unread-closes manner.close count), refl)
-  may_put-keeps repo path count expects reply = ((refl, refl), (refl, refl, refl), refl)
+  may_put-keeps : (place : Place) (path : List ℕ) (count : ℕ) (expects : Bool) (reply : Reply)
+      → Owes (after_may_put place path count expects manner reply) 2 (asked_draft reply (at_first count))
+  may_put-keeps place path count expects (draft n) = file-body-keeps place path count n expects
+  may_put-keeps place path count expects no_session = ((refl, refl), (tt, refl, unread-closes manner.close count), refl)
+  may_put-keeps place path count expects session_full = ((refl, refl), (tt, refl, unread-closes manner.close count), refl)
+  may_put-keeps place path count expects kind_refused = ((refl, refl), (tt, refl, unread-closes manner.close count), refl)
+  may_put-keeps place path count expects spent = ((refl, refl), (tt, refl, unread-closes manner.close count), refl)
+  may_put-keeps place path count expects reply = ((refl, refl), (refl, refl, refl), refl)
 
   put_side-keeps : (n : ℕ) (reply : Reply) → Owes (after_put_side manner reply) n (has_put_side reply (empty 0 true))
   put_side-keeps n agreed = ((refl, refl), (tt, refl, λ is. refl), refl)
   put_side-keeps n (differs said kept) = ((refl, refl), (tt, refl, λ is. refl), refl)
   put_side-keeps n not_there = ((refl, refl), (tt, refl, λ is. refl), refl)
+  put_side-keeps n no_session = ((refl, refl), (tt, refl, λ is. refl), refl)
   put_side-keeps n reply = ((refl, refl), (refl, refl, refl), refl)
 
-  compares-keeps : (repo path : List ℕ) (said : Option (List ℕ)) → Owes (compares repo path manner said) 3 (empty 0 true)
-  compares-keeps repo path (Some digest) = (refl, λ reply. put_side-keeps 2 reply)
-  compares-keeps repo path None = ((refl, refl), (tt, refl, λ is. refl), refl)
+  compares-keeps : (place : Place) (path : List ℕ) (said : Option (List ℕ)) → Owes (compares place path manner said) 3 (empty 0 true)
+  compares-keeps place path (Some digest) = (refl, λ reply. put_side-keeps 2 reply)
+  compares-keeps place path None = ((refl, refl), (tt, refl, λ is. refl), refl)
 
-  side-keeps : (repo path : List ℕ) (side : Side) (count : ℕ) (invited : Bool) (body : Body)
-      → Owes (after_side repo path side manner body) 3 (stand_read body (empty count invited))
-  side-keeps repo path side count invited (Ok bytes) = compares-keeps repo path (read_side side bytes)
-  side-keeps repo path side count invited (Err fault) = fault-keeps fault 3
+  side-keeps : (place : Place) (path : List ℕ) (side : Side) (count : ℕ) (invited : Bool) (body : Body)
+      → Owes (after_side place path side manner body) 3 (stand_read body (empty count invited))
+  side-keeps place path side count invited (Ok bytes) = compares-keeps place path (read_side side bytes)
+  side-keeps place path side count invited (Err fault) = fault-keeps fault 3
 
   put_doc-keeps : (n : ℕ) (reply : Reply) → Owes (after_put_doc manner reply) n (has_put_doc reply (empty 0 true))
   put_doc-keeps n noted = ((refl, refl), (tt, refl, λ is. refl), refl)
+  put_doc-keeps n no_session = ((refl, refl), (tt, refl, λ is. refl), refl)
   put_doc-keeps n reply = ((refl, refl), (refl, refl, refl), refl)
 
-  notes-keeps : (repo path : List ℕ) (document : Result Document ℕ) → Owes (notes repo path manner document) 3 (empty 0 true)
-  notes-keeps repo path (Ok document) = (refl, λ reply. put_doc-keeps 2 reply)
-  notes-keeps repo path (Err at) = ((refl, refl), (tt, refl, λ is. refl), refl)
+  notes-keeps : (place : Place) (path : List ℕ) (document : Result Document ℕ) → Owes (notes place path manner document) 3 (empty 0 true)
+  notes-keeps place path (Ok document) = (refl, λ reply. put_doc-keeps 2 reply)
+  notes-keeps place path (Err at) = ((refl, refl), (tt, refl, λ is. refl), refl)
 
-  document-keeps : (repo path : List ℕ) (count : ℕ) (invited : Bool) (body : Body)
-      → Owes (after_document repo path manner body) 3 (stand_read body (empty count invited))
-  document-keeps repo path count invited (Ok bytes) = notes-keeps repo path (reading bytes)
-  document-keeps repo path count invited (Err fault) = fault-keeps fault 3
+  document-keeps : (place : Place) (path : List ℕ) (count : ℕ) (invited : Bool) (body : Body)
+      → Owes (after_document place path manner body) 3 (stand_read body (empty count invited))
+  document-keeps place path count invited (Ok bytes) = notes-keeps place path (reading bytes)
+  document-keeps place path count invited (Err fault) = fault-keeps fault 3
 
   -- a small body, and what follows it
   small-keeps : (count : ℕ) (next : Body → Course) (expects : Bool) → ((invited : Bool) (body : Body) → Owes (next body) 3 (stand_read body (empty count invited)))
@@ -170,6 +184,27 @@ module _ (manner : Manner) where
   status-keeps n (counts_reply files fading cached documents sessions) = ((refl, refl), (tt, refl, λ is. refl), refl)
   status-keeps n reply = ((refl, refl), (refl, refl, refl), refl)
 
+  open-keeps : (n : ℕ) (reply : Reply) → Owes (after_open manner reply) n (has_opened reply (at_first 0))
+  open-keeps n (opened number) = ((refl, refl), (tt, refl, λ is. refl), refl)
+  open-keeps n sessions_full = ((refl, refl), (tt, refl, λ is. refl), refl)
+  open-keeps n spent = ((refl, refl), (tt, refl, λ is. refl), refl)
+  open-keeps n store_fault = ((refl, refl), (tt, refl, λ is. refl), refl)
+  open-keeps n reply = ((refl, refl), (refl, refl, refl), refl)
+
+  commit-keeps : (n : ℕ) (reply : Reply) → Owes (after_commit manner reply) n (has_committed reply (at_first 0))
+  commit-keeps n (ended result) = ((refl, refl), (tt, refl, λ is. refl), refl)
+  commit-keeps n (offends path kept given) = ((refl, refl), (tt, refl, λ is. refl), refl)
+  commit-keeps n (missing_pom directory) = ((refl, refl), (tt, refl, λ is. refl), refl)
+  commit-keeps n no_session = ((refl, refl), (tt, refl, λ is. refl), refl)
+  commit-keeps n store_fault = ((refl, refl), (tt, refl, λ is. refl), refl)
+  commit-keeps n reply = ((refl, refl), (refl, refl, refl), refl)
+
+  abort-keeps : (n : ℕ) (reply : Reply) → Owes (after_abort manner reply) n (has_aborted reply (at_first 0))
+  abort-keeps n (ended result) = ((refl, refl), (tt, refl, λ is. refl), refl)
+  abort-keeps n no_session = ((refl, refl), (tt, refl, λ is. refl), refl)
+  abort-keeps n store_fault = ((refl, refl), (tt, refl, λ is. refl), refl)
+  abort-keeps n reply = ((refl, refl), (refl, refl, refl), refl)
+
   clean-keeps : (pass : Pass) → Owes (after_clean manner pass) 0 (stand_cleaned pass (at_first 0))
   clean-keeps (Ok cleaned) = ((refl, refl), (tt, refl, λ is. refl), refl)
   clean-keeps (Err clean_fault.StoreFault) = ((refl, refl), (tt, refl, λ is. refl), refl)
@@ -178,11 +213,14 @@ module _ (manner : Manner) where
 
   for-keeps : (expects : Bool) (intent : Intent) → Owes (course_for manner expects intent) (most_for intent) (at_first (length_of intent))
   for-keeps expects (reads_path repo path) = ((refl, refl), λ reply. look-keeps reply 1)
-  for-keeps expects (puts_file repo path count) = ((refl, refl), λ reply. may_put-keeps repo path count expects reply)
-  for-keeps expects (puts_side repo path side count) = small-keeps count (after_side repo path side manner) expects (side-keeps repo path side count)
-  for-keeps expects (puts_document repo path count) = small-keeps count (after_document repo path manner) expects (document-keeps repo path count)
+  for-keeps expects (puts_file place path count) = ((refl, refl), λ reply. may_put-keeps place path count expects reply)
+  for-keeps expects (puts_side place path side count) = small-keeps count (after_side place path side manner) expects (side-keeps place path side count)
+  for-keeps expects (puts_document place path count) = small-keeps count (after_document place path manner) expects (document-keeps place path count)
   for-keeps expects counts = (refl, λ reply. status-keeps 2 reply)
   for-keeps expects (cleans_all repos) = ((refl, refl), refl, omega arith, clean-keeps)
+  for-keeps expects (opens repo) = (refl, λ reply. open-keeps 2 reply)
+  for-keeps expects (commits n) = (refl, λ reply. commit-keeps 2 reply)
+  for-keeps expects (aborts n) = (refl, λ reply. abort-keeps 2 reply)
 
 pub judged-keeps : (judged : Result Judged Refused) (last : Bool) → Keeps (is_head_only judged) (course_of judged last) (most_of judged) (at_first (unread_of judged))
 judged-keeps (Ok request) last =
@@ -249,7 +287,9 @@ looked-goes reply s none = inr (none, refl)
 
 asked-goes : (reply : Reply) (s : Stand) → s.early ≡ None → Goes s (asked_draft reply s)
 asked-goes (draft n) s none = inl refl
+asked-goes no_session s none = inl refl
 asked-goes kind_refused s none = inl refl
+asked-goes session_full s none = inl refl
 asked-goes spent s none = inl refl
 asked-goes reply s none = inr (none, refl)
 
@@ -262,31 +302,64 @@ put-goes no_draft s none = inl refl
 put-goes store_fault s none = inl refl
 put-goes reply s none = inr (none, refl)
 
+stage-goes : (reply : Reply) (s : Stand) → s.early ≡ None → Goes s (has_staged reply s)
+stage-goes staged s none = inl refl
+stage-goes same s none = inl refl
+stage-goes (taken kept given) s none = inl refl
+stage-goes session_full s none = inl refl
+stage-goes no_session s none = inl refl
+stage-goes no_draft s none = inl refl
+stage-goes reply s none = inr (none, refl)
+
 side-goes : (reply : Reply) (s : Stand) → s.early ≡ None → Goes s (has_put_side reply s)
 side-goes agreed s none = inl refl
 side-goes (differs said kept) s none = inl refl
 side-goes not_there s none = inl refl
+side-goes no_session s none = inl refl
 side-goes reply s none = inr (none, refl)
 
 doc-goes : (reply : Reply) (s : Stand) → s.early ≡ None → Goes s (has_put_doc reply s)
 doc-goes noted s none = inl refl
+doc-goes no_session s none = inl refl
 doc-goes reply s none = inr (none, refl)
 
 counts-goes : (reply : Reply) (s : Stand) → s.early ≡ None → Goes s (has_counted reply s)
 counts-goes (counts_reply files fading cached documents sessions) s none = inl refl
 counts-goes reply s none = inr (none, refl)
 
+open-goes : (reply : Reply) (s : Stand) → s.early ≡ None → Goes s (has_opened reply s)
+open-goes (opened n) s none = inl refl
+open-goes sessions_full s none = inl refl
+open-goes spent s none = inl refl
+open-goes store_fault s none = inl refl
+open-goes reply s none = inr (none, refl)
+
+commit-goes : (reply : Reply) (s : Stand) → s.early ≡ None → Goes s (has_committed reply s)
+commit-goes (ended result) s none = inl refl
+commit-goes (offends path kept given) s none = inl refl
+commit-goes (missing_pom directory) s none = inl refl
+commit-goes no_session s none = inl refl
+commit-goes store_fault s none = inl refl
+commit-goes reply s none = inr (none, refl)
+
+abort-goes : (reply : Reply) (s : Stand) → s.early ≡ None → Goes s (has_aborted reply s)
+abort-goes (ended result) s none = inl refl
+abort-goes no_session s none = inl refl
+abort-goes store_fault s none = inl refl
+abort-goes reply s none = inr (none, refl)
+
 pub reply-goes : (command : Command) (reply : Reply) (s : Stand) → MayAsk command s → Goes s (stand_after command reply s)
 reply-goes (look repo path tried) reply s may = looked-goes reply s may.1
 reply-goes (done lease) reply s may = inl refl
-reply-goes (may_put (repository repo) path) reply s may = asked-goes reply s may.1
-reply-goes (may_put (session n) path) reply s may = absurd may
+reply-goes (may_put place path) reply s may = asked-goes reply s may.1
 reply-goes (puts repo path n blob) reply s may = put-goes reply s may.1
-reply-goes (put_side (repository repo) path said) reply s may = side-goes reply s may
-reply-goes (put_side (session n) path said) reply s may = absurd may
-reply-goes (put_doc (repository repo) path) reply s may = doc-goes reply s may
-reply-goes (put_doc (session n) path) reply s may = absurd may
+reply-goes (put_side place path said) reply s may = side-goes reply s may
+reply-goes (put_doc place path) reply s may = doc-goes reply s may
 reply-goes (drop_draft n) reply s may = inl refl
+reply-goes (open_session repo) reply s may = open-goes reply s may
+reply-goes (stage at path n blob) reply s may = stage-goes reply s may.1
+reply-goes (commit n) reply s may = commit-goes reply s may
+reply-goes (abort n) reply s may = abort-goes reply s may
 reply-goes status reply s may = counts-goes reply s may
 reply-goes _ reply s may = absurd may
 

@@ -1,3 +1,4 @@
+pub mod Alls
 pub mod Kept
 pub mod Bodies
 pub mod Endings

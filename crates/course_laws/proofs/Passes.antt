@@ -21,6 +21,7 @@ use Rattle.repo_course.specs.declared.outcomes.Cleaned.{Cleaned}
 use Rattle.repo_course.specs.declared.outcomes.CleanFault.TheVariants as clean
 use Rattle.course_laws.specs.AsPlayed.{RowsTold}
 use Rattle.course_laws.specs.Faultless.{done_by, due_entries, due_entry, garbage_by, pass_entries, unlisted_by}
+use Rattle.course_laws.proofs.Alls.{all-flat, all-joined, all-mapped}
 use Rattle.course_laws.proofs.Counts.{Calm, not-risen}
 use Rattle.course_laws.proofs.Told.{EffectTold, clock-stays, due-is, effects-told, faults-are, faults-grow, moment-is}
 use Rattle.course_laws.proofs.Yards.{Holding}
@@ -28,10 +29,6 @@ use Rattle.course_laws.proofs.Yards.{Holding}
 -- lists
 
 module _ {X Y : Type 0} (P : Y → Type 0) where
-  all-mapped : (f : X → Y) → ((x : X) → P (f x)) → (xs : List X) → AllByRecursion P (map f xs)
-  all-mapped f each [] = tt
-  all-mapped f each (x ∷ xs) = (each x, all-mapped f each xs)
-
   all-under : (f : X → Y) (xs : List X) → AllByRecursion P (map f xs) → AllByRecursion (λ x. P (f x)) xs
   all-under f [] all = tt
   all-under f (x ∷ xs) all = (all.0, all-under f xs all.1)
@@ -41,10 +38,6 @@ module _ {X Y : Type 0} (P : Y → Type 0) where
   all-over f (x ∷ xs) all = (all.0, all-over f xs all.1)
 
 module _ {X : Type 0} (P : X → Type 0) where
-  all-joined : (xs ys : List X) → AllByRecursion P xs → AllByRecursion P ys → AllByRecursion P (xs ++ ys)
-  all-joined [] ys one two = two
-  all-joined (x ∷ xs) ys one two = (one.0, all-joined xs ys one.1 two)
-
   all-last : (xs : List X) (x : X) → AllByRecursion P (xs ++ x ∷ []) → P x
   all-last [] x all = all.0
   all-last (y ∷ ys) x all = all-last ys x all.1
@@ -53,10 +46,6 @@ module _ {X : Type 0} (P : X → Type 0) where
   all-taken zero xs all = tt
   all-taken (suc n) [] all = tt
   all-taken (suc n) (x ∷ xs) all = (all.0, all-taken n xs all.1)
-
-  all-flat : {W : Type 0} (f : W → List X) → ((w : W) → AllByRecursion P (f w)) → (ws : List W) → AllByRecursion P (flat_map f ws)
-  all-flat f each [] = tt
-  all-flat f each (w ∷ ws) = all-joined (f w) (flat_map f ws) (each w) (all-flat f each ws)
 
   all-also : (Q : X → Type 0) → ((x : X) → P x → Q x) → (xs : List X) → AllByRecursion P xs → AllByRecursion Q xs
   all-also Q also [] all = tt

@@ -6,10 +6,10 @@ use Rattle.std.proofs.lemmas.Option.{none-some}
 use Rattle.std.proofs.Math.Seq.{drop-append_seam}
 use Rattle.outside.specs.Blobs.{with_blob}
 use Rattle.http_wire.specs.Answer.{continue_bytes, shown}
-use Rattle.repo_model.specs.Command.{Command, look, done, may_put, put, put_side, put_doc, drop_draft, status}
+use Rattle.repo_model.specs.Command.{Command, look, done, may_put, put, put_side, put_doc, drop_draft, open_session, stage, commit, abort, status}
 use Rattle.repo_model.specs.Data.{Blob}
 use Rattle.repo_model.specs.History.{Entry, Legal, after, due, wants_memory, failed, end as end_of}
-use Rattle.repo_model.specs.Reply.{Reply, file, text, doc, missed, spent, draft, kind_refused, created, same, relisted, taken, no_draft, no_memory, agreed, differs, not_there, noted, counts as counts_reply, store_fault, takes_memory}
+use Rattle.repo_model.specs.Reply.{Reply, file, text, doc, missed, spent, draft, kind_refused, created, same, relisted, taken, no_draft, no_memory, agreed, differs, not_there, noted, no_session, sessions_full, opened, session_full, staged, offends, missing_pom, ended, counts as counts_reply, store_fault, takes_memory}
 use Rattle.repo_model.specs.Settings.{Settings}
 use Rattle.repo_model.specs.State.{State}
 use Rattle.repo_course.specs.Answers.{file_answer}
@@ -25,7 +25,7 @@ use Rattle.repo_course.specs.declared.outcomes.Sent.TheVariants as sent
 use Rattle.repo_course.specs.declared.outcomes.Took.TheVariants as took
 use Rattle.repo_course.specs.Serving.{Continues, Follows, Outside, Reads, SendsAnswer, Takes, store_of, with_store, writes}
 use Rattle.course_laws.specs.AsPlayed.{RowsTold}
-use Rattle.course_laws.specs.Duties.{by_memory, Keeps, MayAsk, Stand, asked_draft, has_counted, has_put, has_put_doc, has_put_side, has_read, looked, stand_after, stand_continued, stand_read, stand_sent, stand_stored, starving}
+use Rattle.course_laws.specs.Duties.{by_memory, Keeps, MayAsk, Stand, asked_draft, has_aborted, has_committed, has_counted, has_opened, has_put, has_put_doc, has_put_side, has_read, has_staged, looked, stand_after, stand_continued, stand_read, stand_sent, stand_stored, starving}
 use Rattle.course_laws.specs.Faultless.{body_of, due_entry, play, taken_body, wrote}
 use Rattle.course_laws.proofs.LeftBehind.{end_append, legal_cut}
 use Rattle.course_laws.proofs.Passes.{entries-clock, entries-told, no-store-faults, passes-ask, passes-hold, passes-played, passes-rose}
@@ -50,7 +50,9 @@ reply-in-hand (may_put place path) reply s may told hand = draws reply
   where
     draws : (reply : Reply) → InHandTold (asked_draft reply s).blob
     draws (draft n) = hand
+    draws no_session = hand
     draws kind_refused = hand
+    draws session_full = hand
     draws spent = hand
     draws _ = hand
 reply-in-hand (put repo path n blob) reply s may told hand = puts reply
@@ -69,13 +71,49 @@ reply-in-hand (put_side place path said) reply s may told hand = compares reply
     compares agreed = hand
     compares (differs said kept) = hand
     compares not_there = hand
+    compares no_session = hand
     compares _ = hand
 reply-in-hand (put_doc place path) reply s may told hand = notes reply
   where
     notes : (reply : Reply) → InHandTold (has_put_doc reply s).blob
     notes noted = hand
+    notes no_session = hand
     notes _ = hand
 reply-in-hand (drop_draft n) reply s may told hand = hand
+reply-in-hand (open_session repo) reply s may told hand = opens reply
+  where
+    opens : (reply : Reply) → InHandTold (has_opened reply s).blob
+    opens (opened n) = hand
+    opens sessions_full = hand
+    opens spent = hand
+    opens store_fault = hand
+    opens _ = hand
+reply-in-hand (stage at path n blob) reply s may told hand = stages reply
+  where
+    stages : (reply : Reply) → InHandTold (has_staged reply s).blob
+    stages staged = hand
+    stages same = hand
+    stages (taken kept given) = hand
+    stages session_full = hand
+    stages no_session = hand
+    stages no_draft = hand
+    stages _ = hand
+reply-in-hand (commit n) reply s may told hand = commits reply
+  where
+    commits : (reply : Reply) → InHandTold (has_committed reply s).blob
+    commits (ended result) = hand
+    commits (offends path kept given) = hand
+    commits (missing_pom directory) = hand
+    commits no_session = hand
+    commits store_fault = hand
+    commits _ = hand
+reply-in-hand (abort n) reply s may told hand = aborts reply
+  where
+    aborts : (reply : Reply) → InHandTold (has_aborted reply s).blob
+    aborts (ended result) = hand
+    aborts no_session = hand
+    aborts store_fault = hand
+    aborts _ = hand
 reply-in-hand status reply s may told hand = tells reply
   where
     tells : (reply : Reply) → InHandTold (has_counted reply s).blob
@@ -85,6 +123,7 @@ reply-in-hand _ reply s may told hand = absurd may
 
 command-in-hand : (c : Command) (s : Stand) → MayAsk c s → InHandTold s.blob → CommandTold c
 command-in-hand (put repo path n blob) s may hand = subst (λ b. InHandTold b) may.2 hand
+command-in-hand (stage at path n blob) s may hand = subst (λ b. InHandTold b) may.2 hand
 command-in-hand _ s may hand = tt
 
 -- a command that memory was wanted for
@@ -96,6 +135,10 @@ memory-early (put repo path n blob) s may can = refl
 memory-early (put_side place path said) s may can = refl
 memory-early (put_doc place path) s may can = refl
 memory-early (drop_draft n) s may can = absurd (false≢true can)
+memory-early (open_session repo) s may can = refl
+memory-early (stage at path n blob) s may can = refl
+memory-early (commit n) s may can = refl
+memory-early (abort n) s may can = refl
 memory-early status s may can = refl
 memory-early _ s may can = absurd may
 

@@ -3,11 +3,11 @@ use Rattle.std.proofs.Common.{◌≡◌, ℕ, Bool, true, false, List, [], Optio
 use Rattle.mvn_digest.specs.Sides.{read_side}
 use Rattle.mvn_doc.specs.Reading.{reading}
 use Rattle.mvn_metadata.specs.Document.{Document}
-use Rattle.repo_model.specs.Command.{look, may_put, put as puts, put_side, put_doc, status}
-use Rattle.repo_model.specs.Data.{Blob, repository}
-use Rattle.repo_model.specs.Reply.{Reply, file, text, doc, draft, same, relisted, created, agreed, noted, counts as counts_reply}
-use Rattle.repo_routes.specs.Intent.{Intent, Judged, reads as reads_path, puts_file, puts_side, puts_document, counts, cleans}
-use Rattle.repo_course.specs.Course.{Course, reads, takes, after_document, after_look, after_may_put, after_put, after_put_doc, after_put_side, after_side, after_status, after_take, compares, course_for, course_of, cut_off, gives_up, invites, notes}
+use Rattle.repo_model.specs.Command.{look, may_put, put as puts, put_side, put_doc, open_session, stage, commit, abort, status}
+use Rattle.repo_model.specs.Data.{Blob, Place, repository, session}
+use Rattle.repo_model.specs.Reply.{Reply, file, text, doc, draft, same, relisted, created, agreed, noted, opened, staged, ended, counts as counts_reply}
+use Rattle.repo_routes.specs.Intent.{Intent, Judged, reads as reads_path, puts_file, puts_side, puts_document, counts, cleans, opens, commits, aborts}
+use Rattle.repo_course.specs.Course.{Course, reads, takes, after_abort, after_commit, after_document, after_look, after_may_put, after_open, after_put, after_put_doc, after_put_side, after_side, after_stage, after_status, after_take, compares, course_for, course_of, cut_off, gives_up, invites, notes}
 use Rattle.repo_course.specs.declared.manner.Manner.{Manner}
 use Rattle.repo_course.specs.declared.said.Said.{Said}
 use Rattle.repo_course.specs.declared.said.Said.TheVariants.{Cleaned}
@@ -40,36 +40,57 @@ module _ (manner : Manner) where
     put-does repo path n blob relisted granted = ((refl, refl), refl, tt, refl)
     put-does repo path n blob reply granted = absurd granted
 
+    stage-does : (number : ℕ) (path : List ℕ) (n : ℕ) (blob : Blob) (reply : Reply) → Grants (stage number path n blob) reply
+        → Does (after_stage n manner reply) (owed_after (stage number path n blob) reply ready)
+    stage-does number path n blob staged granted = ((refl, refl), refl, tt, refl)
+    stage-does number path n blob same granted = ((refl, refl), refl, tt, refl)
+    stage-does number path n blob reply granted = absurd granted
+
+    take-does : (place : Place) (path : List ℕ) (n : ℕ) (blob : Blob) → Does (after_take place path n manner (Ok blob)) ready
+    take-does (repository repo) path n blob = λ reply granted. put-does repo path n blob reply granted
+    take-does (session number) path n blob = λ reply granted. stage-does number path n blob reply granted
+
     -- `100 Continue` before a body, or none
     invites-does : (expects : Bool) (cut body : Course) (count : ℕ) → Does body (body-to-come false count)
         → Does (invites expects cut body) (body-to-come expects count)
     invites-does true cut body count does = (refl, does)
     invites-does false cut body count does = does
 
-    may_put-does : (repo path : List ℕ) (count : ℕ) (expects : Bool) (reply : Reply) → Grants (may_put (repository repo) path) reply
-        → Does (after_may_put repo path count expects manner reply) (owed_after (may_put (repository repo) path) reply (body-to-come expects count))
-    may_put-does repo path count expects (draft n) granted =
-        invites-does expects (gives_up n cut_off) (takes n count (after_take repo path n manner)) count
-        (refl, refl, λ blob reply granted. put-does repo path n blob reply granted)
-    may_put-does repo path count expects reply granted = absurd granted
+    may_put-does : (place : Place) (path : List ℕ) (count : ℕ) (expects : Bool) (reply : Reply) → Grants (may_put place path) reply
+        → Does (after_may_put place path count expects manner reply) (owed_after (may_put place path) reply (body-to-come expects count))
+    may_put-does place path count expects (draft n) granted =
+        invites-does expects (gives_up n cut_off) (takes n count (after_take place path n manner)) count (refl, refl, λ blob. take-does place path n blob)
+    may_put-does place path count expects reply granted = absurd granted
 
-    put_side-does : (repo path said : List ℕ) (reply : Reply) → Grants (put_side (repository repo) path said) reply
-        → Does (after_put_side manner reply) (owed_after (put_side (repository repo) path said) reply ready)
-    put_side-does repo path said agreed granted = ((refl, refl), refl, tt, refl)
-    put_side-does repo path said reply granted = absurd granted
+    put_side-does : (place : Place) (path said : List ℕ) (reply : Reply) → Grants (put_side place path said) reply
+        → Does (after_put_side manner reply) (owed_after (put_side place path said) reply ready)
+    put_side-does place path said agreed granted = ((refl, refl), refl, tt, refl)
+    put_side-does place path said reply granted = absurd granted
 
-    compares-does : (repo path : List ℕ) (said : Option (List ℕ)) → for_digest said ≡ None → Does (compares repo path manner said) ready
-    compares-does repo path (Some digest) says = λ reply granted. put_side-does repo path digest reply granted
-    compares-does repo path None says = absurd (cc)
+    compares-does : (place : Place) (path : List ℕ) (said : Option (List ℕ)) → for_digest said ≡ None → Does (compares place path manner said) ready
+    compares-does place path (Some digest) says = λ reply granted. put_side-does place path digest reply granted
+    compares-does place path None says = absurd (cc)
 
-    put_doc-does : (repo path : List ℕ) (reply : Reply) → Grants (put_doc (repository repo) path) reply
-        → Does (after_put_doc manner reply) (owed_after (put_doc (repository repo) path) reply ready)
-    put_doc-does repo path noted granted = ((refl, refl), refl, tt, refl)
-    put_doc-does repo path reply granted = absurd granted
+    put_doc-does : (place : Place) (path : List ℕ) (reply : Reply) → Grants (put_doc place path) reply
+        → Does (after_put_doc manner reply) (owed_after (put_doc place path) reply ready)
+    put_doc-does place path noted granted = ((refl, refl), refl, tt, refl)
+    put_doc-does place path reply granted = absurd granted
 
-    notes-does : (repo path : List ℕ) (document : Result Document ℕ) → for_document document ≡ None → Does (notes repo path manner document) ready
-    notes-does repo path (Ok document) says = λ reply granted. put_doc-does repo path reply granted
-    notes-does repo path (Err at) says = absurd (cc)
+    notes-does : (place : Place) (path : List ℕ) (document : Result Document ℕ) → for_document document ≡ None → Does (notes place path manner document) ready
+    notes-does place path (Ok document) says = λ reply granted. put_doc-does place path reply granted
+    notes-does place path (Err at) says = absurd (cc)
+
+    open-does : (repo : List ℕ) (reply : Reply) → Grants (open_session repo) reply → Does (after_open manner reply) (owed_after (open_session repo) reply ready)
+    open-does repo (opened n) granted = ((refl, refl), refl, tt, refl)
+    open-does repo reply granted = absurd granted
+
+    commit-does : (n : ℕ) (reply : Reply) → Grants (commit n) reply → Does (after_commit manner reply) (owed_after (commit n) reply ready)
+    commit-does n (ended result) granted = ((refl, refl), refl, tt, refl)
+    commit-does n reply granted = absurd granted
+
+    abort-does : (n : ℕ) (reply : Reply) → Grants (abort n) reply → Does (after_abort manner reply) (owed_after (abort n) reply ready)
+    abort-does n (ended result) granted = ((refl, refl), refl, tt, refl)
+    abort-does n reply granted = absurd granted
 
     status-does : (reply : Reply) → Grants status reply → Does (after_status manner reply) (owed_after status reply ready)
     status-does (counts_reply files fading cached documents sessions) granted = ((refl, refl), refl, tt, refl)
@@ -79,17 +100,20 @@ module _ (manner : Manner) where
       → SucceedsAt intent manner (course_for manner expects intent)
       (record { invites = is_invited intent expects; unread = body_length intent; answer = None; file = None })
   for-does expects (reads_path repo path) = λ reply granted. look-does (for_text (reads_path repo path)) repo path reply granted
-  for-does expects (puts_file repo path count) =
-      λ reply granted. may_put-does (for_text (puts_file repo path count)) repo path count expects reply granted
-  for-does expects (puts_side repo path side count) =
-      let by_text = for_text (puts_side repo path side count) in
-      invites-does by_text expects cut_off (reads count (after_side repo path side manner)) count
-      (refl, refl, λ bytes says. compares-does by_text repo path (read_side side bytes) says)
-  for-does expects (puts_document repo path count) =
-      let by_text = for_text (puts_document repo path count) in
-      invites-does by_text expects cut_off (reads count (after_document repo path manner)) count
-      (refl, refl, λ bytes says. notes-does by_text repo path (reading bytes) says)
+  for-does expects (puts_file place path count) =
+      λ reply granted. may_put-does (for_text (puts_file place path count)) place path count expects reply granted
+  for-does expects (puts_side place path side count) =
+      let by_text = for_text (puts_side place path side count) in
+      invites-does by_text expects cut_off (reads count (after_side place path side manner)) count
+      (refl, refl, λ bytes says. compares-does by_text place path (read_side side bytes) says)
+  for-does expects (puts_document place path count) =
+      let by_text = for_text (puts_document place path count) in
+      invites-does by_text expects cut_off (reads count (after_document place path manner)) count
+      (refl, refl, λ bytes says. notes-does by_text place path (reading bytes) says)
   for-does expects counts = λ reply granted. status-does (for_text counts) reply granted
+  for-does expects (opens repo) = λ reply granted. open-does (for_text (opens repo)) repo reply granted
+  for-does expects (commits n) = λ reply granted. commit-does (for_text (commits n)) n reply granted
+  for-does expects (aborts n) = λ reply granted. abort-does (for_text (aborts n)) n reply granted
   for-does expects (cleans repos) = ((refl, refl), (refl, λ did. (Cleaned did.unlisted did.removed, refl, tt, refl)))
 
 pub request-succeeds : (request : Judged) (last : Bool)

@@ -1,8 +1,8 @@
 -- A turn keeps the bytes of each file's blob told, where those of the blob that it puts are, and the clock; and where nothing
 -- failed its entry is the one that is due.
-use Rattle.std.proofs.Common.{◌≡◌, ℕ, ◌≤◌, ◌==◌, Bool, true, false, List, [], ◌∷◌, Option, Some, None, Result, Ok, Err, arith, refl, sym, subst, ◌∙◌, map}
-use Rattle.std.specs.Prelude.{IsSome, MatchOption, if◌then◌else◌, filter, find, min, max, bytes_eq}
-use Rattle.std.specs.List.{AllByRecursion}
+use Rattle.std.proofs.Common.{◌≡◌, ℕ, ◌≤◌, ◌==◌, Bool, true, false, List, [], ◌∷◌, ◌++◌, Option, Some, None, Result, Ok, Err, arith, refl, sym, subst, ◌∙◌, map}
+use Rattle.std.specs.Prelude.{IsSome, MatchOption, if◌then◌else◌, count_by, filter, find, min, max, nat_le, bytes_eq}
+use Rattle.std.specs.List.{AllByRecursion, flat_map}
 use Rattle.std.specs.Option.{option_map, option_map_or}
 use Rattle.std.proofs.lemmas.Bool.{false≢true}
 use Rattle.std.specs.Ordering.{nat_cmp, match_ordering}
@@ -17,15 +17,18 @@ use Rattle.mvn_coords.specs.Kind.{kind}
 use Rattle.mvn_coords.specs.Layout.{text_of}
 use Rattle.mvn_digest.specs.Digests.{digests_of}
 use Rattle.mvn_digest.specs.Sides.{side_of, side_text}
-use Rattle.repo_model.specs.Command.{Command, look, done, may_put, put, put_side, put_doc, drop_draft, status}
-use Rattle.repo_model.specs.Data.{Blob, Hosted, Phase, Row, fading, listed, is_same_print, repository}
-use Rattle.repo_model.specs.Effect.{Effect, creates, delivers, relists, fades, expires, draws, drops, lends, in_repo, rows_after, repo_of, with_effect, with_effects, with_row, list_again, fade, new_row}
+use Rattle.repo_model.specs.Command.{Command, look, done, may_put, put, put_side, put_doc, drop_draft, open_session, stage, commit, abort, status}
+use Rattle.repo_model.specs.Data.{Blob, Hosted, Phase, Row, Session, Staged, fading, listed, is_same_print, repository, session}
+use Rattle.repo_model.specs.Effect.{Effect, creates, stages, delivers, discards, relists, fades, expires, draws, drops, lends, opens, ends, in_repo, rows_after, sessions_after, repo_of, with_effect, with_effects, with_row, with_staged, without_staged, list_again, fade, new_row, new_session}
 use Rattle.repo_model.specs.History.{Entry, Legal, MomentFits, after, effects_of, end, latest_moment, ticked}
 use Rattle.repo_model.specs.Paths.{takes}
-use Rattle.repo_model.specs.Reply.{Reply, agreed, differs, draft, file, is_free, kind_refused, no_draft, spent, taken}
+use Rattle.repo_model.specs.Reply.{Reply, agreed, differs, draft, ended, file, is_free, kind_refused, no_draft, no_session, noted, opened, same, session_full, sessions_full, spent, staged, taken}
 use Rattle.repo_model.specs.Settings.{Rule, Settings}
-use Rattle.repo_model.specs.State.{State, change_first, change_where, hosted_of, is_among, is_repository, is_row, new_hosted, number_end, opening, row_at, rows_of}
-use Rattle.repo_model.specs.Turn.{Turn, compared, document_text, draws_draft, in_repository, is_doc, is_file, is_text, judged, or_nothing, put_again, put_at, says, seen_at, shows, turn}
+use Rattle.repo_model.specs.State.{State, change_first, change_where, hosted_of, is_among, is_open, is_open_at, is_repository, is_row, is_session, most_sessions, new_hosted, number_end, open_of, opening, row_at, rows_of, session_of}
+use Rattle.repo_model.specs.Turn.{Turn, abort_of, commit_by, commit_of, compared, document_text, draws_draft, draws_or_spent, has_room, in_repository, is_doc, is_file, is_text, judged, may_put_in, or_nothing, put_again, put_at, says, seen_at, shows, stage_at, stage_in, staged_at, turn, with_open}
+use Rattle.repo_model.specs.Deploy.{Offence, deliver_again, deliver_at, deliver_all, discard_all, offence, without_pom}
+use Rattle.repo_model.specs.declared.session.SessionResult.{SessionResult}
+use Rattle.course_laws.proofs.Alls.{all-joined, all-mapped}
 use Rattle.course_laws.specs.AsPlayed.{RowsTold}
 use Rattle.course_laws.specs.Duties.{MayAsk, Stand}
 use Rattle.course_laws.specs.Faultless.{due_entry, moment_now}
@@ -35,6 +38,12 @@ IsTold row = IsSome row.blob.bytes
 
 abbrev AllTold : List Row → Type 0
 AllTold rows = AllByRecursion IsTold rows
+
+abbrev IsStagedTold : Staged → Type 0
+IsStagedTold item = IsSome item.blob.bytes
+
+abbrev SessionTold : Session → Type 0
+SessionTold x = AllByRecursion IsStagedTold x.staged
 
 -- lists
 
@@ -69,22 +78,28 @@ filtered P test (x ∷ xs) all =
       | false ↦ filtered P test xs all.1
     ]
 
-placed : (new row : Row) (rows : List Row) → IsTold new → AllTold (row ∷ rows) → AllTold (with_row new rows) → (o : Ordering)
-    → AllTold (match_ordering o (new ∷ row ∷ rows) (new ∷ row ∷ rows) (row ∷ with_row new rows))
-placed new row rows told all rest Less = (told, all)
-placed new row rows told all rest Equal = (told, all)
-placed new row rows told all rest Greater = (all.0, rest)
+placed : {X : Type 0} (P : X → Type 0) (new x : X) (xs more : List X) → P new → AllByRecursion P (x ∷ xs) → AllByRecursion P more → (o : Ordering)
+    → AllByRecursion P (match_ordering o (new ∷ x ∷ xs) (new ∷ x ∷ xs) (x ∷ more))
+placed P new x xs more told all rest Less = (told, all)
+placed P new x xs more told all rest Equal = (told, all)
+placed P new x xs more told all rest Greater = (all.0, rest)
 
 with-row-told : (new : Row) (rows : List Row) → IsTold new → AllTold rows → AllTold (with_row new rows)
 with-row-told new [] told all = (told, tt)
 with-row-told new (row ∷ rows) told all =
-    placed new row rows told all (with-row-told new rows told all.1) (slice_cmp nat_cmp new.path row.path)
+    placed IsTold new row rows (with_row new rows) told all (with-row-told new rows told all.1) (slice_cmp nat_cmp new.path row.path)
+
+with-staged-told : (new : Staged) (files : List Staged) → IsStagedTold new → AllByRecursion IsStagedTold files → AllByRecursion IsStagedTold (with_staged new files)
+with-staged-told new [] told all = (told, tt)
+with-staged-told new (item ∷ files) told all =
+    placed IsStagedTold new item files (with_staged new files) told all (with-staged-told new files told all.1) (slice_cmp nat_cmp new.path item.path)
 
 -- effects
 
--- the blob of a new row is told
+-- the blob of a new row, or of a file that is staged, is told
 abbrev pub EffectTold : Effect → Type 0
 EffectTold (creates repo path blob moment) = IsSome blob.bytes
+EffectTold (stages n path blob) = IsSome blob.bytes
 EffectTold (delivers n repo path blob moment) = IsSome blob.bytes
 EffectTold effect = Unit {0}
 
@@ -102,9 +117,24 @@ repo-told None f keeps hosted all = all
 repo-told (Some repo) f keeps hosted all =
     changed-first (λ (h : Hosted). AllTold h.rows) (is_repository repo) (λ h. record h { rows = f h.rows }) (λ h is. keeps h.rows is) hosted all
 
+sessions-told : (e : Effect) → EffectTold e → (sessions : List Session) → AllByRecursion SessionTold sessions → AllByRecursion SessionTold (sessions_after e sessions)
+sessions-told (stages n path blob) told sessions all =
+    changed-first SessionTold (is_open_at n) (λ x. record x { staged = with_staged (record { path = path; blob = blob }) x.staged })
+    (λ x is. with-staged-told (record { path = path; blob = blob }) x.staged told is) sessions all
+sessions-told (delivers n repo path blob moment) told sessions all =
+    changed-first SessionTold (is_open_at n) (without_staged path) (λ x is. filtered IsStagedTold _ x.staged is) sessions all
+sessions-told (discards n path m) told sessions all =
+    changed-first SessionTold (is_open_at n) (without_staged path) (λ x is. filtered IsStagedTold _ x.staged is) sessions all
+sessions-told (opens n repo) told sessions all = all-joined SessionTold sessions (new_session n repo ∷ []) all (tt, tt)
+sessions-told (ends n result) told sessions all =
+    changed-first SessionTold (is_open_at n) (λ x. record x { ended = Some result }) (λ x is. is) sessions all
+sessions-told effect told sessions all = all
+
 pub effects-told : (es : List Effect) (s : State) → AllByRecursion EffectTold es → RowsTold s → RowsTold (with_effects s es)
 effects-told [] s tells all = all
-effects-told (e ∷ es) s tells all = effects-told es (with_effect s e) tells.1 (repo-told (repo_of e) (rows_after e) (rows-told e tells.0) s.hosted all)
+effects-told (e ∷ es) s tells all =
+    effects-told es (with_effect s e) tells.1
+    (repo-told (repo_of e) (rows_after e) (rows-told e tells.0) s.hosted all.0, sessions-told e tells.0 s.sessions all.1)
 
 effects-clock : (es : List Effect) (s : State) → (with_effects s es).clock ≡ s.clock
 effects-clock [] s = refl
@@ -114,9 +144,10 @@ effects-faults : (es : List Effect) (s : State) → (with_effects s es).faults �
 effects-faults [] s = refl
 effects-faults (e ∷ es) s = effects-faults es (with_effect s e)
 
--- the blob that a command puts, and the one that a reply lends
+-- the blob that a command puts or stages, and the one that a reply lends
 abbrev pub CommandTold : Command → Type 0
 CommandTold (put repo path n blob) = IsSome blob.bytes
+CommandTold (stage at path n blob) = IsSome blob.bytes
 CommandTold command = Unit {0}
 
 abbrev pub ReplyTold : Reply → Type 0
@@ -136,7 +167,7 @@ module _ (settings : Settings) (s : State) (told : RowsTold s) where
   rows-of repo =
       elim (hosted_of repo s) as (λ o. hosted_of repo s ≡ o → AllTold (option_map_or (λ (h : Hosted). h.rows) o [])) [
         | None ↦ λ is. tt
-        | Some h ↦ λ is. found (λ (h : Hosted). AllTold h.rows) (is_repository repo) s.hosted h told is
+        | Some h ↦ λ is. found (λ (h : Hosted). AllTold h.rows) (is_repository repo) s.hosted h told.0 is
       ] refl
 
   look-tells : (next : ℕ) (path : List ℕ) (rows : List Row) → AllTold rows → (k : Result Kind PathFault) → Tells (shows next (seen_at rows path k))
@@ -157,11 +188,20 @@ module _ (settings : Settings) (s : State) (told : RowsTold s) where
       [ None ↦ (tt, tt) | Some bytes ↦ (tt, tt) ]
   look-tells next path rows all (Err fault) = (tt, tt)
 
-  may_put-tells : (path : List ℕ) (next : ℕ) (o : Option Hosted) → Tells (in_repository path o (draws_draft next))
-  may_put-tells path next None = (tt, tt)
-  may_put-tells path next (Some h) =
-      let drawn : Turn = record { reply = draft next; effects = draws ∷ [] } in
-      either (takes h.rule path) (draws_draft next) (says kind_refused) (either (next == number_end) (says spent) drawn (tt, tt) ((tt, tt), tt)) (tt, tt)
+  draws-tells : (next : ℕ) → Tells (draws_draft next)
+  draws-tells next =
+      let drawn : Turn = record { reply = draft next; effects = draws ∷ [] } in either (next == number_end) (says spent) drawn (tt, tt) ((tt, tt), tt)
+
+  may_put-tells : (path : List ℕ) (t : Turn) → Tells t → (o : Option Hosted) → Tells (in_repository path o t)
+  may_put-tells path t tells None = (tt, tt)
+  may_put-tells path t tells (Some h) = either (takes h.rule path) t (says kind_refused) tells (tt, tt)
+
+  in-session-tells : (path : List ℕ) (o : Option Session) → Tells (may_put_in s path o)
+  in-session-tells path None = (tt, tt)
+  in-session-tells path (Some x) =
+      let next = s.yard.next_draft in
+      may_put-tells path (if has_room path x.staged then draws_draft next else says session_full)
+      (either (has_room path x.staged) (draws_draft next) (says session_full) (draws-tells next) (tt, tt)) (hosted_of x.repo s)
 
   put-tells : (repo path : List ℕ) (n : ℕ) (blob : Blob) (moment : ℕ) → IsSome blob.bytes → (o : Option Row) → Tells (put_at repo path n blob moment o)
   put-tells repo path n blob moment some None = ((some, tt), tt)
@@ -185,10 +225,79 @@ module _ (settings : Settings) (s : State) (told : RowsTold s) where
   judged-tells (Ok (DocSide d side)) said blob_at = (tt, tt)
   judged-tells (Err fault) said blob_at = (tt, tt)
 
+  side-tells : (path said : List ℕ) (o : Option Session)
+      → Tells (with_open o (λ found. judged (kind path) said (λ at. staged_at at found.staged)))
+  side-tells path said None = (tt, tt)
+  side-tells path said (Some x) = judged-tells (kind path) said (λ at. staged_at at x.staged)
+
+  doc-tells : (o : Option Session) → Tells (with_open o (λ found. says noted))
+  doc-tells None = (tt, tt)
+  doc-tells (Some x) = (tt, tt)
+
+  open-tells : (repo : List ℕ) (full : Bool) (next : ℕ)
+      → Tells (if full then says sessions_full else draws_or_spent next (record { reply = opened next; effects = opens next repo ∷ [] }))
+  open-tells repo full next =
+      let new : Turn = record { reply = opened next; effects = opens next repo ∷ [] } in
+      either full (says sessions_full) (draws_or_spent next new) (tt, tt) (either (next == number_end) (says spent) new (tt, tt) ((tt, tt), tt))
+
+  stage-at-tells : (x : Session) (path : List ℕ) (n : ℕ) (blob : Blob) → IsSome blob.bytes → (o : Option Blob) → Tells (stage_at x path n blob o)
+  stage-at-tells x path n blob some None =
+      let new : Turn = record { reply = staged; effects = stages x.number path blob ∷ [] } in
+      let full : Turn = record { reply = session_full; effects = drops n ∷ [] } in
+      either (has_room path x.staged) new full ((some, tt), tt) ((tt, tt), tt)
+  stage-at-tells x path n blob some (Some kept) =
+      ((tt, tt), elim (is_same_print kept.print blob.print) as (λ b. ReplyTold (if b then same else taken kept.print blob.print)) [ true ↦ tt | false ↦ tt ])
+
+  stage-tells : (path : List ℕ) (n : ℕ) (blob : Blob) → IsSome blob.bytes → (o : Option Session) → Tells (stage_in path n blob o)
+  stage-tells path n blob some None = ((tt, tt), tt)
+  stage-tells path n blob some (Some x) = stage-at-tells x path n blob some (staged_at path x.staged)
+
+  deliver-tells : (x : Session) (now : ℕ) (item : Staged) → IsStagedTold item → (o : Option Row) → AllByRecursion EffectTold (deliver_at x now item o)
+  deliver-tells x now item some None = (some, tt)
+  deliver-tells x now item some (Some row) = again row.phase
+    where
+      again : (phase : Phase) → AllByRecursion EffectTold (deliver_again x now item phase)
+      again listed = (tt, tt)
+      again (fading since) = (tt, (tt, tt))
+
+  delivers-tell : (x : Session) (now : ℕ) (rows : List Row) (files : List Staged) → AllByRecursion IsStagedTold files
+      → AllByRecursion EffectTold (flat_map (λ (item : Staged). deliver_at x now item (row_at item.path rows)) files)
+  delivers-tell x now rows [] all = tt
+  delivers-tell x now rows (item ∷ files) all =
+      all-joined EffectTold (deliver_at x now item (row_at item.path rows)) (flat_map (λ (other : Staged). deliver_at x now other (row_at other.path rows)) files)
+      (deliver-tells x now item all.0 (row_at item.path rows)) (delivers-tell x now rows files all.1)
+
+  commit-by-tells : (x : Session) (now : ℕ) (rows : List Row) → SessionTold x → (other : Option Offence) (pom : Option (List ℕ)) → Tells (commit_by x now rows other pom)
+  commit-by-tells x now rows all (Some other) pom = (tt, tt)
+  commit-by-tells x now rows all None (Some directory) = (tt, tt)
+  commit-by-tells x now rows all None None = (all-joined EffectTold (deliver_all x now rows) _ (delivers-tell x now rows x.staged all) (tt, tt), tt)
+
+  commit-of-tells : (x : Session) (now : ℕ) (rows : List Row) → SessionTold x → (o : Option SessionResult) → Tells (commit_of x now rows o)
+  commit-of-tells x now rows all None = commit-by-tells x now rows all (offence rows x.staged) (without_pom rows x.staged)
+  commit-of-tells x now rows all (Some result) = (tt, tt)
+
+  commit-tells : (n now : ℕ) → Tells (with_open (session_of n s) (λ known. commit_of known now (rows_of known.repo s) known.ended))
+  commit-tells n now =
+      elim (session_of n s) as (λ o. session_of n s ≡ o → Tells (with_open o (λ known. commit_of known now (rows_of known.repo s) known.ended))) [
+        | None ↦ λ is. (tt, tt)
+        | Some x ↦ λ is. commit-of-tells x now (rows_of x.repo s) (found SessionTold (is_session n) s.sessions x told.1 is) x.ended
+      ] refl
+
+  abort-tells : (o : Option Session) → Tells (with_open o (λ known. abort_of known known.ended))
+  abort-tells None = (tt, tt)
+  abort-tells (Some x) = by-end x.ended
+    where
+      by-end : (o : Option SessionResult) → Tells (abort_of x o)
+      by-end None =
+          (all-joined EffectTold (discard_all x) _ (all-mapped EffectTold (λ (item : Staged). discards x.number item.path item.blob.number) (λ item. tt) x.staged) (tt, tt), tt)
+      by-end (Some result) = (tt, tt)
+
   turn-tells : (c : Command) (x : Stand) (moment : ℕ) → MayAsk c x → CommandTold c → Tells (turn settings s moment c)
   turn-tells (look repo path tried) x moment may some = look-tells s.yard.next_lease path (rows_of repo s) (rows-of repo) (kind path)
   turn-tells (done lease) x moment may some = ((tt, tt), tt)
-  turn-tells (may_put (repository repo) path) x moment may some = may_put-tells path s.yard.next_draft (hosted_of repo s)
+  turn-tells (may_put (repository repo) path) x moment may some =
+      may_put-tells path (draws_draft s.yard.next_draft) (draws-tells s.yard.next_draft) (hosted_of repo s)
+  turn-tells (may_put (session n) path) x moment may some = in-session-tells path (open_of n s)
   turn-tells (put repo path n blob) x moment may some =
       either (is_among n s.yard.drafts) (put_at repo path n blob moment (row_at path (rows_of repo s))) (says no_draft)
       (put-tells repo path n blob moment some (row_at path (rows_of repo s))) (tt, tt)
@@ -196,7 +305,14 @@ module _ (settings : Settings) (s : State) (told : RowsTold s) where
       elim (is_among n s.yard.drafts) as (λ b. AllByRecursion EffectTold (if b then drops n ∷ [] else []) × Unit {0}) [ true ↦ ((tt, tt), tt) | false ↦ (tt, tt) ]
   turn-tells (put_side (repository repo) path said) x moment may some =
       judged-tells (kind path) said (λ at. option_map (λ (row : Row). row.blob) (row_at at (rows_of repo s)))
+  turn-tells (put_side (session n) path said) x moment may some = side-tells path said (open_of n s)
   turn-tells (put_doc (repository repo) path) x moment may some = (tt, tt)
+  turn-tells (put_doc (session n) path) x moment may some = doc-tells (open_of n s)
+  turn-tells (open_session repo) x moment may some = open-tells repo (nat_le most_sessions (count_by is_open s.sessions)) s.yard.next_session
+  turn-tells (stage at path n blob) x moment may some =
+      either (is_among n s.yard.drafts) (stage_in path n blob (open_of at s)) (says no_draft) (stage-tells path n blob some (open_of at s)) (tt, tt)
+  turn-tells (commit n) x moment may some = commit-tells n moment
+  turn-tells (abort n) x moment may some = abort-tells (session_of n s)
   turn-tells status x moment may some = (tt, tt)
   turn-tells _ x moment may some = absurd may
 
@@ -252,4 +368,4 @@ no-rows (rule ∷ rules) = (tt, no-rows rules)
 
 -- before the first turn there is no file
 pub opening-told : (settings : Settings) (clock : Option Moments) → RowsTold (opening settings clock)
-opening-told settings clock = no-rows settings.hosted
+opening-told settings clock = (no-rows settings.hosted, tt)

@@ -4,7 +4,7 @@ use Rattle.std.specs.List.{AllByRecursion}
 use Rattle.outside.specs.Faults.{Rose, last_count}
 use Rattle.http_wire.specs.Answer.{continue_bytes, shown}
 use Rattle.http_wire.specs.Front.{Front, Whole, front}
-use Rattle.repo_model.specs.Data.{Hosted, Row}
+use Rattle.repo_model.specs.Data.{Hosted, Row, Session, Staged}
 use Rattle.repo_model.specs.Settings.{Settings}
 use Rattle.repo_model.specs.State.{State}
 use Rattle.repo_routes.specs.Framing.{is_head}
@@ -14,9 +14,11 @@ use Rattle.repo_course.specs.declared.outcomes.End.TheVariants as stream
 use Rattle.repo_course.specs.Serving.{IsFrontOf, Outside}
 use Rattle.course_laws.specs.Faultless.{Scene, play_stream, play_turn}
 
--- the bytes of each file's blob are told
+-- the bytes of each file's blob are told, of those in sessions too
 abbrev pub RowsTold : State → Type 0
-RowsTold s = AllByRecursion (λ (h : Hosted). AllByRecursion (λ (row : Row). IsSome row.blob.bytes) h.rows) s.hosted
+RowsTold s =
+    AllByRecursion (λ (h : Hosted). AllByRecursion (λ (row : Row). IsSome row.blob.bytes) h.rows) s.hosted
+    × AllByRecursion (λ (x : Session). AllByRecursion (λ (file : Staged). IsSome file.blob.bytes) x.staged) s.sessions
 
 -- the count stood still, and not because it is at the end of its type
 abbrev pub StoodStill : ℕ → ℕ → Type 0

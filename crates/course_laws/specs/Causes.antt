@@ -4,8 +4,8 @@ use Rattle.mvn_digest.specs.Hex.{hex_text}
 use Rattle.mvn_digest.specs.Sides.{read_side}
 use Rattle.mvn_doc.specs.Reading.{reading}
 use Rattle.mvn_metadata.specs.Document.{Document}
-use Rattle.repo_model.specs.Command.{Command, look, may_put, put, put_side, put_doc, status}
-use Rattle.repo_model.specs.Reply.{Reply, file, text, doc, missed, kind_refused, draft, no_draft, taken, same, relisted, created, not_there, differs, agreed, noted, counts as counts_reply, spent, store_fault}
+use Rattle.repo_model.specs.Command.{Command, look, may_put, put, put_side, put_doc, open_session, stage, commit, abort, status}
+use Rattle.repo_model.specs.Reply.{Reply, file, text, doc, missed, kind_refused, draft, no_draft, taken, same, relisted, created, not_there, differs, agreed, noted, no_session, sessions_full, opened, session_full, staged, offends, missing_pom, ended, counts as counts_reply, spent, store_fault}
 use Rattle.repo_routes.specs.Intent.{Intent, Judged, puts_side, puts_document}
 use Rattle.repo_routes.specs.declared.judging.Refused.{Refused}
 use Rattle.repo_course.specs.Course.{Body, Course, Pass, Stored, asks, continues, takes, reads, sends, cleans, says, stops}
@@ -30,7 +30,9 @@ for_look reply = Some said.NoMemory
 
 abbrev pub for_may_put : Reply → Option Said
 for_may_put (draft n) = None
+for_may_put no_session = Some said.NoSession
 for_may_put kind_refused = Some said.KindRefused
+for_may_put session_full = Some said.SessionFull
 for_may_put spent = Some said.Spent
 for_may_put reply = Some said.NoMemory
 
@@ -43,19 +45,51 @@ for_put no_draft = Some said.NoDraft
 for_put store_fault = Some said.StoreFault
 for_put reply = Some said.NoMemory
 
+abbrev pub for_stage : Reply → Option Said
+for_stage staged = Some said.Staged
+for_stage same = Some said.Same
+for_stage (taken kept given) = Some (said.Taken kept given)
+for_stage session_full = Some said.SessionFull
+for_stage no_session = Some said.NoSession
+for_stage no_draft = Some said.NoDraft
+for_stage reply = Some said.NoMemory
+
 abbrev pub for_put_side : Reply → Option Said
 for_put_side agreed = Some said.Agreed
 for_put_side (differs sent kept) = Some (said.Differs (hex_text sent) (hex_text kept))
 for_put_side not_there = Some said.NotThere
+for_put_side no_session = Some said.NoSession
 for_put_side reply = Some said.NoMemory
 
 abbrev pub for_put_doc : Reply → Option Said
 for_put_doc noted = Some said.Noted
+for_put_doc no_session = Some said.NoSession
 for_put_doc reply = Some said.NoMemory
 
 abbrev pub for_status : Reply → Option Said
 for_status (counts_reply files fading cached documents sessions) = Some (said.Counts files fading cached documents sessions)
 for_status reply = Some said.NoMemory
+
+abbrev pub for_open : Reply → Option Said
+for_open (opened n) = Some (said.Opened n)
+for_open sessions_full = Some said.TooMany
+for_open spent = Some said.Spent
+for_open store_fault = Some said.StoreFault
+for_open reply = Some said.NoMemory
+
+abbrev pub for_commit : Reply → Option Said
+for_commit (ended result) = Some (said.Ended result)
+for_commit (offends path kept given) = Some (said.Offends path kept given)
+for_commit (missing_pom directory) = Some (said.MissingPom directory)
+for_commit no_session = Some said.NoSession
+for_commit store_fault = Some said.StoreFault
+for_commit reply = Some said.NoMemory
+
+abbrev pub for_abort : Reply → Option Said
+for_abort (ended result) = Some (said.Ended result)
+for_abort no_session = Some said.NoSession
+for_abort store_fault = Some said.StoreFault
+for_abort reply = Some said.NoMemory
 
 -- what is then to be answered; what is only given back or given up leaves it as it was
 abbrev pub due_after : Command → Reply → Option Said → Option Said
@@ -64,6 +98,10 @@ due_after (may_put place path) reply due = for_may_put reply
 due_after (put repo path n blob) reply due = for_put reply
 due_after (put_side place path digest) reply due = for_put_side reply
 due_after (put_doc place path) reply due = for_put_doc reply
+due_after (open_session repo) reply due = for_open reply
+due_after (stage at path n blob) reply due = for_stage reply
+due_after (commit n) reply due = for_commit reply
+due_after (abort n) reply due = for_abort reply
 due_after status reply due = for_status reply
 due_after command reply due = due
 
@@ -101,8 +139,8 @@ for_document (Ok document) = None
 for_document (Err at) = Some (said.NoDocument at)
 
 abbrev pub for_text : Intent → List ℕ → Option Said
-for_text (puts_side repo path side length) bytes = for_digest (read_side side bytes)
-for_text (puts_document repo path length) bytes = for_document (reading bytes)
+for_text (puts_side place path side length) bytes = for_digest (read_side side bytes)
+for_text (puts_document place path length) bytes = for_document (reading bytes)
 for_text intent bytes = None
 
 abbrev pub for_body : (List ℕ → Option Said) → Body → Option Said

@@ -2,11 +2,11 @@
 -- answer that it gives, the commands that it may still ask, and how it ends once a side of the stream failed or memory was
 -- wanted.
 use Rattle.std.specs.Prelude.{◌≡◌, ℕ, zero, suc, ◌+◌, ◌≤◌, max, length, Bool, true, false, Option, Some, None, IsSome, Result, Ok, Err}
-use Rattle.repo_model.specs.Data.{Blob, repository}
-use Rattle.repo_model.specs.Command.{Command, look, done, may_put, put, put_side, put_doc, drop_draft, status}
-use Rattle.repo_model.specs.Reply.{Reply, file, text, doc, missed, kind_refused, draft, no_draft, taken, same, relisted, created, not_there, differs, agreed, noted, counts as counts_reply, spent, store_fault}
+use Rattle.repo_model.specs.Data.{Blob}
+use Rattle.repo_model.specs.Command.{Command, look, done, may_put, put, put_side, put_doc, drop_draft, open_session, stage, commit, abort, status}
+use Rattle.repo_model.specs.Reply.{Reply, file, text, doc, missed, kind_refused, draft, no_draft, taken, same, relisted, created, not_there, differs, agreed, noted, no_session, sessions_full, opened, session_full, staged, offends, missing_pom, ended, counts as counts_reply, spent, store_fault}
 use Rattle.repo_model.specs.Settings.{Settings}
-use Rattle.repo_routes.specs.Intent.{Intent, Judged, reads as reads_path, puts_file, puts_side, puts_document, counts, cleans as cleans_all}
+use Rattle.repo_routes.specs.Intent.{Intent, Judged, reads as reads_path, puts_file, puts_side, puts_document, counts, cleans as cleans_all, opens, commits, aborts}
 use Rattle.repo_routes.specs.declared.judging.Refused.{Refused}
 use Rattle.repo_course.specs.Answers.{at_end}
 use Rattle.repo_course.specs.declared.outcomes.CleanFault.TheVariants as clean
@@ -69,7 +69,9 @@ looked reply s = starving s
 
 abbrev pub asked_draft : Reply → Stand → Stand
 asked_draft (draft n) s = record s { draft = Some n }
+asked_draft no_session s = s
 asked_draft kind_refused s = s
+asked_draft session_full s = s
 asked_draft spent s = s
 asked_draft reply s = starving s
 
@@ -82,19 +84,51 @@ has_put no_draft s = s
 has_put store_fault s = s
 has_put reply s = starving s
 
+abbrev pub has_staged : Reply → Stand → Stand
+has_staged staged s = without_draft s
+has_staged same s = without_draft s
+has_staged (taken kept sent) s = without_draft s
+has_staged session_full s = without_draft s
+has_staged no_session s = without_draft s
+has_staged no_draft s = s
+has_staged reply s = starving s
+
 abbrev pub has_put_side : Reply → Stand → Stand
 has_put_side agreed s = s
 has_put_side (differs said kept) s = s
 has_put_side not_there s = s
+has_put_side no_session s = s
 has_put_side reply s = starving s
 
 abbrev pub has_put_doc : Reply → Stand → Stand
 has_put_doc noted s = s
+has_put_doc no_session s = s
 has_put_doc reply s = starving s
 
 abbrev pub has_counted : Reply → Stand → Stand
 has_counted (counts_reply files fading cached documents sessions) s = s
 has_counted reply s = starving s
+
+abbrev pub has_opened : Reply → Stand → Stand
+has_opened (opened n) s = s
+has_opened sessions_full s = s
+has_opened spent s = s
+has_opened store_fault s = s
+has_opened reply s = starving s
+
+abbrev pub has_committed : Reply → Stand → Stand
+has_committed (ended result) s = s
+has_committed (offends path kept sent) s = s
+has_committed (missing_pom directory) s = s
+has_committed no_session s = s
+has_committed store_fault s = s
+has_committed reply s = starving s
+
+abbrev pub has_aborted : Reply → Stand → Stand
+has_aborted (ended result) s = s
+has_aborted no_session s = s
+has_aborted store_fault s = s
+has_aborted reply s = starving s
 
 abbrev pub stand_after : Command → Reply → Stand → Stand
 stand_after (look repo path tried) reply s = looked reply s
@@ -104,6 +138,10 @@ stand_after (put repo path n blob) reply s = has_put reply s
 stand_after (put_side place path said) reply s = has_put_side reply s
 stand_after (put_doc place path) reply s = has_put_doc reply s
 stand_after (drop_draft n) reply s = without_draft s
+stand_after (open_session repo) reply s = has_opened reply s
+stand_after (stage at path n blob) reply s = has_staged reply s
+stand_after (commit n) reply s = has_committed reply s
+stand_after (abort n) reply s = has_aborted reply s
 stand_after status reply s = has_counted reply s
 stand_after command reply s = s
 
@@ -111,11 +149,15 @@ stand_after command reply s = s
 abbrev pub MayAsk : Command → Stand → Type 0
 MayAsk (look repo path tried) s = (s.lease ≡ None) × (s.early ≡ None)
 MayAsk (done lease) s = s.lease ≡ Some lease
-MayAsk (may_put (repository repo) path) s = (s.draft ≡ None) × (s.early ≡ None)
+MayAsk (may_put place path) s = (s.draft ≡ None) × (s.early ≡ None)
 MayAsk (put repo path n blob) s = (s.draft ≡ Some n) × (s.early ≡ None) × (s.blob ≡ Some blob)
-MayAsk (put_side (repository repo) path said) s = s.early ≡ None
-MayAsk (put_doc (repository repo) path) s = s.early ≡ None
+MayAsk (put_side place path said) s = s.early ≡ None
+MayAsk (put_doc place path) s = s.early ≡ None
 MayAsk (drop_draft n) s = s.draft ≡ Some n
+MayAsk (open_session repo) s = s.early ≡ None
+MayAsk (stage at path n blob) s = (s.draft ≡ Some n) × (s.early ≡ None) × (s.blob ≡ Some blob)
+MayAsk (commit n) s = s.early ≡ None
+MayAsk (abort n) s = s.early ≡ None
 MayAsk status s = s.early ≡ None
 MayAsk command s = ⊥
 
@@ -193,11 +235,14 @@ Keeps head_only (stops end) n s = HoldsNothing s × StopsFor s s.early end
 -- how many bytes of body come with what is asked for
 abbrev pub length_of : Intent → ℕ
 length_of (reads_path repo path) = 0
-length_of (puts_file repo path count) = count
-length_of (puts_side repo path side count) = count
-length_of (puts_document repo path count) = count
+length_of (puts_file place path count) = count
+length_of (puts_side place path side count) = count
+length_of (puts_document place path count) = count
 length_of counts = 0
 length_of (cleans_all repos) = 0
+length_of (opens repo) = 0
+length_of (commits n) = 0
+length_of (aborts n) = 0
 
 -- how many commands come with it at most
 abbrev pub most_for : Intent → ℕ

@@ -6,11 +6,11 @@ use Rattle.outside.specs.Told.{IsWhereTold, behind}
 use Rattle.http_wire.specs.Answer.{continue_bytes, shown}
 use Rattle.http_wire.specs.declared.answers.Status.{Status}
 use Rattle.http_wire.specs.declared.answers.Status.TheVariants as status_code
-use Rattle.repo_model.specs.Command.{Command, look, done, may_put, put, put_side, put_doc, drop_draft, status, unlist, collect}
+use Rattle.repo_model.specs.Command.{Command, look, done, may_put, put, put_side, put_doc, drop_draft, open_session, stage, commit, abort, status, unlist, collect}
 use Rattle.repo_model.specs.Data.{Blob}
 use Rattle.repo_model.specs.History.{Entry}
-use Rattle.repo_model.specs.Reply.{Reply, file, text, doc, draft, same, relisted, created, agreed, noted, counts as counts_reply, unlisted, collected, no_memory}
-use Rattle.repo_routes.specs.Intent.{Intent, Judged, reads as reads_path, puts_file, puts_side, puts_document, counts, cleans as cleans_all}
+use Rattle.repo_model.specs.Reply.{Reply, file, text, doc, draft, same, relisted, created, agreed, noted, opened, staged, ended, counts as counts_reply, unlisted, collected, no_memory}
+use Rattle.repo_routes.specs.Intent.{Intent, Judged, reads as reads_path, puts_file, puts_side, puts_document, counts, cleans as cleans_all, opens, commits, aborts}
 use Rattle.repo_course.specs.Answers.{answer_of, file_answer, full_answer, memory_answer}
 use Rattle.repo_course.specs.Course.{Course, asks, continues, takes, reads, sends, cleans, says, stops, end_of}
 use Rattle.repo_course.specs.Serving.{Outside, writes}
@@ -30,7 +30,8 @@ IsSuccess status_code.Ok = Unit {0}
 IsSuccess status_code.Created = Unit {0}
 IsSuccess _ = ⊥
 
--- The command gets what it asks for: it is not refused, no fault came, and no memory was wanting. To give back is never refused.
+-- The command gets what it asks for: it is not refused, no fault came, and no memory was wanting. To give back is never refused, and a
+-- session that has ended says how.
 abbrev pub Grants : Command → Reply → Type 0
 Grants (look repo path tried) (file lease blob) = Unit {0}
 Grants (look repo path tried) (text bytes) = Unit {0}
@@ -43,6 +44,11 @@ Grants (put repo path n blob) same = Unit {0}
 Grants (put repo path n blob) relisted = Unit {0}
 Grants (put_side place path said) agreed = Unit {0}
 Grants (put_doc place path) noted = Unit {0}
+Grants (open_session repo) (opened n) = Unit {0}
+Grants (stage at path n blob) staged = Unit {0}
+Grants (stage at path n blob) same = Unit {0}
+Grants (commit n) (ended result) = Unit {0}
+Grants (abort n) (ended result) = Unit {0}
 Grants status (counts_reply files fading cached documents sessions) = Unit {0}
 Grants (unlist repo) (unlisted count) = Unit {0}
 Grants collect (collected expired blobs) = Unit {0}
@@ -110,16 +116,22 @@ SucceedsAt intent manner course o = Succeeds (for_text intent) manner course o
 -- the length of the body that comes with what is asked for, and whether it is to be invited
 abbrev pub body_length : Intent → Option ℕ
 body_length (reads_path repo path) = None
-body_length (puts_file repo path count) = Some count
-body_length (puts_side repo path side count) = Some count
-body_length (puts_document repo path count) = Some count
+body_length (puts_file place path count) = Some count
+body_length (puts_side place path side count) = Some count
+body_length (puts_document place path count) = Some count
 body_length counts = None
 body_length (cleans_all repos) = None
+body_length (opens repo) = None
+body_length (commits n) = None
+body_length (aborts n) = None
 
 abbrev pub is_invited : Intent → Bool → Bool
 is_invited (reads_path repo path) expects = false
 is_invited counts expects = false
 is_invited (cleans_all repos) expects = false
+is_invited (opens repo) expects = false
+is_invited (commits n) expects = false
+is_invited (aborts n) expects = false
 is_invited intent expects = expects
 
 abbrev pub owed_at_first : Judged → Owed

@@ -100,6 +100,38 @@ put_other_sha1 =
     ∷ [])
     ++ codes "b9993e364706816aba3e25717850c26c9cd0d89d"
 
+-- a session: opened, two files staged, one of them without a byte, and deployed
+abbrev pub open_session : List ℕ
+open_session =
+    head_of_lines (
+    codes "POST /api/repositories/releases/sessions HTTP/1.1"
+    ∷ codes "Host: x"
+    ∷ [])
+
+abbrev pub stage_abc : List ℕ
+stage_abc =
+    head_of_lines (
+    codes "PUT /api/sessions/1/files/org/acme/lib/1.0/lib-1.0.jar HTTP/1.1"
+    ∷ codes "Host: x"
+    ∷ codes "Content-Length: 3"
+    ∷ [])
+    ++ codes "abc"
+
+abbrev pub stage_pom : List ℕ
+stage_pom =
+    head_of_lines (
+    codes "PUT /api/sessions/1/files/org/acme/lib/1.0/lib-1.0.pom HTTP/1.1"
+    ∷ codes "Host: x"
+    ∷ codes "Content-Length: 0"
+    ∷ [])
+
+abbrev pub commit_session : List ℕ
+commit_session =
+    head_of_lines (
+    codes "POST /api/sessions/1/commit HTTP/1.1"
+    ∷ codes "Host: x"
+    ∷ [])
+
 abbrev pub last_get_status : List ℕ
 last_get_status =
     head_of_lines (
@@ -145,6 +177,33 @@ created_201 =
     ∷ codes "Content-Length: 8"
     ∷ [])
     ++ line (codes "created")
+
+abbrev pub opened_201 : List ℕ
+opened_201 =
+    head_of_lines (
+    codes "HTTP/1.1 201 Created"
+    ∷ codes "Content-Type: text/plain"
+    ∷ codes "Content-Length: 10"
+    ∷ [])
+    ++ line (codes "session 1")
+
+abbrev pub staged_201 : List ℕ
+staged_201 =
+    head_of_lines (
+    codes "HTTP/1.1 201 Created"
+    ∷ codes "Content-Type: text/plain"
+    ∷ codes "Content-Length: 7"
+    ∷ [])
+    ++ line (codes "staged")
+
+abbrev pub done_200 : List ℕ
+done_200 =
+    head_of_lines (
+    codes "HTTP/1.1 200 OK"
+    ∷ codes "Content-Type: text/plain"
+    ∷ codes "Content-Length: 7"
+    ∷ [])
+    ++ line (codes "done 2")
 
 abbrev pub same_200 : List ℕ
 same_200 =

@@ -193,5 +193,7 @@ pub fn worked_exchanges()
     ensures expectation { IsAnswered (worked.put_abc_expecting ++ worked.last_get) (worked.continue_100 ++ worked.created_201 ++ worked.abc_200) }
     ensures not_there { IsAnswered worked.last_get worked.not_there_404 }
     ensures methods { IsAnswered (worked.delete ++ worked.last_get) (worked.method_405 ++ worked.not_there_404) }
+    ensures session { IsAnswered (worked.open_session ++ worked.stage_abc ++ worked.stage_pom ++ worked.commit_session ++ worked.last_get)
+        (worked.opened_201 ++ worked.staged_201 ++ worked.staged_201 ++ worked.done_200 ++ worked.abc_200) }
     ensures paths { IsAnswered (worked.get_no_name ++ worked.put_bad_segment) (worked.not_named_404 ++ worked.bad_segment_400) }
 {}

@@ -2,11 +2,11 @@
 use mvn_coords::{PathFault, Side};
 use mvn_digest::{Digests, Hashes, SideText, side_text};
 use repo_course::{Manner, Said, rendered};
-use repo_model::Print;
+use repo_model::{Print, SessionResult};
 use repo_routes::{Allow, Refusal};
 use std::alloc::{AllocError, Global};
 use std::test::Fail;
-use texts::Bytes;
+use texts::{Bytes, Text};
 
 const GOES_ON: Manner = Manner {
     close: false,
@@ -52,16 +52,24 @@ fn nothing_text(side: Side) -> SideText {
     side_text(&digests_of(b""), side)
 }
 
+fn abc_print() -> Print {
+    Print {
+        length: 3,
+        digests: digests_of(b"abc"),
+    }
+}
+
+fn nothing_print() -> Print {
+    Print {
+        length: 0,
+        digests: digests_of(b""),
+    }
+}
+
 fn taken() -> Said {
     Said::Taken {
-        kept: Print {
-            length: 3,
-            digests: digests_of(b"abc"),
-        },
-        sent: Print {
-            length: 0,
-            digests: digests_of(b""),
-        },
+        kept: abc_print(),
+        sent: nothing_print(),
     }
 }
 
@@ -463,6 +471,137 @@ fn cleanings_are_told(rt: HostRuntime) -> Result<(), Fail> {
             },
             CLOSES,
             b"HTTP/1.1 200 OK\r\nContent-Type: text/plain\r\nContent-Length: 42\r\nConnection: close\r\n\r\nunlisted 18446744073709551615\nremoved 100\n"
+        )?
+    );
+    Ok(())
+}
+
+#[test]
+fn sessions_are_opened_and_filled(rt: HostRuntime) -> Result<(), Fail> {
+    let a = rt.alloc();
+    assert!(rt;
+        is_written(
+            a,
+            Said::Opened(1),
+            GOES_ON,
+            b"HTTP/1.1 201 Created\r\nContent-Type: text/plain\r\nContent-Length: 10\r\n\r\nsession 1\n"
+        )?
+    );
+    assert!(rt;
+        is_written(
+            a,
+            Said::Opened(9_223_372_036_854_775_807),
+            CLOSES,
+            b"HTTP/1.1 201 Created\r\nContent-Type: text/plain\r\nContent-Length: 28\r\nConnection: close\r\n\r\nsession 9223372036854775807\n"
+        )?
+    );
+    assert!(rt;
+        is_written(
+            a,
+            Said::TooMany,
+            GOES_ON,
+            b"HTTP/1.1 429 Too Many Requests\r\nContent-Type: text/plain\r\nContent-Length: 14\r\n\r\nsessions-full\n"
+        )?
+    );
+    assert!(rt;
+        is_written(
+            a,
+            Said::SessionFull,
+            CLOSES,
+            b"HTTP/1.1 429 Too Many Requests\r\nContent-Type: text/plain\r\nContent-Length: 13\r\nConnection: close\r\n\r\nsession-full\n"
+        )?
+    );
+    assert!(rt;
+        is_written(
+            a,
+            Said::Staged,
+            GOES_ON,
+            b"HTTP/1.1 201 Created\r\nContent-Type: text/plain\r\nContent-Length: 7\r\n\r\nstaged\n"
+        )?
+    );
+    assert!(rt;
+        is_written(
+            a,
+            Said::NoSession,
+            LAST,
+            b"HTTP/1.1 404 Not Found\r\nContent-Type: text/plain\r\nContent-Length: 11\r\nConnection: close\r\n\r\nno-session\n"
+        )?
+    );
+    assert!(rt;
+        is_written(
+            a,
+            Said::Refused(Refusal::NoSession),
+            GOES_ON,
+            b"HTTP/1.1 404 Not Found\r\nContent-Type: text/plain\r\nContent-Length: 11\r\n\r\nno-session\n"
+        )?
+    );
+    assert!(rt;
+        is_written(
+            a,
+            Said::Refused(Refusal::Unread),
+            GOES_ON,
+            b"HTTP/1.1 404 Not Found\r\nContent-Type: text/plain\r\nContent-Length: 7\r\n\r\nunread\n"
+        )?
+    );
+    assert!(rt;
+        is_written(
+            a,
+            Said::Refused(Refusal::Unread),
+            HEAD_ONLY,
+            b"HTTP/1.1 404 Not Found\r\nContent-Type: text/plain\r\nContent-Length: 7\r\n\r\n"
+        )?
+    );
+    Ok(())
+}
+
+#[test]
+fn sessions_end(rt: HostRuntime) -> Result<(), Fail> {
+    let a = rt.alloc();
+    assert!(rt;
+        is_written(
+            a,
+            Said::Ended(SessionResult::Done(2)),
+            GOES_ON,
+            b"HTTP/1.1 200 OK\r\nContent-Type: text/plain\r\nContent-Length: 7\r\n\r\ndone 2\n"
+        )?
+    );
+    assert!(rt;
+        is_written(
+            a,
+            Said::Ended(SessionResult::Done(0)),
+            CLOSES,
+            b"HTTP/1.1 200 OK\r\nContent-Type: text/plain\r\nContent-Length: 7\r\nConnection: close\r\n\r\ndone 0\n"
+        )?
+    );
+    assert!(rt;
+        is_written(
+            a,
+            Said::Ended(SessionResult::Aborted),
+            GOES_ON,
+            b"HTTP/1.1 200 OK\r\nContent-Type: text/plain\r\nContent-Length: 8\r\n\r\naborted\n"
+        )?
+    );
+    let path = Text::new(a, "org/acme/lib/1.0/lib-1.0.jar")?;
+    let offends = Said::Offends {
+        path,
+        kept: abc_print(),
+        sent: nothing_print(),
+    };
+    assert!(rt;
+        is_written(
+            a,
+            offends,
+            GOES_ON,
+            b"HTTP/1.1 409 Conflict\r\nContent-Type: text/plain\r\nContent-Length: 199\r\n\r\noffends org/acme/lib/1.0/lib-1.0.jar kept 3 a9993e364706816aba3e25717850c26c9cd0d89d 900150983cd24fb0d6963f7d28e17f72 sent 0 da39a3ee5e6b4b0d3255bfef95601890afd80709 d41d8cd98f00b204e9800998ecf8427e\n"
+        )?
+    );
+    let dir = Text::new(a, "org/acme/lib/3.0")?;
+    assert!(rt;
+        is_written(
+            a,
+            Said::MissingPom { dir },
+            GOES_ON,
+            b"HTTP/1.1 409 Conflict\r\nContent-Type: text/plain\r\nContent-Length: 29\r\n\r\nmissing-pom org/acme/lib/3.0\n"
         )?
     );
     Ok(())

@@ -9,5 +9,5 @@ mod restart;
 mod sessions;
 
 pub use answers::{Abort, Begin, Commit, Stage};
-pub use files::Files;
+pub use files::{Files, find as staged_file, has_room};
 pub use sessions::Sessions;

@@ -1,13 +1,13 @@
 //! Deployment sessions.
 ghost use Rattle.std.specs.Prelude.{◌≡◌, ◌≢◌, ◌<◌, ◌≤◌, ◌⊎◌, if◌then◌else◌, count_by, find, [], None, Some, IsTrue, IfOk};
 ghost use Rattle.std.specs.List.{flat_map};
-ghost use Rattle.std.specs.Option.{option_map};
+ghost use Rattle.std.specs.Option.{option_and_then, option_map};
 ghost use Rattle.repo_model.specs.Data as plain;
 ghost use Rattle.repo_model.specs.Effect.{recorded};
 ghost use Rattle.repo_model.specs.History.{latest_moment};
 ghost use Rattle.repo_model.specs.Reply.{is_free, no_memory, staged};
 ghost use Rattle.repo_model.specs.Shown.{shown_parcel};
-ghost use Rattle.repo_model.specs.State.{is_open, is_open_at, number_end};
+ghost use Rattle.repo_model.specs.State.{is_open, is_open_at, is_session, number_end};
 ghost use Rattle.row_tables.specs.Commits.{tables_with};
 ghost use Rattle.row_tables.specs.Items.{is_file_path, is_number};
 ghost use Rattle.row_tables.specs.Recorded.{IsBuiltUp};
@@ -189,6 +189,13 @@ impl<H: Held> Sessions<H> {
             }
             refused => Commit::refused(refused),
         }
+    }
+
+    /// How the session of a number has ended; None where it has not, or was never opened. It takes no memory.
+    pub fn how_ended(&self, session: u64) -> Option<SessionResult>
+        ensures { result ≡ option_and_then (λ (s : plain.Session). s.ended) (find (is_session session) self.now.sessions) }
+    {
+        known::session_of(&self.known, session)?.ended
     }
 
     /// The repository and the files of the session that is open under a number. It takes no memory.

@@ -3,6 +3,7 @@ ghost use Rattle.std.specs.Prelude.{◌≤◌, length, IsTrue};
 ghost use Rattle.std.specs.List.{list_all};
 ghost use Rattle.hosted_repo.specs.Deliveries.{is_recordable, shown_files};
 ghost use Rattle.repo_model.specs.Purge.{most_rows};
+ghost use Rattle.repo_model.specs.Shown.{shown_parcel};
 
 use crate::bench::{Bench, Did, MOST, T, is_file};
 use crate::records::Kind;
@@ -21,16 +22,19 @@ const POM: &str = "org/acme/lib/2.0/lib-2.0.pom";
 
 type Staged = BTreeMap<String, Parcel<MemHeld>>;
 
-// Whether each file may be recorded as a row.
-fn are_recordable(staged: &Staged) -> bool
+// Whether a file may be recorded as a row.
+fn is_fit(path: &str, parcel: &Parcel<MemHeld>) -> bool
+    ensures { IsTrue result → IsTrue (is_recordable (record { path = path.now; blob = shown_parcel parcel.now })) }
+{
+    is_file(path) && parcel.blob > 0 && parcel.blob <= MOST && parcel.length <= MOST
+}
+
+// Whether each file may.
+fn are_fit(staged: &Staged) -> bool
     ensures { IsTrue result → IsTrue (list_all is_recordable (shown_files staged.now.entries)) }
 {
     for (path, parcel) in staged {
-        if !is_file(path.as_str())
-            || parcel.blob == 0
-            || parcel.blob > MOST
-            || parcel.length > MOST
-        {
+        if !is_fit(path.as_str(), parcel) {
             return false;
         }
     }
@@ -55,7 +59,7 @@ fn staged(bench: &mut Bench, alloc: Global, paths: &[&str]) -> Result<Staged, Fa
 
 // Puts them all, with the end of session 7.
 fn put_all(bench: &mut Bench, files: &Staged) -> Result<PutAll, Fail> {
-    if !are_recordable(files) || !are_few(files) {
+    if !are_fit(files) || !are_few(files) {
         return Err("not recordable")?;
     }
     let also = Item::SessionEnded {

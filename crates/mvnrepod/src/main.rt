@@ -1,15 +1,19 @@
 //! `mvnrepod`: a Maven repository manager.
 #![tactic(auto)]
 
-ghost use Rattle.std.specs.Prelude.{◌≡◌, IfOk, vec_len};
+ghost use Rattle.std.specs.Prelude.{◌≡◌, ◌<◌, IfOk, vec_len};
 
 use data_folder::{blobs_in, open_disk};
+use desk_work as work;
 use outside::{Blobs, Duplex, NoMemory, Source, Stream};
 use outside_memory::{FaultScript, MemBlobs, MemLink, MemSource, ScriptClock, ScriptPort};
-use outside_system::{ReaderSource, SystemClock, WriterSink, file_source};
+use outside_pace::{Running, SleepingPace};
+use outside_sockets::TcpPort;
+use outside_system::{FolderBlobs, ReaderSource, SystemClock, WriterSink, file_source};
 use record_journal::Journal;
 use repo_run::{Action, Cleaner, Desk, NO_MEMORY, Wanted, run, wanted};
 use row_tables::MemRecords;
+use run_serve::serve;
 use std::alloc::Global;
 use std::env;
 use std::io::{self, Stdin, Stdout};
@@ -102,6 +106,53 @@ fn status_over_folder(rt: &HostRuntime, words: &[String], wanted: &Wanted) -> Re
     )
 }
 
+/// A desk of a server: a listener, and the blobs of a folder.
+type TcpDesk = work::Desk<TcpPort<HostRuntime>, FolderBlobs<HostRuntime>>;
+
+/// How many connections are served at once.
+const DESKS: u64 = 4;
+
+/// The desks of a server, which share one listener.
+fn tcp_desks(
+    rt: &HostRuntime,
+    wanted: &Wanted,
+    running: &Running,
+) -> Result<Vec<TcpDesk>, NoMemory>
+    ensures { IfOk result (λ desks. 0 < vec_len desks) }
+{
+    let folder = wanted.folder.as_str();
+    let port = TcpPort::bind(rt.clone()?, wanted.port, running.share()?);
+    let mut desks = Vec::with_capacity(rt.alloc(), 4)?;
+    for _ in 1..DESKS {
+        desks.push(work::Desk {
+            port: port.twin(rt.clone()?, running.share()?),
+            blobs: blobs_in(rt, folder)?,
+        })?;
+    }
+    desks.push(work::Desk {
+        port,
+        blobs: blobs_in(rt, folder)?,
+    })?;
+    Ok(desks)
+}
+
+/// The status of a server over the folder and on the port that the words name. Its line goes to standard error.
+fn status_of_server(rt: &HostRuntime, wanted: &Wanted) -> Result<u8, NoMemory> {
+    let alloc = rt.alloc();
+    let folder = wanted.folder.as_str();
+    let mut settings = file_source(rt, wanted.settings.as_str());
+    let running = Running::new(alloc, DESKS)?;
+    let desks = tcp_desks(rt, wanted, &running)?;
+    let cleaner = work::Cleaner {
+        blobs: blobs_in(rt, folder)?,
+        pace: SleepingPace::new(rt.clone()?, running),
+    };
+    let records = Journal::new(open_disk(rt, folder));
+    let clock = SystemClock::new(rt.clone()?);
+    let mut out = WriterSink::new(rt.stderr());
+    Ok(serve(rt, alloc, &mut settings, desks, cleaner, records, clock, &mut out).status)
+}
+
 /// Makes the objects that the words have, and runs the program with them.
 fn status_for(rt: &HostRuntime, words: &[String], wanted: &Wanted) -> Result<u8, NoMemory> {
     let alloc = rt.alloc();
@@ -112,6 +163,7 @@ fn status_for(rt: &HostRuntime, words: &[String], wanted: &Wanted) -> Result<u8,
             status_in_memory(rt, words, wanted, &mut settings, links)
         }
         Action::Check | Action::Clean => status_over_folder(rt, words, wanted),
+        Action::Serve => status_of_server(rt, wanted),
         Action::Nothing => {
             let mut settings = MemSource::new(Vec::new(alloc), 1, FaultScript::none(alloc));
             let links: Vec<MemLink> = Vec::new(alloc);

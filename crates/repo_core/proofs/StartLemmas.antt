@@ -23,7 +23,7 @@ use Rattle.repo_laws.specs.Laws.{FadesRightly}
 use Rattle.repo_laws.specs.Sound.{IsSound}
 use Rattle.repo_laws.proofs.HoldingLists.{all-join, all-split}
 use Rattle.repo_laws.proofs.Lists.{all-then}
-use Rattle.repo_laws.proofs.Starting.{greatest-below-end, greatest-from, started-stands}
+use Rattle.repo_laws.proofs.Starting.{each-from, greatest-below-end, greatest-from, started-stands}
 use Rattle.repo_laws.proofs.StartedSound.{started-sound}
 use Rattle.row_tables.specs.Items.{is_file_path}
 use Rattle.row_tables.specs.Recorded.{IsBuiltUp}
@@ -31,10 +31,12 @@ use Rattle.table_laws.specs.Standing.{StandsAtFile}
 use Rattle.table_laws.proofs.Building.{built-hosted, built-order, built-range}
 use Rattle.repo_restart.specs.Leftovers.{Clears, ClearsFront, left_over}
 use Rattle.repo_restart.specs.Rows.{AreRestorable, AreRestored}
+use Rattle.repo_core.specs.Deploys.{AreStagedInUse}
 use Rattle.repo_core.specs.Hosted.{AreInUse, rules_of}
 use Rattle.repo_core.specs.Start.{Starts}
-use Rattle.repo_core.specs.Whole.{AreClosed, IsKept, Parts, Tell, counting, whole_of}
+use Rattle.repo_core.specs.Whole.{IsKept, Parts, Tell, counting, whole_of}
 use Rattle.repo_core.proofs.NameLemmas.{named-apart}
+use Rattle.repo_core.proofs.StagedLemmas.{SessionUsed}
 use Rattle.repo_core.proofs.UseLemmas.{RowsUsed, here-so, or-right}
 
 abbrev number_in : RecordedRow → ℕ
@@ -163,8 +165,10 @@ module _ (settings : Settings) (t : Tables) (old new : Shelf) (clock : Option Mo
   pub starts-rules : rules_of s.hosted ≡ settings.hosted
   starts-rules = (starts-sound 0).order.rules
 
-  pub starts-closed : AreClosed s.sessions
-  starts-closed = (starts-stand 0).none_open
+  -- sessions that have ended have no files
+  pub starts-staged : (kept : List ℕ) → AreStagedInUse kept s.sessions
+  starts-staged kept =
+      subst (AreStagedInUse kept) (ap (λ (u : State). u.sessions) (sym starts.state)) (each-from (SessionUsed kept) (λ n result. tt) t.sessions)
 
   pub starts-told : (faults : ℕ) (tables : Option Tables) → IfSome tables (λ them. t ≡ them) → ForSome tables (λ u. StandsFor u (counting faults s))
   starts-told faults None same u told = absurd (none-some u told)

@@ -55,19 +55,6 @@ turned-says w command reply is = record {
   left = nothing-done (is_free reply) w.state ∙ ap (λ (t : Turn). with_effects w.state (if is_free reply then [] else t.effects)) (sym is);
 }
 
--- where none is open, none is found that is
-pub none-open : (n : ℕ) (sessions : List Session) → AreClosed sessions → find (is_open_at n) sessions ≡ None
-none-open n [] closed = refl
-none-open n (one ∷ sessions) closed =
-    let shut : is_open_at n one ≡ false = and-false (is_session n one) (is_open one) closed.0 in
-    elim (is_open_at n one) as (λ b. is_open_at n one ≡ b → cond b (Some one) (find (is_open_at n) sessions) ≡ None) [
-      | true ↦ λ is. absurd (false≢true (sym shut ∙ is))
-      | false ↦ λ _. none-open n sessions closed.1
-    ] refl where
-      and-false : (a b : Bool) → b ≡ false → (a && b) ≡ false
-      and-false true b is = is
-      and-false false b is = refl
-
 -- the counts of the rows and of the sessions
 pub turned-counts : (w : Parts) (files unlisted opened : ℕ) → opened ≡ count_by is_open w.state.sessions → files ≡ sum_by (λ (h : Hosted). length h.rows) w.state.hosted
     → unlisted ≡ sum_by (λ (h : Hosted). count_by fades h.rows) w.state.hosted → Turned w w status (counts files unlisted 0 0 opened)
@@ -237,19 +224,6 @@ alone old new command reply tables n none turned =
 -- a command that says something and does nothing
 alone-says : (w : Parts) (command : Command) (reply : Reply) (tables : Option Tables) (n : ℕ) → turn w.settings w.state w.state.last command ≡ says reply → Recorded w w command reply tables tables n n
 alone-says w command reply tables n is = alone w w command reply tables n (ap (λ (t : Turn). recorded t.effects) is) (turned-says w command reply is)
-
--- a place that is a session, where none is open under its number
-module _ (w : Parts) (n : ℕ) (none : open_of n w.state ≡ None) (path : List ℕ) (tables : Option Tables) (faults : ℕ) where
-  pub may_put-nowhere : Recorded w w (may_put (session n) path) no_session tables tables faults faults
-  may_put-nowhere = alone-says w (may_put (session n) path) no_session tables faults (ap (may_put_in w.state path) none)
-
-  pub put_side-nowhere : (said : List ℕ) → Recorded w w (put_side (session n) path said) no_session tables tables faults faults
-  put_side-nowhere said =
-      alone-says w (put_side (session n) path said) no_session tables faults
-      (ap (λ found. with_open found (λ (one : Session). judged (kind path) said (λ at. staged_at at one.staged))) none)
-
-  pub put_doc-nowhere : Recorded w w (put_doc (session n) path) no_session tables tables faults faults
-  put_doc-nowhere = alone-says w (put_doc (session n) path) no_session tables faults (ap (λ found. with_open found (λ (one : Session). says noted)) none)
 
 -- the commands that record nothing
 shows-nothing : (next : ℕ) (seen : Seen) → recorded (shows next seen).effects ≡ []

@@ -46,7 +46,7 @@ or-more : (a b c : Bool) → (IsTrue b → IsTrue c) → IsTrue (a || b) → IsT
 or-more true b c more h = refl
 or-more false b c more h = more h
 
-among-more : (m n : ℕ) (ns : List ℕ) → IsTrue (is_among m ns) → IsTrue (is_among m (with_number n ns))
+pub among-more : (m n : ℕ) (ns : List ℕ) → IsTrue (is_among m ns) → IsTrue (is_among m (with_number n ns))
 among-more m n [] h = cc
 among-more m n (k ∷ ks) h =
     elim (nat_lt k n) as (λ b. IsTrue (is_among m (if b then k ∷ with_number n ks else n ∷ k ∷ ks))) [
@@ -57,7 +57,7 @@ among-more m n (k ∷ ks) h =
 pub here-so : (n : ℕ) (rest : Bool) → IsTrue ((n == n) || rest)
 here-so n rest = search rules
 
-among-new : (n : ℕ) (ns : List ℕ) → IsTrue (is_among n (with_number n ns))
+pub among-new : (n : ℕ) (ns : List ℕ) → IsTrue (is_among n (with_number n ns))
 among-new n [] = here-so n false
 among-new n (k ∷ ks) =
     elim (nat_lt k n) as (λ b. IsTrue (is_among n (if b then k ∷ with_number n ks else n ∷ k ∷ ks))) [

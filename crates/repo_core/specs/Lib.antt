@@ -5,5 +5,6 @@ pub mod Whole
 pub mod CoreTurn
 pub mod Purge
 pub mod Stock
+pub mod Deploys
 pub mod Start
 pub mod StartFaults

@@ -1,18 +1,12 @@
 -- What contracts see of the repository.
-use Rattle.std.specs.Prelude.{◌≡◌, ℕ, Bool, false, List, Option}
-use Rattle.std.specs.List.{AllByRecursion}
+use Rattle.std.specs.Prelude.{ℕ, Bool, Option}
 use Rattle.std.specs.Option.{ForSome}
 use Rattle.repo_config.specs.Form.{IsSettings}
-use Rattle.repo_model.specs.Data.{Session}
 use Rattle.repo_model.specs.Settings.{Settings}
-use Rattle.repo_model.specs.State.{State, is_open}
+use Rattle.repo_model.specs.State.{State}
 use Rattle.repo_model.specs.Tables.{Tables}
 use Rattle.repo_laws.specs.Holds.{Holds, InOrder}
 use Rattle.repo_laws.specs.Sound.{IsSound, OnePlace, Sound}
-
--- none of these sessions is open
-abbrev pub AreClosed : List Session → Type 0
-AreClosed sessions = AllByRecursion (λ (one : Session). is_open one ≡ false) sessions
 
 -- the settings, the state of the machine without its records, and the number of calls so far
 pub record Parts : Type 0 where

@@ -34,8 +34,8 @@ fn repo_at<'a, H: Held>(repos: &'a [Hosted<H>], id: &str) -> Option<&'a Hosted<H
     repos.iter().find(|repo| repo.rule().id.as_str() == id)
 }
 
-// The place of the repository of an id, which is there.
-fn place_of<H: Held>(repos: &[Hosted<H>], id: &str) -> usize
+/// The place of the repository of an id, which is there.
+pub fn place_of<H: Held>(repos: &[Hosted<H>], id: &str) -> usize
     requires { IsTrue (list_any (is_repository id.now) repos.now) }
     ensures bound { result < length repos.now }
     ensures rows { (repo : _) → (slice_index_or repos.now result repo).rows ≡ rows_in id.now repos.now }

@@ -3,6 +3,7 @@
 
 mod asking;
 mod conditions;
+mod deploys;
 mod faults;
 mod hosted;
 mod looks;

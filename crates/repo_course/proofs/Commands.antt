@@ -14,10 +14,10 @@ use Rattle.mvn_doc.specs.Reading.{reading}
 use Rattle.mvn_metadata.specs.Document.{Document}
 use Rattle.repo_config.specs.Form.{IsSettings}
 use Rattle.repo_model.specs.Asking.{IsAnswerTo}
-use Rattle.repo_model.specs.Command.{may_put, is_digest, is_file_path, is_fit, is_parcel, is_there, names_document, names_something, rule_of}
-use Rattle.repo_model.specs.Data.{repository}
+use Rattle.repo_model.specs.Command.{may_put, is_digest, is_file_path, is_fit, is_parcel, is_place, is_there, names_document, names_something, rule_of}
+use Rattle.repo_model.specs.Data.{Blob, Place, repository, session}
 use Rattle.repo_model.specs.Paths.{takes}
-use Rattle.repo_model.specs.Reply.{Reply, file, draft, taken, same, relisted, created, agreed, noted, counts}
+use Rattle.repo_model.specs.Reply.{Reply, file, draft, taken, same, relisted, created, agreed, noted, no_session, sessions_full, opened, session_full, staged, offends, missing_pom, ended, spent, store_fault, counts}
 use Rattle.repo_model.specs.Settings.{Rule, Settings}
 use Rattle.repo_model.specs.State.{number_end}
 use Rattle.repo_routes.specs.Intent as judged
@@ -32,7 +32,7 @@ use Rattle.repo_course.specs.declared.outcomes.Sent.{Sent}
 use Rattle.repo_course.specs.declared.outcomes.Sent.TheVariants as sent
 use Rattle.repo_course.specs.declared.outcomes.Took.{Took}
 use Rattle.repo_course.specs.declared.outcomes.Took.TheVariants as took
-use Rattle.repo_course.specs.Course.{Body, Course, Pass, Stored, takes as takes_next, reads, compares, course_for, cut_off, gives_up, invites, notes, after_clean, after_continue, after_document, after_fault, after_look, after_may_put, after_put, after_put_doc, after_put_side, after_send, after_side, after_status, after_take}
+use Rattle.repo_course.specs.Course.{Body, Course, Pass, Stored, asks as asks_next, takes as takes_next, reads, compares, course_for, cut_off, gives_up, invites, notes, after_clean, after_abort, after_commit, after_continue, after_document, after_fault, after_look, after_may_put, after_open, after_put, after_put_at, after_put_doc, after_put_side, after_send, after_side, after_stage, after_status, after_take, puts_at}
 use Rattle.repo_course.specs.Meets.{IsStored, MeetAll, Meets}
 use Rattle.repo_course.proofs.SideLengths.{read_side-length}
 
@@ -99,6 +99,18 @@ module _ (settings : Settings) where
   after_put-meets n manner (taken kept given) = tt
   after_put-meets n manner _ = (refl, λ reply answer. tt)
 
+  after_stage-meets : (n : ℕ) (manner : Manner) (reply : Reply) → Meets settings (after_stage n manner reply)
+  after_stage-meets n manner staged = tt
+  after_stage-meets n manner same = tt
+  after_stage-meets n manner (taken kept given) = tt
+  after_stage-meets n manner session_full = tt
+  after_stage-meets n manner no_session = tt
+  after_stage-meets n manner _ = (refl, λ reply answer. tt)
+
+  after_put_at-meets : (place : Place) (n : ℕ) (manner : Manner) (reply : Reply) → Meets settings (after_put_at place n manner reply)
+  after_put_at-meets (repository repo) n manner reply = after_put-meets n manner reply
+  after_put_at-meets (session number) n manner reply = after_stage-meets n manner reply
+
   after_fault-meets : (manner : Manner) (fault : Took) → Meets settings (after_fault manner fault)
   after_fault-meets manner took.Torn = tt
   after_fault-meets manner took.SourceFault = tt
@@ -107,15 +119,38 @@ module _ (settings : Settings) where
 
   after_put_side-meets : (manner : Manner) (reply : Reply) → Meets settings (after_put_side manner reply)
   after_put_side-meets manner agreed = tt
+  after_put_side-meets manner no_session = tt
   after_put_side-meets manner _ = tt
 
   after_put_doc-meets : (manner : Manner) (reply : Reply) → Meets settings (after_put_doc manner reply)
   after_put_doc-meets manner noted = tt
+  after_put_doc-meets manner no_session = tt
   after_put_doc-meets manner _ = tt
 
   after_status-meets : (manner : Manner) (reply : Reply) → Meets settings (after_status manner reply)
   after_status-meets manner (counts files fading cached documents sessions) = tt
   after_status-meets manner _ = tt
+
+  after_open-meets : (manner : Manner) (reply : Reply) → Meets settings (after_open manner reply)
+  after_open-meets manner (opened n) = tt
+  after_open-meets manner sessions_full = tt
+  after_open-meets manner spent = tt
+  after_open-meets manner store_fault = tt
+  after_open-meets manner _ = tt
+
+  after_commit-meets : (manner : Manner) (reply : Reply) → Meets settings (after_commit manner reply)
+  after_commit-meets manner (ended result) = tt
+  after_commit-meets manner (offends path kept given) = tt
+  after_commit-meets manner (missing_pom directory) = tt
+  after_commit-meets manner no_session = tt
+  after_commit-meets manner store_fault = tt
+  after_commit-meets manner _ = tt
+
+  after_abort-meets : (manner : Manner) (reply : Reply) → Meets settings (after_abort manner reply)
+  after_abort-meets manner (ended result) = tt
+  after_abort-meets manner no_session = tt
+  after_abort-meets manner store_fault = tt
+  after_abort-meets manner _ = tt
 
   after_clean-meets : (manner : Manner) (pass : Pass) → Meets settings (after_clean manner pass)
   after_clean-meets manner (Ok done) = tt
@@ -131,14 +166,31 @@ module _ (settings : Settings) where
       tell continued.Written = where_not
       tell continued.SinkFault = where_cut
 
-  after_take-meets : (repo path : List ℕ) (n count : ℕ) (manner : Manner) (stored : Stored) → IsTrue (is_fit (λ rule. takes rule path) (rule_of repo settings))
-      → count < number_end → IsStored n count stored → Meets settings (after_take repo path n manner stored)
-  after_take-meets repo path n count manner (Ok blob) fits long body =
+  -- a stored file can be put at the path of the place
+  abbrev can_put : Place → List ℕ → Bool
+  can_put (repository repo) path = is_fit (λ rule. takes rule path) (rule_of repo settings)
+  can_put (session number) path = is_file_path path
+
+  -- where a draft for it was given
+  may-put : (place : Place) (path : List ℕ) (n : ℕ) → IsTrue (is_file_path path) → IsAnswerTo settings (may_put place path) (draft n) → IsTrue (can_put place path)
+  may-put (repository repo) path n is answer = answer
+  may-put (session number) path n is answer = is
+
+  put-meets : (place : Place) (path : List ℕ) (n : ℕ) (blob : Blob) (manner : Manner) → IsTrue (can_put place path) → IsTrue (is_parcel n blob)
+      → Meets settings (asks_next (puts_at place path n blob) (after_put_at place n manner))
+  put-meets (repository repo) path n blob manner fits parcel =
+      (both (is_fit (λ rule. takes rule path) (rule_of repo settings)) (is_parcel n blob) fits parcel, λ reply answer. after_put-meets n manner reply)
+  put-meets (session number) path n blob manner fits parcel =
+      (both (is_file_path path) (is_parcel n blob) fits parcel, λ reply answer. after_stage-meets n manner reply)
+
+  after_take-meets : (place : Place) (path : List ℕ) (n count : ℕ) (manner : Manner) (stored : Stored) → IsTrue (can_put place path)
+      → count < number_end → IsStored n count stored → Meets settings (after_take place path n manner stored)
+  after_take-meets place path n count manner (Ok blob) fits long body =
       let short : blob.print.length < number_end = subst (λ (m : ℕ). m < number_end) (sym body.1) long in
       let parcel : IsTrue (is_parcel n blob) =
       both (blob.number == n) (nat_lt blob.print.length number_end) (eq-eqb blob.number n body.0) (lt-ltb blob.print.length number_end short) in
-      (both (is_fit (λ rule. takes rule path) (rule_of repo settings)) (is_parcel n blob) fits parcel, λ reply answer. after_put-meets n manner reply)
-  after_take-meets repo path n count manner (Err fault) fits long body = (refl, λ reply answer. after_fault-meets manner fault)
+      put-meets place path n blob manner fits parcel
+  after_take-meets place path n count manner (Err fault) fits long body = (refl, λ reply answer. after_fault-meets manner fault)
 
   module _ (form : IsSettings settings) where
     short_enough : (count : ℕ) → count ≤ settings.max_file → count < number_end
@@ -149,42 +201,45 @@ module _ (settings : Settings) where
     course_for-meets : (manner : Manner) (expects : Bool) (intent : Intent) → IsIntent settings intent → Meets settings (course_for manner expects intent)
     course_for-meets manner expects (judged.reads repo path) i =
         (both (is_there repo settings) (names_something (kind path)) i.0 i.1, λ reply answer. after_look-meets manner reply)
-    course_for-meets manner expects (judged.puts_file repo path count) i =
-        (both (is_there repo settings) (is_file_path path) i.0 i.1, tell)
+    course_for-meets manner expects (judged.puts_file place path count) i =
+        (both (is_place place settings) (is_file_path path) i.0 i.1, tell)
       where
-        tell : (reply : Reply) → IsAnswerTo settings (may_put (repository repo) path) reply → Meets settings (after_may_put repo path count expects manner reply)
+        tell : (reply : Reply) → IsAnswerTo settings (may_put place path) reply → Meets settings (after_may_put place path count expects manner reply)
         tell (draft n) answer =
-            invites-meets expects (gives_up n cut_off) (takes_next n count (after_take repo path n manner)) (refl, λ reply given. tt)
-            (λ stored body. after_take-meets repo path n count manner stored answer (short_enough count i.2) body)
+            invites-meets expects (gives_up n cut_off) (takes_next n count (after_take place path n manner)) (refl, λ reply given. tt)
+            (λ stored body. after_take-meets place path n count manner stored (may-put place path n i.1 answer) (short_enough count i.2) body)
         tell _ answer = tt
-    course_for-meets manner expects (judged.puts_side repo path side count) i =
-        invites-meets expects cut_off (reads count (after_side repo path side manner)) tt tell
+    course_for-meets manner expects (judged.puts_side place path side count) i =
+        invites-meets expects cut_off (reads count (after_side place path side manner)) tt tell
       where
-        found : (text : List ℕ) (digest : Option (List ℕ)) → read_side side text ≡ digest → Meets settings (compares repo path manner digest)
+        found : (text : List ℕ) (digest : Option (List ℕ)) → read_side side text ≡ digest → Meets settings (compares place path manner digest)
         found text None is = tt
         found text (Some digest) is = (
-          both (is_there repo settings) (is_digest (kind path) digest) i.0
+          both (is_place place settings) (is_digest (kind path) digest) i.0
               (is_of_side (kind path) side digest i.1 (read_side-length side text digest is)),
           λ reply answer. after_put_side-meets manner reply,
         )
 
-        tell : (body : Body) → Meets settings (after_side repo path side manner body)
+        tell : (body : Body) → Meets settings (after_side place path side manner body)
         tell (Ok text) = found text (read_side side text) refl
         tell (Err fault) = after_fault-meets manner fault
-    course_for-meets manner expects (judged.puts_document repo path count) i =
-        invites-meets expects cut_off (reads count (after_document repo path manner)) tt tell
+    course_for-meets manner expects (judged.puts_document place path count) i =
+        invites-meets expects cut_off (reads count (after_document place path manner)) tt tell
       where
-        found : (document : Result Document ℕ) → Meets settings (notes repo path manner document)
+        found : (document : Result Document ℕ) → Meets settings (notes place path manner document)
         found (Ok document) =
-            (both (is_there repo settings) (names_document (kind path)) i.0 i.1, λ reply answer. after_put_doc-meets manner reply)
+            (both (is_place place settings) (names_document (kind path)) i.0 i.1, λ reply answer. after_put_doc-meets manner reply)
         found (Err at) = tt
 
-        tell : (body : Body) → Meets settings (after_document repo path manner body)
+        tell : (body : Body) → Meets settings (after_document place path manner body)
         tell (Ok text) = found (reading text)
         tell (Err fault) = after_fault-meets manner fault
     course_for-meets manner expects judged.counts i = (refl, λ reply answer. after_status-meets manner reply)
     course_for-meets manner expects (judged.cleans repos) i =
         (subst (MeetAll settings) (sym i) (hosted-meet settings), λ pass. after_clean-meets manner pass)
+    course_for-meets manner expects (judged.opens repo) i = (i, λ reply answer. after_open-meets manner reply)
+    course_for-meets manner expects (judged.commits n) i = (refl, λ reply answer. after_commit-meets manner reply)
+    course_for-meets manner expects (judged.aborts n) i = (refl, λ reply answer. after_abort-meets manner reply)
 
     -- an act that begins the course of an intent
     pub begun_meets : (manner : Manner) (expects : Bool) (intent : Intent) (c : Course) → IsIntent settings intent

@@ -8,6 +8,8 @@ use Rattle.http_wire.specs.declared.answers.Content.TheVariants as content
 use Rattle.http_wire.specs.declared.answers.Status.{Status}
 use Rattle.http_wire.specs.declared.answers.Status.TheVariants as status
 use Rattle.repo_model.specs.declared.print.Print.{Print}
+use Rattle.repo_model.specs.declared.session.SessionResult.{SessionResult}
+use Rattle.repo_model.specs.declared.session.SessionResult.TheVariants as session
 use Rattle.repo_model.specs.Data.{Blob}
 use Rattle.repo_routes.specs.declared.refusal.Allow.{Allow}
 use Rattle.repo_routes.specs.declared.refusal.Allow.TheVariants as allow
@@ -15,7 +17,7 @@ use Rattle.repo_routes.specs.declared.refusal.Refusal.{Refusal}
 use Rattle.repo_routes.specs.declared.refusal.Refusal.TheVariants as refusal
 use Rattle.repo_course.specs.declared.manner.Manner.{Manner}
 use Rattle.repo_course.specs.declared.said.Said.{Said}
-use Rattle.repo_course.specs.declared.said.Said.TheVariants.{BadHead, HeadTooLong, Refused, Text, Doc, NotThere, KindRefused, Created, Same, Relisted, Taken, NoDigest, Agreed, Differs, NoDocument, Noted, Counts, Cleaned, NoDraft, Spent, StoreFault, BlobFault, NoMemory}
+use Rattle.repo_course.specs.declared.said.Said.TheVariants.{BadHead, HeadTooLong, Refused, Text, Doc, NotThere, KindRefused, Created, Same, Relisted, Taken, NoDigest, Agreed, Differs, NoDocument, Noted, Counts, Cleaned, NoSession, TooMany, Opened, SessionFull, Staged, Offends, MissingPom, Ended, NoDraft, Spent, StoreFault, BlobFault, NoMemory}
 
 -- a text of one line
 abbrev pub line : List ℕ → List ℕ
@@ -42,6 +44,10 @@ methods_text allow.Read = codes "GET, HEAD"
 methods_text allow.ReadAndPut = codes "GET, HEAD, PUT"
 methods_text allow.Post = codes "POST"
 
+-- the answer where no session of a number is open, and none of it was
+abbrev pub no_session_answer : Answer
+no_session_answer = line_answer status.NotFound (codes "no-session")
+
 -- why a head is refused
 abbrev pub refusal_answer : Refusal → Answer
 refusal_answer refusal.BadTarget = line_answer status.BadRequest (codes "bad-target")
@@ -52,6 +58,8 @@ refusal_answer refusal.NoRoute = line_answer status.NotFound (codes "no-route")
 refusal_answer refusal.NoRepository = line_answer status.NotFound (codes "no-repository")
 refusal_answer (refusal.Method methods) = record (line_answer status.MethodNotAllowed (codes "method")) { allow = Some (methods_text methods) }
 refusal_answer refusal.UnexpectedBody = line_answer status.BadRequest (codes "unexpected-body")
+refusal_answer refusal.NoSession = no_session_answer
+refusal_answer refusal.Unread = line_answer status.NotFound (codes "unread")
 refusal_answer (refusal.BadPath fault) = line_answer status.BadRequest (codes "path " ++ name_of_fault fault)
 refusal_answer (refusal.NoPath fault) = line_answer status.NotFound (codes "path " ++ name_of_fault fault)
 refusal_answer (refusal.TooLarge limit) = line_answer status.PayloadTooLarge (codes "too-large " ++ decimal limit)
@@ -61,8 +69,15 @@ abbrev pub print_text : Print → List ℕ
 print_text print =
     decimal print.length ++ 32 ∷ hex_text print.digests.sha1 ++ 32 ∷ hex_text print.digests.md5
 
+-- a content that is kept, and another one that was sent
+abbrev pub prints_text : Print → Print → List ℕ
+prints_text kept sent = codes "kept " ++ print_text kept ++ codes " sent " ++ print_text sent
+
 abbrev pub taken_text : Print → Print → List ℕ
-taken_text kept sent = codes "taken kept " ++ print_text kept ++ codes " sent " ++ print_text sent
+taken_text kept sent = codes "taken " ++ prints_text kept sent
+
+abbrev pub offends_text : List ℕ → Print → Print → List ℕ
+offends_text path kept sent = codes "offends " ++ path ++ 32 ∷ prints_text kept sent
 
 abbrev pub differs_text : List ℕ → List ℕ → List ℕ
 differs_text said kept = codes "digest-differs said " ++ said ++ codes " kept " ++ kept
@@ -81,6 +96,11 @@ counts_text files fading cached documents sessions =
 
 abbrev pub cleaned_text : (unlisted removed : ℕ) → List ℕ
 cleaned_text unlisted removed = count_line (codes "unlisted ") unlisted ++ count_line (codes "removed ") removed
+
+-- how a session ended
+abbrev pub result_text : SessionResult → List ℕ
+result_text session.Aborted = codes "aborted"
+result_text (session.Done n) = codes "done " ++ decimal n
 
 -- the answer that says so, with its body, behind which the connection goes on
 abbrev pub full_answer : Said → Answer
@@ -102,6 +122,14 @@ full_answer (NoDocument at) = line_answer status.BadRequest (codes "document " +
 full_answer Noted = line_answer status.Created (codes "noted")
 full_answer (Counts files fading cached documents sessions) = text_answer status.Ok (counts_text files fading cached documents sessions)
 full_answer (Cleaned unlisted removed) = text_answer status.Ok (cleaned_text unlisted removed)
+full_answer NoSession = no_session_answer
+full_answer TooMany = line_answer status.TooManyRequests (codes "sessions-full")
+full_answer (Opened n) = line_answer status.Created (codes "session " ++ decimal n)
+full_answer SessionFull = line_answer status.TooManyRequests (codes "session-full")
+full_answer Staged = line_answer status.Created (codes "staged")
+full_answer (Offends path kept sent) = line_answer status.Conflict (offends_text path kept sent)
+full_answer (MissingPom directory) = line_answer status.Conflict (codes "missing-pom " ++ directory)
+full_answer (Ended result) = line_answer status.Ok (result_text result)
 full_answer NoDraft = line_answer status.InternalServerError (codes "no-draft")
 full_answer Spent = line_answer status.InternalServerError (codes "spent")
 full_answer StoreFault = line_answer status.ServiceUnavailable (codes "store-fault")

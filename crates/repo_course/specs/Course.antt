@@ -8,9 +8,9 @@ use Rattle.mvn_digest.specs.Hex.{hex_text}
 use Rattle.mvn_digest.specs.Sides.{read_side}
 use Rattle.mvn_doc.specs.Reading.{reading}
 use Rattle.mvn_metadata.specs.Document.{Document}
-use Rattle.repo_model.specs.Data.{Blob, repository}
-use Rattle.repo_model.specs.Command.{Command, look, done, may_put, put, put_side, put_doc, drop_draft, status}
-use Rattle.repo_model.specs.Reply.{Reply, file, text, doc, missed, kind_refused, draft, no_draft, taken, same, relisted, created, not_there, differs, agreed, noted, counts, spent, store_fault}
+use Rattle.repo_model.specs.Data.{Blob, Place, repository, session}
+use Rattle.repo_model.specs.Command.{Command, look, done, may_put, put, put_side, put_doc, drop_draft, open_session, stage, commit, abort, status}
+use Rattle.repo_model.specs.Reply.{Reply, file, text, doc, missed, kind_refused, draft, no_draft, taken, same, relisted, created, not_there, differs, agreed, noted, counts, no_session, sessions_full, opened, session_full, staged, offends, missing_pom, ended, spent, store_fault}
 use Rattle.repo_routes.specs.Framing.{is_head}
 use Rattle.repo_routes.specs.Intent as judged
 use Rattle.repo_routes.specs.Intent.{Intent, Judged}
@@ -113,6 +113,25 @@ after_put n manner no_draft = gives_up n (says said.NoDraft manner)
 after_put n manner store_fault = gives_up n (says said.StoreFault manner)
 after_put n manner reply = gives_up n (without_memory manner)
 
+-- what follows the staging of a file's body; where it is not the session's file, its draft is given up in that turn
+abbrev pub after_stage : ℕ → Manner → Reply → Course
+after_stage n manner staged = says said.Staged manner
+after_stage n manner same = says said.Same manner
+after_stage n manner (taken kept given) = says (said.Taken kept given) manner
+after_stage n manner session_full = says said.SessionFull manner
+after_stage n manner no_session = says said.NoSession manner
+after_stage n manner no_draft = gives_up n (says said.NoDraft manner)
+after_stage n manner reply = gives_up n (without_memory manner)
+
+-- the command by which a stored blob becomes the file at a path of a place, and what follows it
+abbrev pub puts_at : Place → (path : List ℕ) → ℕ → Blob → Command
+puts_at (repository repo) path n blob = put repo path n blob
+puts_at (session number) path n blob = stage number path n blob
+
+abbrev pub after_put_at : Place → ℕ → Manner → Reply → Course
+after_put_at (repository repo) n manner reply = after_put n manner reply
+after_put_at (session number) n manner reply = after_stage n manner reply
+
 -- a body that was not taken
 abbrev pub after_fault : Manner → Took → Course
 after_fault manner took.Torn = stops (Some stream.TornRequest)
@@ -121,48 +140,52 @@ after_fault manner took.BlobFault = says said.BlobFault manner
 after_fault manner took.NoMemory = without_memory manner
 
 -- a file's body that is stored is put, and the draft of another is given up
-abbrev pub after_take : (repo path : List ℕ) → ℕ → Manner → Stored → Course
-after_take repo path n manner (Ok blob) = asks (put repo path n blob) (after_put n manner)
-after_take repo path n manner (Err fault) = gives_up n (after_fault manner fault)
+abbrev pub after_take : Place → (path : List ℕ) → ℕ → Manner → Stored → Course
+after_take place path n manner (Ok blob) = asks (puts_at place path n blob) (after_put_at place n manner)
+after_take place path n manner (Err fault) = gives_up n (after_fault manner fault)
 
 -- a body that is not read ends the connection
 abbrev pub with_unread : ℕ → Manner → Manner
 with_unread length manner = record manner { close = manner.close || nat_lt 0 length }
 
-abbrev pub after_may_put : (repo path : List ℕ) → ℕ → Bool → Manner → Reply → Course
-after_may_put repo path length expects manner (draft n) =
-    invites expects (gives_up n cut_off) (takes n length (after_take repo path n manner))
-after_may_put repo path length expects manner kind_refused = says said.KindRefused (with_unread length manner)
-after_may_put repo path length expects manner spent = says said.Spent (with_unread length manner)
-after_may_put repo path length expects manner reply = without_memory manner
+abbrev pub after_may_put : Place → (path : List ℕ) → ℕ → Bool → Manner → Reply → Course
+after_may_put place path length expects manner (draft n) =
+    invites expects (gives_up n cut_off) (takes n length (after_take place path n manner))
+after_may_put place path length expects manner no_session = says said.NoSession (with_unread length manner)
+after_may_put place path length expects manner kind_refused = says said.KindRefused (with_unread length manner)
+after_may_put place path length expects manner session_full = says said.SessionFull (with_unread length manner)
+after_may_put place path length expects manner spent = says said.Spent (with_unread length manner)
+after_may_put place path length expects manner reply = without_memory manner
 
 abbrev pub after_put_side : Manner → Reply → Course
 after_put_side manner agreed = says said.Agreed manner
 after_put_side manner (differs sent kept) = says (said.Differs (hex_text sent) (hex_text kept)) manner
 after_put_side manner not_there = says said.NotThere manner
+after_put_side manner no_session = says said.NoSession manner
 after_put_side manner reply = without_memory manner
 
 -- the digest that a side file says is compared; a text that says none is refused
-abbrev pub compares : (repo path : List ℕ) → Manner → Option (List ℕ) → Course
-compares repo path manner (Some digest) = asks (put_side (repository repo) path digest) (after_put_side manner)
-compares repo path manner None = says said.NoDigest manner
+abbrev pub compares : Place → (path : List ℕ) → Manner → Option (List ℕ) → Course
+compares place path manner (Some digest) = asks (put_side place path digest) (after_put_side manner)
+compares place path manner None = says said.NoDigest manner
 
-abbrev pub after_side : (repo path : List ℕ) → Side → Manner → Body → Course
-after_side repo path side manner (Ok bytes) = compares repo path manner (read_side side bytes)
-after_side repo path side manner (Err fault) = after_fault manner fault
+abbrev pub after_side : Place → (path : List ℕ) → Side → Manner → Body → Course
+after_side place path side manner (Ok bytes) = compares place path manner (read_side side bytes)
+after_side place path side manner (Err fault) = after_fault manner fault
 
 abbrev pub after_put_doc : Manner → Reply → Course
 after_put_doc manner noted = says said.Noted manner
+after_put_doc manner no_session = says said.NoSession manner
 after_put_doc manner reply = without_memory manner
 
 -- a document is told to the machine; a text that is none is refused by the place of its first fault
-abbrev pub notes : (repo path : List ℕ) → Manner → Result Document ℕ → Course
-notes repo path manner (Ok document) = asks (put_doc (repository repo) path) (after_put_doc manner)
-notes repo path manner (Err at) = says (said.NoDocument at) manner
+abbrev pub notes : Place → (path : List ℕ) → Manner → Result Document ℕ → Course
+notes place path manner (Ok document) = asks (put_doc place path) (after_put_doc manner)
+notes place path manner (Err at) = says (said.NoDocument at) manner
 
-abbrev pub after_document : (repo path : List ℕ) → Manner → Body → Course
-after_document repo path manner (Ok bytes) = notes repo path manner (reading bytes)
-after_document repo path manner (Err fault) = after_fault manner fault
+abbrev pub after_document : Place → (path : List ℕ) → Manner → Body → Course
+after_document place path manner (Ok bytes) = notes place path manner (reading bytes)
+after_document place path manner (Err fault) = after_fault manner fault
 
 abbrev pub after_status : Manner → Reply → Course
 after_status manner (counts files fading cached documents sessions) = says (said.Counts files fading cached documents sessions) manner
@@ -174,17 +197,42 @@ after_clean manner (Err clean.StoreFault) = says said.StoreFault manner
 after_clean manner (Err clean.BlobFault) = says said.BlobFault manner
 after_clean manner (Err clean.NoMemory) = without_memory manner
 
+abbrev pub after_open : Manner → Reply → Course
+after_open manner (opened n) = says (said.Opened n) manner
+after_open manner sessions_full = says said.TooMany manner
+after_open manner spent = says said.Spent manner
+after_open manner store_fault = says said.StoreFault manner
+after_open manner reply = without_memory manner
+
+-- all files of a session are deployed at once, or none is and it stays open; one that has ended says how
+abbrev pub after_commit : Manner → Reply → Course
+after_commit manner (ended result) = says (said.Ended result) manner
+after_commit manner (offends path kept given) = says (said.Offends path kept given) manner
+after_commit manner (missing_pom directory) = says (said.MissingPom directory) manner
+after_commit manner no_session = says said.NoSession manner
+after_commit manner store_fault = says said.StoreFault manner
+after_commit manner reply = without_memory manner
+
+abbrev pub after_abort : Manner → Reply → Course
+after_abort manner (ended result) = says (said.Ended result) manner
+after_abort manner no_session = says said.NoSession manner
+after_abort manner store_fault = says said.StoreFault manner
+after_abort manner reply = without_memory manner
+
 -- the course by what a request asks for, which expects `100 Continue` before its body or not
 abbrev pub course_for : Manner → Bool → Intent → Course
 course_for manner expects (judged.reads repo path) = asks (look repo path []) (after_look manner)
-course_for manner expects (judged.puts_file repo path length) =
-    asks (may_put (repository repo) path) (after_may_put repo path length expects manner)
-course_for manner expects (judged.puts_side repo path side length) =
-    invites expects cut_off (reads length (after_side repo path side manner))
-course_for manner expects (judged.puts_document repo path length) =
-    invites expects cut_off (reads length (after_document repo path manner))
+course_for manner expects (judged.puts_file place path length) =
+    asks (may_put place path) (after_may_put place path length expects manner)
+course_for manner expects (judged.puts_side place path side length) =
+    invites expects cut_off (reads length (after_side place path side manner))
+course_for manner expects (judged.puts_document place path length) =
+    invites expects cut_off (reads length (after_document place path manner))
 course_for manner expects judged.counts = asks status (after_status manner)
 course_for manner expects (judged.cleans repos) = cleans repos (after_clean manner)
+course_for manner expects (judged.opens repo) = asks (open_session repo) (after_open manner)
+course_for manner expects (judged.commits n) = asks (commit n) (after_commit manner)
+course_for manner expects (judged.aborts n) = asks (abort n) (after_abort manner)
 
 -- the course of a request, which may be the last of its connection
 abbrev pub course : Judged → Bool → Course

@@ -4,13 +4,13 @@ use crate::outcomes::{End, Sent};
 use crate::said::Said;
 use mvn_coords::Side;
 use outside::{Held, Parcel};
-use repo_model::Command;
+use repo_model::{Command, Place};
 use texts::{Text, Texts};
 
 /// The body of a file, of `length` bytes, to be stored under a draft and put at its path.
 #[derive(Drop)]
 pub struct FileBody {
-    pub repo: Text,
+    pub place: Place,
     pub path: Text,
     pub draft: u64,
     pub length: u64,
@@ -26,7 +26,7 @@ pub enum Form {
 /// A small body of `length` bytes, sent to a path.
 #[derive(Drop)]
 pub struct SmallBody {
-    pub repo: Text,
+    pub place: Place,
     pub path: Text,
     pub form: Form,
     pub length: u64,
@@ -48,7 +48,7 @@ pub enum After {
     Done(Sent),
     /// A draft for a body of so many bytes, which is asked for by `100 Continue` or not.
     MayPut {
-        repo: Text,
+        place: Place,
         path: Text,
         length: u64,
         expects: bool,
@@ -57,12 +57,22 @@ pub enum After {
     Put {
         draft: u64,
     },
+    /// That the blob stored under the draft is the session's file at its path.
+    Stage {
+        draft: u64,
+    },
     /// What the digest of a side file is beside that of its file.
     PutSide,
     /// That a document was heard of.
     PutDoc,
     /// How much there is.
     Status,
+    /// That a session is open.
+    Open,
+    /// That all files of a session are deployed.
+    Commit,
+    /// That a session is given up.
+    Abort,
     /// That a draft is given up, behind which the answer says so.
     Say(Said),
     /// The same where the stream ends so.

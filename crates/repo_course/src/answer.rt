@@ -1,17 +1,19 @@
 //! The bytes of the answers.
 ghost use Rattle.std.specs.Prelude.{◌≡◌, ◌++◌, IfOk, OnOk, codes};
+ghost use Rattle.std.specs.Fmt.{decimal};
 ghost use Rattle.http_wire.specs.Answer.{shown};
+ghost use Rattle.http_wire.specs.declared.answers.Status.TheVariants as status;
 ghost use Rattle.mvn_coords.specs.Fault.{name_of_fault};
 ghost use Rattle.repo_routes.specs.declared.refusal.Refusal.TheVariants as refused;
 ghost use Rattle.repo_model.specs.Shown.{shown_parcel};
-ghost use Rattle.repo_course.specs.Answers.{answer_of, cleaned_text, count_line, counts_text, differs_text, file_answer, full_answer, in_manner, line_answer, methods_text, print_text, refusal_answer, taken_text, text_answer};
+ghost use Rattle.repo_course.specs.Answers.{answer_of, cleaned_text, count_line, counts_text, differs_text, file_answer, full_answer, in_manner, line_answer, methods_text, no_session_answer, offends_text, print_text, prints_text, refusal_answer, result_text, taken_text, text_answer};
 
 use crate::manner::Manner;
 use crate::said::Said;
 use http_wire::{Answer, Content, Status, render};
 use mvn_coords::PathFault;
 use outside::{Held, Parcel};
-use repo_model::Print;
+use repo_model::{Print, SessionResult};
 use repo_routes::{Allow, Refusal};
 use std::alloc::{AllocError, Global};
 use texts::{Bytes, Text};
@@ -83,6 +85,13 @@ fn path_answer(alloc: Global, status: Status, fault: PathFault) -> Result<Answer
     named_answer(alloc, status, b"path ", fault.name().as_bytes())
 }
 
+/// The answer where no session of a number is there.
+fn no_session_answer(alloc: Global) -> Result<Answer, AllocError>
+    ensures { IfOk result (λ answer. answer ≡ no_session_answer) }
+{
+    line_answer(alloc, Status::NotFound, b"no-session")
+}
+
 /// The answer to a head that is refused.
 fn refusal_answer(alloc: Global, refusal: Refusal) -> Result<Answer, AllocError>
     ensures { IfOk result (λ answer. answer ≡ refusal_answer refusal) }
@@ -96,6 +105,8 @@ fn refusal_answer(alloc: Global, refusal: Refusal) -> Result<Answer, AllocError>
         Refusal::NoRepository => line_answer(alloc, Status::NotFound, b"no-repository"),
         Refusal::Method(methods) => method_answer(alloc, methods),
         Refusal::UnexpectedBody => line_answer(alloc, Status::BadRequest, b"unexpected-body"),
+        Refusal::NoSession => no_session_answer(alloc),
+        Refusal::Unread => line_answer(alloc, Status::NotFound, b"unread"),
         Refusal::BadPath(fault) => path_answer(alloc, Status::BadRequest, fault),
         Refusal::NoPath(fault) => path_answer(alloc, Status::NotFound, fault),
         Refusal::TooLarge(limit) => {
@@ -121,15 +132,67 @@ fn push_print(alloc: Global, text: &mut Vec<u8>, print: &Print) -> Result<(), Al
     text.extend_from_slice(&print.digests.md5_text())
 }
 
+/// Adds what is kept, and what was sent.
+fn push_prints(
+    alloc: Global,
+    text: &mut Vec<u8>,
+    kept: &Print,
+    sent: &Print,
+) -> Result<(), AllocError>
+    ensures { OnOk result (text.new.items ≡ text.old.items ++ prints_text kept.now sent.now) }
+{
+    text.extend_from_slice(b"kept ")?;
+    push_print(alloc, text, kept)?;
+    text.extend_from_slice(b" sent ")?;
+    push_print(alloc, text, sent)
+}
+
 /// The text that a path has a file of another content.
 fn taken_text(alloc: Global, kept: &Print, sent: &Print) -> Result<Vec<u8>, AllocError>
     ensures { IfOk result (λ text. text.items ≡ taken_text kept.now sent.now) }
 {
-    let mut text = Vec::from_slice(alloc, b"taken kept ")?;
-    push_print(alloc, &mut text, kept)?;
-    text.extend_from_slice(b" sent ")?;
-    push_print(alloc, &mut text, sent)?;
+    let mut text = Vec::from_slice(alloc, b"taken ")?;
+    push_prints(alloc, &mut text, kept, sent)?;
     Ok(text)
+}
+
+/// The text that this path of a session has a file of another content.
+fn offends_text(
+    alloc: Global,
+    path: &[u8],
+    kept: &Print,
+    sent: &Print,
+) -> Result<Vec<u8>, AllocError>
+    ensures { IfOk result (λ text. text.items ≡ offends_text path.now kept.now sent.now) }
+{
+    let mut text = Vec::from_slice(alloc, b"offends ")?;
+    text.extend_from_slice(path)?;
+    text.push(b' ')?;
+    push_prints(alloc, &mut text, kept, sent)?;
+    Ok(text)
+}
+
+/// An answer with a name and a number.
+fn number_answer(
+    alloc: Global,
+    status: Status,
+    name: &[u8],
+    number: u64,
+) -> Result<Answer, AllocError>
+    ensures { IfOk result (λ answer. answer ≡ line_answer status (name.now ++ decimal number)) }
+{
+    let number = number.to_string(alloc)?;
+    named_answer(alloc, status, name, number.as_bytes())
+}
+
+/// The answer that a session has ended so.
+fn ended_answer(alloc: Global, how: SessionResult) -> Result<Answer, AllocError>
+    ensures { IfOk result (λ answer. answer ≡ line_answer status.Ok (result_text how)) }
+{
+    match how {
+        SessionResult::Aborted => line_answer(alloc, Status::Ok, b"aborted"),
+        SessionResult::Done(count) => number_answer(alloc, Status::Ok, b"done ", count),
+    }
 }
 
 /// The text that a side file says another digest than its file has.
@@ -237,6 +300,20 @@ fn full_answer(alloc: Global, said: Said) -> Result<Answer, AllocError>
             let text = cleaned_text(alloc, unlisted, removed)?;
             Ok(text_answer(Status::Ok, Bytes::from_vec(text)))
         }
+        Said::NoSession => no_session_answer(alloc),
+        Said::TooMany => line_answer(alloc, Status::TooManyRequests, b"sessions-full"),
+        Said::Opened(number) => number_answer(alloc, Status::Created, b"session ", number),
+        Said::SessionFull => line_answer(alloc, Status::TooManyRequests, b"session-full"),
+        Said::Staged => line_answer(alloc, Status::Created, b"staged"),
+        Said::Offends { path, kept, sent } => {
+            let text = offends_text(alloc, path.as_str().as_bytes(), &kept, &sent)?;
+            line_answer(alloc, Status::Conflict, text.as_slice())
+        }
+        Said::MissingPom { dir } => {
+            let dir = dir.as_str().as_bytes();
+            named_answer(alloc, Status::Conflict, b"missing-pom ", dir)
+        }
+        Said::Ended(how) => ended_answer(alloc, how),
         Said::NoDraft => line_answer(alloc, Status::InternalServerError, b"no-draft"),
         Said::Spent => line_answer(alloc, Status::InternalServerError, b"spent"),
         Said::StoreFault => line_answer(alloc, Status::ServiceUnavailable, b"store-fault"),

@@ -1,9 +1,10 @@
 //! What follows a body, and the `100 Continue` before it.
 ghost use Rattle.std.specs.Prelude.{◌≡◌, ◌<◌, ◌⊎◌, Ok};
 ghost use Rattle.repo_model.specs.Reply.{Reply};
+ghost use Rattle.repo_model.specs.Shown.{shown_parcel, shown_place};
 ghost use Rattle.repo_course.specs.declared.manner.Manner.{Manner as AnyManner};
 ghost use Rattle.repo_course.specs.Acts.{IsAfterBody, after_reply, left_of, left_of_body, left_uninvited, rank_after, rank_of, shown_stored};
-ghost use Rattle.repo_course.specs.Course.{after_continue, after_document, after_fault, after_side, after_take, without_memory};
+ghost use Rattle.repo_course.specs.Course.{after_continue, after_document, after_fault, after_put_at, after_side, after_take, asks, puts_at, without_memory};
 
 use crate::act::{Act, After, Coming, FileBody, Form, SmallBody};
 use crate::manner::Manner;
@@ -51,22 +52,42 @@ fn after_drop(fault: Took) -> After
     }
 }
 
-/// What follows the taking of a file's body: it is put, or its draft given up.
-pub fn after_take<H: Held>(manner: Manner, body: FileBody, taken: Result<Parcel<H>, Took>) -> Act<H>
-    ensures left { left_of manner result ≡ after_take body.repo body.path body.draft manner (shown_stored taken) }
-    ensures shorter { rank_of result < 5 }
+/// Makes a stored body the file at a path of a place.
+fn put_at<H: Held>(place: Place, path: Text, draft: u64, parcel: Parcel<H>) -> Act<H>
+    ensures left { (manner : AnyManner) → left_of manner result
+        ≡ asks (puts_at (shown_place place) path draft (shown_parcel parcel)) (after_put_at (shown_place place) draft manner) }
+    ensures rank { rank_of result ≡ 4 }
 {
-    let draft = body.draft;
-    match taken {
-        Ok(parcel) => {
+    match place {
+        Place::Repository(repo) => {
             let put = Command::Put {
-                repo: body.repo,
-                path: body.path,
+                repo,
+                path,
                 draft,
                 parcel,
             };
             Act::Ask(put, After::Put { draft })
         }
+        Place::Session(session) => {
+            let stage = Command::Stage {
+                session,
+                path,
+                draft,
+                parcel,
+            };
+            Act::Ask(stage, After::Stage { draft })
+        }
+    }
+}
+
+/// What follows the taking of a file's body: it is put, or its draft given up.
+pub fn after_take<H: Held>(manner: Manner, body: FileBody, taken: Result<Parcel<H>, Took>) -> Act<H>
+    ensures left { left_of manner result ≡ after_take (shown_place body.place) body.path body.draft manner (shown_stored taken) }
+    ensures shorter { rank_of result < 5 }
+{
+    let draft = body.draft;
+    match taken {
+        Ok(parcel) => put_at(body.place, body.path, draft, parcel),
         Err(fault) => Act::Ask(Command::Drop { draft }, after_drop(fault)),
     }
 }
@@ -85,15 +106,12 @@ fn after_fault<H: Held>(manner: Manner, fault: Took) -> Act<H>
 }
 
 /// What follows the body of a side file: the digest that it says is compared, or it is refused.
-fn after_side<H: Held>(manner: Manner, repo: Text, path: Text, side: Side, text: &[u8]) -> Act<H>
-    ensures left { left_of manner result ≡ after_side repo path side manner (Ok text.now) }
+fn after_side<H: Held>(manner: Manner, place: Place, path: Text, side: Side, text: &[u8]) -> Act<H>
+    ensures left { left_of manner result ≡ after_side (shown_place place) path side manner (Ok text.now) }
     ensures shorter { rank_of result < 5 }
 {
     match read_side(text, side) {
-        Some(said) => {
-            let place = Place::Repository(repo);
-            Act::Ask(Command::PutSide { place, path, said }, After::PutSide)
-        }
+        Some(said) => Act::Ask(Command::PutSide { place, path, said }, After::PutSide),
         None => say(Said::NoDigest, manner),
     }
 }
@@ -102,18 +120,15 @@ fn after_side<H: Held>(manner: Manner, repo: Text, path: Text, side: Side, text:
 fn after_document<H: Held>(
     alloc: Global,
     manner: Manner,
-    repo: Text,
+    place: Place,
     path: Text,
     text: &[u8],
 ) -> Act<H>
-    ensures left { (left_of manner result ≡ after_document repo path manner (Ok text.now)) ⊎ (left_of manner result ≡ without_memory manner) }
+    ensures left { (left_of manner result ≡ after_document (shown_place place) path manner (Ok text.now)) ⊎ (left_of manner result ≡ without_memory manner) }
     ensures shorter { rank_of result < 5 }
 {
     match mvn_doc::read(alloc, text) {
-        Ok(_) => {
-            let place = Place::Repository(repo);
-            Act::Ask(Command::PutDoc { place, path }, After::PutDoc)
-        }
+        Ok(_) => Act::Ask(Command::PutDoc { place, path }, After::PutDoc),
         Err(DocFault::BadDocument { at }) => say(Said::NoDocument { at }, manner),
         Err(DocFault::NoMemory) => no_memory(manner),
     }
@@ -131,8 +146,14 @@ pub fn after_read<H: Held>(
 {
     match read {
         Ok(bytes) => match body.form {
-            Form::Side(side) => after_side(manner, body.repo, body.path, side, bytes.as_slice()),
-            Form::Document => after_document(alloc, manner, body.repo, body.path, bytes.as_slice()),
+            Form::Side(side) => after_side(manner, body.place, body.path, side, bytes.as_slice()),
+            Form::Document => after_document(
+                alloc,
+                manner,
+                body.place,
+                body.path,
+                bytes.as_slice(),
+            ),
         },
         Err(fault) => after_fault(manner, fault),
     }

@@ -2,6 +2,7 @@
 ghost use Rattle.std.specs.Prelude.{◌≡◌, ◌⊎◌, IfOk, Some, Ok};
 ghost use Rattle.http_wire.specs.Head.{Head};
 ghost use Rattle.repo_config.specs.Form.{IsSettings};
+ghost use Rattle.repo_model.specs.Shown.{shown_place};
 ghost use Rattle.repo_routes.specs.Framing.{is_head};
 ghost use Rattle.repo_routes.specs.Intent.{reads, puts_file, puts_side, puts_document};
 ghost use Rattle.repo_routes.specs.Judge.{IsJudged, judge};
@@ -24,24 +25,31 @@ use repo_routes::{Intent, Judged, Refused, Routes, judge};
 use std::alloc::{AllocError, Global};
 use texts::Text;
 
+/// The same place once more.
+fn place_again(alloc: Global, place: &Place) -> Result<Place, AllocError>
+    ensures { IfOk result (λ again. shown_place again ≡ shown_place place.now) }
+{
+    match place {
+        Place::Repository(repo) => Ok(Place::Repository(repo.copied(alloc)?)),
+        Place::Session(number) => Ok(Place::Session(*number)),
+    }
+}
+
 /// The first act of a PUT of a file. The second command of its course names the same place, of which there is a copy.
 fn may_put<H: Held>(
     alloc: Global,
-    repo: Text,
+    place: Place,
     path: Text,
     length: u64,
     expects: bool,
 ) -> Result<Act<H>, AllocError>
-    ensures { IfOk result (λ act. (manner : AnyManner) → left_of manner act ≡ course_for manner expects (puts_file repo path length)) }
+    ensures { IfOk result (λ act. (manner : AnyManner) → left_of manner act ≡ course_for manner expects (puts_file (shown_place place) path length)) }
 {
-    let repo_again = repo.copied(alloc)?;
+    let place_again = place_again(alloc, &place)?;
     let path_again = path.copied(alloc)?;
-    let may_put = Command::MayPut {
-        place: Place::Repository(repo),
-        path,
-    };
+    let may_put = Command::MayPut { place, path };
     let after = After::MayPut {
-        repo: repo_again,
+        place: place_again,
         path: path_again,
         length,
         expects,
@@ -55,9 +63,13 @@ fn first_act<H: Held>(alloc: Global, intent: Intent, expects: bool) -> Result<Ac
 {
     match intent {
         Intent::Read { repo, path } => Ok(Act::Ask(Command::Look { repo, path }, After::Look)),
-        Intent::PutFile { repo, path, length } => may_put(alloc, repo, path, length, expects),
+        Intent::PutFile {
+            place,
+            path,
+            length,
+        } => may_put(alloc, place, path, length, expects),
         Intent::PutSide {
-            repo,
+            place,
             path,
             side,
             length,
@@ -66,19 +78,23 @@ fn first_act<H: Held>(alloc: Global, intent: Intent, expects: bool) -> Result<Ac
             Ok(invite(
                 expects,
                 Coming::Small(SmallBody {
-                    repo,
+                    place,
                     path,
                     form,
                     length,
                 }),
             ))
         }
-        Intent::PutDocument { repo, path, length } => {
+        Intent::PutDocument {
+            place,
+            path,
+            length,
+        } => {
             let form = Form::Document;
             Ok(invite(
                 expects,
                 Coming::Small(SmallBody {
-                    repo,
+                    place,
                     path,
                     form,
                     length,
@@ -87,6 +103,9 @@ fn first_act<H: Held>(alloc: Global, intent: Intent, expects: bool) -> Result<Ac
         }
         Intent::Status => Ok(Act::Ask(Command::Status, After::Status)),
         Intent::Clean(repos) => Ok(Act::Clean(repos)),
+        Intent::Open(repo) => Ok(Act::Ask(Command::Open { repo }, After::Open)),
+        Intent::Commit(session) => Ok(Act::Ask(Command::Commit { session }, After::Commit)),
+        Intent::Abort(session) => Ok(Act::Ask(Command::Abort { session }, After::Abort)),
     }
 }
 

@@ -1,7 +1,7 @@
 use mvn_digest::{Digests, SideText};
-use repo_model::Print;
+use repo_model::{Print, SessionResult};
 use repo_routes::Refusal;
-use texts::Bytes;
+use texts::{Bytes, Text};
 
 /// What an answer says, whatever its bytes: the outcome of a request, or the cause of its refusal.
 #[derive(Drop)]
@@ -62,6 +62,28 @@ pub enum Said {
         unlisted: u64,
         removed: u64,
     },
+    /// No deployment session is open under the number; none was opened, where a commit or an abort is answered so.
+    NoSession,
+    /// 64 sessions are open.
+    TooMany,
+    /// A session is open under this number.
+    Opened(u64),
+    /// The session has 1,000 files, and none at the path.
+    SessionFull,
+    /// The body is the session's file at the path.
+    Staged,
+    /// The first path of a session that has a file of another content.
+    Offends {
+        path: Text,
+        kept: Print,
+        sent: Print,
+    },
+    /// The first directory of a release that would have files of the session, and no pom.
+    MissingPom {
+        dir: Text,
+    },
+    /// The session has ended so.
+    Ended(SessionResult),
     /// The number that the body was stored under is no draft.
     NoDraft,
     /// The next number to draw is 2^63.

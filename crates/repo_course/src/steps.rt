@@ -3,10 +3,10 @@ ghost use Rattle.std.specs.Prelude.{◌≡◌, ◌<◌, ◌+◌};
 ghost use Rattle.mvn_digest.specs.Hex.{hex_text};
 ghost use Rattle.mvn_digest.specs.Sides.{bytes_in};
 ghost use Rattle.repo_model.specs.Command.{done};
-ghost use Rattle.repo_model.specs.Shown.{shown_reply};
+ghost use Rattle.repo_model.specs.Shown.{shown_place, shown_reply};
 ghost use Rattle.repo_course.specs.declared.manner.Manner.{Manner as AnyManner};
 ghost use Rattle.repo_course.specs.Acts.{after_reply, left_of, left_of_body, left_uninvited, rank_after, rank_of};
-ghost use Rattle.repo_course.specs.Course.{after_clean, after_look, after_may_put, after_put, after_put_doc, after_put_side, after_send, after_status, asks, invites, says, without_memory};
+ghost use Rattle.repo_course.specs.Course.{after_abort, after_clean, after_commit, after_look, after_may_put, after_open, after_put, after_put_doc, after_put_side, after_send, after_stage, after_status, asks, invites, says, without_memory};
 
 use crate::act::{Act, After, Coming, FileBody};
 use crate::manner::Manner;
@@ -15,7 +15,7 @@ use crate::said::Said;
 use mvn_coords::Side;
 use mvn_digest::{Digest, Digests, MD5_BYTES, SHA1_BYTES, SideText, side_text};
 use outside::{Held, Parcel};
-use repo_model::{Command, Reply};
+use repo_model::{Command, Place, Reply};
 use texts::Text;
 
 /// An answer in a manner.
@@ -79,27 +79,29 @@ fn after_done<H: Held>(manner: Manner, sent: Sent) -> Act<H>
 
 fn after_may_put<H: Held>(
     manner: Manner,
-    repo: Text,
+    place: Place,
     path: Text,
     length: u64,
     expects: bool,
     reply: Reply<H>,
 ) -> Act<H>
-    ensures left { left_of manner result ≡ after_may_put repo path length expects manner (shown_reply reply) }
+    ensures left { left_of manner result ≡ after_may_put (shown_place place) path length expects manner (shown_reply reply) }
     ensures shorter { rank_of result < 7 }
 {
     let unread = manner.with_unread(length);
     match reply {
         Reply::Draft(draft) => {
             let body = FileBody {
-                repo,
+                place,
                 path,
                 draft,
                 length,
             };
             invite(expects, Coming::File(body))
         }
+        Reply::NoSession => say(Said::NoSession, unread),
         Reply::KindRefused => say(Said::KindRefused, unread),
+        Reply::SessionFull => say(Said::SessionFull, unread),
         Reply::Spent => say(Said::Spent, unread),
         _ => no_memory(manner),
     }
@@ -116,6 +118,21 @@ fn after_put<H: Held>(manner: Manner, draft: u64, reply: Reply<H>) -> Act<H>
         Reply::Taken { kept, sent } => say(Said::Taken { kept, sent }, manner),
         Reply::NoDraft => Act::Ask(Command::Drop { draft }, After::Say(Said::NoDraft)),
         Reply::StoreFault => Act::Ask(Command::Drop { draft }, After::Say(Said::StoreFault)),
+        _ => Act::Ask(Command::Drop { draft }, After::NoMemory),
+    }
+}
+
+fn after_stage<H: Held>(manner: Manner, draft: u64, reply: Reply<H>) -> Act<H>
+    ensures left { left_of manner result ≡ after_stage draft manner (shown_reply reply) }
+    ensures shorter { rank_of result < 3 }
+{
+    match reply {
+        Reply::Staged => say(Said::Staged, manner),
+        Reply::Same => say(Said::Same, manner),
+        Reply::Taken { kept, sent } => say(Said::Taken { kept, sent }, manner),
+        Reply::SessionFull => say(Said::SessionFull, manner),
+        Reply::NoSession => say(Said::NoSession, manner),
+        Reply::NoDraft => Act::Ask(Command::Drop { draft }, After::Say(Said::NoDraft)),
         _ => Act::Ask(Command::Drop { draft }, After::NoMemory),
     }
 }
@@ -156,6 +173,7 @@ fn after_put_side<H: Held>(manner: Manner, reply: Reply<H>) -> Act<H>
             say(differs, manner)
         }
         Reply::NotThere => say(Said::NotThere, manner),
+        Reply::NoSession => say(Said::NoSession, manner),
         _ => no_memory(manner),
     }
 }
@@ -166,6 +184,7 @@ fn after_put_doc<H: Held>(manner: Manner, reply: Reply<H>) -> Act<H>
 {
     match reply {
         Reply::Noted => say(Said::Noted, manner),
+        Reply::NoSession => say(Said::NoSession, manner),
         _ => no_memory(manner),
     }
 }
@@ -195,6 +214,45 @@ fn after_status<H: Held>(manner: Manner, reply: Reply<H>) -> Act<H>
     }
 }
 
+fn after_open<H: Held>(manner: Manner, reply: Reply<H>) -> Act<H>
+    ensures left { left_of manner result ≡ after_open manner (shown_reply reply) }
+    ensures rank { rank_of result ≡ 0 }
+{
+    match reply {
+        Reply::Opened(number) => say(Said::Opened(number), manner),
+        Reply::TooMany => say(Said::TooMany, manner),
+        Reply::Spent => say(Said::Spent, manner),
+        Reply::StoreFault => say(Said::StoreFault, manner),
+        _ => no_memory(manner),
+    }
+}
+
+fn after_commit<H: Held>(manner: Manner, reply: Reply<H>) -> Act<H>
+    ensures left { left_of manner result ≡ after_commit manner (shown_reply reply) }
+    ensures rank { rank_of result ≡ 0 }
+{
+    match reply {
+        Reply::Ended(how) => say(Said::Ended(how), manner),
+        Reply::Offends { path, kept, sent } => say(Said::Offends { path, kept, sent }, manner),
+        Reply::MissingPom { dir } => say(Said::MissingPom { dir }, manner),
+        Reply::NoSession => say(Said::NoSession, manner),
+        Reply::StoreFault => say(Said::StoreFault, manner),
+        _ => no_memory(manner),
+    }
+}
+
+fn after_abort<H: Held>(manner: Manner, reply: Reply<H>) -> Act<H>
+    ensures left { left_of manner result ≡ after_abort manner (shown_reply reply) }
+    ensures rank { rank_of result ≡ 0 }
+{
+    match reply {
+        Reply::Ended(how) => say(Said::Ended(how), manner),
+        Reply::NoSession => say(Said::NoSession, manner),
+        Reply::StoreFault => say(Said::StoreFault, manner),
+        _ => no_memory(manner),
+    }
+}
+
 /// What follows the reply that a course waited for.
 pub fn after_reply<H: Held>(manner: Manner, after: After, reply: Reply<H>) -> Act<H>
     ensures left { left_of manner result ≡ after_reply manner after (shown_reply reply) }
@@ -204,15 +262,19 @@ pub fn after_reply<H: Held>(manner: Manner, after: After, reply: Reply<H>) -> Ac
         After::Look => after_look(manner, reply),
         After::Done(sent) => after_done(manner, sent),
         After::MayPut {
-            repo,
+            place,
             path,
             length,
             expects,
-        } => after_may_put(manner, repo, path, length, expects, reply),
+        } => after_may_put(manner, place, path, length, expects, reply),
         After::Put { draft } => after_put(manner, draft, reply),
+        After::Stage { draft } => after_stage(manner, draft, reply),
         After::PutSide => after_put_side(manner, reply),
         After::PutDoc => after_put_doc(manner, reply),
         After::Status => after_status(manner, reply),
+        After::Open => after_open(manner, reply),
+        After::Commit => after_commit(manner, reply),
+        After::Abort => after_abort(manner, reply),
         After::Say(said) => say(said, manner),
         After::Stop(end) => Act::Stop(Some(end)),
         After::NoMemory => no_memory(manner),

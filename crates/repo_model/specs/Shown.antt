@@ -10,7 +10,7 @@ use Rattle.repo_model.specs.Command as asked
 use Rattle.repo_model.specs.Reply as answered
 use Rattle.repo_model.specs.History.{Entry}
 use Rattle.repo_model.specs.declared.command.Command.{Command}
-use Rattle.repo_model.specs.declared.command.Command.TheVariants.{Look, Done, MayPut, Put, PutSide, PutDoc, Drop, Unlist, Collect, Status}
+use Rattle.repo_model.specs.declared.command.Command.TheVariants.{Look, Done, MayPut, Put, PutSide, PutDoc, Drop, Open, Stage, Commit, Abort, Unlist, Collect, Status}
 use Rattle.repo_model.specs.declared.command.Place.{Place}
 use Rattle.repo_model.specs.declared.command.Place.TheVariants.{Repository, Session}
 use Rattle.repo_model.specs.declared.reply.Reply.{Reply}
@@ -36,6 +36,10 @@ shown_command (Put repo path draft parcel) = asked.put repo path draft (shown_pa
 shown_command (PutSide place path said) = asked.put_side (shown_place place) path (bytes_in said)
 shown_command (PutDoc place path) = asked.put_doc (shown_place place) path
 shown_command (Drop draft) = asked.drop_draft draft
+shown_command (Open repo) = asked.open_session repo
+shown_command (Stage session path draft parcel) = asked.stage session path draft (shown_parcel parcel)
+shown_command (Commit session) = asked.commit session
+shown_command (Abort session) = asked.abort session
 shown_command (Unlist repo) = asked.unlist repo
 shown_command Collect = asked.collect
 shown_command Status = asked.status
@@ -58,6 +62,13 @@ shown_reply (given.Differs said kept) = answered.differs (bytes_in said) (bytes_
 shown_reply given.Agreed = answered.agreed
 shown_reply given.Noted = answered.noted
 shown_reply given.NoSession = answered.no_session
+shown_reply given.TooMany = answered.sessions_full
+shown_reply (given.Opened number) = answered.opened number
+shown_reply given.SessionFull = answered.session_full
+shown_reply given.Staged = answered.staged
+shown_reply (given.Offends path kept sent) = answered.offends path kept sent
+shown_reply (given.MissingPom directory) = answered.missing_pom directory
+shown_reply (given.Ended result) = answered.ended result
 shown_reply given.Dropped = answered.dropped
 shown_reply (given.Unlisted number) = answered.unlisted number
 shown_reply (given.Collected expired blobs) = answered.collected expired blobs

@@ -50,6 +50,25 @@ pub enum Command<H: Held> {
     Drop {
         draft: u64,
     },
+    /// Opens a deployment session for a repository.
+    Open {
+        repo: Text,
+    },
+    /// Makes the blob stored under a draft a file of a session, at a path.
+    Stage {
+        session: u64,
+        path: Text,
+        draft: u64,
+        parcel: Parcel<H>,
+    },
+    /// Deploys all files of a session at once, and ends it.
+    Commit {
+        session: u64,
+    },
+    /// Gives a session up with all its files, and ends it.
+    Abort {
+        session: u64,
+    },
     /// Unlists the files of a repository that belong to builds which it no longer keeps, at most 1,000,000.
     Unlist {
         repo: Text,

@@ -1,9 +1,10 @@
 //! What the repository replies.
 use crate::blobs::Numbers;
 use crate::print::Print;
+use crate::session::SessionResult;
 use mvn_digest::{Digest, Digests, SideText};
 use outside::{Held, Parcel};
-use texts::Bytes;
+use texts::{Bytes, Text};
 
 /// What the repository answers.
 #[derive(Drop)]
@@ -54,6 +55,27 @@ pub enum Reply<H: Held> {
     Noted,
     /// No deployment session is open under the number.
     NoSession,
+    /// 64 deployment sessions are open.
+    TooMany,
+    /// A deployment session is open under this number.
+    Opened(u64),
+    /// The session has 1,000 files, and none at the path. A draft that was named is given up.
+    SessionFull,
+    /// The blob is the session's file at the path.
+    Staged,
+    /// The first path of a session that has a file of another content. Nothing is deployed, and the session stays open.
+    Offends {
+        path: Text,
+        kept: Print,
+        sent: Print,
+    },
+    /// The first directory of a release that would have files of the session, and no pom. Nothing is deployed, and the
+    /// session stays open.
+    MissingPom {
+        dir: Text,
+    },
+    /// The session has ended so, now or before.
+    Ended(SessionResult),
     /// The draft is given up, or there was none of that number.
     Dropped,
     /// So many files are unlisted.

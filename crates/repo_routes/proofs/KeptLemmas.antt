@@ -8,7 +8,8 @@ use Rattle.mvn_coords.specs.declared.kind.Kind.TheVariants.{File, FileSide, Doc,
 use Rattle.mvn_coords.specs.declared.fault.PathFault.{PathFault}
 use Rattle.mvn_coords.specs.declared.fault.Side.{Side}
 use Rattle.http_wire.specs.Head.{Head}
-use Rattle.repo_model.specs.Command.{is_there, names_document, names_something}
+use Rattle.repo_model.specs.Command.{is_place, is_there, names_document, names_something}
+use Rattle.repo_model.specs.Data.{Place, repository, session}
 use Rattle.repo_model.specs.Paths.{file_in}
 use Rattle.repo_model.specs.Settings.{Settings}
 use Rattle.repo_routes.specs.declared.paths.Thing.{Thing}
@@ -16,9 +17,10 @@ use Rattle.repo_routes.specs.declared.paths.Thing.TheVariants as thing
 use Rattle.repo_routes.specs.declared.refusal.Refusal.{Refusal}
 use Rattle.repo_routes.specs.Framing.{check_host, is_put, length_of}
 use Rattle.repo_routes.specs.Intent.{Intent}
-use Rattle.repo_routes.specs.Judge.{IsIntent, check_body, intent_of, intent_on}
-use Rattle.repo_routes.specs.Paths.{asked_at, check_limit, decoded, intent_at, limit_of, path_refusal, put_at, put_of, side_of, thing_at, thing_or}
-use Rattle.repo_routes.specs.Routes.{Route, in_repository, status, clean, check_method, check_repository, has_repository, route_of}
+use Rattle.repo_routes.specs.Judge.{IsIntent, check_body, in_repo, intent_of, intent_on, into_session, of_session}
+use Rattle.repo_routes.specs.Paths.{check_limit, decoded, limit_of, path_refusal, put_at, put_of, put_to, read_from, side_of, thing_at, thing_or}
+use Rattle.repo_routes.specs.Routes.{Route, in_repository, sessions, in_session, commit, abort, status, clean, check_method, check_repository, has_repository, route_of}
+use Rattle.repo_routes.specs.Numbers.{session_of}
 use Rattle.repo_routes.specs.Steps.{◌>>=◌, need}
 use Rattle.repo_routes.specs.Target.{target_path}
 
@@ -58,36 +60,62 @@ side-named cause (Ok (Doc d)) side e = cc
 side-named cause (Ok (DocSide d other)) side e = cc
 side-named cause (Err fault) side e = cc
 
-put-kept : (settings : Settings) (cause : PathFault → Refusal) (repo path : List ℕ) (length : ℕ) (what : Thing) → is_there repo settings ≡ true
-    → thing_or cause (kind path) ≡ Ok what → length ≤ limit_of settings what → IsIntent settings (put_of repo path length what)
+put-kept : (settings : Settings) (cause : PathFault → Refusal) (place : Place) (path : List ℕ) (length : ℕ) (what : Thing) → is_place place settings ≡ true
+    → thing_or cause (kind path) ≡ Ok what → length ≤ limit_of settings what → IsIntent settings (put_of place path length what)
 unfolding limit_of
-put-kept settings cause repo path length thing.File there e fits = (there, file-named cause (kind path) e, fits)
-put-kept settings cause repo path length thing.Document there e fits = (there, document-named cause (kind path) e, fits)
-put-kept settings cause repo path length (thing.Side side) there e fits = (there, side-named cause (kind path) side e, fits)
+put-kept settings cause place path length thing.File there e fits = (there, file-named cause (kind path) e, fits)
+put-kept settings cause place path length thing.Document there e fits = (there, document-named cause (kind path) e, fits)
+put-kept settings cause place path length (thing.Side side) there e fits = (there, side-named cause (kind path) side e, fits)
 
 within-limit : (limit length : ℕ) → check_limit limit length ≡ Ok tt → length ≤ limit
 unfolding check_limit
 within-limit limit length e = let h : nat_le length limit ≡ true = needed _ _ e in grind (arith, nat_tests)
 
-asked-kept : (settings : Settings) (cause : PathFault → Refusal) (put : Bool) (repo path : List ℕ) (length : ℕ) (what : Thing) → is_there repo settings ≡ true
-    → thing_or cause (kind path) ≡ Ok what → IfOk (cond put (put_at settings repo path length what) (Ok (Intent.reads repo path))) (IsIntent settings)
-unfolding put_at
-asked-kept settings cause true repo path length what there e =
-    kept-then (check_limit (limit_of settings what) length) (λ _. Ok (put_of repo path length what)) (IsIntent settings)
-    (λ u fits. put-kept settings cause repo path length what there e (within-limit _ _ fits))
-asked-kept settings cause false repo path length what there e = (there, something-named cause (kind path) what e)
-
-at-kept : (settings : Settings) (head : Head) (length : ℕ) (repo written : List ℕ) → is_there repo settings ≡ true
-    → IfOk (intent_at settings head length repo written) (IsIntent settings)
-unfolding intent_at thing_at asked_at
-at-kept settings head length repo written there =
+to-kept : (settings : Settings) (head : Head) (length : ℕ) (place : Place) (written : List ℕ) → is_place place settings ≡ true
+    → IfOk (put_to settings head length place written) (IsIntent settings)
+unfolding put_to thing_at put_at
+to-kept settings head length place written there =
     kept-then (decoded head written) _ (IsIntent settings)
     (λ path _. kept-then (thing_at head path) _ (IsIntent settings)
-    (λ what e. asked-kept settings (path_refusal head) (is_put head) repo path length what there e))
+    (λ what e. kept-then (check_limit (limit_of settings what) length) (λ _. Ok (put_of place path length what)) (IsIntent settings)
+    (λ u fits. put-kept settings (path_refusal head) place path length what there e (within-limit _ _ fits))))
+
+from-kept : (settings : Settings) (head : Head) (repo written : List ℕ) → is_there repo settings ≡ true
+    → IfOk (read_from head repo written) (IsIntent settings)
+unfolding read_from thing_at
+from-kept settings head repo written there =
+    kept-then (decoded head written) _ (IsIntent settings)
+    (λ path _. kept-then (thing_at head path) (λ _. Ok (Intent.reads repo path)) (IsIntent settings)
+    (λ what e. (there, something-named (path_refusal head) (kind path) what e)))
+
+by-kept : (settings : Settings) (head : Head) (length : ℕ) (put : Bool) (repo written : List ℕ) → is_there repo settings ≡ true
+    → IfOk (cond put (put_to settings head length (repository repo) written) (read_from head repo written)) (IsIntent settings)
+by-kept settings head length true repo written there = to-kept settings head length (repository repo) written there
+by-kept settings head length false repo written there = from-kept settings head repo written there
+
+in-kept : (settings : Settings) (head : Head) (length : ℕ) (repo written : List ℕ) → is_there repo settings ≡ true
+    → IfOk (in_repo settings head length repo written) (IsIntent settings)
+unfolding in_repo
+in-kept settings head length repo written there = by-kept settings head length (is_put head) repo written there
+
+into-kept : (settings : Settings) (head : Head) (length : ℕ) (number written : List ℕ) → IfOk (into_session settings head length number written) (IsIntent settings)
+unfolding into_session
+into-kept settings head length number written =
+    kept-then (session_of number) _ (IsIntent settings)
+    (λ n _. kept-then (need (is_put head) _) (λ _. put_to settings head length (session n) written) (IsIntent settings)
+    (λ _ _. to-kept settings head length (session n) written refl))
+
+of-kept : (settings : Settings) (intent : ℕ → Intent) (number : List ℕ) → ((n : ℕ) → IsIntent settings (intent n)) → IfOk (of_session intent number) (IsIntent settings)
+unfolding of_session
+of-kept settings intent number all = kept-then (session_of number) (λ n. Ok (intent n)) (IsIntent settings) (λ n _. all n)
 
 on-kept : (settings : Settings) (head : Head) (length : ℕ) (route : Route) → has_repository settings route ≡ true
     → IfOk (intent_on settings head length route) (IsIntent settings)
-on-kept settings head length (in_repository repo written) there = at-kept settings head length repo written there
+on-kept settings head length (in_repository repo written) there = in-kept settings head length repo written there
+on-kept settings head length (sessions repo) there = there
+on-kept settings head length (in_session number written) there = into-kept settings head length number written
+on-kept settings head length (commit number) there = of-kept settings Intent.commits number (λ n. tt)
+on-kept settings head length (abort number) there = of-kept settings Intent.aborts number (λ n. tt)
 on-kept settings head length status there = tt
 on-kept settings head length clean there = refl
 

@@ -1,4 +1,5 @@
 pub mod KeptLemmas
+pub mod NumberLemmas
 pub mod OnLiterals
 pub mod PathLemmas
 pub mod RouteLemmas

@@ -1,59 +1,106 @@
 -- Which route a path has, by the pattern that it is of.
-use Rattle.std.proofs.Common.{◌≡◌, ℕ, Bool, true, false, cond, List, Option, Some, None, refl}
+use Rattle.std.proofs.Common.{◌≡◌, ℕ, Bool, true, false, cond, ◌&&◌, nat_lt, List, length, Option, Some, None, refl, sym, subst, bytes_eq, codes}
 use Rattle.std.specs.Prelude.{option_and_then}
-use Rattle.std.specs.Option.{option_map}
-use Rattle.repo_routes.specs.declared.routes.Place.{Place}
-use Rattle.repo_routes.specs.declared.routes.Place.TheVariants as place
-use Rattle.repo_routes.specs.Routes.{Route, in_repository, status, clean, below_repository, place_of, repository_route, route_at}
+use Rattle.std.specs.Option.{option_map, option_map_or}
+use Rattle.byte_cuts.specs.Cuts.{behind}
+use Rattle.repo_routes.specs.declared.routes.Pattern.{Pattern}
+use Rattle.repo_routes.specs.declared.routes.Pattern.TheVariants as pattern
+use Rattle.repo_routes.specs.Routes.{Route, in_repository, sessions, in_session, commit, abort, status, clean, files_route, number_route, part_of, pattern_of, repository_route, rest_of, route_at, route_by, session_route, sessions_route}
 
--- a route below `/repository/` is that of a repository
-only-repository : (test : Bool) (repo written : List ℕ) (p : Place) → option_map place_of (cond test (Some (in_repository repo written)) None) ≡ Some p
-    → p ≡ place.Repository
-only-repository true repo written p e = cc
-only-repository false repo written p e = cc
+abbrev of_pattern : Option Route → Option Pattern
+of_pattern route = option_map pattern_of route
 
-below : (text : Option (List ℕ)) (p : Place) → option_map place_of (option_and_then repository_route text) ≡ Some p → p ≡ place.Repository
+repository-pattern : (text : List ℕ) (p : Pattern) → of_pattern (repository_route text) ≡ Some p → pattern.Repository ≡ p
 unfolding repository_route
-below None p e = cc
-below (Some text) p e = only-repository _ _ _ p e
+repository-pattern text p e = by-test (nat_lt 0 (length (part_of text)) && nat_lt 0 (length (rest_of text))) e
+  where
+    by-test : (test : Bool) → of_pattern (cond test (Some (in_repository (part_of text) (rest_of text))) None) ≡ Some p → pattern.Repository ≡ p
+    by-test true is = cc
+    by-test false is = cc
 
--- a path by whether it is that of a cleaning, or of the counts
-abbrev by_tests : Bool → Bool → List ℕ → Option Route
-by_tests is_clean is_status path = cond is_clean (Some clean) (cond is_status (Some status) (below_repository path))
+sessions-pattern : (text : List ℕ) (p : Pattern) → of_pattern (sessions_route text) ≡ Some p → pattern.Sessions ≡ p
+unfolding sessions_route
+sessions-pattern text p e = by-test (nat_lt 0 (length (part_of text)) && bytes_eq (rest_of text) (codes "sessions")) e
+  where
+    by-test : (test : Bool) → of_pattern (cond test (Some (sessions (part_of text))) None) ≡ Some p → pattern.Sessions ≡ p
+    by-test true is = cc
+    by-test false is = cc
 
-by-repository : (is_clean is_status : Bool) (path : List ℕ) → option_map place_of (by_tests is_clean is_status path) ≡ Some place.Repository
-    → by_tests is_clean is_status path ≡ below_repository path
-by-repository true is_status path e = cc
-by-repository false true path e = cc
-by-repository false false path e = refl
+-- the patterns of what is asked of a session lead to one cut of the path
+abbrev is_of_session : Pattern → Bool
+is_of_session pattern.SessionFile = true
+is_of_session pattern.Commit = true
+is_of_session pattern.Abort = true
+is_of_session _ = false
 
-pub route-repository : (path : List ℕ) → option_map place_of (route_at path) ≡ Some place.Repository → route_at path ≡ below_repository path
+files-pattern : (number : List ℕ) (written : Option (List ℕ)) (p : Pattern) → of_pattern (option_and_then (files_route number) written) ≡ Some p → is_of_session p ≡ true
+files-pattern number None p e = cc
+files-pattern number (Some written) p e = by-test (nat_lt 0 (length written)) e
+  where
+    by-test : (test : Bool) → of_pattern (cond test (Some (in_session number written)) None) ≡ Some p → is_of_session p ≡ true
+    by-test true is = let it : pattern.SessionFile ≡ p = cc in subst (λ (q : Pattern). is_of_session q ≡ true) it refl
+    by-test false is = cc
+
+number-pattern : (number text : List ℕ) (p : Pattern) → of_pattern (number_route number text) ≡ Some p → is_of_session p ≡ true
+unfolding number_route
+number-pattern number text p e = by-tests (bytes_eq text (codes "abort")) (bytes_eq text (codes "commit")) e
+  where
+    by-tests : (a b : Bool) → of_pattern (cond a (Some (abort number)) (cond b (Some (commit number)) (option_and_then (files_route number) (behind (codes "files/") text)))) ≡ Some p
+        → is_of_session p ≡ true
+    by-tests true b is = let it : pattern.Abort ≡ p = cc in subst (λ (q : Pattern). is_of_session q ≡ true) it refl
+    by-tests false true is = let it : pattern.Commit ≡ p = cc in subst (λ (q : Pattern). is_of_session q ≡ true) it refl
+    by-tests false false is = files-pattern number (behind (codes "files/") text) p is
+
+session-pattern : (text : List ℕ) (p : Pattern) → of_pattern (session_route text) ≡ Some p → is_of_session p ≡ true
+unfolding session_route
+session-pattern text p e = by-test (nat_lt 0 (length (part_of text))) e
+  where
+    by-test : (test : Bool) → of_pattern (cond test (number_route (part_of text) (rest_of text)) None) ≡ Some p → is_of_session p ≡ true
+    by-test true is = number-pattern (part_of text) (rest_of text) p is
+    by-test false is = cc
+
+session-by : (p : Pattern) (path text : List ℕ) → behind (codes "/api/sessions/") path ≡ Some text → is_of_session p ≡ true → session_route text ≡ route_by p path
+session-by pattern.Repository path text cut is = cc
+session-by pattern.Sessions path text cut is = cc
+session-by pattern.SessionFile path text cut is = sym (rw cut refl)
+session-by pattern.Commit path text cut is = sym (rw cut refl)
+session-by pattern.Abort path text cut is = sym (rw cut refl)
+session-by pattern.Status path text cut is = cc
+session-by pattern.Clean path text cut is = cc
+
+last-by : (path : List ℕ) (found : Option (List ℕ)) (p : Pattern) → behind (codes "/repository/") path ≡ found
+    → of_pattern (option_and_then repository_route found) ≡ Some p → option_and_then repository_route found ≡ route_by p path
+last-by path None p cut e = cc
+last-by path (Some text) p cut e =
+    subst (λ (q : Pattern). repository_route text ≡ route_by q path) (repository-pattern text p e) (sym (rw cut refl))
+
+-- a path by whether it is that of a cleaning or of the counts, and what is behind the words
+abbrev by_parts : Bool → Option (List ℕ) → Option (List ℕ) → Bool → Option (List ℕ) → Option Route
+by_parts is_clean opening session is_status repository =
+    cond is_clean (Some clean) (option_map_or sessions_route opening (option_map_or session_route session (cond is_status (Some status) (option_and_then repository_route repository))))
+
+by-parts : (is_clean : Bool) (opening session : Option (List ℕ)) (is_status : Bool) (path : List ℕ) (p : Pattern)
+    → behind (codes "/api/repositories/") path ≡ opening → behind (codes "/api/sessions/") path ≡ session
+    → of_pattern (by_parts is_clean opening session is_status (behind (codes "/repository/") path)) ≡ Some p
+    → by_parts is_clean opening session is_status (behind (codes "/repository/") path) ≡ route_by p path
+by-parts true opening session is_status path p a b e =
+    let it : pattern.Clean ≡ p = cc in subst (λ (q : Pattern). Some clean ≡ route_by q path) it refl
+by-parts false (Some text) session is_status path p a b e =
+    subst (λ (q : Pattern). sessions_route text ≡ route_by q path) (sessions-pattern text p e) (sym (rw a refl))
+by-parts false None (Some text) is_status path p a b e = session-by p path text b (session-pattern text p e)
+by-parts false None None true path p a b e =
+    let it : pattern.Status ≡ p = cc in subst (λ (q : Pattern). Some status ≡ route_by q path) it refl
+by-parts false None None false path p a b e = last-by path (behind (codes "/repository/") path) p refl e
+
+-- the pattern says where the path is to be cut
+pub route-by : (path : List ℕ) (p : Pattern) → option_map pattern_of (route_at path) ≡ Some p → route_at path ≡ route_by p path
 unfolding route_at
-route-repository path e = by-repository _ _ path e
+route-by path p e =
+    by-parts (bytes_eq path (codes "/api/clean")) (behind (codes "/api/repositories/") path) (behind (codes "/api/sessions/") path) (bytes_eq path (codes "/api/status")) path p refl refl e
 
-by-status : (is_clean is_status : Bool) (path : List ℕ) → option_map place_of (by_tests is_clean is_status path) ≡ Some place.Status
-    → by_tests is_clean is_status path ≡ Some status
-by-status true is_status path e = cc
-by-status false true path e = refl
-by-status false false path e = let other = below _ place.Status e in cc
+no-pattern : (route : Option Route) → option_map pattern_of route ≡ None → route ≡ None
+no-pattern None e = refl
+no-pattern (Some route) e = cc
 
-pub route-status : (path : List ℕ) → option_map place_of (route_at path) ≡ Some place.Status → route_at path ≡ Some status
-unfolding route_at
-route-status path e = by-status _ _ path e
-
-by-clean : (is_clean is_status : Bool) (path : List ℕ) → option_map place_of (by_tests is_clean is_status path) ≡ Some place.Clean
-    → by_tests is_clean is_status path ≡ Some clean
-by-clean true is_status path e = refl
-by-clean false true path e = cc
-by-clean false false path e = let other = below _ place.Clean e in cc
-
-pub route-clean : (path : List ℕ) → option_map place_of (route_at path) ≡ Some place.Clean → route_at path ≡ Some clean
-unfolding route_at
-route-clean path e = by-clean _ _ path e
-
-no-place : (route : Option Route) → option_map place_of route ≡ None → route ≡ None
-no-place None e = refl
-no-place (Some route) e = cc
-
-pub route-none : (path : List ℕ) → option_map place_of (route_at path) ≡ None → route_at path ≡ None
-route-none path e = no-place (route_at path) e
+pub route-none : (path : List ℕ) → option_map pattern_of (route_at path) ≡ None → route_at path ≡ None
+route-none path e = no-pattern (route_at path) e

@@ -1,11 +1,12 @@
 -- Which of the patterns a path is of, by `matchit`'s search over rows of tokens.
 use Rattle.std.specs.Prelude.{option_and_then}
-use Rattle.std.proofs.Common.{◌≡◌, ◌⊎◌, inl, inr, ℕ, zero, suc, ◌-◌, ◌<◌, Bool, true, false, cond, ◌==◌, ◌&&◌, nat_eq, nat_lt, List, [], ◌∷◌, ◌++◌, length, drop, Option, Some, None, refl, ◌∙◌, ap, arith, bytes_eq, length-append}
+use Rattle.std.specs.Option.{option_map_or}
+use Rattle.std.proofs.Common.{◌≡◌, ◌⊎◌, inl, inr, ℕ, zero, suc, ◌-◌, ◌<◌, Bool, true, false, cond, ◌==◌, ◌&&◌, nat_eq, nat_lt, List, [], ◌∷◌, ◌++◌, length, drop, Option, Some, None, refl, sym, ◌∙◌, ap, arith, bytes_eq, length-append}
 use Rattle.std.proofs.Math.Seq.{drop-append_seam}
 use Rattle.std.specs.Cmp.Lexicographic.{pointwise}
 use Rattle.std.proofs.lemmas.Bool.Decides.{nat_tests}
 use Rattle.matchit.specs.Rows.{RowsOf, catch_all_token, param_token}
-use Rattle.matchit.specs.Seek.{cuts, has_slash, or_else, own, param_step, seek, segment, step}
+use Rattle.matchit.specs.Seek.{cuts, has_slash, longest_from, longest_suffix, or_else, own, param_step, seek, segment, step, with_suffix}
 
 -- the texts of the patterns have bytes alone
 unfoldable pub is_word : List ℕ → Bool
@@ -191,110 +192,271 @@ module _ {K : Type 0} where
       ])
 
   -- a catch-all takes at least one byte
-  catch-all : (key : K) (rest : List ℕ) → seek 0 ((catch_all_token ∷ [], key) ∷ []) rest ≡ cond (filled rest) (Some key) None
+  pub catch-all : (key : K) (rest : List ℕ) → seek 0 ((catch_all_token ∷ [], key) ∷ []) rest ≡ cond (filled rest) (Some key) None
   unfolding seek filled
   catch-all key [] = refl
   catch-all key (b ∷ rest) = catch-all-byte key b rest
 
-  -- behind a parameter a slash and a catch-all
-  below : K → RowsOf K
-  below key = (47 ∷ catch_all_token ∷ [], key) ∷ []
+  -- each row behind a slash, and behind a parameter and a slash
+  below : RowsOf K → RowsOf K
+  below [] = []
+  below ((t, key) ∷ rows) = (47 ∷ t, key) ∷ below rows
 
-  at-slash : (key : K) (rest : List ℕ) → seek 0 (below key) (47 ∷ rest) ≡ cond (filled rest) (Some key) None
-  unfolding below
-  at-slash key rest = seek-byte (below key) 47 rest refl refl ∙ catch-all key rest
+  unfoldable pub parameter : RowsOf K → RowsOf K
+  parameter [] = []
+  parameter ((t, key) ∷ rows) = (param_token ∷ 47 ∷ t, key) ∷ parameter rows
 
-  before-slash : (key : K) (b : ℕ) (path : List ℕ) → (b == 47) ≡ false → seek 0 (below key) (b ∷ path) ≡ None
+  step-below : (rows : RowsOf K) → step 47 (below rows) ≡ rows
   unfolding below
-  before-slash key b path other =
+  step-below [] = refl
+  step-below ((t, key) ∷ rows) = ap (λ (others : RowsOf K). (t, key) ∷ others) (step-below rows)
+
+  step-elsewhere : (b : ℕ) (rows : RowsOf K) → (47 == b) ≡ false → step b (below rows) ≡ []
+  unfolding below
+  step-elsewhere b [] other = refl
+  step-elsewhere b ((t, key) ∷ rows) other = rw other (step-elsewhere b rows other)
+
+  own-below : (rows : RowsOf K) → own (below rows) ≡ None
+  unfolding below
+  own-below [] = refl
+  own-below ((t, key) ∷ rows) = own-below rows
+
+  own-parameter : (rows : RowsOf K) → own (parameter rows) ≡ None
+  unfolding parameter
+  own-parameter [] = refl
+  own-parameter ((t, key) ∷ rows) = own-parameter rows
+
+  at-slash : (rows : RowsOf K) (rest : List ℕ) → seek 0 (below rows) (47 ∷ rest) ≡ seek 0 rows rest
+  at-slash rows rest =
+      seek-byte (below rows) 47 rest (step-elsewhere param_token rows refl) (step-elsewhere catch_all_token rows refl)
+      ∙ ap (λ (others : RowsOf K). seek 0 others rest) (step-below rows)
+
+  before-slash : (rows : RowsOf K) (b : ℕ) (path : List ℕ) → (b == 47) ≡ false → seek 0 (below rows) (b ∷ path) ≡ None
+  before-slash rows b path other =
       let not_slash : (47 == b) ≡ false = grind (arith, nat_tests) in
-      seek-byte (below key) b path refl refl ∙ rw not_slash (seek-none 0 path)
+      seek-byte (below rows) b path (step-elsewhere param_token rows refl) (step-elsewhere catch_all_token rows refl)
+      ∙ ap (λ (others : RowsOf K). seek 0 others path) (step-elsewhere b rows not_slash) ∙ seek-none 0 path
 
   skip : (rows : RowsOf K) (front path : List ℕ) → seek (length front) rows (front ++ path) ≡ seek 0 rows path
   unfolding seek
   skip rows [] path = refl
   skip rows (b ∷ front) path = skip rows front path
 
-  -- a pattern that begins with a parameter, and goes on with a slash and a catch-all
-  unfoldable pub parameter : K → RowsOf K
-  parameter key = (param_token ∷ 47 ∷ catch_all_token ∷ [], key) ∷ []
-
-  parameter-cons : (key : K) (b : ℕ) (path : List ℕ)
-      → seek 0 (parameter key) (b ∷ path) ≡ or_else (seek 0 (cond (param_token == b) (below key) []) path) (or_else (seek ((param_step (below key) (b ∷ path)).0 - 1) (param_step (below key) (b ∷ path)).1 path) None)
+  step-parameter : (rows : RowsOf K) → step param_token (parameter rows) ≡ below rows
   unfolding parameter below
-  parameter-cons key b path = seek-cons (parameter key) b path
+  step-parameter [] = refl
+  step-parameter ((t, key) ∷ rows) = ap (λ (others : RowsOf K). (47 ∷ t, key) ∷ others) (step-parameter rows)
+
+  step-byte : (b : ℕ) (rows : RowsOf K) → (param_token == b) ≡ false → step b (parameter rows) ≡ []
+  unfolding parameter
+  step-byte b [] other = refl
+  step-byte b ((t, key) ∷ rows) other = rw other (step-byte b rows other)
+
+  step-token : (b : ℕ) (rows : RowsOf K) → step b (parameter rows) ≡ cond (param_token == b) (below rows) []
+  step-token b rows = by-test (param_token == b) refl
+    where
+      by-test : (test : Bool) → (param_token == b) ≡ test → step b (parameter rows) ≡ cond test (below rows) []
+      by-test true same = let it : b ≡ param_token = grind (arith, nat_tests) in rw it (step-parameter rows)
+      by-test false other = step-byte b rows other
+
+  parameter-cons : (rows : RowsOf K) (b : ℕ) (path : List ℕ)
+      → seek 0 (parameter rows) (b ∷ path) ≡ or_else (seek 0 (cond (param_token == b) (below rows) []) path) (or_else (seek ((param_step (below rows) (b ∷ path)).0 - 1) (param_step (below rows) (b ∷ path)).1 path) None)
+  parameter-cons rows b path =
+      seek-cons (parameter rows) b path
+      ∙ ap (λ (r : RowsOf K). search_by (seek 0 r path) (step param_token (parameter rows)) (step catch_all_token (parameter rows)) b path) (step-token b rows)
+      ∙ ap (λ (r : RowsOf K). search_by (seek 0 (cond (param_token == b) (below rows) []) path) r (step catch_all_token (parameter rows)) b path) (step-parameter rows)
+      ∙ ap (λ (r : RowsOf K). search_by (seek 0 (cond (param_token == b) (below rows) []) path) (below rows) r b path) (step-byte catch_all_token rows refl)
 
   twice : (found : Option K) → or_else found (or_else found None) ≡ found
   twice None = refl
   twice (Some key) = refl
 
-  either : (key : K) (test : Bool) (path : List ℕ) (found : Option K) → (seek 0 (below key) path ≡ None) ⊎ (seek 0 (below key) path ≡ found)
-      → or_else (seek 0 (cond test (below key) []) path) (or_else found None) ≡ found
-  either key true path found (inl none) = rw none (or-none found)
-  either key true path found (inr same) = rw same (twice found)
-  either key false path found e = rw (seek-none 0 path) (or-none found)
+  either : (rows : RowsOf K) (test : Bool) (path : List ℕ) (found : Option K) → (seek 0 (below rows) path ≡ None) ⊎ (seek 0 (below rows) path ≡ found)
+      → or_else (seek 0 (cond test (below rows) []) path) (or_else found None) ≡ found
+  either rows true path found (inl none) = rw none (or-none found)
+  either rows true path found (inr same) = rw same (twice found)
+  either rows false path found e = rw (seek-none 0 path) (or-none found)
 
-  step-slash : (key : K) (b : ℕ) (id rest : List ℕ) → has_slash (b ∷ id) ≡ false → param_step (below key) (b ∷ id ++ 47 ∷ rest) ≡ (length (b ∷ id), below key)
-  unfolding param_step below
-  step-slash key b id rest clean =
-      let e : suc (length (id ++ 47 ∷ [])) - 1 ≡ suc (length id) = omega (arith, length-append id (47 ∷ [])) in
-      rw (segment-of (b ∷ id) rest clean) (rw (cuts-slash b id) (rw e refl))
+  -- the suffix of each row is a slash
+  longest-more : (seg : List ℕ) (rows : RowsOf K) → longest_from seg (47 ∷ []) (below rows) ≡ 47 ∷ []
+  unfolding below
+  longest-more seg [] = refl
+  longest-more seg ((t, key) ∷ rows) = longest-more seg rows
 
-  step-whole : (key : K) (text : List ℕ) → has_slash text ≡ false → param_step (below key) text ≡ (length text, below key)
-  unfolding param_step below
-  step-whole key text clean = rw (segment-whole text clean) (rw (cuts-none text clean) (rw clean refl))
+  longest-slash : (seg t : List ℕ) (key : K) (rows : RowsOf K) → cuts seg (47 ∷ []) ≡ true → longest_suffix seg (below ((t, key) ∷ rows)) ≡ 47 ∷ []
+  unfolding below
+  longest-slash seg t key rows cut = ap (λ test. longest_from seg (cond test (47 ∷ []) []) (below rows)) cut ∙ longest-more seg rows
 
-  step-empty : (key : K) (rest : List ℕ) → param_step (below key) (47 ∷ rest) ≡ (0, [])
-  unfolding param_step below
-  step-empty key rest = refl
+  longest-none : (seg : List ℕ) (rows : RowsOf K) → cuts seg (47 ∷ []) ≡ false → longest_suffix seg (below rows) ≡ []
+  unfolding below
+  longest-none seg [] none = refl
+  longest-none seg ((t, key) ∷ rows) none = ap (λ test. longest_from seg (cond test (47 ∷ []) []) (below rows)) none ∙ longest-none seg rows none
 
-  found-behind : (key : K) (b : ℕ) (path : List ℕ) (found : Option K) → seek ((param_step (below key) (b ∷ path)).0 - 1) (param_step (below key) (b ∷ path)).1 path ≡ found
-      → (seek 0 (below key) path ≡ None) ⊎ (seek 0 (below key) path ≡ found) → seek 0 (parameter key) (b ∷ path) ≡ found
-  found-behind key b path found e either_way =
-      parameter-cons key b path
-      ∙ ap (λ f. or_else (seek 0 (cond (param_token == b) (below key) []) path) (or_else f None)) e
-      ∙ either key (param_token == b) path found either_way
+  all-with-slash : (rows : RowsOf K) → with_suffix (47 ∷ []) (below rows) ≡ below rows
+  unfolding below
+  all-with-slash [] = refl
+  all-with-slash ((t, key) ∷ rows) = ap (λ (others : RowsOf K). (47 ∷ t, key) ∷ others) (all-with-slash rows)
 
-  skip-all : (key : K) (path : List ℕ) → seek (length path) (below key) path ≡ None
-  unfolding seek below
-  skip-all key [] = refl
-  skip-all key (b ∷ path) = skip-all key path
+  abbrev step_by : List ℕ → RowsOf K → List ℕ → ℕ × RowsOf K
+  step_by suffix rows path =
+      cond (nat_lt 0 (length suffix)) (length (segment path) - length suffix, with_suffix suffix rows)
+      (cond (has_slash path) (0, []) (length path, rows))
+
+  step-is : (rows : RowsOf K) (path : List ℕ) → param_step rows path ≡ step_by (longest_suffix (segment path) rows) rows path
+  unfolding param_step
+  step-is rows path = refl
+
+  step-slash : (t : List ℕ) (key : K) (rows : RowsOf K) (b : ℕ) (id rest : List ℕ) → has_slash (b ∷ id) ≡ false
+      → param_step (below ((t, key) ∷ rows)) (b ∷ id ++ 47 ∷ rest) ≡ (length (b ∷ id), below ((t, key) ∷ rows))
+  step-slash t key rows b id rest clean =
+      let all : RowsOf K = below ((t, key) ∷ rows) in
+      let path : List ℕ = b ∷ id ++ 47 ∷ rest in
+      let front : segment path ≡ b ∷ id ++ 47 ∷ [] = segment-of (b ∷ id) rest clean in
+      let cut : cuts (segment path) (47 ∷ []) ≡ true = ap (λ seg. cuts seg (47 ∷ [])) front ∙ cuts-slash b id in
+      let long : length (segment path) - 1 ≡ length (b ∷ id) = ap (λ seg. length seg - 1) front ∙ omega (arith, length-append id (47 ∷ [])) in
+      step-is all path
+      ∙ ap (λ suffix. step_by suffix all path) (longest-slash (segment path) t key rows cut)
+      ∙ ap (λ (n : ℕ). (n, with_suffix (47 ∷ []) all)) long
+      ∙ ap (λ (others : RowsOf K). (length (b ∷ id), others)) (all-with-slash ((t, key) ∷ rows))
+
+  step-whole : (rows : RowsOf K) (text : List ℕ) → has_slash text ≡ false → param_step (below rows) text ≡ (length text, below rows)
+  step-whole rows text clean =
+      let none : cuts (segment text) (47 ∷ []) ≡ false = ap (λ seg. cuts seg (47 ∷ [])) (segment-whole text clean) ∙ cuts-none text clean in
+      step-is (below rows) text
+      ∙ ap (λ suffix. step_by suffix (below rows) text) (longest-none (segment text) rows none)
+      ∙ rw clean refl
+
+  step-empty : (rows : RowsOf K) (rest : List ℕ) → param_step (below rows) (47 ∷ rest) ≡ (0, [])
+  step-empty rows rest =
+      step-is (below rows) (47 ∷ rest) ∙ ap (λ suffix. step_by suffix (below rows) (47 ∷ rest)) (longest-none (47 ∷ []) rows refl)
+
+  found-behind : (rows : RowsOf K) (b : ℕ) (path : List ℕ) (found : Option K) → seek ((param_step (below rows) (b ∷ path)).0 - 1) (param_step (below rows) (b ∷ path)).1 path ≡ found
+      → (seek 0 (below rows) path ≡ None) ⊎ (seek 0 (below rows) path ≡ found) → seek 0 (parameter rows) (b ∷ path) ≡ found
+  found-behind rows b path found e either_way =
+      parameter-cons rows b path
+      ∙ ap (λ f. or_else (seek 0 (cond (param_token == b) (below rows) []) path) (or_else f None)) e
+      ∙ either rows (param_token == b) path found either_way
+
+  skip-all : (rows : RowsOf K) (path : List ℕ) → seek (length path) (below rows) path ≡ None
+  unfolding seek
+  skip-all rows [] = own-below rows
+  skip-all rows (b ∷ path) = skip-all rows path
 
   one-less : (rows : RowsOf K) (b : ℕ) (text path : List ℕ) → seek (length (b ∷ text) - 1) rows path ≡ seek (length text) rows path
   one-less rows b text path = let e : length (b ∷ text) - 1 ≡ length text = omega arith in ap (λ n. seek n rows path) e
 
-  behind-id : (key : K) (id rest : List ℕ) → has_slash id ≡ false
-      → (seek 0 (below key) (id ++ 47 ∷ rest) ≡ None) ⊎ (seek 0 (below key) (id ++ 47 ∷ rest) ≡ cond (filled rest) (Some key) None)
-  behind-id key [] rest clean = inr (at-slash key rest)
-  behind-id key (b ∷ id) rest clean =
+  behind-id : (rows : RowsOf K) (id rest : List ℕ) → has_slash id ≡ false
+      → (seek 0 (below rows) (id ++ 47 ∷ rest) ≡ None) ⊎ (seek 0 (below rows) (id ++ 47 ∷ rest) ≡ seek 0 rows rest)
+  behind-id rows [] rest clean = inr (at-slash rows rest)
+  behind-id rows (b ∷ id) rest clean =
       let parts = neither (b == 47) (has_slash id) clean in
-      inl (before-slash key b (id ++ 47 ∷ rest) parts.0)
+      inl (before-slash rows b (id ++ 47 ∷ rest) parts.0)
 
-  pub with-slash : (key : K) (id rest : List ℕ) → has_slash id ≡ false → seek 0 (parameter key) (id ++ 47 ∷ rest) ≡ cond (filled id && filled rest) (Some key) None
+  pub with-slash : (t : List ℕ) (key : K) (rows : RowsOf K) (id rest : List ℕ) → has_slash id ≡ false
+      → seek 0 (parameter ((t, key) ∷ rows)) (id ++ 47 ∷ rest) ≡ cond (filled id) (seek 0 ((t, key) ∷ rows) rest) None
   unfolding filled
-  with-slash key [] rest clean =
-      parameter-cons key 47 rest
-      ∙ ap (λ (s : ℕ × RowsOf K). or_else (seek 0 [] rest) (or_else (seek (s.0 - 1) s.1 rest) None)) (step-empty key rest)
+  with-slash t key rows [] rest clean =
+      let all : RowsOf K = (t, key) ∷ rows in
+      parameter-cons all 47 rest
+      ∙ ap (λ (s : ℕ × RowsOf K). or_else (seek 0 [] rest) (or_else (seek (s.0 - 1) s.1 rest) None)) (step-empty all rest)
       ∙ rw (seek-none 0 rest) refl
-  with-slash key (b ∷ id) rest clean =
+  with-slash t key rows (b ∷ id) rest clean =
+      let all : RowsOf K = (t, key) ∷ rows in
       let parts = neither (b == 47) (has_slash id) clean in
-      found-behind key b (id ++ 47 ∷ rest) (cond (filled rest) (Some key) None)
-      (ap (λ (s : ℕ × RowsOf K). seek (s.0 - 1) s.1 (id ++ 47 ∷ rest)) (step-slash key b id rest clean)
-      ∙ one-less (below key) b id (id ++ 47 ∷ rest) ∙ skip (below key) id (47 ∷ rest) ∙ at-slash key rest)
-      (behind-id key id rest parts.1)
+      found-behind all b (id ++ 47 ∷ rest) (seek 0 all rest)
+      (ap (λ (s : ℕ × RowsOf K). seek (s.0 - 1) s.1 (id ++ 47 ∷ rest)) (step-slash t key rows b id rest clean)
+      ∙ one-less (below all) b id (id ++ 47 ∷ rest) ∙ skip (below all) id (47 ∷ rest) ∙ at-slash all rest)
+      (behind-id all id rest parts.1)
 
-  behind-text : (key : K) (text : List ℕ) → has_slash text ≡ false → seek 0 (below key) text ≡ None
-  unfolding seek below
-  behind-text key [] clean = refl
-  behind-text key (b ∷ text) clean =
-      let parts = neither (b == 47) (has_slash text) clean in before-slash key b text parts.0
+  behind-text : (rows : RowsOf K) (text : List ℕ) → has_slash text ≡ false → seek 0 (below rows) text ≡ None
+  unfolding seek
+  behind-text rows [] clean = own-below rows
+  behind-text rows (b ∷ text) clean =
+      let parts = neither (b == 47) (has_slash text) clean in before-slash rows b text parts.0
 
-  pub without-slash : (key : K) (text : List ℕ) → has_slash text ≡ false → seek 0 (parameter key) text ≡ None
-  unfolding seek parameter
-  without-slash key [] clean = refl
-  without-slash key (b ∷ text) clean =
+  pub without-slash : (rows : RowsOf K) (text : List ℕ) → has_slash text ≡ false → seek 0 (parameter rows) text ≡ None
+  unfolding seek
+  without-slash rows [] clean = own-parameter rows
+  without-slash rows (b ∷ text) clean =
       let parts = neither (b == 47) (has_slash text) clean in
-      found-behind key b text None
-      (ap (λ (s : ℕ × RowsOf K). seek (s.0 - 1) s.1 text) (step-whole key (b ∷ text) clean)
-      ∙ one-less (below key) b text text ∙ skip-all key text)
-      (inl (behind-text key text parts.1))
+      found-behind rows b text None
+      (ap (λ (s : ℕ × RowsOf K). seek (s.0 - 1) s.1 text) (step-whole rows (b ∷ text) clean)
+      ∙ one-less (below rows) b text text ∙ skip-all rows text)
+      (inl (behind-text rows text parts.1))
+
+  -- each row behind a word
+  unfoldable pub front : List ℕ → RowsOf K → RowsOf K
+  front word [] = []
+  front word ((t, key) ∷ rows) = (word ++ t, key) ∷ front word rows
+
+  abbrev pub is_none : RowsOf K → Bool
+  is_none [] = true
+  is_none (row ∷ rows) = false
+
+  none-is : (rows : RowsOf K) → is_none rows ≡ true → rows ≡ []
+  none-is [] e = refl
+  none-is (row ∷ rows) e = cc
+
+  -- no row begins with the word, nor with a part of it behind which it goes on by a parameter or a catch-all
+  abbrev pub is_apart : List ℕ → RowsOf K → Bool
+  is_apart [] rows = is_none rows
+  is_apart (x ∷ word) rows = is_none (step param_token rows) && (is_none (step catch_all_token rows) && is_apart word (step x rows))
+
+  front-nothing : (rows : RowsOf K) → front [] rows ++ [] ≡ rows
+  unfolding front
+  front-nothing [] = refl
+  front-nothing ((t, key) ∷ rows) = ap (λ (others : RowsOf K). (t, key) ∷ others) (front-nothing rows)
+
+  own-front : (x : ℕ) (word : List ℕ) (rows others : RowsOf K) → own (front (x ∷ word) rows ++ others) ≡ own others
+  unfolding front
+  own-front x word [] others = refl
+  own-front x word ((t, key) ∷ rows) others = own-front x word rows others
+
+  step-front : (x : ℕ) (word : List ℕ) (b : ℕ) (rows others : RowsOf K) → (x == b) ≡ true
+      → step b (front (x ∷ word) rows ++ others) ≡ front word rows ++ step b others
+  unfolding front
+  step-front x word b [] others same = refl
+  step-front x word b ((t, key) ∷ rows) others same =
+      rw same (ap (λ (all : RowsOf K). (word ++ t, key) ∷ all) (step-front x word b rows others same))
+
+  step-behind : (x : ℕ) (word : List ℕ) (b : ℕ) (rows others : RowsOf K) → (x == b) ≡ false
+      → step b (front (x ∷ word) rows ++ others) ≡ step b others
+  unfolding front
+  step-behind x word b [] others other = refl
+  step-behind x word b ((t, key) ∷ rows) others other = rw other (step-behind x word b rows others other)
+
+  -- one byte of a word, where the paths behind it are known
+  front-byte : (x : ℕ) (word : List ℕ) (rows others : RowsOf K) (b : ℕ) (path : List ℕ) (test : Bool) → (x == b) ≡ test → nat_lt x 256 ≡ true
+      → is_apart (x ∷ word) others ≡ true
+      → ((o : RowsOf K) → is_apart word o ≡ true → seek 0 (front word rows ++ o) path ≡ option_map_or (λ rest. seek 0 rows rest) (strip word path) (seek 0 o path))
+      → seek 0 (front (x ∷ word) rows ++ others) (b ∷ path) ≡ option_map_or (λ rest. seek 0 rows rest) (cond test (strip word path) None) (seek 0 others (b ∷ path))
+  front-byte x word rows others b path test e small apart later =
+      let first = both (is_none (step param_token others)) _ apart in
+      let second = both (is_none (step catch_all_token others)) _ first.1 in
+      let no_parameter : (x == 256) ≡ false = grind (arith, nat_tests) in
+      let no_catch_all : (x == 257) ≡ false = grind (arith, nat_tests) in
+      let parameters = none-is (step param_token others) first.0 in
+      let catch_alls = none-is (step catch_all_token others) second.0 in
+      let all : RowsOf K = front (x ∷ word) rows ++ others in
+      seek-byte all b path (step-behind x word param_token rows others no_parameter ∙ parameters) (step-behind x word catch_all_token rows others no_catch_all ∙ catch_alls)
+      ∙ by-test test e second.1
+      ∙ ap (λ found. option_map_or (λ rest. seek 0 rows rest) (cond test (strip word path) None) found) (sym (seek-byte others b path parameters catch_alls))
+    where
+      by-test : (t : Bool) → (x == b) ≡ t → is_apart word (step x others) ≡ true
+          → seek 0 (step b (front (x ∷ word) rows ++ others)) path
+          ≡ option_map_or (λ rest. seek 0 rows rest) (cond t (strip word path) None) (seek 0 (step b others) path)
+      by-test true same rest =
+          let it : x ≡ b = grind (arith, nat_tests) in
+          ap (λ (o : RowsOf K). seek 0 o path) (step-front x word b rows others same) ∙ later (step b others) (ap (λ (n : ℕ). is_apart word (step n others)) (sym it) ∙ rest)
+      by-test false other rest = ap (λ (o : RowsOf K). seek 0 o path) (step-behind x word b rows others other)
+
+  -- a path goes on behind the word, or is that of the other rows
+  pub front-first : (word : List ℕ) (rows others : RowsOf K) (path : List ℕ) → is_word word ≡ true → is_apart word others ≡ true
+      → seek 0 (front word rows ++ others) path ≡ option_map_or (λ rest. seek 0 rows rest) (strip word path) (seek 0 others path)
+  unfolding is_word strip seek
+  front-first [] rows others path small apart =
+      ap (λ (o : RowsOf K). seek 0 (front [] rows ++ o) path) (none-is others apart) ∙ ap (λ (all : RowsOf K). seek 0 all path) (front-nothing rows)
+  front-first (x ∷ word) rows others [] small apart = own-front x word rows others
+  front-first (x ∷ word) rows others (b ∷ path) small apart =
+      let parts = both (nat_lt x 256) (is_word word) small in
+      front-byte x word rows others b path (x == b) refl parts.0 apart (λ o a. front-first word rows o path parts.1 a)

@@ -1,6 +1,6 @@
 -- The patterns of the server find the routes of `specs/Routes.antt`.
 use Rattle.std.specs.Prelude.{option_and_then}
-use Rattle.std.specs.Option.{option_map}
+use Rattle.std.specs.Option.{option_map, option_map_or}
 use Rattle.std.specs.List.{after_first, before_first, position_or_len}
 use Rattle.std.specs.Cmp.Lexicographic.{pointwise}
 use Rattle.std.proofs.Common.{◌≡◌, ◌⊎◌, inl, inr, ℕ, suc, ◌+◌, ◌<◌, Bool, true, false, cond, ◌==◌, ◌&&◌, nat_eq, nat_lt, List, [], ◌∷◌, ◌++◌, length, take, drop, Option, Some, None, refl, sym, ◌∙◌, ap, arith, bytes_eq, codes}
@@ -8,23 +8,17 @@ use Rattle.std.proofs.lemmas.Bool.Decides.{nat_tests}
 use Rattle.byte_cuts.specs.Cuts.{behind}
 use Rattle.matchit.specs.Rows.{RowsOf, catch_all_token, param_token}
 use Rattle.matchit.specs.Router.{RouteOf}
-use Rattle.matchit.specs.Seek.{has_slash, or_else, seek}
-use Rattle.repo_routes.specs.declared.routes.Place.{Place}
-use Rattle.repo_routes.specs.declared.routes.Place.TheVariants as place
-use Rattle.repo_routes.specs.Routes.{Route, in_repository, status, clean, below_repository, place_of, repository_route, route_at}
-use Rattle.repo_routes.proofs.RouterLemmas.{along, and-false, filled, is_word, parameter, strip, with-slash, without-slash, word-first}
+use Rattle.matchit.specs.Seek.{has_slash, own, seek}
+use Rattle.repo_routes.specs.declared.routes.Pattern.{Pattern}
+use Rattle.repo_routes.specs.declared.routes.Pattern.TheVariants as pattern
+use Rattle.repo_routes.specs.Routes.{Route, in_repository, sessions, in_session, commit, abort, status, clean, files_route, number_route, part_of, pattern_of, repository_route, rest_of, route_at, session_route, sessions_route}
+use Rattle.repo_routes.proofs.RouterLemmas.{along, catch-all, filled, front, front-first, is_word, parameter, seek-none, strip, with-slash, without-slash, word-first}
 
 abbrev is_slash : ℕ → Bool
 is_slash b = b == 47
 
-abbrev id_of : List ℕ → List ℕ
-id_of text = before_first is_slash text
-
-abbrev rest_of : List ℕ → List ℕ
-rest_of text = after_first is_slash text
-
-id-cons : (b : ℕ) (text : List ℕ) → (b == 47) ≡ false → id_of (b ∷ text) ≡ b ∷ id_of text
-id-cons b text e =
+part-cons : (b : ℕ) (text : List ℕ) → (b == 47) ≡ false → part_of (b ∷ text) ≡ b ∷ part_of text
+part-cons b text e =
     let s : 1 + position_or_len is_slash text ≡ suc (position_or_len is_slash text) = omega arith in
     rw e (rw s refl)
 
@@ -36,12 +30,12 @@ rest-cons b text e =
 -- a text has no slash and nothing behind it, or is cut at its first slash
 abbrev IsCut : List ℕ → Type 0
 IsCut text =
-    ((has_slash text ≡ false) × (rest_of text ≡ [])) ⊎ ((text ≡ id_of text ++ 47 ∷ rest_of text) × (has_slash (id_of text) ≡ false))
+    ((has_slash text ≡ false) × (rest_of text ≡ [])) ⊎ ((text ≡ part_of text ++ 47 ∷ rest_of text) × (has_slash (part_of text) ≡ false))
 
 cut-further : (b : ℕ) (text : List ℕ) → (b == 47) ≡ false → IsCut text → IsCut (b ∷ text)
 cut-further b text other (inl p) = inl (rw other p.0, rest-cons b text other ∙ p.1)
 cut-further b text other (inr p) =
-    inr (ap (λ t. b ∷ t) p.0 ∙ sym (rw (id-cons b text other, rest-cons b text other) refl), rw (id-cons b text other) (rw other p.1))
+    inr (ap (λ t. b ∷ t) p.0 ∙ sym (rw (part-cons b text other, rest-cons b text other) refl), rw (part-cons b text other) (rw other p.1))
 
 cut-here : (text : List ℕ) → IsCut (47 ∷ text)
 cut-here text = inr (refl, refl)
@@ -62,10 +56,6 @@ unfolding filled
 filled-length [] = refl
 filled-length (b ∷ text) = sym (let positive : 0 < length (b ∷ text) = omega arith in grind (arith, nat_tests))
 
--- an id and what stands behind it, neither empty
-abbrev has_both : List ℕ → Bool
-has_both text = nat_lt 0 (length (id_of text)) && nat_lt 0 (length (rest_of text))
-
 strip-behind : (word path : List ℕ) → strip word path ≡ behind word path
 unfolding strip
 strip-behind [] path = refl
@@ -76,57 +66,172 @@ strip-behind (x ∷ word) (b ∷ path) =
       | false ↦ refl
     ]
 
+one-way : {A : Type 0} (test : Bool) (x : A) → cond test x x ≡ x
+one-way true x = refl
+one-way false x = refl
+
 module _ {K : Type 0} where
-  by-parts : (key : K) (text : List ℕ) → IsCut text → seek 0 (parameter key) text ≡ cond (has_both text) (Some key) None
-  by-parts key text (inl p) =
-      let none : has_both text ≡ false = and-false _ _ (ap (λ t. nat_lt 0 (length t)) p.1) in
-      without-slash key text p.0 ∙ (rw none refl)
-  by-parts key text (inr p) =
-      ap (λ t. seek 0 (parameter key) t) p.0 ∙ with-slash key (id_of text) (rest_of text) p.1
-      ∙ rw (filled-length (id_of text), filled-length (rest_of text)) refl
+  by-parts : (t : List ℕ) (key : K) (rows : RowsOf K) (text : List ℕ) → own ((t, key) ∷ rows) ≡ None → IsCut text
+      → seek 0 (parameter ((t, key) ∷ rows)) text ≡ cond (filled (part_of text)) (seek 0 ((t, key) ∷ rows) (rest_of text)) None
+  unfolding seek
+  by-parts t key rows text bare (inl p) =
+      let all : RowsOf K = (t, key) ∷ rows in
+      without-slash all text p.0 ∙ sym (ap (λ rest. cond (filled (part_of text)) (seek 0 all rest) None) p.1 ∙ ap (λ found. cond (filled (part_of text)) found None) bare ∙ one-way (filled (part_of text)) None)
+  by-parts t key rows text bare (inr p) =
+      ap (λ x. seek 0 (parameter ((t, key) ∷ rows)) x) p.0 ∙ with-slash t key rows (part_of text) (rest_of text) p.1
 
-  parts-row : (key : K) (text : List ℕ) → seek 0 (parameter key) text ≡ cond (has_both text) (Some key) None
-  parts-row key text = by-parts key text (cut text)
+  -- rows behind a parameter go on behind its slash
+  parts-rows : (t : List ℕ) (key : K) (rows : RowsOf K) (text : List ℕ) → own ((t, key) ∷ rows) ≡ None
+      → seek 0 (parameter ((t, key) ∷ rows)) text ≡ cond (nat_lt 0 (length (part_of text))) (seek 0 ((t, key) ∷ rows) (rest_of text)) None
+  parts-rows t key rows text bare =
+      by-parts t key rows text bare (cut text) ∙ ap (λ test. cond test (seek 0 ((t, key) ∷ rows) (rest_of text)) None) (filled-length (part_of text))
 
--- the rows of the patterns
-abbrev pub table : RouteOf Place → RouteOf Place → RouteOf Place → RowsOf (RouteOf Place)
-table c s t =
-    (codes "/api/clean", c) ∷ (codes "/api/status", s) ∷ (codes "/repository/" ++ param_token ∷ 47 ∷ catch_all_token ∷ [], t)
-    ∷ []
+abbrev Found : Type 0
+Found = Option (RouteOf Pattern)
 
-abbrev value_of : Option (RouteOf Place) → Option Place
+abbrev value_of : Found → Option Pattern
 value_of found = option_map (λ e. e.value) found
 
-repository-by : (t : RouteOf Place) (test : Bool) (repo written : List ℕ) → t.value ≡ place.Repository
-    → value_of (cond test (Some t) None) ≡ option_map place_of (cond test (Some (in_repository repo written)) None)
-repository-by t true repo written e = ap (λ v. Some v) e
-repository-by t false repo written e = refl
+-- the rows behind the words
+abbrev path_rows : RouteOf Pattern → RowsOf (RouteOf Pattern)
+path_rows r = (catch_all_token ∷ [], r) ∷ []
 
-repository-found : (t : RouteOf Place) (found : Option (List ℕ)) → t.value ≡ place.Repository
-    → value_of (option_and_then (λ rest. seek 0 (parameter t) rest) found) ≡ option_map place_of (option_and_then repository_route found)
-unfolding repository_route
-repository-found t None e = refl
-repository-found t (Some rest) e = rw (parts-row t rest) (repository-by t (has_both rest) (id_of rest) (rest_of rest) e)
+abbrev sessions_rows : RouteOf Pattern → RowsOf (RouteOf Pattern)
+sessions_rows o = (codes "sessions", o) ∷ []
 
-word-by : (s : RouteOf Place) (test : Bool) (other : Option (RouteOf Place)) (here : Route) (route : Option Route) → s.value ≡ place_of here
-    → value_of other ≡ option_map place_of route
-    → value_of (cond test (Some s) other) ≡ option_map place_of (cond test (Some here) route)
+abbrev number_rows : RouteOf Pattern → RouteOf Pattern → RouteOf Pattern → RowsOf (RouteOf Pattern)
+number_rows a m f = (codes "abort", a) ∷ (codes "commit", m) ∷ (codes "files/" ++ catch_all_token ∷ [], f) ∷ []
+
+word-by : (s : RouteOf Pattern) (test : Bool) (other : Found) (here : Route) (route : Option Route) → s.value ≡ pattern_of here
+    → value_of other ≡ option_map pattern_of route
+    → value_of (cond test (Some s) other) ≡ option_map pattern_of (cond test (Some here) route)
 word-by s true other here route e same = ap (λ v. Some v) e
 word-by s false other here route e same = same
 
-pub table-routes : (c s t : RouteOf Place) → c.value ≡ place.Clean → s.value ≡ place.Status → t.value ≡ place.Repository
-    → (path : List ℕ) → value_of (seek 0 (table c s t) path) ≡ option_map place_of (route_at path)
-unfolding route_at is_word parameter
-table-routes c s t clean_row status_row repository_row path =
-    let pattern : RowsOf (RouteOf Place) = (codes "/repository/" ++ param_token ∷ 47 ∷ catch_all_token ∷ [], t) ∷ [] in
-    let words : RowsOf (RouteOf Place) = (codes "/api/status", s) ∷ pattern in
-    let one : seek 0 (table c s t) path ≡ cond (bytes_eq path (codes "/api/clean")) (Some c) (seek 0 words path) = word-first (codes "/api/clean") c words path refl in
-    let two : seek 0 words path ≡ cond (bytes_eq path (codes "/api/status")) (Some s) (seek 0 pattern path) = word-first (codes "/api/status") s pattern path refl in
-    let front : seek 0 pattern path ≡ option_and_then (λ rest. seek 0 (parameter t) rest) (behind (codes "/repository/") path) =
-    along (codes "/repository/") (param_token ∷ 47 ∷ catch_all_token ∷ []) t path refl ∙ ap (option_and_then (λ rest. seek 0 (parameter t) rest)) (strip-behind (codes "/repository/") path) in
-    let below : value_of (seek 0 pattern path) ≡ option_map place_of (below_repository path) =
-    ap value_of front ∙ repository-found t (behind (codes "/repository/") path) repository_row in
-    let rest : Option Route = cond (bytes_eq path (codes "/api/status")) (Some status) (below_repository path) in
-    let others : value_of (seek 0 words path) ≡ option_map place_of rest =
-    ap value_of two ∙ word-by s (bytes_eq path (codes "/api/status")) (seek 0 pattern path) status (below_repository path) status_row below in
-    ap value_of one ∙ word-by c (bytes_eq path (codes "/api/clean")) (seek 0 words path) clean rest clean_row others
+-- behind a repository's id
+repository-found : (r : RouteOf Pattern) (text : List ℕ) → r.value ≡ pattern.Repository
+    → value_of (seek 0 (parameter (path_rows r)) text) ≡ option_map pattern_of (repository_route text)
+unfolding repository_route
+repository-found r text e =
+    let bare : own (path_rows r) ≡ None = refl in
+    ap value_of (parts-rows (catch_all_token ∷ []) r [] text bare)
+    ∙ ap (λ found. value_of (cond (nat_lt 0 (length (part_of text))) found None)) (catch-all r (rest_of text))
+    ∙ ap (λ test. value_of (cond (nat_lt 0 (length (part_of text))) (cond test (Some r) None) None)) (filled-length (rest_of text))
+    ∙ by-tests (nat_lt 0 (length (part_of text))) (nat_lt 0 (length (rest_of text)))
+  where
+    by-tests : (a b : Bool) → value_of (cond a (cond b (Some r) None) None) ≡ option_map pattern_of (cond (a && b) (Some (in_repository (part_of text) (rest_of text))) None)
+    by-tests true true = ap (λ v. Some v) e
+    by-tests true false = refl
+    by-tests false b = refl
+
+sessions-found : (o : RouteOf Pattern) (text : List ℕ) → o.value ≡ pattern.Sessions
+    → value_of (seek 0 (parameter (sessions_rows o)) text) ≡ option_map pattern_of (sessions_route text)
+unfolding sessions_route is_word seek
+sessions-found o text e =
+    let word : seek 0 (sessions_rows o) (rest_of text) ≡ cond (bytes_eq (rest_of text) (codes "sessions")) (Some o) None
+    = word-first (codes "sessions") o [] (rest_of text) refl ∙ ap (λ found. cond (bytes_eq (rest_of text) (codes "sessions")) (Some o) found) (seek-none 0 (rest_of text)) in
+    ap value_of (parts-rows (codes "sessions") o [] text refl)
+    ∙ ap (λ found. value_of (cond (nat_lt 0 (length (part_of text))) found None)) word
+    ∙ by-tests (nat_lt 0 (length (part_of text))) (bytes_eq (rest_of text) (codes "sessions"))
+  where
+    by-tests : (a b : Bool) → value_of (cond a (cond b (Some o) None) None) ≡ option_map pattern_of (cond (a && b) (Some (sessions (part_of text))) None)
+    by-tests true true = ap (λ v. Some v) e
+    by-tests true false = refl
+    by-tests false b = refl
+
+files-found : (f : RouteOf Pattern) (number : List ℕ) (written : Option (List ℕ)) → f.value ≡ pattern.SessionFile
+    → value_of (option_and_then (λ rest. seek 0 (path_rows f) rest) written) ≡ option_map pattern_of (option_and_then (files_route number) written)
+files-found f number None e = refl
+files-found f number (Some written) e =
+    ap value_of (catch-all f written ∙ ap (λ test. cond test (Some f) None) (filled-length written)) ∙ by-test (nat_lt 0 (length written))
+  where
+    by-test : (test : Bool) → value_of (cond test (Some f) None) ≡ option_map pattern_of (cond test (Some (in_session number written)) None)
+    by-test true = ap (λ v. Some v) e
+    by-test false = refl
+
+-- behind a session's number
+number-found : (a m f : RouteOf Pattern) (number text : List ℕ) → a.value ≡ pattern.Abort → m.value ≡ pattern.Commit → f.value ≡ pattern.SessionFile
+    → value_of (seek 0 (number_rows a m f) text) ≡ option_map pattern_of (number_route number text)
+unfolding number_route is_word
+number-found a m f number text abort_row commit_row files_row =
+    let files : RowsOf (RouteOf Pattern) = (codes "files/" ++ catch_all_token ∷ [], f) ∷ [] in
+    let words : RowsOf (RouteOf Pattern) = (codes "commit", m) ∷ files in
+    let one : seek 0 (number_rows a m f) text ≡ cond (bytes_eq text (codes "abort")) (Some a) (seek 0 words text) = word-first (codes "abort") a words text refl in
+    let two : seek 0 words text ≡ cond (bytes_eq text (codes "commit")) (Some m) (seek 0 files text) = word-first (codes "commit") m files text refl in
+    let three : seek 0 files text ≡ option_and_then (λ rest. seek 0 (path_rows f) rest) (behind (codes "files/") text) =
+    along (codes "files/") (catch_all_token ∷ []) f text refl ∙ ap (option_and_then (λ rest. seek 0 (path_rows f) rest)) (strip-behind (codes "files/") text) in
+    let below : value_of (seek 0 files text) ≡ option_map pattern_of (option_and_then (files_route number) (behind (codes "files/") text)) =
+    ap value_of three ∙ files-found f number (behind (codes "files/") text) files_row in
+    ap value_of one
+    ∙ word-by a (bytes_eq text (codes "abort")) (seek 0 words text) (abort number) _ abort_row
+    (ap value_of two ∙ word-by m (bytes_eq text (codes "commit")) (seek 0 files text) (commit number) _ commit_row below)
+
+session-found : (a m f : RouteOf Pattern) (text : List ℕ) → a.value ≡ pattern.Abort → m.value ≡ pattern.Commit → f.value ≡ pattern.SessionFile
+    → value_of (seek 0 (parameter (number_rows a m f)) text) ≡ option_map pattern_of (session_route text)
+unfolding session_route
+session-found a m f text abort_row commit_row files_row =
+    ap value_of (parts-rows (codes "abort") a ((codes "commit", m) ∷ (codes "files/" ++ catch_all_token ∷ [], f) ∷ []) text refl)
+    ∙ by-test (nat_lt 0 (length (part_of text)))
+  where
+    by-test : (test : Bool) → value_of (cond test (seek 0 (number_rows a m f) (rest_of text)) None) ≡ option_map pattern_of (cond test (number_route (part_of text) (rest_of text)) None)
+    by-test true = number-found a m f (part_of text) (rest_of text) abort_row commit_row files_row
+    by-test false = refl
+
+-- behind a word, or else by the other rows
+behind-by : (rows : RowsOf (RouteOf Pattern)) (route : List ℕ → Option Route) (found : Option (List ℕ)) (other : Found) (rest : Option Route)
+    → ((text : List ℕ) → value_of (seek 0 rows text) ≡ option_map pattern_of (route text)) → value_of other ≡ option_map pattern_of rest
+    → value_of (option_map_or (λ text. seek 0 rows text) found other) ≡ option_map pattern_of (option_map_or route found rest)
+behind-by rows route None other rest same others = others
+behind-by rows route (Some text) other rest same others = same text
+
+last-by : (rows : RowsOf (RouteOf Pattern)) (route : List ℕ → Option Route) (found : Option (List ℕ))
+    → ((text : List ℕ) → value_of (seek 0 rows text) ≡ option_map pattern_of (route text))
+    → value_of (option_map_or (λ text. seek 0 rows text) found None) ≡ option_map pattern_of (option_and_then route found)
+last-by rows route None same = refl
+last-by rows route (Some text) same = same text
+
+-- the rows of the patterns
+abbrev last_rows : RouteOf Pattern → RowsOf (RouteOf Pattern)
+last_rows r = front (codes "/repository/") (parameter (path_rows r)) ++ []
+
+abbrev status_rows : RouteOf Pattern → RouteOf Pattern → RowsOf (RouteOf Pattern)
+status_rows s r = (codes "/api/status", s) ∷ last_rows r
+
+abbrev session_rows : (a m f s r : RouteOf Pattern) → RowsOf (RouteOf Pattern)
+session_rows a m f s r = front (codes "/api/sessions/") (parameter (number_rows a m f)) ++ status_rows s r
+
+abbrev pub table : (c o a m f s r : RouteOf Pattern) → RowsOf (RouteOf Pattern)
+table c o a m f s r = (codes "/api/clean", c) ∷ front (codes "/api/repositories/") (parameter (sessions_rows o)) ++ session_rows a m f s r
+
+pub table-routes : (c o a m f s r : RouteOf Pattern) → c.value ≡ pattern.Clean → o.value ≡ pattern.Sessions → a.value ≡ pattern.Abort
+    → m.value ≡ pattern.Commit → f.value ≡ pattern.SessionFile → s.value ≡ pattern.Status → r.value ≡ pattern.Repository
+    → (path : List ℕ) → value_of (seek 0 (table c o a m f s r) path) ≡ option_map pattern_of (route_at path)
+unfolding route_at is_word front parameter
+table-routes c o a m f s r clean_row sessions_row abort_row commit_row files_row status_row repository_row path =
+    let others : RowsOf (RouteOf Pattern) = front (codes "/api/repositories/") (parameter (sessions_rows o)) ++ session_rows a m f s r in
+    let one : seek 0 (table c o a m f s r) path ≡ cond (bytes_eq path (codes "/api/clean")) (Some c) (seek 0 others path)
+    = word-first (codes "/api/clean") c others path refl in
+    let two : seek 0 others path ≡ option_map_or (λ text. seek 0 (parameter (sessions_rows o)) text) (behind (codes "/api/repositories/") path) (seek 0 (session_rows a m f s r) path)
+    = front-first (codes "/api/repositories/") (parameter (sessions_rows o)) (session_rows a m f s r) path refl refl
+    ∙ ap (λ found. option_map_or (λ text. seek 0 (parameter (sessions_rows o)) text) found (seek 0 (session_rows a m f s r) path)) (strip-behind (codes "/api/repositories/") path) in
+    let three : seek 0 (session_rows a m f s r) path ≡ option_map_or (λ text. seek 0 (parameter (number_rows a m f)) text) (behind (codes "/api/sessions/") path) (seek 0 (status_rows s r) path)
+    = front-first (codes "/api/sessions/") (parameter (number_rows a m f)) (status_rows s r) path refl refl
+    ∙ ap (λ found. option_map_or (λ text. seek 0 (parameter (number_rows a m f)) text) found (seek 0 (status_rows s r) path)) (strip-behind (codes "/api/sessions/") path) in
+    let four : seek 0 (status_rows s r) path ≡ cond (bytes_eq path (codes "/api/status")) (Some s) (seek 0 (last_rows r) path)
+    = word-first (codes "/api/status") s (last_rows r) path refl in
+    let five : seek 0 (last_rows r) path ≡ option_map_or (λ text. seek 0 (parameter (path_rows r)) text) (behind (codes "/repository/") path) None
+    = front-first (codes "/repository/") (parameter (path_rows r)) [] path refl refl
+    ∙ ap (λ found. option_map_or (λ text. seek 0 (parameter (path_rows r)) text) (strip (codes "/repository/") path) found) (seek-none 0 path)
+    ∙ ap (λ found. option_map_or (λ text. seek 0 (parameter (path_rows r)) text) found None) (strip-behind (codes "/repository/") path) in
+    ap value_of one
+    ∙ word-by c (bytes_eq path (codes "/api/clean")) (seek 0 others path) clean _ clean_row
+    (ap value_of two
+    ∙ behind-by (parameter (sessions_rows o)) sessions_route (behind (codes "/api/repositories/") path) (seek 0 (session_rows a m f s r) path) _
+    (λ text. sessions-found o text sessions_row)
+    (ap value_of three
+    ∙ behind-by (parameter (number_rows a m f)) session_route (behind (codes "/api/sessions/") path) (seek 0 (status_rows s r) path) _
+    (λ text. session-found a m f text abort_row commit_row files_row)
+    (ap value_of four
+    ∙ word-by s (bytes_eq path (codes "/api/status")) (seek 0 (last_rows r) path) status _ status_row
+    (ap value_of five
+    ∙ last-by (parameter (path_rows r)) repository_route (behind (codes "/repository/") path) (λ text. repository-found r text repository_row)))))

@@ -1,21 +1,26 @@
 -- What a request asks of the repository, as plain data (RFC 9110, section 9.3).
 use Rattle.std.specs.Prelude.{ℕ, Bool, List}
 use Rattle.mvn_coords.specs.declared.fault.Side.{Side}
+use Rattle.repo_model.specs.Data.{Place}
 
 -- what a request asks for; a path is decoded, and a length is that of the request's body, in bytes
 pub data Intent : Type 0 where
   -- GET or HEAD of a file, a document or a side file
   reads : (repo path : List ℕ) → Intent
-  -- PUT of a file
-  puts_file : (repo path : List ℕ) (length : ℕ) → Intent
+  -- PUT of a file, in a repository or in an open session
+  puts_file : (place : Place) (path : List ℕ) (length : ℕ) → Intent
   -- PUT of a side file
-  puts_side : (repo path : List ℕ) (side : Side) (length : ℕ) → Intent
+  puts_side : (place : Place) (path : List ℕ) (side : Side) (length : ℕ) → Intent
   -- PUT of a document
-  puts_document : (repo path : List ℕ) (length : ℕ) → Intent
+  puts_document : (place : Place) (path : List ℕ) (length : ℕ) → Intent
   -- GET or HEAD of the repository's counts
   counts : Intent
   -- POST of a cleaning: these hosted repositories are purged, in this order, and garbage is removed
   cleans : (repos : List (List ℕ)) → Intent
+  -- POST of a session: one is opened for a repository, or all files of one are deployed, or it is given up
+  opens : (repo : List ℕ) → Intent
+  commits : (session : ℕ) → Intent
+  aborts : (session : ℕ) → Intent
 
 -- a request that is not refused
 pub record Judged : Type 0 where

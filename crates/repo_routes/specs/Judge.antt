@@ -1,16 +1,18 @@
 -- How a request head is judged: what it asks for, or its first refusal, and whether the connection ends then (RFC 9110, section 15.5; RFC 9112, section 9.6).
-use Rattle.std.specs.Prelude.{◌≡◌, ℕ, ◌≤◌, Bool, true, false, ◌||◌, not, IsTrue, nat_lt, List, map, Some, Result, Ok, Err}
+use Rattle.std.specs.Prelude.{◌≡◌, ℕ, ◌≤◌, Bool, true, false, ◌||◌, not, IsTrue, nat_lt, if◌then◌else◌, List, map, Some, Result, Ok, Err}
 use Rattle.mvn_coords.specs.Kind.{kind}
 use Rattle.http_wire.specs.Head.{Head}
-use Rattle.repo_model.specs.Command.{is_file_path, is_there, names_document, names_something}
+use Rattle.repo_model.specs.Command.{is_file_path, is_place, is_there, names_document, names_something}
+use Rattle.repo_model.specs.Data.{repository, session}
 use Rattle.repo_model.specs.Settings.{Rule, Settings}
 use Rattle.repo_routes.specs.declared.refusal.Refusal.{Refusal}
 use Rattle.repo_routes.specs.declared.refusal.Refusal.TheVariants as refusal
 use Rattle.repo_routes.specs.declared.judging.Refused.{Refused}
 use Rattle.repo_routes.specs.Framing.{check_host, ends_connection, expects_continue, has_body, is_head, is_put, length_of}
-use Rattle.repo_routes.specs.Intent.{Intent, Judged, reads, puts_file, puts_side, puts_document, counts, cleans}
-use Rattle.repo_routes.specs.Paths.{intent_at, longest_document, longest_side, side_of}
-use Rattle.repo_routes.specs.Routes.{Route, in_repository, status, clean, check_method, check_repository, route_of}
+use Rattle.repo_routes.specs.Intent.{Intent, Judged, reads, puts_file, puts_side, puts_document, counts, cleans, opens, commits, aborts}
+use Rattle.repo_routes.specs.Numbers.{session_of}
+use Rattle.repo_routes.specs.Paths.{longest_document, longest_side, put_to, read_from, side_of}
+use Rattle.repo_routes.specs.Routes.{Route, in_repository, sessions, in_session, commit, abort, status, clean, check_method, check_repository, route_of}
 use Rattle.repo_routes.specs.Steps.{◌>>=◌, ◌>>◌, need}
 use Rattle.repo_routes.specs.Target.{target_path}
 
@@ -22,13 +24,35 @@ check_body head length = need (is_put head || not (nat_lt 0 length)) refusal.Une
 abbrev pub hosted_ids : Settings → List (List ℕ)
 hosted_ids settings = map (λ (rule : Rule). rule.id) settings.hosted
 
+-- what is asked for at a path of a repository
+unfoldable pub in_repo : Settings → Head → ℕ → List ℕ → List ℕ → Result Intent Refusal
+in_repo settings head length repo written =
+    if is_put head then put_to settings head length (repository repo) written else read_from head repo written
+
+-- what is put into a session; nothing is read there
+unfoldable pub into_session : Settings → Head → ℕ → List ℕ → List ℕ → Result Intent Refusal
+into_session settings head length number written = do
+  n ← session_of number
+  need (is_put head) refusal.Unread
+  put_to settings head length (session n) written
+
+-- what is asked of the session that a number names
+unfoldable pub of_session : (ℕ → Intent) → List ℕ → Result Intent Refusal
+of_session intent number = do
+  n ← session_of number
+  Ok (intent n)
+
 -- what is asked of a route
 abbrev pub intent_on : Settings → Head → ℕ → Route → Result Intent Refusal
-intent_on settings head length (in_repository repo written) = intent_at settings head length repo written
+intent_on settings head length (in_repository repo written) = in_repo settings head length repo written
+intent_on settings head length (sessions repo) = Ok (opens repo)
+intent_on settings head length (in_session number written) = into_session settings head length number written
+intent_on settings head length (commit number) = of_session commits number
+intent_on settings head length (abort number) = of_session aborts number
 intent_on settings head length status = Ok counts
 intent_on settings head length clean = Ok (cleans (hosted_ids settings))
 
--- what a head asks for, or the refusal of the first step that refuses: target, host, length, route, repository, method, body, path, limit
+-- what a head asks for, or the refusal of the first step that refuses: target, host, length, route, repository, method, body, session, path, limit
 unfoldable pub intent_of : Settings → Head → Result Intent Refusal
 intent_of settings head = do
   path ← target_path head.target
@@ -75,14 +99,17 @@ judge settings head = outcome_of head (intent_of settings head)
 -- what every intent keeps: the repository is there, the path names what the intent says, and the body is not too long
 abbrev pub IsIntent : Settings → Intent → Type 0
 IsIntent settings (reads repo path) = IsTrue (is_there repo settings) × IsTrue (names_something (kind path))
-IsIntent settings (puts_file repo path length) =
-    IsTrue (is_there repo settings) × IsTrue (is_file_path path) × (length ≤ settings.max_file)
-IsIntent settings (puts_side repo path side length) =
-    IsTrue (is_there repo settings) × (side_of (kind path) ≡ Some side) × (length ≤ longest_side)
-IsIntent settings (puts_document repo path length) =
-    IsTrue (is_there repo settings) × IsTrue (names_document (kind path)) × (length ≤ longest_document)
+IsIntent settings (puts_file place path length) =
+    IsTrue (is_place place settings) × IsTrue (is_file_path path) × (length ≤ settings.max_file)
+IsIntent settings (puts_side place path side length) =
+    IsTrue (is_place place settings) × (side_of (kind path) ≡ Some side) × (length ≤ longest_side)
+IsIntent settings (puts_document place path length) =
+    IsTrue (is_place place settings) × IsTrue (names_document (kind path)) × (length ≤ longest_document)
 IsIntent settings counts = Unit {0}
 IsIntent settings (cleans repos) = repos ≡ hosted_ids settings
+IsIntent settings (opens repo) = IsTrue (is_there repo settings)
+IsIntent settings (commits n) = Unit {0}
+IsIntent settings (aborts n) = Unit {0}
 
 abbrev pub IsJudged : Settings → Judged → Type 0
 IsJudged settings judged = IsIntent settings judged.intent

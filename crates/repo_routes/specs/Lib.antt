@@ -2,6 +2,7 @@ pub mod Steps
 pub mod Intent
 pub mod Target
 pub mod Framing
+pub mod Numbers
 pub mod Routes
 pub mod Paths
 pub mod Judge

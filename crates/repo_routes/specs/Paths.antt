@@ -9,6 +9,7 @@ use Rattle.mvn_coords.specs.declared.fault.PathFault.{PathFault}
 use Rattle.mvn_coords.specs.declared.fault.PathFault.TheVariants.{BadSegment}
 use Rattle.mvn_coords.specs.declared.fault.Side.{Side}
 use Rattle.http_wire.specs.Head.{Head}
+use Rattle.repo_model.specs.Data.{Place}
 use Rattle.repo_model.specs.Settings.{Settings}
 use Rattle.repo_routes.specs.declared.refusal.Refusal.{Refusal}
 use Rattle.repo_routes.specs.declared.refusal.Refusal.TheVariants as refusal
@@ -58,28 +59,30 @@ limit_of settings (thing.Side side) = longest_side
 unfoldable pub check_limit : ℕ → ℕ → Result (Unit {0}) Refusal
 check_limit limit length = need (nat_le length limit) (refusal.TooLarge limit)
 
-abbrev pub put_of : List ℕ → List ℕ → ℕ → Thing → Intent
-put_of repo path length thing.File = puts_file repo path length
-put_of repo path length thing.Document = puts_document repo path length
-put_of repo path length (thing.Side side) = puts_side repo path side length
+abbrev pub put_of : Place → List ℕ → ℕ → Thing → Intent
+put_of place path length thing.File = puts_file place path length
+put_of place path length thing.Document = puts_document place path length
+put_of place path length (thing.Side side) = puts_side place path side length
 
 -- a PUT of a body that is not too long
-unfoldable pub put_at : Settings → List ℕ → List ℕ → ℕ → Thing → Result Intent Refusal
-put_at settings repo path length what = do
+unfoldable pub put_at : Settings → Place → List ℕ → ℕ → Thing → Result Intent Refusal
+put_at settings place path length what = do
   check_limit (limit_of settings what) length
-  Ok (put_of repo path length what)
+  Ok (put_of place path length what)
 
--- what a request asks for at a thing of a repository
-unfoldable pub asked_at : Settings → Head → ℕ → List ℕ → List ℕ → Thing → Result Intent Refusal
-asked_at settings head length repo path what =
-    if is_put head then put_at settings repo path length what else Ok (reads repo path)
-
--- what a request asks for at a path of a repository, as written
-unfoldable pub intent_at : Settings → Head → ℕ → List ℕ → List ℕ → Result Intent Refusal
-intent_at settings head length repo written = do
+-- what is put at a path of a place, as written
+unfoldable pub put_to : Settings → Head → ℕ → Place → List ℕ → Result Intent Refusal
+put_to settings head length place written = do
   path ← decoded head written
   what ← thing_at head path
-  asked_at settings head length repo path what
+  put_at settings place path length what
+
+-- what is read at a path of a repository, as written
+unfoldable pub read_from : Head → List ℕ → List ℕ → Result Intent Refusal
+read_from head repo written = do
+  path ← decoded head written
+  thing_at head path
+  Ok (reads repo path)
 
 -- the side that a path is a side file of
 abbrev pub side_of : Result Kind PathFault → Option Side

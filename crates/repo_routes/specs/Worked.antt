@@ -4,12 +4,13 @@ use Rattle.mvn_coords.specs.declared.fault.PathFault.TheVariants.{BadSegment, Sh
 use Rattle.mvn_coords.specs.declared.fault.Side.TheVariants.{Sha1}
 use Rattle.http_wire.specs.declared.requests.Field.{Field}
 use Rattle.http_wire.specs.Head.{Head}
+use Rattle.repo_model.specs.Data.{repository, session}
 use Rattle.repo_model.specs.Settings.{Settings, daily}
 use Rattle.repo_routes.specs.declared.judging.Refused.{Refused}
 use Rattle.repo_routes.specs.declared.refusal.Allow.TheVariants.{Post, Read, ReadAndPut}
 use Rattle.repo_routes.specs.declared.refusal.Refusal.{Refusal}
-use Rattle.repo_routes.specs.declared.refusal.Refusal.TheVariants.{BadTarget, BadHost, NoLength, BadLength, NoRoute, NoRepository, Method, UnexpectedBody, BadPath, NoPath, TooLarge}
-use Rattle.repo_routes.specs.Intent.{Intent, Judged, reads, puts_file, puts_side, puts_document, counts, cleans}
+use Rattle.repo_routes.specs.declared.refusal.Refusal.TheVariants.{BadTarget, BadHost, NoLength, BadLength, NoRoute, NoRepository, Method, UnexpectedBody, NoSession, Unread, BadPath, NoPath, TooLarge}
+use Rattle.repo_routes.specs.Intent.{Intent, Judged, reads, puts_file, puts_side, puts_document, counts, cleans, opens, commits, aborts}
 use Rattle.repo_routes.specs.Judge.{judge}
 
 -- a hosted repository `releases`, a proxy `central` and a group `all`; files of at most 2,000 bytes
@@ -85,6 +86,12 @@ pub record RefusesInOrder : Type 0 where
   pub clean_body : judge settings (head (codes "POST") (codes "/api/clean") (length_is (codes "5") ∷ [])) ≡ refusal UnexpectedBody true
   pub path : judge settings (head (codes "PUT") (codes "/repository/releases/x") (length_is (codes "99999") ∷ [])) ≡ refusal (BadPath Short) true
   pub limit : judge settings (head (codes "PUT") at_jar (length_is (codes "2001") ∷ [])) ≡ refusal (TooLarge 2000) true
+  pub session_repository : judge settings (head (codes "GET") (codes "/api/repositories/no/sessions") (length_is (codes "5") ∷ [])) ≡ refusal NoRepository true
+  pub session_method : judge settings (head (codes "DELETE") (codes "/api/sessions/0/commit") (length_is (codes "5") ∷ [])) ≡ refusal (Method Post) true
+  pub session_body : judge settings (head (codes "POST") (codes "/api/sessions/0/commit") (length_is (codes "5") ∷ [])) ≡ refusal UnexpectedBody true
+  pub session_number : judge settings (head (codes "PUT") (codes "/api/sessions/0/files/x") (length_is (codes "99999") ∷ [])) ≡ refusal NoSession true
+  pub session_path : judge settings (head (codes "PUT") (codes "/api/sessions/1/files/x") (length_is (codes "99999") ∷ [])) ≡ refusal (BadPath Short) true
+  pub session_limit : judge settings (head (codes "PUT") (codes "/api/sessions/1/files/a/b/1/b-1.jar") (length_is (codes "2001") ∷ [])) ≡ refusal (TooLarge 2000) true
 
 -- what a refusal without a body does to the connection and to the answer
 pub record RefusesWithoutBody : Type 0 where
@@ -100,7 +107,22 @@ pub record RefusesWithoutBody : Type 0 where
   pub post_file : judge settings (head (codes "POST") at_jar []) ≡ refusal (Method ReadAndPut) false
   pub post_status : judge settings (head (codes "POST") (codes "/api/status") []) ≡ refusal (Method Read) false
   pub below_clean : judge settings (head (codes "POST") (codes "/api/clean/") []) ≡ refusal NoRoute false
-  pub sessions : judge settings (head (codes "POST") (codes "/api/sessions/1/commit") []) ≡ refusal NoRoute false
+  pub below_commit : judge settings (head (codes "POST") (codes "/api/sessions/1/commit/") []) ≡ refusal NoRoute false
+  pub no_number : judge settings (head (codes "POST") (codes "/api/sessions//commit") []) ≡ refusal NoRoute false
+  pub no_file : judge settings (head (codes "PUT") (codes "/api/sessions/1/files/") (length_is (codes "0") ∷ [])) ≡ refusal NoRoute false
+  pub of_proxy : judge settings (head (codes "POST") (codes "/api/repositories/central/sessions") []) ≡ refusal NoRepository false
+  pub get_sessions : judge settings (head (codes "GET") (codes "/api/repositories/releases/sessions") []) ≡ refusal (Method Post) false
+  pub get_commit : judge settings (head (codes "GET") (codes "/api/sessions/1/commit") []) ≡ refusal (Method Post) false
+  pub put_abort : judge settings (head (codes "PUT") (codes "/api/sessions/1/abort") (length_is (codes "0") ∷ [])) ≡ refusal (Method Post) false
+  pub post_staged : judge settings (head (codes "POST") (codes "/api/sessions/1/files/x") []) ≡ refusal (Method ReadAndPut) false
+  pub zero : judge settings (head (codes "POST") (codes "/api/sessions/0/commit") []) ≡ refusal NoSession false
+  pub leading_zero : judge settings (head (codes "POST") (codes "/api/sessions/01/commit") []) ≡ refusal NoSession false
+  pub no_digit : judge settings (head (codes "POST") (codes "/api/sessions/%31/abort") []) ≡ refusal NoSession false
+  pub great_number : judge settings (head (codes "POST") (codes "/api/sessions/9223372036854775808/abort") []) ≡ refusal NoSession false
+  pub long_number : judge settings (head (codes "POST") (codes "/api/sessions/10000000000000000000/abort") []) ≡ refusal NoSession false
+  pub no_session : judge settings (head (codes "GET") (codes "/api/sessions/x/files/x") []) ≡ refusal NoSession false
+  pub get_staged : judge settings (head (codes "GET") (codes "/api/sessions/1/files/x") []) ≡ refusal Unread false
+  pub head_staged : judge settings (head (codes "HEAD") (codes "/api/sessions/1/files/x") []) ≡ head_refusal Unread false
   pub proxy : judge settings (head (codes "GET") (codes "/repository/central/x") []) ≡ refusal NoRepository false
   pub group : judge settings (head (codes "GET") (codes "/repository/all/x") []) ≡ refusal NoRepository false
   pub escape : judge settings (head (codes "GET") (codes "/repository/releases/%zz") []) ≡ refusal (NoPath BadSegment) false
@@ -114,13 +136,21 @@ pub record AsksFor : Type 0 where
   pub status : judge settings (head (codes "GET") (codes "/api/status?x") []) ≡ request counts
   pub clean : judge settings (head (codes "POST") (codes "/api/clean") []) ≡ request (cleans (codes "releases" ∷ []))
   pub clean_without_body : judge settings (head (codes "POST") (codes "http://h/api/clean?x") (length_is (codes "0") ∷ [])) ≡ request (cleans (codes "releases" ∷ []))
-  pub put : judge settings (head (codes "PUT") at_jar (length_is (codes "2000") ∷ length_is (codes "02000") ∷ [])) ≡ request (puts_file (codes "releases") jar 2000)
-  pub put_side : judge settings (head (codes "PUT") (at_jar ++ codes ".sha1") (length_is (codes "40") ∷ [])) ≡ request (puts_side (codes "releases") (jar ++ codes ".sha1") Sha1 40)
+  pub put : judge settings (head (codes "PUT") at_jar (length_is (codes "2000") ∷ length_is (codes "02000") ∷ [])) ≡ request (puts_file (repository (codes "releases")) jar 2000)
+  pub put_side : judge settings (head (codes "PUT") (at_jar ++ codes ".sha1") (length_is (codes "40") ∷ [])) ≡ request (puts_side (repository (codes "releases")) (jar ++ codes ".sha1") Sha1 40)
   pub put_document : judge settings (head (codes "PUT") (codes "/repository/releases/a/b/maven-metadata.xml") (length_is (codes "2001") ∷ []))
-      ≡ request (puts_document (codes "releases") (codes "a/b/maven-metadata.xml") 2001)
+      ≡ request (puts_document (repository (codes "releases")) (codes "a/b/maven-metadata.xml") 2001)
   pub of_head : judge settings (head (codes "HEAD") at_jar []) ≡ Ok (record { intent = reads (codes "releases") jar; head_only = true; close = false; expects = false })
   pub old : judge settings (old_head (codes "GET") at_jar) ≡ Ok (record { intent = reads (codes "releases") jar; head_only = false; close = true; expects = false })
   pub expects : judge settings (head (codes "PUT") at_jar (length_is (codes "1") ∷ field (codes "expect") (codes "100-Continue") ∷ []))
-      ≡ Ok (record { intent = puts_file (codes "releases") jar 1; head_only = false; close = false; expects = true })
+      ≡ Ok (record { intent = puts_file (repository (codes "releases")) jar 1; head_only = false; close = false; expects = true })
   pub expects_nothing : judge settings (head (codes "PUT") at_jar (length_is (codes "0") ∷ field (codes "expect") (codes "100-continue") ∷ []))
-      ≡ request (puts_file (codes "releases") jar 0)
+      ≡ request (puts_file (repository (codes "releases")) jar 0)
+  pub open_session : judge settings (head (codes "POST") (codes "/api/repositories/releases/sessions") []) ≡ request (opens (codes "releases"))
+  pub commit_session : judge settings (head (codes "POST") (codes "/api/sessions/9223372036854775807/commit") []) ≡ request (commits 9223372036854775807)
+  pub abort_session : judge settings (head (codes "POST") (codes "/api/sessions/1/abort") (length_is (codes "0") ∷ [])) ≡ request (aborts 1)
+  pub stage : judge settings (head (codes "PUT") (codes "/api/sessions/20/files/a/b/1/b%2D1.jar") (length_is (codes "2000") ∷ [])) ≡ request (puts_file (session 20) jar 2000)
+  pub stage_side : judge settings (head (codes "PUT") (codes "/api/sessions/1/files/a/b/1/b-1.jar.sha1") (length_is (codes "40") ∷ []))
+      ≡ request (puts_side (session 1) (jar ++ codes ".sha1") Sha1 40)
+  pub stage_document : judge settings (head (codes "PUT") (codes "/api/sessions/1/files/a/b/maven-metadata.xml") (length_is (codes "2001") ∷ []))
+      ≡ request (puts_document (session 1) (codes "a/b/maven-metadata.xml") 2001)

@@ -1,4 +1,5 @@
 use mvn_coords::Side;
+use repo_model::Place;
 use texts::{Text, Texts};
 
 /// What a request asks for. A path has no escapes, and names something of its kind; a length is that of the body, in
@@ -10,22 +11,22 @@ pub enum Intent {
         repo: Text,
         path: Text,
     },
-    /// PUT of a file.
+    /// PUT of a file, in a repository or in an open deployment session.
     PutFile {
-        repo: Text,
+        place: Place,
         path: Text,
         length: u64,
     },
     /// PUT of a side file.
     PutSide {
-        repo: Text,
+        place: Place,
         path: Text,
         side: Side,
         length: u64,
     },
     /// PUT of a document.
     PutDocument {
-        repo: Text,
+        place: Place,
         path: Text,
         length: u64,
     },
@@ -33,4 +34,10 @@ pub enum Intent {
     Status,
     /// POST of a cleaning: the ids of the hosted repositories, as written.
     Clean(Texts),
+    /// POST that opens a deployment session for a hosted repository.
+    Open(Text),
+    /// POST that deploys all files of the session of a number, from 1 to 2^63 - 1.
+    Commit(u64),
+    /// POST that gives the session of a number up, from 1 to 2^63 - 1.
+    Abort(u64),
 }

@@ -1,7 +1,8 @@
 //! A request head judged: the request that it makes, or its refusal.
-ghost use Rattle.std.specs.Prelude.{◌≡◌, IfOk, map};
+ghost use Rattle.std.specs.Prelude.{◌≡◌, ℕ, IfOk, map};
 ghost use Rattle.repo_model.specs.Settings.{Rule};
 ghost use Rattle.repo_routes.specs.Routes.{shown_route};
+ghost use Rattle.repo_routes.specs.Intent as asked;
 ghost use Rattle.repo_routes.specs.Judge as spec;
 ghost use Rattle.repo_routes.specs.Shown.{shown_intent, shown_judged, shown_request};
 ghost use Rattle.repo_routes.specs.Steps.{Gives};
@@ -11,12 +12,14 @@ use crate::framing::{
     check_host, ends_connection, expects_continue, has_body, is_head, is_put, length_of,
 };
 use crate::intent::Intent;
-use crate::paths::intent_at;
+use crate::numbers::session_of;
+use crate::paths::{put_to, read_from};
 use crate::refusal::Refusal;
 use crate::routes::{Route, Routes, check_method, check_repository};
 use crate::target::target_path;
 use http_wire::Request;
 use repo_config::{HostedRule, Settings};
+use repo_model::Place;
 use std::alloc::{AllocError, Global};
 use texts::{Text, Texts};
 
@@ -73,7 +76,46 @@ pub fn hosted_ids(alloc: Global, settings: &Settings) -> Result<Texts, AllocErro
     ids_of(alloc, settings.hosted())
 }
 
+/// What a head asks for at a path of a repository.
+#[tactic(auto, unfolding(crate::specs::Judge::in_repo))]
+fn in_repo(
+    alloc: Global,
+    settings: &Settings,
+    head: &Request,
+    length: u64,
+    repo: &str,
+    written: &str,
+) -> Result<Intent, Fault>
+    ensures { Gives shown_intent (spec.in_repo settings.now head.now length repo.now written.now) result }
+{
+    if !is_put(head) {
+        return read_from(alloc, head, repo, written);
+    }
+    let place = Place::Repository(Text::new(alloc, repo)?);
+    put_to(alloc, settings, head, length, place, written)
+}
+
+/// What a head puts into a session. Nothing is read there.
+#[tactic(auto, unfolding(crate::specs::Judge::into_session))]
+fn into_session(
+    alloc: Global,
+    settings: &Settings,
+    head: &Request,
+    length: u64,
+    number: &str,
+    written: &str,
+) -> Result<Intent, Fault>
+    ensures { Gives shown_intent (spec.into_session settings.now head.now length number.now written.now) result }
+{
+    let place = Place::Session(session_of(number)?);
+    if !is_put(head) {
+        return Err(Fault::Refused(Refusal::Unread));
+    }
+    put_to(alloc, settings, head, length, place, written)
+}
+
 /// What a head asks for of its route.
+#[tactic(auto, unfolding(crate::specs::Judge::of_session))]
 fn intent_on(
     alloc: Global,
     settings: &Settings,
@@ -84,9 +126,15 @@ fn intent_on(
     ensures { Gives shown_intent (spec.intent_on settings.now head.now length (shown_route route.entry)) result }
 {
     match route {
-        Route::InRepository { repo, written } => intent_at(
-            alloc, settings, head, length, repo, written,
-        ),
+        Route::InRepository { repo, written } => {
+            in_repo(alloc, settings, head, length, repo, written)
+        }
+        Route::Sessions { repo } => Ok(Intent::Open(Text::new(alloc, repo)?)),
+        Route::InSession { number, written } => {
+            into_session(alloc, settings, head, length, number, written)
+        }
+        Route::Commit { number } => Ok(Intent::Commit(session_of(number)?)),
+        Route::Abort { number } => Ok(Intent::Abort(session_of(number)?)),
         Route::Status => Ok(Intent::Status),
         Route::Clean => Ok(Intent::Clean(hosted_ids(alloc, settings)?)),
     }
@@ -147,8 +195,8 @@ fn refusal_of(request: &Request, refusal: Refusal) -> Refused
 /// memory.
 ///
 /// The steps are: the target (RFC 9112, section 3.2), the host, the length of the body (section 6.3), the route, its
-/// repository, the method, a body that does not belong to the method, the path behind its escapes, and the limit of what
-/// is put there.
+/// repository, the method, a body that does not belong to the method, the number of a session, the path behind its escapes,
+/// and the limit of what is put there.
 #[tactic(auto, unfolding(crate::specs::Judge::judge))]
 pub fn judge(
     alloc: Global,

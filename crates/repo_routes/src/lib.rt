@@ -2,7 +2,7 @@
 //!
 //! [`judge`] takes the settings, the [`Routes`] and a head, and gives the request or the refusal of the first step that
 //! refuses: the target, the host, the length of the body, the route, its repository, its methods, a body that no method
-//! but PUT has, the path and the limit of what is put there. It is what `specs/Judge.antt` says, and touches nothing
+//! but PUT has, the session's number, the path and the limit of what is put there. It is what `specs/Judge.antt` says, and touches nothing
 //! outside.
 #![tactic(auto)]
 
@@ -11,6 +11,7 @@ mod framing;
 mod intent;
 mod judging;
 pub mod laws;
+mod numbers;
 mod paths;
 mod refusal;
 mod routes;

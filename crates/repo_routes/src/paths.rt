@@ -1,6 +1,7 @@
 //! What a path of a repository names, and how long a body may be put there.
 ghost use Rattle.std.specs.Prelude.{◌≡◌};
 ghost use Rattle.repo_routes.specs.Paths as spec;
+ghost use Rattle.repo_model.specs.Shown.{shown_place};
 ghost use Rattle.repo_routes.specs.Shown.{shown_intent};
 ghost use Rattle.repo_routes.specs.Steps.{Gives, result_shown};
 
@@ -12,6 +13,7 @@ use http_wire::Request;
 use mvn_coords::{Kind, PathFault, Side, kind_of};
 use percent_encoding::{DecodeError, percent_decode};
 use repo_config::Settings;
+use repo_model::Place;
 use std::alloc::Global;
 use texts::Text;
 
@@ -91,14 +93,22 @@ fn check_limit(limit: u64, length: u64) -> Result<(), Refusal>
     }
 }
 
-fn put_of(repo: Text, path: Text, length: u64, thing: Thing) -> Intent
-    ensures { shown_intent result ≡ spec.put_of repo path length thing }
+fn put_of(place: Place, path: Text, length: u64, thing: Thing) -> Intent
+    ensures { shown_intent result ≡ spec.put_of (shown_place place) path length thing }
 {
     match thing {
-        Thing::File => Intent::PutFile { repo, path, length },
-        Thing::Document => Intent::PutDocument { repo, path, length },
+        Thing::File => Intent::PutFile {
+            place,
+            path,
+            length,
+        },
+        Thing::Document => Intent::PutDocument {
+            place,
+            path,
+            length,
+        },
         Thing::Side(side) => Intent::PutSide {
-            repo,
+            place,
             path,
             side,
             length,
@@ -110,51 +120,47 @@ fn put_of(repo: Text, path: Text, length: u64, thing: Thing) -> Intent
 #[tactic(auto, unfolding(crate::specs::Paths::put_at))]
 fn put_at(
     settings: &Settings,
-    repo: Text,
+    place: Place,
     path: Text,
     length: u64,
     thing: Thing,
 ) -> Result<Intent, Refusal>
-    ensures { result_shown shown_intent result ≡ spec.put_at settings.now repo path length thing }
+    ensures { result_shown shown_intent result ≡ spec.put_at settings.now (shown_place place) path length thing }
 {
     check_limit(limit_of(settings, thing), length)?;
-    Ok(put_of(repo, path, length, thing))
+    Ok(put_of(place, path, length, thing))
 }
 
-/// What a request asks for at a thing of a repository.
-#[tactic(auto, unfolding(crate::specs::Paths::asked_at))]
-fn asked_at(
-    settings: &Settings,
-    head: &Request,
-    length: u64,
-    repo: Text,
-    path: Text,
-    thing: Thing,
-) -> Result<Intent, Refusal>
-    ensures { result_shown shown_intent result ≡ spec.asked_at settings.now head.now length repo path thing }
-{
-    if is_put(head) {
-        put_at(settings, repo, path, length, thing)
-    } else {
-        Ok(Intent::Read { repo, path })
-    }
-}
-
-/// What a request asks for at a path of a repository, as written.
-#[tactic(auto, unfolding(crate::specs::Paths::intent_at))]
-pub(crate) fn intent_at(
+/// What is put at a path of a place, as written.
+#[tactic(auto, unfolding(crate::specs::Paths::put_to))]
+pub(crate) fn put_to(
     alloc: Global,
     settings: &Settings,
     head: &Request,
     length: u64,
-    repo: &str,
+    place: Place,
     written: &str,
 ) -> Result<Intent, Fault>
-    ensures { Gives shown_intent (spec.intent_at settings.now head.now length repo.now written.now) result }
+    ensures { Gives shown_intent (spec.put_to settings.now head.now length (shown_place place) written.now) result }
 {
     let path = decoded(alloc, head, written)?;
     let thing = thing_at(head, path.as_str())?;
-    let repo = Text::new(alloc, repo)?;
-    let intent = asked_at(settings, head, length, repo, path, thing)?;
+    let intent = put_at(settings, place, path, length, thing)?;
     Ok(intent)
+}
+
+/// What is read at a path of a repository, as written.
+#[tactic(auto, unfolding(crate::specs::Paths::read_from))]
+pub(crate) fn read_from(
+    alloc: Global,
+    head: &Request,
+    repo: &str,
+    written: &str,
+) -> Result<Intent, Fault>
+    ensures { Gives shown_intent (spec.read_from head.now repo.now written.now) result }
+{
+    let path = decoded(alloc, head, written)?;
+    thing_at(head, path.as_str())?;
+    let repo = Text::new(alloc, repo)?;
+    Ok(Intent::Read { repo, path })
 }

@@ -30,6 +30,10 @@ pub enum Refusal {
     Method(Allow),
     /// A method other than PUT has a body.
     UnexpectedBody,
+    /// No session has this number: it is not that of one, from 1 to 2^63 - 1 without a leading zero.
+    NoSession,
+    /// The files of a session are not read.
+    Unread,
     /// What is to be put names nothing that a repository holds.
     BadPath(PathFault),
     /// What is asked for names nothing that a repository holds.

@@ -18,19 +18,32 @@ use std::marker::Model;
 
 /// The pattern of a route.
 #[derive(Clone, Copy)]
-pub(crate) enum Place {
+pub(crate) enum Pattern {
     /// `/repository/{id}/{*path}`
     Repository,
+    /// `/api/repositories/{id}/sessions`
+    Sessions,
+    /// `/api/sessions/{n}/files/{*path}`
+    SessionFile,
+    /// `/api/sessions/{n}/commit`
+    Commit,
+    /// `/api/sessions/{n}/abort`
+    Abort,
     /// `/api/status`
     Status,
     /// `/api/clean`
     Clean,
 }
 
-/// The route of a path: for a path in a repository the repository's id and what stands behind it, as written.
+/// The route of a path, with its parts as written: the id of a repository or the number of a session, and what stands
+/// behind it.
 #[derive(Clone, Copy)]
 pub(crate) enum Route<'a> {
     InRepository { repo: &'a str, written: &'a str },
+    Sessions { repo: &'a str },
+    InSession { number: &'a str, written: &'a str },
+    Commit { number: &'a str },
+    Abort { number: &'a str },
     Status,
     Clean,
 }
@@ -39,20 +52,20 @@ pub(crate) enum Route<'a> {
 /// no others. They are made once, and finding a route takes no memory.
 #[derive(Drop)]
 pub struct Routes {
-    router: Router<Place>,
+    router: Router<Pattern>,
 }
 
 impl Model for Routes {
     ghost use Rattle.std.specs.Prelude.{◌≡◌, ℕ, List};
     ghost use Rattle.std.specs.Option.{option_map};
     ghost use Rattle.matchit.specs.Seek.{first};
-    ghost use Rattle.repo_routes.specs.Routes.{place_of, route_at};
+    ghost use Rattle.repo_routes.specs.Routes.{pattern_of, route_at};
 
     ghost Value = { Unit {0} };
 
     ghost view = { λ _. tt };
 
-    ghost invariant = { λ r. (path : List ℕ) → option_map (λ e. e.value) (first r.router path) ≡ option_map place_of (route_at path) };
+    ghost invariant = { λ r. (path : List ℕ) → option_map (λ e. e.value) (first r.router path) ≡ option_map pattern_of (route_at path) };
 }
 
 impl Routes {
@@ -66,8 +79,8 @@ impl Routes {
     }
 
     /// The pattern that a path is of.
-    fn place(&self, path: &str) -> Option<Place>
-        ensures { result ≡ option_map spec.place_of (spec.route_at path.now) }
+    fn pattern(&self, path: &str) -> Option<Pattern>
+        ensures { result ≡ option_map spec.pattern_of (spec.route_at path.now) }
     {
         match self.router.at(path) {
             Ok(found) => Some(*found.value),
@@ -76,27 +89,32 @@ impl Routes {
     }
 
     /// The route of a path.
-    #[tactic(auto, unfolding(crate::specs::Routes::route_of))]
     pub(crate) fn route_of<'a>(&self, path: &'a str) -> Result<Route<'a>, Refusal>
         ensures { result_shown spec.shown_route result ≡ spec.route_of path.now }
     {
-        match self.place(path) {
-            Some(Place::Repository) => match below_repository(path) {
-                Some(route) => Ok(route),
-                None => Err(Refusal::NoRoute),
-            },
-            Some(Place::Status) => Ok(Route::Status),
-            Some(Place::Clean) => Ok(Route::Clean),
+        let Some(pattern) = self.pattern(path) else {
+            return Err(Refusal::NoRoute);
+        };
+        match route_by(pattern, path) {
+            Some(route) => Ok(route),
             None => Err(Refusal::NoRoute),
         }
     }
 }
 
-/// The route of a path that lies below `/repository/`.
-fn below_repository(path: &str) -> Option<Route<'_>>
-    ensures { option_map spec.shown_route result ≡ spec.below_repository path.now }
+/// The route of a path that is of a pattern.
+fn route_by(pattern: Pattern, path: &str) -> Option<Route<'_>>
+    ensures { option_map spec.shown_route result ≡ spec.route_by pattern path.now }
 {
-    repository_route(behind("/repository/", path)?)
+    match pattern {
+        Pattern::Repository => repository_route(behind("/repository/", path)?),
+        Pattern::Sessions => sessions_route(behind("/api/repositories/", path)?),
+        Pattern::SessionFile | Pattern::Commit | Pattern::Abort => {
+            session_route(behind("/api/sessions/", path)?)
+        }
+        Pattern::Status => Some(Route::Status),
+        Pattern::Clean => Some(Route::Clean),
+    }
 }
 
 /// The id of a repository and what stands behind it. Neither is empty.
@@ -109,6 +127,48 @@ fn repository_route(text: &str) -> Option<Route<'_>>
         return None;
     }
     Some(Route::InRepository { repo, written })
+}
+
+/// The id of a repository, behind which stands `sessions` alone.
+#[tactic(auto, unfolding(crate::specs::Routes::sessions_route))]
+fn sessions_route(text: &str) -> Option<Route<'_>>
+    ensures { option_map spec.shown_route result ≡ spec.sessions_route text.now }
+{
+    let (repo, rest) = text.split_once('/')?;
+    if repo.is_empty() || !is(rest, "sessions") {
+        return None;
+    }
+    Some(Route::Sessions { repo })
+}
+
+/// The number of a session, and what is asked of it.
+#[tactic(auto, unfolding(crate::specs::Routes::session_route, crate::specs::Routes::number_route))]
+fn session_route(text: &str) -> Option<Route<'_>>
+    ensures { option_map spec.shown_route result ≡ spec.session_route text.now }
+{
+    let (number, rest) = text.split_once('/')?;
+    if number.is_empty() {
+        return None;
+    }
+    number_route(number, rest)
+}
+
+/// What is asked of the session of a number.
+#[tactic(auto, unfolding(crate::specs::Routes::number_route))]
+fn number_route<'a>(number: &'a str, rest: &'a str) -> Option<Route<'a>>
+    ensures { option_map spec.shown_route result ≡ spec.number_route number.now rest.now }
+{
+    if is(rest, "abort") {
+        return Some(Route::Abort { number });
+    }
+    if is(rest, "commit") {
+        return Some(Route::Commit { number });
+    }
+    let written = behind("files/", rest)?;
+    if written.is_empty() {
+        return None;
+    }
+    Some(Route::InSession { number, written })
 }
 
 /// Whether one of these repositories has the id.
@@ -131,7 +191,8 @@ pub(crate) fn check_repository(settings: &Settings, route: Route<'_>) -> Result<
     ensures { result ≡ spec.check_repository settings.now (spec.shown_route route.entry) }
 {
     match route {
-        Route::InRepository { repo, .. } if !is_there(settings, repo) => Err(Refusal::NoRepository),
+        Route::InRepository { repo, .. } | Route::Sessions { repo } if !is_there(settings, repo) =>
+            { Err(Refusal::NoRepository) }
         _ => Ok(()),
     }
 }
@@ -141,9 +202,11 @@ fn allowed(route: Route<'_>) -> Allow
     ensures { result ≡ spec.allowed (spec.shown_route route.entry) }
 {
     match route {
-        Route::InRepository { .. } => Allow::ReadAndPut,
+        Route::InRepository { .. } | Route::InSession { .. } => Allow::ReadAndPut,
         Route::Status => Allow::Read,
-        Route::Clean => Allow::Post,
+        Route::Sessions { .. } | Route::Commit { .. } | Route::Abort { .. } | Route::Clean => {
+            Allow::Post
+        }
     }
 }
 
@@ -171,12 +234,16 @@ pub(crate) fn check_method(route: Route<'_>, head: &Request) -> Result<(), Refus
 }
 
 /// The router with the pattern of each route.
-fn add_routes(router: &mut Router<Place>) -> Result<(), InsertError>
+fn add_routes(router: &mut Router<Pattern>) -> Result<(), InsertError>
     requires { router.old ≡ [] }
-    ensures { OnOk result ((path : List ℕ) → option_map (λ e. e.value) (first router.new path) ≡ option_map spec.place_of (spec.route_at path)) }
+    ensures { OnOk result ((path : List ℕ) → option_map (λ e. e.value) (first router.new path) ≡ option_map spec.pattern_of (spec.route_at path)) }
 {
-    router.insert("/repository/{id}/{*path}", Place::Repository)?;
-    router.insert("/api/status", Place::Status)?;
-    router.insert("/api/clean", Place::Clean)?;
+    router.insert("/repository/{id}/{*path}", Pattern::Repository)?;
+    router.insert("/api/repositories/{id}/sessions", Pattern::Sessions)?;
+    router.insert("/api/sessions/{n}/files/{*path}", Pattern::SessionFile)?;
+    router.insert("/api/sessions/{n}/commit", Pattern::Commit)?;
+    router.insert("/api/sessions/{n}/abort", Pattern::Abort)?;
+    router.insert("/api/status", Pattern::Status)?;
+    router.insert("/api/clean", Pattern::Clean)?;
     Ok(())
 }

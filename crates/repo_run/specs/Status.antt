@@ -2,7 +2,7 @@
 use Rattle.std.specs.Prelude.{◌≡◌, ◌⊎◌, ℕ}
 use Rattle.outside.specs.Faults.{Rose}
 use Rattle.repo_run.specs.declared.actions.Action.{Action}
-use Rattle.repo_run.specs.declared.actions.Action.TheVariants.{Replay, Check, Clean, Nothing}
+use Rattle.repo_run.specs.declared.actions.Action.TheVariants.{Replay, Check, Clean, Serve, Nothing}
 
 -- done, settings that are refused, a store that failed or does not read, a damaged file, input, output or want of memory; and
 -- never 2
@@ -18,6 +18,7 @@ abbrev pub MatchAction : Action → ℕ → Type 0
 MatchAction Replay status = IsStatusOfOpening status
 MatchAction Check status = IsStatusOfCheck status
 MatchAction Clean status = IsStatusOfOpening status
+MatchAction Serve status = (status ≡ 2) ⊎ (status ≡ 8)
 MatchAction Nothing status = (status ≡ 2) ⊎ (status ≡ 8)
 
 -- the counts of faults that decide how a connection's replay ends, in the order in which they do: those of its source and

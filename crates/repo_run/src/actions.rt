@@ -9,6 +9,8 @@ pub enum Action {
     Check,
     /// To purge the repositories, and to remove what is garbage.
     Clean,
+    /// To answer the requests of any number of connections.
+    Serve,
     /// Nothing: the words are refused.
     Nothing,
 }
@@ -24,4 +26,6 @@ pub struct Wanted {
     /// The moment at which the clock begins, in seconds since 1970 in UTC, and by how many seconds it goes on with each look.
     pub at: u64,
     pub step: u64,
+    /// The port of 127.0.0.1 on which to answer.
+    pub port: u16,
 }

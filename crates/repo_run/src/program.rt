@@ -56,7 +56,7 @@ fn act<B: Blobs, S: Source, P: Port, K: Records, C: Clock, O: Sink>(
             }
         }
         Action::Clean => clean(alloc, settings, &mut cleaner.blobs, records, clock, out),
-        Action::Nothing => {
+        Action::Serve | Action::Nothing => {
             let status = fault(out, b"mvnrepod: words\n", REFUSED);
             Ended {
                 status,
@@ -72,8 +72,8 @@ fn act<B: Blobs, S: Source, P: Port, K: Records, C: Clock, O: Sink>(
 /// `replay` reads the settings, opens a repository of them over what is recorded and stored, takes the first connection from
 /// the first desk's port, serves it, at most 1,000 requests, and gives it back. `clean` opens a repository over the cleaner's
 /// blobs and makes one pass over it. `check` looks at each recorded file in the first desk's blobs, once the settings were
-/// read. Other words are refused. `out` takes one line, of a cleaning two, of a check one more for each damaged file, or a front
-/// of these where `out` fails.
+/// read. Other words are refused, and also those of a server, which is not run here. `out` takes one line, of a cleaning two, of
+/// a check one more for each damaged file, or a front of these where `out` fails.
 ///
 /// | status | where | line |
 /// |---|---|---|

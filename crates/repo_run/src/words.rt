@@ -24,6 +24,7 @@ fn nothing(alloc: Global) -> Wanted
         folder: empty(alloc),
         at: 0,
         step: 0,
+        port: 0,
     }
 }
 
@@ -36,6 +37,7 @@ fn over_folder(command: Action, settings: Text, folder: Text) -> Wanted
         folder,
         at: 0,
         step: 0,
+        port: 0,
     }
 }
 
@@ -49,6 +51,7 @@ fn asked_by(alloc: Global, words: command_words::Wanted) -> Wanted
             folder: empty(alloc),
             at,
             step,
+            port: 0,
         },
         command_words::Wanted::Check { settings, data } => over_folder(
             Action::Check,
@@ -60,11 +63,23 @@ fn asked_by(alloc: Global, words: command_words::Wanted) -> Wanted
             settings,
             data,
         ),
+        command_words::Wanted::Serve {
+            settings,
+            data,
+            port,
+        } => Wanted {
+            command: Action::Serve,
+            settings,
+            folder: data,
+            at: 0,
+            step: 0,
+            port,
+        },
     }
 }
 
 /// Reads the words behind the program's name: `replay SETTINGS [--at T] [--step S]`, T up to 253402207200 and S up to 86400, or
-/// `check SETTINGS DATA` or `clean SETTINGS DATA`; all else asks for nothing.
+/// `check SETTINGS DATA`, `clean SETTINGS DATA` or `serve SETTINGS DATA PORT`, PORT from 1 to 65535; all else asks for nothing.
 pub fn wanted(alloc: Global, words: &[String]) -> Result<Wanted, NoMemory>
     ensures { IfOk result (λ wanted. wanted ≡ asked (map string_bytes words.now)) }
 {

@@ -1,9 +1,10 @@
 // Damaged files, and stores that fail.
-use crate::stock::{JAR, four_files, nothing, started, store_of};
+use crate::stock::{JAR, four_files, full_store, nothing, started, store_of};
 use blob_audit::Damaged;
 use outside::Held;
 use outside_memory::{FaultScript, WrongBlobs};
 use repo_restart::{RestoreFault, Restored};
+use std::alloc::Global;
 use std::process::Abort;
 use std::test::Fail;
 
@@ -64,31 +65,25 @@ fn a_store_that_lies_is_found_out(rt: HostRuntime) -> Result<(), Fail> {
     Ok(())
 }
 
+// A start whose call of this number, counted from 0, fails at the store, and the start after it.
+fn fails_at(rt: &impl Abort, alloc: Global, call: u64) -> Result<(), Fail> {
+    let mut journal = four_files(alloc)?;
+    let failing = vec![in alloc; call.wrapping_add(6)]?;
+    let mut store = full_store(alloc, failing)?;
+    assert!(rt; is_store_fault(&started(alloc, &mut journal, &mut store)?));
+    assert_eq!(rt; store.faults(), 1);
+    let gone = if call == 10 { 1 } else { 0 };
+    assert_eq!(rt; store.removed().len(), gone);
+    assert!(rt; started(alloc, &mut journal, &mut store)?.is_ok());
+    assert_eq!(rt; store.removed(), [7, 9].as_slice());
+    Ok(())
+}
+
 // Four files are found and read, the blobs are listed, and two go: each of these calls may fail.
 #[test]
 fn each_call_of_the_store_may_fail(rt: HostRuntime) -> Result<(), Fail> {
-    let alloc = rt.alloc();
-    let blobs: [(u64, &[u8]); 6] = [
-        (1, b"abc"),
-        (2, b"abc"),
-        (3, b"abc"),
-        (4, b"abc"),
-        (7, b"left"),
-        (9, b"over"),
-    ];
     for call in 0..11 {
-        let mut journal = four_files(alloc)?;
-        let mut failing = Vec::new(alloc);
-        failing.push(6 + call)?;
-        let mut store = store_of(alloc, &blobs, failing)?;
-        let first = started(alloc, &mut journal, &mut store)?;
-        assert!(rt; is_store_fault(&first));
-        assert_eq!(rt; store.faults(), 1);
-        let gone: &[u64] = if call == 10 { &[7] } else { &[] };
-        assert_eq!(rt; store.removed(), gone);
-        let second = started(alloc, &mut journal, &mut store)?;
-        assert!(rt; second.is_ok());
-        assert_eq!(rt; store.removed(), [7, 9].as_slice());
+        fails_at(&rt, rt.alloc(), call)?;
     }
     Ok(())
 }

@@ -151,6 +151,19 @@ pub fn store_of(
     Ok(store)
 }
 
+/// A store with the blobs of the four files and two more, whose calls fail as the script says; storing takes six.
+pub fn full_store(alloc: Global, failing: Vec<u64>) -> Result<MemBlobs, Fail> {
+    let blobs: [(u64, &[u8]); 6] = [
+        (1, b"abc"),
+        (2, b"abc"),
+        (3, b"abc"),
+        (4, b"abc"),
+        (7, b"left"),
+        (9, b"over"),
+    ];
+    store_of(alloc, &blobs, failing)
+}
+
 /// The settings of the repositories snapshots and releases.
 pub fn settings(alloc: Global) -> Result<Settings, Fail> {
     match repo_config::read(alloc, SETTINGS.as_bytes()) {

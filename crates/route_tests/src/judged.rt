@@ -3,6 +3,7 @@ use http_wire::Wire;
 use mvn_coords::Side;
 use outside_memory::{FaultScript, MemSource};
 use repo_config::Settings;
+use repo_model::Place;
 use repo_routes::{Allow, Intent, Judged, Refusal, Refused, Routes, judge};
 use std::alloc::{AllocError, Global};
 use std::process::Abort;
@@ -40,6 +41,14 @@ fn side_name(side: Side) -> &'static str {
     }
 }
 
+/// The id of a repository, or `session` and its number.
+fn place_words(alloc: Global, place: &Place) -> Result<String, AllocError> {
+    match place {
+        Place::Repository(repo) => String::from_str(alloc, repo.as_str()),
+        Place::Session(number) => format!(in alloc; "session {number}"),
+    }
+}
+
 fn intent_words(alloc: Global, intent: &Intent) -> Result<String, AllocError> {
     match intent {
         Intent::Status => String::from_str(alloc, "Status"),
@@ -55,23 +64,37 @@ fn intent_words(alloc: Global, intent: &Intent) -> Result<String, AllocError> {
             let (repo, path) = (repo.as_str(), path.as_str());
             format!(in alloc; "Read {repo} {path}")
         }
-        Intent::PutFile { repo, path, length } => {
-            let (repo, path) = (repo.as_str(), path.as_str());
-            format!(in alloc; "PutFile {repo} {path} {length}")
+        Intent::PutFile {
+            place,
+            path,
+            length,
+        } => {
+            let (place, path) = (place_words(alloc, place)?, path.as_str());
+            format!(in alloc; "PutFile {place} {path} {length}")
         }
-        Intent::PutDocument { repo, path, length } => {
-            let (repo, path) = (repo.as_str(), path.as_str());
-            format!(in alloc; "PutDocument {repo} {path} {length}")
+        Intent::PutDocument {
+            place,
+            path,
+            length,
+        } => {
+            let (place, path) = (place_words(alloc, place)?, path.as_str());
+            format!(in alloc; "PutDocument {place} {path} {length}")
         }
         Intent::PutSide {
-            repo,
+            place,
             path,
             side,
             length,
         } => {
-            let (repo, path, side) = (repo.as_str(), path.as_str(), side_name(*side));
-            format!(in alloc; "PutSide {repo} {path} {side} {length}")
+            let (place, path, side) = (place_words(alloc, place)?, path.as_str(), side_name(*side));
+            format!(in alloc; "PutSide {place} {path} {side} {length}")
         }
+        Intent::Open(repo) => {
+            let repo = repo.as_str();
+            format!(in alloc; "Open {repo}")
+        }
+        Intent::Commit(session) => format!(in alloc; "Commit {session}"),
+        Intent::Abort(session) => format!(in alloc; "Abort {session}"),
     }
 }
 
@@ -87,6 +110,8 @@ fn refusal_words(alloc: Global, refusal: Refusal) -> Result<String, AllocError> 
         Refusal::Method(Allow::ReadAndPut) => String::from_str(alloc, "Method GET, HEAD, PUT"),
         Refusal::Method(Allow::Post) => String::from_str(alloc, "Method POST"),
         Refusal::UnexpectedBody => String::from_str(alloc, "UnexpectedBody"),
+        Refusal::NoSession => String::from_str(alloc, "NoSession"),
+        Refusal::Unread => String::from_str(alloc, "Unread"),
         Refusal::BadPath(fault) => {
             let name = fault.name();
             format!(in alloc; "BadPath {name}")

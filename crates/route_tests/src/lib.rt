@@ -11,3 +11,5 @@ mod paths;
 mod refusals;
 #[cfg(test)]
 mod requests;
+#[cfg(test)]
+mod sessions;

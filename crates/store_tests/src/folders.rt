@@ -17,7 +17,7 @@ fn a_folder_is_made_and_locked(rt: HostRuntime) -> Result<(), Fail> {
     // Nobody else has it meanwhile.
     let mut second = open_disk(&rt, FOLDER);
     assert!(rt; second.size().is_err() && second.sync().is_err());
-    drop(first)?;
+    drop(first);
     let mut third = open_disk(&rt, FOLDER);
     let mut bytes = [0; 3];
     third.read(0, &mut bytes)?;

@@ -60,7 +60,7 @@ fn a_damaged_file_ends_it(rt: HostRuntime) -> Result<(), Fail> {
     Ok(())
 }
 
-// The load is call 0 of the records, and what the PUT records call 1.
+// The load is call 0 of the records, and what the PUT records call 1; its draft is then given up.
 #[test]
 fn records_that_fail_are_told(rt: HostRuntime) -> Result<(), Fail> {
     let alloc = rt.alloc();
@@ -74,6 +74,6 @@ fn records_that_fail_are_told(rt: HostRuntime) -> Result<(), Fail> {
     stage.input = PUT;
     let over = run_over(alloc, "replay", stage)?;
     assert_eq!(rt; over.answers(), FAILED);
-    assert!(rt; over.said("calls 2 end Closed\n", 0));
+    assert!(rt; over.said("calls 3 end Closed\n", 0));
     Ok(())
 }

@@ -41,3 +41,7 @@ returns-clause-methods c settings clock = (refl, refl)
 pub returns-clause-paths : goal.returns-clause-paths
 unfolding course_laws_on_literals
 returns-clause-paths c settings clock = (refl, refl)
+
+pub returns-clause-session : goal.returns-clause-session
+unfolding course_laws_on_literals
+returns-clause-session c settings clock = (refl, refl)

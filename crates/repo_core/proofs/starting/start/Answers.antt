@@ -7,7 +7,7 @@ use Rattle.repo_model.specs.Tables.{no_tables}
 use Rattle.repo_core.specs.Start.{Starts}
 use Rattle.repo_core.specs.Stock.{state_of}
 use Rattle.repo_core.specs.Whole.{Whole, counting}
-use Rattle.repo_core.proofs.StartLemmas.{starts-closed, starts-counted, starts-kept, starts-last, starts-opening, starts-rules, starts-told}
+use Rattle.repo_core.proofs.StartLemmas.{starts-counted, starts-kept, starts-last, starts-opening, starts-rules, starts-staged, starts-told}
 use Rattle.repo_core.proofs.starting.start.Goals as goal
 
 pub of-requires-clause-moment : goal.of-requires-clause-moment
@@ -24,12 +24,12 @@ of-requires-clause-rules g c =
     let new = g.B.Blobs.shelf c.stock_of.new.blobs in
     starts-rules c.args.settings c.in-Ok.tables old new clock (state_of c.in-Ok-stock_of.stock clock) c.in-Ok.ensures.built c.form.ensures (c.in-Ok-stock_of.ensures.starts clock)
 
-pub of-requires-clause-closed : goal.of-requires-clause-closed
-of-requires-clause-closed g c =
+pub of-requires-clause-staged : goal.of-requires-clause-staged
+of-requires-clause-staged g c =
     let clock = g.C.Clock.moments c.args.clock in
     let old = g.B.Blobs.shelf c.args.blobs.now in
     let new = g.B.Blobs.shelf c.stock_of.new.blobs in
-    starts-closed c.args.settings c.in-Ok.tables old new clock (state_of c.in-Ok-stock_of.stock clock) c.in-Ok.ensures.built c.form.ensures (c.in-Ok-stock_of.ensures.starts clock)
+    starts-staged c.args.settings c.in-Ok.tables old new clock (state_of c.in-Ok-stock_of.stock clock) c.in-Ok.ensures.built c.form.ensures (c.in-Ok-stock_of.ensures.starts clock) c.in-Ok-stock_of.stock.yard.kept
 
 pub over-requires-clause-kept : goal.over-requires-clause-kept
 over-requires-clause-kept g c =

@@ -20,6 +20,12 @@ computed = record {
   clean_body = refl;
   path = refl;
   limit = refl;
+  session_repository = refl;
+  session_method = refl;
+  session_body = refl;
+  session_number = refl;
+  session_path = refl;
+  session_limit = refl;
 }
 
 pub returns : goal.returns

@@ -18,6 +18,12 @@ computed = record {
   old = refl;
   expects = refl;
   expects_nothing = refl;
+  open_session = refl;
+  commit_session = refl;
+  abort_session = refl;
+  stage = refl;
+  stage_side = refl;
+  stage_document = refl;
 }
 
 pub returns : goal.returns

@@ -1,12 +1,17 @@
 use Rattle.std.proofs.Common.{refl}
 use Rattle.matchit.proofs.OnLiterals.{matchit_on_literals}
+use Rattle.repo_routes.proofs.RouterLemmas.{front, parameter}
 use Rattle.repo_routes.proofs.TableLemmas.{table-routes}
 use Rattle.repo_routes.proofs.routes.add_routes.Goals as goal
 
 pub returns : goal.returns
-unfolding matchit_on_literals
+unfolding matchit_on_literals front parameter
 returns c =
     let one = c.in_ok-insert.ensures in
     let two = c.in_ok-insert-2.ensures in
     let three = c.in_ok-insert-3.ensures in
-    rw (three.1, two.1, one.1, c.requires) (table-routes _ _ _ refl refl refl)
+    let four = c.in_ok-insert-4.ensures in
+    let five = c.in_ok-insert-5.ensures in
+    let six = c.in_ok-insert-6.ensures in
+    let seven = c.in_ok-insert-7.ensures in
+    rw (seven.1, six.1, five.1, four.1, three.1, two.1, one.1, c.requires) (table-routes _ _ _ _ _ _ _ refl refl refl refl refl refl refl)

@@ -16,6 +16,7 @@ use Rattle.repo_core.proofs.DraftLemmas.{fit-so, named-so, put-turn, recorded-pu
 use Rattle.repo_core.proofs.HostedLemmas.{named-there, rules-kept}
 use Rattle.repo_core.proofs.ItemForms.{draft-number, fit-file}
 use Rattle.repo_core.proofs.SessionNumbers.{session-put}
+use Rattle.repo_core.proofs.StagedLemmas.{staged-put}
 use Rattle.repo_core.proofs.UseLemmas.{put-used}
 use Rattle.repo_core.proofs.machine.Machine.put.Goals as goal
 
@@ -59,7 +60,7 @@ invariant_of-self g c =
       moment = c.self.invariant.moment;
       blobs = rw (c.put-outcome.ensures.rows, c.settle.ensures) used;
       rules = ap rules_of c.put-outcome.ensures.rows ∙ rules-kept c.args.repo.now _ c.self.inside.repos.items ∙ c.self.invariant.rules;
-      closed = c.self.invariant.closed;
+      staged = rw c.settle.ensures (staged-put c.args.draft (shown_put c.put-outcome.result) c.self.inside.yard.kept c.self.inside.sessions.sessions c.self.invariant.staged);
       numbers = ap (λ (y : Numbers). y.yard.next_session) c.settle.ensures ∙ session-put c.args.draft (shown_put c.put-outcome.result) c.self.inside.yard.yard ∙ c.self.invariant.numbers;
     }
 
