@@ -1,2 +1,2 @@
-mod DamageLemmas
-mod Merging
+pub mod DamageLemmas
+pub mod Merging

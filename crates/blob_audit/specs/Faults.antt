@@ -5,6 +5,7 @@ use Rattle.outside.specs.declared.faults.BlobFault.{BlobFault}
 use Rattle.outside.specs.declared.faults.BlobFault.TheVariants as blob
 use Rattle.row_tables.specs.declared.faults.LoadFault.{LoadFault}
 use Rattle.row_tables.specs.declared.faults.LoadFault.TheVariants as load
+use Rattle.row_tables.specs.Records.{Expected}
 use Rattle.blob_audit.specs.declared.faults.AuditFault.{AuditFault}
 use Rattle.blob_audit.specs.declared.faults.AuditFault.TheVariants.{NoMemory, Store, NotOurs, Row}
 
@@ -29,3 +30,9 @@ abbrev pub IsUnread : {T : Type 0} → Result T AuditFault → Type 0
 IsUnread (Err NotOurs) = Unit {0}
 IsUnread (Err (Row frame at)) = Unit {0}
 IsUnread result = ⊥
+
+-- the refusal is the one that a load gives
+abbrev pub RefusesAs : {T : Type 0} → Expected → Result T AuditFault → Type 0
+RefusesAs expected (Err NotOurs) = expected ≡ Err load.NotOurs
+RefusesAs expected (Err (Row frame at)) = expected ≡ Err (load.Row frame at)
+RefusesAs expected result = Unit {0}

@@ -1,9 +1,9 @@
 //! A look at all recorded files.
-ghost use Rattle.std.specs.Prelude.{◌≡◌, IfOk, IfSome, OnOk, None, length};
+ghost use Rattle.std.specs.Prelude.{◌≡◌, IfOk, IfSome, Ok, OnOk, None, length};
 ghost use Rattle.repo_model.specs.Tables.{Tables};
 ghost use Rattle.row_tables.specs.Recorded.{IsBuiltUp};
 ghost use Rattle.blob_audit.specs.Damages.{AreDamaged};
-ghost use Rattle.blob_audit.specs.Faults.{HasAuditCause, IsUnread};
+ghost use Rattle.blob_audit.specs.Faults.{HasAuditCause, IsUnread, RefusesAs};
 ghost use Rattle.blob_audit.specs.Order.{all_rows};
 
 use crate::damages::{Audit, damages};
@@ -24,7 +24,9 @@ pub fn audit<K: Records, B: Blobs>(
     blobs: &mut B,
 ) -> Result<Audit, AuditFault>
     ensures audit { IfOk result (λ found. (t : Tables) × IsBuiltUp t × IfSome (K.tables records.old) (λ told. t ≡ told)
+        × IfSome (K.loading records.old) (λ told. told ≡ Ok t)
         × (found.looked ≡ length (all_rows t)) × AreDamaged (B.shelf blobs.old) (all_rows t) found.damaged.items) }
+    ensures loading { IfSome (K.loading records.old) (λ told. RefusesAs told result) }
     ensures unread { IsUnread result → K.tables records.old ≡ None }
     ensures cause { HasAuditCause (K.faults records.old) (K.faults records.new) (B.faults blobs.old) (B.faults blobs.new) result }
     ensures ready { OnOk result (K.ready records.new) }

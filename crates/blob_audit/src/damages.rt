@@ -33,6 +33,22 @@ pub struct Audit {
     pub damaged: Vec<Damaged>,
 }
 
+/// The damage of a file of whose blob this was found.
+pub fn damage_of(
+    alloc: Global,
+    file: &RecordedFile<'_>,
+    found: Option<Print>,
+) -> Result<Damaged, AllocError>
+    ensures { IfOk result (λ one. one ≡ damaged_row (shown_file file.now).row found) }
+{
+    Ok(Damaged {
+        repo: Text::new(alloc, &file.place.0)?,
+        path: Text::new(alloc, &file.place.1)?,
+        recorded: file.row.print,
+        found,
+    })
+}
+
 // Adds a file of whose blob this was found.
 fn push_damaged(
     alloc: Global,
@@ -42,12 +58,7 @@ fn push_damaged(
 ) -> Result<(), AllocError>
     ensures { OnOk result (damaged.new.items ≡ damaged.old.items ++ damaged_row (shown_file file.now).row found ∷ []) }
 {
-    let one = Damaged {
-        repo: Text::new(alloc, &file.place.0)?,
-        path: Text::new(alloc, &file.place.1)?,
-        recorded: file.row.print,
-        found,
-    };
+    let one = damage_of(alloc, file, found)?;
     damaged.push(one)?;
     Ok(())
 }

@@ -8,6 +8,7 @@ mod looking;
 mod order;
 
 pub use audits::audit;
-pub use damages::{Audit, Damaged};
+pub use damages::{Audit, Damaged, damage_of};
 pub use faults::AuditFault;
 pub use looking::{Found, look_at};
+pub use order::{RecordedFile, all_files};

@@ -19,10 +19,26 @@ replay =
     (number (codes "at") 253402207200))
     (number (codes "step") 86400)
 
+-- `NAME SETTINGS DATA`
+abbrev pub over_data : List ℕ → App
+over_data name =
+    with_rule (with_rule (without_help (new_app name))
+    (record (new_rule (codes "settings")) { required = true }))
+    (record (new_rule (codes "data")) { required = true })
+
+-- `serve SETTINGS DATA PORT`
+abbrev pub serve : App
+serve = with_rule (over_data (codes "serve")) (record (new_rule (codes "port")) { required = true; parser = Some (Unsigned 1 65535) })
+
 abbrev pub bare : App
 bare = without_help (new_app (codes "mvnrepod"))
 
+-- the program without what changes a folder
+abbrev pub looking : App
+looking =
+    with_subcommand (with_subcommand (record bare { top = record bare.top { no_binary_name = true; disable_help_subcommand = true; subcommand_required = true } })
+    replay.top)
+    (over_data (codes "check")).top
+
 abbrev pub program : App
-program =
-    with_subcommand (record bare { top = record bare.top { no_binary_name = true; disable_help_subcommand = true; subcommand_required = true } })
-    replay.top
+program = with_subcommand (with_subcommand looking (over_data (codes "clean")).top) serve.top

@@ -1,5 +1,5 @@
 -- What the words of a command line ask for.
-use Rattle.std.specs.Prelude.{◌≡◌, ◌≢◌, ℕ, ◌^◌, ◌-◌, Bool, true, false, if◌then◌else◌, List, [], ◌∷◌, Option, Some, None, codes}
+use Rattle.std.specs.Prelude.{◌≡◌, ◌≢◌, ℕ, ◌^◌, ◌-◌, nat_lt, Bool, true, false, if◌then◌else◌, List, [], ◌∷◌, Option, Some, None, codes}
 use Rattle.std.specs.Option.{option_map_or, option_and_then}
 use Rattle.std.specs.Str.{bytes_eq}
 use Rattle.std.specs.Str.Parse.{digits_value, without_leading_plus}
@@ -9,7 +9,7 @@ use Rattle.clap.specs.declared.error.ErrorKind.{ErrorKind}
 use Rattle.clap.specs.declared.error.ErrorKind.TheVariants.{OutOfMemory}
 use Rattle.command_words.specs.Program.{program}
 use Rattle.command_words.specs.declared.wanted.Wanted.{Wanted}
-use Rattle.command_words.specs.declared.wanted.Wanted.TheVariants.{Replay}
+use Rattle.command_words.specs.declared.wanted.Wanted.TheVariants.{Replay, Check, Clean, Serve}
 use Rattle.command_words.specs.declared.wanted.WordsFault.{WordsFault}
 use Rattle.command_words.specs.declared.wanted.WordsFault.TheVariants.{Refused, NoMemory}
 
@@ -24,10 +24,28 @@ number_at id rows = option_map_or number_of (first_of id rows) 0
 abbrev pub text_at : Text → List Row → Text
 text_at id rows = option_map_or (λ text. text) (first_of id rows) []
 
+abbrev pub replay_in : List Row → Wanted
+replay_in rows = Replay (text_at (codes "settings") rows) (number_at (codes "at") rows) (number_at (codes "step") rows)
+
+abbrev pub check_in : List Row → Wanted
+check_in rows = Check (text_at (codes "settings") rows) (text_at (codes "data") rows)
+
+abbrev pub clean_in : List Row → Wanted
+clean_in rows = Clean (text_at (codes "settings") rows) (text_at (codes "data") rows)
+
+-- a number of 16 bits; what is greater is no port
+abbrev pub port_of : ℕ → ℕ
+port_of n = if nat_lt n (2 ^ 16) then n else 0
+
+abbrev pub serve_in : List Row → Wanted
+serve_in rows = Serve (text_at (codes "settings") rows) (text_at (codes "data") rows) (port_of (number_at (codes "port") rows))
+
 abbrev pub wanted_by : Text × List Row → Option Wanted
 wanted_by (name, rows) =
-    if bytes_eq name (codes "replay")
-    then Some (Replay (text_at (codes "settings") rows) (number_at (codes "at") rows) (number_at (codes "step") rows))
+    if bytes_eq name (codes "replay") then Some (replay_in rows)
+    else if bytes_eq name (codes "check") then Some (check_in rows)
+    else if bytes_eq name (codes "clean") then Some (clean_in rows)
+    else if bytes_eq name (codes "serve") then Some (serve_in rows)
     else None
 
 abbrev pub is_none_of : Kinds → Bool

@@ -13,16 +13,30 @@ const LAST_MOMENT: u64 = 253_402_207_200;
 
 const LONGEST_STEP: u64 = 86_400;
 
+/// The greatest port (RFC 793).
+const LAST_PORT: u64 = 65_535;
+
 /// The program, with a subcommand for each thing that it does. It has no words for help and its version.
 pub(crate) fn program<'a>(alloc: Global) -> Result<Command<'a>, AllocError>
     ensures { IfOk result (λ command. (app_of command ≡ spec.program) × ((fields_of command).has_globals ≡ false)) }
 {
+    let clean = over_data(alloc, "clean")?;
+    let serve = serve(alloc)?;
+    looking(alloc)?.subcommand(clean)?.subcommand(serve)
+}
+
+/// The program without what changes a folder.
+fn looking<'a>(alloc: Global) -> Result<Command<'a>, AllocError>
+    ensures { IfOk result (λ command. (app_of command ≡ spec.looking) × ((fields_of command).has_globals ≡ false)) }
+{
     let replay = replay(alloc)?;
+    let check = over_data(alloc, "check")?;
     without_help(Command::new(alloc, "mvnrepod"))
         .no_binary_name(true)
         .disable_help_subcommand(true)
         .subcommand_required(true)
-        .subcommand(replay)
+        .subcommand(replay)?
+        .subcommand(check)
 }
 
 fn replay<'a>(alloc: Global) -> Result<Command<'a>, AllocError>
@@ -35,6 +49,26 @@ fn replay<'a>(alloc: Global) -> Result<Command<'a>, AllocError>
         .arg(settings)?
         .arg(at)?
         .arg(step)
+}
+
+/// A command over settings and a folder of data.
+fn over_data<'a>(alloc: Global, name: &'a str) -> Result<Command<'a>, AllocError>
+    ensures { IfOk result (λ command. (app_of command ≡ spec.over_data name.entry.now) × ((fields_of command).has_globals ≡ false)) }
+{
+    let settings = Arg::new(alloc, "settings").required(true);
+    let data = Arg::new(alloc, "data").required(true);
+    without_help(Command::new(alloc, name))
+        .arg(settings)?
+        .arg(data)
+}
+
+fn serve<'a>(alloc: Global) -> Result<Command<'a>, AllocError>
+    ensures { IfOk result (λ command. (app_of command ≡ spec.serve) × ((fields_of command).has_globals ≡ false)) }
+{
+    let port = Arg::new(alloc, "port")
+        .required(true)
+        .value_parser(ValueParser::Unsigned(1, LAST_PORT));
+    over_data(alloc, "serve")?.arg(port)
 }
 
 fn without_help<'a>(command: Command<'a>) -> Command<'a>

@@ -6,7 +6,27 @@ use texts::Text;
 pub enum Wanted {
     /// To answer the requests of standard input under these settings, its clock beginning at `at` and going on by `step`
     /// seconds with each look at it.
-    Replay { settings: Text, at: u64, step: u64 },
+    Replay {
+        settings: Text,
+        at: u64,
+        step: u64,
+    },
+    /// To look whether all files that are recorded in a folder are there as they were recorded.
+    Check {
+        settings: Text,
+        data: Text,
+    },
+    /// To purge the repositories of a folder under these settings, and to remove its garbage.
+    Clean {
+        settings: Text,
+        data: Text,
+    },
+    /// To answer requests on this port of 127.0.0.1 under these settings, keeping everything in a folder.
+    Serve {
+        settings: Text,
+        data: Text,
+        port: u16,
+    },
 }
 
 /// Why words ask for nothing.

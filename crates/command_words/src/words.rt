@@ -49,17 +49,71 @@ fn subcommand_in(alloc: Global, name: &str, found: &ArgMatches<'_>) -> Result<Wa
     ensures ok { IfOk result (λ wanted. spec.wanted_by (name.now, rows_of (found_of found.now)) ≡ Some wanted) }
     ensures fault { IfErr result (spec.IsFault (spec.wanted_by (name.now, rows_of (found_of found.now)))) }
 {
-    if name != "replay" {
-        return Err(WordsFault::Refused);
+    if name == "replay" {
+        return replay_in(alloc, found);
     }
-    let Ok(settings) = Text::new(alloc, text_at(found, "settings")) else {
-        return Err(WordsFault::NoMemory);
-    };
+    if name == "check" {
+        return check_in(alloc, found);
+    }
+    if name == "clean" {
+        return clean_in(alloc, found);
+    }
+    if name == "serve" {
+        return serve_in(alloc, found);
+    }
+    Err(WordsFault::Refused)
+}
+
+fn replay_in(alloc: Global, found: &ArgMatches<'_>) -> Result<Wanted, WordsFault>
+    ensures ok { IfOk result (λ wanted. wanted ≡ spec.replay_in (rows_of (found_of found.now))) }
+    ensures fault { IfErr result (λ fault. fault ≡ WordsFault.NoMemory) }
+{
     Ok(Wanted::Replay {
-        settings,
+        settings: owned(alloc, text_at(found, "settings"))?,
         at: number_at(found, "at"),
         step: number_at(found, "step"),
     })
+}
+
+fn check_in(alloc: Global, found: &ArgMatches<'_>) -> Result<Wanted, WordsFault>
+    ensures ok { IfOk result (λ wanted. wanted ≡ spec.check_in (rows_of (found_of found.now))) }
+    ensures fault { IfErr result (λ fault. fault ≡ WordsFault.NoMemory) }
+{
+    Ok(Wanted::Check {
+        settings: owned(alloc, text_at(found, "settings"))?,
+        data: owned(alloc, text_at(found, "data"))?,
+    })
+}
+
+fn clean_in(alloc: Global, found: &ArgMatches<'_>) -> Result<Wanted, WordsFault>
+    ensures ok { IfOk result (λ wanted. wanted ≡ spec.clean_in (rows_of (found_of found.now))) }
+    ensures fault { IfErr result (λ fault. fault ≡ WordsFault.NoMemory) }
+{
+    Ok(Wanted::Clean {
+        settings: owned(alloc, text_at(found, "settings"))?,
+        data: owned(alloc, text_at(found, "data"))?,
+    })
+}
+
+fn serve_in(alloc: Global, found: &ArgMatches<'_>) -> Result<Wanted, WordsFault>
+    ensures ok { IfOk result (λ wanted. wanted ≡ spec.serve_in (rows_of (found_of found.now))) }
+    ensures fault { IfErr result (λ fault. fault ≡ WordsFault.NoMemory) }
+{
+    Ok(Wanted::Serve {
+        settings: owned(alloc, text_at(found, "settings"))?,
+        data: owned(alloc, text_at(found, "data"))?,
+        port: port_at(found, "port"),
+    })
+}
+
+fn owned(alloc: Global, text: &str) -> Result<Text, WordsFault>
+    ensures ok { IfOk result (λ owned. owned ≡ text.now) }
+    ensures fault { IfErr result (λ fault. fault ≡ WordsFault.NoMemory) }
+{
+    match Text::new(alloc, text) {
+        Ok(text) => Ok(text),
+        Err(_) => Err(WordsFault::NoMemory),
+    }
 }
 
 fn text_at<'a>(found: &ArgMatches<'a>, id: &str) -> &'a str
@@ -78,6 +132,13 @@ fn number_at(found: &ArgMatches<'_>, id: &str) -> u64
         Some(text) => number_of(text),
         None => 0,
     }
+}
+
+fn port_at(found: &ArgMatches<'_>, id: &str) -> u16
+    ensures { result ≡ spec.port_of (spec.number_at id.now (rows_of (found_of found.now))) }
+{
+    let number = number_at(found, id);
+    if number < 1 << 16 { number as u16 } else { 0 }
 }
 
 fn number_of(text: &str) -> u64

@@ -4,7 +4,7 @@ use mvn_digest::{Digest, Hashes};
 use outside::{Blobs, Parcel};
 use outside_memory::{FaultScript, MemBlobs, MemHeld, ScriptClock};
 use repo_config::Settings;
-use repo_core::{Command, Core, Place, Reply};
+use repo_core::{Command, Core, Place, Reply, start};
 use row_tables::MemRecords;
 use std::alloc::{AllocError, Global};
 use std::process::Abort;
@@ -68,14 +68,25 @@ pub enum Ask {
     Unlist(&'static str),
     Collect,
     Status,
+    Open(&'static str),
     // at a session
     MayStage(u64, &'static str),
+    Stage(u64, &'static str, u64, &'static [u8]),
+    Commit(u64),
+    Abort(u64),
     StageSide(u64, &'static str, Digest),
     StageDoc(u64, &'static str),
 }
 
 /// A core over memory.
 pub type MemCore = Core<MemRecords, ScriptClock, MemHeld>;
+
+/// What outlasts a core.
+#[derive(Drop)]
+pub struct Parts {
+    pub records: MemRecords,
+    pub blobs: MemBlobs,
+}
 
 /// A core and its blobs.
 #[derive(Drop)]
@@ -85,11 +96,23 @@ pub struct Bench {
     blobs: MemBlobs,
 }
 
-fn settings_of(alloc: Global, text: &str) -> Result<Settings, Fail> {
+pub fn settings_of(alloc: Global, text: &str) -> Result<Settings, Fail> {
     match repo_config::read(alloc, text.as_bytes()) {
         Ok(settings) => Ok(settings),
         Err(_) => Err("settings")?,
     }
+}
+
+/// These blobs were removed from a store, in this order, and these are there.
+pub fn expect_blobs(
+    rt: &impl Abort,
+    blobs: &mut MemBlobs,
+    removed: &[u64],
+    there: &[u64],
+) -> Result<(), Fail> {
+    assert_eq!(rt; blobs.removed(), removed);
+    assert_eq!(rt; blobs.list()?.as_slice(), there);
+    Ok(())
 }
 
 fn look(alloc: Global, repo: &str, path: &str) -> Result<Command<MemHeld>, AllocError> {
@@ -134,22 +157,49 @@ impl Bench {
         Bench::over(alloc, settings, Vec::new(alloc), clock)
     }
 
-    /// The same, over records whose commits with these numbers fail, the first having the number 0.
+    /// The same, over records whose calls with these numbers fail. The load has the number 0, and the commits follow it.
     pub fn over(
         alloc: Global,
         settings: &str,
         failing: Vec<u64>,
         clock: ScriptClock,
     ) -> Result<Bench, Fail> {
-        let records = MemRecords::new(alloc, failing);
-        match Core::plain(alloc, settings_of(alloc, settings)?, records, clock) {
-            Ok(core) => Ok(Bench {
-                alloc,
-                core,
-                blobs: MemBlobs::new(alloc, FaultScript::none(alloc)),
-            }),
-            Err((error, _, _)) => Err(error)?,
+        let parts = Parts {
+            records: MemRecords::new(alloc, failing),
+            blobs: MemBlobs::new(alloc, FaultScript::none(alloc)),
+        };
+        Bench::start(alloc, settings, parts, clock)
+    }
+
+    /// A start over what these records and blobs have.
+    pub fn start(
+        alloc: Global,
+        settings: &str,
+        parts: Parts,
+        clock: ScriptClock,
+    ) -> Result<Bench, Fail> {
+        let Parts { records, mut blobs } = parts;
+        match start(
+            alloc,
+            settings_of(alloc, settings)?,
+            records,
+            &mut blobs,
+            clock,
+        ) {
+            Ok(core) => Ok(Bench { alloc, core, blobs }),
+            Err(_) => Err("no start")?,
         }
+    }
+
+    /// Ends the core.
+    pub fn stop(self) -> Parts {
+        let Bench {
+            alloc: _,
+            core,
+            blobs,
+        } = self;
+        let (records, _) = core.end();
+        Parts { records, blobs }
     }
 
     // A parcel of these bytes, stored under a number.
@@ -182,6 +232,23 @@ impl Bench {
         })
     }
 
+    fn stage(
+        &mut self,
+        session: u64,
+        path: &str,
+        draft: u64,
+        bytes: &[u8],
+    ) -> Result<Command<MemHeld>, Fail> {
+        let parcel = self.parcel(draft, bytes)?;
+        let path = Text::new(self.alloc, path)?;
+        Ok(Command::Stage {
+            session,
+            path,
+            draft,
+            parcel,
+        })
+    }
+
     fn command(&mut self, ask: Ask) -> Result<Command<MemHeld>, Fail> {
         match ask {
             Ask::Done(lease) => Ok(Command::Done { lease }),
@@ -197,6 +264,12 @@ impl Bench {
             }),
             Ask::Collect => Ok(Command::Collect),
             Ask::Put(repo, path, draft, bytes) => self.put(repo, path, draft, bytes),
+            Ask::Open(repo) => Ok(Command::Open {
+                repo: Text::new(self.alloc, repo)?,
+            }),
+            Ask::Stage(session, path, draft, bytes) => self.stage(session, path, draft, bytes),
+            Ask::Commit(session) => Ok(Command::Commit { session }),
+            Ask::Abort(session) => Ok(Command::Abort { session }),
             Ask::Status => Ok(Command::Status),
             Ask::MayStage(number, path) => {
                 Ok(may_put(self.alloc, Place::Session(number), path)?)

@@ -8,7 +8,7 @@ use std::test::Fail;
 
 const JAR: &str = "org/acme/lib/1.0/lib-1.0.jar";
 
-// The answers over records of which one commit fails, and how many items are recorded in the end.
+// The answers over records of which some commits fail, which are counted behind the load, and how many items are recorded in the end.
 fn follow(
     rt: &impl Abort,
     mut bench: Bench,
@@ -35,7 +35,7 @@ static OF_A_PUT: [(Ask, Said); 7] = [
 #[test]
 fn a_put_that_is_not_recorded_makes_no_row(rt: HostRuntime) -> Result<(), Fail> {
     let alloc = rt.alloc();
-    let failing = Vec::from_slice(alloc, &[0])?;
+    let failing = Vec::from_slice(alloc, &[1])?;
     let clock = ScriptClock::stepping(alloc, 1000, 1);
     let bench = Bench::over(alloc, ALL_KINDS, failing, clock)?;
     follow(&rt, bench, &OF_A_PUT, 1)
@@ -68,7 +68,7 @@ static OF_A_PURGE: [(Ask, Said); 18] = [
 #[test]
 fn a_purge_that_is_not_recorded_takes_nothing_away(rt: HostRuntime) -> Result<(), Fail> {
     let alloc = rt.alloc();
-    let failing = Vec::from_slice(alloc, &[2, 4, 5])?;
+    let failing = Vec::from_slice(alloc, &[3, 5, 6])?;
     // moments that lie far apart, so that the grace period is soon over
     let clock = ScriptClock::stepping(alloc, 1000, 100);
     let bench = Bench::over(alloc, ALL_KINDS, failing, clock)?;
@@ -87,7 +87,7 @@ static OF_NOTHING: [(Ask, Said); 5] = [
 #[test]
 fn garbage_is_given_out_behind_a_commit_alone(rt: HostRuntime) -> Result<(), Fail> {
     let alloc = rt.alloc();
-    let failing = Vec::from_slice(alloc, &[0])?;
+    let failing = Vec::from_slice(alloc, &[1])?;
     let clock = ScriptClock::stepping(alloc, 1000, 1);
     let bench = Bench::over(alloc, ALL_KINDS, failing, clock)?;
     follow(&rt, bench, &OF_NOTHING, 0)

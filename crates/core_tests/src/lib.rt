@@ -19,6 +19,12 @@ mod plain;
 #[cfg(test)]
 mod purges;
 #[cfg(test)]
+mod refusals;
+#[cfg(test)]
+mod restarts;
+#[cfg(test)]
 mod said;
+#[cfg(test)]
+mod sessions;
 #[cfg(test)]
 mod sides;

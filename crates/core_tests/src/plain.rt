@@ -81,12 +81,16 @@ impl Plain {
             }
             Ask::PutDoc(_, _) => Ok(Said::Noted),
             Ask::Status => Ok(Said::Counts([self.kept.len() as u64, 0, 0, 0, 0])),
-            Ask::MayStage(_, _) | Ask::StageSide(_, _, _) | Ask::StageDoc(_, _) => {
-                Ok(Said::NoSession)
-            }
+            Ask::Commit(_)
+            | Ask::Abort(_)
+            | Ask::MayStage(_, _)
+            | Ask::StageSide(_, _, _)
+            | Ask::StageDoc(_, _) => { Ok(Said::NoSession) }
             // no build is so old, and nothing is unlisted
             Ask::Unlist(_) => Ok(Said::Unlisted(0)),
-            Ask::PutSide(_, _, _) | Ask::Collect => Ok(Said::Unfit),
+            Ask::PutSide(_, _, _) | Ask::Collect | Ask::Open(_) | Ask::Stage(_, _, _, _) => {
+                Ok(Said::Unfit)
+            }
         }
     }
 

@@ -2,6 +2,7 @@
 use mvn_digest::{Digest, Digests, Hashes};
 use outside_memory::MemHeld;
 use repo_core::Reply;
+use repo_model::SessionResult;
 
 /// A content: its length, and its SHA-1 and MD5 in hexadecimal.
 #[derive(Clone, Copy)]
@@ -52,6 +53,16 @@ pub enum Said {
     Agreed,
     Noted,
     NoSession,
+    TooMany,
+    Opened(u64),
+    SessionFull,
+    Staged,
+    // a path, what is kept there, and what was staged
+    Offends(&'static str, Content, Content),
+    MissingPom(&'static str),
+    // so many files are deployed
+    Deployed(u64),
+    Aborted,
     // files, those that are unlisted, files and documents of proxies, sessions
     Counts([u64; 5]),
     StoreFault,
@@ -87,6 +98,10 @@ fn is_word(reply: &Reply<MemHeld>, want: &Said) -> bool {
             | (Reply::Agreed, Said::Agreed)
             | (Reply::Noted, Said::Noted)
             | (Reply::NoSession, Said::NoSession)
+            | (Reply::TooMany, Said::TooMany)
+            | (Reply::SessionFull, Said::SessionFull)
+            | (Reply::Staged, Said::Staged)
+            | (Reply::Ended(SessionResult::Aborted), Said::Aborted)
             | (Reply::StoreFault, Said::StoreFault)
     )
 }
@@ -94,6 +109,8 @@ fn is_word(reply: &Reply<MemHeld>, want: &Said) -> bool {
 fn is_number(reply: &Reply<MemHeld>, want: &Said) -> bool {
     match (reply, want) {
         (Reply::Draft(draft), Said::Draft(number)) => draft == number,
+        (Reply::Opened(session), Said::Opened(number)) => session == number,
+        (Reply::Ended(SessionResult::Done(count)), Said::Deployed(number)) => count == number,
         (Reply::Unlisted(rows), Said::Unlisted(number)) => rows == number,
         (Reply::Collected { expired, blobs }, Said::Collected(number, numbers)) => {
             expired == number && blobs.as_slice() == *numbers
@@ -123,6 +140,12 @@ fn is_bytes(reply: &Reply<MemHeld>, want: &Said) -> bool {
             is_content(kept.length, &kept.digests, old)
                 && is_content(sent.length, &sent.digests, new)
         }
+        (Reply::Offends { path, kept, sent }, Said::Offends(at, old, new)) => {
+            path.as_str() == *at
+                && is_content(kept.length, &kept.digests, old)
+                && is_content(sent.length, &sent.digests, new)
+        }
+        (Reply::MissingPom { dir }, Said::MissingPom(at)) => dir.as_str() == *at,
         (Reply::Text(text), Said::Text(want)) => text.as_bytes() == want.as_bytes(),
         (Reply::Doc { text, digests }, Said::Document(want)) => {
             is_document(text.as_slice(), digests, want)

@@ -20,7 +20,7 @@ const POM_MD5: &str = "org/acme/lib/1.0/lib-1.0.pom.md5";
 const MISSING: &str = "org/acme/lib/1.1/lib-1.1.jar";
 
 // SHA-1 and MD5 of `abc`.
-const ABC_SHA1: Digest = Digest::Sha1(
+pub const ABC_SHA1: Digest = Digest::Sha1(
     *b"\xa9\x99\x3e\x36\x47\x06\x81\x6a\xba\x3e\x25\x71\x78\x50\xc2\x6c\x9c\xd0\xd8\x9d",
 );
 

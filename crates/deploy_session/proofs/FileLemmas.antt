@@ -1,5 +1,5 @@
 -- Staged files in the entries of an ordered map.
-use Rattle.std.proofs.Common.{◌≡◌, ℕ, Bool, true, false, cond, List, [], ◌∷◌, ◌++◌, map, Option, Some, None, option_map, String, Global, string_bytes, Bor, Ordering, Less, Equal, Greater, is_eq, nat_cmp, refl, sym, ◌∙◌, ap, bytes_eq}
+use Rattle.std.proofs.Common.{◌≡◌, ℕ, Bool, true, false, cond, not, ◌||◌, length, nat_le, nat_lt, is_some, arith, List, [], ◌∷◌, ◌++◌, map, Option, Some, None, option_map, String, Global, string_bytes, Bor, Ordering, Less, Equal, Greater, is_eq, nat_cmp, refl, sym, ◌∙◌, ap, bytes_eq}
 use Rattle.std.proofs.lemmas.Map.Text.{is_eq-slice_cmp}
 use Rattle.std.proofs.lemmas.Slice.Eq.{bytes_eq-Decides}
 use Rattle.std.proofs.lemmas.Bool.{false_from_ne_true, both_ways}
@@ -15,11 +15,13 @@ use Rattle.std.specs.BTreeMap.{is_at, insert_entry}
 use Rattle.std.specs.String.{string_cmp}
 use Rattle.outside.specs.declared.parcels.Parcel.{Parcel}
 use Rattle.outside.specs.declared.stores.Held.{Ghosts}
-use Rattle.repo_model.specs.Data.{Staged}
+use Rattle.repo_model.specs.Data.{Blob, Staged}
 use Rattle.repo_model.specs.Effect.{with_staged}
 use Rattle.repo_model.specs.Shown.{shown_parcel}
-use Rattle.repo_model.specs.State.{is_staged}
-use Rattle.repo_model.specs.Turn.{staged_at}
+use Rattle.repo_model.specs.State.{is_staged, most_staged}
+use Rattle.repo_model.specs.Turn.{has_room, staged_at}
+use Rattle.std.specs.List.{list_any}
+use Rattle.std.proofs.lemmas.Bool.Decides.{nat_tests}
 use Rattle.deploy_session.specs.Shown.{shown_file, shown_files}
 
 abbrev pub at_text : List ℕ → String Global → Bool
@@ -75,3 +77,31 @@ module _ {X : Type 0} {G : Ghosts X} where
       ap (λ es. map (λ (f : Staged). f.blob.number) (shown_files es)) (map-append deref_pair seen ((key, parcel) ∷ []))
       ∙ ap (map (λ (f : Staged). f.blob.number)) (map-append shown_file (map deref_pair seen) ((key.now, parcel.now) ∷ []))
       ∙ map-append (λ (f : Staged). f.blob.number) (shown_files (map deref_pair seen)) (shown_file (key.now, parcel.now) ∷ [])
+
+-- a file is staged at a path where one is found there
+pub any-staged : (path : List ℕ) (files : List Staged) → is_some (staged_at path files) ≡ list_any (is_staged path) files
+any-staged path [] = refl
+any-staged path (file ∷ files) =
+    elim (is_staged path file) as (λ b. is_some (option_map (λ (f : Staged). f.blob) (cond b (Some file) (find (is_staged path) files))) ≡ (b || list_any (is_staged path) files)) [
+      | true ↦ refl
+      | false ↦ any-staged path files
+    ]
+
+module _ {X : Type 0} (f : X → Blob) where
+  some-mapped : (o : Option X) → is_some (option_map f o) ≡ is_some o
+  some-mapped None = refl
+  some-mapped (Some x) = refl
+
+  any-found : (o : Option X) (path : List ℕ) (files : List Staged) → option_map f o ≡ staged_at path files → list_any (is_staged path) files ≡ is_some o
+  any-found o path files is = sym (any-staged path files) ∙ ap is_some (sym is) ∙ some-mapped o
+
+  -- a session has room for a file at a path where it has one, or where it has few
+  pub found-room : (o : Option X) (path : List ℕ) (files : List Staged) → option_map f o ≡ staged_at path files → is_some o ≡ true → has_room path files ≡ true
+  found-room o path files is there = ap (λ b. b || not (nat_le most_staged (length files))) (any-found o path files is ∙ there)
+
+  less-so : (n : ℕ) → nat_lt n most_staged ≡ not (nat_le most_staged n)
+  less-so n = grind (arith, nat_tests)
+
+  pub none-room : (o : Option X) (path : List ℕ) (files : List Staged) (n : ℕ) → option_map f o ≡ staged_at path files → is_some o ≡ false → n ≡ length files → nat_lt n most_staged ≡ has_room path files
+  none-room o path files n is none many =
+      less-so n ∙ ap (λ k. not (nat_le most_staged k)) many ∙ ap (λ b. b || not (nat_le most_staged (length files))) (sym (any-found o path files is ∙ none))

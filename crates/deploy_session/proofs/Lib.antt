@@ -2,3 +2,4 @@ mod FileLemmas
 mod KnownLemmas
 mod SessionLaws
 mod RestartLemmas
+mod CommitLaws

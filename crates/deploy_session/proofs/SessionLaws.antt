@@ -1,7 +1,7 @@
 -- What changes of sessions keep, and what the effects of an abort come to.
 use Rattle.std.proofs.Common.{◌≡◌, ℕ, ◌+◌, ◌-◌, ◌<◌, ◌≤◌, Bool, true, false, cond, not, ◌&&◌, ◌||◌, List, [], ◌∷◌, ◌++◌, map, length, Option, Some, None, option_map, Less, Equal, Greater, nat_cmp, nat_lt, nat_le, eqb, refl, sym, ap, ◌∙◌, subst, arith}
 use Rattle.std.specs.Prelude.{find, filter, count_by, is_none, IsTrue}
-use Rattle.std.proofs.lemmas.Bool.{and_parts, and_from, eqb-true, false≢true, le-leb, lt-leb, lt-ltb, ltb-true}
+use Rattle.std.proofs.lemmas.Bool.{and_parts, and_from, eqb-true, false≢true, le-leb, leb-false, lt-leb, lt-ltb, ltb-true}
 use Rattle.std.proofs.lemmas.List.Folds.{list_all-append}
 use Rattle.std.proofs.lemmas.List.Sums.{sum_by-cons, sum_by-append}
 use Rattle.std.proofs.lemmas.Option.{none-some}
@@ -73,35 +73,56 @@ drawn_kept next test f alike (s ∷ ss) =
     ]
 
 -- a change after which the files can still be recorded
-pub formed_kept : (test : Session → Bool) (f : Session → Session) → ((s : Session) → has_recordable s ≡ true → has_recordable (f s) ≡ true) → (ss : List Session)
+pub formed_kept : (test : Session → Bool) (f : Session → Session) (ss : List Session) → ((s : Session) → find test ss ≡ Some s → has_recordable s ≡ true → has_recordable (f s) ≡ true)
     → list_all has_recordable ss ≡ true → list_all has_recordable (change_first test f ss) ≡ true
-formed_kept test f alike [] h = refl
-formed_kept test f alike (s ∷ ss) h =
+formed_kept test f [] alike h = refl
+formed_kept test f (s ∷ ss) alike h =
     let parts = and_parts (has_recordable s) (list_all has_recordable ss) h in
-    elim (test s) as (λ b. list_all has_recordable (cond b (f s ∷ ss) (s ∷ change_first test f ss)) ≡ true) [
-      | true ↦ and_from (has_recordable (f s)) (list_all has_recordable ss) (alike s parts.0) parts.1
-      | false ↦ and_from (has_recordable s) (list_all has_recordable (change_first test f ss)) parts.0 (formed_kept test f alike ss parts.1)
-    ]
+    elim (test s) as (λ b. ((t : Session) → cond b (Some s) (find test ss) ≡ Some t → has_recordable t ≡ true → has_recordable (f t) ≡ true) → list_all has_recordable (cond b (f s ∷ ss) (s ∷ change_first test f ss)) ≡ true) [
+      | true ↦ λ so. and_from (has_recordable (f s)) (list_all has_recordable ss) (so s refl parts.0) parts.1
+      | false ↦ λ so. and_from (has_recordable s) (list_all has_recordable (change_first test f ss)) parts.0 (formed_kept test f ss so parts.1)
+    ] alike
 
 -- one more file that can be recorded
-pub recordable_more : (new : Staged) (files : List Staged) → is_recordable new ≡ true → list_all is_recordable files ≡ true → list_all is_recordable (with_staged new files) ≡ true
-recordable_more new [] is all = and_from (is_recordable new) true is refl
-recordable_more new (f ∷ files) is all =
+recordable_all : (new : Staged) (files : List Staged) → is_recordable new ≡ true → list_all is_recordable files ≡ true → list_all is_recordable (with_staged new files) ≡ true
+recordable_all new [] is all = and_from (is_recordable new) true is refl
+recordable_all new (f ∷ files) is all =
     let parts = and_parts (is_recordable f) (list_all is_recordable files) all in
     let first = and_from (is_recordable new) (list_all is_recordable (f ∷ files)) is all in
     elim (slice_cmp nat_cmp new.path f.path) as (λ o. list_all is_recordable (match_ordering o (new ∷ f ∷ files) (new ∷ f ∷ files) (f ∷ with_staged new files)) ≡ true) [
       | Less ↦ first
       | Equal ↦ first
-      | Greater ↦ and_from (is_recordable f) (list_all is_recordable (with_staged new files)) parts.0 (recordable_more new files is parts.1)
+      | Greater ↦ and_from (is_recordable f) (list_all is_recordable (with_staged new files)) parts.0 (recordable_all new files is parts.1)
     ]
+
+one_more : (new : Staged) (files : List Staged) → length (with_staged new files) ≡ length files + 1
+one_more new [] = refl
+one_more new (f ∷ files) =
+    elim (slice_cmp nat_cmp new.path f.path) as (λ o. length (match_ordering o (new ∷ f ∷ files) (new ∷ f ∷ files) (f ∷ with_staged new files)) ≡ length (f ∷ files) + 1) [
+      | Less ↦ omega arith
+      | Equal ↦ omega arith
+      | Greater ↦ omega (arith, one_more new files)
+    ]
+
+pub recordable_more : (new : Staged) (s : Session) → is_recordable new ≡ true → staged_at new.path s.staged ≡ None → has_room new.path s.staged ≡ true → has_recordable s ≡ true
+    → has_recordable (record s { staged = with_staged new s.staged }) ≡ true
+recordable_more new s is none room all =
+    let parts = and_parts (list_all is_recordable s.staged) (nat_le (length s.staged) most_staged) all in
+    let free : not (nat_le most_staged (length s.staged)) ≡ true = sym (ap (λ b. b || not (nat_le most_staged (length s.staged))) (none_staged new.path s.staged none)) ∙ room in
+    let few : length s.staged < most_staged = elim (nat_le most_staged (length s.staged)) as (λ b. nat_le most_staged (length s.staged) ≡ b → not b ≡ true → length s.staged < most_staged) [
+      | true ↦ λ h e. cc
+      | false ↦ λ h e. leb-false most_staged (length s.staged) h
+    ] refl free in
+    and_from (list_all is_recordable (with_staged new s.staged)) (nat_le (length (with_staged new s.staged)) most_staged) (recordable_all new s.staged is parts.0)
+    (le-leb (length (with_staged new s.staged)) most_staged (omega (arith, one_more new s.staged, few)))
 
 -- sessions of which one is changed, but not its number or whether it is open
 pub sound_kept : (count next : ℕ) (test : Session → Bool) (f : Session → Session) → ((s : Session) → is_open (f s) ≡ is_open s) → ((s : Session) → is_drawn next (f s) ≡ is_drawn next s)
-    → ((s : Session) → has_recordable s ≡ true → has_recordable (f s) ≡ true) → (ss : List Session) → IsSound count next ss → IsSound count next (change_first test f ss)
-sound_kept count next test f open_so drawn_so formed_so ss sound = record {
+    → (ss : List Session) → ((s : Session) → find test ss ≡ Some s → has_recordable s ≡ true → has_recordable (f s) ≡ true) → IsSound count next ss → IsSound count next (change_first test f ss)
+sound_kept count next test f open_so drawn_so ss formed_so sound = record {
   counted = sound.counted ∙ sym (open_kept test f open_so ss);
   drawn = subst IsTrue (sym (drawn_kept next test f drawn_so ss)) sound.drawn;
-  formed = formed_kept test f formed_so ss sound.formed;
+  formed = formed_kept test f ss formed_so sound.formed;
   first = sound.first;
   last = sound.last;
 }
@@ -144,6 +165,27 @@ pub staged_free : (path : List ℕ) (d : ℕ) (blob : Blob) (o : Option Session)
     → option_map (λ (s : Session). staged_at path s.staged) o ≡ Some None
 staged_free path d blob None h = cc
 staged_free path d blob (Some one) h = ap Some (staged_in path d blob one (staged_at path one.staged) h).0
+
+-- there was room for it
+room_at : (path : List ℕ) (d : ℕ) (blob : Blob) (one : Session) (o : Option Blob) → (stage_at one path d blob o).reply ≡ reply.staged → has_room path one.staged ≡ true
+room_at path d blob one None h =
+    let yes : Turn = record { reply = reply.staged; effects = stages one.number path blob ∷ [] } in
+    let no : Turn = record { reply = reply.session_full; effects = drops d ∷ [] } in
+    elim (has_room path one.staged) as (λ b. (cond {A = Turn} b yes no).reply ≡ reply.staged → b ≡ true) [
+      | true ↦ λ e. refl
+      | false ↦ λ e. cc
+    ] h
+room_at path d blob one (Some kept) h =
+    elim (is_same_print kept.print blob.print) as (λ b. cond b reply.same (reply.taken kept.print blob.print) ≡ reply.staged → has_room path one.staged ≡ true) [
+      | true ↦ λ e. cc
+      | false ↦ λ e. cc
+    ] h
+
+pub staged_room : (path : List ℕ) (d : ℕ) (blob : Blob) (o : Option Session) (one : Session) → o ≡ Some one → (stage_in path d blob o).reply ≡ reply.staged
+    → (staged_at path one.staged ≡ None) × (has_room path one.staged ≡ true)
+staged_room path d blob o one is h =
+    let told : (stage_at one path d blob (staged_at path one.staged)).reply ≡ reply.staged = ap (λ (p : Option Session). (stage_in path d blob p).reply) (sym is) ∙ h in
+    ((staged_in path d blob one (staged_at path one.staged) told).0, room_at path d blob one (staged_at path one.staged) told)
 
 pub staged_effects : (n : ℕ) (path : List ℕ) (d : ℕ) (blob : Blob) (o : Option Session) → ((s : Session) → o ≡ Some s → s.number ≡ n) → (stage_in path d blob o).reply ≡ reply.staged
     → (stage_in path d blob o).effects ≡ stages n path blob ∷ []
@@ -258,7 +300,7 @@ without-self (f ∷ files) =
     ∙ without-filter files other files
     ∙ ap (filter other) (without-self files)
 
-after-append : (xs ys : List Effect) (ss : List Session) → sessions_after_all (xs ++ ys) ss ≡ sessions_after_all ys (sessions_after_all xs ss)
+pub after-append : (xs ys : List Effect) (ss : List Session) → sessions_after_all (xs ++ ys) ss ≡ sessions_after_all ys (sessions_after_all xs ss)
 after-append [] ys ss = refl
 after-append (e ∷ xs) ys ss = after-append xs ys (sessions_after e ss)
 
@@ -321,7 +363,7 @@ sound_fewer count next n how ss one is sound =
       record {
         counted = omega (arith, fewer, sound.counted);
         drawn = subst IsTrue (sym (drawn_kept next (is_open_at n) (λ s. record s { staged = []; ended = Some how }) (λ s. refl) ss)) sound.drawn;
-        formed = formed_kept (is_open_at n) (λ s. record s { staged = []; ended = Some how }) (λ s h. refl) ss sound.formed;
+        formed = formed_kept (is_open_at n) (λ s. record s { staged = []; ended = Some how }) ss (λ s is h. refl) sound.formed;
         first = sound.first;
         last = sound.last;
       },

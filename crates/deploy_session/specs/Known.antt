@@ -1,14 +1,14 @@
 -- The sessions that are known, what each call is due, and what effects make of them.
-use Rattle.std.specs.Prelude.{◌≡◌, ℕ, ◌+◌, ◌<◌, ◌≤◌, Bool, ◌&&◌, nat_lt, nat_le, if◌then◌else◌, List, [], ◌∷◌, find, count_by, IsTrue}
+use Rattle.std.specs.Prelude.{◌≡◌, ℕ, ◌+◌, ◌<◌, ◌≤◌, Bool, ◌&&◌, nat_lt, nat_le, if◌then◌else◌, List, [], ◌∷◌, find, count_by, length, IsTrue}
 use Rattle.std.specs.List.{list_all}
-use Rattle.repo_model.specs.Data.{Blob, Session, Staged}
-use Rattle.repo_model.specs.State.{is_open, is_open_at, is_session, most_sessions, number_end}
+use Rattle.repo_model.specs.Data.{Blob, Row, Session}
+use Rattle.repo_model.specs.State.{is_open, is_open_at, is_session, most_sessions, most_staged, number_end}
 use Rattle.repo_model.specs.Effect.{Effect, drops, discards, expires, opens, sessions_after}
 use Rattle.repo_model.specs.Reply.{sessions_full, opened}
 use Rattle.repo_model.specs.Restart.{greatest_session, sessions_from}
 use Rattle.repo_model.specs.Tables.{Tables}
-use Rattle.repo_model.specs.Turn.{Turn, says, draws_or_spent, with_open, stage_in, abort_of}
-use Rattle.row_tables.specs.Items.{is_count, is_file_path, is_number}
+use Rattle.repo_model.specs.Turn.{Turn, says, draws_or_spent, with_open, stage_in, abort_of, commit_of}
+pub use Rattle.hosted_repo.specs.Deliveries.{is_recordable}
 
 -- sessions in rising order of number, open or ended, and the number of the next one
 pub record Known : Type 0 where
@@ -30,6 +30,10 @@ stage_turn k n path blob = stage_in path blob.number blob (find (is_open_at n) k
 
 abbrev pub abort_turn : Known → ℕ → Turn
 abort_turn k n = with_open (find (is_session n) k.sessions) (λ found. abort_of found found.ended)
+
+-- the turn of a session that is committed at a moment to a repository with such rows
+abbrev pub commit_turn : Known → ℕ → ℕ → List Row → Turn
+commit_turn k n now rows = with_open (find (is_session n) k.sessions) (λ found. commit_of found now rows found.ended)
 
 -- the sessions after some effects, and the next number
 abbrev pub sessions_after_all : List Effect → List Session → List Session
@@ -58,12 +62,9 @@ garbage_by effect = []
 abbrev pub is_drawn : ℕ → Session → Bool
 is_drawn next s = nat_lt 0 s.number && nat_lt s.number next
 
--- a staged file can be recorded as a row: its path is a file's, its blob has a number, and its length lies below 2 ^ 63
-abbrev pub is_recordable : Staged → Bool
-is_recordable file = is_file_path file.path && (is_number file.blob.number && is_count file.blob.print.length)
-
+-- the files of a session can be recorded as rows, and are at most 1,000
 abbrev pub has_recordable : Session → Bool
-has_recordable s = list_all is_recordable s.staged
+has_recordable s = list_all is_recordable s.staged && nat_le (length s.staged) most_staged
 
 -- so many sessions are open, each was drawn and its files can be recorded, and the next number is at most 2 ^ 63
 pub record IsSound (count next : ℕ) (sessions : List Session) : Type 0 where

@@ -1,20 +1,20 @@
 -- Sessions and their files as the machine's plain data.
-use Rattle.std.specs.Prelude.{◌≡◌, ℕ, if◌then◌else◌, List, [], ◌∷◌, map, Option, Some, None, Result, Ok, Err, String, string_bytes}
-use Rattle.std.specs.declared.alloc.Global.{Global}
-use Rattle.outside.specs.declared.parcels.Parcel.{Parcel}
+use Rattle.std.specs.Prelude.{◌≡◌, ℕ, if◌then◌else◌, List, [], ◌∷◌, map, Option, Some, None, Result, Ok, Err}
 use Rattle.outside.specs.declared.stores.Held.{Ghosts}
 use Rattle.repo_model.specs.declared.print.Print.{Print}
 use Rattle.repo_model.specs.Data as plain
 use Rattle.repo_model.specs.Data.{Blob, is_same_print}
 use Rattle.repo_model.specs.declared.session.SessionResult.TheVariants as ends
-use Rattle.repo_model.specs.Reply.{Reply, no_session, sessions_full, spent, opened, session_full, taken, same, staged, ended, no_memory, store_fault}
+use Rattle.repo_model.specs.Reply.{Reply, no_session, sessions_full, spent, opened, session_full, taken, same, staged, offends, missing_pom, ended, no_memory, store_fault}
 use Rattle.repo_model.specs.Effect.{drops}
-use Rattle.repo_model.specs.Shown.{shown_parcel}
 use Rattle.repo_model.specs.Turn.{Turn}
+pub use Rattle.hosted_repo.specs.Deliveries.{shown_file, shown_files}
 use Rattle.deploy_session.specs.declared.answers.Abort.{Abort}
 use Rattle.deploy_session.specs.declared.answers.Abort.TheVariants as gave_up
 use Rattle.deploy_session.specs.declared.answers.Begin.{Begin}
 use Rattle.deploy_session.specs.declared.answers.Begin.TheVariants as began
+use Rattle.deploy_session.specs.declared.answers.Commit.{Commit}
+use Rattle.deploy_session.specs.declared.answers.Commit.TheVariants as came_to
 use Rattle.deploy_session.specs.declared.answers.Stage.{Stage}
 use Rattle.deploy_session.specs.declared.answers.Stage.TheVariants as did
 use Rattle.deploy_session.specs.declared.answers.Standing.{Standing}
@@ -22,12 +22,6 @@ use Rattle.deploy_session.specs.declared.answers.Standing.TheVariants as stands
 use Rattle.deploy_session.specs.declared.known.Session.{Session}
 
 module _ {X : Type 0} {G : Ghosts X} where
-  abbrev pub shown_file : String Global × Parcel X G → plain.Staged
-  shown_file e = record { path = string_bytes e.0; blob = shown_parcel e.1 }
-
-  abbrev pub shown_files : List (String Global × Parcel X G) → List plain.Staged
-  shown_files entries = map shown_file entries
-
   abbrev pub shown_session : ℕ × Session X G → plain.Session
   shown_session e = record { number = e.0; repo = e.1.repo; staged = shown_files e.1.files.entries; ended = e.1.ended }
 
@@ -53,6 +47,20 @@ shown_abort (gave_up.Aborted blobs) = ended ends.Aborted
 abbrev pub blobs_left : Abort → List ℕ
 blobs_left (gave_up.Aborted blobs) = blobs
 blobs_left answer = []
+
+abbrev pub shown_commit : Commit → Reply
+shown_commit came_to.NoSession = no_session
+shown_commit (came_to.Offends path kept sent) = offends path kept sent
+shown_commit (came_to.MissingPom dir) = missing_pom dir
+shown_commit came_to.StoreFault = store_fault
+shown_commit came_to.NoMemory = no_memory
+shown_commit (came_to.Done count blobs) = ended (ends.Done count)
+shown_commit came_to.Aborted = ended ends.Aborted
+
+-- the blobs that no row took at a commit
+abbrev pub blobs_over : Commit → List ℕ
+blobs_over (came_to.Done count blobs) = blobs
+blobs_over answer = []
 
 abbrev pub shown_stage : Stage → Reply
 shown_stage did.NoSession = no_session

@@ -1,12 +1,15 @@
 //! What the calls of deployment sessions answer.
-ghost use Rattle.std.specs.Prelude.{◌≡◌, []};
+ghost use Rattle.std.specs.Prelude.{◌≡◌, [], false};
 ghost use Rattle.repo_model.specs.Reply.{ended};
 ghost use Rattle.deploy_session.specs.Recording.{failed_by};
-ghost use Rattle.deploy_session.specs.Shown.{shown_begin, shown_abort, blobs_left};
+ghost use Rattle.hosted_repo.specs.Deliveries.{is_done, shown_put_all};
+ghost use Rattle.deploy_session.specs.Shown.{shown_begin, shown_abort, shown_commit, blobs_left, blobs_over};
 
+use hosted_repo::PutAll;
 use repo_model::{Numbers, Print, SessionResult};
 use row_tables::CommitFault;
 use std::alloc::Global;
+use texts::Text;
 
 /// What opening a session came to.
 #[derive(Clone, Copy, Debug, PartialEq, Eq)]
@@ -89,6 +92,65 @@ impl Abort {
                 blobs: Numbers::from_vec(Vec::new(alloc)),
             },
             SessionResult::Done(count) => Abort::Done(count),
+        }
+    }
+}
+
+/// What deploying a session's files came to. Where they are not deployed it stays open, and nothing is changed.
+#[derive(Drop)]
+pub enum Commit {
+    /// No session was opened under the number.
+    NoSession,
+    /// The repository has a file of another content at this path, the first such path in byte order.
+    Offends {
+        path: Text,
+        kept: Print,
+        sent: Print,
+    },
+    /// A staged file's release directory has no pom, neither staged nor visible: the first such directory in byte order.
+    MissingPom {
+        dir: Text,
+    },
+    /// The records failed. Their count of faults rose in that call, or stands at 2^64 - 1.
+    StoreFault,
+    /// There was no memory left.
+    NoMemory,
+    /// So many files are deployed, and these blobs are in use by nobody; or they were deployed before, and there are none.
+    Done {
+        count: u64,
+        blobs: Numbers,
+    },
+    /// It was given up before.
+    Aborted,
+}
+
+impl Commit {
+    /// It has ended so.
+    pub fn kept(alloc: Global, how: SessionResult) -> Commit
+        ensures reply { shown_commit result ≡ ended how }
+        ensures blobs { blobs_over result ≡ [] }
+    {
+        match how {
+            SessionResult::Aborted => Commit::Aborted,
+            SessionResult::Done(count) => Commit::Done {
+                count,
+                blobs: Numbers::from_vec(Vec::new(alloc)),
+            },
+        }
+    }
+
+    /// Its files are not deployed.
+    pub fn refused(answer: PutAll) -> Commit
+        requires { is_done answer ≡ false }
+        ensures reply { shown_commit result ≡ shown_put_all answer }
+        ensures blobs { blobs_over result ≡ [] }
+    {
+        match answer {
+            PutAll::Offends { path, kept, sent } => Commit::Offends { path, kept, sent },
+            PutAll::MissingPom { dir } => Commit::MissingPom { dir },
+            PutAll::StoreFault => Commit::StoreFault,
+            PutAll::NoMemory => Commit::NoMemory,
+            PutAll::Done { .. } => unreachable!(),
         }
     }
 }

@@ -3,7 +3,7 @@ ghost use Rattle.std.specs.Prelude.{◌≡◌, None, OnOk, OnErr, IfOk, map, len
 ghost use Rattle.std.specs.Option.{option_map};
 ghost use Rattle.repo_model.specs.Shown.{shown_parcel, shown_print};
 ghost use Rattle.repo_model.specs.Effect.{with_staged};
-ghost use Rattle.repo_model.specs.Turn.{staged_at};
+ghost use Rattle.repo_model.specs.Turn.{has_room, staged_at};
 ghost use Rattle.deploy_session.specs.Shown.{shown_files, standing};
 
 use crate::answers::Standing;
@@ -11,6 +11,9 @@ use outside::{Held, NoMemory, Parcel};
 use repo_model::Print;
 use std::alloc::Global;
 use std::collections::BTreeMap;
+
+/// The most files that a session stages.
+pub const MOST_STAGED: usize = 1000;
 
 /// Staged files by path, in byte order.
 pub type Files<H> = BTreeMap<String, Parcel<H>>;
@@ -33,6 +36,13 @@ pub fn find<'a, H: Held>(
     ensures { option_map (λ p. shown_parcel p.now) result ≡ staged_at path.now (shown_files files.now.entries) }
 {
     files.get(path)
+}
+
+/// Whether a session with these files may stage one at a path: it has one there, or fewer than 1,000.
+pub fn has_room<H: Held>(files: &BTreeMap<String, Parcel<H>>, path: &str) -> bool
+    ensures { result ≡ has_room path.now (shown_files files.now.entries) }
+{
+    find(files, path).is_some() || files.len() < MOST_STAGED
 }
 
 /// What stands at a path, beside a content of this fingerprint.

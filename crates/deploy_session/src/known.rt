@@ -11,15 +11,12 @@ ghost use Rattle.deploy_session.specs.Known.{is_drawn};
 ghost use Rattle.deploy_session.specs.Shown.{shown_session, shown_sessions, IsJudged};
 
 use crate::answers::{Stage, Standing};
-use crate::files;
+use crate::files::{self, MOST_STAGED};
 use outside::{Held, NoMemory, Parcel};
 use repo_model::{Print, SessionResult};
 use std::alloc::Global;
 use std::collections::BTreeMap;
 use texts::Text;
-
-/// The most files that a session stages.
-const MOST_STAGED: usize = 1000;
 
 /// A session for the hosted repository of an id: its staged files by path, or how it ended.
 #[derive(Drop)]

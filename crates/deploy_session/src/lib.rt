@@ -8,6 +8,6 @@ mod recording;
 mod restart;
 mod sessions;
 
-pub use answers::{Abort, Begin, Stage};
-pub use files::Files;
+pub use answers::{Abort, Begin, Commit, Stage};
+pub use files::{Files, find as staged_file, has_room};
 pub use sessions::Sessions;

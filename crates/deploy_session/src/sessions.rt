@@ -1,23 +1,27 @@
 //! Deployment sessions.
-ghost use Rattle.std.specs.Prelude.{◌≡◌, ◌≢◌, ◌<◌, ◌⊎◌, if◌then◌else◌, count_by, find, [], None, IsTrue, IfOk};
+ghost use Rattle.std.specs.Prelude.{◌≡◌, ◌≢◌, ◌<◌, ◌≤◌, ◌⊎◌, if◌then◌else◌, count_by, find, [], None, Some, IsTrue, IfOk};
 ghost use Rattle.std.specs.List.{flat_map};
-ghost use Rattle.std.specs.Option.{option_map};
+ghost use Rattle.std.specs.Option.{option_and_then, option_map};
+ghost use Rattle.repo_model.specs.Data as plain;
 ghost use Rattle.repo_model.specs.Effect.{recorded};
+ghost use Rattle.repo_model.specs.History.{latest_moment};
 ghost use Rattle.repo_model.specs.Reply.{is_free, no_memory, staged};
 ghost use Rattle.repo_model.specs.Shown.{shown_parcel};
-ghost use Rattle.repo_model.specs.State.{is_open, is_open_at, number_end};
+ghost use Rattle.repo_model.specs.State.{is_open, is_open_at, is_session, number_end};
 ghost use Rattle.row_tables.specs.Commits.{tables_with};
 ghost use Rattle.row_tables.specs.Items.{is_file_path, is_number};
 ghost use Rattle.row_tables.specs.Recorded.{IsBuiltUp};
-ghost use Rattle.deploy_session.specs.Known.{abort_turn, begin_turn, garbage_by, known_after, known_from, stage_turn};
+ghost use Rattle.hosted_repo.specs.Rows.{rows_after_all};
+ghost use Rattle.deploy_session.specs.Known.{abort_turn, begin_turn, commit_turn, garbage_by, known_after, known_from, stage_turn};
 ghost use Rattle.deploy_session.specs.Recording.{FitWhereTold, HasReplyCause};
-ghost use Rattle.deploy_session.specs.Shown.{blobs_left, shown_abort, shown_begin, shown_files, shown_stage};
+ghost use Rattle.deploy_session.specs.Shown.{blobs_left, blobs_over, shown_abort, shown_begin, shown_commit, shown_files, shown_stage};
 
-use crate::answers::{Abort, Begin, Stage};
+use crate::answers::{Abort, Begin, Commit, Stage};
 use crate::known::{self, Session};
 use crate::{files, recording, restart};
+use hosted_repo::{Hosted, PutAll};
 use outside::{Held, NoMemory, Parcel};
-use repo_model::{NUMBER_END, Numbers};
+use repo_model::{Item, NUMBER_END, Numbers, SessionResult};
 use row_tables::{Records, Tables};
 use std::alloc::Global;
 use std::collections::BTreeMap;
@@ -140,6 +144,60 @@ impl<H: Held> Sessions<H> {
         }
     }
 
+    /// Deploys the files of the session of a number, all at once or not at all, to its repository at a moment, in seconds since
+    /// 1970 in UTC, and ends it, once both are recorded as one change. Where that fails, or something stands against it, nothing
+    /// is changed. One that has ended answers how it ended, and nothing is changed either.
+    pub fn commit<K: Records>(
+        &mut self,
+        records: &mut K,
+        hosted: &mut Hosted<H>,
+        session: u64,
+        now: u64,
+    ) -> Commit
+        requires moment { now ≤ latest_moment }
+        requires ready { K.ready records.old }
+        requires repository { (s : plain.Session) → find (is_open_at session) self.old.sessions ≡ Some s → s.repo ≡ hosted.old.rule.id }
+        requires fits { FitWhereTold (K.tables records.old) (recorded (commit_turn self.old session now hosted.old.rows).effects) }
+        ensures reply { let turn = commit_turn self.old session now hosted.old.rows in
+            (shown_commit result ≡ turn.reply) ⊎ IsTrue (is_free (shown_commit result)) }
+        ensures asked { let turn = commit_turn self.old session now hosted.old.rows in
+            result ≡ Commit.StoreFault → recorded turn.effects ≢ [] }
+        ensures sessions { let turn = commit_turn self.old session now hosted.old.rows in
+            self.new ≡ (if is_free (shown_commit result) then self.old else known_after turn.effects self.old) }
+        ensures rows { let turn = commit_turn self.old session now hosted.old.rows in
+            hosted.new ≡ (if is_free (shown_commit result) then hosted.old else record hosted.old { rows = rows_after_all turn.effects hosted.old.rows }) }
+        ensures blobs { let turn = commit_turn self.old session now hosted.old.rows in
+            blobs_over result ≡ (if is_free (shown_commit result) then [] else flat_map garbage_by turn.effects) }
+        ensures tables { let turn = commit_turn self.old session now hosted.old.rows in
+            K.tables records.new ≡ (if is_free (shown_commit result) then K.tables records.old else tables_with (recorded turn.effects) (K.tables records.old)) }
+        ensures cause { HasReplyCause (K.faults records.old) (K.faults records.new) (shown_commit result) }
+        ensures ready { K.ready records.new }
+    {
+        let Some(found) = known::session_of(&self.known, session) else {
+            return Commit::NoSession;
+        };
+        if let Some(how) = found.ended {
+            return Commit::kept(self.alloc, how);
+        }
+        let result = SessionResult::Done(found.files.len() as u64);
+        let also = Item::SessionEnded { session, result };
+        match hosted.put_all(records, &found.files, also, now) {
+            PutAll::Done { count, blobs } => {
+                known::end(self.alloc, &mut self.known, session, result);
+                self.open_count -= 1;
+                Commit::Done { count, blobs }
+            }
+            refused => Commit::refused(refused),
+        }
+    }
+
+    /// How the session of a number has ended; None where it has not, or was never opened. It takes no memory.
+    pub fn how_ended(&self, session: u64) -> Option<SessionResult>
+        ensures { result ≡ option_and_then (λ (s : plain.Session). s.ended) (find (is_session session) self.now.sessions) }
+    {
+        known::session_of(&self.known, session)?.ended
+    }
+
     /// The repository and the files of the session that is open under a number. It takes no memory.
     pub fn opened(&self, session: u64) -> Option<(&str, &BTreeMap<String, Parcel<H>>)>
         ensures { option_map (λ lent. record { number = session; repo = lent.0.now; staged = shown_files lent.1.now.entries; ended = None }) result
@@ -167,6 +225,14 @@ impl<H: Held> Sessions<H> {
             return Stage::NoMemory;
         };
         Stage::Staged
+    }
+
+    /// The number of the next session, at most 2^63. It takes no memory.
+    pub fn next_number(&self) -> u64
+        ensures value { result ≡ self.now.next }
+        ensures limit { result ≤ number_end }
+    {
+        self.next
     }
 
     /// How many sessions are open. It takes no memory.

@@ -1,15 +1,18 @@
 -- What a turn records makes a change: each item has its form, and together they have fewer than 2^32 bytes.
 use native.Mathlib.Omega.{arith}
-use Rattle.std.proofs.Common.{◌≡◌, ℕ, ◌+◌, ◌*◌, ◌≤◌, true, false, List, [], ◌∷◌, ◌++◌, length, refl, sym, ap, ◌∙◌, eqb, ltb, leb, length-append}
+use Rattle.std.proofs.Common.{◌≡◌, ℕ, ◌+◌, ◌*◌, ◌<◌, ◌≤◌, true, false, List, [], ◌∷◌, ◌++◌, length, refl, sym, ap, ◌∙◌, eqb, ltb, leb, length-append}
 use Rattle.std.specs.Prelude.{is_some}
 use Rattle.std.specs.Int.{w16, w32, w64, to_be_bytes}
 use Rattle.std.specs.List.{AllByRecursion, flat_map, list_all}
+use Rattle.std.proofs.lemmas.List.Concat.{flat_map-append}
+use Rattle.std.proofs.lemmas.List.Folds.{list_all-append}
 use Rattle.std.proofs.lemmas.Bool.{and_from, and_parts, false≢true, ltb-false, leb-true, eqb-true}
 use Rattle.mvn_coords.proofs.Judged.{kind_long}
 use Rattle.repo_model.specs.declared.item.Item.{Item}
 use Rattle.repo_model.specs.declared.item.Item.TheVariants.{HostedPut, Faded, Relisted, Removed}
 use Rattle.repo_model.specs.declared.print.Print.{Print}
 use Rattle.repo_model.specs.Paths.{file_in}
+use Rattle.hosted_repo.specs.Recording.{IsShort}
 use Rattle.row_tables.specs.Items.{IsChange, is_file_path, is_id, is_item, is_moment, is_number, is_print, item_bytes, place_bytes, print_bytes, text_bytes}
 
 -- a path of a file has at most 1,024 bytes
@@ -23,11 +26,6 @@ short-file path named =
             | false ↦ λ l. ltb-false 1024 (length path) l
           ] refl
     ] refl
-
--- an item of its form that has at most 1,153 bytes
-pub record IsShort (item : Item) : Type 0 where
-  pub form : is_item item ≡ true
-  pub size : length (item_bytes item) ≤ 1153
 
 text-size : (t : List ℕ) → length (text_bytes t) ≡ 2 + length t
 text-size t = length-append (to_be_bytes w16 (length t)) t
@@ -88,4 +86,22 @@ change-of items all few = record {
   size =
       let head = to_be_bytes w32 (length items) in
       omega (arith, length-append head (flat_map item_bytes items), all-size items all, few);
+}
+
+-- up to a million short items, and one that has fewer than 65,536 bytes, make a change
+pub change-with : (items : List Item) (also : Item) → AllByRecursion IsShort items → length items ≤ 1000000 → is_item also ≡ true → length (item_bytes also) < 65536 → IsChange (items ++ also ∷ [])
+change-with items also all few form short = record {
+  form = list_all-append is_item items (also ∷ []) ∙ and_from (list_all is_item items) (list_all is_item (also ∷ [])) (all-form items all) (and_from (is_item also) true form refl);
+  size =
+      let head = to_be_bytes w32 (length (items ++ also ∷ [])) in
+      omega (
+        arith,
+        length-append head (flat_map item_bytes (items ++ also ∷ [])),
+        ap length (flat_map-append item_bytes items (also ∷ [])),
+        length-append (flat_map item_bytes items) (item_bytes also ++ []),
+        length-append (item_bytes also) [],
+        all-size items all,
+        few,
+        short,
+      );
 }

@@ -18,10 +18,11 @@ use Rattle.repo_model.specs.History.{latest_moment}
 use Rattle.repo_model.specs.Paths.{file_at}
 use Rattle.repo_model.specs.Purge.{due_rows, expired_of, fade_all, is_due_at, is_over, most_rows}
 use Rattle.repo_model.specs.State.{change_where, is_row, number_end}
-use Rattle.row_tables.specs.Items.{IsChange, is_file_path, is_id, is_item, is_moment, is_number, is_print}
-use Rattle.hosted_repo.specs.Recording.{IsRemoved}
+use Rattle.row_tables.specs.Items.{IsChange, is_file_path, is_count, is_id, is_item, is_moment, is_number, is_print}
+use Rattle.hosted_repo.specs.Deliveries.{is_recordable}
+use Rattle.hosted_repo.specs.Recording.{IsRemoved, IsShort}
 use Rattle.hosted_repo.specs.Rows.{AreFiles, rows_after_all, goes, without_first}
-use Rattle.hosted_repo.proofs.ChangeLemmas.{IsShort, change-of, fade-short, relist-short, put-short, removed-short}
+use Rattle.hosted_repo.proofs.ChangeLemmas.{change-of, fade-short, relist-short, put-short, removed-short}
 
 abbrev IsFileRow : plain.Row → Type 0
 IsFileRow row = IsTrue (is_file_path row.path)
@@ -92,6 +93,20 @@ module _ (id : List ℕ) (named : is_id id ≡ true) where
 
   pub relists-change : (path : List ℕ) (now : ℕ) → is_file_path path ≡ true → now ≤ latest_moment → IsChange (Relisted id path now ∷ [])
   relists-change path now file late = change-of (Relisted id path now ∷ []) (relist-short id path named file now (moment-so now late), tt) (omega arith)
+
+  -- a staged file as it is recorded
+  pub staged-put : (file : plain.Staged) (now : ℕ) → is_recordable file ≡ true → length file.blob.print.digests.sha1 ≡ 20 → length file.blob.print.digests.md5 ≡ 16 → now ≤ latest_moment
+      → IsShort (HostedPut id file.path file.blob.number file.blob.print now)
+  staged-put file now formed sha1 md5 late =
+      let print = file.blob.print in
+      let a = and_parts (is_file_path file.path) (is_number file.blob.number && is_count print.length) formed in
+      let b = and_parts (is_number file.blob.number) (is_count print.length) a.1 in
+      let is : is_print print ≡ true = and_from _ _ b.1 (and_from _ _ (eq-eqb (length print.digests.sha1) 20 sha1) (eq-eqb (length print.digests.md5) 16 md5)) in
+      put-short id file.path named a.0 file.blob.number print now b.0 is sha1 md5 (moment-so now late)
+
+  pub staged-again : (file : plain.Staged) (now : ℕ) → is_recordable file ≡ true → now ≤ latest_moment → IsShort (Relisted id file.path now)
+  staged-again file now formed late =
+      relist-short id file.path named (and_parts (is_file_path file.path) (is_number file.blob.number && is_count file.blob.print.length) formed).0 now (moment-so now late)
 
   going-short : (rows : List plain.Row) → AreFiles rows → AllByRecursion IsShort (recorded (map (λ (row : plain.Row). expires id row.path row.blob.number) rows))
   going-short [] files = tt

@@ -1,5 +1,5 @@
 -- Rows in the entries of an ordered map.
-use Rattle.std.proofs.Common.{◌≡◌, ℕ, Bool, true, false, cond, List, [], ◌∷◌, Option, Some, None, option_map, String, Global, string_bytes, Bor, Ordering, Less, Equal, Greater, is_eq, nat_cmp, refl, sym, ◌∙◌, ap, subst, bytes_eq}
+use Rattle.std.proofs.Common.{◌≡◌, ℕ, Bool, true, false, cond, not, List, [], ◌∷◌, Option, Some, None, option_map, String, Global, string_bytes, Bor, Ordering, Less, Equal, Greater, is_eq, nat_cmp, refl, sym, ◌∙◌, ap, subst, bytes_eq}
 use Rattle.std.proofs.lemmas.Map.Text.{is_eq-slice_cmp}
 use Rattle.std.proofs.lemmas.Slice.Eq.{bytes_eq-Decides}
 use Rattle.std.proofs.lemmas.Bool.{false_from_ne_true, both_ways}
@@ -14,7 +14,7 @@ use Rattle.std.specs.BTreeMap.{is_at, insert_entry}
 use Rattle.std.specs.String.{string_cmp}
 use Rattle.outside.specs.declared.stores.Held.{Ghosts}
 use Rattle.repo_model.specs.Data as plain
-use Rattle.repo_model.specs.Effect.{with_row}
+use Rattle.repo_model.specs.Effect.{with_row, without_row}
 use Rattle.repo_model.specs.State.{row_at, change_where, is_row}
 use Rattle.hosted_repo.specs.Rows.{shown_at, shown_entry, shown_rows}
 use Rattle.hosted_repo.specs.declared.row.Row.{Row}
@@ -107,6 +107,33 @@ module _ {X : Type 0} {G : Ghosts X} where
         | true ↦ λ here. absurd (none-some e.1 (sym (sym (ap (λ b. cond b (Some e.1) (lookup (at_text path) es)) (test ∙ here)) ∙ is)))
         | false ↦ λ there.
             ap (λ rows. shown_entry e ∷ rows) (unwritten path f es (sym (ap (λ b. cond b (Some e.1) (lookup (at_text path) es)) (test ∙ there)) ∙ is))
+      ] refl
+
+module _ {X : Type 0} {G : Ghosts X} where
+  without_later : (k : String Global) (es : List (String Global × Row X G)) → AllByRecursion (λ y. string_cmp k y ≡ Less) (keys_of es) → shown_rows es ≡ without_row (string_bytes k) (shown_rows es)
+  without_later k [] below = refl
+  without_later k (e ∷ es) below =
+      let other : bytes_eq (string_bytes e.0) (string_bytes k) ≡ false = sym (same_test (string_bytes k) (string_bytes e.0)) ∙ ap is_eq below.0 in
+      ap (λ rows. shown_entry e ∷ rows) (without_later k es below.1)
+      ∙ sym (ap (λ b. cond (not b) (shown_entry e ∷ without_row (string_bytes k) (shown_rows es)) (without_row (string_bytes k) (shown_rows es))) other)
+
+  -- the entry of a path is taken out
+  pub removed : (path : List ℕ) (es : List (String Global × Row X G)) → IsStrictlySortedBy string_cmp (keys_of es) → shown_rows (remove_entry (at_text path) es) ≡ without_row path (shown_rows es)
+  unfolding IsStrictlySortedBy
+  removed path [] sorted = refl
+  removed path (e ∷ es) sorted =
+      let test = same_test path (string_bytes e.0) in
+      let rest : List plain.Row = without_row path (shown_rows es) in
+      elim (bytes_eq (string_bytes e.0) path)
+      as (λ b. bytes_eq (string_bytes e.0) path ≡ b → shown_rows (remove_entry (at_text path) (e ∷ es)) ≡ cond (not b) (shown_entry e ∷ rest) rest) [
+        | true ↦ λ here.
+            let path_is : string_bytes e.0 ≡ path = (bytes_eq-Decides (string_bytes e.0) path).0 here in
+            ap (λ b. shown_rows (cond b es (e ∷ remove_entry (at_text path) es))) (test ∙ here)
+            ∙ without_later e.0 es sorted.0
+            ∙ ap (λ p. without_row p (shown_rows es)) path_is
+        | false ↦ λ there.
+            ap (λ b. shown_rows (cond b es (e ∷ remove_entry (at_text path) es))) (test ∙ there)
+            ∙ ap (λ rows. shown_entry e ∷ rows) (removed path es sorted.1)
       ] refl
 
 at_itself : (k : String Global) → at_text (string_bytes k) k ≡ true

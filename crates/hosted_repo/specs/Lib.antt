@@ -1,3 +1,4 @@
+pub mod Deliveries
 pub mod Documents
 pub mod Dues
 pub mod Expired

@@ -1,5 +1,5 @@
 -- What a call that records needs of them, and what it says of the count of their faults.
-use Rattle.std.specs.Prelude.{◌≡◌, ℕ, List, Option, Result, Ok, MatchResult}
+use Rattle.std.specs.Prelude.{◌≡◌, ℕ, ◌≤◌, List, Option, Result, Ok, MatchResult, IsTrue, length}
 use Rattle.std.specs.Option.{ForSome}
 use Rattle.outside.specs.Faults.{Rose}
 use Rattle.repo_model.specs.Reply.{Reply, store_fault}
@@ -7,6 +7,7 @@ use Rattle.repo_model.specs.declared.item.Item.{Item}
 use Rattle.repo_model.specs.declared.item.Item.TheVariants.{Removed}
 use Rattle.repo_model.specs.Tables.{Tables, applied}
 use Rattle.row_tables.specs.Applying.{with_items}
+use Rattle.row_tables.specs.Items.{is_item, item_bytes}
 use Rattle.row_tables.specs.declared.faults.CommitFault.{CommitFault}
 use Rattle.row_tables.specs.declared.faults.CommitFault.TheVariants as commit
 use Rattle.hosted_repo.specs.declared.kept.Kept.{Kept}
@@ -15,6 +16,11 @@ use Rattle.hosted_repo.specs.declared.kept.Kept.TheVariants.{StoreFault, NoMemor
 -- items that fit the tables, where these are told
 abbrev pub FitWhereTold : Option Tables → List Item → Type 0
 FitWhereTold tables items = ForSome tables (λ t. applied t items ≡ Ok (with_items t items))
+
+-- an item of its form that has at most 1,153 bytes
+pub record IsShort (item : Item) : Type 0 where
+  pub form : IsTrue (is_item item)
+  pub size : length (item_bytes item) ≤ 1153
 
 -- an item by which a row goes
 abbrev pub IsRemoved : Item → Type 0

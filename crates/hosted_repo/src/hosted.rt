@@ -1,9 +1,10 @@
 //! A hosted repository.
 ghost use Rattle.std.specs.Prelude.{◌≡◌, ◌≢◌, ◌<◌, ◌≤◌, ◌-◌, ◌⊎◌, ◌∷◌, ◌++◌, [], if◌then◌else◌, min, None, IfErr, IfOk, OnOk, OnErr, IsTrue, ℕ, List, true, false, length, count_by, map, take, string_bytes};
-ghost use Rattle.std.specs.List.{AllByRecursion};
+ghost use Rattle.std.specs.List.{AllByRecursion, flat_map, list_all};
 ghost use Rattle.std.specs.Option.{option_map};
 ghost use Rattle.mvn_coords.specs.Kind.{kind};
 ghost use Rattle.repo_model.specs.declared.item.Item.TheVariants.{HostedPut, Relisted};
+ghost use Rattle.repo_model.specs.Deploy.{offence, without_pom};
 ghost use Rattle.repo_model.specs.Document.{document};
 ghost use Rattle.repo_model.specs.Effect.{list_again, new_row, recorded, with_row};
 ghost use Rattle.repo_model.specs.History.{latest_moment};
@@ -14,7 +15,8 @@ ghost use Rattle.repo_model.specs.Shown.{shown_parcel, shown_print};
 ghost use Rattle.repo_model.specs.State.{change_where, is_row, number_end, row_at, new_hosted};
 ghost use Rattle.repo_model.specs.Turn.{seen_at};
 ghost use Rattle.row_tables.specs.Commits.{tables_with};
-ghost use Rattle.row_tables.specs.Items.{is_file_path, is_id, is_number};
+ghost use Rattle.row_tables.specs.Items.{is_file_path, is_id, is_item, is_number, item_bytes};
+ghost use Rattle.hosted_repo.specs.Deliveries.{blobs_of, deliveries, delivery, is_done, is_recordable, left_by, shown_files, shown_put_all};
 ghost use Rattle.hosted_repo.specs.Expired.{blob_of};
 ghost use Rattle.hosted_repo.specs.Recording.{FitWhereTold, HasKeptCause, HasReplyCause, IsRemoved};
 ghost use Rattle.hosted_repo.specs.Rules.{shown_rule};
@@ -23,9 +25,12 @@ ghost use Rattle.hosted_repo.specs.Rows.{fades, shown_at, rows_after_all};
 ghost use Rattle.hosted_repo.specs.Puts.{shown_put, put_turn, GivesBack};
 ghost use Rattle.hosted_repo.specs.Seens.{shown_seen, is_of_document};
 
+use crate::delivering::deliver;
+use crate::judging::judge;
 use crate::kept::Kept;
 use crate::purge::MOST_ROWS;
 use crate::put::{Put, Returned, Standing};
+use crate::put_all::PutAll;
 use crate::row::{Phase, Row};
 use crate::rule::Rule;
 use crate::seen::Seen;
@@ -33,6 +38,7 @@ use crate::{NoMemory, changes, documents, looks, purge, rows, storing};
 use mvn_coords::{Dir, Kind};
 use mvn_metadata::Doc;
 use outside::{Held, Parcel};
+use repo_model::{Item, Numbers};
 use row_tables::{Change, Records};
 use std::alloc::Global;
 use std::collections::BTreeMap;
@@ -200,6 +206,49 @@ impl<H: Held> Hosted<H> {
             Ok(()) => Put::Relisted(parcel),
             Err(Kept::StoreFault) => Put::StoreFault(parcel),
             Err(Kept::NoMemory) => Put::NoMemory(parcel),
+        }
+    }
+
+    /// Deploys staged files all at once at a moment, in seconds since 1970 in UTC, together with one more item. What stands
+    /// against it is found first: a path whose row has another content, and then a release directory without its pom, staged or
+    /// visible; the first in byte order is named. Rows of the same content stay and are visible again. All is recorded as one
+    /// change before it is seen; where that fails nothing is changed.
+    pub fn put_all<K: Records>(
+        &mut self,
+        records: &mut K,
+        staged: &BTreeMap<String, Parcel<H>>,
+        also: Item,
+        now: u64,
+    ) -> PutAll
+        requires moment { now ≤ latest_moment }
+        requires ready { K.ready records.old }
+        requires files { IsTrue (list_all is_recordable (shown_files staged.now.entries)) }
+        requires few { length (shown_files staged.now.entries) ≤ most_rows }
+        requires also { IsTrue (is_item also) }
+        requires short { length (item_bytes also) < 65536 }
+        requires fits { offence self.old.rows (shown_files staged.now.entries) ≡ None → without_pom self.old.rows (shown_files staged.now.entries) ≡ None
+            → FitWhereTold (K.tables records.old) (recorded (deliveries self.old (shown_files staged.now.entries) now) ++ also ∷ []) }
+        ensures reply { (shown_put_all result ≡ (delivery self.old (shown_files staged.now.entries) now).reply) ⊎ IsTrue (is_free (shown_put_all result)) }
+        ensures asked { result ≡ PutAll.StoreFault → (offence self.old.rows (shown_files staged.now.entries) ≡ None) × (without_pom self.old.rows (shown_files staged.now.entries) ≡ None) }
+        ensures rows { self.new ≡ (if is_done result
+            then record self.old { rows = rows_after_all (deliveries self.old (shown_files staged.now.entries) now) self.old.rows } else self.old) }
+        ensures blobs { blobs_of result ≡ (if is_done result then flat_map left_by (deliveries self.old (shown_files staged.now.entries) now) else []) }
+        ensures tables { K.tables records.new ≡ (if is_done result
+            then tables_with (recorded (deliveries self.old (shown_files staged.now.entries) now) ++ also ∷ []) (K.tables records.old) else K.tables records.old) }
+        ensures cause { HasReplyCause (K.faults records.old) (K.faults records.new) (shown_put_all result) }
+        ensures ready { K.ready records.new }
+    {
+        if let Err(answer) = judge(self.alloc, &self.rows, staged) {
+            return answer;
+        }
+        let id = &self.rule.id;
+        match deliver(self.alloc, &mut self.rows, records, id, staged, also, now) {
+            Ok(blobs) => PutAll::Done {
+                count: staged.len() as u64,
+                blobs: Numbers::from_vec(blobs),
+            },
+            Err(Kept::StoreFault) => PutAll::StoreFault,
+            Err(Kept::NoMemory) => PutAll::NoMemory,
         }
     }
 

@@ -2,13 +2,16 @@
 #![tactic(auto)]
 
 mod changes;
+mod delivering;
 mod documents;
 mod dues;
 mod hosted;
+mod judging;
 mod kept;
 mod looks;
 mod purge;
 mod put;
+mod put_all;
 mod row;
 mod rows;
 mod rule;
@@ -19,6 +22,7 @@ mod walk;
 pub use hosted::Hosted;
 pub use kept::Kept;
 pub use put::Put;
+pub use put_all::PutAll;
 pub use row::{Phase, Row};
 pub use rows::print_of;
 pub use rule::Rule;

@@ -16,7 +16,7 @@ use std::test::Fail;
 use texts::Text;
 
 // The greatest number of a blob, and the greatest length.
-const MOST: u64 = 9_223_372_036_854_775_807;
+pub const MOST: u64 = 9_223_372_036_854_775_807;
 
 // 2024-02-29 12:00:00 UTC.
 pub const T: u64 = 1_709_208_000;
@@ -48,7 +48,8 @@ fn did_of(put: Put<MemHeld>) -> Did {
     }
 }
 
-fn is_file(path: &str) -> bool
+/// Whether a path is a file's.
+pub fn is_file(path: &str) -> bool
     ensures { result ≡ is_file_path path.now }
 {
     matches!(kind_of(path), Ok(Kind::File(_)))
@@ -99,7 +100,8 @@ impl Bench {
         }
     }
 
-    fn parcel(&mut self, bytes: &[u8]) -> Result<Parcel<MemHeld>, Fail> {
+    /// Bytes, as the next blob.
+    pub fn parcel(&mut self, bytes: &[u8]) -> Result<Parcel<MemHeld>, Fail> {
         let mut hashes = Hashes::new();
         hashes.update(bytes);
         let blob = self.next;

@@ -5,6 +5,8 @@
 #[cfg(test)]
 mod bench;
 #[cfg(test)]
+mod deliveries;
+#[cfg(test)]
 mod documents;
 #[cfg(test)]
 mod fades;

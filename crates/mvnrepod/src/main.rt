@@ -3,10 +3,17 @@
 
 ghost use Rattle.std.specs.Prelude.{◌≡◌, ◌<◌, IfOk, vec_len};
 
-use outside::{Blobs, Duplex, NoMemory, Port, Source};
+use data_folder::{blobs_in, open_disk};
+use desk_work as work;
+use outside::{Blobs, Duplex, NoMemory, Source, Stream};
 use outside_memory::{FaultScript, MemBlobs, MemLink, MemSource, ScriptClock, ScriptPort};
-use outside_system::{ReaderSource, WriterSink, file_source};
-use repo_run::{Action, Desk, NO_MEMORY, Wanted, run, wanted};
+use outside_pace::{Running, SleepingPace};
+use outside_sockets::TcpPort;
+use outside_system::{FolderBlobs, ReaderSource, SystemClock, WriterSink, file_source};
+use record_journal::Journal;
+use repo_run::{Action, Cleaner, Desk, NO_MEMORY, Wanted, run, wanted};
+use row_tables::MemRecords;
+use run_serve::serve;
 use std::alloc::Global;
 use std::env;
 use std::io::{self, Stdin, Stdout};
@@ -15,27 +22,27 @@ use std::process::ExitCode;
 /// Standard input and output as one connection.
 type Standard = Duplex<ReaderSource<Stdin>, WriterSink<Stdout>>;
 
-/// The desk of `replay`: its port gives standard input and output once, and its blobs are in memory.
-fn standard_desks(rt: &HostRuntime) -> Result<Vec<Desk<ScriptPort<Standard>, MemBlobs>>, NoMemory>
-    ensures { IfOk result (λ desks. vec_len desks ≡ 1) }
-{
-    let alloc = rt.alloc();
-    let link = Duplex {
+fn standard(rt: &HostRuntime) -> Standard {
+    Duplex {
         source: ReaderSource::new(rt.stdin()),
         sink: WriterSink::new(rt.stdout()),
-    };
-    let port = ScriptPort::new(alloc, vec![in alloc; link]?, FaultScript::none(alloc))?;
-    let blobs = MemBlobs::new(alloc, FaultScript::none(alloc));
+    }
+}
+
+/// One desk, whose port gives these connections.
+fn desks_with<L: Stream + Drop, B: Blobs + Drop>(
+    alloc: Global,
+    links: Vec<L>,
+    blobs: B,
+) -> Result<Vec<Desk<ScriptPort<L>, B>>, NoMemory>
+    ensures { IfOk result (λ desks. vec_len desks ≡ 1) }
+{
+    let port = ScriptPort::new(alloc, links, FaultScript::none(alloc))?;
     Ok(vec![in alloc; Desk { port, blobs }]?)
 }
 
-/// The desk of words that are refused: its port gives nothing.
-fn empty_desks(alloc: Global) -> Result<Vec<Desk<ScriptPort<MemLink>, MemBlobs>>, NoMemory>
-    ensures { IfOk result (λ desks. vec_len desks ≡ 1) }
-{
-    let port = ScriptPort::new(alloc, Vec::new(alloc), FaultScript::none(alloc))?;
-    let blobs = MemBlobs::new(alloc, FaultScript::none(alloc));
-    Ok(vec![in alloc; Desk { port, blobs }]?)
+fn memory_blobs(alloc: Global) -> MemBlobs {
+    MemBlobs::new(alloc, FaultScript::none(alloc))
 }
 
 /// The words behind the program's name; none where one of them is no text.
@@ -47,37 +54,120 @@ fn words_of(rt: &HostRuntime) -> io::Result<Vec<String>> {
     }
 }
 
-/// The status of a run with these words, settings and desks.
-fn status_of<S: Source, P: Port + Drop, B: Blobs + Drop>(
+/// The status of a run in memory, with these settings and connections. Its lines go to standard error.
+fn status_in_memory<S: Source, L: Stream + Drop>(
     rt: &HostRuntime,
     words: &[String],
     wanted: &Wanted,
     settings: &mut S,
-    desks: Vec<Desk<P, B>>,
-) -> u8
-    requires { 0 < vec_len desks }
-{
-    let clock = ScriptClock::stepping(rt.alloc(), wanted.at, wanted.step);
+    links: Vec<L>,
+) -> Result<u8, NoMemory> {
+    let alloc = rt.alloc();
+    let desks = desks_with(alloc, links, memory_blobs(alloc))?;
+    let cleaner = Cleaner {
+        blobs: memory_blobs(alloc),
+    };
+    let records = MemRecords::new(alloc, Vec::new(alloc));
+    let clock = ScriptClock::stepping(alloc, wanted.at, wanted.step);
     let mut out = WriterSink::new(rt.stderr());
-    run(rt.alloc(), words, settings, desks, clock, &mut out).status
+    Ok(
+        run(
+            alloc, words, settings, desks, cleaner, records, clock, &mut out,
+        )
+        .status,
+    )
+}
+
+/// The status of a run over the folder that the words name. Its lines go to standard output.
+fn status_over_folder(rt: &HostRuntime, words: &[String], wanted: &Wanted) -> Result<u8, NoMemory> {
+    let alloc = rt.alloc();
+    let folder = wanted.folder.as_str();
+    let mut settings = file_source(rt, wanted.settings.as_str());
+    let links: Vec<MemLink> = Vec::new(alloc);
+    let desks = desks_with(alloc, links, blobs_in(rt, folder)?)?;
+    let cleaner = Cleaner {
+        blobs: blobs_in(rt, folder)?,
+    };
+    let records = Journal::new(open_disk(rt, folder));
+    let clock = SystemClock::new(rt.clone()?);
+    let mut out = WriterSink::new(rt.stdout());
+    Ok(
+        run(
+            alloc,
+            words,
+            &mut settings,
+            desks,
+            cleaner,
+            records,
+            clock,
+            &mut out,
+        )
+        .status,
+    )
+}
+
+/// A desk of a server: a listener, and the blobs of a folder.
+type TcpDesk = work::Desk<TcpPort<HostRuntime>, FolderBlobs<HostRuntime>>;
+
+/// How many connections are served at once.
+const DESKS: u64 = 4;
+
+/// The desks of a server, which share one listener.
+fn tcp_desks(
+    rt: &HostRuntime,
+    wanted: &Wanted,
+    running: &Running,
+) -> Result<Vec<TcpDesk>, NoMemory>
+    ensures { IfOk result (λ desks. 0 < vec_len desks) }
+{
+    let folder = wanted.folder.as_str();
+    let port = TcpPort::bind(rt.clone()?, wanted.port, running.share()?);
+    let mut desks = Vec::with_capacity(rt.alloc(), 4)?;
+    for _ in 1..DESKS {
+        desks.push(work::Desk {
+            port: port.twin(rt.clone()?, running.share()?),
+            blobs: blobs_in(rt, folder)?,
+        })?;
+    }
+    desks.push(work::Desk {
+        port,
+        blobs: blobs_in(rt, folder)?,
+    })?;
+    Ok(desks)
+}
+
+/// The status of a server over the folder and on the port that the words name. Its line goes to standard error.
+fn status_of_server(rt: &HostRuntime, wanted: &Wanted) -> Result<u8, NoMemory> {
+    let alloc = rt.alloc();
+    let folder = wanted.folder.as_str();
+    let mut settings = file_source(rt, wanted.settings.as_str());
+    let running = Running::new(alloc, DESKS)?;
+    let desks = tcp_desks(rt, wanted, &running)?;
+    let cleaner = work::Cleaner {
+        blobs: blobs_in(rt, folder)?,
+        pace: SleepingPace::new(rt.clone()?, running),
+    };
+    let records = Journal::new(open_disk(rt, folder));
+    let clock = SystemClock::new(rt.clone()?);
+    let mut out = WriterSink::new(rt.stderr());
+    Ok(serve(rt, alloc, &mut settings, desks, cleaner, records, clock, &mut out).status)
 }
 
 /// Makes the objects that the words have, and runs the program with them.
 fn status_for(rt: &HostRuntime, words: &[String], wanted: &Wanted) -> Result<u8, NoMemory> {
+    let alloc = rt.alloc();
     match wanted.command {
         Action::Replay => {
-            let desks = standard_desks(rt)?;
             let mut settings = file_source(rt, wanted.settings.as_str());
-            Ok(status_of(rt, words, wanted, &mut settings, desks))
+            let links = vec![in alloc; standard(rt)]?;
+            status_in_memory(rt, words, wanted, &mut settings, links)
         }
+        Action::Check | Action::Clean => status_over_folder(rt, words, wanted),
+        Action::Serve => status_of_server(rt, wanted),
         Action::Nothing => {
-            let desks = empty_desks(rt.alloc())?;
-            let mut settings = MemSource::new(
-                Vec::new(rt.alloc()),
-                1,
-                FaultScript::none(rt.alloc()),
-            );
-            Ok(status_of(rt, words, wanted, &mut settings, desks))
+            let mut settings = MemSource::new(Vec::new(alloc), 1, FaultScript::none(alloc));
+            let links: Vec<MemLink> = Vec::new(alloc);
+            status_in_memory(rt, words, wanted, &mut settings, links)
         }
     }
 }

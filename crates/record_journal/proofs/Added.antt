@@ -1,5 +1,5 @@
 -- What is left after a change is added behind the others.
-use Rattle.std.proofs.Common.{◌≡◌, ◌⊎◌, inl, inr, ℕ, List, [], ◌∷◌, ◌++◌, Ok, refl, sym, ◌∙◌, ap, subst}
+use Rattle.std.proofs.Common.{◌≡◌, ◌⊎◌, ◌≤◌, inl, inr, ℕ, List, [], ◌∷◌, ◌++◌, Ok, refl, sym, ◌∙◌, ap, subst, arith}
 use Rattle.std.specs.Prelude.{Option, Some, None, IfSome}
 use Rattle.std.specs.Option.{ForSome, option_map}
 use Rattle.record_disk.specs.Disk.{Trace, AllImages, Throughout, Here, Told}
@@ -124,7 +124,7 @@ module _ (items : List Item) (is : IsChange items) (old new : LogState) (bytes :
   told_so = subst (λ l. Told old.trace new.trace (λ s t. (ps : List (List ℕ)) → IsAtRest old.gate ps s → Throughout (HoldsOneMore ps l) s t)) same moments
 
   ready_so : IfSome old.trace (IsStanding old.gate None)
-  ready_so = subst (λ o. IfSome old.trace (IsStanding old.gate o)) undone ready
+  ready_so = subst (λ o. IfSome old.trace (IsStanding old.gate o)) undone ready.standing
 
   fits_so : FitsTold (tables_by old.trace old.gate None) items
   fits_so = subst (λ o. FitsTold (tables_by old.trace old.gate o) items) undone fits
@@ -138,8 +138,15 @@ module _ (items : List Item) (is : IsChange items) (old new : LogState) (bytes :
   more_so : ((ps : List (List ℕ)) → HasAcknowledged ps old → HasAcknowledged (ps ++ bytes ∷ []) new) → (ps : List (List ℕ)) → IfSome old.trace (λ s. StandsFor old.gate None ps s) → IfSome new.trace (λ t. StandsFor new.gate new.pending (ps ++ change_bytes items ∷ []) t)
   more_so stays ps holds = subst (λ l. HasAcknowledged (ps ++ l ∷ []) new) same (stays ps (subst (λ o. IfSome old.trace (λ s. StandsFor old.gate o ps s)) (sym undone) holds))
 
-  pub append_ready : new.pending ≡ None → ((ps : List (List ℕ)) → HasAcknowledged ps old → HasAcknowledged (ps ++ bytes ∷ []) new) → IsReady new
-  append_ready none stays = added_ready items is old.trace new.trace old.gate new.gate new.pending none told_so ready_so fits_so (more_so stays)
+  -- the gate does not fall
+  behind_so : old.gate ≤ new.gate → 8 ≤ new.gate
+  behind_so rises = omega (arith, ready.behind)
+
+  pub append_ready : old.gate ≤ new.gate → new.pending ≡ None → ((ps : List (List ℕ)) → HasAcknowledged ps old → HasAcknowledged (ps ++ bytes ∷ []) new) → IsReady new
+  append_ready rises none stays = record {
+    behind = behind_so rises;
+    standing = added_ready items is old.trace new.trace old.gate new.gate new.pending none told_so ready_so fits_so (more_so stays);
+  }
 
   pub append_tables : new.pending ≡ None → ((ps : List (List ℕ)) → HasAcknowledged ps old → HasAcknowledged (ps ++ bytes ∷ []) new) → tables_of new ≡ option_map (λ t. with_items t items) (tables_of old)
   append_tables none stays = added_tables items is old.trace new.trace old.gate new.gate new.pending none told_so ready_so fits_so (more_so stays) ∙ ap (option_map (λ t. with_items t items)) tables_so
@@ -147,8 +154,11 @@ module _ (items : List Item) (is : IsChange items) (old new : LogState) (bytes :
   still_so : ((ps : List (List ℕ)) → HasAcknowledged ps old → HasAcknowledged ps new) → (ps : List (List ℕ)) → IfSome old.trace (λ s. StandsFor old.gate None ps s) → IfSome new.trace (λ t. StandsFor new.gate new.pending ps t)
   still_so stays ps holds = stays ps (subst (λ o. IfSome old.trace (λ s. StandsFor old.gate o ps s)) (sym undone) holds)
 
-  pub append_failed_ready : new.pending ≡ Some bytes → ((ps : List (List ℕ)) → HasAcknowledged ps old → HasAcknowledged ps new) → IsReady new
-  append_failed_ready some stays = failed_ready items is old.trace new.trace old.gate new.gate new.pending (some ∙ ap Some same) told_so ready_so fits_so (still_so stays)
+  pub append_failed_ready : old.gate ≤ new.gate → new.pending ≡ Some bytes → ((ps : List (List ℕ)) → HasAcknowledged ps old → HasAcknowledged ps new) → IsReady new
+  append_failed_ready rises some stays = record {
+    behind = behind_so rises;
+    standing = failed_ready items is old.trace new.trace old.gate new.gate new.pending (some ∙ ap Some same) told_so ready_so fits_so (still_so stays);
+  }
 
   pub append_failed_tables : new.pending ≡ Some bytes → ((ps : List (List ℕ)) → HasAcknowledged ps old → HasAcknowledged ps new) → tables_of new ≡ tables_of old
   append_failed_tables some stays = failed_tables items is old.trace new.trace old.gate new.gate new.pending (some ∙ ap Some same) told_so ready_so fits_so (still_so stays) ∙ tables_so
@@ -157,7 +167,7 @@ module _ (items : List Item) (is : IsChange items) (old new : LogState) (bytes :
 pub none_crash : (old new : LogState) (items : List Item) → new ≡ old → old.pending ≡ None → IsReady old → Told old.trace new.trace (Commits (tables_of old) None items)
 none_crash old new items same undone ready =
     subst (λ (v : LogState). Told old.trace v.trace (Commits (tables_of old) None items)) (sym same)
-    (subst (λ o. Told old.trace old.trace (Commits (tables_of old) o items)) undone (nothing_added old.trace old.gate old.pending items ready))
+    (subst (λ o. Told old.trace old.trace (Commits (tables_of old) o items)) undone (nothing_added old.trace old.gate old.pending items ready.standing))
 
 pub none_ready : (old new : LogState) → new ≡ old → IsReady old → IsReady new
 none_ready old new same ready = subst IsReady (sym same) ready

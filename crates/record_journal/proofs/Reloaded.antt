@@ -1,6 +1,7 @@
 -- What is left once a journal's file is synced, and once its end is mended.
-use Rattle.std.proofs.Common.{◌≡◌, inl, inr, ℕ, List, Result, Ok, Err, refl, sym, ◌∙◌, ap, subst}
+use Rattle.std.proofs.Common.{◌≡◌, ◌≤◌, inl, inr, ℕ, List, Result, Ok, Err, refl, sym, ◌∙◌, ap, subst}
 use Rattle.std.specs.Prelude.{Option, Some, None, IfSome, OnOk, IfOk, false, true, is_some}
+use Rattle.std.specs.Option.{option_map}
 use Rattle.std.specs.Result.{result_ok}
 use Rattle.record_disk.specs.Disk.{Trace, After, Sync, content, AllImages, Throughout, Here, Then, Told, Keeps, IsDurable}
 use Rattle.record_disk.proofs.Moments.{joined, weaker, at_last, told_map, told_then}
@@ -10,7 +11,8 @@ use Rattle.record_log.proofs.Calls.{told_same}
 use Rattle.repo_model.specs.Tables.{Tables}
 use Rattle.row_tables.specs.declared.faults.LoadFault.{LoadFault}
 use Rattle.row_tables.specs.declared.faults.LoadFault.TheVariants.{Failed, NoMemory, NotOurs, Row}
-use Rattle.record_journal.specs.Given.{Loads, LoadsUnlessFailed}
+use Rattle.row_tables.specs.Records.{Expected, LoadsUnlessFailed}
+use Rattle.record_journal.specs.Given.{Loads}
 use Rattle.record_journal.specs.Loading.{loading}
 use Rattle.record_journal.specs.Journal.{tables_by, tables_of, LoadsTo, MayLoad, Fits, IsStanding, IsReady, IsSteady, KeepsTables, Recovers}
 use Rattle.record_journal.proofs.Loads.{HeldBy, loads_held, held_by}
@@ -166,18 +168,18 @@ module _ (bytes : List ℕ) (t : Tables) (loads : loading bytes ≡ Ok t) where
   mended_recovers (Some s) (Some m) (Some u) synced durable mending = recovered s m u synced durable mending
 
 -- what a load answers for the frames of a file, where that file loads to what is expected
-pub loads_too : (a : Option Trace) (expected : Trace → Result Tables LoadFault) (found : Result Tables LoadFault) (r : Result Tables LoadFault) → IfSome a (λ s. expected s ≡ found) → Loads found r → IfSome a (λ s. LoadsUnlessFailed (expected s) r)
+pub loads_too : (a : Option Trace) (expected : Trace → Expected) (found r : Expected) → IfSome a (λ s. expected s ≡ found) → Loads found r → IfSome (option_map expected a) (λ e. LoadsUnlessFailed e r)
 loads_too None expected found r same loads = tt
 loads_too (Some s) expected found r same loads = by r loads
   where
-    by : (r : Result Tables LoadFault) → Loads found r → LoadsUnlessFailed (expected s) r
+    by : (r : Expected) → Loads found r → LoadsUnlessFailed (expected s) r
     by (Ok t) is = same ∙ is
     by (Err Failed) is = tt
     by (Err NoMemory) is = tt
     by (Err NotOurs) is = same ∙ is
     by (Err (Row frame at)) is = same ∙ is
 
-pub none_told : (a : Option Trace) (expected : Trace → Result Tables LoadFault) → IfSome a (λ s. LoadsUnlessFailed (expected s) (Err Failed))
+pub none_told : (a : Option Trace) (expected : Trace → Expected) → IfSome (option_map expected a) (λ e. LoadsUnlessFailed e (Err Failed))
 none_told None expected = tt
 none_told (Some s) expected = tt
 
@@ -194,8 +196,8 @@ module _ (old mid new : LogState) (bytes : List ℕ) (t : Tables) (loads : loadi
   reload_tables same =
       ap (tables_by new.trace new.gate) new_none ∙ mended_tables bytes t loads mid.trace new.trace mid.gate new.gate durable mending ∙ ap (tables_by mid.trace mid.gate) (sym mid_none) ∙ same
 
-  pub reload_ready : IfSome mid.trace (λ s. IsDurable bytes s → (ps : List (List ℕ)) → Holds ps bytes → HasAcknowledged ps new) → IsReady new
-  reload_ready done = mended_ready bytes t loads mid.trace new.trace new.gate new.pending new_none durable mending done
+  pub reload_ready : 8 ≤ new.gate → IfSome mid.trace (λ s. IsDurable bytes s → (ps : List (List ℕ)) → Holds ps bytes → HasAcknowledged ps new) → IsReady new
+  reload_ready behind done = record { behind = behind; standing = mended_ready bytes t loads mid.trace new.trace new.gate new.pending new_none durable mending done }
 
   pub reload_recovers : Told old.trace mid.trace (λ s m. m ≡ After Sync (content s) s) → Told old.trace new.trace Recovers
   reload_recovers synced = mended_recovers bytes t loads old.trace mid.trace new.trace synced durable mending

@@ -51,4 +51,4 @@ images_by None gate pending t known is = tt
 images_by (Some s) gate pending t known is = subst (λ u. AllImages (MayLoad u pending) s) (same_tables gate pending s known t is) (standing_images gate pending s known)
 
 pub images_of : (journal : LogState) (t : Tables) → IsReady journal → tables_of journal ≡ Some t → IfSome journal.trace (AllImages (MayLoad t journal.pending))
-images_of journal t ready is = images_by journal.trace journal.gate journal.pending t ready is
+images_of journal t ready is = images_by journal.trace journal.gate journal.pending t ready.standing is

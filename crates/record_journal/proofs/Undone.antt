@@ -1,5 +1,5 @@
 -- What is left once the frame that failed is taken off.
-use Rattle.std.proofs.Common.{◌≡◌, ◌⊎◌, inl, inr, ℕ, List, Result, Ok, Err, refl, sym, ◌∙◌, subst}
+use Rattle.std.proofs.Common.{◌≡◌, ◌⊎◌, ◌≤◌, inl, inr, ℕ, List, Result, Ok, Err, refl, sym, ◌∙◌, subst}
 use Rattle.std.specs.Prelude.{Option, Some, None, IsSome, IfSome, OnOk, OnErr}
 use Rattle.record_disk.specs.Disk.{Trace, content, AllImages, Throughout, Here, Told}
 use Rattle.record_disk.proofs.Moments.{weaker}
@@ -79,10 +79,14 @@ pub record Undoes (old new : LogState) : Type 0 where
   pub moments : Told old.trace new.trace (Holding old.gate old.pending)
   pub stays : (ps : List (List ℕ)) → HasAcknowledged ps old → HasAcknowledged ps new
   pub none : old.pending ≡ None → new ≡ old
+  pub gate : new.gate ≡ old.gate
 
 module _ (old new : LogState) (is : Undoes old new) where
   pub undoes_ready : IsReady old → IsReady new
-  undoes_ready ready = stays_ready old.trace new.trace old.gate new.gate old.pending new.pending is.less is.moments is.stays ready
+  undoes_ready ready = record {
+    behind = subst (λ g. 8 ≤ g) (sym is.gate) ready.behind;
+    standing = stays_ready old.trace new.trace old.gate new.gate old.pending new.pending is.less is.moments is.stays ready.standing;
+  }
 
   by_pending : (P : LogState → Type 0) (o : Option (List ℕ)) → old.pending ≡ o → P old → (IsReady old → P new) → IsSteady old → P new
   by_pending P None none here ready steady = subst P (sym (is.none none)) here
@@ -92,13 +96,13 @@ module _ (old new : LogState) (is : Undoes old new) where
   undoes_steady steady = by_pending IsSteady old.pending refl steady (λ ready _. undoes_ready ready) steady
 
   pub undoes_tables : IsSteady old → tables_of new ≡ tables_of old
-  undoes_tables steady = by_pending (λ v. tables_of v ≡ tables_of old) old.pending refl refl (λ ready. stays_tables old.trace new.trace old.gate new.gate old.pending new.pending is.less is.moments is.stays ready) steady
+  undoes_tables steady = by_pending (λ v. tables_of v ≡ tables_of old) old.pending refl refl (λ ready. stays_tables old.trace new.trace old.gate new.gate old.pending new.pending is.less is.moments is.stays ready.standing) steady
 
   pub undoes_kept : IsSteady old → Told old.trace new.trace (KeepsTables (tables_of old) old.pending new.pending)
-  undoes_kept steady = by_pending (λ v. Told old.trace v.trace (KeepsTables (tables_of old) old.pending v.pending)) old.pending refl (still_kept old) (λ ready. stays_kept old.trace new.trace old.gate new.gate old.pending new.pending is.less is.moments is.stays ready) steady
+  undoes_kept steady = by_pending (λ v. Told old.trace v.trace (KeepsTables (tables_of old) old.pending v.pending)) old.pending refl (still_kept old) (λ ready. stays_kept old.trace new.trace old.gate new.gate old.pending new.pending is.less is.moments is.stays ready.standing) steady
 
   pub undoes_reads : IsSteady old → Told old.trace new.trace (λ s t. loading (acknowledged new.gate new.pending (content t)) ≡ loading (acknowledged old.gate old.pending (content s)))
-  undoes_reads steady = by_pending (λ v. Told old.trace v.trace (λ s t. loading (acknowledged v.gate v.pending (content t)) ≡ loading (acknowledged old.gate old.pending (content s)))) old.pending refl (told_same old.trace (λ s t. loading (acknowledged old.gate old.pending (content t)) ≡ loading (acknowledged old.gate old.pending (content s))) (λ s. refl)) (λ ready. stays_reads old.trace new.trace old.gate new.gate old.pending new.pending is.moments is.stays ready) steady
+  undoes_reads steady = by_pending (λ v. Told old.trace v.trace (λ s t. loading (acknowledged v.gate v.pending (content t)) ≡ loading (acknowledged old.gate old.pending (content s)))) old.pending refl (told_same old.trace (λ s t. loading (acknowledged old.gate old.pending (content t)) ≡ loading (acknowledged old.gate old.pending (content s))) (λ s. refl)) (λ ready. stays_reads old.trace new.trace old.gate new.gate old.pending new.pending is.moments is.stays ready.standing) steady
 
 -- what the answer of an undo says of the pending payload
 pub less_by : {T E : Type 0} (r : Result T E) (after before : Option (List ℕ)) → OnOk r (after ≡ None) → OnErr r (after ≡ before) → IsLess after before

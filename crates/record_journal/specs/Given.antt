@@ -20,11 +20,3 @@ Loads expected (Err Failed) = ⊥
 Loads expected (Err NoMemory) = Unit {0}
 Loads expected (Err NotOurs) = expected ≡ Err NotOurs
 Loads expected (Err (Row frame at)) = expected ≡ Err (Row frame at)
-
--- the same of a call that may also fail
-abbrev pub LoadsUnlessFailed : Result Tables LoadFault → Result Tables LoadFault → Type 0
-LoadsUnlessFailed expected (Ok t) = expected ≡ Ok t
-LoadsUnlessFailed expected (Err Failed) = Unit {0}
-LoadsUnlessFailed expected (Err NoMemory) = Unit {0}
-LoadsUnlessFailed expected (Err NotOurs) = expected ≡ Err NotOurs
-LoadsUnlessFailed expected (Err (Row frame at)) = expected ≡ Err (Row frame at)

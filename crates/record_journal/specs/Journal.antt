@@ -1,11 +1,13 @@
 -- What a journal tells, and what a crash at any moment leaves of it.
-use Rattle.std.specs.Prelude.{◌≡◌, ◌⊎◌, ℕ, List, take, Option, Some, None, IsSome, IfSome, option_and_then, Ok}
+use Rattle.std.specs.Prelude.{◌≡◌, ◌⊎◌, ◌≤◌, ℕ, List, take, Option, Some, None, IsSome, IfSome, option_and_then, Ok}
+use Rattle.std.specs.Option.{option_map}
 use Rattle.std.specs.Result.{result_ok}
 use Rattle.record_disk.specs.Disk.{Trace, After, Sync, content, AllImages, Throughout}
 use Rattle.record_log.specs.Log.{LogState, StandsFor}
 use Rattle.repo_model.specs.declared.item.Item.{Item}
 use Rattle.repo_model.specs.Tables.{Tables, applied}
 use Rattle.row_tables.specs.Applying.{with_items}
+use Rattle.row_tables.specs.Records.{Expected}
 use Rattle.record_journal.specs.Loading.{change_in, loading, built_up}
 
 -- the part of a file that its journal has acknowledged: what stands in front of a frame that failed
@@ -13,9 +15,16 @@ abbrev pub acknowledged : ℕ → Option (List ℕ) → List ℕ → List ℕ
 acknowledged gate None file = file
 acknowledged gate (Some payload) file = take gate file
 
--- the tables of a journal, where its disk tells them
+-- what a load of a journal gives that neither fails nor wants memory, where its disk tells
+abbrev pub expected_by : Option Trace → ℕ → Option (List ℕ) → Option Expected
+expected_by trace gate pending = option_map (λ t. loading (acknowledged gate pending (content t))) trace
+
+abbrev pub expected_of : LogState → Option Expected
+expected_of log = expected_by log.trace log.gate log.pending
+
+-- the tables of a journal, where such a load gives them
 abbrev pub tables_by : Option Trace → ℕ → Option (List ℕ) → Option Tables
-tables_by trace gate pending = option_and_then (λ t. result_ok (loading (acknowledged gate pending (content t)))) trace
+tables_by trace gate pending = option_and_then result_ok (expected_by trace gate pending)
 
 abbrev pub tables_of : LogState → Option Tables
 tables_of log = tables_by log.trace log.gate log.pending
@@ -45,9 +54,11 @@ pub record IsStanding (gate : ℕ) (pending : Option (List ℕ)) (trace : Trace)
   pub builds : built_up payloads ≡ Ok tables
   pub fits : Fits tables pending
 
--- the last load has given the tables
-abbrev pub IsReady : LogState → Type 0
-IsReady log = IfSome log.trace (IsStanding log.gate log.pending)
+-- The last load has given the tables: its gate stands behind the magic, which that of a new journal does not, and where its
+-- disk tells, the frames of the tables stand in the file.
+pub record IsReady (log : LogState) : Type 0 where
+  pub behind : 8 ≤ log.gate
+  pub standing : IfSome log.trace (IsStanding log.gate log.pending)
 
 -- only a journal that was ready has a frame that failed
 abbrev pub IsSteady : LogState → Type 0

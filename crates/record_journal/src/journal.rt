@@ -1,14 +1,12 @@
-ghost use Rattle.std.specs.Prelude.{◌≡◌, ◌⊎◌, [], None, Some, Ok, IfOk, IfSome, IsOk, OnOk, OnErr};
+ghost use Rattle.std.specs.Prelude.{◌≡◌, ◌⊎◌, [], None, Some, Ok, IfOk, IfSome, IsOk, OnOk, OnErr, false, is_some};
 ghost use Rattle.std.specs.Option.{ForSome, option_map};
-ghost use Rattle.record_disk.specs.Disk.{content, Told};
+ghost use Rattle.record_disk.specs.Disk.{Told};
 ghost use Rattle.repo_model.specs.Tables.{applied};
 ghost use Rattle.row_tables.specs.Applying.{with_items};
 ghost use Rattle.row_tables.specs.Items.{change_bytes};
 ghost use Rattle.row_tables.specs.Recorded.{IsBuiltUp};
-ghost use Rattle.row_tables.specs.Records.{HasLoadCause, HasCommitCause, IsRefusal};
-ghost use Rattle.record_journal.specs.Given.{LoadsUnlessFailed};
-ghost use Rattle.record_journal.specs.Journal.{acknowledged, tables_of, IsReady, KeepsTables, Recovers, Commits};
-ghost use Rattle.record_journal.specs.Loading.{loading};
+ghost use Rattle.row_tables.specs.Records.{HasLoadCause, HasCommitCause, IsRefusal, LoadsUnlessFailed};
+ghost use Rattle.record_journal.specs.Journal.{expected_of, tables_of, IsReady, KeepsTables, Recovers, Commits};
 
 use crate::committing::commit_change;
 use crate::reloading::load_log;
@@ -63,6 +61,10 @@ impl<D: Disk> Records for Journal<D> {
 
     ghost tables = { tables_of };
 
+    ghost loading = { expected_of };
+
+    ghost unsettled = { λ j. is_some j.pending };
+
     ghost ready = { IsReady };
 
     fn load(&mut self, alloc: Global) -> Result<Tables, LoadFault>
@@ -71,15 +73,15 @@ impl<D: Disk> Records for Journal<D> {
         ensures built { IfOk result IsBuiltUp }
         ensures refused { IsRefusal result → tables_of self.old ≡ None }
         ensures ready { OnOk result (IsReady self.new) }
+        ensures settled { OnOk result (is_some self.new.pending ≡ false) }
         ensures same { tables_of self.new ≡ tables_of self.old }
 
         // The tables and the refusals are those of the file's frames.
-        ensures loads { IfSome self.old.trace (λ s. LoadsUnlessFailed (loading (acknowledged self.old.gate self.old.pending (content s))) result) }
+        ensures loads { IfSome (expected_of self.old) (λ expected. LoadsUnlessFailed expected result) }
 
         // A crash at each moment of the call leaves a file that loads to the same tables, or to these with the pending change.
         ensures crash { Told self.old.trace self.new.trace (KeepsTables (tables_of self.old) self.old.pending self.new.pending) }
         ensures first { self.old.pending ≡ None → Told self.old.trace self.new.trace Recovers }
-        ensures undone { OnOk result (self.new.pending ≡ None) }
     {
         load_log(alloc, &mut self.log)
     }
@@ -90,12 +92,12 @@ impl<D: Disk> Records for Journal<D> {
         ensures cause { HasCommitCause self.old.faults self.new.faults result }
         ensures ok { OnOk result (tables_of self.new ≡ option_map (λ t. with_items t change.now) (tables_of self.old)) }
         ensures err { OnErr result (tables_of self.new ≡ tables_of self.old) }
+        ensures settled { OnOk result (is_some self.new.pending ≡ false) }
         ensures ready { IsReady self.new }
 
         // A crash at each moment of the call leaves a file that loads to the tables from before it, to these with the change,
         // or to these with the change that was pending.
         ensures crash { Told self.old.trace self.new.trace (Commits (tables_of self.old) self.old.pending change.now) }
-        ensures undone { OnOk result (self.new.pending ≡ None) }
         ensures pending { OnErr result ((self.new.pending ≡ None) ⊎ (self.new.pending ≡ self.old.pending) ⊎ (self.new.pending ≡ Some (change_bytes change.now))) }
 
         // An empty change has no frame.

@@ -3,9 +3,8 @@ ghost use Rattle.std.specs.Prelude.{◌≡◌, None, IfOk, IfSome, OnOk};
 ghost use Rattle.record_disk.specs.Disk.{After, Sync, content, Told, IsDurable};
 ghost use Rattle.record_log.specs.Log.{HasLogCause};
 ghost use Rattle.row_tables.specs.Recorded.{IsBuiltUp};
-ghost use Rattle.row_tables.specs.Records.{HasLoadCause};
-ghost use Rattle.record_journal.specs.Given.{LoadsUnlessFailed};
-ghost use Rattle.record_journal.specs.Journal.{acknowledged, tables_of, IsReady, IsSteady, KeepsTables, Recovers};
+ghost use Rattle.row_tables.specs.Records.{HasLoadCause, LoadsUnlessFailed};
+ghost use Rattle.record_journal.specs.Journal.{acknowledged, expected_of, tables_of, IsReady, IsSteady, KeepsTables, Recovers};
 ghost use Rattle.record_journal.specs.Loading.{loading};
 
 use crate::loading::tables_in;
@@ -38,7 +37,7 @@ pub fn load_log<D: Disk>(alloc: Global, log: &mut Log<D>) -> Result<Tables, Load
     ensures cause { HasLoadCause log.old.faults log.new.faults result }
     ensures crash { Told log.old.trace log.new.trace (KeepsTables (tables_of log.old) log.old.pending log.new.pending) }
     ensures first { log.old.pending ≡ None → Told log.old.trace log.new.trace Recovers }
-    ensures loads { IfSome log.old.trace (λ s. LoadsUnlessFailed (loading (acknowledged log.old.gate log.old.pending (content s))) result) }
+    ensures loads { IfSome (expected_of log.old) (λ expected. LoadsUnlessFailed expected result) }
     ensures built { IfOk result IsBuiltUp }
     ensures ready { OnOk result (IsReady log.new) }
     ensures undone { OnOk result (log.new.pending ≡ None) }

@@ -1,9 +1,9 @@
 -- What a crash leaves while a file is made anew, or its gate is closed.
-use Rattle.std.proofs.Common.{◌≡◌, ◌⊎◌, inl, inr, ℕ, ◌+◌, ◌-◌, ◌≤◌, ◌<◌, List, [], ◌∷◌, ◌++◌, length, get_or, take, drop, refl, sym, ◌∙◌, ap, subst, arith, length-append}
-use Rattle.std.specs.Prelude.{Option, None, Some}
+use Rattle.std.proofs.Common.{◌≡◌, ◌⊎◌, inl, inr, ℕ, ◌+◌, ◌-◌, ◌≤◌, ◌<◌, Bool, true, false, List, [], ◌∷◌, ◌++◌, length, get_or, take, drop, refl, sym, ◌∙◌, ap, subst, arith, length-append}
+use Rattle.std.specs.Prelude.{if◌then◌else◌, unwrap_or, Option, None, Some}
 use Rattle.std.proofs.lemmas.List.{drop_more, drop_all, take_at}
 use Rattle.record_disk.specs.Disk.{Trace, content, Torn, AllImages, Here, Told, Keeps, IsDurable, Tears, Cuts}
-use Rattle.record_log.specs.Frames.{frames, payloads_of, gate_of, Holds, head_of}
+use Rattle.record_log.specs.Frames.{Frames, New, Foreign, Framed, frames, payloads_of, gate_of, end_of, Holds, head_of}
 use Rattle.record_log.specs.Log.{at_rest, IsAtRest, HasFront, HasTail}
 use Rattle.record_disk.proofs.Moments.{joined, weaker}
 use Rattle.record_log.proofs.Reading.{frames_short}
@@ -95,6 +95,16 @@ module _ (bytes : List ℕ) (ps : List (List ℕ)) (holds : Holds ps bytes) (non
 
   pub fresh_rests : (s t : Trace) → IsAtRest 8 [] t → IsDurable bytes s → (qs : List (List ℕ)) → Holds qs bytes → IsAtRest 8 qs t
   fresh_rests s t rests durable qs held = subst (λ rs. IsAtRest 8 rs t) (one_list bytes [] qs (few_holds bytes is_few) held) rests
+
+-- the gate stands behind the magic
+pub behind_magic : (read : Frames) → 8 ≤ end_of read
+behind_magic New = omega arith
+behind_magic Foreign = omega arith
+behind_magic (Framed found) = by found.is_cut found.size
+  where
+    by : (cut : Bool) (n : ℕ) → 8 ≤ unwrap_or (if cut then None else Some (8 + n)) 8
+    by true n = omega arith
+    by false n = omega arith
 
 pub gate_within : (bytes : List ℕ) (gate : ℕ) → AreBytes bytes → gate_of (frames bytes) ≡ Some gate → gate ≤ length bytes
 gate_within bytes gate are is =

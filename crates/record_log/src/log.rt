@@ -1,7 +1,7 @@
-ghost use Rattle.std.specs.Prelude.{◌≡◌, ◌<◌, ◌^◌, [], ◌∷◌, ◌++◌, List, ℕ, Option, None, Some, length, IfOk, IfSome, OnOk, OnErr, IsOk, IsErrOf};
+ghost use Rattle.std.specs.Prelude.{◌≡◌, ◌<◌, ◌+◌, ◌^◌, [], ◌∷◌, ◌++◌, List, ℕ, Option, None, Some, length, IfOk, IfSome, OnOk, OnErr, IsOk, IsErrOf};
 ghost use Rattle.outside.specs.Faults.{HasCause};
 ghost use Rattle.record_disk.specs.Disk.{After, Sync, Told, Throughout, Keeps, IsDurable, content};
-ghost use Rattle.record_log.specs.Frames.{IsWhole, Holds, HoldsOneMore};
+ghost use Rattle.record_log.specs.Frames.{IsWhole, frames, end_of, Holds, HoldsOneMore};
 ghost use Rattle.record_log.specs.Log.{IsAtRest, StandsFor, MayHold, HasAcknowledged, MaySync, HasLogCause};
 ghost use Rattle.record_log.specs.declared.faults.LogFault.TheVariants.{Failed as failed, NoMemory as no_memory};
 
@@ -93,6 +93,10 @@ impl<D: Disk> Log<D> {
         ensures ok { OnOk result (IfSome self.old.trace (λ s. IsDurable bytes.now s
             → (payloads : List (List ℕ)) → Holds payloads bytes.now → HasAcknowledged payloads self.new)) }
         ensures done { self.new.pending ≡ None }
+
+        // The gate stands where the file's frames end, or, in a file that was new, behind the magic.
+        ensures gate { OnOk result (self.new.gate ≡ end_of (frames bytes.now)) }
+        ensures stays { OnErr result (self.new.gate ≡ self.old.gate) }
     {
         self.gate = mend_file(&mut self.disk, bytes)?;
         Ok(())
@@ -113,6 +117,8 @@ impl<D: Disk> Log<D> {
         ensures err { OnErr result ((payloads : List (List ℕ)) → HasAcknowledged payloads self.old → HasAcknowledged payloads self.new) }
         ensures failed { IsErrOf result failed → self.new.pending ≡ Some payload.items }
         ensures no_memory { IsErrOf result no_memory → self.new ≡ self.old }
+        ensures gate { OnOk result (self.new.gate ≡ self.old.gate + 5 + length payload.items) }
+        ensures stays { OnErr result (self.new.gate ≡ self.old.gate) }
     {
         let bytes = body_of(alloc, &payload)?;
         match write_frame(&mut self.disk, self.gate, &bytes) {
@@ -138,6 +144,7 @@ impl<D: Disk> Log<D> {
         ensures ok { OnOk result (self.new.pending ≡ None) }
         ensures err { OnErr result (self.new.pending ≡ self.old.pending) }
         ensures none { self.old.pending ≡ None → IsOk result × (self.new ≡ self.old) }
+        ensures stays { self.new.gate ≡ self.old.gate }
     {
         if self.failed.is_some() {
             undo_frame(&mut self.disk, self.gate)?;

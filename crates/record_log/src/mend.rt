@@ -1,7 +1,7 @@
 ghost use Rattle.std.specs.Prelude.{◌≡◌, ◌<◌, ◌≤◌, ◌^◌, ℕ, List, [], Some, IfOk, IfSome, OnOk, length};
 ghost use Rattle.outside.specs.Faults.{HasCause};
 ghost use Rattle.record_disk.specs.Disk.{After, Sync, content, AllImages, Told, Keeps, IsDurable};
-ghost use Rattle.record_log.specs.Frames.{IsWhole, frames, gate_of, Holds};
+ghost use Rattle.record_log.specs.Frames.{IsWhole, frames, gate_of, end_of, Holds};
 ghost use Rattle.record_log.specs.Log.{IsAtRest, MaySync, HasLogCause};
 
 use crate::faults::LogFault;
@@ -75,6 +75,7 @@ pub fn mend_file<D: Disk>(disk: &mut D, bytes: &[u8]) -> Result<u64, Failed>
     ensures done { IfOk result (λ gate. Told (D.trace disk.old) (D.trace disk.new) (λ s t. IsDurable bytes.now s
         → (payloads : List (List ℕ)) → Holds payloads bytes.now → IsAtRest gate payloads t)) }
     ensures place { IfOk result (λ gate. gate < 2 ^ 63) }
+    ensures end { IfOk result (λ gate. gate ≡ end_of (frames bytes.now)) }
 {
     match gate_in(bytes) {
         None => {

@@ -62,7 +62,7 @@ others-kept n kept (m ∷ ns) all none =
     (among-without m n kept all.0 apart.0, others-kept n kept ns all.1 apart.1)
 
 -- numbers in use that stand once each
-kept-once : (ns kept : List ℕ) → AllByRecursion (λ m. IsTrue (is_among m kept)) ns → ((n : ℕ) → count_of n ns ≤ 1) → AreKeptOnce ns kept
+pub kept-once : (ns kept : List ℕ) → AllByRecursion (λ m. IsTrue (is_among m kept)) ns → ((n : ℕ) → count_of n ns ≤ 1) → AreKeptOnce ns kept
 kept-once [] kept all once = tt
 kept-once (n ∷ ns) kept all once =
     let one : one_if (n == n) ≡ 1 = grind (arith, nat_tests) in
@@ -71,13 +71,13 @@ kept-once (n ∷ ns) kept all once =
     (all.0, kept-once ns (without_number n kept) (others-kept n kept ns all.1 none) rest)
 
 -- a number that is none of those that go stays in use
-kept-still : (n : ℕ) (ns kept : List ℕ) → IsTrue (is_among n kept) → count_of n ns ≡ 0 → IsTrue (is_among n (kept_without ns kept))
+pub kept-still : (n : ℕ) (ns kept : List ℕ) → IsTrue (is_among n kept) → count_of n ns ≡ 0 → IsTrue (is_among n (kept_without ns kept))
 kept-still n [] kept among none = among
 kept-still n (m ∷ ns) kept among none =
     let apart = apart-first n m ns none in
     kept-still n ns (without_number m kept) (among-without n m kept among (turned-round m n apart.0)) apart.1
 
-count-condemned : (n : ℕ) (ns : List ℕ) (yard : Yard) → count_of n (condemned_by ns yard).condemned ≡ count_of n ns + count_of n yard.condemned
+pub count-condemned : (n : ℕ) (ns : List ℕ) (yard : Yard) → count_of n (condemned_by ns yard).condemned ≡ count_of n ns + count_of n yard.condemned
 count-condemned n [] yard = let none : count_of n [] ≡ 0 = refl in omega (arith, none)
 count-condemned n (m ∷ ns) yard =
     omega (arith, count-condemned n ns (condemning m yard), count-with_number n m yard.condemned, count-cons (λ k. k == n) m ns)

@@ -20,7 +20,7 @@ use Rattle.repo_core.specs.Whole.{Parts}
 use Rattle.repo_core.proofs.PutReplies.{by-free, put-reply, state_put, left-put}
 use Rattle.repo_core.proofs.Turning.{some-items, unless}
 
-if-so : {X : Type 0} (b : Bool) (x y : X) → true ≡ b → (if b then x else y) ≡ x
+pub if-so : {X : Type 0} (b : Bool) (x y : X) → true ≡ b → (if b then x else y) ≡ x
 if-so true x y e = refl
 if-so false x y e = cc
 

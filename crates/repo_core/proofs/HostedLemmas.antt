@@ -1,15 +1,14 @@
 -- Hosted repositories: the first of an id, its rows and what it takes.
-use native.Mathlib.Omega.{arith}
-use Rattle.std.proofs.Common.{◌≡◌, ℕ, ◌+◌, ◌<◌, ◌≤◌, Bool, true, false, cond, ◌||◌, List, [], ◌∷◌, ◌++◌, take, drop, get_or, set, length, map, Option, Some, None, find, refl, ap, sym, ◌∙◌, subst, add-one, suc, zero}
+use Rattle.std.proofs.Common.{◌≡◌, ℕ, ◌+◌, ◌<◌, ◌≤◌, Bool, true, false, cond, ◌||◌, List, [], ◌∷◌, ◌++◌, take, drop, get_or, set, length, Option, Some, None, find, refl, ap, sym, ◌∙◌, subst, add-one}
 use Rattle.std.specs.Option.{is_some, option_map, option_map_or}
-use Rattle.std.specs.List.{AllByRecursion, list_any}
+use Rattle.std.specs.List.{list_any}
 use Rattle.std.specs.Str.{bytes_eq}
 use Rattle.std.proofs.lemmas.Bool.{false≢true}
-use Rattle.std.proofs.lemmas.List.{drop_more, take_more, drop_all, map-append, set_split, append_assoc}
+use Rattle.std.proofs.lemmas.List.{drop_more, take_more, drop_all, set_split, append_assoc}
 use Rattle.repo_model.specs.Data as plain
 use Rattle.repo_model.specs.Settings.{Rule}
 use Rattle.repo_model.specs.Command.{is_fit}
-use Rattle.repo_model.specs.State.{is_repository, new_hosted}
+use Rattle.repo_model.specs.State.{is_repository}
 use Rattle.repo_core.specs.Hosted.{rules_of, rows_in, with_rows}
 use Rattle.repo_core.proofs.ListLemmas.{find-map}
 
@@ -100,19 +99,6 @@ module _ (id : List ℕ) where
       ∙ ap (λ hs. take i repos ++ hs) (sym (changed-here id (is_repository id here) new.rows here (drop (i + 1) repos) is))
       ∙ subst (λ rs. take i repos ++ with_rows id new.rows rs ≡ with_rows id new.rows repos) rest (old.front new.rows)
 
--- what holds of each rule holds of the one at a place
-pub rule-at : (P : Rule → Type 0) (rules : List Rule) (i : ℕ) (rule : Rule) → i < length rules → rule ≡ get_or rules i rule → AllByRecursion P rules → P rule
-rule-at P [] i rule within at all = absurd (omega (arith, within))
-rule-at P (first ∷ rules) zero rule within at all = subst P (sym at) all.0
-rule-at P (first ∷ rules) (suc i) rule within at all = rule-at P rules i rule (omega (arith, within)) at all.1
-
--- one more repository without rows
-pub repos-more : (told : List Rule) (repos : List plain.Hosted) (i : ℕ) (rule : Rule) (repo : plain.Hosted) → i < length told → rule ≡ get_or told i rule → repo ≡ new_hosted rule
-    → repos ≡ map new_hosted (take i told) → repos ++ repo ∷ [] ≡ map new_hosted (take (i + 1) told)
-repos-more told repos i rule repo h at made before =
-    let more : take (i + 1) told ≡ take i told ++ get_or told i rule ∷ [] = take_more told i rule h in
-    rw (more, ← at, map-append new_hosted (take i told) (rule ∷ []), before, made)
-
 found-there : (b r : Bool) (test : Rule → Bool) (rule : Rule) (rest : Option Rule) → is_fit test (cond b (Some rule) rest) ≡ true → (is_fit test rest ≡ true → r ≡ true) → (b || r) ≡ true
 found-there true r test rule rest h k = refl
 found-there false r test rule rest h k = k h
@@ -143,7 +129,3 @@ rules-kept id rows (h ∷ hosted) =
       | true ↦ refl
       | false ↦ ap (λ rules. h.rule ∷ rules) (rules-kept id rows hosted)
     ]
-
-pub rules-new : (rules : List Rule) → rules_of (map new_hosted rules) ≡ rules
-rules-new [] = refl
-rules-new (rule ∷ rules) = ap (λ rs. rule ∷ rs) (rules-new rules)

@@ -1,29 +1,22 @@
--- What the core's type keeps is what a turn needs of its parts, and holds before the first turn.
+-- What the core's type keeps is what a turn needs of its parts.
 use native.Mathlib.Omega.{arith}
-use Rattle.std.proofs.Common.{◌≡◌, ℕ, ◌≤◌, Option, refl, subst, sym}
+use Rattle.std.proofs.Common.{ℕ, ◌≤◌, Bool, Option, refl}
 use Rattle.std.specs.Prelude.{IsTrue}
-use Rattle.std.specs.Option.{ForSome}
-use Rattle.outside.specs.Moments.{Moments}
-use Rattle.repo_config.specs.Form.{IsSettings}
-use Rattle.repo_model.specs.Settings.{Settings}
-use Rattle.repo_model.specs.State.{State, opening}
 use Rattle.repo_model.specs.Command.{Command, meets}
 use Rattle.repo_model.specs.History.{ticked}
 use Rattle.repo_model.specs.May.{AllMay}
-use Rattle.repo_model.specs.Tables.{Tables, no_tables}
+use Rattle.repo_model.specs.Tables.{Tables}
 use Rattle.repo_model.specs.Turn.{turn}
 use Rattle.repo_laws.specs.Holds.{Holds}
-use Rattle.repo_laws.specs.Sound.{IsSound, OnePlace, Sound}
+use Rattle.repo_laws.specs.Sound.{OnePlace, Sound}
 use Rattle.repo_laws.proofs.Histories.{all-may-ticked, one-place-ticked, sound-ticked}
-use Rattle.repo_laws.proofs.Holding.{effects-recorded, opening-held}
-use Rattle.repo_laws.proofs.HoldingOrder.{no-tables-ordered}
-use Rattle.repo_laws.proofs.Keeping.{opens-sound}
+use Rattle.repo_laws.proofs.Holding.{effects-recorded}
 use Rattle.repo_laws.proofs.Turns.{turn-can}
 use Rattle.repo_core.specs.Turn.{MayRecord}
 use Rattle.repo_core.specs.Whole.{IsKept, IsOrderly, Parts, Tell, counting, whole_of}
 use Rattle.repo_core.proofs.NameLemmas.{named-apart}
 
-module _ (p : Parts) (tables : Option Tables) (faults : ℕ) (kept : IsKept (whole_of p tables faults)) where
+module _ (p : Parts) (tables : Option Tables) (unsettled : Bool) (faults : ℕ) (kept : IsKept (whole_of p tables unsettled faults)) where
   order_of : Sound p.settings p.state
   order_of =
       let order = kept.sound.order in
@@ -58,35 +51,3 @@ module _ (p : Parts) (tables : Option Tables) (faults : ℕ) (kept : IsKept (who
       (effects-recorded p.settings p.settings.grace moment effects (ticked p.state moment faults) t (all-may-ticked moment faults p.settings.grace moment effects p.state may) (omega arith)
       (sound-ticked p.settings p.state moment faults order_of) (one-place-ticked p.state moment faults places_of)
       (record { below = kept.sound.sessions.below; apart = kept.sound.sessions.apart }) was.order (held-at moment t later was.holds)).0
-
--- before the first turn
-module _ (settings : Settings) (clock : Option Moments) (faults : ℕ) where
-  abbrev first : State
-  first = counting faults (opening settings clock)
-
-  opens : IsSound settings first
-  opens =
-      let old = opens-sound settings clock in
-      record {
-        order = record { rules = old.order.rules; rows = old.order.rows; sessions = old.order.sessions; draft = old.order.draft; lease = old.order.lease; session = old.order.session };
-        places = record { drawn = old.places.drawn; later = old.places.later; none = old.places.none; begun = old.places.begun; lent = old.places.lent };
-        leases = record { once = old.leases.once; later = old.leases.later; none = old.leases.none; begun = old.leases.begun };
-        sessions = record { below = old.sessions.below; apart = old.sessions.apart };
-        condemned = old.condemned;
-        fading = old.fading;
-        last = old.last;
-      }
-
-  held : Holds no_tables first
-  held =
-      let old = opening-held settings clock in
-      record { rows = old.rows; ended = old.ended; opened = old.opened; next_session = old.next_session; drawn = old.drawn; loose = old.loose; moments = old.moments }
-
-  pub opens-kept : (p : Parts) (tables : Option Tables) → p.settings ≡ settings → p.state ≡ opening settings clock → IsSettings settings → ForSome tables (λ t. t ≡ no_tables)
-      → IsKept (whole_of p tables faults)
-  opens-kept p tables same state form none = record {
-    sound = subst (λ st. IsSound st (counting faults p.state)) (sym same) (subst (λ s. IsSound settings (counting faults s)) (sym state) opens);
-    form = subst IsSettings (sym same) form;
-    told = λ t told. subst (Tell (counting faults p.state)) (sym (none t told))
-        (subst (λ s. Tell (counting faults s) no_tables) (sym state) (record { order = no-tables-ordered; holds = held }));
-  }

@@ -1,7 +1,9 @@
 mod AnswerLemmas
 mod BlobLemmas
 mod CountLemmas
+mod DeployTurns
 mod DraftLemmas
+mod GarbageLemmas
 mod HostedLemmas
 mod ItemForms
 mod KeepLemmas
@@ -12,6 +14,9 @@ mod NameLemmas
 mod PurgeLemmas
 mod PurgeTurns
 mod PutReplies
+mod StagedLemmas
+mod StartLemmas
+mod SessionNumbers
 mod SideLemmas
 mod Turning
 mod UseLemmas

@@ -17,6 +17,7 @@ use Rattle.repo_laws.proofs.Lists.{all-take}
 use Rattle.repo_laws.proofs.Making.{all-append}
 use Rattle.repo_laws.proofs.Releases.{is_itself, other_path}
 use Rattle.hosted_repo.specs.Rows.{rows_after_all}
+use Rattle.repo_core.specs.Deploys.{hosted_after_all}
 use Rattle.repo_core.specs.Hosted.{AreInUse}
 use Rattle.hosted_repo.specs.Expired.{blob_of}
 use Rattle.repo_core.specs.Purge.{condemned_by, dropped_by, shares}
@@ -55,10 +56,6 @@ module _ (repo : List ℕ) (now : ℕ) where
 abbrev pub IsRemoval : Effect → Type 0
 IsRemoval (expires repo path blob) = Unit {0}
 IsRemoval effect = ⊥
-
-abbrev hosted_after_all : List Effect → List Hosted → List Hosted
-hosted_after_all [] hosted = hosted
-hosted_after_all (e ∷ es) hosted = hosted_after_all es (hosted_after e hosted)
 
 pub removed : (es : List Effect) → AllByRecursion IsRemoval es → (s : State) → with_effects s es ≡ record s { hosted = hosted_after_all es s.hosted; yard = condemned_by (map blob_of es) s.yard }
 removed [] all s = refl

@@ -1,13 +1,15 @@
 -- Unlist and Collect, as turns of the machine.
+use native.Mathlib.Omega.{arith}
 use Rattle.std.proofs.Common.{◌≡◌, ℕ, ◌<◌, ◌≤◌, false, if◌then◌else◌, get_or, set, List, [], ◌∷◌, length, map, Option, Some, None, Result, Ok, Err, inl, inr, refl, sym, ap, ◌∙◌, subst}
 use Rattle.std.specs.Prelude.{IfOk, OnErr, OnOk, find}
+use Rattle.std.specs.List.{AllByRecursion}
 use Rattle.std.specs.Option.{option_map_or}
 use Rattle.std.proofs.lemmas.Grind.{flat_map-append}
 use Rattle.std.proofs.lemmas.List.{append-nil, get_or_default}
 use Rattle.hosted_repo.specs.Rows.{rows_after_all}
 use Rattle.repo_model.specs.Command.{collect, unlist}
-use Rattle.repo_model.specs.Data.{Row, Hosted}
-use Rattle.repo_model.specs.Effect.{forgets, items_of, recorded, with_effect, with_effects, yard_after}
+use Rattle.repo_model.specs.Data.{Row, Hosted, Session}
+use Rattle.repo_model.specs.Effect.{Effect, expires, forgets, items_of, recorded, with_effect, with_effects, yard_after}
 use Rattle.repo_model.specs.Purge.{due_rows, expire_all, fade_all, most_rows}
 use Rattle.repo_model.specs.Reply.{Reply, collected, is_free, no_memory, store_fault, unlisted}
 use Rattle.repo_model.specs.State.{State, Yard, change_first, hosted_of, is_repository}
@@ -18,9 +20,14 @@ use Rattle.row_tables.specs.Commits.{tables_with}
 use Rattle.outside.specs.Faults.{Rose}
 use Rattle.repo_laws.specs.Laws.{rows_with}
 use Rattle.repo_laws.specs.Sound.{AreNamedApart}
+use Rattle.deploy_session.specs.Known.{sessions_after_all}
+use Rattle.repo_model.specs.May.{AllMay}
+use Rattle.repo_laws.proofs.ByPath.{all-apart}
+use Rattle.repo_laws.proofs.Purges.{expires-all}
 use Rattle.repo_laws.proofs.Histories.{with_effects-append}
 use Rattle.repo_laws.proofs.Lists.{found-passes}
 use Rattle.repo_laws.proofs.Releases.{same_path}
+use Rattle.repo_core.specs.Deploys.{AreStagedInUse}
 use Rattle.repo_core.specs.Hosted.{AreInUse, rows_in, with_rows}
 use Rattle.hosted_repo.specs.Expired.{blob_of}
 use Rattle.repo_core.specs.Purge.{AreKeptOnce, condemned_by, dropped_by, kept_without, shares}
@@ -28,7 +35,9 @@ use Rattle.repo_core.specs.Turn.{Recorded, Turned}
 use Rattle.repo_core.specs.Whole.{IsOrderly, Parts}
 use Rattle.repo_core.proofs.NameLemmas.{named-apart}
 use Rattle.repo_core.proofs.BlobLemmas.{all-still, gone-once, none-gone}
-use Rattle.repo_core.proofs.PurgeLemmas.{dropped-used, expired-all, faded, fading_all}
+use Rattle.repo_core.proofs.PurgeLemmas.{IsRemoval, dropped-used, expired-all, faded, fading_all, removals}
+use Rattle.repo_core.proofs.GarbageLemmas.{IsGoing, covered-then, garbage_of}
+use Rattle.repo_core.proofs.StagedLemmas.{covered-files, covers}
 use Rattle.repo_core.proofs.PutReplies.{rows-by, same-rows}
 use Rattle.repo_core.proofs.Turning.{failed-so, recorded-so, some-items}
 
@@ -181,3 +190,33 @@ collected-used w kept orderly used =
 
 pub collected-once : (w : Parts) (kept : List ℕ) → IsOrderly w → AreInUse kept w.state.hosted → AreKeptOnce (map blob_of (expire_all w.settings.grace w.state.last w.state.hosted)) kept
 collected-once w kept orderly used = gone-once w.settings.grace w.state.last w.state orderly.places kept used
+
+removal-going : (es : List Effect) → AllByRecursion IsRemoval es → AllByRecursion IsGoing es
+removal-going [] all = tt
+removal-going (expires repo path blob ∷ es) all = (tt, removal-going es all.1)
+removal-going (e ∷ es) all = absurd all.0
+
+removal-garbage : (es : List Effect) → AllByRecursion IsRemoval es → garbage_of es ≡ map blob_of es
+removal-garbage [] all = refl
+removal-garbage (expires repo path blob ∷ es) all = ap (λ ns. blob ∷ ns) (removal-garbage es all.1)
+removal-garbage (e ∷ es) all = absurd all.0
+
+removal-sessions : (es : List Effect) (sessions : List Session) → AllByRecursion IsRemoval es → sessions_after_all es sessions ≡ sessions
+removal-sessions [] sessions all = refl
+removal-sessions (expires repo path blob ∷ es) sessions all = removal-sessions es sessions all.1
+removal-sessions (e ∷ es) sessions all = absurd all.0
+
+-- the staged files keep their blobs at a Collect
+pub collected-staged : (w : Parts) (kept : List ℕ) → IsOrderly w → AreInUse kept w.state.hosted → AreStagedInUse kept w.state.sessions
+    → AreStagedInUse (kept_without (map blob_of (expire_all w.settings.grace w.state.last w.state.hosted)) kept) w.state.sessions
+collected-staged w kept orderly used staged =
+    let grace = w.settings.grace in
+    let s = w.state in
+    let es = expire_all grace s.last s.hosted in
+    let named = named-apart w.settings orderly.form in
+    let removal : AllByRecursion IsRemoval es = removals grace s.last s.hosted in
+    let may : AllMay grace s.last s es = expires-all grace s.last s w.settings named orderly.order.rules (all-apart s.hosted orderly.order.rows) in
+    let cover = covered-then grace s.last es s (removal-going es removal) may orderly.places kept (covers kept s.hosted s.sessions used staged) in
+    let so : AreStagedInUse (kept_without (garbage_of es) kept) (sessions_after_all es s.sessions) =
+    covered-files (kept_without (garbage_of es) kept) (sessions_after_all es s.sessions) (λ n some. cover n (omega (arith, some))) in
+    subst (λ ns. AreStagedInUse (kept_without ns kept) s.sessions) (removal-garbage es removal) (subst (AreStagedInUse (kept_without (garbage_of es) kept)) (removal-sessions es s.sessions removal) so)

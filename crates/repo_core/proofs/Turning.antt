@@ -1,6 +1,6 @@
 -- One turn of the parts of the repository, as an entry that fits the machine's state.
 use native.Mathlib.Omega.{arith}
-use Rattle.std.proofs.Common.{◌≡◌, ℕ, ◌≤◌, min, max, Bool, true, false, if◌then◌else◌, List, [], ◌∷◌, Option, Some, None, Result, Ok, inl, inr, refl, sym, ap, ◌∙◌, subst}
+use Rattle.std.proofs.Common.{◌≡◌, ℕ, ◌≤◌, min, max, Bool, true, false, cond, ◌&&◌, if◌then◌else◌, List, [], ◌∷◌, Option, Some, None, Result, Ok, inl, inr, refl, sym, ap, ◌∙◌, subst}
 use Rattle.std.specs.Prelude.{IfSome, MatchOption, IsTrue, ◌==◌, bytes_eq, count_by, find, length, not, sum_by}
 use Rattle.hosted_repo.specs.Rows.{fades}
 use Rattle.mvn_coords.specs.Kind.{kind}
@@ -14,12 +14,12 @@ use Rattle.std.specs.Option.{option_map}
 use Rattle.repo_model.specs.Data.{Blob, Row, Hosted, Session, repository, session}
 use Rattle.repo_model.specs.Paths.{takes}
 use Rattle.repo_model.specs.Settings.{Settings}
-use Rattle.repo_model.specs.State.{State, hosted_of, is_open, is_open_at, number_end, open_of, row_at, rows_of}
+use Rattle.repo_model.specs.State.{State, hosted_of, is_open, is_open_at, is_session, number_end, open_of, row_at, rows_of}
 use Rattle.repo_model.specs.Effect.{Effect, draws, lends, recorded, with_effect, with_effects}
 use Rattle.repo_model.specs.Tables.{Tables}
 use Rattle.repo_model.specs.declared.item.Item.{Item}
 use Rattle.repo_model.specs.Command.{Command, look, may_put, put_side, put_doc, collect, status, meets}
-use Rattle.repo_model.specs.Reply.{Reply, agreed, counts, differs, draft, file, kind_refused, no_memory, no_session, noted, spent, store_fault, is_free}
+use Rattle.repo_model.specs.Reply.{Reply, agreed, collected, counts, differs, draft, file, kind_refused, no_memory, no_session, noted, spent, store_fault, is_free}
 use Rattle.repo_model.specs.Purge.{expire_all}
 use Rattle.repo_model.specs.Turn.{Seen, Turn, compared, draws_draft, in_repository, is_doc, is_file, is_nothing, is_text, seen_at, shows, turn, says, collect_of, counts_of, judged, may_put_in, staged_at, with_open}
 use Rattle.repo_model.specs.History as history
@@ -38,8 +38,8 @@ use Rattle.row_tables.specs.Commits.{tables_with}
 use Rattle.std.specs.Option.{ForSome}
 use Rattle.std.proofs.lemmas.Bool.{false≢true, ne_eqb}
 use Rattle.std.proofs.lemmas.Option.{none-some}
-use Rattle.repo_core.specs.Turn.{done_by, IsAnswer, due, wants_memory, failed, MayRecord, Recorded, Turned}
-use Rattle.repo_core.specs.Whole.{Parts, Whole, IsKept, IsOrderly, Tell, counting}
+use Rattle.repo_core.specs.Turn.{done_by, IsAnswer, IsSettledBy, due, wants_memory, failed, MayRecord, Recorded, Turned}
+use Rattle.repo_core.specs.Whole.{AreClosed, Parts, Whole, IsKept, IsOrderly, Tell, counting}
 use Rattle.repo_core.proofs.NameLemmas.{named-apart}
 
 nothing-done : (b : Bool) (s : State) → s ≡ with_effects s (if b then [] else [])
@@ -55,19 +55,15 @@ turned-says w command reply is = record {
   left = nothing-done (is_free reply) w.state ∙ ap (λ (t : Turn). with_effects w.state (if is_free reply then [] else t.effects)) (sym is);
 }
 
--- no session is open where there is none
-no-open : (n : ℕ) (s : State) → s.sessions ≡ [] → open_of n s ≡ None
-no-open n s none = ap (find (is_open_at n)) none
-
--- the counts of the rows, where there is no session
-pub turned-counts : (w : Parts) (files unlisted : ℕ) → w.state.sessions ≡ [] → files ≡ sum_by (λ (h : Hosted). length h.rows) w.state.hosted
-    → unlisted ≡ sum_by (λ (h : Hosted). count_by fades h.rows) w.state.hosted → Turned w w status (counts files unlisted 0 0 0)
-turned-counts w files unlisted none all some =
+-- the counts of the rows and of the sessions
+pub turned-counts : (w : Parts) (files unlisted opened : ℕ) → opened ≡ count_by is_open w.state.sessions → files ≡ sum_by (λ (h : Hosted). length h.rows) w.state.hosted
+    → unlisted ≡ sum_by (λ (h : Hosted). count_by fades h.rows) w.state.hosted → Turned w w status (counts files unlisted 0 0 opened)
+turned-counts w files unlisted opened some_open all some =
     let rows = sum_by (λ (h : Hosted). length h.rows) w.state.hosted in
     let fading = sum_by (λ (h : Hosted). count_by fades h.rows) w.state.hosted in
-    let is : counts_of w.state ≡ counts files unlisted 0 0 0 =
-    ap (λ sessions. counts rows fading 0 0 (count_by is_open sessions)) none ∙ ap (λ n. counts n fading 0 0 0) (sym all) ∙ ap (λ n. counts files n 0 0 0) (sym some) in
-    turned-says w status (counts files unlisted 0 0 0) (ap says is)
+    let is : counts_of w.state ≡ counts files unlisted 0 0 opened =
+    ap (λ n. counts rows fading 0 0 n) (sym some_open) ∙ ap (λ n. counts n fading 0 0 opened) (sym all) ∙ ap (λ n. counts files n 0 0 opened) (sym some) in
+    turned-says w status (counts files unlisted 0 0 opened) (ap says is)
 
 -- what a turn says and does depends on no moment before, on no clock and on no count
 pub turn-ticked : (settings : Settings) (s : State) (m f now : ℕ) (c : Command) → turn settings (ticked s m f) now c ≡ turn settings s now c
@@ -188,6 +184,11 @@ pub some-items : (items : List Item) → (items ≡ [] → ⊥) → not (length 
 some-items [] some = absurd (some refl)
 some-items (item ∷ items) some = ap not (ne_eqb (length (item ∷ items)) 0 (λ none. omega (arith, none)))
 
+-- behind a commit
+pub settled-by : (reply : Reply) (unsettled : Bool) → unsettled ≡ false → IsSettledBy reply unsettled
+settled-by (collected expired blobs) unsettled is = is
+settled-by reply unsettled is = tt
+
 -- a turn that asks no records records nothing
 pub quiet : (tables : Option Tables) → tables ≡ tables_with [] tables
 quiet None = refl
@@ -223,19 +224,6 @@ alone old new command reply tables n none turned =
 -- a command that says something and does nothing
 alone-says : (w : Parts) (command : Command) (reply : Reply) (tables : Option Tables) (n : ℕ) → turn w.settings w.state w.state.last command ≡ says reply → Recorded w w command reply tables tables n n
 alone-says w command reply tables n is = alone w w command reply tables n (ap (λ (t : Turn). recorded t.effects) is) (turned-says w command reply is)
-
--- a place that is a session, where there is none
-module _ (w : Parts) (none : w.state.sessions ≡ []) (n : ℕ) (path : List ℕ) (tables : Option Tables) (faults : ℕ) where
-  pub may_put-nowhere : Recorded w w (may_put (session n) path) no_session tables tables faults faults
-  may_put-nowhere = alone-says w (may_put (session n) path) no_session tables faults (ap (may_put_in w.state path) (no-open n w.state none))
-
-  pub put_side-nowhere : (said : List ℕ) → Recorded w w (put_side (session n) path said) no_session tables tables faults faults
-  put_side-nowhere said =
-      alone-says w (put_side (session n) path said) no_session tables faults
-      (ap (λ found. with_open found (λ (one : Session). judged (kind path) said (λ at. staged_at at one.staged))) (no-open n w.state none))
-
-  pub put_doc-nowhere : Recorded w w (put_doc (session n) path) no_session tables tables faults faults
-  put_doc-nowhere = alone-says w (put_doc (session n) path) no_session tables faults (ap (λ found. with_open found (λ (one : Session). says noted)) (no-open n w.state none))
 
 -- the commands that record nothing
 shows-nothing : (next : ℕ) (seen : Seen) → recorded (shows next seen).effects ≡ []

@@ -7,8 +7,7 @@ use Rattle.std.specs.Cmp.Lexicographic.{slice_cmp}
 use Rattle.std.specs.Option.{option_map_or}
 use Rattle.std.specs.List.{AllByRecursion}
 use Rattle.repo_model.specs.Data.{Blob, Row, Hosted}
-use Rattle.repo_model.specs.State.{change_where, is_among, is_repository, is_row, row_at, new_hosted}
-use Rattle.repo_model.specs.Settings.{Rule}
+use Rattle.repo_model.specs.State.{change_where, is_among, is_repository, is_row, row_at}
 use Rattle.repo_model.specs.Effect.{with_row, new_row, with_number, list_again, fade, fades}
 use Rattle.repo_model.specs.Purge.{due_rows}
 use Rattle.repo_model.specs.Turn.{unlist_of}
@@ -39,7 +38,7 @@ pub rows-used : (kept id : List ℕ) (hosted : List Hosted) → AreInUse kept ho
 rows-used kept id [] used = tt
 rows-used kept id (h ∷ hosted) used = rows-by (is_repository id h) kept h (find (is_repository id) hosted) used.0 (rows-used kept id hosted used.1)
 
-or-right : (a b : Bool) → IsTrue b → IsTrue (a || b)
+pub or-right : (a b : Bool) → IsTrue b → IsTrue (a || b)
 or-right true b h = refl
 or-right false b h = h
 
@@ -47,7 +46,7 @@ or-more : (a b c : Bool) → (IsTrue b → IsTrue c) → IsTrue (a || b) → IsT
 or-more true b c more h = refl
 or-more false b c more h = more h
 
-among-more : (m n : ℕ) (ns : List ℕ) → IsTrue (is_among m ns) → IsTrue (is_among m (with_number n ns))
+pub among-more : (m n : ℕ) (ns : List ℕ) → IsTrue (is_among m ns) → IsTrue (is_among m (with_number n ns))
 among-more m n [] h = cc
 among-more m n (k ∷ ks) h =
     elim (nat_lt k n) as (λ b. IsTrue (is_among m (if b then k ∷ with_number n ks else n ∷ k ∷ ks))) [
@@ -55,10 +54,10 @@ among-more m n (k ∷ ks) h =
       | false ↦ or-right (n == m) (is_among m (k ∷ ks)) h
     ]
 
-here-so : (n : ℕ) (rest : Bool) → IsTrue ((n == n) || rest)
+pub here-so : (n : ℕ) (rest : Bool) → IsTrue ((n == n) || rest)
 here-so n rest = search rules
 
-among-new : (n : ℕ) (ns : List ℕ) → IsTrue (is_among n (with_number n ns))
+pub among-new : (n : ℕ) (ns : List ℕ) → IsTrue (is_among n (with_number n ns))
 among-new n [] = here-so n false
 among-new n (k ∷ ks) =
     elim (nat_lt k n) as (λ b. IsTrue (is_among n (if b then k ∷ with_number n ks else n ∷ k ∷ ks))) [
@@ -131,8 +130,3 @@ pub unlisted-used : (kept id : List ℕ) (now : ℕ) (hosted : List Hosted) → 
 unlisted-used kept id now hosted used =
     changed-used kept id (rows_after_all (unlist_of now (find (is_repository id) hosted)).effects (rows_in id hosted)) hosted used
     (unlist-used kept now (find (is_repository id) hosted) (rows_in id hosted) (rows-used kept id hosted used))
-
--- there is no row yet
-pub none-used : (kept : List ℕ) (rules : List Rule) → AreInUse kept (map new_hosted rules)
-none-used kept [] = tt
-none-used kept (rule ∷ rules) = (tt, none-used kept rules)

@@ -4,3 +4,7 @@ pub mod Turn
 pub mod Whole
 pub mod CoreTurn
 pub mod Purge
+pub mod Stock
+pub mod Deploys
+pub mod Start
+pub mod StartFaults

@@ -1,13 +1,13 @@
 -- What one turn answers and leaves, its moment being settled.
-use Rattle.std.specs.Prelude.{◌≡◌, ◌⊎◌, ℕ, ◌≤◌, IsTrue, if◌then◌else◌, List, [], Option}
+use Rattle.std.specs.Prelude.{◌≡◌, ◌⊎◌, ℕ, ◌≤◌, Bool, false, IsTrue, if◌then◌else◌, List, [], Option}
 use Rattle.hosted_repo.specs.Recording.{FitWhereTold, HasReplyCause}
 use Rattle.repo_model.specs.Settings.{Settings}
 use Rattle.repo_model.specs.State.{State}
 use Rattle.repo_model.specs.Tables.{Tables}
 use Rattle.repo_model.specs.Effect.{Effect, recorded, with_effects}
-use Rattle.repo_model.specs.Command.{Command}
+use Rattle.repo_model.specs.Command.{Command, collect}
 use Rattle.repo_model.specs.History.{commits, latest_moment}
-use Rattle.repo_model.specs.Reply.{Reply, no_memory, store_fault, takes_memory, is_free}
+use Rattle.repo_model.specs.Reply.{Reply, collected, no_memory, store_fault, takes_memory, is_free}
 use Rattle.repo_model.specs.Turn.{turn}
 use Rattle.row_tables.specs.Commits.{tables_with}
 use Rattle.repo_core.specs.Whole.{Parts}
@@ -44,6 +44,15 @@ pub record Recorded (old new : Parts) (command : Command) (reply : Reply) (told 
   pub left : new.state ≡ with_effects old.state (done_by old.settings old.state command reply)
   pub tables : told' ≡ tables_with (recorded (done_by old.settings old.state command reply)) told
   pub cause : HasReplyCause faults faults' reply
+
+-- a Collect that answers what it collected was committed, so that no change whose commit failed is found any more
+abbrev pub IsSettledBy : Reply → Bool → Type 0
+IsSettledBy (collected expired blobs) unsettled = unsettled ≡ false
+IsSettledBy reply unsettled = Unit {0}
+
+abbrev pub IsSettled : Command → Reply → Bool → Type 0
+IsSettled collect reply unsettled = IsSettledBy reply unsettled
+IsSettled command reply unsettled = Unit {0}
 
 -- whatever the moment of the turn is, what it records fits the tables
 abbrev pub MayRecord : Parts → Option Tables → Command → Type 0

@@ -1,5 +1,5 @@
 -- What contracts see of the repository.
-use Rattle.std.specs.Prelude.{ℕ, Option}
+use Rattle.std.specs.Prelude.{ℕ, Bool, Option}
 use Rattle.std.specs.Option.{ForSome}
 use Rattle.repo_config.specs.Form.{IsSettings}
 use Rattle.repo_model.specs.Settings.{Settings}
@@ -14,19 +14,22 @@ pub record Parts : Type 0 where
   pub state : State
   pub calls : ℕ
 
--- the settings, the state of the machine, what its records tell, and the number of calls so far
+-- the settings, the state of the machine, what its records tell, whether a change whose commit failed may still be found by a
+-- later start, and the number of calls so far
 pub record Whole : Type 0 where
   pub settings : Settings
   pub state : State
   pub tables : Option Tables
+  pub unsettled : Bool
   pub calls : ℕ
 
 -- the state with another count of how often the records have failed
 abbrev pub counting : ℕ → State → State
 counting faults s = record s { faults = faults }
 
-abbrev pub whole_of : Parts → Option Tables → ℕ → Whole
-whole_of p tables faults = record { settings = p.settings; state = counting faults p.state; tables = tables; calls = p.calls }
+abbrev pub whole_of : Parts → Option Tables → Bool → ℕ → Whole
+whole_of p tables unsettled faults =
+    record { settings = p.settings; state = counting faults p.state; tables = tables; unsettled = unsettled; calls = p.calls }
 
 -- tables in order that hold the state
 pub record Tell (s : State) (t : Tables) : Type 0 where

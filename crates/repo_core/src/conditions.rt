@@ -38,8 +38,16 @@ pub fn fits<H: Held>(settings: &Settings, command: &Command<H>) -> bool
         Command::PutDoc { place, path } => {
             is_place(settings, place) && names_document(path.as_str())
         }
-        Command::Unlist { repo } => is_there(settings, repo.as_str()),
-        Command::Done { lease: _ }
+        Command::Stage {
+            session: _,
+            path,
+            draft,
+            parcel,
+        } => { is_file_path(path.as_str()) && parcel.blob == *draft && parcel.length < NUMBER_END }
+        Command::Open { repo } | Command::Unlist { repo } => is_there(settings, repo.as_str()),
+        Command::Commit { session: _ }
+        | Command::Abort { session: _ }
+        | Command::Done { lease: _ }
         | Command::Drop { draft: _ }
         | Command::Collect
         | Command::Status => true,

@@ -1,59 +1,30 @@
 //! The hosted repositories: which one is meant, which files it takes, and its rows.
-ghost use Rattle.std.specs.Prelude.{◌≡◌, ◌≢◌, ◌≤◌, ◌<◌, ◌^◌, [], if◌then◌else◌, length, map, find, is_some, count_by, sum_by, bytes_eq, slice_index_or, slice_set, IsTrue, IfOk, OnOk, OnErr};
+ghost use Rattle.std.specs.Prelude.{◌≡◌, ◌≢◌, ◌≤◌, ◌<◌, ◌^◌, [], if◌then◌else◌, length, find, is_some, count_by, sum_by, bytes_eq, slice_index_or, slice_set, IsTrue, IfOk, OnOk, OnErr};
 ghost use Rattle.std.specs.Option.{option_map};
-ghost use Rattle.std.specs.List.{AllByRecursion, list_any};
+ghost use Rattle.std.specs.List.{list_any};
 ghost use Rattle.repo_model.specs.Command.{is_fit};
 ghost use Rattle.repo_model.specs.History.{latest_moment};
 ghost use Rattle.repo_model.specs.Paths.{takes};
-ghost use Rattle.repo_model.specs.State.{number_end, row_at, is_repository, new_hosted};
+ghost use Rattle.repo_model.specs.State.{number_end, row_at, is_repository};
 ghost use Rattle.repo_model.specs.Shown.{shown_parcel};
 ghost use Rattle.repo_model.specs.Reply.{unlisted};
 ghost use Rattle.repo_model.specs.Turn.{seen_at, unlist_of};
 ghost use Rattle.hosted_repo.specs.Puts.{shown_put};
 ghost use Rattle.hosted_repo.specs.Rows.{fades, rows_after_all, shown_at};
-ghost use Rattle.hosted_repo.specs.Rules.{shown_rule};
 ghost use Rattle.hosted_repo.specs.Seens.{shown_seen};
 ghost use Rattle.mvn_coords.specs.Kind.{kind};
 ghost use Rattle.hosted_repo.specs.Recording.{FitWhereTold, HasKeptCause, HasReplyCause};
 ghost use Rattle.repo_model.specs.Effect.{recorded};
 ghost use Rattle.repo_model.specs.Reply.{is_free};
 ghost use Rattle.row_tables.specs.Commits.{tables_with};
-ghost use Rattle.row_tables.specs.Items.{is_file_path, is_id, is_number};
+ghost use Rattle.row_tables.specs.Items.{is_file_path, is_number};
 ghost use Rattle.repo_core.specs.Hosted.{rules_of, rows_in, with_rows, put_due, put_in, rows_put};
 ghost use Rattle.repo_core.specs.Turn.{IsDueOrFree};
 
-use hosted_repo::{Hosted, Kept, Put, Row, Rule, Seen};
+use hosted_repo::{Hosted, Kept, Put, Row, Seen};
 use mvn_coords::kind_of;
 use outside::{Held, NoMemory, Parcel};
-use repo_config::HostedRule;
 use row_tables::Records;
-use std::alloc::Global;
-use texts::Text;
-
-// The rule that the settings say.
-fn rule_of(alloc: Global, told: &HostedRule) -> Result<Rule, NoMemory>
-    ensures { IfOk result (λ rule. shown_rule rule ≡ told.now) }
-{
-    Ok(Rule {
-        id: Text::new(alloc, told.id())?,
-        releases: told.releases(),
-        snapshots: told.snapshots(),
-        keep_count: told.keep_count(),
-        keep_days: told.keep_days(),
-    })
-}
-
-/// The hosted repositories of the settings, without rows.
-pub fn empty_repos<H: Held>(alloc: Global, rules: &[HostedRule]) -> Result<Vec<Hosted<H>>, NoMemory>
-    requires { AllByRecursion (λ rule. IsTrue (is_id rule.id)) rules.now }
-    ensures { IfOk result (λ repos. repos.items ≡ map new_hosted rules.now) }
-{
-    let mut repos = Vec::new(alloc);
-    for rule in rules {
-        repos.push(Hosted::new(alloc, rule_of(alloc, rule)?))?;
-    }
-    Ok(repos)
-}
 
 // The repository of an id.
 fn repo_at<'a, H: Held>(repos: &'a [Hosted<H>], id: &str) -> Option<&'a Hosted<H>>
@@ -63,8 +34,8 @@ fn repo_at<'a, H: Held>(repos: &'a [Hosted<H>], id: &str) -> Option<&'a Hosted<H
     repos.iter().find(|repo| repo.rule().id.as_str() == id)
 }
 
-// The place of the repository of an id, which is there.
-fn place_of<H: Held>(repos: &[Hosted<H>], id: &str) -> usize
+/// The place of the repository of an id, which is there.
+pub fn place_of<H: Held>(repos: &[Hosted<H>], id: &str) -> usize
     requires { IsTrue (list_any (is_repository id.now) repos.now) }
     ensures bound { result < length repos.now }
     ensures rows { (repo : _) → (slice_index_or repos.now result repo).rows ≡ rows_in id.now repos.now }

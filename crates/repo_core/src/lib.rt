@@ -3,13 +3,20 @@
 
 mod asking;
 mod conditions;
+mod deploys;
+mod faults;
 mod hosted;
 mod looks;
 mod machine;
 mod purges;
 mod puts;
 mod repository;
+mod starting;
+mod thing;
 mod turn;
 
+pub use blob_audit::Damaged;
+pub use faults::StartFault;
 pub use repo_model::{Command, Place, Reply};
 pub use repository::Core;
+pub use starting::start;

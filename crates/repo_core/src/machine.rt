@@ -1,46 +1,62 @@
 //! The parts of the repository, and one turn of them.
 ghost use Rattle.std.specs.Prelude.{◌≡◌};
 
-use crate::hosted::{counts, empty_repos, put, takes, unlist};
+use crate::deploys::{
+    commit, compare_staged, condemn_left, condemn_over, drawn, refusal_at, reply_of_abort,
+    reply_of_begin, reply_of_commit, reply_of_stage, settle_begun, settle_staged,
+};
+use crate::hosted::{counts, put, takes, unlist};
 use crate::looks::look;
 use crate::purges::{Gone, condemn_all, drop_expired, expiring};
 use crate::puts::{compare_side, reply_of, settle};
 use crate::turn::next_moment;
 use blob_yard::{DrawFault, Yard};
+use deploy_session::Sessions;
 use hosted_repo::{Hosted, Kept};
 use mvn_digest::Digest;
-use outside::{Clock, Held, NoMemory, Parcel};
+use outside::{Clock, Held, Parcel};
 use repo_config::Settings;
 use repo_model::{Command, Numbers, Place, Reply};
 use row_tables::{CommitFault, Records};
-use std::alloc::Global;
 use std::marker::Model;
 
-/// Hosted repositories with their rows, the blob numbers, a clock, the settings, and how many calls there were.
+/// Hosted repositories with their rows, the numbers of blobs, the sessions, and the last moment.
+#[derive(Drop)]
+pub struct Stock<H: Held> {
+    pub repos: Vec<Hosted<H>>,
+    pub yard: Yard,
+    pub sessions: Sessions<H>,
+    pub last: u64,
+}
+
+/// Hosted repositories with their rows, the numbers of blobs, the sessions, a clock, the settings, and how many calls there
+/// were.
 #[derive(Drop)]
 pub struct Machine<C: Clock, H: Held> {
     settings: Settings,
     repos: Vec<Hosted<H>>,
     yard: Yard,
+    sessions: Sessions<H>,
     last: u64,
     clock: C,
     calls: u64,
 }
 
 impl<C: Clock, H: Held> Model for Machine<C, H> {
-    ghost use Rattle.std.specs.Prelude.{◌≡◌, ◌≤◌, []};
+    ghost use Rattle.std.specs.Prelude.{◌≡◌, ◌≤◌};
     ghost use Rattle.repo_model.specs.History.{latest_moment};
     ghost use Rattle.repo_core.specs.Whole.{Parts};
 
     ghost Value = { Parts };
 
     ghost use Rattle.repo_core.specs.Hosted.{rules_of, AreInUse};
+    ghost use Rattle.repo_core.specs.Deploys.{AreStagedInUse};
 
     ghost view = { λ c. record {
       settings = c.settings;
       state = record {
         hosted = c.repos.items;
-        sessions = [];
+        sessions = c.sessions.sessions;
         yard = c.yard.yard;
         last = c.last;
         clock = C.moments c.clock;
@@ -53,60 +69,59 @@ impl<C: Clock, H: Held> Model for Machine<C, H> {
       moment : c.last ≤ latest_moment;
       blobs : AreInUse c.yard.kept c.repos.items;
       rules : rules_of c.repos.items ≡ c.settings.hosted;
+      staged : AreStagedInUse c.yard.kept c.sessions.sessions;
+      numbers : c.yard.yard.next_session ≡ c.sessions.next;
     } };
 }
 
 impl<C: Clock, H: Held> Machine<C, H> {
-    ghost use Rattle.std.specs.Prelude.{◌≡◌, ◌≤◌, ◌+◌, min, map, false, [], IfOk, IfErr, IsTrue, vec_capacity};
+    ghost use Rattle.std.specs.Prelude.{◌≡◌, ◌≤◌, ◌+◌, min, map, false, [], IsTrue, vec_capacity};
     ghost use Rattle.mvn_digest.specs.Sides.{bytes_in};
     ghost use Rattle.outside.specs.Faults.{last_count};
-    ghost use Rattle.repo_model.specs.State.{opening};
-    ghost use Rattle.repo_model.specs.Data.{repository};
-    ghost use Rattle.repo_model.specs.Command.{meets, look, may_put, put, put_side, drop_draft, unlist, collect, status};
+    ghost use Rattle.repo_model.specs.Data.{repository, session};
+    ghost use Rattle.repo_model.specs.Command.{meets, look, may_put, put, put_side, put_doc, drop_draft, open_session, stage, commit, abort, unlist, collect, status};
     ghost use Rattle.repo_model.specs.Effect.{recorded};
-    ghost use Rattle.repo_model.specs.History.{Fits, after, effects_of};
+    ghost use Rattle.repo_model.specs.History.{Fits, after, effects_of, latest_moment};
     ghost use Rattle.repo_model.specs.Purge.{expire_all, most_rows};
-    ghost use Rattle.repo_model.specs.Reply.{is_free, no_session};
+    ghost use Rattle.repo_model.specs.Reply.{is_free};
     ghost use Rattle.repo_model.specs.Shown.{shown_parcel, shown_command, shown_reply, entry_of};
     ghost use Rattle.repo_model.specs.Turn.{turn};
     ghost use Rattle.row_tables.specs.Commits.{tables_with};
     ghost use Rattle.hosted_repo.specs.Expired.{blob_of};
     ghost use Rattle.hosted_repo.specs.Recording.{FitWhereTold};
+    ghost use Rattle.repo_core.specs.Deploys.{AreStagedInUse};
+    ghost use Rattle.repo_core.specs.Hosted.{AreInUse, rules_of};
     ghost use Rattle.repo_core.specs.Purge.{shares};
-    ghost use Rattle.repo_core.specs.Turn.{MayRecord, Recorded, Turned};
+    ghost use Rattle.repo_core.specs.Stock.{state_of};
+    ghost use Rattle.repo_core.specs.Turn.{IsSettled, IsSettledBy, MayRecord, Recorded, Turned};
     ghost use Rattle.repo_core.specs.Whole.{IsOrderly, counting};
 
-    /// A repository without rows, by these settings.
-    ///
-    /// Where memory is wanting the clock comes back as it was.
-    pub fn plain(
-        alloc: Global,
-        settings: Settings,
-        clock: C,
-    ) -> Result<Machine<C, H>, (NoMemory, C)>
-        ensures settings { IfOk result (λ core. core.settings ≡ settings) }
-        ensures state { IfOk result (λ core. core.state ≡ opening settings (C.moments clock)) }
-        ensures calls { IfOk result (λ core. core.calls ≡ 0) }
-        ensures err { IfErr result (λ error. error.1 ≡ clock) }
+    /// The repository that begins with a stock of files, numbers and sessions.
+    pub fn of(settings: Settings, stock: Stock<H>, clock: C) -> Machine<C, H>
+        requires moment { stock.last ≤ latest_moment }
+        requires blobs { AreInUse stock.yard.kept stock.repos.items }
+        requires rules { rules_of stock.repos.items ≡ settings.hosted }
+        requires staged { AreStagedInUse stock.yard.kept stock.sessions.sessions }
+        requires numbers { stock.yard.yard.next_session ≡ stock.sessions.next }
+        ensures settings { result.settings ≡ settings }
+        ensures state { result.state ≡ state_of stock (C.moments clock) }
+        ensures calls { result.calls ≡ 0 }
     {
-        // Their ids have their form.
-        settings.form();
-        let repos = match empty_repos(alloc, settings.hosted()) {
-            Ok(repos) => repos,
-            Err(error) => return Err((error, clock)),
-        };
-        let yard = match Yard::start(alloc, &[], 1, 1) {
-            Ok(yard) => yard,
-            Err(error) => return Err((error, clock)),
-        };
-        Ok(Machine {
+        let Stock {
+            repos,
+            yard,
+            sessions,
+            last,
+        } = stock;
+        Machine {
             settings,
             repos,
             yard,
-            last: 0,
+            sessions,
+            last,
             clock,
             calls: 0,
-        })
+        }
     }
 
     /// One turn: reads the clock once, and answers the command. What it does is recorded first.
@@ -126,6 +141,7 @@ impl<C: Clock, H: Held> Machine<C, H> {
             (entry_of command self.new.state.last result (K.faults records.new)) }
         ensures tables { K.tables records.new ≡ tables_with (recorded (effects_of self.old.settings (counting (K.faults records.old) self.old.state)
             (entry_of command self.new.state.last result (K.faults records.new)))) (K.tables records.old) }
+        ensures settled { IsSettled (shown_command command) (shown_reply result) (K.unsettled records.new) }
         ensures ready { K.ready records.new }
         ensures settings { self.new.settings ≡ self.old.settings }
         ensures calls { self.new.calls ≡ min (self.old.calls + 1) last_count }
@@ -157,6 +173,7 @@ impl<C: Clock, H: Held> Machine<C, H> {
             settings: _,
             repos: _,
             yard: _,
+            sessions: _,
             last: _,
             clock,
             calls: _,
@@ -164,13 +181,14 @@ impl<C: Clock, H: Held> Machine<C, H> {
         clock
     }
 
-    // The answer at the turn's moment. There are no sessions.
+    // The answer at the turn's moment.
     fn answer<K: Records>(&mut self, records: &mut K, command: Command<H>) -> Reply<H>
         requires meets { IsTrue (meets self.old.settings (shown_command command)) }
         requires orderly { IsOrderly self.old }
         requires ready { K.ready records.old }
         requires items { FitWhereTold (K.tables records.old) (recorded (turn self.old.settings self.old.state self.old.state.last (shown_command command)).effects) }
         ensures turn { Recorded self.old self.new (shown_command command) (shown_reply result) (K.tables records.old) (K.tables records.new) (K.faults records.old) (K.faults records.new) }
+        ensures settled { IsSettled (shown_command command) (shown_reply result) (K.unsettled records.new) }
         ensures ready { K.ready records.new }
     {
         match command {
@@ -181,7 +199,7 @@ impl<C: Clock, H: Held> Machine<C, H> {
             }
             Command::MayPut { place, path } => match place {
                 Place::Repository(repo) => self.may_put(repo.as_str(), path.as_str()),
-                Place::Session(_) => self.refuse_session(),
+                Place::Session(number) => self.may_stage(number, path.as_str()),
             },
             Command::Put {
                 repo,
@@ -191,26 +209,105 @@ impl<C: Clock, H: Held> Machine<C, H> {
             } => self.put(records, repo.as_str(), path.as_str(), draft, parcel),
             Command::PutSide { place, path, said } => match place {
                 Place::Repository(repo) => self.put_side(repo.as_str(), path.as_str(), said),
-                Place::Session(_) => self.refuse_session(),
+                Place::Session(number) => self.stage_side(number, path.as_str(), said),
             },
-            Command::PutDoc { place, path: _ } => match place {
+            Command::PutDoc { place, path } => match place {
                 Place::Repository(_) => Reply::Noted,
-                Place::Session(_) => self.refuse_session(),
+                Place::Session(number) => self.note(number, path.as_str()),
             },
             Command::Drop { draft } => self.drop_draft(draft),
+            Command::Open { repo } => self.open(records, repo.as_str()),
+            Command::Stage {
+                session,
+                path,
+                draft,
+                parcel,
+            } => self.stage(session, path.as_str(), draft, parcel),
+            Command::Commit { session } => self.commit(records, session),
+            Command::Abort { session } => self.abort(records, session),
             Command::Unlist { repo } => self.unlist(records, repo.as_str()),
             Command::Collect => self.collect(records),
             Command::Status => self.status(),
         }
     }
 
-    // The answer at a session, of which there are none.
-    fn refuse_session(&self) -> Reply<H>
-        ensures reply { shown_reply result ≡ no_session }
-        ensures none { self.now.state.sessions ≡ [] }
+    fn may_stage(&mut self, number: u64, path: &str) -> Reply<H>
+        ensures { Turned self.old self.new (may_put (session number) path.now) (shown_reply result) }
     {
-        let _ = &self.repos;
-        Reply::NoSession
+        match refusal_at(&self.sessions, &self.repos, number, path) {
+            Some(reply) => reply,
+            None => drawn(&mut self.yard),
+        }
+    }
+
+    fn stage_side(&mut self, number: u64, path: &str, said: Digest) -> Reply<H>
+        ensures { Turned self.old self.new (put_side (session number) path.now (bytes_in said)) (shown_reply result) }
+    {
+        compare_staged(&self.sessions, number, path, said)
+    }
+
+    fn note(&mut self, number: u64, path: &str) -> Reply<H>
+        ensures { Turned self.old self.new (put_doc (session number) path.now) (shown_reply result) }
+    {
+        let _ = path;
+        match self.sessions.opened(number) {
+            Some(_) => Reply::Noted,
+            None => Reply::NoSession,
+        }
+    }
+
+    fn open<K: Records>(&mut self, records: &mut K, repo: &str) -> Reply<H>
+        requires ready { K.ready records.old }
+        requires items { FitWhereTold (K.tables records.old) (recorded (turn self.old.settings self.old.state self.old.state.last (open_session repo.now)).effects) }
+        ensures turn { Recorded self.old self.new (open_session repo.now) (shown_reply result) (K.tables records.old) (K.tables records.new) (K.faults records.old) (K.faults records.new) }
+        ensures ready { K.ready records.new }
+    {
+        let begun = self.sessions.begin(records, repo);
+        settle_begun(&mut self.yard, begun);
+        reply_of_begin(begun)
+    }
+
+    fn stage(&mut self, number: u64, path: &str, draft: u64, parcel: Parcel<H>) -> Reply<H>
+        requires meets { IsTrue (meets self.old.settings (stage number path.now draft (shown_parcel parcel))) }
+        requires orderly { IsOrderly self.old }
+        ensures { Turned self.old self.new (stage number path.now draft (shown_parcel parcel)) (shown_reply result) }
+    {
+        if !self.yard.is_draft(draft) {
+            return Reply::NoDraft;
+        }
+        let did = self.sessions.stage(number, path, parcel);
+        settle_staged(&mut self.yard, draft, did);
+        reply_of_stage(did)
+    }
+
+    fn commit<K: Records>(&mut self, records: &mut K, number: u64) -> Reply<H>
+        requires orderly { IsOrderly self.old }
+        requires ready { K.ready records.old }
+        requires items { FitWhereTold (K.tables records.old) (recorded (turn self.old.settings self.old.state self.old.state.last (commit number)).effects) }
+        ensures turn { Recorded self.old self.new (commit number) (shown_reply result) (K.tables records.old) (K.tables records.new) (K.faults records.old) (K.faults records.new) }
+        ensures ready { K.ready records.new }
+    {
+        let did = commit(
+            &mut self.repos,
+            &mut self.sessions,
+            records,
+            number,
+            self.last,
+        );
+        condemn_over(&mut self.yard, &did);
+        reply_of_commit(did)
+    }
+
+    fn abort<K: Records>(&mut self, records: &mut K, number: u64) -> Reply<H>
+        requires orderly { IsOrderly self.old }
+        requires ready { K.ready records.old }
+        requires items { FitWhereTold (K.tables records.old) (recorded (turn self.old.settings self.old.state self.old.state.last (abort number)).effects) }
+        ensures turn { Recorded self.old self.new (abort number) (shown_reply result) (K.tables records.old) (K.tables records.new) (K.faults records.old) (K.faults records.new) }
+        ensures ready { K.ready records.new }
+    {
+        let did = self.sessions.abort(records, number);
+        condemn_left(&mut self.yard, &did);
+        reply_of_abort(did)
     }
 
     fn look(&mut self, repo: &str, path: &str) -> Reply<H>
@@ -289,6 +386,7 @@ impl<C: Clock, H: Held> Machine<C, H> {
         requires ready { K.ready records.old }
         requires items { FitWhereTold (K.tables records.old) (recorded (turn self.old.settings self.old.state self.old.state.last collect).effects) }
         ensures turn { Recorded self.old self.new collect (shown_reply result) (K.tables records.old) (K.tables records.new) (K.faults records.old) (K.faults records.new) }
+        ensures settled { IsSettledBy (shown_reply result) (K.unsettled records.new) }
         ensures ready { K.ready records.new }
     {
         let alloc = *self.repos.allocator();
@@ -336,7 +434,7 @@ impl<C: Clock, H: Held> Machine<C, H> {
             fading,
             cached: 0,
             documents: 0,
-            sessions: 0,
+            sessions: self.sessions.count(),
         }
     }
 }

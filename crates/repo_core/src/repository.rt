@@ -3,11 +3,10 @@ ghost use Rattle.std.specs.Prelude.{◌≡◌};
 
 use crate::conditions::fits;
 use crate::machine::Machine;
-use outside::{Clock, Held, NoMemory};
+use outside::{Clock, Held};
 use repo_config::Settings;
 use repo_model::{Command, Reply};
 use row_tables::Records;
-use std::alloc::Global;
 use std::marker::Model;
 
 /// The repository: hosted repositories with their rows, the blob numbers, the records, a clock, and how many calls there
@@ -27,55 +26,37 @@ impl<K: Records, C: Clock, H: Held> Model for Core<K, C, H> {
 
     ghost Value = { Whole };
 
-    ghost view = { λ c. whole_of c.machine (K.tables c.records) (K.faults c.records) };
+    ghost view = { λ c. whole_of c.machine (K.tables c.records) (K.unsettled c.records) (K.faults c.records) };
 
     ghost invariant = { λ c. record {
-      kept : IsKept (whole_of c.machine (K.tables c.records) (K.faults c.records));
+      kept : IsKept (whole_of c.machine (K.tables c.records) (K.unsettled c.records) (K.faults c.records));
       ready : K.ready c.records;
     } };
 }
 
 impl<K: Records, C: Clock, H: Held> Core<K, C, H> {
-    ghost use Rattle.std.specs.Prelude.{◌≡◌, ◌+◌, min, IfOk, IfErr, IsTrue};
+    ghost use Rattle.std.specs.Prelude.{◌≡◌, ◌+◌, min, IsTrue};
     ghost use Rattle.std.specs.Option.{ForSome};
     ghost use Rattle.outside.specs.Faults.{last_count};
     ghost use Rattle.repo_model.specs.Asking.{IsAnswerTo};
-    ghost use Rattle.repo_model.specs.State.{opening};
     ghost use Rattle.repo_model.specs.Command.{meets};
     ghost use Rattle.repo_model.specs.Effect.{recorded};
     ghost use Rattle.repo_model.specs.History.{Fits, after, effects_of};
     ghost use Rattle.repo_model.specs.Shown.{shown_command, shown_reply, entry_of};
-    ghost use Rattle.repo_model.specs.Tables.{no_tables};
     ghost use Rattle.repo_laws.specs.Holds.{Holds};
     ghost use Rattle.repo_laws.specs.Laws.{KeepsReleases};
     ghost use Rattle.repo_laws.specs.Sound.{IsSound};
     ghost use Rattle.row_tables.specs.Commits.{tables_with};
-    ghost use Rattle.repo_core.specs.Whole.{counting};
+    ghost use Rattle.repo_core.specs.Turn.{IsSettled};
+    ghost use Rattle.repo_core.specs.Whole.{IsKept, whole_of};
 
-    /// A repository without rows, by these settings, over records that are empty and ready.
-    ///
-    /// Where memory is wanting the records and the clock come back as they were.
-    pub fn plain(
-        alloc: Global,
-        settings: Settings,
-        records: K,
-        clock: C,
-    ) -> Result<Core<K, C, H>, (NoMemory, K, C)>
+    /// The core of a machine and of records that are ready. The state is sound, and the tables, where told, hold it.
+    pub(crate) fn over(machine: Machine<C, H>, records: K) -> Core<K, C, H>
+        requires kept { IsKept (whole_of machine (K.tables records) (K.unsettled records) (K.faults records)) }
         requires ready { K.ready records }
-        requires empty { ForSome (K.tables records) (λ t. t ≡ no_tables) }
-        ensures settings { IfOk result (λ core. core.settings ≡ settings) }
-        ensures state { IfOk result (λ core. core.state ≡ counting (K.faults records) (opening settings (C.moments clock))) }
-        ensures tables { IfOk result (λ core. core.tables ≡ K.tables records) }
-        ensures calls { IfOk result (λ core. core.calls ≡ 0) }
-        ensures records { IfErr result (λ error. error.1 ≡ records) }
-        ensures clock { IfErr result (λ error. error.2 ≡ clock) }
+        ensures { result ≡ whole_of machine (K.tables records) (K.unsettled records) (K.faults records) }
     {
-        // Their ids differ, and have their form.
-        settings.form();
-        match Machine::plain(alloc, settings, clock) {
-            Ok(machine) => Ok(Core { machine, records }),
-            Err((error, clock)) => Err((error, records, clock)),
-        }
+        Core { machine, records }
     }
 
     /// One turn: reads the clock once, and answers the command. What it changes of rows and sessions is recorded first.
@@ -84,7 +65,8 @@ impl<K: Records, C: Clock, H: Held> Core<K, C, H> {
     /// leaves the state that the machine says; the tables, where told, are those with its items, and hold the new state.
     /// Every command but `Done` and `Drop` may want memory; where it is wanting, or where the records fail, nothing changes
     /// but the moment and the count of the records. The row of a release is there afterwards with every field as before. A
-    /// draft for a file is given only where the repository takes the file.
+    /// draft for a file is given only where the repository takes the file. A `Collect` is always committed, an empty one too: where
+    /// it gives blobs out to be removed, no change whose commit failed, and which may name one of them, is found any more.
     pub fn call(&mut self, command: Command<H>) -> Reply<H>
         requires { IsTrue (meets self.old.settings (shown_command command)) }
         ensures fits { Fits self.old.settings self.old.state (entry_of command self.new.state.last result self.new.state.faults) }
@@ -92,6 +74,7 @@ impl<K: Records, C: Clock, H: Held> Core<K, C, H> {
         ensures tables { self.new.tables ≡ tables_with (recorded (effects_of self.old.settings self.old.state
             (entry_of command self.new.state.last result self.new.state.faults))) self.old.tables }
         ensures holds { ForSome self.new.tables (λ t. Holds t self.new.state) }
+        ensures settled { IsSettled (shown_command command) (shown_reply result) self.new.unsettled }
         ensures answer { IsAnswerTo self.old.settings (shown_command command) (shown_reply result) }
         ensures settings { self.new.settings ≡ self.old.settings }
         ensures calls { self.new.calls ≡ min (self.old.calls + 1) last_count }
@@ -128,6 +111,7 @@ impl<K: Records, C: Clock, H: Held> Core<K, C, H> {
     pub fn end(self) -> (K, C)
         ensures tables { K.tables result.0 ≡ self.tables }
         ensures faults { K.faults result.0 ≡ self.state.faults }
+        ensures settled { K.unsettled result.0 ≡ self.unsettled }
         ensures ready { K.ready result.0 }
         ensures clock { C.moments result.1 ≡ self.state.clock }
     {

@@ -26,10 +26,14 @@ use Rattle.course_laws.proofs.PlayedStream.{as-played, stream-upto}
 use Rattle.course_laws.proofs.Told.{opening-told}
 use Rattle.repo_run.proofs.Alone.{core_alone, core_counted}
 use Rattle.repo_run.specs.FirstConnection.{Makes, ServesFirst, port_failed, none_left, one_served}
-use Rattle.repo_run.specs.Replay.{AllTold, Finishes, IsReplayed, Reports, ReportsFirst, ServesWith, counts, opened}
+use Rattle.store_check.specs.Checking.{Recorded}
+use Rattle.repo_run.specs.Begun.{Begins, HoldsRecords, IsFresh, LeavesRecords}
+use Rattle.repo_run.specs.Replay.{AllTold, Finishes, IsReplayed, Reports, ReportsFirst, ServesWith, counts}
+use Rattle.repo_run.proofs.Fresh.{fresh-state, fresh-store}
 use Rattle.repo_run.specs.Replay as replay
 use Rattle.repo_run.specs.Status.{Counts, HasStatus, done, source_failed, sink_failed, out_failed, memory_wanted}
-use Rattle.repo_run.specs.Surroundings.{Connection, DeskState, Output, outside_at}
+use Rattle.run_lines.specs.Printing.{Output}
+use Rattle.repo_run.specs.Surroundings.{Connection, DeskState, outside_at}
 
 same-counts : (old new : Connection) (out out' : Output) → new.read_faults ≡ old.read_faults → new.write_faults ≡ old.write_faults
     → out'.faults ≡ out.faults → counts new out' ≡ counts old out
@@ -80,70 +84,97 @@ pub nothing_held : (told : Option (List ℕ)) → in_front [] told ≡ told
 nothing_held None = refl
 nothing_held (Some bytes) = refl
 
-module _ (tells : Type 0) (settings : Settings) (form : IsSettings settings) where
-  pub is-replayed : (clock clock' : Option Moments) (old new : Connection) (blobs blobs' : Store) (core : Whole) (held : List ℕ) (ending : End) (entries : List Entry)
-      → Makes (opened settings clock) entries core
-      → Serves settings tells 1000 entries (outside_at (in_front [] old.left) old blobs) (outside_at (in_front held new.left) new blobs') ending
-      → clock' ≡ core.state.clock → core.state.faults ≡ 0 → IsReplayed tells settings clock clock' old new blobs blobs' ending core.calls
-  is-replayed clock clock' old new blobs blobs' core held ending entries made begun clock-is unfailed =
-      let before = outside_at old.left old blobs in
+module _ (tells : Type 0) (settings : Settings) (form : IsSettings settings) (records records' : Recorded) where
+  pub is-replayed : (clock clock' : Option Moments) (old new : Connection) (blobs cleared blobs' : Store) (begun core : Whole) (held : List ℕ) (ending : End) (entries : List Entry)
+      → Begins settings records blobs cleared clock begun → Makes begun entries core
+      → Serves settings tells 1000 entries (outside_at (in_front [] old.left) old cleared) (outside_at (in_front held new.left) new blobs') ending
+      → clock' ≡ core.state.clock → HoldsRecords core records' → IsReplayed tells settings records records' clock clock' old new blobs blobs' ending core.calls
+  is-replayed clock clock' old new blobs cleared blobs' begun core held ending entries begins made first clock-is holds =
+      let before = outside_at old.left old cleared in
       let after = outside_at (in_front held new.left) new blobs' in
-      let served = subst (λ (input : Option (List ℕ)). Serves settings tells 1000 entries (outside_at input old blobs) after ending) (nothing_held old.left) begun in
-      let alone = core_alone entries (opened settings clock) core made in
-      let drawn : IsDrawn (opened settings clock).state.yard = record { drafts = tt; leases = tt } in
-      let left = serves_leaves tells settings 1000 entries (opened settings clock).state alone.legal before after ending served in
+      let served = subst (λ (input : Option (List ℕ)). Serves settings tells 1000 entries (outside_at input old cleared) after ending) (nothing_held old.left) first in
+      let alone = core_alone entries begun core made in
+      let legal : Legal settings begun.state entries = subst (λ (s : Settings). Legal s begun.state entries) begins.settings_are alone.legal in
+      let ends : core.state ≡ end settings begun.state entries = alone.ends ∙ ap (λ (s : Settings). end s begun.state entries) begins.settings_are in
+      let drawn : IsDrawn begun.state.yard = subst (λ (s : State). IsDrawn s.yard) (sym begins.starts.state) (record { drafts = tt; leases = tt }) in
+      let left = serves_leaves tells settings 1000 entries begun.state legal before after ending served in
       let nothing = left.nothing drawn in
-      let yard = ap (λ (s : State). s.yard) alone.ends in
-      let none = sym (ap (λ (s : State). s.faults) alone.ends) ∙ unfailed in
-      let stood : StoodStill 0 (end settings (opening settings clock) entries).faults = (none, omega (arith, none)) in
+      let yard = ap (λ (s : State). s.yard) ends in
+      let begun-yard = ap (λ (s : State). s.yard) begins.starts.state in
+      let none : begun.calls ≡ 0 = begins.calls_are in
+      let counted : core.calls ≡ min (0 + length entries) last_count =
+      subst (λ (n : ℕ). core.calls ≡ min (n + length entries) last_count) none (core_counted entries begun core (omega (arith, none)) made) in
       record {
         entries = entries;
+        begun = begun;
         core = core;
+        cleared = cleared;
         held = held;
+        begins = begins;
         serves = served;
         made = made;
-        legal = alone.legal;
-        state = alone.ends;
+        legal = legal;
+        state = ends;
         clock_is = clock-is;
-        unfailed = unfailed;
-        counted = all-counted core.calls (length entries) (most_asked settings) (core_counted entries (opened settings clock) core (omega arith) made)
+        holds = holds;
+        counted = all-counted core.calls (length entries) (most_asked settings) counted
             (serves_few tells settings 1000 entries before after ending served) (most-few settings form);
-        nothing_left = (ap (λ y. y.drafts) yard ∙ nothing.drafts, ap (λ y. y.leases) yard ∙ nothing.leases);
+        nothing_left = (ap (λ y. y.drafts) yard ∙ nothing.drafts ∙ ap (λ y. y.drafts) begun-yard, ap (λ y. y.leases) yard ∙ nothing.leases ∙ ap (λ y. y.leases) begun-yard);
         drafts_found = left.found;
         ends = serves_shows tells settings 1000 entries before after ending served;
-        played = λ moments input taken told calm.
+        played = λ fresh moments input taken told calm.
             let start = opening settings (Some moments) in
-            stream-upto settings tells told.blobs_tell 1000 entries start
-            (subst (λ (c : Option Moments). Legal settings (opening settings c) entries) told.clock_is alone.legal)
-            (subst (λ (c : Option Moments). StoodStill 0 (end settings (opening settings c) entries).faults) told.clock_is stood)
-            before after ending input taken
-            (record { input_is = told.left_is; output_is = told.taken_is; rows = opening-told settings (Some moments); clock = refl }) calm served;
-        faultless = λ moments input taken told calm.
+            let first = fresh-state settings records records' blobs cleared clock begun fresh begins ∙ ap (opening settings) told.clock_is in
+            let stood = calm-records begun core moments entries first ends holds fresh in
+            stream-upto settings tells told.blobs_tell 1000 entries start (subst (λ (s : State). Legal settings s entries) first legal) stood
+            (outside_at old.left old blobs) after ending input taken
+            (record { input_is = told.left_is; output_is = told.taken_is; rows = opening-told settings (Some moments); clock = refl }) calm
+            (subst (λ (b : Store). Serves settings tells 1000 entries (outside_at old.left old b) after ending) (fresh-store settings records records' blobs cleared clock begun fresh begins) served);
+        faultless = λ fresh moments input taken told calm.
             let start = opening settings (Some moments) in
-            as-played settings tells told.blobs_tell 1000 entries start
-            (subst (λ (c : Option Moments). Legal settings (opening settings c) entries) told.clock_is alone.legal)
-            (subst (λ (c : Option Moments). StoodStill 0 (end settings (opening settings c) entries).faults) told.clock_is stood)
-            before after ending input taken
-            (record { input_is = told.left_is; output_is = told.taken_is; rows = opening-told settings (Some moments); clock = refl }) calm served;
+            let first = fresh-state settings records records' blobs cleared clock begun fresh begins ∙ ap (opening settings) told.clock_is in
+            let stood = calm-records begun core moments entries first ends holds fresh in
+            as-played settings tells told.blobs_tell 1000 entries start (subst (λ (s : State). Legal settings s entries) first legal) stood
+            (outside_at old.left old blobs) after ending input taken
+            (record { input_is = told.left_is; output_is = told.taken_is; rows = opening-told settings (Some moments); clock = refl }) calm
+            (subst (λ (b : Store). Serves settings tells 1000 entries (outside_at old.left old b) after ending) (fresh-store settings records records' blobs cleared clock begun fresh begins) served);
       }
+    where
+      -- the records of the opening state have not failed in the end
+      calm-records : (begun core : Whole) (moments : Moments) (entries : List Entry) → begun.state ≡ opening settings (Some moments)
+          → core.state ≡ end settings begun.state entries → HoldsRecords core records' → {blobs : Store} → IsFresh records records' blobs
+          → StoodStill 0 (end settings (opening settings (Some moments)) entries).faults
+      calm-records begun core moments entries first ends holds fresh =
+          let last : core.state ≡ end settings (opening settings (Some moments)) entries = ends ∙ ap (λ (s : State). end settings s entries) first in
+          let none : (end settings (opening settings (Some moments)) entries).faults ≡ 0 = sym (ap (λ (s : State). s.faults) last) ∙ sym holds.1 ∙ fresh.stood in
+          (none, omega (arith, none))
 
   module _ {X : Type 0} (connection_of : X → Connection) (clock clock' : Option Moments) (old new : DeskState X) (out out' : Output) (status : ℕ) where
     abbrev Replayed : Type 0
-    Replayed = ServesWith tells settings connection_of clock clock' old new out out' status
+    Replayed = ServesWith tells settings connection_of records records' clock clock' old new out out' status
+
+    -- a repository that was not asked has its records as they were, and its clock
+    unasked : (cleared : Store) (core core' : Whole) → Begins settings records old.blobs cleared clock core → core' ≡ core → clock' ≡ core'.state.clock
+        → HoldsRecords core' records' → LeavesRecords records records' × (clock' ≡ clock)
+    unasked cleared core core' begins same clock-is holds =
+        let first = ap (λ (w : Whole). w.state) same ∙ begins.starts.state in
+        ((holds.0 ∙ ap (λ (w : Whole). w.tables) same ∙ begins.tables_are, holds.1 ∙ ap (λ (s : State). s.faults) first), clock-is ∙ ap (λ (s : State). s.clock) first)
 
     -- what was served, with the line that tells it
-    pub replays : (core core' : Whole) (ended : Option End) → core ≡ opened settings clock → ServesFirst tells settings connection_of old new core core' ended
-        → clock' ≡ core'.state.clock → core'.state.faults ≡ 0 → ReportsFirst ended core'.calls out out' status → Replayed
-    replays core core' ended is (port_failed faults rose desk same ends) clock-is unfailed told =
+    pub replays : (cleared : Store) (core core' : Whole) (ended : Option End) → Begins settings records old.blobs cleared clock core
+        → ServesFirst tells settings connection_of (record old { blobs = cleared }) new core core' ended
+        → clock' ≡ core'.state.clock → HoldsRecords core' records' → ReportsFirst ended core'.calls out out' status → Replayed
+    replays cleared core core' ended begins (port_failed faults rose desk same ends) clock-is holds told =
         let last = subst (λ (e : Option End). ReportsFirst e core'.calls out out' status) ends told in
-        replay.port_failed faults rose desk (clock-is ∙ ap (λ (w : Whole). w.state.clock) same ∙ ap (λ (w : Whole). w.state.clock) is) last.0 last.1
-    replays core core' ended is (none_left at-end desk same ends) clock-is unfailed told =
+        let left = unasked cleared core core' begins same clock-is holds in
+        replay.port_failed core cleared faults begins rose desk left.0 left.1 last.0 last.1
+    replays cleared core core' ended begins (none_left at-end desk same ends) clock-is holds told =
         let last = subst (λ (e : Option End). ReportsFirst e core'.calls out out' status) ends told in
-        replay.none_left at-end desk (clock-is ∙ ap (λ (w : Whole). w.state.clock) same ∙ ap (λ (w : Whole). w.state.clock) is)
-        (subst (λ (n : ℕ). Reports Closed n out out' status) (ap (λ (w : Whole). w.calls) same ∙ ap (λ (w : Whole). w.calls) is) last)
-    replays core core' ended is (one_served link link' left held blobs ending entries took desk makes served ends) clock-is unfailed told =
+        let left = unasked cleared core core' begins same clock-is holds in
+        replay.none_left core cleared begins at-end desk left.0 left.1
+        (subst (λ (n : ℕ). Reports Closed n out out' status) (ap (λ (w : Whole). w.calls) same ∙ begins.calls_are) last)
+    replays cleared core core' ended begins (one_served link link' left held blobs ending entries took desk makes served ends) clock-is holds told =
         let last = subst (λ (e : Option End). ReportsFirst e core'.calls out out' status) ends told in
-        let made = subst (λ (w : Whole). Makes w entries core') is makes in
-        let all = is-replayed clock clock' (connection_of link) (connection_of link') old.blobs blobs core' held ending entries made served clock-is unfailed in
+        let all = is-replayed clock clock' (connection_of link) (connection_of link') old.blobs cleared blobs core core' held ending entries begins makes served clock-is holds in
         replay.one_served link link' left blobs ending core'.calls took desk all last
-        (has-status core'.calls ending (connection_of link) (connection_of link') out out' status _ _ old.blobs blobs all.ends last)
+        (has-status core'.calls ending (connection_of link) (connection_of link') out out' status _ _ all.cleared blobs all.ends last)

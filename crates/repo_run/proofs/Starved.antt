@@ -1,21 +1,33 @@
 -- A run for whose words memory was wanting.
 use Rattle.std.proofs.Common.{◌≡◌, ℕ, List, Option, Some, None, Err, refl, inr}
-use Rattle.outside.specs.Moments.{Moments}
 use Rattle.repo_config.specs.Source.{IsReadFrom}
 use Rattle.repo_config.specs.declared.faults.SettingsFault.TheVariants.{NoMemory}
 use Rattle.repo_config.specs.declared.source.SourceFault.TheVariants.{Refused}
+use Rattle.run_lines.specs.Lines.{memory_line}
+use Rattle.run_lines.specs.Printing.{Output, Prints}
+use Rattle.run_lines.specs.Reading.{File, Reads}
+use Rattle.store_check.specs.Checking as checking
 use Rattle.repo_run.specs.declared.actions.Action.{Action}
-use Rattle.repo_run.specs.declared.actions.Action.TheVariants.{Replay, Nothing}
-use Rattle.repo_run.specs.Lines.{memory_line}
-use Rattle.repo_run.specs.Replay.{Runs, refused}
-use Rattle.repo_run.specs.Surroundings.{Connection, DeskState, File, Output, Prints}
+use Rattle.repo_run.specs.declared.actions.Action.TheVariants.{Replay, Check, Clean, Nothing}
+use Rattle.repo_run.specs.Clean as clean
+use Rattle.repo_run.specs.Replay.{refused}
+use Rattle.repo_run.specs.Running.{Runs}
+use Rattle.repo_run.specs.Surroundings.{Beside, Connection, DeskState}
 
 -- want of memory says nothing of a source
 unread : (told : Option (List ℕ)) → IsReadFrom told (Err (Refused NoMemory))
 unread None = tt
 unread (Some text) = tt
 
-pub starved-run : {X : Type 0} (tells : Type 0) (connection_of : X → Connection) (command : Action) (source : File) (clock : Option Moments) (desk : DeskState X)
-    (out out' : Output) (status : ℕ) → Prints memory_line out out' → status ≡ 8 → Runs command tells connection_of source source clock clock desk desk out out' status
-starved-run tells connection_of Replay source clock desk out out' status prints is = refused NoMemory refl (unread source.left) refl refl (inr (prints, is))
-starved-run tells connection_of Nothing source clock desk out out' status prints is = (refl, refl, refl, inr (prints, is))
+unread-source : (source : File) (out out' : Output) (status : ℕ) → Prints memory_line out out' → status ≡ 8 → Reads source source out out' (Err status)
+unread-source source out out' status prints is = inr (NoMemory, refl, unread source.left, inr (prints, is))
+
+pub starved-run : {X : Type 0} (tells : Type 0) (connection_of : X → Connection) (command : Action) (old : Beside) (desk : DeskState X)
+    (out' : Output) (status : ℕ) → Prints memory_line old.out out' → status ≡ 8 → Runs command tells connection_of old (record old { out = out' }) desk desk status
+starved-run tells connection_of Replay old desk out' status prints is =
+    (refused (unread-source old.source old.out out' status prints is) refl (refl, refl) refl, refl)
+starved-run tells connection_of Check old desk out' status prints is =
+    (checking.refused (unread-source old.source old.out out' status prints is) refl refl, refl, refl, refl, refl)
+starved-run tells connection_of Clean old desk out' status prints is =
+    (clean.refused (unread-source old.source old.out out' status prints is) refl (refl, refl) refl, refl)
+starved-run tells connection_of Nothing old desk out' status prints is = (inr (prints, is), refl, refl, (refl, refl), refl, refl)

@@ -3,4 +3,7 @@ pub mod Status
 pub mod Surroundings
 pub mod Lines
 pub mod FirstConnection
+pub mod Begun
 pub mod Replay
+pub mod Clean
+pub mod Running

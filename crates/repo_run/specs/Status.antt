@@ -2,15 +2,23 @@
 use Rattle.std.specs.Prelude.{◌≡◌, ◌⊎◌, ℕ}
 use Rattle.outside.specs.Faults.{Rose}
 use Rattle.repo_run.specs.declared.actions.Action.{Action}
-use Rattle.repo_run.specs.declared.actions.Action.TheVariants.{Replay, Nothing}
+use Rattle.repo_run.specs.declared.actions.Action.TheVariants.{Replay, Check, Clean, Serve, Nothing}
 
--- done, settings that are refused, input, output or want of memory; and never 2
-abbrev pub IsStatusOfReplay : ℕ → Type 0
-IsStatusOfReplay status = (status ≡ 0) ⊎ ((status ≡ 3) ⊎ ((status ≡ 6) ⊎ ((status ≡ 7) ⊎ (status ≡ 8))))
+-- done, settings that are refused, a store that failed or does not read, a damaged file, input, output or want of memory; and
+-- never 2
+abbrev pub IsStatusOfOpening : ℕ → Type 0
+IsStatusOfOpening status = (status ≡ 0) ⊎ ((status ≡ 3) ⊎ ((status ≡ 4) ⊎ ((status ≡ 5) ⊎ ((status ≡ 6) ⊎ ((status ≡ 7) ⊎ (status ≡ 8))))))
+
+-- a file that was named in the place of 5, which tells that a store with damaged files was not opened
+abbrev pub IsStatusOfCheck : ℕ → Type 0
+IsStatusOfCheck status = (status ≡ 0) ⊎ ((status ≡ 3) ⊎ ((status ≡ 4) ⊎ ((status ≡ 6) ⊎ ((status ≡ 7) ⊎ ((status ≡ 8) ⊎ (status ≡ 9))))))
 
 -- by what the words ask for; want of memory may stand in the place of a refusal
 abbrev pub MatchAction : Action → ℕ → Type 0
-MatchAction Replay status = IsStatusOfReplay status
+MatchAction Replay status = IsStatusOfOpening status
+MatchAction Check status = IsStatusOfCheck status
+MatchAction Clean status = IsStatusOfOpening status
+MatchAction Serve status = (status ≡ 2) ⊎ (status ≡ 8)
 MatchAction Nothing status = (status ≡ 2) ⊎ (status ≡ 8)
 
 -- the counts of faults that decide how a connection's replay ends, in the order in which they do: those of its source and

@@ -1,9 +1,11 @@
--- What a run sees of its surroundings, and what printing a line and serving a connection do to them.
-use Rattle.std.specs.Prelude.{◌≡◌, ◌⊎◌, ℕ, ◌<◌, List, ◌∷◌, length, take, Option}
-use Rattle.outside.specs.Faults.{Rose}
-use Rattle.outside.specs.Told.{behind}
+-- What a run sees of its surroundings, and what serving a connection does to them.
+use Rattle.std.specs.Prelude.{◌≡◌, ℕ, List, ◌∷◌, Option}
+use Rattle.outside.specs.Moments.{Moments}
 use Rattle.repo_course.specs.Cleaning.{Store}
 use Rattle.repo_course.specs.Serving.{Outside}
+use Rattle.run_lines.specs.Printing.{Output}
+use Rattle.run_lines.specs.Reading.{File}
+use Rattle.store_check.specs.Checking.{Recorded}
 
 -- what a connection tells of itself
 pub record Connection : Type 0 where
@@ -30,33 +32,18 @@ abbrev pub desk_state : {X : Type 0} → Option (List X) → Option (List X) →
 desk_state left given_back port_faults blobs =
     record { left = left; given_back = given_back; port_faults = port_faults; blobs = blobs }
 
--- the source of the settings: the bytes that it has left, where told, and its count of faults
-pub record File : Type 0 where
-  pub left : Option (List ℕ)
-  pub faults : ℕ
+-- what a run sees beside its desk: the source of the settings, the cleaner's blobs, the records, the clock's moments, and what
+-- its lines are printed on
+pub record Beside : Type 0 where
+  pub source : File
+  pub cleaner : Store
+  pub records : Recorded
+  pub clock : Option Moments
+  pub out : Output
 
-abbrev pub file : Option (List ℕ) → ℕ → File
-file left faults = record { left = left; faults = faults }
-
--- what the lines of a run are printed on: the bytes that it has taken, and its count of faults
-pub record Output : Type 0 where
-  pub taken : Option (List ℕ)
-  pub faults : ℕ
-
-abbrev pub output : Option (List ℕ) → ℕ → Output
-output taken faults = record { taken = taken; faults = faults }
-
--- the line was printed, and no fault was counted
-abbrev pub PrintsWhole : List ℕ → Output → Output → Type 0
-PrintsWhole text old new = new ≡ output (behind old.taken text) old.faults
-
--- a fault was counted, and what was printed is a front of the line, and not all of it
-abbrev pub PrintsPart : List ℕ → Output → Output → Type 0
-PrintsPart text old new =
-    (n : ℕ) × (n < length text) × Rose old.faults new.faults × (new.taken ≡ behind old.taken (take n text))
-
-abbrev pub Prints : List ℕ → Output → Output → Type 0
-Prints text old new = PrintsWhole text old new ⊎ PrintsPart text old new
+abbrev pub beside : File → Store → Recorded → Option Moments → Output → Beside
+beside source cleaner records clock out =
+    record { source = source; cleaner = cleaner; records = records; clock = clock; out = out }
 
 -- of two lists the first are so related, and behind them both are the same
 abbrev pub FirstOnly : {D : Type 0} → (D → D → Type 0) → List D → List D → Type 0

@@ -13,6 +13,8 @@ ghost use Rattle.repo_laws.specs.Sound.{IsSound};
 ghost use Rattle.course_laws.specs.AsPlayed.{NoFaults, WantedMemory};
 ghost use Rattle.course_laws.specs.Worked.{abc_200, created_201, last_get, put_abc, worked_settings};
 ghost use Rattle.course_laws.specs.LeftBehind.{IsDrawn, LeavesNothing};
+ghost use Rattle.store_check.specs.Checking.{Recorded};
+ghost use Rattle.repo_run.specs.Begun.{IsFresh};
 ghost use Rattle.repo_run.specs.FirstConnection.{Makes};
 ghost use Rattle.repo_run.specs.Replay.{AllTold, IsReplayed};
 ghost use Rattle.repo_run.specs.Surroundings.{Connection, outside_at};
@@ -34,11 +36,13 @@ pub fn alone_nothing_is_left_behind<H: Held>()
         Makes core entries core' → Serves core.settings (AllTell H.bytes) n entries old new ending → LeavesNothing core.state.yard core'.state.yard }
 {}
 
-/// The worked PUT and GET of one file, as the connection of a replay that tells all, under settings whose hosted repositories
-/// are the worked ones: where nothing failed it has taken the worked answers byte for byte and was closed, or memory was wanted.
+/// The worked PUT and GET of one file, as the connection of a replay over nothing that tells all, under settings whose hosted
+/// repositories are the worked ones: where nothing failed it has taken the worked answers byte for byte and was closed, or
+/// memory was wanted.
 pub fn worked_replay<H: Held>()
-    ensures { (settings : Settings) (clock clock' : Option Moments) (moments : Moments) (old new : Connection) (blobs blobs' : Store) (ending : End) (calls : ℕ) →
-        IsReplayed (AllTell H.bytes) (worked_settings settings) clock clock' old new blobs blobs' ending calls →
+    ensures { (settings : Settings) (records records' : Recorded) (clock clock' : Option Moments) (moments : Moments) (old new : Connection) (blobs blobs' : Store) (ending : End) (calls : ℕ) →
+        IsReplayed (AllTell H.bytes) (worked_settings settings) records records' clock clock' old new blobs blobs' ending calls →
+        IsFresh records records' blobs →
         AllTold (AllTell H.bytes) clock old moments (put_abc ++ last_get) [] →
         NoFaults (outside_at old.left old blobs) (outside_at new.left new blobs') →
         ((new.taken ≡ Some (created_201 ++ abc_200)) × (ending ≡ End.Closed)) ⊎ WantedMemory [] new.taken }

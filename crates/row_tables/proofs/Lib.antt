@@ -2,3 +2,4 @@ pub mod Places
 pub mod Rising
 pub mod Kept
 pub mod Applied
+pub mod Latest

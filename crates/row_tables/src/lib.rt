@@ -8,6 +8,7 @@ mod documents;
 mod faults;
 mod files;
 mod memory;
+mod moments;
 mod paths;
 mod records;
 mod sessions;

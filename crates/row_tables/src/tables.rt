@@ -5,7 +5,7 @@ ghost use Rattle.row_tables.specs.declared.files.FileRow.{FileRow};
 ghost use Rattle.repo_model.specs.Effect.{fade, list_again};
 ghost use Rattle.repo_model.specs.Paths.{is_snapshot_path};
 ghost use Rattle.repo_model.specs.State.{change_where};
-ghost use Rattle.repo_model.specs.Tables.{RecordedSession, no_tables, names_blob, is_recorded, recorded_at, with_recorded, change_recorded, with_document, is_listed_row, is_fading_row, is_session, is_open_session};
+ghost use Rattle.repo_model.specs.Tables.{RecordedSession, no_tables, names_blob, greatest_moment, is_recorded, recorded_at, with_recorded, change_recorded, with_document, is_listed_row, is_fading_row, is_session, is_open_session};
 ghost use Rattle.row_tables.specs.Applying.{Tried};
 ghost use Rattle.row_tables.specs.Stored.{shown_entry, shown_document, shown_rows, shown_sessions};
 
@@ -13,6 +13,7 @@ use crate::documents::{KeptDocument, keep_document};
 use crate::files::{
     FileRow, Place, add_file, fade_file, file_at, phase_at, relist_file, remove_file,
 };
+use crate::moments::{latest_document, latest_file};
 use crate::paths::is_snapshot;
 use crate::sessions::{SessionRow, end_in, is_next};
 use repo_model::SessionResult;
@@ -94,6 +95,15 @@ impl Tables {
         ensures { shown_sessions result.now ≡ self.now.sessions }
     {
         &self.sessions
+    }
+
+    /// The greatest moment that is recorded: when a file was accepted, since when it is unlisted, or when a document was asked
+    /// for; 0 where there is none.
+    pub fn greatest_moment(&self) -> u64
+        ensures { result ≡ greatest_moment self.now }
+    {
+        let latest = latest_file(&self.cached, latest_file(&self.hosted, 0));
+        latest_document(&self.documents, latest)
     }
 
     // Whether a file has the blob of a number.

@@ -141,7 +141,8 @@ static CLEANS: [Exchange; 11] = [
         name: "a removal that fails is told, and its blob is not named again",
         input: &[(1, PUT_JAR_1), (1, PUT_JAR_2), (2, CLEAN), (1, GET_JAR_2)],
         script: Script {
-            blobs: Some(2),
+            // The start has listed the blobs.
+            blobs: Some(3),
             ..PLAIN
         },
         answers: &[(2, CREATED), (1, BLOB_FAULT), (1, NOTHING), (1, ABC)],

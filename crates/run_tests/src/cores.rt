@@ -4,9 +4,9 @@ ghost use Rattle.std.specs.Prelude.{◌≡◌, IfOk};
 use crate::exchanges::{PLAIN, Parts, SETTINGS, Script};
 use crate::literals::{GET_LAST, PUT_ABC};
 use crate::runs::{desk_of, joined};
-use outside_memory::{MemHeld, ScriptClock};
+use outside_memory::{FaultScript, MemBlobs, MemHeld, ScriptClock};
 use repo_config::{Settings, read};
-use repo_core::Core;
+use repo_core::{Core, start};
 use repo_course::End;
 use repo_model::{Command, Reply};
 use repo_run::serve_first;
@@ -51,9 +51,16 @@ pub fn opened(alloc: Global, settings: &Settings) -> Result<MemCore, AllocError>
 {
     let own = settings.copied(alloc)?;
     let records = MemRecords::new(alloc, Vec::new(alloc));
-    match Core::plain(alloc, own, records, ScriptClock::stepping(alloc, 0, 0)) {
+    let mut blobs = MemBlobs::new(alloc, FaultScript::none(alloc));
+    match start(
+        alloc,
+        own,
+        records,
+        &mut blobs,
+        ScriptClock::stepping(alloc, 0, 0),
+    ) {
         Ok(core) => Ok(core),
-        Err((error, _, _)) => Err(error),
+        Err(_) => Err(AllocError),
     }
 }
 

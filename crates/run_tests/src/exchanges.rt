@@ -256,7 +256,8 @@ static FAULTS: [Exchange; 6] = [
         input: &[(2, PUT_ABC), (1, GET)],
         pieces: Pieces::Blocks,
         script: Script {
-            blobs: Some(0),
+            // The start has listed the blobs.
+            blobs: Some(1),
             ..PLAIN
         },
         answers: &[(1, BLOB_FAULT), (1, CREATED), (1, ABC)],

@@ -16,7 +16,8 @@ use crate::sides::sides;
 use crate::snapshots::snapshots;
 use outside::Duplex;
 use outside_memory::{FaultScript, MemBlobs, MemLink, MemSink, MemSource, ScriptClock, ScriptPort};
-use repo_run::{Desk, Ran, run};
+use repo_run::{Cleaner, Desk, Ran, run};
+use row_tables::MemRecords;
 use std::alloc::{AllocError, Global};
 use std::test::Fail;
 
@@ -104,7 +105,7 @@ fn settings_of(alloc: Global, exchange: &Exchange) -> Result<MemSource, AllocErr
 /// A run that is over, and the sink that took its line.
 #[derive(Drop)]
 struct Over {
-    ran: Ran<MemPort, MemBlobs, ScriptClock>,
+    ran: Ran<MemPort, MemBlobs, MemRecords, ScriptClock>,
     out: MemSink,
 }
 
@@ -151,12 +152,18 @@ fn run_of(
     let mut settings = settings_of(alloc, exchange)?;
     let mut out = MemSink::new(alloc, exchange.script.line_room, FaultScript::none(alloc))?;
     let desks = desks_of(alloc, input, exchange.script, most)?;
+    let cleaner = Cleaner {
+        blobs: MemBlobs::new(alloc, FaultScript::none(alloc)),
+    };
+    let records = MemRecords::new(alloc, Vec::new(alloc));
     let clock = ScriptClock::stepping(alloc, 1_709_208_000, exchange.step);
     let ran = run(
         alloc,
         words.as_slice(),
         &mut settings,
         desks,
+        cleaner,
+        records,
         clock,
         &mut out,
     );

@@ -39,7 +39,8 @@ pub fn gone_of(answer: &GaveUp) -> Gone {
     }
 }
 
-fn is_file(path: &str) -> bool
+/// Whether a path is a file's.
+pub fn is_file(path: &str) -> bool
     ensures { result ≡ is_file_path path.now }
 {
     matches!(kind_of(path), Ok(Kind::File(_)))
@@ -64,7 +65,8 @@ impl Bench {
         }
     }
 
-    fn parcel(&mut self, bytes: &[u8]) -> Result<Parcel<MemHeld>, Fail> {
+    /// Bytes, as the next blob.
+    pub fn parcel(&mut self, bytes: &[u8]) -> Result<Parcel<MemHeld>, Fail> {
         let mut hashes = Hashes::new();
         hashes.update(bytes);
         let blob = self.next;

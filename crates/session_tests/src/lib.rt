@@ -5,6 +5,8 @@
 #[cfg(test)]
 mod bench;
 #[cfg(test)]
+mod commits;
+#[cfg(test)]
 mod endings;
 #[cfg(test)]
 mod openings;
@@ -14,3 +16,5 @@ mod records;
 mod restarts;
 #[cfg(test)]
 mod stagings;
+#[cfg(test)]
+mod stock;

@@ -5,11 +5,12 @@ use repo_model::Item;
 use row_tables::{Change, CommitFault, LoadFault, Records, Tables};
 use std::alloc::Global;
 
-/// Keeps how many changes were committed and the session of the last one. Once it is told to fail, each commit does.
+/// Keeps how many changes were committed, and of the last one how many items it had and its session. Once it is told to fail, each commit does.
 #[derive(Drop)]
 pub struct CountedRecords {
     pub fails: bool,
     pub changes: u64,
+    pub items: usize,
     pub opened: u64,
     pub ended: u64,
     faults: u64,
@@ -21,6 +22,7 @@ impl CountedRecords {
         CountedRecords {
             fails: false,
             changes: 0,
+            items: 0,
             opened: 0,
             ended: 0,
             faults: 0,
@@ -53,6 +55,7 @@ impl Records for CountedRecords {
             return Err(CommitFault::Failed);
         }
         self.changes = self.changes.saturating_add(1);
+        self.items = change.len();
         if let Some(item) = change.items().last() {
             self.note(item);
         }

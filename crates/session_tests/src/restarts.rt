@@ -5,6 +5,7 @@ ghost use Rattle.repo_model.specs.declared.session.SessionResult.TheVariants.{Ab
 
 use crate::bench::{Gone, gone_of};
 use crate::records::CountedRecords;
+use crate::stock::{Came, came_of, commit_to, repository};
 use deploy_session::{Begin, Sessions};
 use outside::NoMemory;
 use outside_memory::MemHeld;
@@ -62,6 +63,30 @@ fn results_outlast_a_stop_and_open_ones_do_not(rt: HostRuntime) -> Result<(), Fa
     assert!(rt; sessions.opened(2).is_none());
     assert_eq!(rt; sessions.begin(&mut later, "releases"), Begin::Opened(10));
     assert_eq!(rt; sessions.count(), 1);
+    Ok(())
+}
+
+#[test]
+fn a_commit_answers_as_before_after_a_stop(rt: HostRuntime) -> Result<(), Fail> {
+    let alloc = rt.alloc();
+    let mut records = MemRecords::new(alloc, Vec::new(alloc));
+    let change = change_of(alloc)?;
+    assert!(rt; records.commit(alloc, &change).is_ok());
+    let mut sessions = started(alloc, &mut records)?;
+    let mut later = CountedRecords::new();
+    let mut hosted = repository(alloc)?;
+    for (number, want) in [
+        (2, Came::Done(3, 0, 0)),
+        (5, Came::Aborted),
+        (9, Came::NoSession),
+    ] {
+        match commit_to(&mut sessions, &mut later, &mut hosted, number) {
+            Some(answer) => assert_eq!(rt; came_of(&answer), want),
+            None => Err("another repository")?,
+        }
+    }
+    assert_eq!(rt; later.changes, 0);
+    assert_eq!(rt; hosted.counts(), (0, 0));
     Ok(())
 }
 

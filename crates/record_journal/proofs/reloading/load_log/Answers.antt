@@ -1,8 +1,9 @@
-use Rattle.std.proofs.Common.{◌≡◌, ℕ, List, sym, ◌∙◌, ap, subst, Ok}
+use Rattle.std.proofs.Common.{◌≡◌, ◌≤◌, ℕ, List, sym, ◌∙◌, ap, subst, Ok}
 use Rattle.std.specs.Prelude.{IfSome}
 use Rattle.record_disk.specs.Disk.{Told, IsDurable}
-use Rattle.record_log.specs.Frames.{Holds}
+use Rattle.record_log.specs.Frames.{frames, Holds}
 use Rattle.record_log.specs.Log.{HasAcknowledged}
+use Rattle.record_log.proofs.Mending.{behind_magic}
 use Rattle.record_journal.specs.Loading.{loading}
 use Rattle.record_journal.proofs.Reloaded.{Mending, loads_too, reload_crash, reload_tables, reload_ready, reload_recovers}
 use Rattle.record_journal.proofs.reloading.load_log.Goals as goal
@@ -29,6 +30,7 @@ returns-in-Ok-mend-clause-ready g c =
     let loads : loading c.in-Ok.bytes.items ≡ Ok c.in_ok-tables.tables = ap loading (sym c.deref.ensures.value) ∙ c.in_ok-tables.ensures.loads in
     reload_ready c.args.log.now c.synced_bytes.new.log c.mend.new.self c.in-Ok.bytes.items c.in_ok-tables.tables loads c.in-Ok.ensures.undone c.mend.ensures.done c.in-Ok.ensures.durable
     (subst (λ l. Told c.synced_bytes.new.log.trace c.mend.new.self.trace (Mending l)) c.deref-2.ensures.value c.mend.ensures.moments)
+    (subst (λ g. 8 ≤ g) (sym c.in-Ok-mend.ensures.gate) (behind_magic (frames c.deref-2.result.now)))
     (subst (λ l. IfSome c.synced_bytes.new.log.trace (λ s. IsDurable l s → (ps : List (List ℕ)) → Holds ps l → HasAcknowledged ps c.mend.new.self)) c.deref-2.ensures.value c.in-Ok-mend.ensures.ok)
 
 pub returns-in-Ok-mend-clause-same : goal.returns-in-Ok-mend-clause-same

@@ -1,15 +1,17 @@
--- A replay is what the words ask for, or memory was wanting to read them.
-use Rattle.std.proofs.Common.{ℕ, ◌<◌, subst, sym, ap, ◌∙◌}
+-- The words are carried out with the first desk, or memory was wanting to read them.
+use Rattle.std.proofs.Common.{ℕ, ◌<◌, subst, sym, ap}
 use Rattle.repo_run.specs.declared.actions.Wanted.{Wanted}
-use Rattle.repo_run.proofs.Desks.{first-same}
+use Rattle.repo_run.proofs.FirstDesk.{first-same, first-set}
 use Rattle.repo_run.proofs.Starved.{starved-run}
 use Rattle.repo_run.proofs.program.run.Goals as goal
 
-pub returns-in-Replay-clause-run : goal.returns-in-Replay-clause-run
-returns-in-Replay-clause-run g c =
-    let asked = ap (λ (w : Wanted). w.command) (sym c.in-Ok.ensures) ∙ c.in-Replay.is in rw asked c.replay.ensures
+pub returns-in-Ok-clause-run : goal.returns-in-Ok-clause-run
+returns-in-Ok-clause-run g c =
+    let asked = ap (λ (w : Wanted). w.command) c.in-Ok.ensures in
+    first-set c.args.desks.items c.index_mut.result.now c.act-status.new.desk _ (subst (λ (n : ℕ). 0 < n) c.args.desks.ok.0 c.requires) c.index_mut.ensures.value
+    (rw asked at c.act-status.ensures.run)
 
-pub returns-clause-run : goal.returns-clause-run
-returns-clause-run g c =
+pub returns-in-Err-clause-run : goal.returns-in-Err-clause-run
+returns-in-Err-clause-run g c =
     first-same c.args.desks.items _ (subst (λ (n : ℕ). 0 < n) c.args.desks.ok.0 c.requires)
-    (λ desk. starved-run _ _ _ _ _ _ _ _ _ c.fault-status-in-Err.ensures.prints c.fault-status-in-Err.ensures.status)
+    (λ desk. starved-run _ _ _ _ _ _ _ c.fault-status.ensures.prints c.fault-status.ensures.status)

@@ -8,7 +8,7 @@ use Rattle.repo_model.specs.State.{is_open_at}
 use Rattle.row_tables.specs.Items.{is_count, is_file_path, is_number}
 use Rattle.deploy_session.specs.Known.{Known, IsSound, is_recordable, known_after, sessions_after_all, next_after_all, stage_turn}
 use Rattle.deploy_session.specs.Shown.{shown_sessions}
-use Rattle.deploy_session.proofs.SessionLaws.{staged_free, staged_effects, is_open_so, recordable_more, sound_kept}
+use Rattle.deploy_session.proofs.SessionLaws.{staged_free, staged_effects, staged_room, is_open_so, recordable_more, sound_kept}
 use Rattle.deploy_session.proofs.sessions.Sessions.stage.Goals as goal
 
 pub add_file-requires : goal.add_file-requires
@@ -25,9 +25,14 @@ invariant_of-self-2 g c =
     let is : is_recordable file ≡ true =
     and_from (is_file_path file.path) (is_number file.blob.number && is_count file.blob.print.length) c.requires.path
     (and_from (is_number file.blob.number) (is_count file.blob.print.length) c.requires.blob (le-leb c.args.parcel.length 9223372036854775807 short)) in
+    let blob = shown_parcel c.args.parcel in
+    let ss = shown_sessions y.known.entries in
+    let o = find (is_open_at c.args.session) ss in
     subst (IsSound y.open_count y.next) (sym c.in-Ok.ensures.ok)
-    (sound_kept y.open_count y.next (is_open_at c.args.session) (λ (s : plain.Session). record s { staged = with_staged file s.staged }) (λ s. refl) (λ s. refl)
-    (λ s all. recordable_more file s.staged is all) (shown_sessions y.known.entries) c.self.invariant)
+    (sound_kept y.open_count y.next (is_open_at c.args.session) (λ (s : plain.Session). record s { staged = with_staged file s.staged }) (λ s. refl) (λ s. refl) ss
+    (λ s found all.
+    let room = staged_room c.args.path.now blob.number blob o s found (c.in_default.ensures blob.number blob (sym c.print_of-sent.ensures)) in
+    recordable_more file s is room.0 room.1 all) c.self.invariant)
 
 pub returns-clause-sessions : goal.returns-clause-sessions
 returns-clause-sessions g c =

@@ -2,6 +2,7 @@ use Rattle.std.proofs.Common.{sym, ◌∙◌, subst}
 use Rattle.hosted_repo.specs.Recording.{FitWhereTold}
 use Rattle.repo_model.specs.Shown.{shown_reply}
 use Rattle.repo_core.proofs.PurgeTurns.{change-at, collect-done, collect-items}
+use Rattle.repo_core.proofs.Turning.{settled-by}
 use Rattle.repo_core.proofs.machine.Machine.collect.Goals as goal
 
 pub commit-requires-clause-fits : goal.commit-requires-clause-fits
@@ -14,3 +15,6 @@ returns-in-Ok-commit-clause-turn g c =
     let made = change-at c.args.self.now _ c.self.view_is c.grace_seconds-grace.result c.deref.result.now c.in-Ok.gone.change c.grace_seconds-grace.ensures c.deref.ensures.value c.in-Ok.ensures.change in
     collect-done c.args.self.now c.drop_gone.new.self (shown_reply c.drop_gone.result) c.in-Ok.gone.change (g.K.Records.tables c.args.records.now) (g.K.Records.tables c.commit.new.self)
     (g.K.Records.faults c.args.records.now) (g.K.Records.faults c.commit.new.self) c.drop_gone.ensures.turn c.drop_gone.ensures.due made c.in-Ok-commit.ensures.ok c.in-Ok-commit.ensures.cause
+
+pub returns-in-Ok-commit-clause-settled : goal.returns-in-Ok-commit-clause-settled
+returns-in-Ok-commit-clause-settled g c = settled-by (shown_reply c.drop_gone.result) (g.K.Records.unsettled c.commit.new.self) c.in-Ok-commit.ensures.settled

@@ -1,5 +1,6 @@
 use Rattle.std.proofs.Common.{◌≡◌, true, refl, sym, ap, ◌∙◌, subst}
 use Rattle.std.specs.Prelude.{IsTrue}
+use Rattle.blob_yard.specs.Numbers.{Numbers}
 use Rattle.hosted_repo.specs.Puts.{shown_put}
 use Rattle.hosted_repo.specs.Recording.{FitWhereTold}
 use Rattle.repo_model.specs.Command.{meets, put, rule_of}
@@ -14,6 +15,8 @@ use Rattle.repo_core.specs.Whole.{Parts}
 use Rattle.repo_core.proofs.DraftLemmas.{fit-so, named-so, put-turn, recorded-put, short-so}
 use Rattle.repo_core.proofs.HostedLemmas.{named-there, rules-kept}
 use Rattle.repo_core.proofs.ItemForms.{draft-number, fit-file}
+use Rattle.repo_core.proofs.SessionNumbers.{session-put}
+use Rattle.repo_core.proofs.StagedLemmas.{staged-put}
 use Rattle.repo_core.proofs.UseLemmas.{put-used}
 use Rattle.repo_core.proofs.machine.Machine.put.Goals as goal
 
@@ -57,6 +60,8 @@ invariant_of-self g c =
       moment = c.self.invariant.moment;
       blobs = rw (c.put-outcome.ensures.rows, c.settle.ensures) used;
       rules = ap rules_of c.put-outcome.ensures.rows ∙ rules-kept c.args.repo.now _ c.self.inside.repos.items ∙ c.self.invariant.rules;
+      staged = rw c.settle.ensures (staged-put c.args.draft (shown_put c.put-outcome.result) c.self.inside.yard.kept c.self.inside.sessions.sessions c.self.invariant.staged);
+      numbers = ap (λ (y : Numbers). y.yard.next_session) c.settle.ensures ∙ session-put c.args.draft (shown_put c.put-outcome.result) c.self.inside.yard.yard ∙ c.self.invariant.numbers;
     }
 
 pub returns-clause-turn : goal.returns-clause-turn

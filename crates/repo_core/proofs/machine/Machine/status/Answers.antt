@@ -1,4 +1,3 @@
-use Rattle.std.proofs.Common.{refl}
 use Rattle.repo_core.proofs.CountLemmas.{rows-few}
 use Rattle.repo_core.proofs.Turning.{turned-counts}
 use Rattle.repo_core.proofs.machine.Machine.status.Goals as goal
@@ -11,4 +10,4 @@ counts-files-requires g c =
 pub returns : goal.returns
 returns g c =
     rw (← c.self.view_is)
-    (turned-counts _ c.counts-files.result.0 c.counts-files.result.1 refl (rw c.deref.ensures.value at c.counts-files.ensures.all) (rw c.deref.ensures.value at c.counts-files.ensures.fading))
+    (turned-counts _ c.counts-files.result.0 c.counts-files.result.1 c.count.result c.count.ensures (rw c.deref.ensures.value at c.counts-files.ensures.all) (rw c.deref.ensures.value at c.counts-files.ensures.fading))

@@ -31,16 +31,22 @@ invariant_of-self g c =
         moment = c.self.invariant.moment;
         blobs = subst (AreInUse kept) (sym w.in-Ok.ensures.rows) (unlisted-used kept c.args.repo.now c.self.inside.last items c.self.invariant.blobs);
         rules = ap rules_of w.in-Ok.ensures.rows ∙ rules-kept c.args.repo.now _ items ∙ c.self.invariant.rules;
+        staged = c.self.invariant.staged;
+        numbers = c.self.invariant.numbers;
       }
       | in-Err-StoreFault w ↦ record {
         moment = c.self.invariant.moment;
         blobs = subst (AreInUse kept) (sym w.in-Err-StoreFault.ensures.err) c.self.invariant.blobs;
         rules = ap rules_of w.in-Err-StoreFault.ensures.err ∙ c.self.invariant.rules;
+        staged = c.self.invariant.staged;
+        numbers = c.self.invariant.numbers;
       }
       | in-Err-NoMemory w ↦ record {
         moment = c.self.invariant.moment;
         blobs = subst (AreInUse kept) (sym w.in-Err-NoMemory.ensures.err) c.self.invariant.blobs;
         rules = ap rules_of w.in-Err-NoMemory.ensures.err ∙ c.self.invariant.rules;
+        staged = c.self.invariant.staged;
+        numbers = c.self.invariant.numbers;
       }
     ]
 

@@ -11,17 +11,17 @@ use Rattle.repo_core.proofs.Turning.{kept-more}
 use Rattle.repo_core.proofs.repository.Core.call.Goals as goal
 
 pub call-requires-clause-orderly : goal.call-requires-clause-orderly
-call-requires-clause-orderly g c = orderly-kept c.self.inside.machine (g.K.Records.tables c.self.inside.records) (g.K.Records.faults c.self.inside.records) c.self.invariant.kept
+call-requires-clause-orderly g c = orderly-kept c.self.inside.machine (g.K.Records.tables c.self.inside.records) (g.K.Records.unsettled c.self.inside.records) (g.K.Records.faults c.self.inside.records) c.self.invariant.kept
 
 pub call-requires-clause-items : goal.call-requires-clause-items
 call-requires-clause-items g c =
-    may-record c.self.inside.machine (g.K.Records.tables c.self.inside.records) (g.K.Records.faults c.self.inside.records) c.self.invariant.kept (shown_command c.args.command) (rw (← c.self.view_is) at c.requires)
+    may-record c.self.inside.machine (g.K.Records.tables c.self.inside.records) (g.K.Records.unsettled c.self.inside.records) (g.K.Records.faults c.self.inside.records) c.self.invariant.kept (shown_command c.args.command) (rw (← c.self.view_is) at c.requires)
 
 pub invariant_of-self : goal.invariant_of-self
 invariant_of-self g c =
     let faults = g.K.Records.faults c.call.new.records in
-    let old : Whole = whole_of c.self.inside.machine (g.K.Records.tables c.self.inside.records) (g.K.Records.faults c.self.inside.records) in
-    let new : Whole = whole_of c.call.new.self (g.K.Records.tables c.call.new.records) faults in
+    let old : Whole = whole_of c.self.inside.machine (g.K.Records.tables c.self.inside.records) (g.K.Records.unsettled c.self.inside.records) (g.K.Records.faults c.self.inside.records) in
+    let new : Whole = whole_of c.call.new.self (g.K.Records.tables c.call.new.records) (g.K.Records.unsettled c.call.new.records) faults in
     record {
       kept = kept-more old new (entry_of c.args.command c.call.new.self.state.last c.call.result faults) c.self.invariant.kept c.call.ensures.fits c.call.ensures.after c.call.ensures.settings c.call.ensures.tables;
       ready = c.call.ensures.ready;
@@ -34,20 +34,20 @@ returns-clause-fits g c =
 pub returns-clause-holds : goal.returns-clause-holds
 returns-clause-holds g c = λ t told.
     let faults = g.K.Records.faults c.call.new.records in
-    let old : Whole = whole_of c.self.inside.machine (g.K.Records.tables c.self.inside.records) (g.K.Records.faults c.self.inside.records) in
-    let new : Whole = whole_of c.call.new.self (g.K.Records.tables c.call.new.records) faults in
+    let old : Whole = whole_of c.self.inside.machine (g.K.Records.tables c.self.inside.records) (g.K.Records.unsettled c.self.inside.records) (g.K.Records.faults c.self.inside.records) in
+    let new : Whole = whole_of c.call.new.self (g.K.Records.tables c.call.new.records) (g.K.Records.unsettled c.call.new.records) faults in
     let kept : IsKept new = kept-more old new (entry_of c.args.command c.call.new.self.state.last c.call.result faults) c.self.invariant.kept c.call.ensures.fits c.call.ensures.after c.call.ensures.settings c.call.ensures.tables in
     (kept.told t told).holds
 
 pub returns-clause-answer : goal.returns-clause-answer
 returns-clause-answer g c =
-    let old : Whole = whole_of c.self.inside.machine (g.K.Records.tables c.self.inside.records) (g.K.Records.faults c.self.inside.records) in
+    let old : Whole = whole_of c.self.inside.machine (g.K.Records.tables c.self.inside.records) (g.K.Records.unsettled c.self.inside.records) (g.K.Records.faults c.self.inside.records) in
     let e : Entry = entry_of c.args.command c.call.new.self.state.last c.call.result (g.K.Records.faults c.call.new.records) in
     rw (← c.self.view_is) (answers old.settings old.state c.self.invariant.kept.sound e c.call.ensures.fits)
 
 pub returns-clause-releases : goal.returns-clause-releases
 returns-clause-releases g c =
-    let old : Whole = whole_of c.self.inside.machine (g.K.Records.tables c.self.inside.records) (g.K.Records.faults c.self.inside.records) in
+    let old : Whole = whole_of c.self.inside.machine (g.K.Records.tables c.self.inside.records) (g.K.Records.unsettled c.self.inside.records) (g.K.Records.faults c.self.inside.records) in
     let e : Entry = entry_of c.args.command c.call.new.self.state.last c.call.result (g.K.Records.faults c.call.new.records) in
     let sound = c.self.invariant.kept.sound in
     let kept : KeepsReleases old.state (after old.settings old.state e) =
@@ -57,6 +57,6 @@ returns-clause-releases g c =
 pub returns-clause-sound : goal.returns-clause-sound
 returns-clause-sound g c =
     let faults = g.K.Records.faults c.call.new.records in
-    let old : Whole = whole_of c.self.inside.machine (g.K.Records.tables c.self.inside.records) (g.K.Records.faults c.self.inside.records) in
-    let new : Whole = whole_of c.call.new.self (g.K.Records.tables c.call.new.records) faults in
+    let old : Whole = whole_of c.self.inside.machine (g.K.Records.tables c.self.inside.records) (g.K.Records.unsettled c.self.inside.records) (g.K.Records.faults c.self.inside.records) in
+    let new : Whole = whole_of c.call.new.self (g.K.Records.tables c.call.new.records) (g.K.Records.unsettled c.call.new.records) faults in
     (kept-more old new (entry_of c.args.command c.call.new.self.state.last c.call.result faults) c.self.invariant.kept c.call.ensures.fits c.call.ensures.after c.call.ensures.settings c.call.ensures.tables).sound

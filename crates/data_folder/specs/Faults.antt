@@ -1,0 +1,8 @@
+-- How often a folder's file with records has failed.
+use Rattle.std.specs.Prelude.{ℕ}
+use Rattle.data_folder.specs.declared.disk.FolderDisk.{FolderDisk}
+use Rattle.data_folder.specs.declared.disk.FolderDisk.TheVariants.{Open, Refused}
+
+abbrev pub faults_of : FolderDisk → ℕ
+faults_of (Open disk lock) = disk
+faults_of (Refused faults) = faults

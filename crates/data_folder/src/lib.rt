@@ -1,0 +1,8 @@
+//! The folder in which a program keeps what outlasts it: a file with its records, one for each blob, and a lock.
+#![tactic(auto)]
+
+mod disk;
+mod opening;
+
+pub use disk::FolderDisk;
+pub use opening::{blobs_in, open_disk};

@@ -1,0 +1,73 @@
+//! The objects over a folder.
+ghost use Rattle.std.specs.Prelude.{◌≡◌, IfOk};
+ghost use Rattle.data_folder.specs.Faults.{faults_of};
+
+use crate::disk::FolderDisk;
+use outside::NoMemory;
+use outside_system::FolderBlobs;
+use record_disk::FileDisk;
+use std::fs::{self, File, Files, OpenFile, OpenOptions};
+use std::io::{self, ErrorKind};
+
+// Makes a folder that is missing. Its name is kept before it returns: `..` of a folder is the one that has its name.
+fn make_folder<R: Files + AllocGlobal>(rt: &R, folder: &str) -> io::Result<()> {
+    match fs::create_dir(rt, folder) {
+        Ok(()) => {
+            let above = format!(in rt.alloc(); "{folder}/..")?;
+            fs::open(rt, above.as_str())?.sync_all()
+        }
+        Err(error) if error.kind() == ErrorKind::AlreadyExists => Ok(()),
+        Err(error) => Err(error),
+    }
+}
+
+// Opens a file for reading and writing, which is made where it is missing.
+fn open_file<R: Files>(rt: &R, path: &str) -> io::Result<R::File> {
+    let mut how = OpenOptions::new();
+    how.read(true).write(true).create(true);
+    how.open(rt, path)
+}
+
+// The lock of a folder. It fails where another process has it.
+fn lock_of<R: Files<File = File> + AllocGlobal>(rt: &R, folder: &str) -> io::Result<File> {
+    let path = format!(in rt.alloc(); "{folder}/lock")?;
+    let lock = open_file(rt, path.as_str())?;
+    lock.try_lock()?;
+    Ok(lock)
+}
+
+fn locked_disk<R: Files<File = File> + AllocGlobal>(rt: &R, folder: &str) -> io::Result<FolderDisk>
+    ensures { IfOk result (λ disk. faults_of disk ≡ 0) }
+{
+    make_folder(rt, folder)?;
+    let lock = lock_of(rt, folder)?;
+    let blobs = format!(in rt.alloc(); "{folder}/blobs")?;
+    make_folder(rt, blobs.as_str())?;
+    let rows = format!(in rt.alloc(); "{folder}/rows")?;
+    let file = open_file(rt, rows.as_str())?;
+    let disk = FileDisk::new(file, fs::open(rt, folder)?);
+    Ok(FolderDisk::Open { disk, lock })
+}
+
+/// The file `rows` of the folder at this path, for as long as nobody else has it. The folder, its folder `blobs` and the
+/// file are made where they are missing. Where one of these cannot be made, opened, read or written, or another process has
+/// the lock of the folder, each call of what is given fails and is counted.
+pub fn open_disk<R: Files<File = File> + AllocGlobal>(rt: &R, folder: &str) -> FolderDisk
+    ensures { faults_of result ≡ 0 }
+{
+    match locked_disk(rt, folder) {
+        Ok(disk) => disk,
+        Err(_) => FolderDisk::Refused { faults: 0 },
+    }
+}
+
+/// The blobs of the folder at this path: the files of its folder `blobs`.
+pub fn blobs_in<R: Files + AllocGlobal + Clone + Drop>(
+    rt: &R,
+    folder: &str,
+) -> Result<FolderBlobs<R>, NoMemory>
+    ensures { IfOk result (λ blobs. blobs ≡ 0) }
+{
+    let blobs = format!(in rt.alloc(); "{folder}/blobs")?;
+    Ok(FolderBlobs::new(rt.clone()?, blobs))
+}

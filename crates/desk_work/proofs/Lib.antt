@@ -1,0 +1,4 @@
+mod Shared
+mod Visiting
+mod Passing
+mod Done

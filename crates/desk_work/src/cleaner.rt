@@ -1,0 +1,57 @@
+//! The cleaner makes a pass over the repositories from time to time, with a seat of its own.
+ghost use Rattle.std.specs.Prelude.{◌≡◌};
+ghost use Rattle.desk_work.specs.Passages.{KeptClean};
+ghost use Rattle.repo_course.specs.Cleaning.{store};
+ghost use Rattle.repo_model.specs.Shown.{shown_command, shown_reply};
+ghost use Rattle.turn_lock.specs.History.{IsStep};
+ghost use Rattle.turn_lock.specs.Seats.{opening, IsSeatOf};
+
+use outside::Blobs;
+use outside_pace::Pace;
+use repo_config::Settings;
+use repo_model::{Command, Reply};
+use seat_server::clean_with;
+use std::alloc::Global;
+use std::sync::Wait;
+use turn_lock::{Seat, Turns};
+use turn_seats::Repository;
+
+/// What cleans: the blobs, and a timer that says when.
+#[derive(Drop)]
+pub struct Cleaner<B: Blobs, Q: Pace> {
+    pub blobs: B,
+    pub pace: Q,
+}
+
+/// Pauses for the settings' seconds between two cleanings, and makes one pass over the repositories after each pause that
+/// answers true, until one answers false. A fault in a pass ends that pass alone. The settings are those of the repository.
+pub fn keep_clean<
+    B: Blobs,
+    Q: Pace,
+    T: Repository<Call = Command<B::Held>, Reply = Reply<B::Held>>,
+    W: Wait,
+>(
+    rt: &W,
+    alloc: Global,
+    settings: &Settings,
+    turns: &Turns<T>,
+    mut seat: Seat<T>,
+    cleaner: &mut Cleaner<B, Q>,
+) -> Seat<T>
+    requires asked { (call : _) → T.sight.asked call ≡ shown_command call }
+    requires answered { (reply : _) → T.sight.answered reply ≡ shown_reply reply }
+    requires seat { IsSeatOf (IsStep T.fixed T.may_ask T.turned) turns.now seat }
+    requires settings { T.sight.settings (opening turns.now) ≡ settings.now }
+    ensures { KeptClean settings.now T.sight (IsStep T.fixed T.may_ask T.turned) turns.now seat result (Q.pauses cleaner.old.pace) (Q.pauses cleaner.new.pace)
+        (store (B.shelf cleaner.old.blobs) (B.faults cleaner.old.blobs)) (store (B.shelf cleaner.new.blobs) (B.faults cleaner.new.blobs)) }
+{
+    let seconds = settings.clean_seconds();
+    for _ in rt.forever() {
+        if !cleaner.pace.pause(seconds) {
+            return seat;
+        }
+        let (next, _) = clean_with(rt, alloc, settings, turns, seat, &mut cleaner.blobs);
+        seat = next;
+    }
+    unreachable!()
+}

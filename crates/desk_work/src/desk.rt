@@ -1,0 +1,71 @@
+//! A desk serves the connections of its port with a seat of its own.
+ghost use Rattle.std.specs.Prelude.{◌≡◌};
+ghost use Rattle.desk_work.specs.Visits.{Attended, IsOver};
+ghost use Rattle.repo_course.specs.Cleaning.{store};
+ghost use Rattle.repo_course.specs.Serving.{AllTell};
+ghost use Rattle.repo_model.specs.Shown.{shown_command, shown_reply};
+ghost use Rattle.turn_lock.specs.History.{IsStep};
+ghost use Rattle.turn_lock.specs.Seats.{opening, IsSeatOf};
+
+use outside::{Blobs, Port, Tells};
+use repo_config::Settings;
+use repo_model::{Command, Reply};
+use seat_server::serve_with;
+use std::alloc::Global;
+use std::sync::Wait;
+use turn_lock::{Seat, Turns};
+use turn_seats::Repository;
+
+/// What serves one connection after another: a port, and the blobs of its requests.
+#[derive(Drop)]
+pub struct Desk<P: Port, B: Blobs> {
+    pub port: P,
+    pub blobs: B,
+}
+
+/// Serves the connections of a desk's port, one after another, each as a stream, until none is left or the port fails. Each is
+/// given back. It says whether the port failed, which is so exactly where the port's count rose. The settings are those of the
+/// repository.
+pub fn serve_desk<
+    P: Port,
+    B: Blobs,
+    T: Repository<Call = Command<B::Held>, Reply = Reply<B::Held>>,
+    W: Wait,
+>(
+    rt: &W,
+    alloc: Global,
+    settings: &Settings,
+    turns: &Turns<T>,
+    mut seat: Seat<T>,
+    desk: &mut Desk<P, B>,
+) -> (Seat<T>, bool)
+    requires asked { (call : _) → T.sight.asked call ≡ shown_command call }
+    requires answered { (reply : _) → T.sight.answered reply ≡ shown_reply reply }
+    requires seat { IsSeatOf (IsStep T.fixed T.may_ask T.turned) turns.now seat }
+    requires settings { T.sight.settings (opening turns.now) ≡ settings.now }
+    ensures attended { Attended ⟦<P::Link as Tells>⟧ settings.now (AllTell B.Held.bytes) P.left P.given_back T.sight (IsStep T.fixed T.may_ask T.turned)
+        turns.now seat result.0 desk.old.port desk.new.port
+        (store (B.shelf desk.old.blobs) (B.faults desk.old.blobs)) (store (B.shelf desk.new.blobs) (B.faults desk.new.blobs)) }
+    ensures over { IsOver result.1 (P.left desk.new.port) (P.faults desk.old.port) (P.faults desk.new.port) }
+{
+    for _ in rt.forever() {
+        match desk.port.next() {
+            Ok(Some(mut link)) => {
+                let (next, _) = serve_with(
+                    rt,
+                    alloc,
+                    settings,
+                    turns,
+                    seat,
+                    &mut desk.blobs,
+                    &mut link,
+                );
+                seat = next;
+                desk.port.back(link);
+            }
+            Ok(None) => return (seat, false),
+            Err(_) => return (seat, true),
+        }
+    }
+    unreachable!()
+}

@@ -1,0 +1,127 @@
+//! All desks at once, and the cleaner beside them.
+ghost use Rattle.std.specs.Prelude.{◌≡◌, ◌+◌, ◌<◌, ◌≤◌, [], All, IfOk, IfErr, map, vec_len, vec_capacity};
+ghost use Rattle.std.specs.List.{AllZip, list_any};
+ghost use Rattle.desk_work.specs.Passages.{KeptClean};
+ghost use Rattle.desk_work.specs.Working.{CleanedBeside, DeskDone, IsReady, Serves};
+ghost use Rattle.repo_course.specs.Cleaning.{store};
+ghost use Rattle.repo_course.specs.Serving.{AllTell};
+ghost use Rattle.repo_model.specs.Shown.{shown_command, shown_reply};
+ghost use Rattle.turn_lock.specs.History.{IsStep};
+ghost use Rattle.turn_lock.specs.Seats.{parts_of};
+
+use crate::cleaner::Cleaner;
+use crate::desk::Desk;
+use crate::jobs::{CleanerJob, DeskJob, House};
+use crate::seating::seated;
+use outside::{Blobs, Port, Tells};
+use outside_pace::Pace;
+use repo_model::{Command, Reply};
+use std::alloc::Global;
+use std::sync::Wait;
+use std::thread::Threads;
+use thread_jobs::run_all;
+use turn_lock::Seat;
+use turn_seats::Repository;
+
+// Runs all desks at once, each in a thread of its own where one can be made, and the cleaner in this one.
+fn run_jobs<
+    'a,
+    P: Port + Drop + Send,
+    B: Blobs + Drop + Send,
+    Q: Pace + Drop,
+    T: Repository<Call = Command<B::Held>, Reply = Reply<B::Held>> + Send,
+    R: Threads + Wait + Sync,
+>(
+    rt: &R,
+    jobs: Vec<DeskJob<'a, P, B, T>>,
+    last: CleanerJob<'a, B, Q, T>,
+    room: Vec<(Seat<T>, (Desk<P, B>, bool))>,
+) -> (Vec<(Seat<T>, (Desk<P, B>, bool))>, (Seat<T>, Cleaner<B, Q>))
+where
+    P::Link: Send,
+    B::Held: Send,
+    requires jobs { All (λ job. IsReady T.sight shown_command shown_reply (IsStep T.fixed T.may_ask T.turned) job.house.now.settings job.house.now.turns job.seat) jobs.items }
+    requires last { IsReady T.sight shown_command shown_reply (IsStep T.fixed T.may_ask T.turned) last.house.now.settings last.house.now.turns last.seat }
+    requires room { (room.items ≡ []) × (vec_len jobs ≤ vec_capacity room) }
+    ensures served { AllZip (λ job out. Serves ⟦<P::Link as Tells>⟧ (record {
+      left = P.left;
+      given_back = P.given_back;
+      faults = P.faults;
+      port = λ desk. desk.port;
+      blobs = λ desk. store (B.shelf desk.blobs) (B.faults desk.blobs);
+    }) job.house.now.settings (AllTell B.Held.bytes) T.sight (IsStep T.fixed T.may_ask T.turned) job.house.now.turns job.seat job.desk out) jobs.entry.items result.0.items }
+    ensures cleaned { KeptClean last.entry.house.now.settings T.sight (IsStep T.fixed T.may_ask T.turned) last.entry.house.now.turns last.entry.seat result.1.0 (Q.pauses last.entry.cleaner.pace) (Q.pauses result.1.1.pace)
+        (store (B.shelf last.entry.cleaner.blobs) (B.faults last.entry.cleaner.blobs)) (store (B.shelf result.1.1.blobs) (B.faults result.1.1.blobs)) }
+    ensures len { vec_len result.0 ≡ vec_len jobs.entry }
+{
+    run_all(rt, jobs, last, room)
+}
+
+// The desks in their order, in a room that was made before and is empty, and whether a port failed.
+pub fn parted<P: Port + Drop, B: Blobs + Drop>(
+    back: Vec<(Desk<P, B>, bool)>,
+    mut room: Vec<Desk<P, B>>,
+) -> (Vec<Desk<P, B>>, bool)
+    requires room { (room.items ≡ []) × (vec_len back ≤ vec_capacity room) }
+    ensures desks { result.0.items ≡ map (λ one. one.0) back.items }
+    ensures failed { result.1 ≡ list_any (λ one. one.1) back.items }
+{
+    let mut failed = false;
+    for (desk, has_failed) in back {
+        failed = failed || has_failed;
+        room.push_reserved(desk);
+    }
+    (room, failed)
+}
+
+// Gives each desk a seat, serves all of them at once, and cleans beside them with what is left of the seat. Where memory is
+// wanting nothing is done.
+pub fn serve_all<
+    P: Port + Drop + Send,
+    B: Blobs + Drop + Send,
+    Q: Pace + Drop,
+    T: Repository<Call = Command<B::Held>, Reply = Reply<B::Held>> + Send,
+    R: Threads + Wait + Sync,
+>(
+    rt: &R,
+    alloc: Global,
+    house: &House<T>,
+    mut seat: Seat<T>,
+    desks: Vec<Desk<P, B>>,
+    cleaner: Cleaner<B, Q>,
+    room: Vec<(Seat<T>, (Desk<P, B>, bool))>,
+) -> Result<
+    (Vec<(Seat<T>, (Desk<P, B>, bool))>, (Seat<T>, Cleaner<B, Q>)),
+    (Seat<T>, Vec<Desk<P, B>>, Cleaner<B, Q>),
+>
+where
+    P::Link: Send,
+    B::Held: Send,
+    requires ready { IsReady T.sight shown_command shown_reply (IsStep T.fixed T.may_ask T.turned) house.now.settings house.now.turns seat }
+    requires parts { vec_len desks < parts_of seat }
+    requires room { (room.items ≡ []) × (vec_len desks ≤ vec_capacity room) }
+    ensures done { IfOk result (λ r. AllZip (DeskDone ⟦<P::Link as Tells>⟧ (record {
+      left = P.left;
+      given_back = P.given_back;
+      faults = P.faults;
+      port = λ desk. desk.port;
+      blobs = λ desk. store (B.shelf desk.blobs) (B.faults desk.blobs);
+    }) house.now.settings (AllTell B.Held.bytes) T.sight (IsStep T.fixed T.may_ask T.turned) house.now.turns seat) desks.items r.0.items) }
+    ensures cleaned { IfOk result (λ r. CleanedBeside house.now.settings T.sight (IsStep T.fixed T.may_ask T.turned) house.now.turns seat r.1.0 (Q.pauses cleaner.pace) (Q.pauses r.1.1.pace)
+        (store (B.shelf cleaner.blobs) (B.faults cleaner.blobs)) (store (B.shelf r.1.1.blobs) (B.faults r.1.1.blobs))) }
+    ensures parts { IfOk result (λ r. parts_of r.1.0 + vec_len r.0 ≡ parts_of seat) }
+    ensures len { IfOk result (λ r. vec_len r.0 ≡ vec_len desks) }
+    ensures refused { IfErr result (λ r. (r.0 ≡ seat) × (r.1.items ≡ desks.items) × (r.2 ≡ cleaner)) }
+{
+    let Ok(jobs) = Vec::with_capacity(alloc, desks.len()) else {
+        return Err((seat, desks, cleaner));
+    };
+    let jobs = seated(alloc, house, &mut seat, desks, jobs);
+    let last = CleanerJob {
+        house,
+        seat,
+        cleaner,
+        alloc,
+    };
+    Ok(run_jobs(rt, jobs, last, room))
+}

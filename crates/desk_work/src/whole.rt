@@ -1,0 +1,173 @@
+//! Work as a whole: from the desks to the end of the history.
+ghost use Rattle.std.specs.Prelude.{◌≡◌, ◌+◌, ◌^◌, ◌≤◌, [], false, All, IfOk, IsTrue, IsFalse, map, sum_by, vec_len, vec_capacity};
+ghost use Rattle.std.specs.List.{list_any};
+ghost use Rattle.desk_work.specs.Working.{IsReady, Works};
+ghost use Rattle.repo_course.specs.Cleaning.{store};
+ghost use Rattle.repo_course.specs.Serving.{AllTell};
+ghost use Rattle.repo_model.specs.Shown.{shown_command, shown_reply};
+ghost use Rattle.turn_lock.specs.History.{IsStep};
+ghost use Rattle.turn_lock.specs.Seats.{parts_of, Closes, IsSeatOf};
+ghost use Rattle.turn_seats.specs.Ending.{Ended};
+
+use crate::cleaner::Cleaner;
+use crate::desk::Desk;
+use crate::jobs::House;
+use crate::running::{parted, serve_all};
+use outside::{Blobs, Port, Tells};
+use outside_pace::Pace;
+use repo_config::Settings;
+use repo_model::{Command, Reply};
+use std::alloc::{AllocError, Global};
+use std::sync::Wait;
+use std::thread::Threads;
+use turn_lock::{Seat, Thing, Turns, close};
+use turn_seats::{Repository, end_all, what_is_seen_is_a_history};
+
+/// What comes of work.
+#[derive(Drop)]
+pub struct Worked<P: Port, B: Blobs, Q: Pace, T> {
+    /// The desks, in their order.
+    pub desks: Vec<Desk<P, B>>,
+    pub cleaner: Cleaner<B, Q>,
+    /// The repository as the last call left it.
+    pub repository: T,
+    /// How many calls there were in all.
+    pub calls: u64,
+    /// Memory was wanted before any connection was served.
+    pub refused: bool,
+    /// A port failed.
+    pub failed: bool,
+}
+
+// Nothing was served: all comes back.
+fn refuse<P: Port + Drop, B: Blobs + Drop, Q: Pace + Drop, T: Thing>(
+    turns: Turns<T>,
+    seat: Seat<T>,
+    desks: Vec<Desk<P, B>>,
+    cleaner: Cleaner<B, Q>,
+) -> Worked<P, B, Q, T>
+    requires seat { IsSeatOf (IsStep T.fixed T.may_ask T.turned) turns seat }
+    requires parts { parts_of seat ≡ 2 ^ 64 }
+    ensures desks { result.desks.items ≡ desks.items }
+    ensures cleaner { result.cleaner ≡ cleaner }
+    ensures closes { Closes (IsStep T.fixed T.may_ask T.turned) turns seat result.repository result.calls }
+    ensures flags { IsTrue result.refused × IsFalse result.failed }
+{
+    let (repository, calls) = close(turns, seat);
+    Worked {
+        desks,
+        cleaner,
+        repository,
+        calls,
+        refused: true,
+        failed: false,
+    }
+}
+
+// All was served: the seats are joined, and the history ends.
+fn finish<P: Port + Drop, B: Blobs + Drop, Q: Pace + Drop, T: Thing>(
+    turns: Turns<T>,
+    seat: Seat<T>,
+    outs: Vec<(Seat<T>, (Desk<P, B>, bool))>,
+    cleaner: Cleaner<B, Q>,
+    back: Vec<(Desk<P, B>, bool)>,
+    room: Vec<Desk<P, B>>,
+) -> Worked<P, B, Q, T>
+    requires seat { IsSeatOf (IsStep T.fixed T.may_ask T.turned) turns seat }
+    requires others { All (λ out. IsSeatOf (IsStep T.fixed T.may_ask T.turned) turns out.0) outs.items }
+    requires parts { parts_of seat + sum_by parts_of (map (λ out. out.0) outs.items) ≡ 2 ^ 64 }
+    requires back { (back.items ≡ []) × (vec_len outs ≤ vec_capacity back) }
+    requires room { (room.items ≡ []) × (vec_len outs ≤ vec_capacity room) }
+    ensures ended { Ended (IsStep T.fixed T.may_ask T.turned) turns seat (map (λ out. out.0) outs.items) result.repository result.calls }
+    ensures desks { result.desks.items ≡ map (λ out. out.1.0) outs.items }
+    ensures failed { result.failed ≡ list_any (λ out. out.1.1) outs.items }
+    ensures cleaner { result.cleaner ≡ cleaner }
+    ensures refused { IsFalse result.refused }
+{
+    let (repository, calls, back) = end_all(turns, seat, outs, back);
+    let (desks, failed) = parted(back, room);
+    Worked {
+        desks,
+        cleaner,
+        repository,
+        calls,
+        refused: false,
+        failed,
+    }
+}
+
+// Rooms for so many desks and what comes back of them.
+fn rooms<P: Port + Drop, B: Blobs + Drop, T: Thing>(
+    alloc: Global,
+    count: usize,
+) -> Result<
+    (
+        Vec<(Seat<T>, (Desk<P, B>, bool))>,
+        Vec<(Desk<P, B>, bool)>,
+        Vec<Desk<P, B>>,
+    ),
+    AllocError,
+>
+    ensures outs { IfOk result (λ r. (r.0.items ≡ []) × (count ≤ vec_capacity r.0)) }
+    ensures back { IfOk result (λ r. (r.1.items ≡ []) × (count ≤ vec_capacity r.1)) }
+    ensures desks { IfOk result (λ r. (r.2.items ≡ []) × (count ≤ vec_capacity r.2)) }
+{
+    let outs = Vec::with_capacity(alloc, count)?;
+    let back = Vec::with_capacity(alloc, count)?;
+    let desks = Vec::with_capacity(alloc, count)?;
+    Ok((outs, back, desks))
+}
+
+/// Serves all desks at once, each with a seat of its own, until none of their ports hands out a connection any more, and cleans
+/// beside them, until the timer says that no pass is wanted; then ends the history.
+///
+/// A desk for which no thread can be made is served by the caller, behind the cleaner. `refused` says that memory was wanted
+/// before any connection was served: then nothing was done. `failed` says that a port failed, which is so exactly where its
+/// count rose. The seat has all parts, and the settings are those of the repository. The entries of all connections and all
+/// passes, and no others, lie in one legal history that goes on from what the seat had seen; the repository is left as it says,
+/// and the number of calls is its length.
+pub fn work<
+    P: Port + Drop + Send,
+    B: Blobs + Drop + Send,
+    Q: Pace + Drop,
+    T: Repository<Call = Command<B::Held>, Reply = Reply<B::Held>> + Send,
+    R: Threads + Wait + Sync,
+>(
+    rt: &R,
+    alloc: Global,
+    settings: Settings,
+    turns: Turns<T>,
+    seat: Seat<T>,
+    desks: Vec<Desk<P, B>>,
+    cleaner: Cleaner<B, Q>,
+) -> Worked<P, B, Q, T>
+where
+    P::Link: Send,
+    B::Held: Send,
+    requires ready { IsReady T.sight shown_command shown_reply (IsStep T.fixed T.may_ask T.turned) settings turns seat }
+    requires parts { parts_of seat ≡ 2 ^ 64 }
+    ensures refused { IsTrue result.refused → (result.desks.items ≡ desks.items) × (result.cleaner ≡ cleaner) × IsFalse result.failed
+        × Closes (IsStep T.fixed T.may_ask T.turned) turns seat result.repository result.calls }
+    ensures works { IsFalse result.refused → Works ⟦<P::Link as Tells>⟧ (record {
+      left = P.left;
+      given_back = P.given_back;
+      faults = P.faults;
+      port = λ desk. desk.port;
+      blobs = λ desk. store (B.shelf desk.blobs) (B.faults desk.blobs);
+    }) settings (AllTell B.Held.bytes) T.sight (IsStep T.fixed T.may_ask T.turned) turns seat desks.items (Q.pauses cleaner.pace) (Q.pauses result.cleaner.pace)
+        (store (B.shelf cleaner.blobs) (B.faults cleaner.blobs)) (store (B.shelf result.cleaner.blobs) (B.faults result.cleaner.blobs))
+        result.repository result.calls result.desks.items result.failed }
+{
+    // The history that all make is one of the repository.
+    what_is_seen_is_a_history::<T>();
+    let Ok((outs, back, room)) = rooms(alloc, desks.len()) else {
+        return refuse(turns, seat, desks, cleaner);
+    };
+    let house = House { turns, settings };
+    let served = serve_all(rt, alloc, &house, seat, desks, cleaner, outs);
+    let House { turns, settings: _ } = house;
+    match served {
+        Ok((outs, (seat, cleaner))) => finish(turns, seat, outs, cleaner, back, room),
+        Err((seat, desks, cleaner)) => refuse(turns, seat, desks, cleaner),
+    }
+}

@@ -1,0 +1,408 @@
+-- Staged files that are deployed: whose paths are free, what their rows come to, and what is left once they are taken away again.
+use Rattle.std.proofs.Common.{◌≡◌, ℕ, ◌+◌, ◌≤◌, Bool, true, false, cond, not, ◌&&◌, ◌||◌, List, [], ◌∷◌, ◌++◌, length, Option, Some, None, String, Global, string_bytes, bytes_eq, Less, Equal, Greater, is_eq, nat_cmp, refl, sym, ◌∙◌, ap, subst, arith, append_assoc, length-append}
+use Rattle.std.specs.Prelude.{is_none, option_to_list, take, OnErr, Result, Ok, Err}
+use Rattle.std.proofs.lemmas.Map.Text.{is_eq-slice_cmp}
+use Rattle.std.proofs.lemmas.Slice.Eq.{bytes_eq-Decides}
+use Rattle.std.proofs.lemmas.Bool.{and_parts}
+use Rattle.std.proofs.lemmas.List.Concat.{flat_map-append}
+use Rattle.std.proofs.lemmas.List.Folds.{list_any-append}
+use Rattle.std.specs.Cmp.Lexicographic.{slice_cmp}
+use Rattle.std.specs.List.{AllByRecursion, flat_map, list_all, list_any}
+use Rattle.std.specs.List.Sorted.{IsStrictlySortedBy}
+use Rattle.std.specs.Map.{keys_of}
+use Rattle.std.specs.Ordering.{match_ordering}
+use Rattle.std.specs.String.{string_cmp}
+use Rattle.outside.specs.declared.parcels.Parcel.{Parcel}
+use Rattle.outside.specs.declared.stores.Held.{Ghosts}
+use Rattle.repo_model.specs.declared.item.Item.{Item}
+use Rattle.repo_model.specs.Data as plain
+use Rattle.repo_model.specs.Data.{Staged, Session}
+use Rattle.repo_model.specs.Deploy.{deliver_at, deliver_again}
+use Rattle.repo_model.specs.Effect.{Effect, items_of, list_again, new_row, recorded, with_row, without_row}
+use Rattle.repo_model.specs.State.{change_where, is_row, row_at}
+use Rattle.row_tables.specs.Items.{is_count, is_file_path, is_number}
+use Rattle.hosted_repo.specs.Deliveries.{free_paths, has_path, is_recordable, left_by, rows_without, shown_files, with_file, with_files, with_listed, with_listed_by, without_put, without_puts}
+use Rattle.hosted_repo.specs.Recording.{IsShort}
+use Rattle.hosted_repo.specs.Rows.{AreFiles, rows_after_all}
+use Rattle.hosted_repo.proofs.FormLemmas.{files-again, files-more}
+use Rattle.hosted_repo.proofs.MapLemmas.{same_test}
+
+bytes-turned : (a b : List ℕ) → bytes_eq a b ≡ bytes_eq b a
+bytes-turned a b = sym (is_eq-slice_cmp a b) ∙ same_test a b
+
+bytes-same : (a : List ℕ) → bytes_eq a a ≡ true
+bytes-same a = (bytes_eq-Decides a a).1 refl
+
+and-false : (b : Bool) → (b && false) ≡ false
+and-false true = refl
+and-false false = refl
+
+-- ---- whether a path is free
+abbrev pub is_free : List ℕ → List plain.Row → Bool
+is_free path rows = is_none (row_at path rows)
+
+none-cond : {A : Type 0} (b : Bool) (x : A) (o : Option A) → is_none (cond b (Some x) o) ≡ (not b && is_none o)
+none-cond true x o = refl
+none-cond false x o = refl
+
+is_free-cons : (path : List ℕ) (row : plain.Row) (rows : List plain.Row) → is_free path (row ∷ rows) ≡ (not (is_row path row) && is_free path rows)
+is_free-cons path row rows = none-cond (is_row path row) row (row_at path rows)
+
+is_free-with_row : (path : List ℕ) (new : plain.Row) (rows : List plain.Row) → is_free path (with_row new rows) ≡ (not (is_row path new) && is_free path rows)
+is_free-with_row path new [] = is_free-cons path new []
+is_free-with_row path new (row ∷ rows) =
+    elim (slice_cmp nat_cmp new.path row.path)
+    as (λ o. is_free path (match_ordering o (new ∷ row ∷ rows) (new ∷ row ∷ rows) (row ∷ with_row new rows)) ≡ (not (is_row path new) && is_free path (row ∷ rows))) [
+      | Less ↦ is_free-cons path new (row ∷ rows)
+      | Equal ↦ is_free-cons path new (row ∷ rows)
+      | Greater ↦
+          is_free-cons path row (with_row new rows)
+          ∙ ap (λ b. not (is_row path row) && b) (is_free-with_row path new rows)
+          ∙ swapped (not (is_row path row)) (not (is_row path new)) (is_free path rows)
+          ∙ ap (λ b. not (is_row path new) && b) (sym (is_free-cons path row rows))
+    ]
+  where
+    swapped : (a b c : Bool) → (a && (b && c)) ≡ (b && (a && c))
+    swapped true b c = refl
+    swapped false b c = sym (and-false b)
+
+is_free-changed : (path : List ℕ) (test : plain.Row → Bool) (f : plain.Row → plain.Row) → ((row : plain.Row) → (f row).path ≡ row.path) → (rows : List plain.Row)
+    → is_free path (change_where test f rows) ≡ is_free path rows
+is_free-changed path test f same [] = refl
+is_free-changed path test f same (row ∷ rows) =
+    let alike : is_row path (cond (test row) (f row) row) ≡ is_row path row = elim (test row) as (λ b. is_row path (cond b (f row) row) ≡ is_row path row) [ true ↦ ap (λ p. bytes_eq p path) (same row) | false ↦ refl ] in
+    is_free-cons path (cond (test row) (f row) row) (change_where test f rows)
+    ∙ ap (λ b. not b && is_free path (change_where test f rows)) alike
+    ∙ ap (λ b. not (is_row path row) && b) (is_free-changed path test f same rows)
+    ∙ sym (is_free-cons path row rows)
+
+-- ---- files whose paths differ
+abbrev pub AreApart : List Staged → Type 0
+AreApart [] = Unit {0}
+AreApart (file ∷ files) = AllByRecursion (λ (other : Staged). bytes_eq file.path other.path ≡ false) files × AreApart files
+
+module _ {X : Type 0} {G : Ghosts X} where
+  apart-one : (k : String Global) (es : List (String Global × Parcel X G)) → AllByRecursion (λ y. string_cmp k y ≡ Less) (keys_of es)
+      → AllByRecursion (λ (other : Staged). bytes_eq (string_bytes k) other.path ≡ false) (shown_files es)
+  apart-one k [] below = tt
+  apart-one k (e ∷ es) below = (sym (is_eq-slice_cmp (string_bytes k) (string_bytes e.0)) ∙ ap is_eq below.0, apart-one k es below.1)
+
+  pub apart-shown : (es : List (String Global × Parcel X G)) → IsStrictlySortedBy string_cmp (keys_of es) → AreApart (shown_files es)
+  unfolding IsStrictlySortedBy
+  apart-shown [] sorted = tt
+  apart-shown (e ∷ es) sorted = (apart-one e.0 es sorted.0, apart-shown es sorted.1)
+
+-- the same paths of files are free
+abbrev AgreeOn : List Staged → List plain.Row → List plain.Row → Type 0
+AgreeOn files rows others = AllByRecursion (λ (file : Staged). is_free file.path rows ≡ is_free file.path others) files
+
+agree-self : (files : List Staged) (rows : List plain.Row) → AgreeOn files rows rows
+agree-self [] rows = tt
+agree-self (file ∷ files) rows = (refl, agree-self files rows)
+
+agree-new : (new : plain.Row) (files : List Staged) (rows others : List plain.Row) → AllByRecursion (λ (other : Staged). bytes_eq new.path other.path ≡ false) files
+    → AgreeOn files rows others → AgreeOn files (with_row new rows) others
+agree-new new [] rows others apart agree = tt
+agree-new new (file ∷ files) rows others apart agree = (
+  is_free-with_row file.path new rows ∙ ap (λ b. not b && is_free file.path rows) apart.0 ∙ agree.0,
+  agree-new new files rows others apart.1 agree.1,
+)
+
+agree-changed : (test : plain.Row → Bool) (f : plain.Row → plain.Row) → ((row : plain.Row) → (f row).path ≡ row.path) → (files : List Staged) (rows others : List plain.Row)
+    → AgreeOn files rows others → AgreeOn files (change_where test f rows) others
+agree-changed test f same [] rows others agree = tt
+agree-changed test f same (file ∷ files) rows others agree = (is_free-changed file.path test f same rows ∙ agree.0, agree-changed test f same files rows others agree.1)
+
+-- ---- new rows first, and then those that are visible again
+listed-later : (test : plain.Row → Bool) (f : plain.Row → plain.Row) → ((row : plain.Row) → (f row).path ≡ row.path) → (new : plain.Row) → test new ≡ false → (rows : List plain.Row)
+    → with_row new (change_where test f rows) ≡ change_where test f (with_row new rows)
+listed-later test f same new other [] = sym (ap (λ b. cond b (f new) new ∷ []) other)
+listed-later test f same new other (row ∷ rows) =
+    let changed : plain.Row = cond (test row) (f row) row in
+    let behind : List plain.Row = change_where test f rows in
+    let alike : changed.path ≡ row.path = elim (test row) as (λ b. (cond b (f row) row).path ≡ row.path) [ true ↦ same row | false ↦ refl ] in
+    ap (λ p. match_ordering (slice_cmp nat_cmp new.path p) (new ∷ changed ∷ behind) (new ∷ changed ∷ behind) (changed ∷ with_row new behind)) alike
+    ∙ elim (slice_cmp nat_cmp new.path row.path)
+    as (λ o. match_ordering o (new ∷ changed ∷ behind) (new ∷ changed ∷ behind) (changed ∷ with_row new behind)
+    ≡ change_where test f (match_ordering o (new ∷ row ∷ rows) (new ∷ row ∷ rows) (row ∷ with_row new rows))) [
+      | Less ↦ sym (ap (λ b. cond b (f new) new ∷ changed ∷ behind) other)
+      | Equal ↦ sym (ap (λ b. cond b (f new) new ∷ changed ∷ behind) other)
+      | Greater ↦ ap (λ rs. changed ∷ rs) (listed-later test f same new other rows)
+    ]
+
+file-later : (now : ℕ) (path : List ℕ) (file : Staged) (rows : List plain.Row) → bytes_eq path file.path ≡ false
+    → with_file now file (change_where (is_row path) (list_again now) rows) ≡ change_where (is_row path) (list_again now) (with_file now file rows)
+file-later now path file rows apart =
+    let again : List plain.Row → List plain.Row = change_where (is_row path) (list_again now) in
+    let new : plain.Row = new_row file.path file.blob now in
+    ap (λ b. cond b (with_row new (again rows)) (again rows)) (is_free-changed file.path (is_row path) (list_again now) (λ row. refl) rows)
+    ∙ elim (is_free file.path rows) as (λ b. cond b (with_row new (again rows)) (again rows) ≡ again (cond b (with_row new rows) rows)) [
+      | true ↦ listed-later (is_row path) (list_again now) (λ row. refl) new (bytes-turned file.path path ∙ apart) rows
+      | false ↦ refl
+    ]
+
+files-later : (now : ℕ) (path : List ℕ) (files : List Staged) (rows : List plain.Row) → AllByRecursion (λ (other : Staged). bytes_eq path other.path ≡ false) files
+    → with_files now files (change_where (is_row path) (list_again now) rows) ≡ change_where (is_row path) (list_again now) (with_files now files rows)
+files-later now path [] rows apart = refl
+files-later now path (file ∷ files) rows apart =
+    ap (with_files now files) (file-later now path file rows apart.0) ∙ files-later now path files (with_file now file rows) apart.1
+
+-- what files come to, by the rows that stand when they are judged
+abbrev pub effects_by : Session → ℕ → List plain.Row → List Staged → List Effect
+effects_by s now rows files = flat_map (λ (file : Staged). deliver_at s now file (row_at file.path rows)) files
+
+delivered-on : (s : Session) (now : ℕ) (others : List plain.Row) (files : List Staged) (rows : List plain.Row) → AreApart files → AgreeOn files rows others
+    → with_listed now (recorded (effects_by s now others files)) (with_files now files rows) ≡ rows_after_all (effects_by s now others files) rows
+delivered-on s now others [] rows apart agree = refl
+delivered-on s now others (file ∷ files) rows apart agree =
+    let rest : List Effect = effects_by s now others files in
+    let new : plain.Row = new_row file.path file.blob now in
+    let again : List plain.Row → List plain.Row = change_where (is_row file.path) (list_again now) in
+    let all : List plain.Row → List plain.Row = λ rs. with_listed now (recorded rest) (with_files now files rs) in
+    elim (row_at file.path others)
+    as (λ o. row_at file.path others ≡ o → with_listed now (recorded (deliver_at s now file o ++ rest)) (with_files now (file ∷ files) rows) ≡ rows_after_all (deliver_at s now file o ++ rest) rows) [
+      | None ↦ λ is.
+          ap all (ap (λ b. cond b (with_row new rows) rows) (agree.0 ∙ ap is_none is))
+          ∙ delivered-on s now others files (with_row new rows) apart.1 (agree-new new files rows others apart.0 agree.1)
+      | Some row ↦ λ is.
+          let same : with_file now file rows ≡ rows = ap (λ b. cond b (with_row new rows) rows) (agree.0 ∙ ap is_none is) in
+          elim (row.phase)
+          as (λ p. with_listed now (recorded (deliver_again s now file p ++ rest)) (with_files now (file ∷ files) rows) ≡ rows_after_all (deliver_again s now file p ++ rest) rows) [
+            | plain.listed ↦ ap all same ∙ delivered-on s now others files rows apart.1 agree.1
+            | plain.fading since ↦
+                ap (λ rs. with_listed now (recorded rest) (again (with_files now files rs))) same
+                ∙ ap (with_listed now (recorded rest)) (sym (files-later now file.path files rows apart.0))
+                ∙ delivered-on s now others files (again rows) apart.1 (agree-changed (is_row file.path) (list_again now) (λ r. refl) files rows others agree.1)
+          ]
+    ] refl
+
+-- all new rows and then all that are visible again are what the files come to one after the other
+pub delivered : (s : Session) (now : ℕ) (files : List Staged) (rows : List plain.Row) → AreApart files
+    → with_listed now (recorded (effects_by s now rows files)) (with_files now files rows) ≡ rows_after_all (effects_by s now rows files) rows
+delivered s now files rows apart = delivered-on s now rows files rows apart (agree-self files rows)
+
+pub with_listed-append : (now : ℕ) (items more : List Item) (rows : List plain.Row) → with_listed now (items ++ more) rows ≡ with_listed now more (with_listed now items rows)
+with_listed-append now [] more rows = refl
+with_listed-append now (item ∷ items) more rows = with_listed-append now items more (with_listed_by now item rows)
+
+-- ---- rows that are taken away again
+pub rows_without-nothing : (rows : List plain.Row) → rows_without [] rows ≡ rows
+rows_without-nothing [] = refl
+rows_without-nothing (row ∷ rows) = ap (λ rs. row ∷ rs) (rows_without-nothing rows)
+
+pub rows_without-append : (paths more : List (List ℕ)) (rows : List plain.Row) → rows_without (paths ++ more) rows ≡ rows_without more (rows_without paths rows)
+rows_without-append paths more [] = refl
+rows_without-append paths more (row ∷ rows) =
+    let rest = rows_without-append paths more rows in
+    ap (λ b. cond (not b) (row ∷ rows_without (paths ++ more) rows) (rows_without (paths ++ more) rows)) (list_any-append (λ path. bytes_eq row.path path) paths more)
+    ∙ elim (has_path paths row)
+    as (λ b. cond (not (b || has_path more row)) (row ∷ rows_without (paths ++ more) rows) (rows_without (paths ++ more) rows)
+    ≡ rows_without more (cond (not b) (row ∷ rows_without paths rows) (rows_without paths rows))) [
+      | true ↦ rest
+      | false ↦ ap (λ rs. cond (not (has_path more row)) (row ∷ rs) rs) rest
+    ]
+
+-- a new row at one of the paths goes
+without-new : (paths : List (List ℕ)) (new : plain.Row) (rows : List plain.Row) → has_path paths new ≡ true → rows_without paths (with_row new rows) ≡ rows_without paths rows
+without-new paths new [] has = ap (λ b. cond (not b) (new ∷ []) []) has
+without-new paths new (row ∷ rows) has =
+    let gone = ap (λ b. cond (not b) (new ∷ rows_without paths (row ∷ rows)) (rows_without paths (row ∷ rows))) has in
+    elim (slice_cmp nat_cmp new.path row.path)
+    as (λ o. rows_without paths (match_ordering o (new ∷ row ∷ rows) (new ∷ row ∷ rows) (row ∷ with_row new rows)) ≡ rows_without paths (row ∷ rows)) [
+      | Less ↦ gone
+      | Equal ↦ gone
+      | Greater ↦ ap (λ rs. cond (not (has_path paths row)) (row ∷ rs) rs) (without-new paths new rows has)
+    ]
+
+-- what holds of a path of each free file
+free-more : (Q : List ℕ → Type 0) (new : plain.Row) (rows : List plain.Row) (files : List Staged) → AllByRecursion Q (free_paths rows files) → AllByRecursion Q (free_paths (with_row new rows) files)
+free-more Q new rows [] all = tt
+free-more Q new rows (file ∷ files) all =
+    subst (λ b. AllByRecursion Q (cond b (file.path ∷ []) [] ++ free_paths (with_row new rows) files)) (sym (is_free-with_row file.path new rows))
+    (elim (is_row file.path new)
+    as (λ b. AllByRecursion Q (cond (not b && is_free file.path rows) (file.path ∷ []) [] ++ free_paths (with_row new rows) files)) [
+      | true ↦ free-more Q new rows files (elim (is_free file.path rows) as (λ b. AllByRecursion Q (cond b (file.path ∷ []) [] ++ free_paths rows files) → AllByRecursion Q (free_paths rows files)) [ true ↦ λ h. h.1 | false ↦ λ h. h ] all)
+      | false ↦ elim (is_free file.path rows)
+          as (λ b. AllByRecursion Q (cond b (file.path ∷ []) [] ++ free_paths rows files) → AllByRecursion Q (cond b (file.path ∷ []) [] ++ free_paths (with_row new rows) files)) [
+            | true ↦ λ h. (h.0, free-more Q new rows files h.1)
+            | false ↦ λ h. free-more Q new rows files h
+          ] all
+    ])
+
+all-weaker : {A : Type 0} (P Q : A → Type 0) (xs : List A) → ((x : A) → P x → Q x) → AllByRecursion P xs → AllByRecursion Q xs
+all-weaker P Q [] so all = tt
+all-weaker P Q (x ∷ xs) so all = (so x all.0, all-weaker P Q xs so all.1)
+
+-- the paths are among some
+abbrev AreAmong : List (List ℕ) → List (List ℕ) → Type 0
+AreAmong paths all = AllByRecursion (λ path. list_any (bytes_eq path) all ≡ true) paths
+
+among-self : (paths : List (List ℕ)) → AreAmong paths paths
+among-self [] = tt
+among-self (path ∷ paths) = (
+  ap (λ b. b || list_any (bytes_eq path) paths) (bytes-same path),
+  all-weaker (λ p. list_any (bytes_eq p) paths ≡ true) (λ p. list_any (bytes_eq p) (path ∷ paths) ≡ true) paths
+      (λ p is. ap (λ b. bytes_eq p path || b) is ∙ or-true (bytes_eq p path)) (among-self paths),
+)
+  where
+    or-true : (b : Bool) → (b || true) ≡ true
+    or-true true = refl
+    or-true false = refl
+
+-- rows to which the first of some files were added: those that are left come to what all come to, and without the paths
+-- that were free all is as before
+pub record IsAdding (now : ℕ) (files : List Staged) (old : List plain.Row) (left : List Staged) (rows : List plain.Row) : Type 0 where
+  pub whole : with_files now left rows ≡ with_files now files old
+  pub back : rows_without (free_paths old files) rows ≡ rows_without (free_paths old files) old
+  pub among : AreAmong (free_paths rows left) (free_paths old files)
+
+pub adding-first : (now : ℕ) (files : List Staged) (old : List plain.Row) → IsAdding now files old files old
+adding-first now files old = record { whole = refl; back = refl; among = among-self (free_paths old files) }
+
+pub adding-more : (now : ℕ) (files : List Staged) (old : List plain.Row) (file : Staged) (left : List Staged) (rows after : List plain.Row) → after ≡ with_file now file rows
+    → IsAdding now files old (file ∷ left) rows → IsAdding now files old left after
+adding-more now files old file left rows after is at =
+    let new : plain.Row = new_row file.path file.blob now in
+    let all : List (List ℕ) = free_paths old files in
+    let among : AllByRecursion (λ path. list_any (bytes_eq path) all ≡ true) (cond (is_free file.path rows) (file.path ∷ []) [] ++ free_paths rows left) = at.among in
+    let parts : (rows_without all (with_file now file rows) ≡ rows_without all rows) × AreAmong (free_paths (with_file now file rows) left) all =
+    elim (is_free file.path rows)
+    as (λ b. AllByRecursion (λ path. list_any (bytes_eq path) all ≡ true) (cond b (file.path ∷ []) [] ++ free_paths rows left)
+    → (rows_without all (cond b (with_row new rows) rows) ≡ rows_without all rows) × AreAmong (free_paths (cond b (with_row new rows) rows) left) all) [
+      | true ↦ λ h. (without-new all new rows h.0, free-more (λ path. list_any (bytes_eq path) all ≡ true) new rows left h.1)
+      | false ↦ λ h. (refl, h)
+    ] among in
+    subst (IsAdding now files old left) (sym is) (record {
+      whole = at.whole;
+      back = parts.0 ∙ at.back;
+      among = parts.1;
+    })
+
+-- no row stands at a free path, so all stay without these
+are-free : (rows : List plain.Row) (files : List Staged) → AllByRecursion (λ path. is_free path rows ≡ true) (free_paths rows files)
+are-free rows [] = tt
+are-free rows (file ∷ files) =
+    elim (is_free file.path rows) as (λ b. is_free file.path rows ≡ b → AllByRecursion (λ path. is_free path rows ≡ true) (cond b (file.path ∷ []) [] ++ free_paths rows files)) [
+      | true ↦ λ is. (is, are-free rows files)
+      | false ↦ λ is. are-free rows files
+    ] refl
+
+free-parts : (path : List ℕ) (row : plain.Row) (rows : List plain.Row) → is_free path (row ∷ rows) ≡ true → (not (is_row path row) ≡ true) × (is_free path rows ≡ true)
+free-parts path row rows is = and_parts (not (is_row path row)) (is_free path rows) (sym (is_free-cons path row rows) ∙ is)
+
+none-has : (paths : List (List ℕ)) (row : plain.Row) (rows : List plain.Row) → AllByRecursion (λ path. is_free path (row ∷ rows) ≡ true) paths
+    → (has_path paths row ≡ false) × AllByRecursion (λ path. is_free path rows ≡ true) paths
+none-has [] row rows free = (refl, tt)
+none-has (path ∷ paths) row rows free =
+    let first = free-parts path row rows free.0 in
+    let rest = none-has paths row rows free.1 in (
+      elim (is_row path row) as (λ b. not b ≡ true → (b || has_path paths row) ≡ false) [ true ↦ λ e. cc | false ↦ λ e. rest.0 ] first.0,
+      (first.1, rest.1),
+    )
+
+without-free : (paths : List (List ℕ)) (rows : List plain.Row) → AllByRecursion (λ path. is_free path rows ≡ true) paths → rows_without paths rows ≡ rows
+without-free paths [] free = refl
+without-free paths (row ∷ rows) free =
+    let h = none-has paths row rows free in
+    ap (λ b. cond (not b) (row ∷ rows_without paths rows) (rows_without paths rows)) h.0 ∙ ap (λ rs. row ∷ rs) (without-free paths rows h.1)
+
+pub without-all-free : (rows : List plain.Row) (files : List Staged) → rows_without (free_paths rows files) rows ≡ rows
+without-all-free rows files = without-free (free_paths rows files) rows (are-free rows files)
+
+without-one : (path : List ℕ) (rows : List plain.Row) → without_row path rows ≡ rows_without (path ∷ []) rows
+without-one path [] = refl
+without-one path (row ∷ rows) =
+    elim (is_row path row)
+    as (λ b. cond (not b) (row ∷ without_row path rows) (without_row path rows) ≡ cond (not (b || false)) (row ∷ rows_without (path ∷ []) rows) (rows_without (path ∷ []) rows)) [
+      | true ↦ without-one path rows
+      | false ↦ ap (λ rs. row ∷ rs) (without-one path rows)
+    ]
+
+-- the items of a delivery put rows at the free paths
+pub undone : (s : Session) (now : ℕ) (rows : List plain.Row) (files : List Staged) (more : List plain.Row) → without_puts (recorded (effects_by s now rows files)) more ≡ rows_without (free_paths rows files) more
+undone s now rows [] more = sym (rows_without-nothing more)
+undone s now rows (file ∷ files) more =
+    let rest : List Effect = effects_by s now rows files in
+    elim (row_at file.path rows)
+    as (λ o. without_puts (recorded (deliver_at s now file o ++ rest)) more ≡ rows_without (cond (is_none o) (file.path ∷ []) [] ++ free_paths rows files) more) [
+      | None ↦
+          undone s now rows files (without_row file.path more)
+          ∙ ap (rows_without (free_paths rows files)) (without-one file.path more)
+          ∙ sym (rows_without-append (file.path ∷ []) (free_paths rows files) more)
+      | Some row ↦ elim (row.phase) as (λ p. without_puts (recorded (deliver_again s now file p ++ rest)) more ≡ rows_without (free_paths rows files) more) [
+        | plain.listed ↦ undone s now rows files more
+        | plain.fading since ↦ undone s now rows files more
+      ]
+    ]
+
+pub without_puts-append : (items more : List Item) (rows : List plain.Row) → without_puts (items ++ more) rows ≡ without_puts more (without_puts items rows)
+without_puts-append [] more rows = refl
+without_puts-append (item ∷ items) more rows = without_puts-append items more (without_put item rows)
+
+recorded-append : (effects more : List Effect) → recorded (effects ++ more) ≡ recorded effects ++ recorded more
+recorded-append effects more = flat_map-append items_of effects more
+
+-- items of the first of some files: with those of the files that are left they are those of all
+pub record IsRecording (s : Session) (now : ℕ) (rows : List plain.Row) (files left : List Staged) (items : List Item) : Type 0 where
+  pub whole : items ++ recorded (effects_by s now rows left) ≡ recorded (effects_by s now rows files)
+  pub short : AllByRecursion IsShort items
+  pub few : length items + length left ≤ length files
+  pub formed : list_all is_recordable left ≡ true
+
+all-both : {A : Type 0} (P : A → Type 0) (xs ys : List A) → AllByRecursion P xs → AllByRecursion P ys → AllByRecursion P (xs ++ ys)
+all-both P [] ys front back = back
+all-both P (x ∷ xs) ys front back = (front.0, all-both P xs ys front.1 back)
+
+most-one : {A : Type 0} (o : Option A) → length (option_to_list o) ≤ 1
+most-one None = omega arith
+most-one (Some x) = omega arith
+
+pub recording-more : (s : Session) (now : ℕ) (rows : List plain.Row) (files : List Staged) (file : Staged) (left : List Staged) (items after : List Item) (item : Option Item)
+    → option_to_list item ≡ recorded (deliver_at s now file (row_at file.path rows)) → AllByRecursion IsShort (option_to_list item) → after ≡ items ++ option_to_list item
+    → IsRecording s now rows files (file ∷ left) items → IsRecording s now rows files left after
+recording-more s now rows files file left items after item told short is at =
+    let rest : List Item = recorded (effects_by s now rows left) in
+    subst (IsRecording s now rows files left) (sym is) (record {
+      whole = append_assoc items (option_to_list item) rest
+          ∙ ap (λ some. items ++ (some ++ rest)) told
+          ∙ ap (λ some. items ++ some) (sym (recorded-append (deliver_at s now file (row_at file.path rows)) (effects_by s now rows left)))
+          ∙ at.whole;
+      short = all-both IsShort items (option_to_list item) at.short short;
+      few = omega (arith, at.few, length-append items (option_to_list item), most-one item);
+      formed = (and_parts (is_recordable file) (list_all is_recordable left) at.formed).1;
+    })
+
+-- the blob of a file whose path has a row
+pub left-at : (s : Session) (now : ℕ) (file : Staged) (row : plain.Row) → flat_map left_by (deliver_at s now file (Some row)) ≡ file.blob.number ∷ []
+left-at s now file row = elim (row.phase) as (λ p. flat_map left_by (deliver_again s now file p) ≡ file.blob.number ∷ []) [ plain.listed ↦ refl | plain.fading since ↦ refl ]
+
+pub left-more : (s : Session) (now : ℕ) (rows : List plain.Row) (file : Staged) (left : List Staged) (blobs some : List ℕ) → some ≡ flat_map left_by (deliver_at s now file (row_at file.path rows))
+    → (blobs ++ some) ++ flat_map left_by (effects_by s now rows left) ≡ blobs ++ flat_map left_by (effects_by s now rows (file ∷ left))
+left-more s now rows file left blobs some is =
+    append_assoc blobs some (flat_map left_by (effects_by s now rows left))
+    ∙ ap (λ ns. blobs ++ (ns ++ flat_map left_by (effects_by s now rows left))) is
+    ∙ ap (λ ns. blobs ++ ns) (sym (flat_map-append left_by (deliver_at s now file (row_at file.path rows)) (effects_by s now rows left)))
+
+pub err-any : {T E P : Type 0} (r : Result T E) → P → OnErr r P
+err-any (Ok x) p = tt
+err-any (Err e) p = p
+
+pub take-front : {A : Type 0} (xs ys : List A) → take (length xs) (xs ++ ys) ≡ xs
+take-front [] ys = refl
+take-front (x ∷ xs) ys = ap (λ rest. x ∷ rest) (take-front xs ys)
+
+-- rows stay at paths of files
+pub files-delivered : (s : Session) (now : ℕ) (others : List plain.Row) (files : List Staged) (rows : List plain.Row) → list_all is_recordable files ≡ true → AreFiles rows
+    → AreFiles (rows_after_all (effects_by s now others files) rows)
+files-delivered s now others [] rows formed old = old
+files-delivered s now others (file ∷ files) rows formed old =
+    let parts = and_parts (is_recordable file) (list_all is_recordable files) formed in
+    let named : is_file_path file.path ≡ true = (and_parts (is_file_path file.path) (is_number file.blob.number && is_count file.blob.print.length) parts.0).0 in
+    let rest : List Effect = effects_by s now others files in
+    elim (row_at file.path others) as (λ o. AreFiles (rows_after_all (deliver_at s now file o ++ rest) rows)) [
+      | None ↦ files-delivered s now others files (with_row (new_row file.path file.blob now) rows) parts.1 (files-more (new_row file.path file.blob now) rows named old)
+      | Some row ↦ elim (row.phase) as (λ p. AreFiles (rows_after_all (deliver_again s now file p ++ rest) rows)) [
+        | plain.listed ↦ files-delivered s now others files rows parts.1 old
+        | plain.fading since ↦ files-delivered s now others files (change_where (is_row file.path) (list_again now) rows) parts.1 (files-again file.path now rows old)
+      ]
+    ]

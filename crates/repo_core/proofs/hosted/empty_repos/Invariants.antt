@@ -1,7 +1,0 @@
-use Rattle.std.proofs.Common.{◌≡◌, map, take}
-use Rattle.repo_model.specs.State.{new_hosted}
-use Rattle.repo_core.proofs.hosted.empty_repos.Given as goal
-
--- the repositories so far
-abbrev pub invariant-loop-rule : goal.invariant-loop-rule
-invariant-loop-rule g l = l.repos.items ≡ map new_hosted (take l.rule-index l.rules)

@@ -1,0 +1,4 @@
+pub mod Faults
+pub mod Leftovers
+pub mod Rows
+pub mod Taking

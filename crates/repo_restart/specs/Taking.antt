@@ -1,0 +1,41 @@
+-- A recorded file whose blob was looked at, taken up by its repository.
+use Rattle.std.specs.Prelude.{◌≡◌, ℕ, ◌≤◌, true, if◌then◌else◌, IsTrue, List, [], Option, Some, None, find, IfSome}
+use Rattle.std.specs.Option.{option_map_or}
+use Rattle.outside.specs.Blobs.{Shelf, bytes_at}
+use Rattle.repo_model.specs.Data.{Row, Hosted}
+use Rattle.repo_model.specs.Effect.{with_row}
+use Rattle.repo_model.specs.History.{latest_moment}
+use Rattle.repo_model.specs.State.{change_first, is_repository, row_at}
+use Rattle.repo_model.specs.Tables.{RecordedRow}
+use Rattle.row_tables.specs.Items.{is_file_path}
+use Rattle.blob_audit.specs.Damages.{IsFound}
+use Rattle.blob_audit.specs.Order.{File}
+
+-- the rows of the repository of an id; none where there is no such repository
+abbrev pub rows_in : List ℕ → List Hosted → List Row
+rows_in id repos = option_map_or (λ (h : Hosted). h.rows) (find (is_repository id) repos) []
+
+-- a row whose blob has these bytes
+abbrev pub holding : Option (List ℕ) → Row → Row
+holding bytes row = record row { blob = record row.blob { bytes = bytes } }
+
+-- a row with these bytes in the repository of its id; where there is none it goes nowhere
+abbrev pub with_taken : RecordedRow → Option (List ℕ) → List Hosted → List Hosted
+with_taken r bytes repos =
+    change_first (is_repository r.repo) (λ (h : Hosted). record h { rows = with_row (holding bytes r.row) h.rows }) repos
+
+abbrev pub with_file : File → Option (List ℕ) → List Hosted → List Hosted
+with_file f bytes repos = if f.is_hosted then with_taken f.row bytes repos else repos
+
+-- a hosted file can be taken up: its path is that of a file and has no row yet, and its moment is none too late
+abbrev pub CanTake : File → List Hosted → Type 0
+CanTake f repos =
+    f.is_hosted ≡ true → IsTrue (is_file_path f.row.row.path) × (f.row.row.accepted ≤ latest_moment)
+    × (row_at f.row.row.path (rows_in f.row.repo repos) ≡ None)
+
+-- the file's blob is the recorded one, and its row is taken up with the bytes that stand, where the store tells its blobs
+pub record TakesFile (shelf : Shelf) (f : File) (old new : List Hosted) : Type 0 where
+  pub sound : IsFound shelf f.row.row.blob.number (Some f.row.row.blob.print)
+  pub bytes : Option (List ℕ)
+  pub standing : IfSome shelf.blobs (λ them. bytes ≡ bytes_at f.row.row.blob.number them)
+  pub taken : new ≡ with_file f bytes old

@@ -1,0 +1,42 @@
+//! All recorded files, one after another.
+ghost use Rattle.std.specs.Prelude.{◌≡◌, [], IsTrue, IfOk, OnOk, map};
+ghost use Rattle.std.specs.List.{AllByRecursion};
+ghost use Rattle.row_tables.specs.Items.{is_id};
+ghost use Rattle.repo_laws.specs.Sound.{AreNamedApart};
+ghost use Rattle.blob_audit.specs.Damages.{AreDamaged};
+ghost use Rattle.blob_audit.specs.Files.{shown_file};
+ghost use Rattle.repo_restart.specs.Faults.{HasRestoreCause, OnDamage};
+ghost use Rattle.repo_restart.specs.Rows.{AreRestorable, AreRestored, IsFirstDamaged, hosted_rows};
+
+use crate::empties::empty_repos;
+use crate::faults::RestoreFault;
+use crate::taking::take_file;
+use blob_audit::RecordedFile;
+use hosted_repo::Hosted;
+use outside::Blobs;
+use repo_config::HostedRule;
+use std::alloc::Global;
+
+/// The repositories of these rules with the recorded files, each of which is looked at once, in this order. A file of no such
+/// repository, or of a proxy, is looked at and let go.
+pub fn restored<B: Blobs>(
+    alloc: Global,
+    rules: &[HostedRule],
+    files: &[RecordedFile<'_>],
+    blobs: &mut B,
+) -> Result<Vec<Hosted<B::Held>>, RestoreFault>
+    requires ids { AllByRecursion (λ rule. IsTrue (is_id rule.id)) rules.now }
+    requires named { AreNamedApart rules.now }
+    requires rows { AreRestorable (hosted_rows (map shown_file files.now)) }
+    ensures repos { IfOk result (λ repos. AreRestored (B.shelf blobs.old) (hosted_rows (map shown_file files.now)) rules.now repos.items) }
+    ensures sound { OnOk result (AreDamaged (B.shelf blobs.old) (map (λ f. (shown_file f).row) files.now) []) }
+    ensures damaged { OnDamage result (IsFirstDamaged (B.shelf blobs.old) (map (λ f. (shown_file f).row) files.now)) }
+    ensures cause { HasRestoreCause (B.faults blobs.old) (B.faults blobs.new) result }
+    ensures kept { B.shelf blobs.new ≡ B.shelf blobs.old }
+{
+    let mut repos = empty_repos(alloc, rules)?;
+    for file in files {
+        take_file(alloc, blobs, &mut repos, file)?;
+    }
+    Ok(repos)
+}

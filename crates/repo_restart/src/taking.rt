@@ -1,0 +1,102 @@
+//! A recorded file is looked at and taken up by its repository.
+ghost use Rattle.std.specs.Prelude.{◌≡◌, ◌≤◌, ◌∷◌, [], None, IsTrue, OnOk};
+ghost use Rattle.std.specs.List.{position};
+ghost use Rattle.repo_model.specs.History.{latest_moment};
+ghost use Rattle.repo_model.specs.Shown.{shown_print};
+ghost use Rattle.repo_model.specs.State.{is_repository, row_at};
+ghost use Rattle.hosted_repo.specs.Rows as rows;
+ghost use Rattle.row_tables.specs.Items.{is_file_path};
+ghost use Rattle.row_tables.specs.Stored as stored;
+ghost use Rattle.blob_audit.specs.Damages.{AreDamaged};
+ghost use Rattle.blob_audit.specs.Files.{shown_file};
+ghost use Rattle.repo_restart.specs.Faults.{HasRestoreCause, OnDamage};
+ghost use Rattle.repo_restart.specs.Taking.{CanTake, TakesFile, rows_in, with_file, with_taken};
+
+use crate::faults::RestoreFault;
+use blob_audit::{Found, RecordedFile, damage_of, look_at};
+use hosted_repo::{Hosted, Phase};
+use outside::{Blobs, Held, NoMemory, Parcel};
+use row_tables::RowPhase;
+use std::alloc::{AllocError, Global};
+
+// The phase that was recorded.
+fn phase_of(phase: RowPhase) -> Phase
+    ensures { rows.shown_phase result ≡ stored.shown_phase phase }
+{
+    match phase {
+        RowPhase::Listed => Phase::Listed,
+        RowPhase::Fading(since) => Phase::Fading(since),
+    }
+}
+
+// The place of the repository of an id.
+fn place_of<H: Held>(repos: &[Hosted<H>], id: &str) -> Option<usize>
+    ensures { result ≡ position (is_repository id.now) repos.now }
+{
+    repos.iter().position(|repo| repo.rule().id.as_str() == id)
+}
+
+// The row of a hosted file comes back with its blob, to the repository of its id. Where there is none the blob is let go.
+fn take_row<H: Held>(
+    repos: &mut Vec<Hosted<H>>,
+    file: &RecordedFile<'_>,
+    parcel: Parcel<H>,
+) -> Result<(), NoMemory>
+    requires path { IsTrue (is_file_path (shown_file file.now).row.row.path) }
+    requires moment { file.now.row.now.accepted ≤ latest_moment }
+    requires free { row_at (shown_file file.now).row.row.path (rows_in (shown_file file.now).row.repo repos.old.items) ≡ None }
+    requires number { parcel.blob ≡ file.now.row.now.blob }
+    requires print { shown_print parcel ≡ file.now.row.now.print }
+    ensures { OnOk result (repos.new.items ≡ with_taken (shown_file file.now).row (H.bytes parcel.held) repos.old.items) }
+{
+    let Some(place) = place_of(repos, file.place.0.as_str()) else {
+        return Ok(());
+    };
+    let row = file.row;
+    match repos[place].restore(
+        file.place.1.as_str(),
+        parcel,
+        row.accepted,
+        phase_of(row.phase),
+    ) {
+        Ok(()) => Ok(()),
+        Err(_let_go) => Err(AllocError),
+    }
+}
+
+// Takes up a file with its blob: only a hosted one has a repository.
+fn take_parcel<H: Held>(
+    repos: &mut Vec<Hosted<H>>,
+    file: &RecordedFile<'_>,
+    parcel: Parcel<H>,
+) -> Result<(), NoMemory>
+    requires can { CanTake (shown_file file.now) repos.old.items }
+    requires number { parcel.blob ≡ file.now.row.now.blob }
+    requires print { shown_print parcel ≡ file.now.row.now.print }
+    ensures { OnOk result (repos.new.items ≡ with_file (shown_file file.now) (H.bytes parcel.held) repos.old.items) }
+{
+    if file.is_hosted {
+        return take_row(repos, file, parcel);
+    }
+    Ok(())
+}
+
+/// Looks at the blob of a recorded file, and takes a sound file up. `Damaged` comes where the blob is not the recorded one.
+pub fn take_file<B: Blobs>(
+    alloc: Global,
+    blobs: &mut B,
+    repos: &mut Vec<Hosted<B::Held>>,
+    file: &RecordedFile<'_>,
+) -> Result<(), RestoreFault>
+    requires { CanTake (shown_file file.now) repos.old.items }
+    ensures taken { OnOk result (TakesFile (B.shelf blobs.old) (shown_file file.now) repos.old.items repos.new.items) }
+    ensures damaged { OnDamage result (λ damage. AreDamaged (B.shelf blobs.old) ((shown_file file.now).row ∷ []) (damage ∷ [])) }
+    ensures cause { HasRestoreCause (B.faults blobs.old) (B.faults blobs.new) result }
+    ensures kept { B.shelf blobs.new ≡ B.shelf blobs.old }
+{
+    match look_at(blobs, file.row)? {
+        Found::Whole(parcel) => take_parcel(repos, file, parcel)?,
+        Found::Other(found) => return Err(RestoreFault::Damaged(damage_of(alloc, file, found)?)),
+    }
+    Ok(())
+}

@@ -1,0 +1,40 @@
+-- The copy of the settings is started by; or memory was wanting for it.
+use Rattle.std.proofs.Common.{subst}
+use Rattle.repo_course.specs.Cleaning.{store}
+use Rattle.repo_model.specs.Settings.{Settings}
+use Rattle.store_check.specs.Checking.{recorded}
+use Rattle.repo_run.specs.Begun.{Begins}
+use Rattle.repo_run.proofs.NotBegun.{not-begun}
+use Rattle.repo_run.proofs.begun.begin.Goals as goal
+
+pub returns-in-Ok-start-clause-ok : goal.returns-in-Ok-start-clause-ok
+returns-in-Ok-start-clause-ok g c =
+    let s = c.in-Ok-start.ensures in
+    subst (λ (own : Settings). Begins own (recorded (g.K.Records.tables c.args.records) (g.K.Records.loading c.args.records) (g.K.Records.faults c.args.records))
+    (store (g.B.Blobs.shelf c.args.blobs.now) (g.B.Blobs.faults c.args.blobs.now)) (store (g.B.Blobs.shelf c.start.new.blobs) (g.B.Blobs.faults c.start.new.blobs))
+    (g.C.Clock.moments c.args.clock) c.in-Ok-start.core) c.in-Ok.ensures
+    (record {
+      tables = s.state.0;
+      loaded = s.state.1;
+      starts = s.state.2;
+      settings_are = s.settings;
+      tables_are = s.tables;
+      calls_are = s.calls;
+      still = s.still;
+      opens = s.opening;
+    })
+
+pub returns-in-Err-start-clause-err : goal.returns-in-Err-start-clause-err
+returns-in-Err-start-clause-err g c =
+    let e = c.in-Err-start.ensures in
+    record {
+      cause = e.cause;
+      tables = e.records;
+      refused = e.refused;
+      unread = e.unread;
+      damaged = e.damaged;
+      shelf = e.shelf;
+    }
+
+pub returns-in-Err-clause-err : goal.returns-in-Err-clause-err
+returns-in-Err-clause-err g c = not-begun _ _

@@ -1,0 +1,118 @@
+//! The command `clean`: the settings are read, and one pass goes over the repositories.
+ghost use Rattle.std.specs.Prelude.{◌≡◌, IfOk};
+ghost use Rattle.repo_course.specs.Answers.{cleaned_text};
+ghost use Rattle.repo_course.specs.Cleaning.{store};
+ghost use Rattle.run_lines.specs.Printing.{output};
+ghost use Rattle.run_lines.specs.Reading.{file};
+ghost use Rattle.store_check.specs.Checking.{recorded};
+ghost use Rattle.repo_run.specs.Clean.{Cleans, CleansBy, TellsPass};
+
+use crate::begun::{begin, refuse_start};
+use crate::desks::Ended;
+use outside::{Blobs, Clock, Sink, Source};
+use repo_config::Settings;
+use repo_course::{CleanFault, Cleaned};
+use repo_server::clean_pass;
+use row_tables::Records;
+use run_lines::{DONE, NO_MEMORY, OUTPUT, fault, print, settings_of};
+use std::alloc::{AllocError, Global};
+use store_check::{AuditFault, refuse_store};
+
+/// How many files were unlisted, and how many blobs removed.
+fn cleaned_text(alloc: Global, cleaned: &Cleaned) -> Result<Vec<u8>, AllocError>
+    ensures { IfOk result (λ text. text.items ≡ cleaned_text cleaned.now.unlisted cleaned.now.removed) }
+{
+    let mut text = Vec::from_slice(alloc, b"unlisted ")?;
+    text.extend_from_slice(cleaned.unlisted.to_string(alloc)?.as_bytes())?;
+    text.extend_from_slice(b"\nremoved ")?;
+    text.extend_from_slice(cleaned.removed.to_string(alloc)?.as_bytes())?;
+    text.push(b'\n')?;
+    Ok(text)
+}
+
+/// Prints what a pass has done.
+fn tell_cleaned<O: Sink>(alloc: Global, out: &mut O, cleaned: &Cleaned) -> u8
+    ensures { TellsPass (Ok cleaned.now) (output (O.taken out.old) (O.write_faults out.old)) (output (O.taken out.new) (O.write_faults out.new)) result }
+{
+    let Ok(text) = cleaned_text(alloc, cleaned) else {
+        return fault(out, b"mvnrepod: memory\n", NO_MEMORY);
+    };
+    if print(out, text.as_slice()) {
+        DONE
+    } else {
+        OUTPUT
+    }
+}
+
+/// Prints what a pass has done, or why it was not made to its end.
+fn tell_pass<O: Sink>(alloc: Global, out: &mut O, pass: &Result<Cleaned, CleanFault>) -> u8
+    ensures { TellsPass pass.now (output (O.taken out.old) (O.write_faults out.old)) (output (O.taken out.new) (O.write_faults out.new)) result }
+{
+    match pass {
+        Ok(cleaned) => tell_cleaned(alloc, out, cleaned),
+        Err(CleanFault::StoreFault) => refuse_store(alloc, out, AuditFault::Store),
+        Err(CleanFault::BlobFault) => refuse_store(alloc, out, AuditFault::Store),
+        Err(CleanFault::NoMemory) => refuse_store(alloc, out, AuditFault::NoMemory),
+    }
+}
+
+/// Makes one pass over a repository of these settings, and prints what it has done.
+fn clean_by<B: Blobs, K: Records, C: Clock, O: Sink>(
+    alloc: Global,
+    settings: &Settings,
+    blobs: &mut B,
+    records: K,
+    clock: C,
+    out: &mut O,
+) -> Ended<K, C>
+    ensures { Cleans settings.now
+        (recorded (K.tables records) (K.loading records) (K.faults records)) (recorded (K.tables result.records) (K.loading result.records) (K.faults result.records))
+        (C.moments clock) (C.moments result.clock)
+        (store (B.shelf blobs.old) (B.faults blobs.old)) (store (B.shelf blobs.new) (B.faults blobs.new))
+        (output (O.taken out.old) (O.write_faults out.old)) (output (O.taken out.new) (O.write_faults out.new)) result.status }
+{
+    let mut core = match begin(alloc, settings, records, blobs, clock) {
+        Ok(core) => core,
+        Err((refusal, records, clock)) => {
+            let status = refuse_start(alloc, out, &refusal);
+            return Ended {
+                status,
+                records,
+                clock,
+            };
+        }
+    };
+    let pass = clean_pass(alloc, settings, &mut core, blobs);
+    let status = tell_pass(alloc, out, &pass);
+    let (records, clock) = core.end();
+    Ended {
+        status,
+        records,
+        clock,
+    }
+}
+
+/// Reads the settings, and cleans by them.
+pub(crate) fn clean<B: Blobs, S: Source, K: Records, C: Clock, O: Sink>(
+    alloc: Global,
+    settings: &mut S,
+    blobs: &mut B,
+    records: K,
+    clock: C,
+    out: &mut O,
+) -> Ended<K, C>
+    ensures { CleansBy (file (S.left settings.old) (S.read_faults settings.old)) (file (S.left settings.new) (S.read_faults settings.new))
+        (recorded (K.tables records) (K.loading records) (K.faults records)) (recorded (K.tables result.records) (K.loading result.records) (K.faults result.records))
+        (C.moments clock) (C.moments result.clock)
+        (store (B.shelf blobs.old) (B.faults blobs.old)) (store (B.shelf blobs.new) (B.faults blobs.new))
+        (output (O.taken out.old) (O.write_faults out.old)) (output (O.taken out.new) (O.write_faults out.new)) result.status }
+{
+    match settings_of(alloc, settings, out) {
+        Ok(settings) => clean_by(alloc, &settings, blobs, records, clock, out),
+        Err(status) => Ended {
+            status,
+            records,
+            clock,
+        },
+    }
+}

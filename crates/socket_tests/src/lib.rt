@@ -1,0 +1,7 @@
+//! Tests of the connections over TCP, on the loopback interface, and of the timers.
+#![tactic(auto)]
+
+#[cfg(test)]
+mod connections;
+#[cfg(test)]
+mod timers;

@@ -1,0 +1,14 @@
+//! Tests of runs over what is recorded and stored, with bytes written out: checks, cleanings and replays that begin where
+//! others have ended.
+#![tactic(auto)]
+
+#[cfg(test)]
+mod checks;
+#[cfg(test)]
+mod cleans;
+#[cfg(test)]
+mod folders;
+#[cfg(test)]
+mod restarts;
+#[cfg(test)]
+mod stock;

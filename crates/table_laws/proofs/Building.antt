@@ -1,0 +1,77 @@
+-- Rows that items of their form build up stand at paths of files.
+use Rattle.std.proofs.Common.{◌≡◌, ℕ, true, ◌&&◌, List, [], ◌∷◌, sym, subst}
+use Rattle.std.specs.List.{AllByRecursion, list_all}
+use Rattle.std.proofs.lemmas.Bool.{and_parts}
+use Rattle.repo_model.specs.declared.item.Item.{Item}
+use Rattle.repo_model.specs.declared.item.Item.TheVariants.{HostedPut, Faded, Relisted, Removed, CachedFile, CachedDoc, SessionOpened, SessionEnded}
+use Rattle.repo_model.specs.declared.print.Print.{Print}
+use Rattle.repo_model.specs.Effect.{list_again, fade}
+use Rattle.repo_model.specs.Tables.{Tables, RecordedRow, no_tables, is_recorded, recorded_row, item_on}
+use Rattle.repo_laws.specs.Holds.{InOrder}
+use Rattle.repo_laws.specs.InRange.{InRange}
+use Rattle.repo_laws.proofs.Holding.{applied-ordered}
+use Rattle.repo_laws.proofs.HoldingLists.{all-change_where, all-filter}
+use Rattle.repo_laws.proofs.HoldingOrder.{all-with_recorded, no-tables-ordered}
+use Rattle.repo_laws.proofs.Ranges.{no-tables-in-range, range-applied}
+use Rattle.row_tables.specs.Applying.{with_items}
+use Rattle.row_tables.specs.Items.{is_id, is_file_path, is_number, is_moment, is_print, is_item}
+use Rattle.row_tables.specs.Recorded.{IsBuiltUp}
+use Rattle.table_laws.specs.Standing.{StandsAtFile}
+use Rattle.table_laws.proofs.Forms.{forms-in-range}
+
+-- all rows of the tables stand so
+record AllStand (t : Tables) : Type 0 where
+  pub hosted : AllByRecursion StandsAtFile t.hosted
+  pub cached : AllByRecursion StandsAtFile t.cached
+
+new-stands : (repo path : List ℕ) (blob : ℕ) (print : Print) (accepted : ℕ) → (is_id repo && (is_file_path path && (is_number blob && (is_print print && is_moment accepted)))) ≡ true
+    → StandsAtFile (recorded_row repo path blob print accepted)
+new-stands repo path blob print accepted is =
+    let place = and_parts (is_id repo) (is_file_path path && (is_number blob && (is_print print && is_moment accepted))) is in
+    (place.0, (and_parts (is_file_path path) (is_number blob && (is_print print && is_moment accepted)) place.1).0)
+
+item-stands : (t : Tables) (item : Item) → is_item item ≡ true → AllStand t → AllStand (item_on t item)
+item-stands t (HostedPut repo path blob print accepted) is all = record {
+  hosted = all-with_recorded StandsAtFile (recorded_row repo path blob print accepted) t.hosted all.hosted (new-stands repo path blob print accepted is);
+  cached = all.cached;
+}
+item-stands t (Faded repo path moment) is all = record {
+  hosted = all-change_where StandsAtFile (is_recorded repo path) (λ (r : RecordedRow). record r { row = fade moment r.row }) (λ r so. so) t.hosted all.hosted;
+  cached = all.cached;
+}
+item-stands t (Relisted repo path accepted) is all = record {
+  hosted = all-change_where StandsAtFile (is_recorded repo path) (λ (r : RecordedRow). record r { row = list_again accepted r.row }) (λ r so. so) t.hosted all.hosted;
+  cached = all.cached;
+}
+item-stands t (Removed repo path) is all = record { hosted = all-filter StandsAtFile _ t.hosted all.hosted; cached = all.cached }
+item-stands t (CachedFile repo path blob print accepted) is all = record {
+  hosted = all.hosted;
+  cached = all-with_recorded StandsAtFile (recorded_row repo path blob print accepted) t.cached all.cached (new-stands repo path blob print accepted is);
+}
+item-stands t (CachedDoc repo path checked document) is all = record { hosted = all.hosted; cached = all.cached }
+item-stands t (SessionOpened n) is all = record { hosted = all.hosted; cached = all.cached }
+item-stands t (SessionEnded n result) is all = record { hosted = all.hosted; cached = all.cached }
+
+items-stand : (items : List Item) (t : Tables) → list_all is_item items ≡ true → AllStand t → AllStand (with_items t items)
+items-stand [] t is all = all
+items-stand (item ∷ items) t is all =
+    let parts = and_parts (is_item item) (list_all is_item items) is in
+    items-stand items (item_on t item) parts.1 (item-stands t item parts.0 all)
+
+module _ (t : Tables) (built : IsBuiltUp t) where
+  pub built-order : InOrder t
+  built-order = subst InOrder (sym built.built) (applied-ordered no_tables (with_items no_tables built.items) built.items no-tables-ordered built.recorded.fit)
+
+  pub built-range : InRange t
+  built-range =
+      subst InRange (sym built.built)
+      (range-applied no_tables (with_items no_tables built.items) built.items no-tables-in-range (forms-in-range built.items built.recorded.form) built.recorded.fit)
+
+  built-stands : AllStand t
+  built-stands = subst AllStand (sym built.built) (items-stand built.items no_tables built.recorded.form (record { hosted = tt; cached = tt }))
+
+  pub built-hosted : AllByRecursion StandsAtFile t.hosted
+  built-hosted = built-stands.hosted
+
+  pub built-cached : AllByRecursion StandsAtFile t.cached
+  built-cached = built-stands.cached

@@ -1,0 +1,4 @@
+pub mod Turning
+pub mod Seated
+pub mod Histories
+pub mod Ending
