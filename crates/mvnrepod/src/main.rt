@@ -5,7 +5,7 @@ ghost use Rattle.std.specs.Prelude.{◌≡◌, ◌<◌, IfOk, vec_len};
 
 use data_folder::{blobs_in, open_disk};
 use desk_work as work;
-use outside::{Blobs, Duplex, NoMemory, Source, Stream};
+use outside::{Blobs, Duplex, NoMemory, Sink, Source, Stream};
 use outside_memory::{FaultScript, MemBlobs, MemLink, MemSource, ScriptClock, ScriptPort};
 use outside_pace::{Running, SleepingPace};
 use outside_sockets::TcpPort;
@@ -16,8 +16,13 @@ use row_tables::MemRecords;
 use run_serve::serve;
 use std::alloc::Global;
 use std::env;
+use std::fs::{File, Files};
 use std::io::{self, Stdin, Stdout};
+use std::net::{Net, TcpListener, TcpStream};
 use std::process::ExitCode;
+use std::sync::Wait;
+use std::thread::Threads;
+use std::time::Clock;
 
 /// Standard input and output as one connection.
 type Standard = Duplex<ReaderSource<Stdin>, WriterSink<Stdout>>;
@@ -106,23 +111,20 @@ fn status_over_folder(rt: &HostRuntime, words: &[String], wanted: &Wanted) -> Re
     )
 }
 
-/// A desk of a server: a listener, and the blobs of a folder.
-type TcpDesk = work::Desk<TcpPort<HostRuntime>, FolderBlobs<HostRuntime>>;
-
 /// How many connections are served at once.
 const DESKS: u64 = 4;
 
 /// The desks of a server, which share one listener.
-fn tcp_desks(
-    rt: &HostRuntime,
+fn tcp_desks<R: Files + Net + Clock + AllocGlobal + Clone + Drop>(
+    rt: &R,
     wanted: &Wanted,
     running: &Running,
-) -> Result<Vec<TcpDesk>, NoMemory>
+) -> Result<Vec<work::Desk<TcpPort<R>, FolderBlobs<R>>>, NoMemory>
     ensures { IfOk result (λ desks. 0 < vec_len desks) }
 {
     let folder = wanted.folder.as_str();
     let port = TcpPort::bind(rt.clone()?, wanted.port, running.share()?);
-    let mut desks = Vec::with_capacity(rt.alloc(), 4)?;
+    let mut desks = Vec::new(rt.alloc());
     for _ in 1..DESKS {
         desks.push(work::Desk {
             port: port.twin(rt.clone()?, running.share()?),
@@ -136,8 +138,20 @@ fn tcp_desks(
     Ok(desks)
 }
 
-/// The status of a server over the folder and on the port that the words name. Its line goes to standard error.
-fn status_of_server(rt: &HostRuntime, wanted: &Wanted) -> Result<u8, NoMemory> {
+/// The status of a server over the folder and on the port that the words name.
+fn status_of_server<
+    R: Files<File = File>
+        + Net<Listener = TcpListener, Stream = TcpStream>
+        + Clock
+        + AllocGlobal
+        + Clone
+        + Drop
+        + Threads
+        + Wait
+        + Send
+        + Sync,
+    O: Sink,
+>(rt: &R, wanted: &Wanted, out: &mut O) -> Result<u8, NoMemory> {
     let alloc = rt.alloc();
     let folder = wanted.folder.as_str();
     let mut settings = file_source(rt, wanted.settings.as_str());
@@ -149,8 +163,19 @@ fn status_of_server(rt: &HostRuntime, wanted: &Wanted) -> Result<u8, NoMemory> {
     };
     let records = Journal::new(open_disk(rt, folder));
     let clock = SystemClock::new(rt.clone()?);
-    let mut out = WriterSink::new(rt.stderr());
-    Ok(serve(rt, alloc, &mut settings, desks, cleaner, records, clock, &mut out).status)
+    Ok(
+        serve(
+            rt,
+            alloc,
+            &mut settings,
+            desks,
+            cleaner,
+            records,
+            clock,
+            out,
+        )
+        .status,
+    )
 }
 
 /// Makes the objects that the words have, and runs the program with them.
@@ -163,8 +188,7 @@ fn status_for(rt: &HostRuntime, words: &[String], wanted: &Wanted) -> Result<u8,
             status_in_memory(rt, words, wanted, &mut settings, links)
         }
         Action::Check | Action::Clean => status_over_folder(rt, words, wanted),
-        Action::Serve => status_of_server(rt, wanted),
-        Action::Nothing => {
+        Action::Serve | Action::Nothing => {
             let mut settings = MemSource::new(Vec::new(alloc), 1, FaultScript::none(alloc));
             let links: Vec<MemLink> = Vec::new(alloc);
             status_in_memory(rt, words, wanted, &mut settings, links)
@@ -179,7 +203,14 @@ fn main(rt: HostRuntime) -> ExitCode {
     let Ok(wanted) = wanted(rt.alloc(), words.as_slice()) else {
         return ExitCode::from(NO_MEMORY);
     };
-    match status_for(&rt, words.as_slice(), &wanted) {
+    let status = match wanted.command {
+        Action::Serve => {
+            let mut out = WriterSink::new(rt.stderr());
+            status_of_server(&rt, &wanted, &mut out)
+        }
+        _ => status_for(&rt, words.as_slice(), &wanted),
+    };
+    match status {
         Ok(status) => ExitCode::from(status),
         Err(_) => ExitCode::from(NO_MEMORY),
     }
