@@ -22,7 +22,7 @@ use Rattle.repo_model.specs.History.{commits, is_collect}
 use Rattle.repo_model.specs.May.{AllMay}
 use Rattle.repo_laws.specs.Sound.{OnePlace}
 use Rattle.repo_model.specs.Paths.{takes}
-use Rattle.repo_model.specs.Reply.{Reply, draft, ended, is_free, kind_refused, no_memory, no_session, opened, same, session_full, sessions_full, spent, staged, store_fault, taken, takes_memory}
+use Rattle.repo_model.specs.Reply.{Reply, draft, ended, is_free, kind_refused, no_draft, no_memory, no_session, noted, opened, same, session_full, sessions_full, spent, staged, store_fault, taken, takes_memory}
 use Rattle.repo_model.specs.State.{State, Yard, change_first, hosted_of, is_among, is_open, is_open_at, is_repository, is_session, most_sessions, number_end, open_of, row_at}
 use Rattle.repo_laws.proofs.Lists.{found-passes}
 use Rattle.repo_laws.proofs.Orderly.{found-has}
@@ -46,7 +46,7 @@ use Rattle.repo_core.proofs.PutReplies.{by-free, rows-by, same-rows, unchanged}
 use Rattle.repo_core.proofs.SessionNumbers.{session-condemned}
 use Rattle.repo_core.proofs.StagedLemmas.{Covers, covered-files, covered-rows, covers, staged-file, staged-more}
 use Rattle.repo_core.proofs.PurgeTurns.{untouched-place}
-use Rattle.repo_core.proofs.Turning.{quiet, some-items, turned-says, unless}
+use Rattle.repo_core.proofs.Turning.{judges-nothing, quiet, some-items, turned-says, unless}
 use Rattle.repo_core.proofs.UseLemmas.{all-more, among-new, or-right}
 
 -- ---- any command whose change is recorded
@@ -588,3 +588,42 @@ open-there settings n sessions hosted one ordered rules found =
       none-so : (o : Option SessionResult) → is_none o ≡ true → o ≡ None
       none-so None is = refl
       none-so (Some result) is = absurd (false≢true is)
+
+-- ---- commands of sessions that record nothing
+draws-quiet : (next : ℕ) → recorded (draws_draft next).effects ≡ []
+draws-quiet next = by (next == number_end) where
+  by : (end : Bool) → recorded (draft_by end next).effects ≡ []
+  by true = refl
+  by false = refl
+
+if-quiet : (b : Bool) (t : Turn) (reply : Reply) → recorded t.effects ≡ [] → recorded (if b then t else says reply).effects ≡ []
+if-quiet true t reply none = none
+if-quiet false t reply none = refl
+
+pub may_stage-quiet : (w : Parts) (n : ℕ) (path : List ℕ) → recorded (turn w.settings w.state w.state.last (may_put (session n) path)).effects ≡ []
+may_stage-quiet w n path = by (open_of n w.state) where
+  in-quiet : (found : Option Hosted) (t : Turn) → recorded t.effects ≡ [] → recorded (in_repository path found t).effects ≡ []
+  in-quiet None t none = refl
+  in-quiet (Some h) t none = if-quiet (takes h.rule path) t kind_refused none
+
+  by : (found : Option Session) → recorded (may_put_in w.state path found).effects ≡ []
+  by None = refl
+  by (Some one) = in-quiet (hosted_of one.repo w.state) _ (if-quiet (has_room path one.staged) (draws_draft w.state.yard.next_draft) session_full (draws-quiet w.state.yard.next_draft))
+
+pub stage_side-quiet : (w : Parts) (n : ℕ) (path said : List ℕ) → recorded (turn w.settings w.state w.state.last (put_side (session n) path said)).effects ≡ []
+stage_side-quiet w n path said = by (open_of n w.state) where
+  by : (found : Option Session) → recorded (with_open found (λ (one : Session). judged (kind path) said (λ at. staged_at at one.staged))).effects ≡ []
+  by None = refl
+  by (Some one) = judges-nothing (kind path) said (λ at. staged_at at one.staged)
+
+pub note-quiet : (w : Parts) (n : ℕ) (path : List ℕ) → recorded (turn w.settings w.state w.state.last (put_doc (session n) path)).effects ≡ []
+note-quiet w n path = by (open_of n w.state) where
+  by : (found : Option Session) → recorded (with_open found (λ (one : Session). says noted)).effects ≡ []
+  by None = refl
+  by (Some one) = refl
+
+pub stage-quiet : (w : Parts) (at : ℕ) (path : List ℕ) (n : ℕ) (blob : Blob) → recorded (turn w.settings w.state w.state.last (stage at path n blob)).effects ≡ []
+stage-quiet w at path n blob = if-quiet (is_among n w.state.yard.drafts) (stage_in path n blob (open_of at w.state)) no_draft (by (stage_in path n blob (open_of at w.state)) (staged-by path n blob (open_of at w.state))) where
+  by : (t : Turn) → Puts path blob t ⊎ Refuses n t → recorded t.effects ≡ []
+  by t (inl puts) = ap (λ (u : Turn). recorded u.effects) puts.1
+  by t (inr refuses) = ap recorded refuses.effects

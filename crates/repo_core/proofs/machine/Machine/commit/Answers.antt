@@ -75,9 +75,9 @@ invariant_of-self g c =
     let yard_is = ap (λ (y : Numbers). y.yard.next_session) c.condemn_over.ensures ∙ ap (λ ns. (condemned_by ns s.yard).next_session) left in
     record {
       moment = c.self.invariant.moment;
-      blobs = subst (λ ns. AreInUse ns _) (sym kept_is) (subst (AreInUse _) (sym c.commit-did.ensures.rows) rows);
+      blobs = subst (λ ns. AreInUse ns c.commit-did.new.repos.items) (sym kept_is) (subst (AreInUse _) (sym c.commit-did.ensures.rows) rows);
       rules = ap rules_of c.commit-did.ensures.rows ∙ rules-if free es s.hosted (commit-rules n s.last k.sessions s.hosted) ∙ c.self.invariant.rules;
-      staged = subst (λ ns. AreStagedInUse ns _) (sym kept_is)
+      staged = subst (λ ns. AreStagedInUse ns c.commit-did.new.sessions.sessions) (sym kept_is)
           (subst (AreStagedInUse _) (sym (ap (λ (q : Known). q.sessions) c.commit-did.ensures.sessions ∙ known-if free es k)) files);
       numbers = yard_is ∙ end-yard settings.grace s.last s es going may orderly.places kept c.self.invariant.blobs c.self.invariant.staged free ∙ c.self.invariant.numbers
           ∙ sym (ap (λ (q : Known). q.next) c.commit-did.ensures.sessions ∙ next-if free es k going);
