@@ -1,25 +1,34 @@
 -- The commands of deployment sessions, as turns of the machine.
 use native.Mathlib.Omega.{arith}
-use Rattle.std.proofs.Common.{◌≡◌, ◌⊎◌, ℕ, ◌+◌, ◌<◌, ◌≤◌, Bool, true, false, cond, not, ◌||◌, if◌then◌else◌, List, [], ◌∷◌, ◌++◌, map, length, Option, Some, None, Result, Ok, inl, inr, refl, sym, ap, ◌∙◌, subst}
-use Rattle.std.specs.Prelude.{◌==◌, ◌&&◌, IsTrue, count_by, find, is_none, nat_le}
+use Rattle.std.proofs.Common.{◌≡◌, ◌⊎◌, ℕ, ◌+◌, ◌<◌, ◌≤◌, Bool, true, false, cond, not, ◌||◌, if◌then◌else◌, get_or, set, List, [], ◌∷◌, ◌++◌, map, length, Option, Some, None, Result, Ok, inl, inr, refl, sym, ap, ◌∙◌, subst, eqb-true}
+use Rattle.std.specs.Prelude.{◌==◌, ◌&&◌, IsTrue, bytes_eq, count_by, find, is_none, is_some, nat_le, nat_lt}
 use Rattle.std.specs.List.{AllByRecursion, flat_map, list_any}
 use Rattle.std.specs.Option.{option_and_then, option_map}
-use Rattle.std.proofs.lemmas.Bool.{false≢true}
+use Rattle.std.proofs.lemmas.Bool.{and_parts, false≢true}
+use Rattle.std.proofs.lemmas.List.{get_or_default}
 use Rattle.std.proofs.lemmas.Option.{none-some}
 use Rattle.mvn_coords.specs.Kind.{kind}
-use Rattle.deploy_session.specs.Known.{Known, abort_turn, begin_turn, garbage_by, known_after, next_after_all, sessions_after_all}
+use Rattle.deploy_session.specs.Known.{Known, abort_turn, begin_turn, commit_turn, garbage_by, known_after, next_after_all, sessions_after_all}
+use Rattle.deploy_session.specs.Shown.{shown_commit}
+use Rattle.deploy_session.specs.declared.answers.Commit.{Commit}
+use Rattle.deploy_session.specs.declared.answers.Commit.TheVariants.{Aborted as GivenUp, Done as Deployed, MissingPom, NoMemory, NoSession, Offends, StoreFault}
 use Rattle.hosted_repo.specs.Recording.{HasReplyCause}
 use Rattle.hosted_repo.specs.Rows.{rows_after_all}
-use Rattle.repo_model.specs.Command.{Command, abort, commit, may_put, open_session, put_doc, put_side, stage}
+use Rattle.repo_model.specs.Command.{Command, abort, commit, is_file_path, is_parcel, is_there, may_put, meets, open_session, put_doc, put_side, stage}
 use Rattle.repo_model.specs.Data.{Blob, Hosted, Phase, Row, Session, Staged, fading, is_same_print, listed, session}
 use Rattle.repo_model.specs.Deploy.{Offence, deliver_again, deliver_all, deliver_at, discard_all, offence, without_pom}
-use Rattle.repo_model.specs.Effect.{Effect, delivers, discards, draws, drops, ends, hosted_after, opens, recorded, relists, rows_after, stages, with_effect, with_effects, without_draft, yard_after}
+use Rattle.repo_model.specs.Effect.{Effect, delivers, discards, draws, drops, ends, hosted_after, opens, recorded, relists, rows_after, stages, with_effect, with_effects, with_number, without_draft, yard_after}
 use Rattle.repo_model.specs.History.{commits, is_collect}
 use Rattle.repo_model.specs.May.{AllMay}
 use Rattle.repo_laws.specs.Sound.{OnePlace}
 use Rattle.repo_model.specs.Paths.{takes}
-use Rattle.repo_model.specs.Reply.{Reply, draft, is_free, kind_refused, no_memory, no_session, opened, same, session_full, sessions_full, spent, staged, store_fault, taken, takes_memory}
+use Rattle.repo_model.specs.Reply.{Reply, draft, ended, is_free, kind_refused, no_draft, no_memory, no_session, noted, opened, same, session_full, sessions_full, spent, staged, store_fault, taken, takes_memory}
 use Rattle.repo_model.specs.State.{State, Yard, change_first, hosted_of, is_among, is_open, is_open_at, is_repository, is_session, most_sessions, number_end, open_of, row_at}
+use Rattle.repo_laws.proofs.Lists.{found-passes}
+use Rattle.repo_laws.proofs.Orderly.{found-has}
+use Rattle.repo_laws.specs.Sound.{IsInOrder}
+use Rattle.repo_core.proofs.HostedLemmas.{rule-there}
+use Rattle.repo_model.specs.Settings.{Rule, Settings}
 use Rattle.repo_model.specs.Tables.{Tables}
 use Rattle.repo_model.specs.Turn.{Turn, abort_of, commit_by, commit_of, draws_draft, draws_or_spent, has_room, in_repository, judged, may_put_in, says, stage_at, stage_in, staged_at, turn, with_open}
 use Rattle.repo_model.specs.declared.session.SessionResult.{SessionResult}
@@ -35,9 +44,10 @@ use Rattle.repo_core.proofs.GarbageLemmas.{IsGoing, covered-then, garbage-once, 
 use Rattle.repo_core.proofs.PurgeLemmas.{change-twice}
 use Rattle.repo_core.proofs.PutReplies.{by-free, rows-by, same-rows, unchanged}
 use Rattle.repo_core.proofs.SessionNumbers.{session-condemned}
-use Rattle.repo_core.proofs.StagedLemmas.{Covers, covered-files, covered-rows, covers}
-use Rattle.repo_core.proofs.Turning.{some-items, turned-says, unless}
-use Rattle.repo_core.proofs.UseLemmas.{or-right}
+use Rattle.repo_core.proofs.StagedLemmas.{Covers, covered-files, covered-rows, covers, staged-file, staged-more}
+use Rattle.repo_core.proofs.PurgeTurns.{untouched-place}
+use Rattle.repo_core.proofs.Turning.{judges-nothing, quiet, some-items, turned-says, unless}
+use Rattle.repo_core.proofs.UseLemmas.{all-more, among-new, or-right}
 
 -- ---- any command whose change is recorded
 pub recorded-by : (w new : Parts) (command : Command) (t : Turn) (reply : Reply) (told told' : Option Tables) (faults faults' : ℕ) → turn w.settings w.state w.state.last command ≡ t
@@ -57,6 +67,16 @@ recorded-by w new command t reply told told' faults faults' is memory given sett
   tables = tables ∙ unless (is_free reply) t.effects told ∙ ap (λ (u : Turn). tables_with (recorded (if is_free reply then [] else u.effects)) told) (sym is);
   cause = cause;
 }
+
+-- a reply that is due, or one that changes nothing where something was to be recorded
+pub due-or-free : (t : Turn) (reply : Reply) → (reply ≡ t.reply) ⊎ (IsTrue (is_free reply) × (recorded t.effects ≡ [] → ⊥)) → (reply ≡ t.reply) ⊎ IsTrue (is_free reply)
+due-or-free t reply (inl is) = inl is
+due-or-free t reply (inr so) = inr so.0
+
+pub recorded-given : (t : Turn) (reply : Reply) → (reply ≡ t.reply) ⊎ (IsTrue (is_free reply) × (recorded t.effects ≡ [] → ⊥))
+    → (reply ≡ t.reply) ⊎ (IsTrue (is_free reply) × (reply ≡ store_fault → recorded t.effects ≡ [] → ⊥))
+recorded-given t reply (inl is) = inl is
+recorded-given t reply (inr so) = inr (so.0, λ _. so.1)
 
 -- ---- a draft at a session
 abbrev draft_by : Bool → ℕ → Turn
@@ -340,7 +360,7 @@ commit-ends one now rows None = commit-by-all one now rows (offence rows one.sta
 
 -- ---- which session is meant
 module _ (n : ℕ) where
-  abbrev how : Option Session → Option SessionResult
+  abbrev pub how : Option Session → Option SessionResult
   how found = option_and_then (λ (one : Session). one.ended) found
 
   -- where the first of the number has not ended, it is the one that is open
@@ -390,3 +410,220 @@ module _ (grace now : ℕ) (s : State) (es : List Effect) (going : AllByRecursio
 
   pub end-yard : (free : Bool) → (condemned_by (garbage_if free) s.yard).next_session ≡ s.yard.next_session
   end-yard free = session-condemned (garbage_if free) s.yard
+
+-- ---- the numbers and the files behind a blob that was to be staged
+pub session-staged : (n : ℕ) (reply : Reply) (yard : Yard) → (yard_staged n reply yard).next_session ≡ yard.next_session
+session-staged n staged yard = refl
+session-staged n no_memory yard = refl
+session-staged n store_fault yard = refl
+session-staged n reply yard = refl
+
+pub rows-staged : (n : ℕ) (reply : Reply) (kept : List ℕ) (hosted : List Hosted) → AreInUse kept hosted → AreInUse (kept_staged n reply kept) hosted
+rows-staged n staged kept hosted used = all-more kept n hosted used
+rows-staged n reply kept hosted used = used
+
+module _ (path : List ℕ) (n : ℕ) (blob : Blob) (named : blob.number ≡ n) (found : Option Session) (reply : Reply)
+    (given : (reply ≡ (stage_in path n blob found).reply) ⊎ (reply ≡ no_memory)) where
+  abbrev due_in : Turn
+  due_in = stage_in path n blob found
+
+  pub files-staged : (kept : List ℕ) (sessions : List Session) → AreStagedInUse kept sessions
+      → AreStagedInUse (kept_staged n reply kept) (if is_free reply then sessions else sessions_after_all due_in.effects sessions)
+  files-staged kept sessions used = by given where
+    as-due : (t : Turn) → Puts path blob t ⊎ Refuses n t → AreStagedInUse (kept_staged n t.reply kept) (if is_free t.reply then sessions else sessions_after_all t.effects sessions)
+    as-due t (inl puts) =
+        subst (λ (u : Turn). AreStagedInUse (kept_staged n u.reply kept) (if is_free u.reply then sessions else sessions_after_all u.effects sessions)) (sym puts.1)
+        (staged-file (with_number n kept) (record { path = path; blob = blob }) (is_open_at puts.0) sessions
+        (subst (λ m. IsTrue (is_among m (with_number n kept))) (sym named) (among-new n kept)) (staged-more kept n sessions used))
+    as-due t (inr refuses) =
+        subst (λ ns. AreStagedInUse ns (if is_free t.reply then sessions else sessions_after_all t.effects sessions)) (sym (refuses.kept kept))
+        (subst (λ b. AreStagedInUse kept (if b then sessions else sessions_after_all t.effects sessions)) (sym refuses.bound)
+        (subst (λ es. AreStagedInUse kept (sessions_after_all es sessions)) (sym refuses.effects) used))
+
+    by : (reply ≡ due_in.reply) ⊎ (reply ≡ no_memory) → AreStagedInUse (kept_staged n reply kept) (if is_free reply then sessions else sessions_after_all due_in.effects sessions)
+    by (inl is) =
+        subst (λ r. AreStagedInUse (kept_staged n r kept) (if is_free r then sessions else sessions_after_all due_in.effects sessions)) (sym is) (as-due due_in (staged-by path n blob found))
+    by (inr is) = subst (λ r. AreStagedInUse (kept_staged n r kept) (if is_free r then sessions else sessions_after_all due_in.effects sessions)) (sym is) used
+
+  pub next-staged : (free : Bool) (k : Known) → (if free then k else known_after due_in.effects k).next ≡ k.next
+  next-staged true k = refl
+  next-staged false k = by due_in (staged-by path n blob found) where
+    by : (t : Turn) → Puts path blob t ⊎ Refuses n t → (known_after t.effects k).next ≡ k.next
+    by t (inl puts) = ap (λ (u : Turn). (known_after u.effects k).next) puts.1
+    by t (inr refuses) = ap (λ es. (known_after es k).next) refuses.effects
+
+-- an abort leaves the repositories as they are
+pub given-hosted : (free : Bool) (es : List Effect) (hosted : List Hosted) → AllByRecursion IsGivingUp es → (if free then hosted else hosted_after_all es hosted) ≡ hosted
+given-hosted true es hosted all = refl
+given-hosted false es hosted all = giving-rows es hosted all
+
+pub known-if : (free : Bool) (es : List Effect) (k : Known) → (if free then k else known_after es k).sessions ≡ (if free then k.sessions else sessions_after_all es k.sessions)
+known-if true es k = refl
+known-if false es k = refl
+
+pub next-if : (free : Bool) (es : List Effect) (k : Known) → AllByRecursion IsGoing es → (if free then k else known_after es k).next ≡ k.next
+next-if true es k going = refl
+next-if false es k going = next-still es k.next going
+
+-- what staging says of a blob's own number is said of the draft
+pub staged-given : (path : List ℕ) (n : ℕ) (blob : Blob) → blob.number ≡ n → (found : Option Session) (reply : Reply)
+    → (reply ≡ (stage_in path blob.number blob found).reply) ⊎ ((reply ≡ no_memory) × ((stage_in path blob.number blob found).reply ≡ staged))
+    → (reply ≡ (stage_in path n blob found).reply) ⊎ (reply ≡ no_memory)
+staged-given path n blob named found reply (inl is) = inl (is ∙ ap (λ m. (stage_in path m blob found).reply) named)
+staged-given path n blob named found reply (inr so) = inr so.0
+
+pub staged-known : (path : List ℕ) (n : ℕ) (blob : Blob) → blob.number ≡ n → (found : Option Session) (reply : Reply) (k new : Known)
+    → new ≡ (if is_free reply then k else known_after (stage_in path blob.number blob found).effects k) → new ≡ (if is_free reply then k else known_after (stage_in path n blob found).effects k)
+staged-known path n blob named found reply k new is = is ∙ ap (λ m. if is_free reply then k else known_after (stage_in path m blob found).effects k) named
+
+pub staged-named : (settings : Settings) (at : ℕ) (path : List ℕ) (n : ℕ) (blob : Blob) → IsTrue (meets settings (stage at path n blob)) → blob.number ≡ n
+staged-named settings at path n blob met =
+    let parts = and_parts (is_file_path path) (is_parcel n blob) met in
+    eqb-true blob.number n (and_parts (blob.number == n) (nat_lt blob.print.length number_end) parts.1).0
+
+-- ---- the turn of a commit, by what is known of the session
+module _ (n now : ℕ) (sessions : List Session) (hosted : List Hosted) where
+  by-found : (found : Option Session) → find (is_session n) sessions ≡ found
+      → commit_in n now sessions hosted ≡ with_open found (λ (known : Session). commit_of known now (rows_in known.repo hosted) known.ended)
+  by-found found is = ap (λ o. with_open o (λ (known : Session). commit_of known now (rows_in known.repo hosted) known.ended)) is
+
+  -- it has ended
+  pub commit-known : (result : SessionResult) → Some result ≡ how n (find (is_session n) sessions) → commit_in n now sessions hosted ≡ says (ended result)
+  commit-known result = by (find (is_session n) sessions) where
+    by : (found : Option Session) → Some result ≡ how n found → with_open found (λ (known : Session). commit_of known now (rows_in known.repo hosted) known.ended) ≡ says (ended result)
+    by None is = absurd (none-some result (sym is))
+    by (Some one) is = ap (commit_of one now (rows_in one.repo hosted)) (sym is)
+
+  module _ (still : None ≡ how n (find (is_session n) sessions)) where
+    as-open : find (is_session n) sessions ≡ find (is_open_at n) sessions
+    as-open = known-open n sessions (sym still)
+
+    -- none is open
+    pub commit-none : find (is_open_at n) sessions ≡ None → commit_in n now sessions hosted ≡ says no_session
+    commit-none none = by-found None (as-open ∙ none)
+
+    -- one is open: its repository's rows decide
+    module _ (one : Session) (there : find (is_open_at n) sessions ≡ Some one) where
+      pub commit-open : commit_in n now sessions hosted ≡ commit_of one now (rows_in one.repo hosted) one.ended
+      commit-open = by-found (Some one) (as-open ∙ there)
+
+      pub commit-same : (k : Known) → k.sessions ≡ sessions → (rows : List Row) → rows ≡ rows_in one.repo hosted → commit_turn k n now rows ≡ commit_in n now sessions hosted
+      commit-same k sessions_so rows rows_is =
+          ap (λ ss. with_open (find (is_session n) ss) (λ (known : Session). commit_of known now rows known.ended)) sessions_so
+          ∙ ap (λ o. with_open o (λ (known : Session). commit_of known now rows known.ended)) (as-open ∙ there)
+          ∙ ap (λ rs. commit_of one now rs one.ended) rows_is
+          ∙ sym commit-open
+
+      pub commit-ending : AllByRecursion (IsEnding one.repo) (commit_in n now sessions hosted).effects
+      commit-ending = subst (λ (t : Turn). AllByRecursion (IsEnding one.repo) t.effects) (sym commit-open) (commit-ends one now (rows_in one.repo hosted) one.ended)
+
+  -- whatever is known, its effects are those of an end, or there are none
+  pub commit-going : AllByRecursion IsGoing (commit_in n now sessions hosted).effects
+  commit-going = by (find (is_session n) sessions) where
+    by : (found : Option Session) → AllByRecursion IsGoing (with_open found (λ (known : Session). commit_of known now (rows_in known.repo hosted) known.ended)).effects
+    by None = tt
+    by (Some one) = ending-going one.repo (commit_of one now (rows_in one.repo hosted) one.ended).effects (commit-ends one now (rows_in one.repo hosted) one.ended)
+
+  pub commit-rules : rules_of (hosted_after_all (commit_in n now sessions hosted).effects hosted) ≡ rules_of hosted
+  commit-rules = by (find (is_session n) sessions) where
+    by : (found : Option Session) → rules_of (hosted_after_all (with_open found (λ (known : Session). commit_of known now (rows_in known.repo hosted) known.ended)).effects hosted) ≡ rules_of hosted
+    by None = refl
+    by (Some one) = ending-rules one.repo (commit_of one now (rows_in one.repo hosted) one.ended).effects hosted (commit-ends one now (rows_in one.repo hosted) one.ended)
+
+-- a turn that does nothing leaves all as it is
+module _ (t : Turn) (reply : Reply) (is : t ≡ says reply) where
+  pub idle-known : (free : Bool) (k : Known) → k ≡ (if free then k else known_after t.effects k)
+  idle-known true k = refl
+  idle-known false k = ap (λ (u : Turn). known_after u.effects k) (sym is)
+
+  pub idle-hosted : (free : Bool) (hosted : List Hosted) → hosted ≡ (if free then hosted else hosted_after_all t.effects hosted)
+  idle-hosted true hosted = refl
+  idle-hosted false hosted = ap (λ (u : Turn). hosted_after_all u.effects hosted) (sym is)
+
+  pub idle-garbage : (free : Bool) → [] ≡ (if free then [] else flat_map garbage_by t.effects)
+  idle-garbage true = refl
+  idle-garbage false = ap (λ (u : Turn). flat_map garbage_by u.effects) (sym is)
+
+  pub idle-tables : (free : Bool) (told : Option Tables) → told ≡ (if free then told else tables_with (recorded t.effects) told)
+  idle-tables true told = refl
+  idle-tables false told = quiet told ∙ ap (λ (u : Turn). tables_with (recorded u.effects) told) (sym is)
+
+-- the repositories with the rows that a commit leaves at the place of the session's
+pub placed : (repo : List ℕ) (es : List Effect) (items : List Hosted) (i : ℕ) (old new : Hosted) (free : Bool) → AllByRecursion (IsEnding repo) es → i < length items → old ≡ get_or items i old
+    → old.rows ≡ rows_in repo items → (new.rule ≡ (get_or items i new).rule → set items i new ≡ with_rows repo new.rows items)
+    → new ≡ (if free then old else record old { rows = rows_after_all es old.rows }) → set items i new ≡ (if free then items else hosted_after_all es items)
+placed repo es items i old new true all within at here change made = untouched-place repo items i old new within at here change made
+placed repo es items i old new false all within at here change made =
+    let rule : new.rule ≡ old.rule = ap (λ (h : Hosted). h.rule) made in
+    let same : old.rule ≡ (get_or items i new).rule = ap (λ (h : Hosted). h.rule) (at ∙ get_or_default items i old new within) in
+    change (rule ∙ same) ∙ ap (λ rs. with_rows repo rs items) (ap (λ (h : Hosted). h.rows) made ∙ ap (rows_after_all es) here) ∙ ending-set repo es items all
+
+pub rules-if : (free : Bool) (es : List Effect) (hosted : List Hosted) → rules_of (hosted_after_all es hosted) ≡ rules_of hosted → rules_of (if free then hosted else hosted_after_all es hosted) ≡ rules_of hosted
+rules-if true es hosted rules = refl
+rules-if false es hosted rules = rules
+
+-- what a commit answers is due, or changes nothing; and where the records failed, something was to be recorded
+failed-so : (did : Commit) → shown_commit did ≡ store_fault → did ≡ StoreFault
+failed-so NoSession is = cc
+failed-so (Offends path kept sent) is = cc
+failed-so (MissingPom dir) is = cc
+failed-so StoreFault is = refl
+failed-so NoMemory is = cc
+failed-so (Deployed count blobs) is = cc
+failed-so GivenUp is = cc
+
+pub commit-given : (t : Turn) (did : Commit) → (shown_commit did ≡ t.reply) ⊎ IsTrue (is_free (shown_commit did)) → (did ≡ StoreFault → recorded t.effects ≡ [] → ⊥)
+    → (shown_commit did ≡ t.reply) ⊎ (IsTrue (is_free (shown_commit did)) × (shown_commit did ≡ store_fault → recorded t.effects ≡ [] → ⊥))
+commit-given t did (inl is) asked = inl is
+commit-given t did (inr free) asked = inr (free, λ is. asked (failed-so did is))
+
+-- the repository of a session that is open is there
+pub open-there : (settings : Settings) (n : ℕ) (sessions : List Session) (hosted : List Hosted) (one : Session) → AllByRecursion (IsInOrder settings) sessions → rules_of hosted ≡ settings.hosted
+    → find (is_open_at n) sessions ≡ Some one → IsTrue (list_any (is_repository one.repo) hosted)
+open-there settings n sessions hosted one ordered rules found =
+    let opened : is_open_at n one ≡ true = found-passes (is_open_at n) sessions one found in
+    let open_so : is_none one.ended ≡ true = (and_parts (is_session n one) (is_open one) opened).1 in
+    let there : is_there one.repo settings ≡ true = (found-has (IsInOrder settings) (is_open_at n) sessions one ordered found).0 (none-so one.ended open_so) in
+    rule-there one.repo hosted (subst (λ rs. is_some (find (λ (rule : Rule). bytes_eq rule.id one.repo) rs) ≡ true) (sym rules) there) where
+      none-so : (o : Option SessionResult) → is_none o ≡ true → o ≡ None
+      none-so None is = refl
+      none-so (Some result) is = absurd (false≢true is)
+
+-- ---- commands of sessions that record nothing
+draws-quiet : (next : ℕ) → recorded (draws_draft next).effects ≡ []
+draws-quiet next = by (next == number_end) where
+  by : (end : Bool) → recorded (draft_by end next).effects ≡ []
+  by true = refl
+  by false = refl
+
+if-quiet : (b : Bool) (t : Turn) (reply : Reply) → recorded t.effects ≡ [] → recorded (if b then t else says reply).effects ≡ []
+if-quiet true t reply none = none
+if-quiet false t reply none = refl
+
+pub may_stage-quiet : (w : Parts) (n : ℕ) (path : List ℕ) → recorded (turn w.settings w.state w.state.last (may_put (session n) path)).effects ≡ []
+may_stage-quiet w n path = by (open_of n w.state) where
+  in-quiet : (found : Option Hosted) (t : Turn) → recorded t.effects ≡ [] → recorded (in_repository path found t).effects ≡ []
+  in-quiet None t none = refl
+  in-quiet (Some h) t none = if-quiet (takes h.rule path) t kind_refused none
+
+  by : (found : Option Session) → recorded (may_put_in w.state path found).effects ≡ []
+  by None = refl
+  by (Some one) = in-quiet (hosted_of one.repo w.state) _ (if-quiet (has_room path one.staged) (draws_draft w.state.yard.next_draft) session_full (draws-quiet w.state.yard.next_draft))
+
+pub stage_side-quiet : (w : Parts) (n : ℕ) (path said : List ℕ) → recorded (turn w.settings w.state w.state.last (put_side (session n) path said)).effects ≡ []
+stage_side-quiet w n path said = by (open_of n w.state) where
+  by : (found : Option Session) → recorded (with_open found (λ (one : Session). judged (kind path) said (λ at. staged_at at one.staged))).effects ≡ []
+  by None = refl
+  by (Some one) = judges-nothing (kind path) said (λ at. staged_at at one.staged)
+
+pub note-quiet : (w : Parts) (n : ℕ) (path : List ℕ) → recorded (turn w.settings w.state w.state.last (put_doc (session n) path)).effects ≡ []
+note-quiet w n path = by (open_of n w.state) where
+  by : (found : Option Session) → recorded (with_open found (λ (one : Session). says noted)).effects ≡ []
+  by None = refl
+  by (Some one) = refl
+
+pub stage-quiet : (w : Parts) (at : ℕ) (path : List ℕ) (n : ℕ) (blob : Blob) → recorded (turn w.settings w.state w.state.last (stage at path n blob)).effects ≡ []
+stage-quiet w at path n blob = if-quiet (is_among n w.state.yard.drafts) (stage_in path n blob (open_of at w.state)) no_draft (by (stage_in path n blob (open_of at w.state)) (staged-by path n blob (open_of at w.state))) where
+  by : (t : Turn) → Puts path blob t ⊎ Refuses n t → recorded t.effects ≡ []
+  by t (inl puts) = ap (λ (u : Turn). recorded u.effects) puts.1
+  by t (inr refuses) = ap recorded refuses.effects

@@ -9,10 +9,10 @@ use Rattle.mvn_coords.specs.declared.kind.Kind.TheVariants.{FileSide}
 use Rattle.mvn_coords.specs.declared.fault.PathFault.{PathFault}
 use Rattle.mvn_digest.specs.Sides.{side_of}
 use Rattle.repo_model.specs.Command.{put_side}
-use Rattle.repo_model.specs.Data.{Blob, Row, repository}
+use Rattle.repo_model.specs.Data.{Blob, Row, Session, repository, session}
 use Rattle.repo_model.specs.Reply.{Reply, agreed, differs}
-use Rattle.repo_model.specs.State.{row_at}
-use Rattle.repo_model.specs.Turn.{compared, judged, says}
+use Rattle.repo_model.specs.State.{open_of, row_at}
+use Rattle.repo_model.specs.Turn.{Turn, compared, judged, says, staged_at, with_open}
 use Rattle.repo_core.specs.Hosted.{rows_in}
 use Rattle.repo_core.specs.Turn.{Turned}
 use Rattle.repo_core.specs.Whole.{Parts}
@@ -37,3 +37,13 @@ turned-side w repo path said reply is =
     let blob_at : List ℕ → Option Blob = λ at. option_map (λ (row : Row). row.blob) (row_at at (rows_in repo w.state.hosted)) in
     subst (Turned w w (put_side (repository repo) path said)) (sym is)
     (turned-says w (put_side (repository repo) path said) (judged (kind path) said blob_at).reply (judged-says (kind path) said blob_at))
+
+-- a side file of a session
+pub turned-staged-side : (w : Parts) (n : ℕ) (path said : List ℕ) (reply : Reply)
+    → reply ≡ (with_open (open_of n w.state) (λ (found : Session). judged (kind path) said (λ at. staged_at at found.staged))).reply → Turned w w (put_side (session n) path said) reply
+turned-staged-side w n path said reply is =
+    subst (Turned w w (put_side (session n) path said)) (sym is)
+    (turned-says w (put_side (session n) path said) (with_open (open_of n w.state) (λ (found : Session). judged (kind path) said (λ at. staged_at at found.staged))).reply (by (open_of n w.state))) where
+      by : (found : Option Session) → let t : Turn = with_open found (λ (one : Session). judged (kind path) said (λ at. staged_at at one.staged)) in t ≡ says t.reply
+      by None = refl
+      by (Some one) = judged-says (kind path) said (λ at. staged_at at one.staged)

@@ -39,7 +39,7 @@ use Rattle.std.specs.Option.{ForSome}
 use Rattle.std.proofs.lemmas.Bool.{false≢true, ne_eqb}
 use Rattle.std.proofs.lemmas.Option.{none-some}
 use Rattle.repo_core.specs.Turn.{done_by, IsAnswer, IsSettledBy, due, wants_memory, failed, MayRecord, Recorded, Turned}
-use Rattle.repo_core.specs.Whole.{AreClosed, Parts, Whole, IsKept, IsOrderly, Tell, counting}
+use Rattle.repo_core.specs.Whole.{Parts, Whole, IsKept, IsOrderly, Tell, counting}
 use Rattle.repo_core.proofs.NameLemmas.{named-apart}
 
 nothing-done : (b : Bool) (s : State) → s ≡ with_effects s (if b then [] else [])
@@ -244,7 +244,7 @@ compares-nothing : (said : List ℕ) (kept : Option (List ℕ)) → recorded (co
 compares-nothing said None = refl
 compares-nothing said (Some kept) = elim (bytes_eq said kept) as (λ b. recorded (if b then says agreed else says (differs said kept)).effects ≡ []) [ true ↦ refl | false ↦ refl ]
 
-judges-nothing : (k : Result Kind PathFault) (said : List ℕ) (blob_at : List ℕ → Option Blob) → recorded (judged k said blob_at).effects ≡ []
+pub judges-nothing : (k : Result Kind PathFault) (said : List ℕ) (blob_at : List ℕ → Option Blob) → recorded (judged k said blob_at).effects ≡ []
 judges-nothing (Ok (FileSide c side)) said blob_at = compares-nothing said (option_map (λ (blob : Blob). side_of blob.print.digests side) (blob_at (text_of c)))
 judges-nothing k said blob_at = refl
 

@@ -70,7 +70,7 @@ more-used : (kept : List ℕ) (n : ℕ) (rows : List Row) → RowsUsed kept rows
 more-used kept n [] used = tt
 more-used kept n (row ∷ rows) used = (among-more row.blob.number n kept used.0, more-used kept n rows used.1)
 
-all-more : (kept : List ℕ) (n : ℕ) (hosted : List Hosted) → AreInUse kept hosted → AreInUse (with_number n kept) hosted
+pub all-more : (kept : List ℕ) (n : ℕ) (hosted : List Hosted) → AreInUse kept hosted → AreInUse (with_number n kept) hosted
 all-more kept n [] used = tt
 all-more kept n (h ∷ hosted) used = (more-used kept n h.rows used.0, all-more kept n hosted used.1)
 

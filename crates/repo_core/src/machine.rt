@@ -11,7 +11,7 @@ use crate::purges::{Gone, condemn_all, drop_expired, expiring};
 use crate::puts::{compare_side, reply_of, settle};
 use crate::turn::next_moment;
 use blob_yard::{DrawFault, Yard};
-use deploy_session::Sessions;
+use deploy_session::{Abort, Begin, Commit, Sessions, Stage};
 use hosted_repo::{Hosted, Kept};
 use mvn_digest::Digest;
 use outside::{Clock, Held, Parcel};
@@ -89,6 +89,8 @@ impl<C: Clock, H: Held> Machine<C, H> {
     ghost use Rattle.row_tables.specs.Commits.{tables_with};
     ghost use Rattle.hosted_repo.specs.Expired.{blob_of};
     ghost use Rattle.hosted_repo.specs.Recording.{FitWhereTold};
+    ghost use Rattle.deploy_session.specs.Shown.{shown_abort, shown_begin, shown_commit, shown_stage};
+    ghost use Rattle.repo_model.specs.State.{is_among};
     ghost use Rattle.repo_core.specs.Deploys.{AreStagedInUse};
     ghost use Rattle.repo_core.specs.Hosted.{AreInUse, rules_of};
     ghost use Rattle.repo_core.specs.Purge.{shares};
@@ -216,15 +218,15 @@ impl<C: Clock, H: Held> Machine<C, H> {
                 Place::Session(number) => self.note(number, path.as_str()),
             },
             Command::Drop { draft } => self.drop_draft(draft),
-            Command::Open { repo } => self.open(records, repo.as_str()),
+            Command::Open { repo } => reply_of_begin(self.open(records, repo.as_str())),
             Command::Stage {
                 session,
                 path,
                 draft,
                 parcel,
             } => self.stage(session, path.as_str(), draft, parcel),
-            Command::Commit { session } => self.commit(records, session),
-            Command::Abort { session } => self.abort(records, session),
+            Command::Commit { session } => reply_of_commit(self.commit(records, session)),
+            Command::Abort { session } => reply_of_abort(self.abort(records, session)),
             Command::Unlist { repo } => self.unlist(records, repo.as_str()),
             Command::Collect => self.collect(records),
             Command::Status => self.status(),
@@ -256,15 +258,16 @@ impl<C: Clock, H: Held> Machine<C, H> {
         }
     }
 
-    fn open<K: Records>(&mut self, records: &mut K, repo: &str) -> Reply<H>
+    // Opens a session.
+    fn open<K: Records>(&mut self, records: &mut K, repo: &str) -> Begin
         requires ready { K.ready records.old }
         requires items { FitWhereTold (K.tables records.old) (recorded (turn self.old.settings self.old.state self.old.state.last (open_session repo.now)).effects) }
-        ensures turn { Recorded self.old self.new (open_session repo.now) (shown_reply result) (K.tables records.old) (K.tables records.new) (K.faults records.old) (K.faults records.new) }
+        ensures turn { Recorded self.old self.new (open_session repo.now) (shown_begin result) (K.tables records.old) (K.tables records.new) (K.faults records.old) (K.faults records.new) }
         ensures ready { K.ready records.new }
     {
         let begun = self.sessions.begin(records, repo);
         settle_begun(&mut self.yard, begun);
-        reply_of_begin(begun)
+        begun
     }
 
     fn stage(&mut self, number: u64, path: &str, draft: u64, parcel: Parcel<H>) -> Reply<H>
@@ -275,16 +278,27 @@ impl<C: Clock, H: Held> Machine<C, H> {
         if !self.yard.is_draft(draft) {
             return Reply::NoDraft;
         }
-        let did = self.sessions.stage(number, path, parcel);
-        settle_staged(&mut self.yard, draft, did);
-        reply_of_stage(did)
+        reply_of_stage(self.stage_draft(number, path, draft, parcel))
     }
 
-    fn commit<K: Records>(&mut self, records: &mut K, number: u64) -> Reply<H>
+    // Stages a blob that was stored under a draft.
+    fn stage_draft(&mut self, number: u64, path: &str, draft: u64, parcel: Parcel<H>) -> Stage
+        requires meets { IsTrue (meets self.old.settings (stage number path.now draft (shown_parcel parcel))) }
+        requires draft { IsTrue (is_among draft self.old.state.yard.drafts) }
+        requires orderly { IsOrderly self.old }
+        ensures { Turned self.old self.new (stage number path.now draft (shown_parcel parcel)) (shown_stage result) }
+    {
+        let did = self.sessions.stage(number, path, parcel);
+        settle_staged(&mut self.yard, draft, did);
+        did
+    }
+
+    // Deploys a session's files.
+    fn commit<K: Records>(&mut self, records: &mut K, number: u64) -> Commit
         requires orderly { IsOrderly self.old }
         requires ready { K.ready records.old }
         requires items { FitWhereTold (K.tables records.old) (recorded (turn self.old.settings self.old.state self.old.state.last (commit number)).effects) }
-        ensures turn { Recorded self.old self.new (commit number) (shown_reply result) (K.tables records.old) (K.tables records.new) (K.faults records.old) (K.faults records.new) }
+        ensures turn { Recorded self.old self.new (commit number) (shown_commit result) (K.tables records.old) (K.tables records.new) (K.faults records.old) (K.faults records.new) }
         ensures ready { K.ready records.new }
     {
         let did = commit(
@@ -295,19 +309,20 @@ impl<C: Clock, H: Held> Machine<C, H> {
             self.last,
         );
         condemn_over(&mut self.yard, &did);
-        reply_of_commit(did)
+        did
     }
 
-    fn abort<K: Records>(&mut self, records: &mut K, number: u64) -> Reply<H>
+    // Gives a session up.
+    fn abort<K: Records>(&mut self, records: &mut K, number: u64) -> Abort
         requires orderly { IsOrderly self.old }
         requires ready { K.ready records.old }
         requires items { FitWhereTold (K.tables records.old) (recorded (turn self.old.settings self.old.state self.old.state.last (abort number)).effects) }
-        ensures turn { Recorded self.old self.new (abort number) (shown_reply result) (K.tables records.old) (K.tables records.new) (K.faults records.old) (K.faults records.new) }
+        ensures turn { Recorded self.old self.new (abort number) (shown_abort result) (K.tables records.old) (K.tables records.new) (K.faults records.old) (K.faults records.new) }
         ensures ready { K.ready records.new }
     {
         let did = self.sessions.abort(records, number);
         condemn_left(&mut self.yard, &did);
-        reply_of_abort(did)
+        did
     }
 
     fn look(&mut self, repo: &str, path: &str) -> Reply<H>

@@ -1,29 +1,65 @@
 use Rattle.std.proofs.Common.{◌≡◌, [], sym, ap, ◌∙◌, subst}
 use Rattle.hosted_repo.specs.Recording.{FitWhereTold}
 use Rattle.mvn_digest.specs.Sides.{bytes_in}
-use Rattle.repo_model.specs.Command.{collect, look, may_put, put, put_side, unlist}
-use Rattle.repo_model.specs.Data.{repository}
+use Rattle.repo_model.specs.Command.{collect, look, may_put, put, put_doc, put_side, stage, unlist}
+use Rattle.repo_model.specs.Data.{repository, session}
 use Rattle.repo_model.specs.Effect.{recorded}
 use Rattle.repo_model.specs.Shown.{shown_command, shown_parcel, shown_place, shown_reply}
 use Rattle.repo_model.specs.Turn.{turn}
 use Rattle.repo_core.specs.Turn.{Recorded}
-use Rattle.repo_core.proofs.Turning.{alone, look-quiet, may_put-nowhere, may_put-quiet, put_doc-nowhere, put_side-nowhere, put_side-quiet}
+use Rattle.repo_core.proofs.DeployTurns.{may_stage-quiet, note-quiet, stage-quiet, stage_side-quiet}
+use Rattle.repo_core.proofs.Turning.{alone, look-quiet, may_put-quiet, put_side-quiet}
 use Rattle.repo_core.proofs.machine.Machine.answer.Goals as goal
 
 pub returns-in-MayPut-clause-turn : goal.returns-in-MayPut-clause-turn
 returns-in-MayPut-clause-turn g c =
-    let told = c.refuse_session.ensures in
-    rw (c.in-MayPut.is, c.in-Session.is, told.reply) (may_put-nowhere c.args.self.now c.in-Session.field-0 (told.none c.in-Session.field-0) c.in-MayPut.path _ _)
+    let w = c.args.self.now in
+    let tables = g.K.Records.tables c.args.records.now in
+    let faults = g.K.Records.faults c.args.records.now in
+    let n = c.in-Session.number in
+    let path = c.as_str-in-Session.result.now in
+    let asked : may_put (session n) path ≡ shown_command c.args.command =
+    ap (λ p. may_put (session n) p) c.as_str-in-Session.ensures ∙ ap (λ place. may_put (shown_place place) c.in-MayPut.path) (sym c.in-Session.is) ∙ ap (λ q. shown_command q) (sym c.in-MayPut.is) in
+    subst (λ q. Recorded w c.may_stage.new.self q (shown_reply c.may_stage.result) tables tables faults faults) asked
+    (alone w c.may_stage.new.self (may_put (session n) path) (shown_reply c.may_stage.result) tables faults (may_stage-quiet w n path) c.may_stage.ensures)
 
 pub returns-in-PutSide-clause-turn : goal.returns-in-PutSide-clause-turn
 returns-in-PutSide-clause-turn g c =
-    let told = c.refuse_session-in-Session-place.ensures in
-    rw (c.in-PutSide.is, c.in-Session-place.is, told.reply) (put_side-nowhere c.args.self.now c.in-Session-place.field-0 (told.none c.in-Session-place.field-0) c.in-PutSide.path _ _ (bytes_in c.in-PutSide.said))
+    let w = c.args.self.now in
+    let tables = g.K.Records.tables c.args.records.now in
+    let faults = g.K.Records.faults c.args.records.now in
+    let n = c.in-Session-place.number in
+    let path = c.as_str-in-Session-place.result.now in
+    let said = bytes_in c.in-PutSide.said in
+    let asked : put_side (session n) path said ≡ shown_command c.args.command =
+    ap (λ p. put_side (session n) p said) c.as_str-in-Session-place.ensures ∙ ap (λ place. put_side (shown_place place) c.in-PutSide.path said) (sym c.in-Session-place.is) ∙ ap (λ q. shown_command q) (sym c.in-PutSide.is) in
+    subst (λ q. Recorded w c.stage_side.new.self q (shown_reply c.stage_side.result) tables tables faults faults) asked
+    (alone w c.stage_side.new.self (put_side (session n) path said) (shown_reply c.stage_side.result) tables faults (stage_side-quiet w n path said) c.stage_side.ensures)
 
 pub returns-in-PutDoc-clause-turn : goal.returns-in-PutDoc-clause-turn
 returns-in-PutDoc-clause-turn g c =
-    let told = c.refuse_session-in-Session-place-2.ensures in
-    rw (c.in-PutDoc.is, c.in-Session-place-2.is, told.reply) (put_doc-nowhere c.args.self.now c.in-Session-place-2.field-0 (told.none c.in-Session-place-2.field-0) c.in-PutDoc.path _ _)
+    let w = c.args.self.now in
+    let tables = g.K.Records.tables c.args.records.now in
+    let faults = g.K.Records.faults c.args.records.now in
+    let n = c.in-Session-place-2.number in
+    let path = c.as_str-in-Session-place-2.result.now in
+    let asked : put_doc (session n) path ≡ shown_command c.args.command =
+    ap (λ p. put_doc (session n) p) c.as_str-in-Session-place-2.ensures ∙ ap (λ place. put_doc (shown_place place) c.in-PutDoc.path) (sym c.in-Session-place-2.is) ∙ ap (λ q. shown_command q) (sym c.in-PutDoc.is) in
+    subst (λ q. Recorded w c.note.new.self q (shown_reply c.note.result) tables tables faults faults) asked
+    (alone w c.note.new.self (put_doc (session n) path) (shown_reply c.note.result) tables faults (note-quiet w n path) c.note.ensures)
+
+pub returns-in-Stage-clause-turn : goal.returns-in-Stage-clause-turn
+returns-in-Stage-clause-turn g c =
+    let w = c.args.self.now in
+    let tables = g.K.Records.tables c.args.records.now in
+    let faults = g.K.Records.faults c.args.records.now in
+    let n = c.in-Stage.session in
+    let draft = c.in-Stage.draft in
+    let blob = shown_parcel c.in-Stage.parcel in
+    let path = c.as_str-in-Stage.result.now in
+    let asked : stage n path draft blob ≡ shown_command c.args.command = ap (λ p. stage n p draft blob) c.as_str-in-Stage.ensures ∙ ap (λ q. shown_command q) (sym c.in-Stage.is) in
+    subst (λ q. Recorded w c.stage.new.self q (shown_reply c.stage.result) tables tables faults faults) asked
+    (alone w c.stage.new.self (stage n path draft blob) (shown_reply c.stage.result) tables faults (stage-quiet w n path draft blob) c.stage.ensures)
 
 pub returns-in-Look-clause-turn : goal.returns-in-Look-clause-turn
 returns-in-Look-clause-turn g c =

@@ -1,8 +1,10 @@
-use Rattle.std.proofs.Common.{[], ◌∷◌, subst, sym}
-use Rattle.repo_model.specs.History.{Entry, Fits, after}
+use Rattle.std.proofs.Common.{◌≡◌, [], ◌∷◌, subst, sym}
+use Rattle.repo_model.specs.Effect.{recorded}
+use Rattle.repo_model.specs.History.{Entry, Fits, after, effects_of}
 use Rattle.repo_model.specs.Shown.{entry_of, shown_command}
 use Rattle.repo_laws.specs.Laws.{KeepsReleases}
 use Rattle.repo_laws.proofs.Lasting.{releases-last}
+use Rattle.row_tables.specs.Commits.{tables_with}
 use Rattle.repo_core.specs.Whole.{IsKept, Whole, counting, whole_of}
 use Rattle.repo_core.proofs.AnswerLemmas.{answers}
 use Rattle.repo_core.proofs.KeepLemmas.{may-record, orderly-kept}
@@ -30,6 +32,12 @@ invariant_of-self g c =
 pub returns-clause-fits : goal.returns-clause-fits
 returns-clause-fits g c =
     subst (λ (w : Whole). Fits w.settings w.state (entry_of c.args.command c.call.new.self.state.last c.call.result (g.K.Records.faults c.call.new.records))) c.self.view_is c.call.ensures.fits
+
+pub returns-clause-tables : goal.returns-clause-tables
+returns-clause-tables g c =
+    subst
+    (λ (w : Whole). g.K.Records.tables c.call.new.records
+    ≡ tables_with (recorded (effects_of w.settings w.state (entry_of c.args.command c.call.new.self.state.last c.call.result (g.K.Records.faults c.call.new.records)))) w.tables) c.self.view_is c.call.ensures.tables
 
 pub returns-clause-holds : goal.returns-clause-holds
 returns-clause-holds g c = λ t told.

@@ -1,0 +1,66 @@
+use Rattle.std.proofs.Common.{◌≡◌, ◌⊎◌, inl, inr, refl, sym, ap, ◌∙◌, subst}
+use Rattle.std.specs.Prelude.{if◌then◌else◌}
+use Rattle.blob_yard.specs.Numbers.{Numbers}
+use Rattle.deploy_session.specs.Known.{Known, begin_turn, known_after}
+use Rattle.deploy_session.specs.Shown.{shown_begin}
+use Rattle.repo_model.specs.Command.{open_session}
+use Rattle.repo_model.specs.Reply.{is_free}
+use Rattle.repo_model.specs.State.{State}
+use Rattle.repo_core.specs.Deploys.{AreStagedInUse, yard_opened}
+use Rattle.repo_core.specs.Hosted.{AreInUse}
+use Rattle.repo_core.specs.Whole.{Parts}
+use Rattle.repo_core.proofs.DeployTurns.{due-or-free, open-all, open-left, open-next, recorded-by, recorded-given, turn-open}
+use Rattle.repo_core.proofs.StagedLemmas.{staged-opened}
+use Rattle.repo_core.proofs.machine.Machine.open.Goals as goal
+
+pub invariant_of-self : goal.invariant_of-self
+invariant_of-self g c =
+    let k : Known = c.self.inside.sessions in
+    let r = shown_begin c.begin-begun.result in
+    let kept = c.self.inside.yard.kept in
+    let repo = c.args.repo.now in
+    let s : State = record {
+      hosted = c.self.inside.repos.items;
+      sessions = k.sessions;
+      yard = c.self.inside.yard.yard;
+      last = c.self.inside.last;
+      clock = g.C.Clock.moments c.self.inside.clock;
+      faults = 0;
+    } in
+    let kept_so = sym (ap (λ (y : Numbers). y.kept) c.settle_begun.ensures) in
+    let given = due-or-free (begin_turn k repo) r c.begin-begun.ensures.reply in
+    record {
+      moment = c.self.invariant.moment;
+      blobs = subst (λ ns. AreInUse ns c.self.inside.repos.items) kept_so c.self.invariant.blobs;
+      rules = c.self.invariant.rules;
+      staged = subst (λ ns. AreStagedInUse ns c.begin-begun.new.self.sessions) kept_so
+          (subst (λ (q : Known). AreStagedInUse kept q.sessions) (sym c.begin-begun.ensures.sessions)
+          (open-all (AreStagedInUse kept) repo k r c.self.invariant.staged (staged-opened kept k.next repo k.sessions c.self.invariant.staged)));
+      numbers = ap (λ (y : Numbers). y.yard.next_session) c.settle_begun.ensures ∙ open-next s repo k refl (sym c.self.invariant.numbers) r given
+          ∙ ap (λ (q : Known). q.next) (sym c.begin-begun.ensures.sessions);
+    }
+
+pub returns-clause-turn : goal.returns-clause-turn
+returns-clause-turn g c =
+    let k : Known = c.self.inside.sessions in
+    let r = shown_begin c.begin-begun.result in
+    let repo = c.args.repo.now in
+    let s : State = record {
+      hosted = c.self.inside.repos.items;
+      sessions = k.sessions;
+      yard = c.self.inside.yard.yard;
+      last = c.self.inside.last;
+      clock = g.C.Clock.moments c.self.inside.clock;
+      faults = 0;
+    } in
+    let w : Parts = record { settings = c.self.inside.settings; state = s; calls = c.self.inside.calls } in
+    let new : Parts = record w { state = record s { sessions = c.begin-begun.new.self.sessions; yard = c.settle_begun.new.yard.yard } } in
+    let given = due-or-free (begin_turn k repo) r c.begin-begun.ensures.reply in
+    let left =
+    ap (λ (q : Known). record s { sessions = q.sessions; yard = c.settle_begun.new.yard.yard }) c.begin-begun.ensures.sessions
+    ∙ ap (λ (y : Numbers). record s { sessions = (if is_free r then k else known_after (begin_turn k repo).effects k).sessions; yard = y.yard }) c.settle_begun.ensures
+    ∙ open-left s repo k refl (sym c.self.invariant.numbers) r given in
+    rw (← c.self.view_is)
+    (recorded-by w new (open_session repo) (begin_turn k repo) r (g.K.Records.tables c.args.records.now) (g.K.Records.tables c.begin-begun.new.records) (g.K.Records.faults c.args.records.now)
+    (g.K.Records.faults c.begin-begun.new.records) (turn-open s repo k refl (sym c.self.invariant.numbers) w refl) refl (recorded-given (begin_turn k repo) r c.begin-begun.ensures.reply) refl refl left
+    c.begin-begun.ensures.tables c.begin-begun.ensures.cause)
