@@ -223,7 +223,10 @@ static CLEANS: [Exchange; 11] = [
                 "POST /repository/releases/org/acme/lib/1.0/lib-1.0.jar HTTP/1.1\r\nHost: x\r\n\r\n",
             ),
             (1, "POST /api/clean/ HTTP/1.1\r\nHost: x\r\n\r\n"),
-            (1, "POST /api/sessions/1/commit/ HTTP/1.1\r\nHost: x\r\n\r\n"),
+            (
+                1,
+                "POST /api/sessions/1/commit/ HTTP/1.1\r\nHost: x\r\n\r\n",
+            ),
         ],
         answers: &[(1, METHOD_AT_STATUS), (1, METHOD_AT_HOSTED), (2, NO_ROUTE)],
         line: "calls 0 end Closed\n",
