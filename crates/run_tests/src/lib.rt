@@ -33,6 +33,8 @@ mod paths;
 #[cfg(test)]
 mod runs;
 #[cfg(test)]
+mod sessions;
+#[cfg(test)]
 mod sides;
 #[cfg(test)]
 mod snapshots;

@@ -12,6 +12,7 @@ use crate::framing::framing;
 use crate::judged::judged;
 use crate::lengths::lengths;
 use crate::paths::paths;
+use crate::sessions::sessions;
 use crate::sides::sides;
 use crate::snapshots::snapshots;
 use outside::Duplex;
@@ -239,6 +240,12 @@ fn documents_are_computed(rt: HostRuntime) -> Result<(), Fail> {
 #[test]
 fn repositories_are_cleaned(rt: HostRuntime) -> Result<(), Fail> {
     assert_eq!(rt; first_wrong(rt.alloc(), cleans())?, None);
+    Ok(())
+}
+
+#[test]
+fn sessions_are_deployed_or_given_up(rt: HostRuntime) -> Result<(), Fail> {
+    assert_eq!(rt; first_wrong(rt.alloc(), sessions())?, None);
     Ok(())
 }
 
