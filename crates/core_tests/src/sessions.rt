@@ -37,7 +37,10 @@ static DEPLOYED: [(Ask, Said); 19] = [
     (Ask::Commit(1), Said::Deployed(2)),
     (Ask::Look("releases", JAR), Said::File(1, 1, ABC)),
     (Ask::Look("releases", POM), Said::File(2, 2, NOTHING)),
-    (Ask::Look("releases", JAR_SHA1), Said::Text(ABC.sha1)),
+    (
+        Ask::Look("releases", JAR_SHA1),
+        Said::Text("a9993e364706816aba3e25717850c26c9cd0d89d"),
+    ),
     (Ask::Status, Said::Counts([2, 0, 0, 0, 0])),
     // the kept result, and nothing else
     (Ask::Commit(1), Said::Deployed(2)),
