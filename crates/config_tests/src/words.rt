@@ -3,18 +3,43 @@ use command_words::{Wanted, WordsFault, read_words};
 use std::alloc::Global;
 use std::process::Abort;
 use std::test::Fail;
+use texts::Text;
 
-// What words are read as: `settings at step`, or `refused`.
+// Words over a folder.
+fn over_folder(alloc: Global, name: &str, settings: &Text, data: &Text) -> Result<String, Fail> {
+    let settings = settings.as_str();
+    let data = data.as_str();
+    Ok(format!(in alloc; "{name} {settings} {data}")?)
+}
+
+// What was read.
+fn shown(alloc: Global, wanted: &Wanted) -> Result<String, Fail> {
+    match wanted {
+        Wanted::Replay { settings, at, step } => {
+            let settings = settings.as_str();
+            Ok(format!(in alloc; "{settings} {at} {step}")?)
+        }
+        Wanted::Check { settings, data } => over_folder(alloc, "check", settings, data),
+        Wanted::Clean { settings, data } => over_folder(alloc, "clean", settings, data),
+        Wanted::Serve {
+            settings,
+            data,
+            port,
+        } => {
+            let folder = over_folder(alloc, "serve", settings, data)?;
+            Ok(format!(in alloc; "{folder} {port}")?)
+        }
+    }
+}
+
+// What words are read as: `settings at step` of a replay, the words themselves of others, or `refused`.
 fn read(alloc: Global, line: &str) -> Result<String, Fail> {
     let mut words = Vec::new(alloc);
     for word in line.split_whitespace() {
         words.push(String::from_str(alloc, word)?)?;
     }
     match read_words(alloc, &words) {
-        Ok(Wanted::Replay { settings, at, step }) => {
-            let settings = settings.as_str();
-            Ok(format!(in alloc; "{settings} {at} {step}")?)
-        }
+        Ok(wanted) => shown(alloc, &wanted),
         Err(WordsFault::Refused) => Ok(String::from_str(alloc, "refused")?),
         Err(WordsFault::NoMemory) => Err(Fail::from("memory")),
     }
@@ -41,6 +66,12 @@ const ACCEPTED: &str = "
     replay s.toml --at 253402207200 => s.toml 253402207200 0
     replay s.toml --step 86400 => s.toml 0 86400
     replay -- --at => --at 0 0
+    check s.toml data => check s.toml data
+    clean s.toml data => clean s.toml data
+    serve s.toml data 8080 => serve s.toml data 8080
+    serve s.toml data 1 => serve s.toml data 1
+    serve s.toml data 65535 => serve s.toml data 65535
+    serve s.toml data +80 => serve s.toml data 80
 ";
 
 const REFUSED: &str = "
@@ -62,7 +93,18 @@ const REFUSED: &str = "
     --help => refused
     --version => refused
     Replay s.toml => refused
-    clean s.toml data => refused
+    check => refused
+    check s.toml => refused
+    check s.toml data more => refused
+    check s.toml data --at 1 => refused
+    clean s.toml => refused
+    clean s.toml data more => refused
+    serve s.toml data => refused
+    serve s.toml data 0 => refused
+    serve s.toml data 65536 => refused
+    serve s.toml data x => refused
+    serve s.toml data 80 81 => refused
+    serve s.toml 80 => refused
     s.toml replay => refused
 ";
 
