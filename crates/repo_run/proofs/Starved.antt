@@ -8,7 +8,7 @@ use Rattle.run_lines.specs.Printing.{Output, Prints}
 use Rattle.run_lines.specs.Reading.{File, Reads}
 use Rattle.store_check.specs.Checking as checking
 use Rattle.repo_run.specs.declared.actions.Action.{Action}
-use Rattle.repo_run.specs.declared.actions.Action.TheVariants.{Replay, Check, Clean, Nothing}
+use Rattle.repo_run.specs.declared.actions.Action.TheVariants.{Replay, Check, Clean, Serve, Nothing}
 use Rattle.repo_run.specs.Clean as clean
 use Rattle.repo_run.specs.Replay.{refused}
 use Rattle.repo_run.specs.Running.{Runs}
@@ -30,4 +30,5 @@ starved-run tells connection_of Check old desk out' status prints is =
     (checking.refused (unread-source old.source old.out out' status prints is) refl refl, refl, refl, refl, refl)
 starved-run tells connection_of Clean old desk out' status prints is =
     (clean.refused (unread-source old.source old.out out' status prints is) refl (refl, refl) refl, refl)
+starved-run tells connection_of Serve old desk out' status prints is = (inr (prints, is), refl, refl, (refl, refl), refl, refl)
 starved-run tells connection_of Nothing old desk out' status prints is = (inr (prints, is), refl, refl, (refl, refl), refl, refl)
