@@ -5,7 +5,7 @@ ghost use Rattle.std.specs.Prelude.{◌≡◌, ◌<◌, IfOk, vec_len};
 
 use data_folder::{blobs_in, open_disk};
 use desk_work as work;
-use outside::{Blobs, Duplex, NoMemory, Sink, Source, Stream};
+use outside::{Blobs, Duplex, NoMemory, Source, Stream};
 use outside_memory::{FaultScript, MemBlobs, MemLink, MemSource, ScriptClock, ScriptPort};
 use outside_pace::{Running, SleepingPace};
 use outside_sockets::TcpPort;
@@ -16,13 +16,8 @@ use row_tables::MemRecords;
 use run_serve::serve;
 use std::alloc::Global;
 use std::env;
-use std::fs::{File, Files};
 use std::io::{self, Stdin, Stdout};
-use std::net::{Net, TcpListener, TcpStream};
 use std::process::ExitCode;
-use std::sync::Wait;
-use std::thread::Threads;
-use std::time::Clock;
 
 /// Standard input and output as one connection.
 type Standard = Duplex<ReaderSource<Stdin>, WriterSink<Stdout>>;
@@ -43,7 +38,9 @@ fn desks_with<L: Stream + Drop, B: Blobs + Drop>(
     ensures { IfOk result (λ desks. vec_len desks ≡ 1) }
 {
     let port = ScriptPort::new(alloc, links, FaultScript::none(alloc))?;
-    Ok(vec![in alloc; Desk { port, blobs }]?)
+    let mut desks = Vec::new(alloc);
+    desks.push(Desk { port, blobs })?;
+    Ok(desks)
 }
 
 fn memory_blobs(alloc: Global) -> MemBlobs {
@@ -114,68 +111,69 @@ fn status_over_folder(rt: &HostRuntime, words: &[String], wanted: &Wanted) -> Re
 /// How many connections are served at once.
 const DESKS: u64 = 4;
 
+/// What one worker of a server owns: a listener, and the blobs of a folder.
+type TcpDesk = work::Desk<TcpPort<HostRuntime>, FolderBlobs<HostRuntime>>;
+
+/// What cleans beside them: the blobs of the folder, and a timer that ends with the listener.
+type FolderCleaner = work::Cleaner<FolderBlobs<HostRuntime>, SleepingPace<HostRuntime>>;
+
+/// A desk of a server over a folder.
+fn tcp_desk(
+    rt: &HostRuntime,
+    folder: &str,
+    port: TcpPort<HostRuntime>,
+) -> Result<TcpDesk, NoMemory> {
+    Ok(work::Desk {
+        port,
+        blobs: blobs_in(rt, folder)?,
+    })
+}
+
 /// The desks of a server, which share one listener.
-fn tcp_desks<R: Files + Net + Clock + AllocGlobal + Clone + Drop>(
-    rt: &R,
-    wanted: &Wanted,
-    running: &Running,
-) -> Result<Vec<work::Desk<TcpPort<R>, FolderBlobs<R>>>, NoMemory>
+fn tcp_desks(rt: &HostRuntime, wanted: &Wanted, running: &Running) -> Result<Vec<TcpDesk>, NoMemory>
     ensures { IfOk result (λ desks. 0 < vec_len desks) }
 {
     let folder = wanted.folder.as_str();
     let port = TcpPort::bind(rt.clone()?, wanted.port, running.share()?);
     let mut desks = Vec::new(rt.alloc());
     for _ in 1..DESKS {
-        desks.push(work::Desk {
-            port: port.twin(rt.clone()?, running.share()?),
-            blobs: blobs_in(rt, folder)?,
-        })?;
+        let twin = port.twin(rt.clone()?, running.share()?);
+        desks.push(tcp_desk(rt, folder, twin)?)?;
     }
-    desks.push(work::Desk {
-        port,
-        blobs: blobs_in(rt, folder)?,
-    })?;
+    desks.push(tcp_desk(rt, folder, port)?)?;
     Ok(desks)
 }
 
-/// The status of a server over the folder and on the port that the words name.
-fn status_of_server<
-    R: Files<File = File>
-        + Net<Listener = TcpListener, Stream = TcpStream>
-        + Clock
-        + AllocGlobal
-        + Clone
-        + Drop
-        + Threads
-        + Wait
-        + Send
-        + Sync,
-    O: Sink,
->(rt: &R, wanted: &Wanted, out: &mut O) -> Result<u8, NoMemory> {
-    let alloc = rt.alloc();
-    let folder = wanted.folder.as_str();
-    let mut settings = file_source(rt, wanted.settings.as_str());
-    let running = Running::new(alloc, DESKS)?;
-    let desks = tcp_desks(rt, wanted, &running)?;
-    let cleaner = work::Cleaner {
-        blobs: blobs_in(rt, folder)?,
+/// What cleans a server's folder as long as a port of it runs.
+fn folder_cleaner(
+    rt: &HostRuntime,
+    wanted: &Wanted,
+    running: Running,
+) -> Result<FolderCleaner, NoMemory> {
+    Ok(work::Cleaner {
+        blobs: blobs_in(rt, wanted.folder.as_str())?,
         pace: SleepingPace::new(rt.clone()?, running),
-    };
-    let records = Journal::new(open_disk(rt, folder));
-    let clock = SystemClock::new(rt.clone()?);
-    Ok(
-        serve(
-            rt,
-            alloc,
-            &mut settings,
-            desks,
-            cleaner,
-            records,
-            clock,
-            out,
-        )
-        .status,
-    )
+    })
+}
+
+/// What a server owns beside its records.
+#[derive(Drop)]
+struct Server {
+    desks: Vec<TcpDesk>,
+    cleaner: FolderCleaner,
+    clock: SystemClock<HostRuntime>,
+}
+
+/// The objects of a server over the folder and on the port that the words name.
+fn server_of(rt: &HostRuntime, wanted: &Wanted) -> Result<Server, NoMemory>
+    ensures { IfOk result (λ server. 0 < vec_len server.desks) }
+{
+    let running = Running::new(rt.alloc(), DESKS)?;
+    Ok(Server {
+        desks: tcp_desks(rt, wanted, &running)?,
+        cleaner: folder_cleaner(rt, wanted, running)?,
+        clock: SystemClock::new(rt.clone()?),
+    })
 }
 
 /// Makes the objects that the words have, and runs the program with them.
@@ -203,14 +201,31 @@ fn main(rt: HostRuntime) -> ExitCode {
     let Ok(wanted) = wanted(rt.alloc(), words.as_slice()) else {
         return ExitCode::from(NO_MEMORY);
     };
-    let status = match wanted.command {
-        Action::Serve => {
-            let mut out = WriterSink::new(rt.stderr());
-            status_of_server(&rt, &wanted, &mut out)
-        }
-        _ => status_for(&rt, words.as_slice(), &wanted),
-    };
-    match status {
+    if wanted.command == Action::Serve {
+        let Ok(server) = server_of(&rt, &wanted) else {
+            return ExitCode::from(NO_MEMORY);
+        };
+        let Server {
+            desks,
+            cleaner,
+            clock,
+        } = server;
+        let mut settings = file_source(&rt, wanted.settings.as_str());
+        let records = Journal::new(open_disk(&rt, wanted.folder.as_str()));
+        let mut out = WriterSink::new(rt.stderr());
+        let served = serve(
+            &rt,
+            rt.alloc(),
+            &mut settings,
+            desks,
+            cleaner,
+            records,
+            clock,
+            &mut out,
+        );
+        return ExitCode::from(served.status);
+    }
+    match status_for(&rt, words.as_slice(), &wanted) {
         Ok(status) => ExitCode::from(status),
         Err(_) => ExitCode::from(NO_MEMORY),
     }
