@@ -60,6 +60,13 @@ fn is_of(damaged: &Damaged, path: &str, found: Option<u64>) -> bool {
         && damaged.found.map(|print| print.length) == found
 }
 
+fn is_damaged(fault: &StartFault, path: &str, found: Option<u64>) -> bool {
+    match fault {
+        StartFault::Damaged(damaged) => is_of(damaged, path, found),
+        _ => false,
+    }
+}
+
 #[test]
 fn a_load_that_fails_is_a_fault_of_the_store(rt: HostRuntime) -> Result<(), Fail> {
     let alloc = rt.alloc();
@@ -108,11 +115,11 @@ fn the_first_damaged_file_is_named(rt: HostRuntime) -> Result<(), Fail> {
     blobs.store(1, b"")?;
     blobs.remove(2)?;
     let (fault, records) = refused(alloc, records, &mut blobs)?;
-    assert!(rt; matches!(fault, StartFault::Damaged(damaged) if is_of(&damaged, JAR, Some(0))));
+    assert!(rt; is_damaged(&fault, JAR, Some(0)));
     // with its blob the other one is the first
     blobs.store(1, b"abc")?;
     let (fault, _) = refused(alloc, records, &mut blobs)?;
-    assert!(rt; matches!(fault, StartFault::Damaged(damaged) if is_of(&damaged, POM, None)));
+    assert!(rt; is_damaged(&fault, POM, None));
     // the test itself removed the second one
     expect_blobs(&rt, &mut blobs, &[2], &[1, 9])
 }

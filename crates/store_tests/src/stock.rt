@@ -49,6 +49,19 @@ impl<K: Records + Drop> Over<K> {
         self.out.bytes() == lines.as_bytes() && self.ran.status == status
     }
 
+    /// The records of the run.
+    pub fn into_records(self) -> K {
+        let Over { ran, out: _ } = self;
+        let Ran {
+            status: _,
+            desks: _,
+            cleaner: _,
+            records,
+            clock: _,
+        } = ran;
+        records
+    }
+
     /// What was written on the first connection that was given back.
     pub fn answers(&self) -> &[u8] {
         match self.ran.desks.get(0) {
