@@ -10,18 +10,12 @@ use outside::Blobs;
 use outside_pace::Pace;
 use repo_config::Settings;
 use repo_model::{Command, Reply};
+use run_desks::Cleaner;
 use seat_server::clean_with;
 use std::alloc::Global;
 use std::sync::Wait;
 use turn_lock::{Seat, Turns};
 use turn_seats::Repository;
-
-/// What cleans: the blobs, and a timer that says when.
-#[derive(Drop)]
-pub struct Cleaner<B: Blobs, Q: Pace> {
-    pub blobs: B,
-    pub pace: Q,
-}
 
 /// Pauses for the settings' seconds between two cleanings, and makes one pass over the repositories after each pause that
 /// answers true, until one answers false. A fault in a pass ends that pass alone. The settings are those of the repository.

@@ -10,18 +10,12 @@ ghost use Rattle.turn_lock.specs.Seats.{opening, IsSeatOf};
 use outside::{Blobs, Port, Tells};
 use repo_config::Settings;
 use repo_model::{Command, Reply};
+use run_desks::Desk;
 use seat_server::serve_with;
 use std::alloc::Global;
 use std::sync::Wait;
 use turn_lock::{Seat, Turns};
 use turn_seats::Repository;
-
-/// What serves one connection after another: a port, and the blobs of its requests.
-#[derive(Drop)]
-pub struct Desk<P: Port, B: Blobs> {
-    pub port: P,
-    pub blobs: B,
-}
 
 /// Serves the connections of a desk's port, one after another, each as a stream, until none is left or the port fails. Each is
 /// given back. It says whether the port failed, which is so exactly where the port's count rose. The settings are those of the

@@ -1,10 +1,11 @@
 //! Desks and the cleaner as jobs, each with its seat.
-use crate::cleaner::{Cleaner, keep_clean};
-use crate::desk::{Desk, serve_desk};
+use crate::cleaner::keep_clean;
+use crate::desk::serve_desk;
 use outside::{Blobs, Port, Tells};
 use outside_pace::Pace;
 use repo_config::Settings;
 use repo_model::{Command, Reply};
+use run_desks::{Cleaner, Desk};
 use std::alloc::Global;
 use std::sync::Wait;
 use thread_jobs::Job;

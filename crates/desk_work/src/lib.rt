@@ -8,6 +8,6 @@ mod running;
 mod seating;
 mod whole;
 
-pub use cleaner::{Cleaner, keep_clean};
-pub use desk::{Desk, serve_desk};
+pub use cleaner::keep_clean;
+pub use desk::serve_desk;
 pub use whole::{Worked, work};

@@ -9,13 +9,12 @@ ghost use Rattle.repo_model.specs.Shown.{shown_command, shown_reply};
 ghost use Rattle.turn_lock.specs.History.{IsStep};
 ghost use Rattle.turn_lock.specs.Seats.{parts_of};
 
-use crate::cleaner::Cleaner;
-use crate::desk::Desk;
 use crate::jobs::{CleanerJob, DeskJob, House};
 use crate::seating::seated;
 use outside::{Blobs, Port, Tells};
 use outside_pace::Pace;
 use repo_model::{Command, Reply};
+use run_desks::{Cleaner, Desk};
 use std::alloc::Global;
 use std::sync::Wait;
 use std::thread::Threads;

@@ -4,9 +4,9 @@ ghost use Rattle.desk_work.specs.Working.{IsBegun};
 ghost use Rattle.turn_lock.specs.History.{IsStep};
 ghost use Rattle.turn_lock.specs.Seats.{parts_of, IsSeatOf, Same};
 
-use crate::desk::Desk;
 use crate::jobs::{DeskJob, House};
 use outside::{Blobs, Port};
+use run_desks::Desk;
 use std::alloc::Global;
 use turn_lock::{Seat, Thing};
 

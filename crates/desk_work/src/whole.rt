@@ -9,14 +9,13 @@ ghost use Rattle.turn_lock.specs.History.{IsStep};
 ghost use Rattle.turn_lock.specs.Seats.{parts_of, Closes, IsSeatOf};
 ghost use Rattle.turn_seats.specs.Ending.{Ended};
 
-use crate::cleaner::Cleaner;
-use crate::desk::Desk;
 use crate::jobs::House;
 use crate::running::{parted, serve_all};
 use outside::{Blobs, Port, Tells};
 use outside_pace::Pace;
 use repo_config::Settings;
 use repo_model::{Command, Reply};
+use run_desks::{Cleaner, Desk};
 use std::alloc::{AllocError, Global};
 use std::sync::Wait;
 use std::thread::Threads;

@@ -4,20 +4,22 @@
 ghost use Rattle.std.specs.Prelude.{◌≡◌, ◌<◌, IfOk, vec_len};
 
 use data_folder::{blobs_in, open_disk};
-use desk_work as work;
 use outside::{Blobs, Duplex, NoMemory, Source, Stream};
 use outside_memory::{FaultScript, MemBlobs, MemLink, MemSource, ScriptClock, ScriptPort};
-use outside_pace::{Running, SleepingPace};
+use outside_pace::{Running, ScriptPace, SleepingPace};
 use outside_sockets::TcpPort;
 use outside_system::{FolderBlobs, ReaderSource, SystemClock, WriterSink, file_source};
 use record_journal::Journal;
-use repo_run::{Action, Cleaner, Desk, NO_MEMORY, Wanted, run, wanted};
+use repo_run::{Action, NO_MEMORY, Wanted, wanted};
 use row_tables::MemRecords;
-use run_serve::serve;
+use run_desks::{Cleaner, Desk};
+use run_serve::run;
 use std::alloc::Global;
 use std::env;
 use std::io::{self, Stdin, Stdout};
 use std::process::ExitCode;
+use std::sync::Wait;
+use std::thread::Threads;
 
 /// Standard input and output as one connection.
 type Standard = Duplex<ReaderSource<Stdin>, WriterSink<Stdout>>;
@@ -47,6 +49,15 @@ fn memory_blobs(alloc: Global) -> MemBlobs {
     MemBlobs::new(alloc, FaultScript::none(alloc))
 }
 
+/// A cleaner of these blobs whose timer wants no pass.
+fn cleaner_over<B: Blobs + Drop>(
+    alloc: Global,
+    blobs: B,
+) -> Result<Cleaner<B, ScriptPace>, NoMemory> {
+    let pace = ScriptPace::new(alloc, Vec::new(alloc))?;
+    Ok(Cleaner { blobs, pace })
+}
+
 /// The words behind the program's name; none where one of them is no text.
 fn words_of(rt: &HostRuntime) -> io::Result<Vec<String>> {
     match env::args(rt) {
@@ -57,7 +68,8 @@ fn words_of(rt: &HostRuntime) -> io::Result<Vec<String>> {
 }
 
 /// The status of a run in memory, with these settings and connections. Its lines go to standard error.
-fn status_in_memory<S: Source, L: Stream + Drop>(
+fn status_in_memory<R: Threads + Wait + Sync, S: Source, L: Stream + Drop + Send>(
+    threads: &R,
     rt: &HostRuntime,
     words: &[String],
     wanted: &Wanted,
@@ -66,35 +78,37 @@ fn status_in_memory<S: Source, L: Stream + Drop>(
 ) -> Result<u8, NoMemory> {
     let alloc = rt.alloc();
     let desks = desks_with(alloc, links, memory_blobs(alloc))?;
-    let cleaner = Cleaner {
-        blobs: memory_blobs(alloc),
-    };
+    let cleaner = cleaner_over(alloc, memory_blobs(alloc))?;
     let records = MemRecords::new(alloc, Vec::new(alloc));
     let clock = ScriptClock::stepping(alloc, wanted.at, wanted.step);
     let mut out = WriterSink::new(rt.stderr());
     Ok(
         run(
-            alloc, words, settings, desks, cleaner, records, clock, &mut out,
+            threads, alloc, words, settings, desks, cleaner, records, clock, &mut out,
         )
         .status,
     )
 }
 
 /// The status of a run over the folder that the words name. Its lines go to standard output.
-fn status_over_folder(rt: &HostRuntime, words: &[String], wanted: &Wanted) -> Result<u8, NoMemory> {
+fn status_over_folder<R: Threads + Wait + Sync>(
+    threads: &R,
+    rt: &HostRuntime,
+    words: &[String],
+    wanted: &Wanted,
+) -> Result<u8, NoMemory> {
     let alloc = rt.alloc();
     let folder = wanted.folder.as_str();
     let mut settings = file_source(rt, wanted.settings.as_str());
     let links: Vec<MemLink> = Vec::new(alloc);
     let desks = desks_with(alloc, links, blobs_in(rt, folder)?)?;
-    let cleaner = Cleaner {
-        blobs: blobs_in(rt, folder)?,
-    };
+    let cleaner = cleaner_over(alloc, blobs_in(rt, folder)?)?;
     let records = Journal::new(open_disk(rt, folder));
     let clock = SystemClock::new(rt.clone()?);
     let mut out = WriterSink::new(rt.stdout());
     Ok(
         run(
+            threads,
             alloc,
             words,
             &mut settings,
@@ -112,10 +126,10 @@ fn status_over_folder(rt: &HostRuntime, words: &[String], wanted: &Wanted) -> Re
 const DESKS: u64 = 4;
 
 /// What one worker of a server owns: a listener, and the blobs of a folder.
-type TcpDesk = work::Desk<TcpPort<HostRuntime>, FolderBlobs<HostRuntime>>;
+type TcpDesk = Desk<TcpPort<HostRuntime>, FolderBlobs<HostRuntime>>;
 
 /// What cleans beside them: the blobs of the folder, and a timer that ends with the listener.
-type FolderCleaner = work::Cleaner<FolderBlobs<HostRuntime>, SleepingPace<HostRuntime>>;
+type FolderCleaner = Cleaner<FolderBlobs<HostRuntime>, SleepingPace<HostRuntime>>;
 
 /// A desk of a server over a folder.
 fn tcp_desk(
@@ -123,7 +137,7 @@ fn tcp_desk(
     folder: &str,
     port: TcpPort<HostRuntime>,
 ) -> Result<TcpDesk, NoMemory> {
-    Ok(work::Desk {
+    Ok(Desk {
         port,
         blobs: blobs_in(rt, folder)?,
     })
@@ -150,7 +164,7 @@ fn folder_cleaner(
     wanted: &Wanted,
     running: Running,
 ) -> Result<FolderCleaner, NoMemory> {
-    Ok(work::Cleaner {
+    Ok(Cleaner {
         blobs: blobs_in(rt, wanted.folder.as_str())?,
         pace: SleepingPace::new(rt.clone()?, running),
     })
@@ -176,20 +190,57 @@ fn server_of(rt: &HostRuntime, wanted: &Wanted) -> Result<Server, NoMemory>
     })
 }
 
+/// The status of a server over the folder and on the port that the words name. Its lines go to standard error.
+fn status_of_server<R: Threads + Wait + Sync>(
+    threads: &R,
+    rt: &HostRuntime,
+    words: &[String],
+    wanted: &Wanted,
+) -> Result<u8, NoMemory> {
+    let Server {
+        desks,
+        cleaner,
+        clock,
+    } = server_of(rt, wanted)?;
+    let mut settings = file_source(rt, wanted.settings.as_str());
+    let records = Journal::new(open_disk(rt, wanted.folder.as_str()));
+    let mut out = WriterSink::new(rt.stderr());
+    Ok(
+        run(
+            threads,
+            rt.alloc(),
+            words,
+            &mut settings,
+            desks,
+            cleaner,
+            records,
+            clock,
+            &mut out,
+        )
+        .status,
+    )
+}
+
 /// Makes the objects that the words have, and runs the program with them.
-fn status_for(rt: &HostRuntime, words: &[String], wanted: &Wanted) -> Result<u8, NoMemory> {
+fn status_for<R: Threads + Wait + Sync>(
+    threads: &R,
+    rt: &HostRuntime,
+    words: &[String],
+    wanted: &Wanted,
+) -> Result<u8, NoMemory> {
     let alloc = rt.alloc();
     match wanted.command {
         Action::Replay => {
             let mut settings = file_source(rt, wanted.settings.as_str());
             let links = vec![in alloc; standard(rt)]?;
-            status_in_memory(rt, words, wanted, &mut settings, links)
+            status_in_memory(threads, rt, words, wanted, &mut settings, links)
         }
-        Action::Check | Action::Clean => status_over_folder(rt, words, wanted),
-        Action::Serve | Action::Nothing => {
+        Action::Check | Action::Clean => status_over_folder(threads, rt, words, wanted),
+        Action::Serve => status_of_server(threads, rt, words, wanted),
+        Action::Nothing => {
             let mut settings = MemSource::new(Vec::new(alloc), 1, FaultScript::none(alloc));
             let links: Vec<MemLink> = Vec::new(alloc);
-            status_in_memory(rt, words, wanted, &mut settings, links)
+            status_in_memory(threads, rt, words, wanted, &mut settings, links)
         }
     }
 }
@@ -201,31 +252,7 @@ fn main(rt: HostRuntime) -> ExitCode {
     let Ok(wanted) = wanted(rt.alloc(), words.as_slice()) else {
         return ExitCode::from(NO_MEMORY);
     };
-    if wanted.command == Action::Serve {
-        let Ok(server) = server_of(&rt, &wanted) else {
-            return ExitCode::from(NO_MEMORY);
-        };
-        let Server {
-            desks,
-            cleaner,
-            clock,
-        } = server;
-        let mut settings = file_source(&rt, wanted.settings.as_str());
-        let records = Journal::new(open_disk(&rt, wanted.folder.as_str()));
-        let mut out = WriterSink::new(rt.stderr());
-        let served = serve(
-            &rt,
-            rt.alloc(),
-            &mut settings,
-            desks,
-            cleaner,
-            records,
-            clock,
-            &mut out,
-        );
-        return ExitCode::from(served.status);
-    }
-    match status_for(&rt, words.as_slice(), &wanted) {
+    match status_for(&rt, &rt, words.as_slice(), &wanted) {
         Ok(status) => ExitCode::from(status),
         Err(_) => ExitCode::from(NO_MEMORY),
     }

@@ -19,7 +19,8 @@ unread : (told : Option (List ℕ)) → IsReadFrom told (Err (Refused NoMemory))
 unread None = tt
 unread (Some text) = tt
 
-unread-source : (source : File) (out out' : Output) (status : ℕ) → Prints memory_line out out' → status ≡ 8 → Reads source source out out' (Err status)
+-- so it stands for settings of which none was read
+pub unread-source : (source : File) (out out' : Output) (status : ℕ) → Prints memory_line out out' → status ≡ 8 → Reads source source out out' (Err status)
 unread-source source out out' status prints is = inr (NoMemory, refl, unread source.left, inr (prints, is))
 
 pub starved-run : {X : Type 0} (tells : Type 0) (connection_of : X → Connection) (command : Action) (old : Beside) (desk : DeskState X)

@@ -1,6 +1,7 @@
 -- The repository of a run: opened over what is recorded and stored, or not.
 use Rattle.std.specs.Prelude.{◌≡◌, ◌⊎◌, ℕ, List, [], Option, Some, None, IfSome}
 use Rattle.outside.specs.Moments.{Moments}
+use Rattle.repo_config.specs.Form.{IsSettings}
 use Rattle.repo_model.specs.Restart.{blobs_named}
 use Rattle.repo_model.specs.Settings.{Settings}
 use Rattle.repo_model.specs.State.{opening}
@@ -18,9 +19,11 @@ use Rattle.repo_course.specs.Cleaning as cleaning
 use Rattle.run_lines.specs.Printing.{Output}
 use Rattle.store_check.specs.Checking.{Recorded, RefusesDamaged, RefusesStore}
 
--- The repository of these settings before its first call, over what is recorded and stored. A start commits nothing, and removes
--- of the store exactly what no row names. Where nothing is recorded or stored, it is the repository that was never asked.
+-- The repository of these settings, which have their form, before its first call, over what is recorded and stored. A start commits
+-- nothing, and removes of the store exactly what no row names. Where nothing is recorded or stored, it is the repository that was
+-- never asked.
 pub record Begins (settings : Settings) (records : Recorded) (old new : cleaning.Store) (clock : Option Moments) (core : Whole) : Type 0 where
+  pub form : IsSettings settings
   pub tables : Tables
   pub loaded : AreLoaded records.tables records.loading tables
   pub starts : Starts settings tables old.shelf new.shelf clock records.faults core.state

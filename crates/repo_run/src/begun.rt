@@ -27,6 +27,8 @@ pub fn begin<K: Records, B: Blobs, C: Clock>(
         (store (B.shelf blobs.old) (B.faults blobs.old)) (store (B.shelf blobs.new) (B.faults blobs.new)) error.0) }
     ensures clock { IfErr result (λ error. error.2 ≡ clock) }
 {
+    // Their ids differ, and have their form.
+    settings.form();
     let own = match settings.copied(alloc) {
         Ok(own) => own,
         Err(_) => return Err((StartFault::NoMemory, records, clock)),

@@ -8,7 +8,7 @@ ghost use Rattle.store_check.specs.Checking.{recorded};
 ghost use Rattle.repo_run.specs.Clean.{Cleans, CleansBy, TellsPass};
 
 use crate::begun::{begin, refuse_start};
-use crate::desks::Ended;
+use crate::ran::Ended;
 use outside::{Blobs, Clock, Sink, Source};
 use repo_config::Settings;
 use repo_course::{CleanFault, Cleaned};

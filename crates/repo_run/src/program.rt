@@ -13,22 +13,24 @@ ghost use Rattle.repo_run.specs.Words.{asked};
 
 use crate::actions::Action;
 use crate::cleans::clean;
-use crate::desks::{Cleaner, Desk, Ended, Ran};
+use crate::ran::{Ended, Ran};
 use crate::replays::replay;
 use crate::words::wanted;
 use outside::{Blobs, Clock, Port, Sink, Source};
+use outside_pace::Pace;
 use row_tables::Records;
+use run_desks::{Cleaner, Desk};
 use run_lines::{NO_MEMORY, REFUSED, fault};
 use std::alloc::Global;
 use store_check::check;
 
-/// Does what a command asks for, with one desk.
+/// Does what a command asks for, with one desk and the blobs of the cleaner.
 fn act<B: Blobs, S: Source, P: Port, K: Records, C: Clock, O: Sink>(
     alloc: Global,
     command: Action,
     settings: &mut S,
     desk: &mut Desk<P, B>,
-    cleaner: &mut Cleaner<B>,
+    garbage: &mut B,
     records: K,
     clock: C,
     out: &mut O,
@@ -36,9 +38,9 @@ fn act<B: Blobs, S: Source, P: Port, K: Records, C: Clock, O: Sink>(
     ensures status { MatchAction command result.status }
     ensures run { Runs command (AllTell B.Held.bytes)
         (λ link. connection (P.Link.left link) (P.Link.taken link) (P.Link.read_faults link) (P.Link.write_faults link))
-        (beside (file (S.left settings.old) (S.read_faults settings.old)) (store (B.shelf cleaner.old.blobs) (B.faults cleaner.old.blobs))
+        (beside (file (S.left settings.old) (S.read_faults settings.old)) (store (B.shelf garbage.old) (B.faults garbage.old))
         (recorded (K.tables records) (K.loading records) (K.faults records)) (C.moments clock) (output (O.taken out.old) (O.write_faults out.old)))
-        (beside (file (S.left settings.new) (S.read_faults settings.new)) (store (B.shelf cleaner.new.blobs) (B.faults cleaner.new.blobs))
+        (beside (file (S.left settings.new) (S.read_faults settings.new)) (store (B.shelf garbage.new) (B.faults garbage.new))
         (recorded (K.tables result.records) (K.loading result.records) (K.faults result.records)) (C.moments result.clock) (output (O.taken out.new) (O.write_faults out.new)))
         (desk_state (P.left desk.old.port) (P.given_back desk.old.port) (P.faults desk.old.port) (store (B.shelf desk.old.blobs) (B.faults desk.old.blobs)))
         (desk_state (P.left desk.new.port) (P.given_back desk.new.port) (P.faults desk.new.port) (store (B.shelf desk.new.blobs) (B.faults desk.new.blobs)))
@@ -55,7 +57,7 @@ fn act<B: Blobs, S: Source, P: Port, K: Records, C: Clock, O: Sink>(
                 clock,
             }
         }
-        Action::Clean => clean(alloc, settings, &mut cleaner.blobs, records, clock, out),
+        Action::Clean => clean(alloc, settings, garbage, records, clock, out),
         Action::Serve | Action::Nothing => {
             let status = fault(out, b"mvnrepod: words\n", REFUSED);
             Ended {
@@ -67,13 +69,14 @@ fn act<B: Blobs, S: Source, P: Port, K: Records, C: Clock, O: Sink>(
     }
 }
 
-/// Does what the words ask for. There is at least one desk, and all come back: the others as they were.
+/// Does what the words ask for, but for those of a server, which are refused: this call never waits. There is at least one desk, and
+/// all come back: the others as they were, and the cleaner's timer, which is not asked.
 ///
 /// `replay` reads the settings, opens a repository of them over what is recorded and stored, takes the first connection from
 /// the first desk's port, serves it, at most 1,000 requests, and gives it back. `clean` opens a repository over the cleaner's
 /// blobs and makes one pass over it. `check` looks at each recorded file in the first desk's blobs, once the settings were
-/// read. Other words are refused, and also those of a server, which is not run here. `out` takes one line, of a cleaning two, of
-/// a check one more for each damaged file, or a front of these where `out` fails.
+/// read. Other words are refused. `out` takes one line, of a cleaning two, of a check one more for each damaged file, or a front of
+/// these where `out` fails.
 ///
 /// | status | where | line |
 /// |---|---|---|
@@ -92,16 +95,16 @@ fn act<B: Blobs, S: Source, P: Port, K: Records, C: Clock, O: Sink>(
 ///
 /// Each failure is one that its object counted. N is a number of calls of the repository, of files or of blobs; END is
 /// `Closed`, `TornRequest` or `TurnLimit`; NAME is the refusal of the settings and KEY the key or the id that it names, if any.
-pub fn run<B: Blobs, S: Source, P: Port, K: Records, C: Clock, O: Sink>(
+pub fn run_once<B: Blobs, S: Source, P: Port, Q: Pace, K: Records, C: Clock, O: Sink>(
     alloc: Global,
     words: &[String],
     settings: &mut S,
     desks: Vec<Desk<P, B>>,
-    cleaner: Cleaner<B>,
+    cleaner: Cleaner<B, Q>,
     records: K,
     clock: C,
     out: &mut O,
-) -> Ran<P, B, K, C>
+) -> Ran<P, B, Q, K, C>
     requires { 0 < vec_len desks }
     ensures status { MatchAction (asked (map string_bytes words.now)).command result.status }
     ensures run { FirstOnly (λ old new. Runs (asked (map string_bytes words.now)).command (AllTell B.Held.bytes)
@@ -113,6 +116,7 @@ pub fn run<B: Blobs, S: Source, P: Port, K: Records, C: Clock, O: Sink>(
         (desk_state (P.left old.port) (P.given_back old.port) (P.faults old.port) (store (B.shelf old.blobs) (B.faults old.blobs)))
         (desk_state (P.left new.port) (P.given_back new.port) (P.faults new.port) (store (B.shelf new.blobs) (B.faults new.blobs)))
         result.status) desks.items result.desks.items }
+    ensures pace { result.cleaner.pace ≡ cleaner.pace }
 {
     let mut desks = desks;
     let mut cleaner = cleaner;
@@ -127,7 +131,7 @@ pub fn run<B: Blobs, S: Source, P: Port, K: Records, C: Clock, O: Sink>(
                 wanted.command,
                 settings,
                 &mut desks[0],
-                &mut cleaner,
+                &mut cleaner.blobs,
                 records,
                 clock,
                 out,

@@ -10,7 +10,7 @@ ghost use Rattle.repo_run.specs.Replay.{Replays, ServesWith};
 ghost use Rattle.repo_run.specs.Surroundings.{connection, desk_state};
 
 use crate::begun::{begin, refuse_start};
-use crate::desks::{Desk, Ended};
+use crate::ran::Ended;
 use crate::reports::report_first;
 use outside::{Blobs, Clock, Port, Sink, Source};
 use repo_config::Settings;
@@ -18,6 +18,7 @@ use repo_core::Core;
 use repo_course::End;
 use repo_server::serve_stream;
 use row_tables::Records;
+use run_desks::Desk;
 use run_lines::settings_of;
 use std::alloc::Global;
 

@@ -1,7 +1,10 @@
-//! The command `serve`: desks that serve connections at once by one repository, a cleaner beside them, and the line and the status in the end.
+//! A run of the program `mvnrepod`: the command `serve`, whose desks serve connections at once by one repository with a cleaner beside
+//! them, and every other word, which is done once.
 #![tactic(auto)]
 
 mod calls;
+mod program;
 mod serving;
 
-pub use serving::{Served, serve};
+pub use program::run;
+pub use serving::serve;

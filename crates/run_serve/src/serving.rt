@@ -10,29 +10,20 @@ ghost use Rattle.store_check.specs.Checking.{recorded};
 ghost use Rattle.turn_lock.specs.History.{IsStep};
 
 use crate::calls::tell_work;
-use desk_work::{Cleaner, Desk, Worked, work};
+use desk_work::{Worked, work};
 use outside::{Blobs, Clock, Port, Sink, Source, Tells};
 use outside_pace::Pace;
 use repo_config::Settings;
 use repo_core::Core;
-use repo_run::{begin, refuse_start};
+use repo_run::{Ran, begin, refuse_start};
 use row_tables::Records;
+use run_desks::{Cleaner, Desk};
 use run_lines::{NO_MEMORY, fault, settings_of};
 use std::alloc::Global;
 use std::sync::Wait;
 use std::thread::Threads;
 use turn_lock::{Thing, Turns};
 use turn_seats::Repository;
-
-/// What a server gives back: its status, and all objects, so that their counts of faults are seen.
-#[derive(Drop)]
-pub struct Served<P: Port, B: Blobs, Q: Pace, K: Records, C: Clock> {
-    pub status: u8,
-    pub desks: Vec<Desk<P, B>>,
-    pub cleaner: Cleaner<B, Q>,
-    pub records: K,
-    pub clock: C,
-}
 
 // Works with a repository that was opened, and prints how many calls there were.
 fn serve_core<
@@ -51,7 +42,7 @@ fn serve_core<
     desks: Vec<Desk<P, B>>,
     cleaner: Cleaner<B, Q>,
     out: &mut O,
-) -> Served<P, B, Q, K, C>
+) -> Ran<P, B, Q, K, C>
 where
     P::Link: Send,
     B::Held: Send,
@@ -74,7 +65,7 @@ where
         Err((core, _)) => {
             let status = fault(out, b"mvnrepod: memory\n", NO_MEMORY);
             let (records, clock) = core.end();
-            return Served {
+            return Ran {
                 status,
                 desks,
                 cleaner,
@@ -93,7 +84,7 @@ where
     } = work(rt, alloc, settings, turns, seat, desks, cleaner);
     let status = tell_work(alloc, out, refused, failed, calls);
     let (records, clock) = repository.end();
-    Served {
+    Ran {
         status,
         desks,
         cleaner,
@@ -120,7 +111,7 @@ fn serve_by<
     records: K,
     clock: C,
     out: &mut O,
-) -> Served<P, B, Q, K, C>
+) -> Ran<P, B, Q, K, C>
 where
     P::Link: Send,
     B::Held: Send,
@@ -144,7 +135,7 @@ where
         Ok(core) => serve_core(rt, alloc, settings, core, desks, cleaner, out),
         Err((refusal, records, clock)) => {
             let status = refuse_start(alloc, out, &refusal);
-            Served {
+            Ran {
                 status,
                 desks,
                 cleaner,
@@ -189,7 +180,7 @@ pub fn serve<
     records: K,
     clock: C,
     out: &mut O,
-) -> Served<P, B, Q, K, C>
+) -> Ran<P, B, Q, K, C>
 where
     P::Link: Send,
     B::Held: Send,
@@ -211,7 +202,7 @@ where
 {
     match settings_of(alloc, settings, out) {
         Ok(settings) => serve_by(rt, alloc, settings, desks, cleaner, records, clock, out),
-        Err(status) => Served {
+        Err(status) => Ran {
             status,
             desks,
             cleaner,

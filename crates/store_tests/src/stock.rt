@@ -3,10 +3,12 @@ ghost use Rattle.std.specs.Prelude.{◌<◌, IfOk, vec_len};
 
 use outside::{Blobs, Duplex};
 use outside_memory::{FaultScript, MemBlobs, MemLink, MemSink, MemSource, ScriptClock, ScriptPort};
+use outside_pace::ScriptPace;
 use record_disk::{DiskRoom, DiskScript, MemDisk};
 use record_journal::Journal;
-use repo_run::{Cleaner, Desk, Ran, run};
+use repo_run::{Ran, run_once};
 use row_tables::Records;
+use run_desks::{Cleaner, Desk};
 use std::alloc::{AllocError, Global};
 use std::test::Fail;
 
@@ -39,7 +41,7 @@ pub struct Stage<K: Records + Drop> {
 /// A run that is over, and the sink that took its lines.
 #[derive(Drop)]
 pub struct Over<K: Records + Drop> {
-    pub ran: Ran<MemPort, MemBlobs, K, ScriptClock>,
+    pub ran: Ran<MemPort, MemBlobs, ScriptPace, K, ScriptClock>,
     pub out: MemSink,
 }
 
@@ -146,9 +148,10 @@ pub fn run_with<K: Records + Drop>(
     let desks = desks_of(alloc, stage.input, stage.blobs)?;
     let cleaner = Cleaner {
         blobs: stage.garbage,
+        pace: ScriptPace::new(alloc, Vec::new(alloc))?,
     };
     let clock = ScriptClock::stepping(alloc, stage.at, 0);
-    let ran = run(
+    let ran = run_once(
         alloc,
         words.as_slice(),
         &mut source,

@@ -1,5 +1,6 @@
 -- The copy of the settings is started by; or memory was wanting for it.
-use Rattle.std.proofs.Common.{subst}
+use Rattle.std.proofs.Common.{subst, sym}
+use Rattle.repo_config.specs.Form.{IsSettings}
 use Rattle.repo_course.specs.Cleaning.{store}
 use Rattle.repo_model.specs.Settings.{Settings}
 use Rattle.store_check.specs.Checking.{recorded}
@@ -14,6 +15,7 @@ returns-in-Ok-start-clause-ok g c =
     (store (g.B.Blobs.shelf c.args.blobs.now) (g.B.Blobs.faults c.args.blobs.now)) (store (g.B.Blobs.shelf c.start.new.blobs) (g.B.Blobs.faults c.start.new.blobs))
     (g.C.Clock.moments c.args.clock) c.in-Ok-start.core) c.in-Ok.ensures
     (record {
+      form = subst IsSettings (sym c.in-Ok.ensures) c.form.ensures;
       tables = s.state.0;
       loaded = s.state.1;
       starts = s.state.2;

@@ -1,26 +1,15 @@
-//! What a run is given, and what it gives back.
+//! What a run gives back.
 use outside::{Blobs, Clock, Port};
+use outside_pace::Pace;
 use row_tables::Records;
-
-/// What one worker owns: a listener, and the blobs that it reads and stores.
-#[derive(Drop)]
-pub struct Desk<P: Port, B: Blobs> {
-    pub port: P,
-    pub blobs: B,
-}
-
-/// What a cleaning owns: the blobs from which it removes.
-#[derive(Drop)]
-pub struct Cleaner<B: Blobs> {
-    pub blobs: B,
-}
+use run_desks::{Cleaner, Desk};
 
 /// What a run gives back: its status, and all objects, so that their counts of faults are seen.
 #[derive(Drop)]
-pub struct Ran<P: Port, B: Blobs, K: Records, C: Clock> {
+pub struct Ran<P: Port, B: Blobs, Q: Pace, K: Records, C: Clock> {
     pub status: u8,
     pub desks: Vec<Desk<P, B>>,
-    pub cleaner: Cleaner<B>,
+    pub cleaner: Cleaner<B, Q>,
     pub records: K,
     pub clock: C,
 }

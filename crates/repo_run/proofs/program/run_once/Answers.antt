@@ -3,7 +3,7 @@ use Rattle.std.proofs.Common.{ℕ, ◌<◌, subst, sym, ap}
 use Rattle.repo_run.specs.declared.actions.Wanted.{Wanted}
 use Rattle.repo_run.proofs.FirstDesk.{first-same, first-set}
 use Rattle.repo_run.proofs.Starved.{starved-run}
-use Rattle.repo_run.proofs.program.run.Goals as goal
+use Rattle.repo_run.proofs.program.run_once.Goals as goal
 
 pub returns-in-Ok-clause-run : goal.returns-in-Ok-clause-run
 returns-in-Ok-clause-run g c =

@@ -1,0 +1,20 @@
+-- A server serves; or memory was wanting for the words, and nothing was done.
+use Rattle.std.proofs.Common.{ℕ, ◌<◌, ◌∙◌, ap, refl, subst, sym}
+use Rattle.repo_run.specs.declared.actions.Wanted.{Wanted}
+use Rattle.repo_run.proofs.FirstDesk.{first-same}
+use Rattle.repo_run.proofs.Starved.{starved-run, unread-source}
+use Rattle.run_serve.specs.Serving.{unread}
+use Rattle.run_serve.proofs.Words.{either}
+use Rattle.run_serve.proofs.program.run.Goals as goal
+
+pub returns-in-Serve-clause-run : goal.returns-in-Serve-clause-run
+returns-in-Serve-clause-run g c =
+    let asked = ap (λ (w : Wanted). w.command) c.in-Ok.ensures in
+    rw (sym asked ∙ c.in-Serve.is) c.serve.ensures.serves
+
+pub returns-clause-run : goal.returns-clause-run
+returns-clause-run g c =
+    either _ _ _
+    (unread (unread-source _ _ _ _ c.fault-status.ensures.prints c.fault-status.ensures.status) refl refl (refl, refl) refl)
+    (first-same c.args.desks.items _ (subst (λ (n : ℕ). 0 < n) c.args.desks.ok.0 c.requires.desks)
+    (λ desk. starved-run _ _ _ _ _ _ _ c.fault-status.ensures.prints c.fault-status.ensures.status))
