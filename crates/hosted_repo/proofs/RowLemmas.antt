@@ -1,5 +1,5 @@
 -- Rows in byte order of path.
-use Rattle.std.proofs.Common.{Bor, ◌≡◌, ℕ, ◌+◌, ◌-◌, ◌<◌, ◌≤◌, Bool, true, false, cond, not, ◌&&◌, List, [], ◌∷◌, ◌++◌, map, filter, length, Option, Some, String, Global, string_bytes, Less, refl, sym, ap, ◌∙◌, subst, arith, length-append}
+use Rattle.std.proofs.Common.{Bor, ◌≡◌, ℕ, ◌-◌, ◌<◌, ◌≤◌, Bool, true, false, cond, not, ◌&&◌, List, [], ◌∷◌, ◌++◌, filter, length, Option, Some, String, Global, string_bytes, Less, refl, sym, ap, ◌∙◌, subst, arith, length-append}
 use Rattle.std.specs.List.{AllByRecursion}
 use Rattle.std.specs.List.Sorted.{IsStrictlySortedBy}
 use Rattle.std.specs.Map.{keys_of}
@@ -10,16 +10,12 @@ use Rattle.std.specs.String.{string_cmp}
 use Rattle.std.specs.BTreeMap.Range.{entries_between}
 use Rattle.std.specs.declared.ops.Bound.TheVariants.{Included, Unbounded}
 use Rattle.std.proofs.lemmas.Bool.{both_ways, false_from_ne_true}
-use Rattle.std.specs.Iterator.{Yields}
-use Rattle.std.specs.Prelude.{count_by}
-use Rattle.std.proofs.lemmas.List.{append-nil, map-append, length-map}
-use Rattle.std.proofs.lemmas.List.Sums.{fold-append, count_by-le-length}
-use Rattle.std.proofs.lemmas.Map.Iter.{iter_turn}
+use Rattle.std.proofs.lemmas.List.{append-nil, map-append}
 use Rattle.std.proofs.lemmas.List.Elements.{filter-append}
 use Rattle.outside.specs.declared.stores.Held.{Ghosts}
 use Rattle.repo_model.specs.Data as plain
 use Rattle.hosted_repo.specs.Documents.{rest_from}
-use Rattle.hosted_repo.specs.Rows.{fades, goes, without_first, shown_at, shown_entry, shown_phase, shown_rows}
+use Rattle.hosted_repo.specs.Rows.{goes, without_first, shown_at, shown_entry, shown_phase, shown_rows}
 use Rattle.hosted_repo.specs.declared.row.Row.{Row}
 use Rattle.hosted_repo.proofs.TextLemmas.{cmp, UpTo, UpTo-less, UpTo-trans, UpTo-front, not_before, before_trans}
 
@@ -168,22 +164,7 @@ met text es range begun front rest left o key row is takes between start split =
       sym (between-shown text es) ∙ ap shown_rows (sym between ∙ sym start ∙ split ∙ ap (λ r. front ++ r) first) ∙ map-append shown_entry front ((key.now, row.now) ∷ left),
     )
 
--- one more row behind those that a walk has behind it
 module _ {X : Type 0} {G : Ghosts X} where
-  pub counted : (seen : List (Bor (String Global) × Bor (Row X G))) (key : Bor (String Global)) (row : Bor (Row X G))
-      → count_by fades (shown_rows (map deref_pair (seen ++ (key, row) ∷ []))) ≡ count_by fades (shown_rows (map deref_pair seen)) + cond (fades (shown_at (string_bytes key.now) row.now)) 1 0
-  counted seen key row =
-      ap (λ xs. count_by fades (shown_rows xs)) (map-append deref_pair seen ((key, row) ∷ []))
-      ∙ ap (count_by fades) (map-append shown_entry (map deref_pair seen) ((key.now, row.now) ∷ []))
-      ∙ fold-append (λ n r. n + cond (fades r) 1 0) 0 (shown_rows (map deref_pair seen)) (shown_at (string_bytes key.now) row.now ∷ [])
-
-  pub counted_most : (seen : List (Bor (String Global) × Bor (Row X G))) → count_by fades (shown_rows (map deref_pair seen)) ≤ length seen
-  counted_most seen = subst (λ n. count_by fades (shown_rows (map deref_pair seen)) ≤ n) (length-map (map deref_pair seen) shown_entry ∙ length-map seen deref_pair) (count_by-le-length fades (shown_rows (map deref_pair seen)))
-
-  pub turned : (es : List (String Global × Row X G)) (seen : List (Bor (String Global) × Bor (Row X G))) (begun rest left : List (String Global × Row X G)) (o : Option (Bor (String Global) × Bor (Row X G))) (key : Bor (String Global)) (row : Bor (Row X G))
-      → begun ≡ es → Yields (TakesFirst deref_pair) begun seen rest → o ≡ Some (key, row) → TakesFirst deref_pair rest o left → length seen < length es
-  turned es seen begun rest left o key row start yields is takes = (iter_turn deref_pair es seen begun rest left o start yields (key, row) is takes).0
-
   -- rows that a closure which counts has retained
   pub counted_out : {F : Type 0} (T : F → String Global → Row X G → Bool → Row X G → F → Type 0) (left at : F → ℕ)
       → ((f : F) (k : String Global) (v : Row X G) (b : Bool) (w : Row X G) (f' : F) → T f k v b w f'

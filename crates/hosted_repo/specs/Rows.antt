@@ -33,9 +33,9 @@ module _ {X : Type 0} {G : Ghosts X} where
   abbrev pub shown_rows : List (String Global × Row X G) → List plain.Row
   shown_rows entries = map shown_entry entries
 
-  -- a repository of a rule with such rows
-  abbrev pub hosted_of : Rule → List (String Global × Row X G) → plain.Hosted
-  hosted_of rule entries = record { rule = shown_rule rule; rows = shown_rows entries }
+-- a repository of a rule with some rows
+abbrev pub hosted_of : Rule → List plain.Row → plain.Hosted
+hosted_of rule rows = record { rule = shown_rule rule; rows = rows }
 
 -- each row's path is that of a file
 abbrev pub AreFiles : List plain.Row → Type 0

@@ -4,7 +4,7 @@ ghost use Rattle.std.specs.List.{AllByRecursion, flat_map, list_all};
 ghost use Rattle.std.specs.Option.{option_map, option_to_list};
 ghost use Rattle.repo_model.specs.Data as plain;
 ghost use Rattle.repo_model.specs.Deploy.{deliver_all, deliver_at};
-ghost use Rattle.repo_model.specs.Effect.{recorded as items_by, without_row};
+ghost use Rattle.repo_model.specs.Effect.{recorded as items_by};
 ghost use Rattle.repo_model.specs.History.{latest_moment};
 ghost use Rattle.repo_model.specs.Purge.{most_rows};
 ghost use Rattle.repo_model.specs.Shown.{shown_parcel};
@@ -16,9 +16,10 @@ ghost use Rattle.hosted_repo.specs.Rows.{rows_after_all, shown_at, shown_rows};
 
 use crate::NoMemory;
 use crate::changes::sizes;
+use crate::counted::CountedRows;
 use crate::kept::Kept;
 use crate::row::{Phase, Row};
-use crate::rows::{add, find, list_again, print_of};
+use crate::rows::{find, print_of};
 use outside::{Held, Parcel};
 use repo_model::Item;
 use row_tables::{Change, Records};
@@ -152,16 +153,16 @@ fn front(change: &Change, count: usize) -> &[Item]
 /// Adds a visible row for a file whose path has none.
 fn add_new<H: Held>(
     alloc: Global,
-    rows: &mut BTreeMap<String, Row<H>>,
+    rows: &mut CountedRows<H>,
     path: &str,
     parcel: &Parcel<H>,
     now: u64,
 ) -> Result<(), NoMemory>
     requires { now ≤ latest_moment }
-    ensures ok { OnOk result (shown_rows rows.new.entries ≡ with_file now (record { path = path.now; blob = shown_parcel parcel.now }) (shown_rows rows.old.entries)) }
-    ensures err { OnErr result (shown_rows rows.new.entries ≡ shown_rows rows.old.entries) }
+    ensures ok { OnOk result (rows.new ≡ with_file now (record { path = path.now; blob = shown_parcel parcel.now }) rows.old) }
+    ensures err { OnErr result (rows.new ≡ rows.old) }
 {
-    let None = find(rows, path) else {
+    let None = find(rows.map(), path) else {
         return Ok(());
     };
     let row = Row {
@@ -169,7 +170,7 @@ fn add_new<H: Held>(
         accepted: now,
         phase: Phase::Listed,
     };
-    match add(alloc, rows, path, row) {
+    match rows.add(alloc, path, row) {
         Ok(()) => Ok(()),
         Err(_) => Err(AllocError),
     }
@@ -178,14 +179,14 @@ fn add_new<H: Held>(
 /// Adds a visible row for each file whose path has none. Where memory is wanting some of them are added.
 fn add_all_new<H: Held>(
     alloc: Global,
-    rows: &mut BTreeMap<String, Row<H>>,
+    rows: &mut CountedRows<H>,
     staged: &BTreeMap<String, Parcel<H>>,
     now: u64,
 ) -> Result<(), NoMemory>
     requires { now ≤ latest_moment }
-    ensures ok { OnOk result (shown_rows rows.new.entries ≡ with_files now (shown_files staged.now.entries) (shown_rows rows.old.entries)) }
-    ensures back { let free = free_paths (shown_rows rows.old.entries) (shown_files staged.now.entries) in
-        rows_without free (shown_rows rows.new.entries) ≡ rows_without free (shown_rows rows.old.entries) }
+    ensures ok { OnOk result (rows.new ≡ with_files now (shown_files staged.now.entries) rows.old) }
+    ensures back { let free = free_paths rows.old (shown_files staged.now.entries) in
+        rows_without free rows.new ≡ rows_without free rows.old }
 {
     for (path, parcel) in staged {
         add_new(alloc, rows, path.as_str(), parcel, now)?;
@@ -193,26 +194,18 @@ fn add_all_new<H: Held>(
     Ok(())
 }
 
-fn remove<H: Held>(rows: &mut BTreeMap<String, Row<H>>, path: &str)
-    ensures { shown_rows rows.new.entries ≡ without_row path.now (shown_rows rows.old.entries) }
-{
-    // Its contract says that each path stands once.
-    let _len = rows.len();
-    rows.remove(path);
-}
-
 /// Takes the row away at the path at which an item puts one.
-fn undo<H: Held>(rows: &mut BTreeMap<String, Row<H>>, item: &Item)
-    ensures { shown_rows rows.new.entries ≡ without_put item.now (shown_rows rows.old.entries) }
+fn undo<H: Held>(rows: &mut CountedRows<H>, item: &Item)
+    ensures { rows.new ≡ without_put item.now rows.old }
 {
     if let Item::HostedPut { path, .. } = item {
-        remove(rows, path.as_str());
+        rows.remove(path.as_str());
     }
 }
 
 /// Takes the rows away at the paths at which items put rows.
-fn undo_all<H: Held>(rows: &mut BTreeMap<String, Row<H>>, items: &[Item])
-    ensures { shown_rows rows.new.entries ≡ without_puts items.now (shown_rows rows.old.entries) }
+fn undo_all<H: Held>(rows: &mut CountedRows<H>, items: &[Item])
+    ensures { rows.new ≡ without_puts items.now rows.old }
 {
     for item in items {
         undo(rows, item);
@@ -220,19 +213,19 @@ fn undo_all<H: Held>(rows: &mut BTreeMap<String, Row<H>>, items: &[Item])
 }
 
 /// Lists the row again that an item lists.
-fn list_by<H: Held>(rows: &mut BTreeMap<String, Row<H>>, item: &Item, now: u64)
+fn list_by<H: Held>(rows: &mut CountedRows<H>, item: &Item, now: u64)
     requires { now ≤ latest_moment }
-    ensures { shown_rows rows.new.entries ≡ with_listed_by now item.now (shown_rows rows.old.entries) }
+    ensures { rows.new ≡ with_listed_by now item.now rows.old }
 {
     if let Item::Relisted { path, .. } = item {
-        list_again(rows, path.as_str(), now);
+        rows.list_again(path.as_str(), now);
     }
 }
 
 /// Lists the rows again that items list.
-fn list_all_by<H: Held>(rows: &mut BTreeMap<String, Row<H>>, items: &[Item], now: u64)
+fn list_all_by<H: Held>(rows: &mut CountedRows<H>, items: &[Item], now: u64)
     requires { now ≤ latest_moment }
-    ensures { shown_rows rows.new.entries ≡ with_listed now items.now (shown_rows rows.old.entries) }
+    ensures { rows.new ≡ with_listed now items.now rows.old }
 {
     for item in items {
         list_by(rows, item, now);
@@ -242,7 +235,7 @@ fn list_all_by<H: Held>(rows: &mut BTreeMap<String, Row<H>>, items: &[Item], now
 /// Adds the new rows of files that are deployed, and commits their change. Where that fails some of the rows are added.
 fn add_and_commit<H: Held, K: Records>(
     alloc: Global,
-    rows: &mut BTreeMap<String, Row<H>>,
+    rows: &mut CountedRows<H>,
     records: &mut K,
     staged: &BTreeMap<String, Parcel<H>>,
     change: &Change,
@@ -251,9 +244,9 @@ fn add_and_commit<H: Held, K: Records>(
     requires moment { now ≤ latest_moment }
     requires ready { K.ready records.old }
     requires fits { FitWhereTold (K.tables records.old) change.now }
-    ensures ok { OnOk result (shown_rows rows.new.entries ≡ with_files now (shown_files staged.now.entries) (shown_rows rows.old.entries)) }
-    ensures back { let free = free_paths (shown_rows rows.old.entries) (shown_files staged.now.entries) in
-        rows_without free (shown_rows rows.new.entries) ≡ rows_without free (shown_rows rows.old.entries) }
+    ensures ok { OnOk result (rows.new ≡ with_files now (shown_files staged.now.entries) rows.old) }
+    ensures back { let free = free_paths rows.old (shown_files staged.now.entries) in
+        rows_without free rows.new ≡ rows_without free rows.old }
     ensures recorded { OnOk result (K.tables records.new ≡ tables_with change.now (K.tables records.old)) }
     ensures untold { OnErr result (K.tables records.new ≡ K.tables records.old) }
     ensures cause { HasKeptCause (K.faults records.old) (K.faults records.new) result }
@@ -266,15 +259,15 @@ fn add_and_commit<H: Held, K: Records>(
 
 /// Lists rows again once items are recorded; where they are not, the rows go that they put.
 fn finish<H: Held>(
-    rows: &mut BTreeMap<String, Row<H>>,
+    rows: &mut CountedRows<H>,
     items: &[Item],
     now: u64,
     recorded: Result<(), Kept>,
 ) -> Result<(), Kept>
     requires { now ≤ latest_moment }
     ensures same { result ≡ recorded }
-    ensures ok { OnOk recorded (shown_rows rows.new.entries ≡ with_listed now items.now (shown_rows rows.old.entries)) }
-    ensures err { OnErr recorded (shown_rows rows.new.entries ≡ without_puts items.now (shown_rows rows.old.entries)) }
+    ensures ok { OnOk recorded (rows.new ≡ with_listed now items.now rows.old) }
+    ensures err { OnErr recorded (rows.new ≡ without_puts items.now rows.old) }
 {
     match recorded {
         Ok(()) => list_all_by(rows, items, now),
@@ -287,7 +280,7 @@ fn finish<H: Held>(
 /// row took. Where that fails nothing is changed.
 pub fn deliver<H: Held, K: Records>(
     alloc: Global,
-    rows: &mut BTreeMap<String, Row<H>>,
+    rows: &mut CountedRows<H>,
     records: &mut K,
     repo: &Text,
     staged: &BTreeMap<String, Parcel<H>>,
@@ -302,21 +295,22 @@ pub fn deliver<H: Held, K: Records>(
     requires also { IsTrue (is_item also) }
     requires short { length (item_bytes also) < 65536 }
     requires fits { FitWhereTold (K.tables records.old)
-        (items_by (deliver_all (session_with repo.now (shown_files staged.now.entries)) now (shown_rows rows.old.entries)) ++ also ∷ []) }
-    ensures blobs { IfOk result (λ blobs. blobs.items ≡ flat_map left_by (deliver_all (session_with repo.now (shown_files staged.now.entries)) now (shown_rows rows.old.entries))) }
-    ensures rows { OnOk result (shown_rows rows.new.entries
-        ≡ rows_after_all (deliver_all (session_with repo.now (shown_files staged.now.entries)) now (shown_rows rows.old.entries)) (shown_rows rows.old.entries)) }
-    ensures err { OnErr result (shown_rows rows.new.entries ≡ shown_rows rows.old.entries) }
+        (items_by (deliver_all (session_with repo.now (shown_files staged.now.entries)) now rows.old) ++ also ∷ []) }
+    ensures blobs { IfOk result (λ blobs. blobs.items ≡ flat_map left_by (deliver_all (session_with repo.now (shown_files staged.now.entries)) now rows.old)) }
+    ensures rows { OnOk result (rows.new
+        ≡ rows_after_all (deliver_all (session_with repo.now (shown_files staged.now.entries)) now rows.old) rows.old) }
+    ensures err { OnErr result (rows.new ≡ rows.old) }
     ensures recorded { OnOk result (K.tables records.new
-        ≡ tables_with (items_by (deliver_all (session_with repo.now (shown_files staged.now.entries)) now (shown_rows rows.old.entries)) ++ also ∷ []) (K.tables records.old)) }
+        ≡ tables_with (items_by (deliver_all (session_with repo.now (shown_files staged.now.entries)) now rows.old) ++ also ∷ []) (K.tables records.old)) }
     ensures untold { OnErr result (K.tables records.new ≡ K.tables records.old) }
     ensures cause { HasKeptCause (K.faults records.old) (K.faults records.new) result }
     ensures ready { K.ready records.new }
 {
     // Its contract says that each path stands once.
     let _len = staged.len();
-    let blobs = left_of(alloc, rows, staged)?;
-    let items = items_of(alloc, repo, rows, staged, now)?;
+    let before = rows.map();
+    let blobs = left_of(alloc, before, staged)?;
+    let items = items_of(alloc, repo, before, staged, now)?;
     let count = items.len();
     let change = change_with(items, also)?;
     let result = add_and_commit(alloc, rows, records, staged, &change, now);

@@ -25,6 +25,7 @@ ghost use Rattle.hosted_repo.specs.Rows.{fades, shown_at, rows_after_all};
 ghost use Rattle.hosted_repo.specs.Puts.{shown_put, put_turn, GivesBack};
 ghost use Rattle.hosted_repo.specs.Seens.{shown_seen, is_of_document};
 
+use crate::counted::CountedRows;
 use crate::delivering::deliver;
 use crate::judging::judge;
 use crate::kept::Kept;
@@ -49,7 +50,7 @@ use std::marker::Model;
 pub struct Hosted<H: Held> {
     alloc: Global,
     rule: Rule,
-    rows: BTreeMap<String, Row<H>>,
+    rows: CountedRows<H>,
 }
 
 impl<H: Held> Model for Hosted<H> {
@@ -58,15 +59,14 @@ impl<H: Held> Model for Hosted<H> {
 
     ghost Value = { plain.Hosted };
 
-    ghost use Rattle.hosted_repo.specs.Rows.{shown_rows};
     ghost use Rattle.hosted_repo.specs.Rules.{shown_rule};
 
-    ghost view = { λ h. record { rule = shown_rule h.rule; rows = shown_rows h.rows.entries } };
+    ghost view = { λ h. record { rule = shown_rule h.rule; rows = h.rows } };
 
     ghost use Rattle.hosted_repo.specs.Rows.{AreFiles};
     ghost use Rattle.row_tables.specs.Items.{is_id};
 
-    ghost invariant = { λ h. record { named : IsTrue (is_id h.rule.id); files : AreFiles (shown_rows h.rows.entries) } };
+    ghost invariant = { λ h. record { named : IsTrue (is_id h.rule.id); files : AreFiles h.rows } };
 }
 
 impl<H: Held> Hosted<H> {
@@ -78,7 +78,7 @@ impl<H: Held> Hosted<H> {
         Hosted {
             alloc,
             rule,
-            rows: BTreeMap::new(alloc),
+            rows: CountedRows::new(alloc),
         }
     }
 
@@ -101,14 +101,14 @@ impl<H: Held> Hosted<H> {
         ensures seen { IfOk result (λ s. shown_seen s ≡ seen_at self.now.rows path.now (kind path.now)) }
         ensures room { OnErr result (is_of_document (kind path.now) ≡ true) }
     {
-        looks::look_at(self.alloc, &self.rows, path)
+        looks::look_at(self.alloc, self.rows.map(), path)
     }
 
     /// The row at a path.
     pub fn row(&self, path: &str) -> Option<&Row<H>>
         ensures { option_map (λ row. shown_at path.now row.now) result ≡ row_at path.now self.now.rows }
     {
-        rows::find(&self.rows, path)
+        rows::find(self.rows.map(), path)
     }
 
     /// Puts a stored blob at a path at a moment, in seconds since 1970 in UTC. A row of the same content stays its file and
@@ -137,7 +137,7 @@ impl<H: Held> Hosted<H> {
         ensures ready { K.ready records.new }
         ensures parcel { GivesBack result parcel }
     {
-        match rows::standing(&self.rows, path, rows::print_of(&parcel)) {
+        match rows::standing(self.rows.map(), path, rows::print_of(&parcel)) {
             Standing::Free => self.create(records, path, parcel, now),
             Standing::Other(kept) => Put::Taken { kept, sent: parcel },
             Standing::Same => Put::Same(parcel),
@@ -238,7 +238,7 @@ impl<H: Held> Hosted<H> {
         ensures cause { HasReplyCause (K.faults records.old) (K.faults records.new) (shown_put_all result) }
         ensures ready { K.ready records.new }
     {
-        if let Err(answer) = judge(self.alloc, &self.rows, staged) {
+        if let Err(answer) = judge(self.alloc, self.rows.map(), staged) {
             return answer;
         }
         let id = &self.rule.id;
@@ -273,14 +273,14 @@ impl<H: Held> Hosted<H> {
             accepted,
             phase,
         };
-        rows::add(self.alloc, &mut self.rows, path, row)
+        self.rows.add(self.alloc, path, row)
     }
 
     /// The document of a directory, from its visible rows; none where there are none.
     pub fn document(&self, dir: &Dir<'_>) -> Result<Option<Doc>, NoMemory>
         ensures { IfOk result (λ d. d ≡ document dir.now self.now.rows) }
     {
-        documents::document_of(self.alloc, &self.rows, dir)
+        documents::document_of(self.alloc, self.rows.map(), dir)
     }
 
     /// How many rows it has, and how many of them are unlisted.
@@ -288,7 +288,7 @@ impl<H: Held> Hosted<H> {
         ensures all { result.0 ≡ length self.now.rows }
         ensures fading { result.1 ≡ count_by fades self.now.rows }
     {
-        (self.rows.len() as u64, rows::fading(&self.rows))
+        self.rows.counts()
     }
 
     /// The paths of the rows that are to fade at a moment, at most 1,000,000, in byte order: the visible files of builds that
@@ -343,7 +343,7 @@ impl<H: Held> Hosted<H> {
         ensures untaken { OnErr result (blobs.new.items ≡ blobs.old.items) }
     {
         let most = MOST_ROWS.saturating_sub(change.items().len()) as u64;
-        let gone = purge::expired_rows(self.alloc, &self.rows, now.saturating_sub(grace), most)?;
+        let gone = purge::first_expired(self.alloc, &self.rows, now.saturating_sub(grace), most)?;
         purge::add_gone(self.alloc, &self.rule.id, &gone, change, blobs)
     }
 
@@ -352,6 +352,8 @@ impl<H: Held> Hosted<H> {
     pub fn drop_expired(&mut self, grace: u64, now: u64, count: u64)
         ensures { self.new ≡ record self.old { rows = rows_after_all (take count (expired_of grace now self.old)) self.old.rows } }
     {
-        rows::drop_first(&mut self.rows, now.saturating_sub(grace), count);
+        // Its contract says that the paths rise.
+        let _len = self.rows.map().len();
+        self.rows.drop_first(now.saturating_sub(grace), count);
     }
 }

@@ -2,6 +2,7 @@
 #![tactic(auto)]
 
 mod changes;
+mod counted;
 mod delivering;
 mod documents;
 mod dues;

@@ -12,10 +12,11 @@ ghost use Rattle.hosted_repo.specs.Rules.{shown_rule};
 
 use crate::NoMemory;
 use crate::changes::{fade_change, removals};
+use crate::counted::CountedRows;
 use crate::dues::is_due;
 use crate::kept::Kept;
 use crate::row::Row;
-use crate::rows::{fade, is_before};
+use crate::rows::is_before;
 use crate::rule::Rule;
 use outside::Held;
 use row_tables::{Change, Records};
@@ -35,6 +36,17 @@ pub struct Expired {
 
 /// The paths of the rows that are to fade at a moment, at most 1,000,000, in byte order.
 pub fn due_paths<H: Held>(
+    alloc: Global,
+    rows: &CountedRows<H>,
+    rule: &Rule,
+    now: u64,
+) -> Result<Vec<String>, NoMemory>
+    ensures { IfOk result (λ paths. map string_bytes paths.items ≡ map (λ row. row.path) (due_rows (shown_rule rule.now) now rows.now)) }
+{
+    due_among(alloc, rows.map(), rule, now)
+}
+
+fn due_among<H: Held>(
     alloc: Global,
     rows: &BTreeMap<String, Row<H>>,
     rule: &Rule,
@@ -59,11 +71,11 @@ pub fn due_paths<H: Held>(
 }
 
 /// Unlists the rows at some paths.
-pub fn fade_all<H: Held>(rows: &mut BTreeMap<String, Row<H>>, paths: &[String], moment: u64)
-    ensures { (repo : List ℕ) → shown_rows rows.new.entries ≡ rows_after_all (fade_at_paths repo moment paths.now) (shown_rows rows.old.entries) }
+pub fn fade_all<H: Held>(rows: &mut CountedRows<H>, paths: &[String], moment: u64)
+    ensures { (repo : List ℕ) → rows.new ≡ rows_after_all (fade_at_paths repo moment paths.now) rows.old }
 {
     for path in paths {
-        fade(rows, path.as_str(), moment);
+        rows.fade(path.as_str(), moment);
     }
 }
 
@@ -71,23 +83,23 @@ pub fn fade_all<H: Held>(rows: &mut BTreeMap<String, Row<H>>, paths: &[String], 
 /// nothing is changed.
 pub fn unlist_rows<H: Held, K: Records>(
     alloc: Global,
-    rows: &mut BTreeMap<String, Row<H>>,
+    rows: &mut CountedRows<H>,
     records: &mut K,
     rule: &Rule,
     now: u64,
 ) -> Result<u64, Kept>
     requires ready { K.ready records.old }
-    requires change { IsChange (recorded (fade_all (hosted_of rule.now rows.old.entries) now)) }
-    requires fits { FitWhereTold (K.tables records.old) (recorded (fade_all (hosted_of rule.now rows.old.entries) now)) }
-    ensures count { IfOk result (λ n. n ≡ length (due_rows (shown_rule rule.now) now (shown_rows rows.old.entries))) }
-    ensures rows { OnOk result (shown_rows rows.new.entries
-        ≡ rows_after_all (fade_all (hosted_of rule.now rows.old.entries) now) (shown_rows rows.old.entries)) }
+    requires change { IsChange (recorded (fade_all (hosted_of rule.now rows.old) now)) }
+    requires fits { FitWhereTold (K.tables records.old) (recorded (fade_all (hosted_of rule.now rows.old) now)) }
+    ensures count { IfOk result (λ n. n ≡ length (due_rows (shown_rule rule.now) now rows.old)) }
+    ensures rows { OnOk result (rows.new
+        ≡ rows_after_all (fade_all (hosted_of rule.now rows.old) now) rows.old) }
     ensures tables { OnOk result (K.tables records.new
-        ≡ tables_with (recorded (fade_all (hosted_of rule.now rows.old.entries) now)) (K.tables records.old)) }
-    ensures err { OnErr result (shown_rows rows.new.entries ≡ shown_rows rows.old.entries) }
+        ≡ tables_with (recorded (fade_all (hosted_of rule.now rows.old) now)) (K.tables records.old)) }
+    ensures err { OnErr result (rows.new ≡ rows.old) }
     ensures untold { OnErr result (K.tables records.new ≡ K.tables records.old) }
     ensures cause { HasKeptCause (K.faults records.old) (K.faults records.new) result }
-    ensures asked { result ≡ Err Kept.StoreFault → recorded (fade_all (hosted_of rule.now rows.old.entries) now) ≢ [] }
+    ensures asked { result ≡ Err Kept.StoreFault → recorded (fade_all (hosted_of rule.now rows.old) now) ≢ [] }
     ensures ready { K.ready records.new }
 {
     let paths = due_paths(alloc, rows, rule, now)?;
@@ -100,8 +112,23 @@ pub fn unlist_rows<H: Held, K: Records>(
     Ok(paths.len() as u64)
 }
 
-/// The first rows that are unlisted since before a moment, at most so many.
-pub fn expired_rows<H: Held>(
+/// The first rows that are unlisted since before a moment, at most so many. Where none fades no row is looked at.
+pub fn first_expired<H: Held>(
+    alloc: Global,
+    rows: &CountedRows<H>,
+    limit: u64,
+    most: u64,
+) -> Result<Vec<Expired>, NoMemory>
+    ensures { IfOk result (λ found. (repo : List ℕ) → map (shown_expired repo) found.items
+        ≡ take most (map (λ row. expires repo row.path row.blob.number) (filter (λ row. is_before limit row.phase) rows.now))) }
+{
+    if rows.counts().1 == 0 {
+        return Ok(Vec::new(alloc));
+    }
+    expired_rows(alloc, rows.map(), limit, most)
+}
+
+fn expired_rows<H: Held>(
     alloc: Global,
     rows: &BTreeMap<String, Row<H>>,
     limit: u64,

@@ -8,17 +8,16 @@ ghost use Rattle.repo_model.specs.State.{change_where, is_row, row_at};
 ghost use Rattle.row_tables.specs.Commits.{tables_with};
 ghost use Rattle.row_tables.specs.Items.{IsChange};
 ghost use Rattle.hosted_repo.specs.Recording.{CauseOf, FitWhereTold, HasKeptCause};
-ghost use Rattle.hosted_repo.specs.Rows.{shown_rows};
 
 use crate::changes::{put_change, relist_change};
+use crate::counted::CountedRows;
 use crate::kept::Kept;
 use crate::put::Returned;
 use crate::row::{Phase, Row};
-use crate::rows::{list_again, print_of};
+use crate::rows::print_of;
 use outside::{Held, Parcel};
 use row_tables::Records;
 use std::alloc::Global;
-use std::collections::BTreeMap;
 use texts::Text;
 
 fn no_memory<H: Held>(parcel: Parcel<H>) -> Returned<H>
@@ -34,20 +33,20 @@ fn no_memory<H: Held>(parcel: Parcel<H>) -> Returned<H>
 /// comes back.
 pub fn create<H: Held, K: Records>(
     alloc: Global,
-    rows: &mut BTreeMap<String, Row<H>>,
+    rows: &mut CountedRows<H>,
     records: &mut K,
     repo: &Text,
     path: &str,
     parcel: Parcel<H>,
     accepted: u64,
 ) -> Result<(), Returned<H>>
-    requires free { row_at path.now (shown_rows rows.old.entries) ≡ None }
+    requires free { row_at path.now rows.old ≡ None }
     requires moment { accepted ≤ latest_moment }
     requires ready { K.ready records.old }
     requires change { IsChange (HostedPut repo.now path.now parcel.blob (shown_print parcel) accepted ∷ []) }
     requires fits { FitWhereTold (K.tables records.old) (HostedPut repo.now path.now parcel.blob (shown_print parcel) accepted ∷ []) }
-    ensures ok { OnOk result (shown_rows rows.new.entries ≡ with_row (new_row path.now (shown_parcel parcel) accepted) (shown_rows rows.old.entries)) }
-    ensures err { OnErr result (shown_rows rows.new.entries ≡ shown_rows rows.old.entries) }
+    ensures ok { OnOk result (rows.new ≡ with_row (new_row path.now (shown_parcel parcel) accepted) rows.old) }
+    ensures err { OnErr result (rows.new ≡ rows.old) }
     ensures recorded { OnOk result (K.tables records.new
         ≡ tables_with (HostedPut repo.now path.now parcel.blob (shown_print parcel) accepted ∷ []) (K.tables records.old)) }
     ensures untold { OnErr result (K.tables records.new ≡ K.tables records.old) }
@@ -66,13 +65,13 @@ pub fn create<H: Held, K: Records>(
         phase: Phase::Listed,
     };
     // The row makes its own room, and goes again where it is not recorded.
-    if let Err(failed) = rows.insert(key, row) {
+    if let Err(failed) = rows.map.insert(key, row) {
         return Err(no_memory(failed.value.1.parcel));
     }
     let Err(fault) = records.commit(alloc, &change) else {
         return Ok(());
     };
-    let Some(row) = rows.remove(path) else {
+    let Some(row) = rows.map.remove(path) else {
         unreachable!()
     };
     Err(Returned {
@@ -84,7 +83,7 @@ pub fn create<H: Held, K: Records>(
 /// Lists the row at a path again, accepted at a moment, once that is recorded. Where that fails nothing is changed.
 pub fn relist<H: Held, K: Records>(
     alloc: Global,
-    rows: &mut BTreeMap<String, Row<H>>,
+    rows: &mut CountedRows<H>,
     records: &mut K,
     repo: &Text,
     path: &str,
@@ -94,8 +93,8 @@ pub fn relist<H: Held, K: Records>(
     requires ready { K.ready records.old }
     requires change { IsChange (Relisted repo.now path.now accepted ∷ []) }
     requires fits { FitWhereTold (K.tables records.old) (Relisted repo.now path.now accepted ∷ []) }
-    ensures ok { OnOk result (shown_rows rows.new.entries ≡ change_where (is_row path.now) (list_again accepted) (shown_rows rows.old.entries)) }
-    ensures err { OnErr result (shown_rows rows.new.entries ≡ shown_rows rows.old.entries) }
+    ensures ok { OnOk result (rows.new ≡ change_where (is_row path.now) (list_again accepted) rows.old) }
+    ensures err { OnErr result (rows.new ≡ rows.old) }
     ensures recorded { OnOk result (K.tables records.new ≡ tables_with (Relisted repo.now path.now accepted ∷ []) (K.tables records.old)) }
     ensures untold { OnErr result (K.tables records.new ≡ K.tables records.old) }
     ensures cause { HasKeptCause (K.faults records.old) (K.faults records.new) result }
@@ -103,6 +102,6 @@ pub fn relist<H: Held, K: Records>(
 {
     let change = relist_change(alloc, repo, path, accepted)?;
     records.commit(alloc, &change)?;
-    list_again(rows, path, accepted);
+    rows.list_again(path, accepted);
     Ok(())
 }

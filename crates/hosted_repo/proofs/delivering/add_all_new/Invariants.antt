@@ -1,7 +1,6 @@
 use Rattle.hosted_repo.specs.Deliveries.{shown_files}
-use Rattle.hosted_repo.specs.Rows.{shown_rows}
 use Rattle.hosted_repo.proofs.DeliveryLemmas.{IsAdding}
 use Rattle.hosted_repo.proofs.delivering.add_all_new.Given as goal
 
 abbrev pub invariant-loop-path : goal.invariant-loop-path
-invariant-loop-path g l = IsAdding l.now (shown_files l.fn.staged.entries) (shown_rows l.fn.rows.entries) (shown_files l.path-iterator) (shown_rows l.rows.entries)
+invariant-loop-path g l = IsAdding l.now (shown_files l.fn.staged.entries) l.fn.rows (shown_files l.path-iterator) l.rows

@@ -1,7 +1,6 @@
 use Rattle.std.proofs.Common.{◌++◌, ◌∷◌, [], take, ap, ◌∙◌, sym}
 use Rattle.std.proofs.lemmas.List.{take_more}
 use Rattle.hosted_repo.specs.Deliveries.{with_listed, with_listed_by}
-use Rattle.hosted_repo.specs.Rows.{shown_rows}
 use Rattle.hosted_repo.proofs.DeliveryLemmas.{with_listed-append}
 use Rattle.hosted_repo.proofs.delivering.list_all_by.Goals as goal
 
@@ -9,7 +8,7 @@ pub loop-item-preserved : goal.loop-item-preserved
 loop-item-preserved g c =
     let items = c.args.items.now in
     let i = c.loop-item.item-index in
-    let old = shown_rows c.args.rows.now.entries in
+    let old = c.args.rows.now in
     c.list_by.ensures
     ∙ ap (with_listed_by c.args.now c.item-item.result) c.loop-item.invariant
     ∙ sym (with_listed-append c.args.now (take i items) (c.item-item.result ∷ []) old)

@@ -1,7 +1,6 @@
 use Rattle.std.proofs.Common.{◌++◌, ◌∷◌, [], take, ap, ◌∙◌, sym}
 use Rattle.std.proofs.lemmas.List.{take_more}
 use Rattle.hosted_repo.specs.Deliveries.{without_put, without_puts}
-use Rattle.hosted_repo.specs.Rows.{shown_rows}
 use Rattle.hosted_repo.proofs.DeliveryLemmas.{without_puts-append}
 use Rattle.hosted_repo.proofs.delivering.undo_all.Goals as goal
 
@@ -9,7 +8,7 @@ pub loop-item-preserved : goal.loop-item-preserved
 loop-item-preserved g c =
     let items = c.args.items.now in
     let i = c.loop-item.item-index in
-    let old = shown_rows c.args.rows.now.entries in
+    let old = c.args.rows.now in
     c.undo.ensures
     ∙ ap (without_put c.item-item.result) c.loop-item.invariant
     ∙ sym (without_puts-append (take i items) (c.item-item.result ∷ []) old)

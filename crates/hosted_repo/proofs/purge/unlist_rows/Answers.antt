@@ -9,7 +9,7 @@ use Rattle.row_tables.specs.Commits.{tables_with}
 use Rattle.row_tables.specs.Items.{IsChange}
 use Rattle.hosted_repo.specs.Dues.{fade_at_paths}
 use Rattle.hosted_repo.specs.Recording.{FitWhereTold}
-use Rattle.hosted_repo.specs.Rows.{rows_after_all, shown_rows}
+use Rattle.hosted_repo.specs.Rows.{rows_after_all}
 use Rattle.hosted_repo.specs.Rules.{shown_rule}
 use Rattle.hosted_repo.proofs.DueLemmas.{faded}
 use Rattle.hosted_repo.proofs.purge.unlist_rows.Goals as goal
@@ -49,14 +49,14 @@ returns-then-is_empty-clause-count g c =
 pub returns-then-is_empty-clause-rows : goal.returns-then-is_empty-clause-rows
 returns-then-is_empty-clause-rows g c =
     let zero : length c.in_ok-paths.paths.items ≡ 0 = omega (arith, c.in_ok-paths.paths.ok.0, eqb-true (vec_len c.in_ok-paths.paths) 0 (sym c.is_empty.ensures ∙ c.if-is_empty.true)) in
-    let rows = shown_rows c.args.rows.now.entries in
+    let rows = c.args.rows.now in
     ap (λ (due : List plain.Row). rows_after_all (faded_at c.args.rule.now.id c.args.now due) rows)
     (sym (no_rows c.in_ok-paths.paths.items (due_rows (shown_rule c.args.rule.now) c.args.now rows) c.in_ok-paths.ensures zero))
 
 pub returns-then-is_empty-clause-tables : goal.returns-then-is_empty-clause-tables
 returns-then-is_empty-clause-tables g c =
     let zero : length c.in_ok-paths.paths.items ≡ 0 = omega (arith, c.in_ok-paths.paths.ok.0, eqb-true (vec_len c.in_ok-paths.paths) 0 (sym c.is_empty.ensures ∙ c.if-is_empty.true)) in
-    let rows = shown_rows c.args.rows.now.entries in
+    let rows = c.args.rows.now in
     let told = g.K.Records.tables c.args.records.now in
     told_same told
     ∙ ap (λ (due : List plain.Row). tables_with (recorded (faded_at c.args.rule.now.id c.args.now due)) told)
@@ -65,32 +65,32 @@ returns-then-is_empty-clause-tables g c =
 pub fade_change-requires : goal.fade_change-requires
 fade_change-requires g c =
     let id = c.args.rule.now.id in
-    let due = due_rows (shown_rule c.args.rule.now) c.args.now (shown_rows c.args.rows.now.entries) in
+    let due = due_rows (shown_rule c.args.rule.now) c.args.now c.args.rows.now in
     subst (λ (es : List Effect). IsChange (recorded es)) (sym (ap (fade_at_paths id c.args.now) c.deref.ensures.value ∙ faded id c.args.now c.in_ok-paths.paths.items due c.in_ok-paths.ensures)) c.requires.change
 
 pub commit-requires-clause-fits : goal.commit-requires-clause-fits
 commit-requires-clause-fits g c =
     let id = c.args.rule.now.id in
-    let due = due_rows (shown_rule c.args.rule.now) c.args.now (shown_rows c.args.rows.now.entries) in
+    let due = due_rows (shown_rule c.args.rule.now) c.args.now c.args.rows.now in
     subst (FitWhereTold (g.K.Records.tables c.args.records.now))
     (sym (c.in_ok-change.ensures ∙ ap recorded (ap (fade_at_paths id c.args.now) c.deref.ensures.value ∙ faded id c.args.now c.in_ok-paths.paths.items due c.in_ok-paths.ensures))) c.requires.fits
 
 pub returns-in_err-commit-clause-asked : goal.returns-in_err-commit-clause-asked
 returns-in_err-commit-clause-asked g c failed none =
-    let due = due_rows (shown_rule c.args.rule.now) c.args.now (shown_rows c.args.rows.now.entries) in
+    let due = due_rows (shown_rule c.args.rule.now) c.args.now c.args.rows.now in
     let empty = no_paths c.in_ok-paths.paths.items due c.in_ok-paths.ensures (nothing-due c.args.rule.now.id c.args.now due none) in
     let zero : vec_len c.in_ok-paths.paths ≡ 0 = omega (arith, c.in_ok-paths.paths.ok.0, empty) in
     both_ways c.is_empty.result c.if-is_empty.false (c.is_empty.ensures ∙ eq-eqb (vec_len c.in_ok-paths.paths) 0 zero)
 
 pub returns-clause-count : goal.returns-clause-count
 returns-clause-count g c =
-    let due = due_rows (shown_rule c.args.rule.now) c.args.now (shown_rows c.args.rows.now.entries) in
+    let due = due_rows (shown_rule c.args.rule.now) c.args.now c.args.rows.now in
     omega (arith, c.len.ensures, c.in_ok-paths.paths.ok.0, as_many c.in_ok-paths.paths.items due c.in_ok-paths.ensures)
 
 pub returns-clause-rows : goal.returns-clause-rows
 returns-clause-rows g c =
     let id = c.args.rule.now.id in
-    let rows = shown_rows c.args.rows.now.entries in
+    let rows = c.args.rows.now in
     let due = due_rows (shown_rule c.args.rule.now) c.args.now rows in
     c.fade_all.ensures id
     ∙ ap (λ (es : List Effect). rows_after_all es rows) (ap (fade_at_paths id c.args.now) c.deref-2.ensures.value ∙ faded id c.args.now c.in_ok-paths.paths.items due c.in_ok-paths.ensures)
@@ -98,7 +98,7 @@ returns-clause-rows g c =
 pub returns-clause-tables : goal.returns-clause-tables
 returns-clause-tables g c =
     let id = c.args.rule.now.id in
-    let due = due_rows (shown_rule c.args.rule.now) c.args.now (shown_rows c.args.rows.now.entries) in
+    let due = due_rows (shown_rule c.args.rule.now) c.args.now c.args.rows.now in
     c.in_ok-commit.ensures.ok
     ∙ ap (λ items. tables_with items (g.K.Records.tables c.args.records.now))
     (c.in_ok-change.ensures ∙ ap recorded (ap (fade_at_paths id c.args.now) c.deref.ensures.value ∙ faded id c.args.now c.in_ok-paths.paths.items due c.in_ok-paths.ensures))

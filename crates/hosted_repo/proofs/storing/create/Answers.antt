@@ -1,6 +1,10 @@
-use Rattle.std.proofs.Common.{◌≡◌, Some, sym, ap, ◌∙◌}
+use Rattle.std.proofs.Common.{◌≡◌, Some, refl, sym, ap, ◌∙◌}
 use Rattle.std.proofs.lemmas.Option.{none-some}
+use Rattle.repo_model.specs.Effect.{new_row, with_row}
+use Rattle.repo_model.specs.Shown.{shown_parcel}
+use Rattle.repo_model.specs.State.{row_at}
 use Rattle.hosted_repo.specs.Rows.{shown_rows}
+use Rattle.hosted_repo.proofs.CountLemmas.{count, with_listed}
 use Rattle.hosted_repo.proofs.MapLemmas.{held, inserted, put_back}
 use Rattle.hosted_repo.proofs.storing.create.Goals as goal
 
@@ -9,20 +13,40 @@ some-same x y e = cc
 
 pub returns-in_default-commit-clause-ok : goal.returns-in_default-commit-clause-ok
 returns-in_default-commit-clause-ok g c =
-    rw c.in_default-insert.ensures.entries (inserted c.args.path.now c.in-Ok-Ok.key _ c.args.rows.now.entries c.in-Ok-Ok.ensures.ok c.requires.free)
+    let none = ap (row_at c.args.path.now) c.rows.view_is ∙ c.requires.free in
+    ap shown_rows c.in_default-insert.ensures.entries
+    ∙ inserted c.args.path.now c.in-Ok-Ok.key _ c.rows.inside.map.entries c.in-Ok-Ok.ensures.ok none
+    ∙ ap (with_row _) c.rows.view_is
+
+pub invariant_of-rows-in_default-commit : goal.invariant_of-rows-in_default-commit
+invariant_of-rows-in_default-commit g c =
+    let none = ap (row_at c.args.path.now) c.rows.view_is ∙ c.requires.free in
+    with_listed (new_row c.args.path.now (shown_parcel c.args.parcel) c.args.accepted) (shown_rows c.rows.inside.map.entries) (shown_rows c.insert.new.self.entries) c.rows.inside.fading c.rows.invariant refl
+    (ap shown_rows c.in_default-insert.ensures.entries ∙ inserted c.args.path.now c.in-Ok-Ok.key _ c.rows.inside.map.entries c.in-Ok-Ok.ensures.ok none)
+
+pub invariant_of-rows-2 : goal.invariant_of-rows-2
+invariant_of-rows-2 g c =
+    let none = ap (row_at c.args.path.now) c.rows.view_is ∙ c.requires.free in
+    c.rows.invariant
+    ∙ sym (ap (λ es. count (shown_rows es)) (c.remove.ensures.entries
+    ∙ put_back c.args.path.now c.in-Ok-Ok.key _ c.rows.inside.map.entries c.insert.new.self.entries c.in-Ok-Ok.ensures.ok c.in_default-insert.ensures.entries none))
 
 pub unreachable-requires : goal.unreachable-requires
 unreachable-requires g c =
+    let none = ap (row_at c.args.path.now) c.rows.view_is ∙ c.requires.free in
     none-some _ (sym c.in_default-remove.is ∙ c.remove.ensures.value
-    ∙ held c.args.path.now c.in-Ok-Ok.key _ c.args.rows.now.entries c.insert.new.self.entries c.in-Ok-Ok.ensures.ok c.in_default-insert.ensures.entries c.requires.free)
+    ∙ held c.args.path.now c.in-Ok-Ok.key _ c.rows.inside.map.entries c.insert.new.self.entries c.in-Ok-Ok.ensures.ok c.in_default-insert.ensures.entries none)
 
 pub returns-clause-err : goal.returns-clause-err
 returns-clause-err g c =
+    let none = ap (row_at c.args.path.now) c.rows.view_is ∙ c.requires.free in
     ap shown_rows (c.remove.ensures.entries
-    ∙ put_back c.args.path.now c.in-Ok-Ok.key _ c.args.rows.now.entries c.insert.new.self.entries c.in-Ok-Ok.ensures.ok c.in_default-insert.ensures.entries c.requires.free)
+    ∙ put_back c.args.path.now c.in-Ok-Ok.key _ c.rows.inside.map.entries c.insert.new.self.entries c.in-Ok-Ok.ensures.ok c.in_default-insert.ensures.entries none)
+    ∙ c.rows.view_is
 
 pub returns-clause-back : goal.returns-clause-back
 returns-clause-back g c =
+    let none = ap (row_at c.args.path.now) c.rows.view_is ∙ c.requires.free in
     ap (λ row. row.parcel)
     (some-same c.in-Some.row _ (c.in-Some.ensures.value
-    ∙ held c.args.path.now c.in-Ok-Ok.key _ c.args.rows.now.entries c.insert.new.self.entries c.in-Ok-Ok.ensures.ok c.in_default-insert.ensures.entries c.requires.free))
+    ∙ held c.args.path.now c.in-Ok-Ok.key _ c.rows.inside.map.entries c.insert.new.self.entries c.in-Ok-Ok.ensures.ok c.in_default-insert.ensures.entries none))

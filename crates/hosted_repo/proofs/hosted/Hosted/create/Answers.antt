@@ -4,7 +4,7 @@ use Rattle.repo_model.specs.declared.item.Item.TheVariants.{HostedPut}
 use Rattle.repo_model.specs.Effect.{new_row}
 use Rattle.repo_model.specs.Shown.{shown_parcel, shown_print}
 use Rattle.hosted_repo.specs.Recording.{FitWhereTold}
-use Rattle.hosted_repo.specs.Rows.{AreFiles, shown_rows}
+use Rattle.hosted_repo.specs.Rows.{AreFiles}
 use Rattle.hosted_repo.proofs.FormLemmas.{files-more, from-both, puts-change}
 use Rattle.hosted_repo.proofs.hosted.Hosted.create.Goals as goal
 
@@ -19,7 +19,7 @@ create-requires-clause-fits g c =
 
 pub invariant_of-self : goal.invariant_of-self
 invariant_of-self g c =
-    let old = shown_rows c.self.inside.rows.entries in
+    let old = c.self.inside.rows in
     record {
       named = c.self.invariant.named;
       files = from-both c.create.result c.create.ensures.ok c.create.ensures.err

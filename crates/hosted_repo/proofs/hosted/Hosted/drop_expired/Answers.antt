@@ -2,11 +2,11 @@ use Rattle.std.proofs.Common.{List, take, sym, ap, ◌∙◌, subst}
 use Rattle.repo_model.specs.Data as plain
 use Rattle.repo_model.specs.Purge.{expired_of}
 use Rattle.repo_model.specs.Settings.{Rule}
-use Rattle.hosted_repo.specs.Rows.{AreFiles, rows_after_all, shown_rows, without_first}
+use Rattle.hosted_repo.specs.Rows.{AreFiles, rows_after_all, without_first}
 use Rattle.hosted_repo.specs.Rules.{shown_rule}
 use Rattle.hosted_repo.proofs.Expiry.{dropped}
 use Rattle.hosted_repo.proofs.FormLemmas.{files-left}
-use Rattle.hosted_repo.proofs.RowLemmas.{rising-shown}
+use Rattle.hosted_repo.proofs.RowLemmas.{AreRising, rising-shown}
 use Rattle.hosted_repo.proofs.hosted.Hosted.drop_expired.Goals as goal
 
 abbrev whole : Rule → List plain.Row → plain.Hosted
@@ -15,14 +15,14 @@ whole rule rows = record { rule = rule; rows = rows }
 pub invariant_of-self : goal.invariant_of-self
 invariant_of-self g c = record {
   named = c.self.invariant.named;
-  files = subst AreFiles (sym c.drop_first.ensures.rows) (files-left c.args.count c.saturating_sub.result (shown_rows c.self.inside.rows.entries) c.self.invariant.files);
+  files = subst AreFiles (sym c.drop_first.ensures) (files-left c.args.count c.saturating_sub.result c.self.inside.rows c.self.invariant.files);
 }
 
 pub returns : goal.returns
 returns g c =
     let y = c.self.inside in
-    let es = y.rows.entries in
+    let rising = subst AreRising c.map.ensures (rising-shown c.map.result.now.entries c.len-len.ensures.ordered) in
     ap (whole (shown_rule y.rule))
-    (c.drop_first.ensures.rows ∙ ap (λ limit. without_first c.args.count limit (shown_rows es)) c.saturating_sub.ensures
-    ∙ sym (dropped c.args.count c.args.grace c.args.now (shown_rule y.rule).id (shown_rows es) (rising-shown es c.drop_first.ensures.ordered)))
+    (c.drop_first.ensures ∙ ap (λ limit. without_first c.args.count limit y.rows) c.saturating_sub.ensures
+    ∙ sym (dropped c.args.count c.args.grace c.args.now (shown_rule y.rule).id y.rows rising))
     ∙ ap (λ (h : plain.Hosted). whole h.rule (rows_after_all (take c.args.count (expired_of c.args.grace c.args.now h)) h.rows)) c.self.view_is

@@ -34,7 +34,7 @@ module _ (h : plain.Hosted) (grace now limit most n : ℕ) (found : List Expired
 
 pub add_gone-requires : goal.add_gone-requires
 add_gone-requires g c =
-    let h = hosted_of c.self.inside.rule c.self.inside.rows.entries in
+    let h = hosted_of c.self.inside.rule c.self.inside.rows in
     let n = length c.args.change.now in
     let most : c.saturating_sub-most.result ≡ most_rows - n = omega (arith, c.saturating_sub-most.ensures, ap length c.items.ensures.items) in
     let told = goes h c.args.grace c.args.now c.saturating_sub.result c.saturating_sub-most.result n c.in_ok-gone.gone.items c.saturating_sub.ensures most c.in_ok-gone.ensures in
@@ -43,7 +43,7 @@ add_gone-requires g c =
 
 pub returns-clause-count : goal.returns-clause-count
 returns-clause-count g c =
-    let h = hosted_of c.self.inside.rule c.self.inside.rows.entries in
+    let h = hosted_of c.self.inside.rule c.self.inside.rows in
     let n = length c.args.change.now in
     let most : c.saturating_sub-most.result ≡ most_rows - n = omega (arith, c.saturating_sub-most.ensures, ap length c.items.ensures.items) in
     let told = counted h c.args.grace c.args.now c.saturating_sub.result c.saturating_sub-most.result n c.in_ok-gone.gone.items c.saturating_sub.ensures most c.in_ok-gone.ensures in
@@ -52,7 +52,7 @@ returns-clause-count g c =
 
 pub returns-clause-change : goal.returns-clause-change
 returns-clause-change g c =
-    let h = hosted_of c.self.inside.rule c.self.inside.rows.entries in
+    let h = hosted_of c.self.inside.rule c.self.inside.rows in
     let n = length c.args.change.now in
     let most : c.saturating_sub-most.result ≡ most_rows - n = omega (arith, c.saturating_sub-most.ensures, ap length c.items.ensures.items) in
     let told = goes h c.args.grace c.args.now c.saturating_sub.result c.saturating_sub-most.result n c.in_ok-gone.gone.items c.saturating_sub.ensures most c.in_ok-gone.ensures in
@@ -61,7 +61,7 @@ returns-clause-change g c =
 
 pub returns-clause-blobs : goal.returns-clause-blobs
 returns-clause-blobs g c =
-    let h = hosted_of c.self.inside.rule c.self.inside.rows.entries in
+    let h = hosted_of c.self.inside.rule c.self.inside.rows in
     let n = length c.args.change.now in
     let most : c.saturating_sub-most.result ≡ most_rows - n = omega (arith, c.saturating_sub-most.ensures, ap length c.items.ensures.items) in
     let told = blobs h c.args.grace c.args.now c.saturating_sub.result c.saturating_sub-most.result n c.in_ok-gone.gone.items c.saturating_sub.ensures most c.in_ok-gone.ensures in

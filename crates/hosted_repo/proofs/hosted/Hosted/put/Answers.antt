@@ -10,7 +10,6 @@ use Rattle.repo_model.specs.State.{row_at}
 use Rattle.repo_model.specs.Turn.{Turn, put_again, put_at}
 use Rattle.hosted_repo.specs.Puts.{standing, standing_by}
 use Rattle.hosted_repo.specs.Recording.{FitWhereTold}
-use Rattle.hosted_repo.specs.Rows.{shown_rows}
 use Rattle.hosted_repo.specs.declared.put.Standing.TheVariants as stands
 use Rattle.hosted_repo.proofs.hosted.Hosted.put.Goals as goal
 
@@ -46,8 +45,8 @@ create-requires-clause-fits g c =
     let path = c.args.path.now in
     let blob = shown_parcel c.args.parcel in
     let old = c.args.self.now in
-    let rows = shown_rows c.self.inside.rows.entries in
-    let free = ap (λ (k : plain.Hosted). standing blob.print (row_at path k.rows)) (sym c.self.view_is) ∙ ap (λ (s : Print). standing s (row_at path rows)) (sym c.print_of.ensures) ∙ sym c.standing.ensures ∙ c.in-Free.is in
+    let rows = c.self.inside.rows in
+    let free = ap (λ (k : plain.Hosted). standing blob.print (row_at path k.rows)) (sym c.self.view_is) ∙ ap (λ (s : Print). standing s (row_at path rows)) (sym c.print_of.ensures) ∙ ap (λ rs. standing c.print_of.result (row_at path rs)) (sym c.map.ensures) ∙ sym c.standing.ensures ∙ c.in-Free.is in
     subst (λ (o : Option plain.Row). FitWhereTold (g.K.Records.tables c.args.records.now) (recorded (put_at old.rule.id path blob.number blob c.args.now o).effects))
     (no_row blob.print (row_at path old.rows) free) c.requires.fits
 
@@ -56,6 +55,6 @@ relist-requires-clause-fits g c =
     let path = c.args.path.now in
     let blob = shown_parcel c.args.parcel in
     let old = c.args.self.now in
-    let rows = shown_rows c.self.inside.rows.entries in
-    let faded = ap (λ (k : plain.Hosted). standing blob.print (row_at path k.rows)) (sym c.self.view_is) ∙ ap (λ (s : Print). standing s (row_at path rows)) (sym c.print_of.ensures) ∙ sym c.standing.ensures ∙ c.in-Unlisted.is in
+    let rows = c.self.inside.rows in
+    let faded = ap (λ (k : plain.Hosted). standing blob.print (row_at path k.rows)) (sym c.self.view_is) ∙ ap (λ (s : Print). standing s (row_at path rows)) (sym c.print_of.ensures) ∙ ap (λ rs. standing c.print_of.result (row_at path rs)) (sym c.map.ensures) ∙ sym c.standing.ensures ∙ c.in-Unlisted.is in
     subst (FitWhereTold (g.K.Records.tables c.args.records.now)) (is_again old.rule.id path blob.number c.args.now blob (row_at path old.rows) faded) c.requires.fits

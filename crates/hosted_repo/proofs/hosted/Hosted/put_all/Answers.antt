@@ -1,10 +1,10 @@
-use Rattle.std.proofs.Common.{[], ◌≡◌, ◌∷◌, ◌++◌, None, sym, subst}
+use Rattle.std.proofs.Common.{[], ◌≡◌, ◌∷◌, ◌++◌, None, sym, ap, ◌∙◌, subst}
 use Rattle.repo_model.specs.Data as plain
 use Rattle.repo_model.specs.Deploy.{offence, without_pom}
 use Rattle.repo_model.specs.Effect.{recorded}
 use Rattle.hosted_repo.specs.Deliveries.{deliveries, session_with, shown_files}
 use Rattle.hosted_repo.specs.Recording.{FitWhereTold}
-use Rattle.hosted_repo.specs.Rows.{AreFiles, shown_rows}
+use Rattle.hosted_repo.specs.Rows.{AreFiles}
 use Rattle.hosted_repo.proofs.DeliveryLemmas.{files-delivered}
 use Rattle.hosted_repo.proofs.FormLemmas.{from-both}
 use Rattle.hosted_repo.proofs.hosted.Hosted.put_all.Goals as goal
@@ -14,11 +14,13 @@ deliver-requires-clause-fits g c =
     let files = shown_files c.args.staged.now.entries in
     let told = g.K.Records.tables c.args.records.now in
     subst (λ (h : plain.Hosted). (offence h.rows files ≡ None → without_pom h.rows files ≡ None → FitWhereTold told (recorded (deliveries h files c.args.now) ++ c.args.also ∷ [])))
-    (sym c.self.view_is) c.requires.fits c.in_default.ensures.0 c.in_default.ensures.1
+    (sym c.self.view_is) c.requires.fits
+    (ap (λ rows. offence rows files) (sym c.map.ensures) ∙ c.in_default.ensures.0)
+    (ap (λ rows. without_pom rows files) (sym c.map.ensures) ∙ c.in_default.ensures.1)
 
 pub invariant_of-self : goal.invariant_of-self
 invariant_of-self g c =
-    let rows = shown_rows c.self.inside.rows.entries in
+    let rows = c.self.inside.rows in
     let files = shown_files c.args.staged.now.entries in
     record {
       named = c.self.invariant.named;

@@ -2,7 +2,7 @@ use Rattle.std.proofs.Common.{[], ◌∷◌, sym, subst}
 use Rattle.repo_model.specs.Data as plain
 use Rattle.repo_model.specs.declared.item.Item.TheVariants.{Relisted}
 use Rattle.hosted_repo.specs.Recording.{FitWhereTold}
-use Rattle.hosted_repo.specs.Rows.{AreFiles, shown_rows}
+use Rattle.hosted_repo.specs.Rows.{AreFiles}
 use Rattle.hosted_repo.proofs.FormLemmas.{files-again, from-both, relists-change}
 use Rattle.hosted_repo.proofs.hosted.Hosted.relist.Goals as goal
 
@@ -15,7 +15,7 @@ relist-requires-clause-fits g c =
 
 pub invariant_of-self : goal.invariant_of-self
 invariant_of-self g c =
-    let old = shown_rows c.self.inside.rows.entries in
+    let old = c.self.inside.rows in
     record {
       named = c.self.invariant.named;
       files = from-both c.relist.result c.relist.ensures.ok c.relist.ensures.err

@@ -1,13 +1,13 @@
 use Rattle.std.proofs.Common.{sym, subst}
 use Rattle.repo_model.specs.Shown.{shown_parcel}
 use Rattle.hosted_repo.specs.Restored.{kept_row}
-use Rattle.hosted_repo.specs.Rows.{AreFiles, shown_rows}
+use Rattle.hosted_repo.specs.Rows.{AreFiles}
 use Rattle.hosted_repo.proofs.FormLemmas.{files-more, from-both}
 use Rattle.hosted_repo.proofs.hosted.Hosted.restore.Goals as goal
 
 pub invariant_of-self : goal.invariant_of-self
 invariant_of-self g c =
-    let old = shown_rows c.self.inside.rows.entries in
+    let old = c.self.inside.rows in
     record {
       named = c.self.invariant.named;
       files = from-both c.add.result c.add.ensures.ok c.add.ensures.err

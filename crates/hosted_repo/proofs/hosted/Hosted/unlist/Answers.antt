@@ -8,13 +8,13 @@ use Rattle.repo_model.specs.State.{row_at}
 use Rattle.repo_model.specs.Turn.{seen_at}
 use Rattle.row_tables.specs.Commits.{tables_with}
 use Rattle.hosted_repo.specs.Recording.{FitWhereTold}
-use Rattle.hosted_repo.specs.Rows.{AreFiles, hosted_of, rows_after_all, shown_rows}
+use Rattle.hosted_repo.specs.Rows.{AreFiles, hosted_of, rows_after_all}
 use Rattle.hosted_repo.proofs.FadeLaws.{answered_alike, releases_kept}
 use Rattle.hosted_repo.proofs.FormLemmas.{fades-change, files-faded, from-both}
 use Rattle.hosted_repo.proofs.hosted.Hosted.unlist.Goals as goal
 
 pub unlist_rows-requires-clause-change : goal.unlist_rows-requires-clause-change
-unlist_rows-requires-clause-change g c = fades-change (hosted_of c.self.inside.rule c.self.inside.rows.entries) c.args.now c.self.invariant.named c.self.invariant.files c.requires.moment
+unlist_rows-requires-clause-change g c = fades-change (hosted_of c.self.inside.rule c.self.inside.rows) c.args.now c.self.invariant.named c.self.invariant.files c.requires.moment
 
 pub unlist_rows-requires-clause-fits : goal.unlist_rows-requires-clause-fits
 unlist_rows-requires-clause-fits g c =
@@ -22,7 +22,7 @@ unlist_rows-requires-clause-fits g c =
 
 pub invariant_of-self : goal.invariant_of-self
 invariant_of-self g c =
-    let h = hosted_of c.self.inside.rule c.self.inside.rows.entries in
+    let h = hosted_of c.self.inside.rule c.self.inside.rows in
     record {
       named = c.self.invariant.named;
       files = from-both c.unlist_rows.result c.unlist_rows.ensures.rows c.unlist_rows.ensures.err
@@ -44,7 +44,7 @@ with_rows r h k rows now same told =
 
 pub returns-clause-rows : goal.returns-clause-rows
 returns-clause-rows g c =
-    with_rows c.unlist_rows.result (hosted_of c.self.inside.rule c.self.inside.rows.entries) c.args.self.now (shown_rows c.unlist_rows.new.rows.entries) c.args.now c.self.view_is c.unlist_rows.ensures.rows
+    with_rows c.unlist_rows.result (hosted_of c.self.inside.rule c.self.inside.rows) c.args.self.now c.unlist_rows.new.rows c.args.now c.self.view_is c.unlist_rows.ensures.rows
 
 pub returns-clause-tables : goal.returns-clause-tables
 returns-clause-tables g c =
@@ -53,7 +53,7 @@ returns-clause-tables g c =
 
 pub returns-clause-err : goal.returns-clause-err
 returns-clause-err g c =
-    let h = hosted_of c.self.inside.rule c.self.inside.rows.entries in
+    let h = hosted_of c.self.inside.rule c.self.inside.rows in
     on_err_weaker c.unlist_rows.result (λ same. ap (with h) same ∙ c.self.view_is) c.unlist_rows.ensures.err
 
 pub returns-clause-asked : goal.returns-clause-asked
@@ -61,13 +61,13 @@ returns-clause-asked g c = λ failed none. c.unlist_rows.ensures.asked failed (a
 
 pub returns-clause-releases : goal.returns-clause-releases
 returns-clause-releases g c path other =
-    let h = hosted_of c.self.inside.rule c.self.inside.rows.entries in
+    let h = hosted_of c.self.inside.rule c.self.inside.rows in
     from-both c.unlist_rows.result c.unlist_rows.ensures.rows c.unlist_rows.ensures.err (λ made. ap (row_at path) made ∙ releases_kept h.rule c.args.now h.rows path other) (λ same. ap (row_at path) same)
     ∙ ap (λ (k : plain.Hosted). row_at path k.rows) c.self.view_is
 
 pub returns-clause-answered : goal.returns-clause-answered
 returns-clause-answered g c path other =
-    let h = hosted_of c.self.inside.rule c.self.inside.rows.entries in
+    let h = hosted_of c.self.inside.rule c.self.inside.rows in
     from-both c.unlist_rows.result c.unlist_rows.ensures.rows c.unlist_rows.ensures.err
     (λ made. ap (λ rows. seen_at rows path (kind path)) made ∙ answered_alike h.rule.id c.args.now (due_rows h.rule c.args.now h.rows) h.rows path (kind path) other)
     (λ same. ap (λ rows. seen_at rows path (kind path)) same)

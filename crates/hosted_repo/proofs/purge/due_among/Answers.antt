@@ -8,7 +8,7 @@ use Rattle.hosted_repo.specs.Dues.{is_due_row}
 use Rattle.hosted_repo.specs.Rows.{shown_at, shown_entry, shown_rows}
 use Rattle.hosted_repo.specs.Rules.{shown_rule}
 use Rattle.hosted_repo.proofs.DueLemmas.{found_full, found_more, shown_more}
-use Rattle.hosted_repo.proofs.purge.due_paths.Goals as goal
+use Rattle.hosted_repo.proofs.purge.due_among.Goals as goal
 
 abbrev path_of : plain.Row → List ℕ
 path_of row = row.path

@@ -5,7 +5,7 @@ use Rattle.repo_model.specs.Purge.{most_rows}
 use Rattle.hosted_repo.specs.Dues.{is_due_row, IsRight}
 use Rattle.hosted_repo.specs.Rows.{shown_rows}
 use Rattle.hosted_repo.specs.Rules.{shown_rule}
-use Rattle.hosted_repo.proofs.purge.due_paths.Given as goal
+use Rattle.hosted_repo.proofs.purge.due_among.Given as goal
 
 -- the paths of the rows so far that are to fade
 abbrev pub invariant-loop-path : goal.invariant-loop-path

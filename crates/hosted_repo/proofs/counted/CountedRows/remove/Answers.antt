@@ -1,0 +1,23 @@
+use Rattle.std.proofs.Common.{sym, ap, ◌∙◌}
+use Rattle.repo_model.specs.Effect.{without_row}
+use Rattle.hosted_repo.specs.Rows.{shown_rows}
+use Rattle.hosted_repo.proofs.CountLemmas.{at_least, removed_one}
+use Rattle.hosted_repo.proofs.MapLemmas.{removed}
+use Rattle.hosted_repo.proofs.counted.CountedRows.remove.Goals as goal
+
+pub overflow_sub-self : goal.overflow_sub-self
+overflow_sub-self g c =
+    at_least c.args.path.now c.self.inside.map.entries c.self.inside.map.entries c.self.inside.fading c.weight.result c.self.invariant c.in-Some.row c.weight.ensures (sym c.in-Some.ensures.value)
+
+pub invariant_of-self : goal.invariant_of-self
+invariant_of-self g c =
+    removed_one c.args.path.now c.self.inside.map.entries c.remove.new.self.entries c.self.inside.fading c.weight.result c.self.invariant c.in-Some.row c.weight.ensures (sym c.in-Some.ensures.value)
+    c.remove.ensures.entries
+
+pub returns-in-Some : goal.returns-in-Some
+returns-in-Some g c =
+    ap shown_rows c.remove.ensures.entries ∙ removed c.args.path.now c.self.inside.map.entries c.len-len.ensures.ordered ∙ ap (without_row c.args.path.now) c.self.view_is
+
+pub returns-in_default : goal.returns-in_default
+returns-in_default g c =
+    ap shown_rows c.remove.ensures.entries ∙ removed c.args.path.now c.self.inside.map.entries c.len-len.ensures.ordered ∙ ap (without_row c.args.path.now) c.self.view_is
