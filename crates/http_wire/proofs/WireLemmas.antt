@@ -1,6 +1,7 @@
 -- Parts of a buffer, and what a stream begins with by what a wire holds of it.
-use Rattle.std.proofs.Common.{◌≡◌, ℕ, ◌+◌, ◌-◌, ◌≤◌, ◌<◌, ◌⊎◌, inl, inr, min, List, ◌++◌, length, take, drop, slice_range, [], Option, Some, None, Ok, Err, true, false, refl, sym, ap, ◌∙◌, subst, arith, append-nil, append_assoc, length-drop}
-use Rattle.std.proofs.lemmas.List.{drop-drop, drop-take, drop_all, take-append-drop, take-take, take_all, take_at}
+use Rattle.std.proofs.Common.{◌≡◌, ℕ, ◌+◌, ◌-◌, ◌≤◌, ◌<◌, ◌⊎◌, inl, inr, List, ◌++◌, length, take, drop, slice_range, [], Option, Some, None, Ok, Err, true, false, refl, sym, ap, ◌∙◌, subst, arith, append-nil, append_assoc, length-append}
+use Rattle.std.proofs.Math.Seq.{take-append-add}
+use Rattle.std.proofs.lemmas.List.{drop-drop, drop-take, drop_all, length-take-le, nil_from_length, take-append-drop, take-append-le, take-take, take_all, take_at}
 use Rattle.std.proofs.lemmas.Bool.{cases_lt}
 use Rattle.std.specs.List.{list_all}
 use Rattle.std.specs.Option.{option_map}
@@ -127,36 +128,59 @@ taken_none held lent start end room at same whole more = (
 
 -- ---- a body
 
--- it is the front of what is held, and then what the source gave
-pub body_given : (held body given : List ℕ) (count : ℕ) (left left_after : Option (List ℕ)) → count ≡ min (length body) (length held)
-    → take count body ≡ take count held → drop count body ≡ given → left ≡ in_front given left_after
-    → unread held left ≡ in_front body (unread (drop count held) left_after)
-body_given held body given count left left_after is same rest from =
-    ap (unread held) from ∙ by_left left_after (cases_lt (length held) (length body))
+-- what was read behind the bytes that had come, into room that was filled up with zeros; the rest is cut off
+pub came_behind : (held zeros row lent buffer past behind after : List ℕ) (size count asked end : ℕ) (left left_after : Option (List ℕ))
+    → length held ≡ size → size ≤ asked → lent ≡ row → row ≡ take asked held ++ zeros → count ≤ length buffer → size + count ≤ end
+    → after ≡ take (size + count) (take end ((take size lent ++ (buffer ++ past)) ++ behind)) → left ≡ in_front (take count buffer) left_after
+    → Grows held left after left_after count
+came_behind held zeros row lent buffer past behind after size count asked end left left_after is ordered lends sized given fits cut from = (
+  take count buffer,
+  length-take-le count buffer given,
+  cut ∙ take-take (size + count) end ((take size lent ++ (buffer ++ past)) ++ behind) fits
+      ∙ ap (λ (l : List ℕ). take (size + count) ((l ++ (buffer ++ past)) ++ behind)) front
+      ∙ ap (λ (l : List ℕ). take (size + count) l) (append_assoc held (buffer ++ past) behind)
+      ∙ ap (λ (n : ℕ). take (n + count) (held ++ ((buffer ++ past) ++ behind))) (sym is)
+      ∙ take-append-add held ((buffer ++ past) ++ behind) count
+      ∙ ap (λ (l : List ℕ). held ++ take count l) (append_assoc buffer past behind)
+      ∙ ap (λ (l : List ℕ). held ++ l) (take-append-le count buffer (past ++ behind) given),
+  from,
+)
   where
-    whole : body ≡ take count held ++ given
-    whole = sym (take-append-drop count body) ∙ ap (λ (l : List ℕ). l ++ drop count body) same ∙ ap (λ (l : List ℕ). take count held ++ l) rest
+    front : take size lent ≡ held
+    front = ap (λ (l : List ℕ). take size l) (lends ∙ sized ∙ ap (λ (l : List ℕ). l ++ zeros) (take_all asked held (omega arith)))
+        ∙ take_at held zeros size is
 
-    swap_parts : (more : List ℕ) → (length held < length body) ⊎ (length body ≤ length held)
+-- it is the front of what is held, and then what the source gave
+pub body_given : (held first body after : List ℕ) (count n : ℕ) (left left_after : Option (List ℕ)) → first ≡ take count held
+    → after ≡ drop count held → Grows first left body left_after n → length body ≡ count
+    → unread held left ≡ in_front body (unread after left_after)
+body_given held first body after count n left left_after front rest grows all =
+    ap (unread held) grows.3 ∙ by_left left_after (cases_lt (length held) count)
+  where
+    given : List ℕ
+    given = grows.0
+
+    parts : body ≡ take count held ++ given
+    parts = grows.2 ∙ ap (λ (l : List ℕ). l ++ given) front
+
+    swap_parts : (more : List ℕ) → (length held < count) ⊎ (count ≤ length held)
         → held ++ (given ++ more) ≡ (take count held ++ given) ++ (drop count held ++ more)
     swap_parts more (inl short) =
-        let all : take count held ≡ held = take_all count held (omega (arith, is)) in
-        let none : drop count held ≡ [] = drop_all count held (omega (arith, is)) in
-        rw (all, none) (sym (append_assoc held given more))
+        let whole_front : take count held ≡ held = take_all count held (omega arith) in
+        let none : drop count held ≡ [] = drop_all count held (omega arith) in
+        rw (whole_front, none) (sym (append_assoc held given more))
     swap_parts more (inr long) =
-        let nothing : given ≡ [] = sym rest ∙ drop_all count body (omega (arith, is)) in
+        let lengths = ap (λ (l : List ℕ). length l) parts ∙ length-append (take count held) given in
+        let nothing : given ≡ [] = nil_from_length given (omega (arith, lengths, all, length-take-le count held long)) in
         rw nothing (ap (λ (l : List ℕ). l ++ more) (sym (take-append-drop count held))
         ∙ append_assoc (take count held) (drop count held) more
         ∙ ap (λ (l : List ℕ). l ++ (drop count held ++ more)) (sym (append-nil (take count held))))
 
-    by_left : (o : Option (List ℕ)) → (length held < length body) ⊎ (length body ≤ length held)
-        → unread held (in_front given o) ≡ in_front body (unread (drop count held) o)
+    by_left : (o : Option (List ℕ)) → (length held < count) ⊎ (count ≤ length held)
+        → unread held (in_front given o) ≡ in_front body (unread after o)
     by_left None lengths = refl
-    by_left (Some more) lengths = ap Some (swap_parts more lengths ∙ ap (λ (l : List ℕ). l ++ (drop count held ++ more)) (sym whole))
-
--- a slice to the end
-pub slice_range-rest : (bytes : List ℕ) (start end : ℕ) → length bytes ≤ end → slice_range bytes start end ≡ drop start bytes
-slice_range-rest bytes start end all = take_all (end - start) (drop start bytes) (omega (arith, length-drop start bytes))
+    by_left (Some more) lengths = ap Some (swap_parts more lengths ∙ ap (λ (l : List ℕ). l ++ (drop count held ++ more)) (sym parts)
+        ∙ ap (λ (l : List ℕ). body ++ (l ++ more)) (sym rest))
 
 -- what is gone before the source failed: what was held, and what the source gave
 pub body_gone : (held gone : List ℕ) (left left_after : Option (List ℕ)) → left ≡ in_front gone left_after
@@ -166,6 +190,16 @@ body_gone held gone left left_after from = ap (unread held) from ∙ by_left lef
     by_left : (o : Option (List ℕ)) → unread held (in_front gone o) ≡ in_front (held ++ gone) o
     by_left None = refl
     by_left (Some more) = ap Some (sym (append_assoc held gone more))
+
+-- bytes that come behind others that came
+pub came_on : (first second third : List ℕ) (n m : ℕ) (a b c : Option (List ℕ)) → Grows first a second b n → Grows second b third c m
+    → Grows first a third c (n + m)
+came_on first second third n m a b c one two = (
+  one.0 ++ two.0,
+  length-append one.0 two.0 ∙ ap (λ (k : ℕ). k + length two.0) one.1 ∙ ap (λ (k : ℕ). n + k) two.1,
+  two.2 ∙ ap (λ (l : List ℕ). l ++ two.0) one.2 ∙ append_assoc first one.0 two.0,
+  one.3 ∙ body_gone one.0 two.0 b c two.3,
+)
 
 -- nothing in front
 pub in_front-none : (told : Option (List ℕ)) → told ≡ in_front [] told

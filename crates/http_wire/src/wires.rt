@@ -1,8 +1,9 @@
 //! Heads and bodies cut off a stream, however its bytes come.
-ghost use Rattle.std.specs.Prelude.{◌≡◌, ◌≢◌, ℕ, ◌+◌, ◌-◌, ◌<◌, ◌≤◌, ◌++◌, List, [], length, take, drop, slice_range, min, IfOk, IfNone, IfSome, IsSome, OnErr, OnOk, vec_len, None};
+ghost use Rattle.std.specs.Prelude.{◌≡◌, ◌≢◌, ℕ, ◌+◌, ◌-◌, ◌<◌, ◌≤◌, ◌++◌, List, [], length, take, drop, slice_range, min, IfOk, IfNone, IfSome, IsSome, OnErr, OnOk, vec_len, vec_capacity, None};
 ghost use Rattle.std.specs.Option.{option_map};
 ghost use Rattle.outside.specs.Faults.{HasCause};
 ghost use Rattle.outside.specs.Told.{IsAtEnd, in_front};
+ghost use Rattle.http_wire.specs.Held.{Grows};
 ghost use Rattle.http_wire.specs.declared.faults.HeadFault.{HeadFault};
 
 use crate::HEAD_BYTES;
@@ -13,6 +14,10 @@ use crate::search::{Place, Search, resume};
 use outside::{Failed, Source, read_full};
 use std::alloc::{AllocError, Global};
 use std::marker::Model;
+
+/// How many bytes of a body's room are written to at most before they come. So bytes that are announced and never sent
+/// take addresses, and no memory.
+const PIECE_BYTES: usize = 65_536;
 
 /// The bytes that were taken from a source and not used yet, at most `HEAD_BYTES`. A contract sees their list.
 #[derive(Drop)]
@@ -67,37 +72,52 @@ fn read_behind<S: Source>(source: &mut S, buffer: &mut [u8], held: usize) -> Res
     source.read(&mut buffer[held..])
 }
 
-/// Copies as much of `held` as `body` has room for into its front, and says how much that is.
-fn copy_front(body: &mut [u8], held: &[u8]) -> usize
-    ensures count { result ≡ min (length body.old) (length held.now) }
-    ensures len { length body.new ≡ length body.old }
-    ensures copied { take result body.new ≡ take result held.now }
-{
-    let count = body.len().min(held.len());
-    body[..count].copy_from_slice(&held[..count]);
-    count
-}
-
-/// Reads from the source until `body` is full, or to the source's end. The first `held` bytes stay. Where they are
-/// the whole body the source isn't read.
-fn read_rest<S: Source>(source: &mut S, body: &mut [u8], held: usize) -> Result<usize, Failed>
-    requires { held ≤ length body.old }
+/// Reads from the source until `body` has `end` bytes, or to the source's end. Its room is there already.
+fn read_to<S: Source>(source: &mut S, body: &mut Vec<u8>, end: usize) -> Result<(), Failed>
+    requires short { vec_len body.old < end }
+    requires room { end ≤ vec_capacity body.old }
     ensures cause { HasCause (S.read_faults source.old) (S.read_faults source.new) result }
-    ensures kept { take held body.new ≡ take held body.old }
-    ensures count { IfOk result (λ n. held + n ≤ length body.new) }
-    ensures given { IfOk result (λ n. S.left source.old
-        ≡ in_front (slice_range body.new held (held + n)) (S.left source.new)) }
-    ensures end { IfOk result (λ n. held + n < length body.new → IsAtEnd (S.left source.new)) }
-    ensures failed { OnErr result ((gone : List ℕ) × (held + length gone < length body.new)
+    ensures within { OnOk result (vec_len body.new ≤ end) }
+    ensures room { vec_capacity body.old ≤ vec_capacity body.new }
+    ensures given { OnOk result ((n : ℕ) × Grows body.old.items (S.left source.old) body.new.items (S.left source.new) n) }
+    ensures end { OnOk result (vec_len body.new < end → IsAtEnd (S.left source.new)) }
+    ensures failed { OnErr result ((gone : List ℕ) × (vec_len body.old + length gone < end)
         × (S.left source.old ≡ in_front gone (S.left source.new))) }
-    ensures unasked { held ≡ length body.old → source.new ≡ source.old }
     ensures taken { S.taken source.new ≡ S.taken source.old }
     ensures write_faults { S.write_faults source.new ≡ S.write_faults source.old }
 {
-    if held == body.len() {
-        return Ok(0);
+    let held = body.len();
+    let Ok(()) = body.resize(end, 0) else {
+        unreachable!()
+    };
+    let count = read_full(source, &mut body[held..])?;
+    body.truncate(held + count);
+    Ok(())
+}
+
+/// Reads from the source until `body` has `count` bytes, or to the source's end. Its room is there already, and is
+/// written to a piece at a time. Where it has them the source isn't read.
+fn read_rest<S: Source>(source: &mut S, body: &mut Vec<u8>, count: usize) -> Result<(), Failed>
+    requires within { vec_len body.old ≤ count }
+    requires room { count ≤ vec_capacity body.old }
+    ensures cause { HasCause (S.read_faults source.old) (S.read_faults source.new) result }
+    ensures within { OnOk result (vec_len body.new ≤ count) }
+    ensures given { OnOk result ((n : ℕ) × Grows body.old.items (S.left source.old) body.new.items (S.left source.new) n) }
+    ensures end { OnOk result (vec_len body.new < count → IsAtEnd (S.left source.new)) }
+    ensures failed { OnErr result ((gone : List ℕ) × (vec_len body.old + length gone < count)
+        × (S.left source.old ≡ in_front gone (S.left source.new))) }
+    ensures unasked { vec_len body.old ≡ count → source.new ≡ source.old }
+    ensures taken { S.taken source.new ≡ S.taken source.old }
+    ensures write_faults { S.write_faults source.new ≡ S.write_faults source.old }
+{
+    while body.len() < count {
+        let end = body.len() + PIECE_BYTES.min(count - body.len());
+        read_to(source, body, end)?;
+        if body.len() < end {
+            return Ok(());
+        }
     }
-    read_full(source, &mut body[held..])
+    Ok(())
 }
 
 impl Wire {
@@ -107,7 +127,7 @@ impl Wire {
     ghost use Rattle.http_wire.specs.Parsed.{IsTaken};
     ghost use Rattle.http_wire.specs.Search.{IsHeadAt};
     ghost use Rattle.http_wire.specs.Stream.{BeginsWith, BeginsWithHead, CountsFaults, unread};
-    ghost use Rattle.http_wire.specs.Held.{Grows, IsHeld};
+    ghost use Rattle.http_wire.specs.Held.{IsHeld};
 
     /// A wire that holds nothing.
     pub fn new() -> Wire
@@ -134,6 +154,20 @@ impl Wire {
         ensures { self.new ≡ drop count self.old }
     {
         self.start += count;
+    }
+
+    /// Moves at most `count` of the bytes that are held, from their front, into an empty body.
+    fn hand_out(&mut self, body: &mut Vec<u8>, count: usize) -> Result<(), AllocError>
+        requires { body.old.items ≡ [] }
+        ensures body { OnOk result (body.new.items ≡ take count self.old) }
+        ensures rest { OnOk result (self.new ≡ drop count self.old) }
+        ensures kept { OnErr result (self.new ≡ self.old) }
+        ensures room { vec_capacity body.old ≤ vec_capacity body.new }
+    {
+        let part = count.min(self.held().len());
+        body.extend_from_slice(&self.held()[..part])?;
+        self.use_up(part);
+        Ok(())
     }
 
     /// Reads once from the source. 0 is the source's end.
@@ -269,7 +303,7 @@ impl Wire {
     }
 
     /// Takes the next `count` bytes from the wire and the source. Memory is asked for once, before any byte
-    /// is used.
+    /// is used, and written to as they come, at most `PIECE_BYTES` ahead.
     ///
     /// After `NoMemory` nothing is used up. After `Torn` the stream is at its end. After `SourceFault` the wire
     /// is empty, and fewer than `count` bytes are gone. Where the wire holds the whole body the source isn't read.
@@ -299,11 +333,11 @@ impl Wire {
         ensures taken { S.taken source.new ≡ S.taken source.old }
         ensures write_faults { S.write_faults source.new ≡ S.write_faults source.old }
     {
-        let mut body = vec![in alloc; 0; count as usize]?;
-        let held = copy_front(&mut body, self.held());
-        self.use_up(held);
-        let given = read_rest(source, &mut body, held)?;
-        if held + given < body.len() {
+        let count = count as usize;
+        let mut body = Vec::with_capacity(alloc, count)?;
+        self.hand_out(&mut body, count)?;
+        read_rest(source, &mut body, count)?;
+        if body.len() < count {
             return Err(WireFault::Torn);
         }
         Ok(body)

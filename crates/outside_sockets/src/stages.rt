@@ -100,11 +100,13 @@ impl Stage {
         }
     }
 
-    /// The stage once these bytes were written. An interim answer ends no request (RFC 9110, 15.2).
+    /// The stage once a write began with these bytes. An interim answer ends no request (RFC 9110, 15.2), also where its head
+    /// came together with an earlier request. A write that begins no answer goes on with one.
     pub fn with_written(self, bytes: &[u8]) -> Stage {
         match self {
-            Stage::Body if bytes.starts_with(b"HTTP/1.1 1") => Stage::Body,
             Stage::Ended => Stage::Ended,
+            stage if !bytes.starts_with(b"HTTP/1.1 ") => stage,
+            _ if bytes.starts_with(b"HTTP/1.1 100") => Stage::Body,
             _ => Stage::Answered,
         }
     }

@@ -142,6 +142,23 @@ fn a_refusal_reaches_a_client_that_sends(rt: HostRuntime) -> Result<(), Fail> {
     Ok(())
 }
 
+// A client that neither sends nor ends its side is listened to for two seconds.
+#[test]
+fn a_client_that_stays_is_left(rt: HostRuntime) -> Result<(), Fail> {
+    let mut port = TcpPort::bind(rt.clone()?, 0, Running::new(rt.alloc(), 1)?);
+    let mut peer = client(&rt, &port)?;
+    peer.write_all(HEAD)?;
+    let mut link = link_of(&mut port)?;
+    let mut buffer = [0; 64];
+    link.read(&mut buffer).map_err(|_| "not read")?;
+    write_all(&mut link, b"HTTP/1.1 413 \r\n\r\n").map_err(|_| "not written")?;
+    let begin = Instant::now(&rt)?;
+    port.back(link);
+    let waited = begin.elapsed(&rt)?.as_millis();
+    assert!(rt; waited >= 1_500 && waited < 8_000, "{waited}");
+    Ok(())
+}
+
 // A port that is in use fails at each connection.
 #[test]
 fn a_port_in_use_fails(rt: HostRuntime) -> Result<(), Fail> {

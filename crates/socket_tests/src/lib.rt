@@ -2,6 +2,10 @@
 #![tactic(auto)]
 
 #[cfg(test)]
+mod accepting;
+#[cfg(test)]
 mod connections;
 #[cfg(test)]
 mod timers;
+#[cfg(test)]
+mod waits;
