@@ -26,13 +26,13 @@ use Rattle.closed_laws.specs.Answered.{ReadShows, IsLookedUp, looked, unread, fa
 use Rattle.closed_laws.specs.Named.{IsSideOf, ShowsNamed, ShowsSide, WasNamed}
 use Rattle.closed_laws.proofs.AnsweredReads.{By}
 
-among-has : {X : Type 0} (P : X → Type 0) (x : X) (xs : List X) → AllByRecursion P xs → IsAmong x xs → P x
+pub among-has : {X : Type 0} (P : X → Type 0) (x : X) (xs : List X) → AllByRecursion P xs → IsAmong x xs → P x
 among-has P x [] all among = absurd among
 among-has P x (y ∷ ys) all (inl is) = subst P is all.0
 among-has P x (y ∷ ys) all (inr more) = among-has P x ys all.1 more
 
 -- a history in two parts
-legal-parts : (settings : Settings) (before more : List Entry) (s : State) → Legal settings s (before ++ more)
+pub legal-parts : (settings : Settings) (before more : List Entry) (s : State) → Legal settings s (before ++ more)
     → Legal settings s before × Legal settings (end settings s before) more
 legal-parts settings [] more s legal = (tt, legal)
 legal-parts settings (e ∷ before) more s legal = let (one, other) = legal-parts settings before more (after settings s e) legal.1 in ((legal.0, one), other)
@@ -77,21 +77,21 @@ memory-said answer manner old new end (said_cut faults all part rose (inl which)
 memory-said answer manner old new end (said_cut faults all part rose (inr which) front is ends) = said_cut faults all part rose (inr which) front is ends
 
 -- a reply that gives the file, or the text, is seen so
-file-shown : (s : State) (blob : Blob) (reply : Reply) (manner : Manner) (old new : Outside) (end : Option End) → GivesFile s blob reply
+pub file-shown : (s : State) (blob : Blob) (reply : Reply) (manner : Manner) (old new : Outside) (end : Option End) → GivesFile s blob reply
     → ShowsReply reply manner old new end → ShowsNamed s blob manner old new end
 file-shown s blob (file lease given) manner old new end gives seen = inl (subst (λ (b : Blob). ShowsFile manner b old new end) gives seen)
 file-shown s blob spent manner old new end gives seen = inr (gives, seen)
 file-shown s blob no_memory manner old new end gives seen = inl (starved seen)
 file-shown s blob _ manner old new end gives seen = absurd gives
 
-text-shown : (wanted : List ℕ) (reply : Reply) (manner : Manner) (old new : Outside) (end : Option End) → GivesText wanted reply
+pub text-shown : (wanted : List ℕ) (reply : Reply) (manner : Manner) (old new : Outside) (end : Option End) → GivesText wanted reply
     → ShowsReply reply manner old new end → ShowsSaid manner (said.Text wanted) old new end
 text-shown wanted (text bytes) manner old new end gives seen = subst (λ (b : List ℕ). ShowsSaid manner (said.Text b) old new end) gives seen
 text-shown wanted no_memory manner old new end gives seen = memory-said (said.Text wanted) manner old new end seen
 text-shown wanted _ manner old new end gives seen = absurd gives
 
 -- what is seen, where more is known of it
-answered-then : (settings : Settings) (last : Bool) (repo path : List ℕ) (P Q : Manner → Outside → Outside → Option End → Type 0)
+pub answered-then : (settings : Settings) (last : Bool) (repo path : List ℕ) (P Q : Manner → Outside → Outside → Option End → Type 0)
     → ((manner : Manner) (old new : Outside) (end : Option End) → P manner old new end → Q manner old new end)
     → (old new : Outside) (end : Option End) → ReadShows settings last repo path P old new end → ReadShows settings last repo path Q old new end
 answered-then settings last repo path P Q then_too old new end a = record {

@@ -12,7 +12,7 @@ use Rattle.closed_laws.proofs.FirstLooks.{turn-answered}
 use Rattle.closed_laws.proofs.NamedServed.{file-answered, side-answered}
 
 module _ (settings : Settings) (tells : Type 0) (apart : AreNamedApart settings.hosted) (start : State) (sound : IsSound settings start) where
-  turn-shows : (before more later : List Entry) (e : Entry) (old : Outside) (turn : Seen) → turn.entries ≡ e ∷ more → Legal settings start (before ++ e ∷ later)
+  pub turn-shows : (before more later : List Entry) (e : Entry) (old : Outside) (turn : Seen) → turn.entries ≡ e ∷ more → Legal settings start (before ++ e ∷ later)
       → Turn settings tells turn.last turn.entries old turn.new turn.stop → ShowsWhatWasNamed settings start before e old turn
   turn-shows before more later e old turn is legal turned repo row was =
       let turned-so : Turn settings tells turn.last (e ∷ more) old turn.new turn.stop =

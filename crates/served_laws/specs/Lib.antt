@@ -1,0 +1,4 @@
+pub mod Shown
+pub mod Runs
+pub mod Restarted
+pub mod Worked

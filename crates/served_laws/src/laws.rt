@@ -1,0 +1,141 @@
+//! What follows for the files that served documents name. No function here has code: its contract is the law.
+ghost use Rattle.std.specs.Prelude.{◌≡◌, ℕ, List, [], ◌∷◌, ◌++◌, Option, Some};
+ghost use Rattle.outside.specs.Moments.{Moments};
+ghost use Rattle.outside.specs.Told.{in_front};
+ghost use Rattle.repo_model.specs.Command.{look};
+ghost use Rattle.repo_model.specs.History.{Legal, end};
+ghost use Rattle.repo_model.specs.Settings.{Settings};
+ghost use Rattle.repo_model.specs.Tables.{Tables};
+ghost use Rattle.repo_laws.specs.Holds.{Holds, InOrder, told, with_items};
+ghost use Rattle.repo_laws.specs.InRange.{Follow, Run};
+ghost use Rattle.repo_laws.specs.Sound.{AreNamedApart, IsSound};
+ghost use Rattle.repo_laws.specs.Worked.{releases, shop};
+ghost use Rattle.repo_course.specs.Cleaning.{Store, store};
+ghost use Rattle.repo_course.specs.Serving.{AllTell, Outside};
+ghost use Rattle.repo_course.specs.declared.outcomes.End.{End};
+ghost use Rattle.run_desks.specs.declared.objects.Desk.{Desk};
+ghost use Rattle.run_lines.specs.Printing.{Output};
+ghost use Rattle.store_check.specs.Checking.{Recorded};
+ghost use Rattle.repo_run.specs.Replay.{IsReplayed};
+ghost use Rattle.repo_run.specs.Surroundings.{Connection, outside_at};
+ghost use Rattle.closed_laws.specs.Named.{WasNamed};
+ghost use Rattle.closed_laws.specs.Streams.{ShowsWhatWasNamed};
+ghost use Rattle.run_serve.specs.Serving.{Broom, ServesBy};
+ghost use Rattle.turn_lock.specs.History.{IsStep};
+ghost use Rattle.served_laws.specs.Restarted.{RestartShows, ShowsWhatWasNamedIn};
+ghost use Rattle.served_laws.specs.Runs.{IsClosed, RecordsTables, ServerShows};
+ghost use Rattle.served_laws.specs.Shown.{ConnectionShows, DesksShow};
+ghost use Rattle.served_laws.specs.Worked.{document_asked, empty, file_looked, release_put, release_row};
+
+use outside::{Blobs, Clock, Held, Port, Tells};
+use repo_core::Core;
+use row_tables::Records;
+use turn_lock::Thing;
+use turn_seats::Repository;
+
+/// Of a server under the settings that it read: in the one legal history of all its desks and its cleaner, from the state in which
+/// its repository was opened, each file that a document names, as it is answered at a moment, is answered in every later entry that
+/// looks at it up to the grace after that moment; and no blob that a Collect gave out to be removed is named again. Each desk's connections were served in turns,
+/// whose entries stand there; and each turn whose first entry looks at such a file in time, on whichever desk, shows the 200 with the
+/// file's bytes and both checksums, whole, or an alternative with its cause; so for its side files. What the history recorded is
+/// what the records tell in the end, where they tell.
+pub fn servers_serve_named_files<P: Port, B: Blobs, K: Records, C: Clock>()
+    ensures { (settings : Settings) (records records' : Recorded) (clock clock' : Option Moments) (desks back : List (Desk P B P.Link B.Held)) (old new : Broom) (out out' : Output) (status : ℕ) →
+        ServesBy ⟦<P::Link as Tells>⟧ (record {
+          left = P.left;
+          given_back = P.given_back;
+          faults = P.faults;
+          port = λ desk. desk.port;
+          blobs = λ desk. store (B.shelf desk.blobs) (B.faults desk.blobs);
+        }) (AllTell B.Held.bytes) ⟦<Core<K, C, B::Held> as Repository>⟧.sight
+        (IsStep ⟦<Core<K, C, B::Held> as Thing>⟧.fixed ⟦<Core<K, C, B::Held> as Thing>⟧.may_ask ⟦<Core<K, C, B::Held> as Thing>⟧.turned)
+        settings records records' clock clock' desks back old new out out' status →
+        ServerShows ⟦<P::Link as Tells>⟧ (record {
+          left = P.left;
+          given_back = P.given_back;
+          faults = P.faults;
+          port = λ desk. desk.port;
+          blobs = λ desk. store (B.shelf desk.blobs) (B.faults desk.blobs);
+        }) (AllTell B.Held.bytes) settings records records' clock desks back }
+{}
+
+/// So is it of the connection that a replay serves, whose entries are the whole history.
+pub fn replays_serve_named_files<H: Held>()
+    ensures { (settings : Settings) (records records' : Recorded) (clock clock' : Option Moments) (old new : Connection) (blobs blobs' : Store) (ending : End) (calls : ℕ)
+        (replayed : IsReplayed (AllTell H.bytes) settings records records' clock clock' old new blobs blobs' ending calls) →
+        IsClosed settings replayed.begun.state replayed.entries
+        × ConnectionShows (ShowsWhatWasNamed settings replayed.begun.state) settings (AllTell H.bytes) replayed.entries replayed.entries
+        (outside_at old.left old replayed.cleared) (outside_at (in_front replayed.held new.left) new blobs') ending
+        × RecordsTables settings records records' (record { start = replayed.begun.state; entries = replayed.entries }) }
+{}
+
+/// Across restarts: what a document named in one run under these settings, each turn of each desk's connection of a later run shows
+/// that looks there in time; so does each turn of a connection that is served alone. The tables that the earlier run left are those
+/// over which the next one begins, each next run begins no earlier than the one before it ended, and what was being committed at a
+/// stop counts as an entry of its run, or as none.
+pub fn later_runs_serve_named_files<P: Port, B: Blobs>()
+    ensures desks { (settings : Settings) (tables : Tables) (earlier : Run) (between : List Run) (later : Run) (desks back : List (Desk P B P.Link B.Held)) →
+        AreNamedApart settings.hosted → IsSound settings earlier.start → InOrder tables → Holds tables earlier.start → Legal settings earlier.start earlier.entries →
+        Follow settings (with_items tables (told settings earlier.start earlier.entries)) (end settings earlier.start earlier.entries).last (between ++ later ∷ []) →
+        DesksShow ⟦<P::Link as Tells>⟧ (record {
+          left = P.left;
+          given_back = P.given_back;
+          faults = P.faults;
+          port = λ desk. desk.port;
+          blobs = λ desk. store (B.shelf desk.blobs) (B.faults desk.blobs);
+        }) (AllTell B.Held.bytes) (ShowsWhatWasNamed settings later.start) settings later.entries desks back →
+        DesksShow ⟦<P::Link as Tells>⟧ (record {
+          left = P.left;
+          given_back = P.given_back;
+          faults = P.faults;
+          port = λ desk. desk.port;
+          blobs = λ desk. store (B.shelf desk.blobs) (B.faults desk.blobs);
+        }) (AllTell B.Held.bytes) (ShowsWhatWasNamedIn settings earlier later.start) settings later.entries desks back }
+    ensures alone { (settings : Settings) (tables : Tables) (earlier : Run) (between : List Run) (later : Run) (old new : Outside) (ending : End) →
+        AreNamedApart settings.hosted → IsSound settings earlier.start → InOrder tables → Holds tables earlier.start → Legal settings earlier.start earlier.entries →
+        Follow settings (with_items tables (told settings earlier.start earlier.entries)) (end settings earlier.start earlier.entries).last (between ++ later ∷ []) →
+        ConnectionShows (ShowsWhatWasNamed settings later.start) settings (AllTell B.Held.bytes) later.entries later.entries old new ending →
+        ConnectionShows (ShowsWhatWasNamedIn settings earlier later.start) settings (AllTell B.Held.bytes) later.entries later.entries old new ending }
+{}
+
+/// So of two servers under the same settings, the later one over the records that the earlier one gave back, where these tell their
+/// tables: each desk of the later one shows what a document of the earlier one named, in time, where no entry of it is earlier than
+/// the end of the other.
+pub fn restarted_servers_serve_named_files<P: Port, B: Blobs, K: Records, C: Clock>()
+    ensures { (settings : Settings) (tables : Tables) (records records' later_records later_records' : Recorded) (clock clock' later_clock later_clock' : Option Moments)
+        (desks back later_desks later_back : List (Desk P B P.Link B.Held)) (old new later_old later_new : Broom) (out out' later_out later_out' : Output) (status later_status : ℕ) →
+        records.tables ≡ Some tables → later_records.tables ≡ records'.tables →
+        ServesBy ⟦<P::Link as Tells>⟧ (record {
+          left = P.left;
+          given_back = P.given_back;
+          faults = P.faults;
+          port = λ desk. desk.port;
+          blobs = λ desk. store (B.shelf desk.blobs) (B.faults desk.blobs);
+        }) (AllTell B.Held.bytes) ⟦<Core<K, C, B::Held> as Repository>⟧.sight
+        (IsStep ⟦<Core<K, C, B::Held> as Thing>⟧.fixed ⟦<Core<K, C, B::Held> as Thing>⟧.may_ask ⟦<Core<K, C, B::Held> as Thing>⟧.turned)
+        settings records records' clock clock' desks back old new out out' status →
+        ServesBy ⟦<P::Link as Tells>⟧ (record {
+          left = P.left;
+          given_back = P.given_back;
+          faults = P.faults;
+          port = λ desk. desk.port;
+          blobs = λ desk. store (B.shelf desk.blobs) (B.faults desk.blobs);
+        }) (AllTell B.Held.bytes) ⟦<Core<K, C, B::Held> as Repository>⟧.sight
+        (IsStep ⟦<Core<K, C, B::Held> as Thing>⟧.fixed ⟦<Core<K, C, B::Held> as Thing>⟧.may_ask ⟦<Core<K, C, B::Held> as Thing>⟧.turned)
+        settings later_records later_records' later_clock later_clock' later_desks later_back later_old later_new later_out later_out' later_status →
+        RestartShows ⟦<P::Link as Tells>⟧ (record {
+          left = P.left;
+          given_back = P.given_back;
+          faults = P.faults;
+          port = λ desk. desk.port;
+          blobs = λ desk. store (B.shelf desk.blobs) (B.faults desk.blobs);
+        }) (AllTell B.Held.bytes) settings records later_records clock later_clock desks back later_desks later_back }
+{}
+
+/// A worked case of what these laws speak of: a release is put, the document of its versions, which is answered next, names it, and
+/// it is looked at at the end of the grace; and that is a legal history of a repository that began with nothing.
+pub fn worked_file_is_named()
+    ensures legal { Legal shop empty (release_put ++ document_asked ∷ file_looked ∷ []) }
+    ensures named { WasNamed shop empty (release_put ++ document_asked ∷ []) releases release_row file_looked.moment }
+    ensures looked { file_looked.command ≡ look releases release_row.path [] }
+{}

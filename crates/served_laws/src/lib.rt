@@ -1,0 +1,12 @@
+//! What a served document names is served, by the whole program: the laws of streams carried to the desks of a server, to a replay, and
+//! from one run to the next over the same records.
+//!
+//! No function here has code: its contract is the law.
+#![tactic(auto)]
+
+mod laws;
+
+pub use laws::{
+    later_runs_serve_named_files, replays_serve_named_files, restarted_servers_serve_named_files,
+    servers_serve_named_files, worked_file_is_named,
+};
