@@ -1,6 +1,6 @@
 // Worked cases of puts, looks, leases and drafts.
-use crate::bench::{Ask, Bench};
-use crate::said::{ABC, NOTHING, Said};
+use core_worlds::bench::{Ask, Bench};
+use core_worlds::said::{ABC, NOTHING, Said};
 use outside::Clock;
 use std::test::Fail;
 
@@ -77,7 +77,7 @@ fn end_of(bench: Bench) -> (u64, u64) {
 #[test]
 fn commands_are_answered_as_written(rt: HostRuntime) -> Result<(), Fail> {
     let mut bench = Bench::new(rt.alloc())?;
-    bench.follow(&rt, &STEPS)?;
+    assert_eq!(rt; bench.first_other(&STEPS)?, None);
     // each turn reads the clock once
     assert_eq!(rt; end_of(bench), (29, 1_700_000_029));
     Ok(())

@@ -1,7 +1,7 @@
 // Records that fail: the command is answered so, nothing but the moment is changed, and the next call goes on.
-use crate::bench::{ALL_KINDS, Ask, Bench};
 use crate::purges::{DOCUMENT, FIRST, OF_BOTH, OF_SECOND, SECOND};
-use crate::said::{ABC, Said};
+use core_worlds::bench::{ALL_KINDS, Ask, Bench};
+use core_worlds::said::{ABC, Said};
 use outside_memory::ScriptClock;
 use std::process::Abort;
 use std::test::Fail;
@@ -15,7 +15,7 @@ fn follow(
     steps: &[(Ask, Said)],
     recorded: usize,
 ) -> Result<(), Fail> {
-    bench.follow(rt, steps)?;
+    assert_eq!(rt; bench.first_other(steps)?, None);
     let (records, _) = bench.core.end();
     assert_eq!(rt; records.items().len(), recorded);
     Ok(())

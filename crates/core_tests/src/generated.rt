@@ -1,9 +1,9 @@
 // Some thousand generated commands: the core answers as the plain machine does.
 ghost use Rattle.std.specs.Prelude.{◌<◌};
 
-use crate::bench::{Ask, Bench};
 use crate::plain::{Plain, takes};
-use crate::said::Said;
+use core_worlds::bench::{Ask, Bench};
+use core_worlds::said::Said;
 use std::alloc::Global;
 use std::test::Fail;
 

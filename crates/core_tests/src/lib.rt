@@ -3,8 +3,6 @@
 #![tactic(auto)]
 
 #[cfg(test)]
-mod bench;
-#[cfg(test)]
 mod cases;
 #[cfg(test)]
 mod documents;
@@ -22,9 +20,5 @@ mod purges;
 mod refusals;
 #[cfg(test)]
 mod restarts;
-#[cfg(test)]
-mod said;
-#[cfg(test)]
-mod sessions;
 #[cfg(test)]
 mod sides;

@@ -1,6 +1,6 @@
 // A plain, slow machine, written apart from the core: it keeps lists and looks through them for each command. It purges nothing.
-use crate::bench::Ask;
-use crate::said::{ABC, Content, NOTHING, Said};
+use core_worlds::bench::Ask;
+use core_worlds::said::{ABC, Content, NOTHING, Said};
 use std::alloc::{AllocError, Global};
 
 #[derive(Drop)]

@@ -1,6 +1,6 @@
 // The purge: files of builds that are not kept are unlisted, answered for their grace period, and then gone.
-use crate::bench::{ALL_KINDS, Ask, Bench};
-use crate::said::{ABC, Said};
+use core_worlds::bench::{ALL_KINDS, Ask, Bench};
+use core_worlds::said::{ABC, Said};
 use outside_memory::ScriptClock;
 use std::alloc::Global;
 use std::process::Abort;
@@ -75,7 +75,7 @@ fn bench_of(rt: &impl Abort, alloc: Global, moments: &[u64]) -> Result<Bench, Fa
     let mut listed = Vec::from_slice(alloc, &[1000, 1010, 1010, 2000, 2000])?;
     listed.extend_from_slice(moments)?;
     let mut bench = Bench::of(alloc, ALL_KINDS, ScriptClock::listed(1000, listed))?;
-    bench.follow(rt, &PUTS)?;
+    assert_eq!(rt; bench.first_other(&PUTS)?, None);
     Ok(bench)
 }
 
@@ -93,7 +93,11 @@ static FADES: [(Ask, Said); 7] = [
 #[test]
 fn a_build_fades_and_goes(rt: HostRuntime) -> Result<(), Fail> {
     let moments = [2060, 2060, 2060, 2061, 2061, 2061, 2061];
-    bench_of(&rt, rt.alloc(), &moments)?.follow(&rt, &FADES)
+    assert_eq!(rt;
+        bench_of(&rt, rt.alloc(), &moments)?.first_other(&FADES)?,
+        None
+    );
+    Ok(())
 }
 
 static WHILE_BORROWED: [(Ask, Said); 2] = [
@@ -110,9 +114,10 @@ static GIVEN_BACK: [(Ask, Said); 2] = [
 fn a_blob_that_is_borrowed_stays(rt: HostRuntime) -> Result<(), Fail> {
     let mut bench = bench_of(&rt, rt.alloc(), &[2060, 2061, 2061, 2061, 2062])?;
     let parcel = bench.parcel_at("snapshots", FIRST)?;
-    bench.follow(&rt, &WHILE_BORROWED)?;
-    bench.expect_bytes(&rt, &parcel, b"abc")?;
-    bench.follow(&rt, &GIVEN_BACK)
+    assert_eq!(rt; bench.first_other(&WHILE_BORROWED)?, None);
+    assert!(rt; bench.has_bytes(&parcel, b"abc")?);
+    assert_eq!(rt; bench.first_other(&GIVEN_BACK)?, None);
+    Ok(())
 }
 
 static RELISTED: [(Ask, Said); 6] = [
@@ -127,7 +132,11 @@ static RELISTED: [(Ask, Said); 6] = [
 #[test]
 fn a_build_that_is_put_again_is_listed(rt: HostRuntime) -> Result<(), Fail> {
     let moments = [2000, 2030, 2030, 2030, 2061, 2061];
-    bench_of(&rt, rt.alloc(), &moments)?.follow(&rt, &RELISTED)
+    assert_eq!(rt;
+        bench_of(&rt, rt.alloc(), &moments)?.first_other(&RELISTED)?,
+        None
+    );
+    Ok(())
 }
 
 const RELEASE: &str = "org/acme/lib/1.0/lib-1.0.jar";
@@ -146,5 +155,9 @@ static OF_RELEASES: [(Ask, Said); 7] = [
 #[test]
 fn releases_are_never_unlisted(rt: HostRuntime) -> Result<(), Fail> {
     let clock = ScriptClock::stepping(rt.alloc(), 1000, 1000);
-    Bench::of(rt.alloc(), ALL_KINDS, clock)?.follow(&rt, &OF_RELEASES)
+    assert_eq!(rt;
+        Bench::of(rt.alloc(), ALL_KINDS, clock)?.first_other(&OF_RELEASES)?,
+        None
+    );
+    Ok(())
 }

@@ -1,7 +1,7 @@
 // A start over what a core before it recorded and stored.
-use crate::bench::{ALL_KINDS, Ask, Bench, MIXED, Parts, expect_blobs};
 use crate::purges::{DOCUMENT, FIRST, OF_SECOND, SECOND};
-use crate::said::{ABC, Said};
+use core_worlds::bench::{ALL_KINDS, Ask, Bench, MIXED, Parts, has_blobs};
+use core_worlds::said::{ABC, Said};
 use outside::Blobs;
 use outside_memory::ScriptClock;
 use std::alloc::Global;
@@ -21,7 +21,7 @@ fn parts_of(
     steps: &[(Ask, Said)],
 ) -> Result<Parts, Fail> {
     let mut bench = Bench::of(alloc, settings, ScriptClock::stepping(alloc, moment, 1))?;
-    bench.follow(rt, steps)?;
+    assert_eq!(rt; bench.first_other(steps)?, None);
     Ok(bench.stop())
 }
 
@@ -57,9 +57,9 @@ fn a_file_outlasts_a_stop(rt: HostRuntime) -> Result<(), Fail> {
     let parts = parts_of(&rt, alloc, ALL_KINDS, 1000, &PUT)?;
     let mut bench = again(alloc, ALL_KINDS, parts, 2000)?;
     let parcel = bench.parcel_at("releases", JAR)?;
-    bench.expect_bytes(&rt, &parcel, b"abc")?;
+    assert!(rt; bench.has_bytes(&parcel, b"abc")?);
     let mut bench = again(alloc, ALL_KINDS, bench.stop(), 2000)?;
-    bench.follow(&rt, &THERE)?;
+    assert_eq!(rt; bench.first_other(&THERE)?, None);
     let parts = bench.stop();
     // nothing was committed by the starts, and nothing by the answers
     assert_eq!(rt; parts.records.items().len(), 1);
@@ -84,11 +84,12 @@ fn a_put_that_was_not_recorded_is_gone_with_its_blob(rt: HostRuntime) -> Result<
     let failing = Vec::from_slice(alloc, &[1])?;
     let clock = ScriptClock::stepping(alloc, 1000, 1);
     let mut bench = Bench::over(alloc, ALL_KINDS, failing, clock)?;
-    bench.follow(&rt, &UNRECORDED)?;
+    assert_eq!(rt; bench.first_other(&UNRECORDED)?, None);
     let mut bench = again(alloc, ALL_KINDS, bench.stop(), 2000)?;
-    bench.follow(&rt, &NOT_THERE)?;
+    assert_eq!(rt; bench.first_other(&NOT_THERE)?, None);
     let mut parts = bench.stop();
-    expect_blobs(&rt, &mut parts.blobs, &[1], &[])
+    assert!(rt; has_blobs(&mut parts.blobs, &[1], &[])?);
+    Ok(())
 }
 
 static FADES: [(Ask, Said); 5] = [
@@ -117,9 +118,10 @@ fn an_unlisted_file_stays_so_up_to_its_grace(rt: HostRuntime) -> Result<(), Fail
     let alloc = rt.alloc();
     let parts = parts_of(&rt, alloc, ALL_KINDS, 1000, &FADES)?;
     let mut bench = again(alloc, ALL_KINDS, parts, 1064)?;
-    bench.follow(&rt, &STILL_FADES)?;
+    assert_eq!(rt; bench.first_other(&STILL_FADES)?, None);
     let mut bench = again(alloc, ALL_KINDS, bench.stop(), 1065)?;
-    bench.follow(&rt, &GONE)
+    assert_eq!(rt; bench.first_other(&GONE)?, None);
+    Ok(())
 }
 
 static BUILDS: [(Ask, Said); 4] = [
@@ -137,7 +139,8 @@ fn moments_do_not_go_back(rt: HostRuntime) -> Result<(), Fail> {
     let alloc = rt.alloc();
     let parts = parts_of(&rt, alloc, ALL_KINDS, 1000, &BUILDS)?;
     let mut bench = again(alloc, ALL_KINDS, parts, 0)?;
-    bench.follow(&rt, &NO_EARLIER)
+    assert_eq!(rt; bench.first_other(&NO_EARLIER)?, None);
+    Ok(())
 }
 
 static TO_TWO: [(Ask, Said); 4] = [
@@ -166,9 +169,10 @@ fn files_of_a_repository_without_a_rule_are_kept_and_not_answered(
     let alloc = rt.alloc();
     let parts = parts_of(&rt, alloc, MIXED, 1000, &TO_TWO)?;
     let mut bench = again(alloc, ALL_KINDS, parts, 2000)?;
-    bench.follow(&rt, &WITHOUT_MIXED)?;
+    assert_eq!(rt; bench.first_other(&WITHOUT_MIXED)?, None);
     let mut bench = again(alloc, MIXED, bench.stop(), 3000)?;
-    bench.follow(&rt, &WITH_MIXED)
+    assert_eq!(rt; bench.first_other(&WITH_MIXED)?, None);
+    Ok(())
 }
 
 static OVER_LEFT_OVER: [(Ask, Said); 1] = [(Ask::MayPut("releases", JAR), Said::Draft(8))];
@@ -180,7 +184,8 @@ fn blobs_that_no_file_has_go(rt: HostRuntime) -> Result<(), Fail> {
     parts.blobs.store(7, b"left")?;
     parts.blobs.store(4, b"over")?;
     let mut bench = again(alloc, ALL_KINDS, parts, 2000)?;
-    bench.follow(&rt, &OVER_LEFT_OVER)?;
+    assert_eq!(rt; bench.first_other(&OVER_LEFT_OVER)?, None);
     let mut parts = bench.stop();
-    expect_blobs(&rt, &mut parts.blobs, &[4, 7], &[1])
+    assert!(rt; has_blobs(&mut parts.blobs, &[4, 7], &[1])?);
+    Ok(())
 }

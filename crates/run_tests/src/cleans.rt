@@ -2,11 +2,8 @@
 use crate::exchanges::{EXCHANGE, Exchange, PLAIN, Script};
 use crate::literals::{
     ABC, CREATED, GET, METHOD_AT_HOSTED, METHOD_AT_STATUS, NO_ROUTE, NOT_THERE, PUT_ABC, PUT_JAR_1,
-    SAME,
+    PUT_JAR_2, SAME,
 };
-
-const PUT_JAR_2: &str =
-    "PUT /repository/snapshots/org/acme/lib/1.1-SNAPSHOT/lib-1.1-20240301.080000-2.jar HTTP/1.1\r\nHost: x\r\nContent-Length: 3\r\n\r\nabc";
 
 const GET_JAR_1: &str =
     "GET /repository/snapshots/org/acme/lib/1.1-SNAPSHOT/lib-1.1-20240229.235959-1.jar HTTP/1.1\r\nHost: x\r\n\r\n";

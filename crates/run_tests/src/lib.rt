@@ -3,6 +3,8 @@
 #![tactic(auto)]
 
 #[cfg(test)]
+mod beside_sessions;
+#[cfg(test)]
 mod captures;
 #[cfg(test)]
 mod cleans;
@@ -20,6 +22,8 @@ mod deployed_snapshot;
 mod exchanges;
 #[cfg(test)]
 mod framing;
+#[cfg(test)]
+mod full_sessions;
 #[cfg(test)]
 mod judged;
 #[cfg(test)]

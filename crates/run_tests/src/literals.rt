@@ -74,6 +74,9 @@ pub const DOCUMENT_10: &str =
 pub const PUT_JAR_1: &str =
     "PUT /repository/snapshots/org/acme/lib/1.1-SNAPSHOT/lib-1.1-20240229.235959-1.jar HTTP/1.1\r\nHost: x\r\nContent-Length: 3\r\n\r\nabc";
 
+pub const PUT_JAR_2: &str =
+    "PUT /repository/snapshots/org/acme/lib/1.1-SNAPSHOT/lib-1.1-20240301.080000-2.jar HTTP/1.1\r\nHost: x\r\nContent-Length: 3\r\n\r\nabc";
+
 pub const PUT_POM_1: &str =
     "PUT /repository/snapshots/org/acme/lib/1.1-SNAPSHOT/lib-1.1-20240229.235959-1.pom HTTP/1.1\r\nHost: x\r\nContent-Length: 3\r\n\r\nabc";
 

@@ -1,6 +1,7 @@
 // The worked exchanges, each in the pieces that it names, and those where something fails.
 ghost use Rattle.std.specs.Prelude.{◌<◌, IfOk, vec_len};
 
+use crate::beside_sessions::beside;
 use crate::captures::Deploy;
 use crate::cleans::cleans;
 use crate::connections::connections;
@@ -12,13 +13,15 @@ use crate::framing::framing;
 use crate::judged::judged;
 use crate::lengths::lengths;
 use crate::paths::paths;
-use crate::sessions::sessions;
+use crate::sessions::{OPEN, answers_to_65, sessions};
 use crate::sides::sides;
 use crate::snapshots::snapshots;
 use outside::Duplex;
 use outside_memory::{FaultScript, MemBlobs, MemLink, MemSink, MemSource, ScriptClock, ScriptPort};
-use repo_run::{Cleaner, Desk, Ran, run};
+use outside_pace::ScriptPace;
+use repo_run::{Ran, run_once};
 use row_tables::MemRecords;
+use run_desks::{Cleaner, Desk};
 use std::alloc::{AllocError, Global};
 use std::test::Fail;
 
@@ -106,7 +109,7 @@ fn settings_of(alloc: Global, exchange: &Exchange) -> Result<MemSource, AllocErr
 /// A run that is over, and the sink that took its line.
 #[derive(Drop)]
 struct Over {
-    ran: Ran<MemPort, MemBlobs, MemRecords, ScriptClock>,
+    ran: Ran<MemPort, MemBlobs, ScriptPace, MemRecords, ScriptClock>,
     out: MemSink,
 }
 
@@ -155,10 +158,11 @@ fn run_of(
     let desks = desks_of(alloc, input, exchange.script, most)?;
     let cleaner = Cleaner {
         blobs: MemBlobs::new(alloc, FaultScript::none(alloc)),
+        pace: ScriptPace::new(alloc, Vec::new(alloc))?,
     };
     let records = MemRecords::new(alloc, Vec::new(alloc));
     let clock = ScriptClock::stepping(alloc, 1_709_208_000, exchange.step);
-    let ran = run(
+    let ran = run_once(
         alloc,
         words.as_slice(),
         &mut settings,
@@ -246,6 +250,25 @@ fn repositories_are_cleaned(rt: HostRuntime) -> Result<(), Fail> {
 #[test]
 fn sessions_are_deployed_or_given_up(rt: HostRuntime) -> Result<(), Fail> {
     assert_eq!(rt; first_wrong(rt.alloc(), sessions())?, None);
+    Ok(())
+}
+
+#[test]
+fn sessions_meet_what_came_meanwhile(rt: HostRuntime) -> Result<(), Fail> {
+    assert_eq!(rt; first_wrong(rt.alloc(), beside())?, None);
+    Ok(())
+}
+
+#[test]
+fn at_most_64_sessions_are_opened(rt: HostRuntime) -> Result<(), Fail> {
+    let alloc = rt.alloc();
+    let exchange = Exchange {
+        line: "calls 65 end Closed\n",
+        ..EXCHANGE
+    };
+    let answers = answers_to_65(alloc)?;
+    let over = run_of(alloc, &exchange, joined(alloc, &[(65, OPEN)])?, 4096)?;
+    assert!(rt; over.is_as_said(&exchange, answers.as_slice()));
     Ok(())
 }
 

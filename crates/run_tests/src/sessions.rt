@@ -3,21 +3,23 @@ use crate::exchanges::{EXCHANGE, Exchange};
 use crate::literals::{
     ABC, AGREED, CREATED, INTERIM, KIND_REFUSED_LAST, NOT_THERE, NOTED, PUT_ABC, SAME,
 };
+use std::alloc::Global;
+use std::test::Fail;
 
-const OPEN: &str = "POST /api/repositories/releases/sessions HTTP/1.1\r\nHost: x\r\n\r\n";
+pub const OPEN: &str = "POST /api/repositories/releases/sessions HTTP/1.1\r\nHost: x\r\n\r\n";
 
-const STAGE_JAR: &str =
+pub const STAGE_JAR: &str =
     "PUT /api/sessions/1/files/org/acme/lib/2.0/lib-2.0.jar HTTP/1.1\r\nHost: x\r\nContent-Length: 3\r\n\r\nabc";
 
-const STAGE_POM: &str =
+pub const STAGE_POM: &str =
     "PUT /api/sessions/1/files/org/acme/lib/2.0/lib-2.0.pom HTTP/1.1\r\nHost: x\r\nContent-Length: 1\r\n\r\na";
 
 const STAGE_OTHER: &str =
     "PUT /api/sessions/1/files/org/acme/lib/1.0/lib-1.0.jar HTTP/1.1\r\nHost: x\r\nContent-Length: 0\r\n\r\n";
 
-const COMMIT: &str = "POST /api/sessions/1/commit HTTP/1.1\r\nHost: x\r\n\r\n";
+pub const COMMIT: &str = "POST /api/sessions/1/commit HTTP/1.1\r\nHost: x\r\n\r\n";
 
-const ABORT: &str = "POST /api/sessions/1/abort HTTP/1.1\r\nHost: x\r\n\r\n";
+pub const ABORT: &str = "POST /api/sessions/1/abort HTTP/1.1\r\nHost: x\r\n\r\n";
 
 const STAGE_JAR_IN_2: &str =
     "PUT /api/sessions/2/files/org/acme/lib/2.0/lib-2.0.jar HTTP/1.1\r\nHost: x\r\nContent-Length: 3\r\n\r\nabc";
@@ -27,7 +29,7 @@ const STAGE_POM_IN_2: &str =
 
 const COMMIT_2: &str = "POST /api/sessions/2/commit HTTP/1.1\r\nHost: x\r\n\r\n";
 
-const GET_JAR: &str =
+pub const GET_JAR: &str =
     "GET /repository/releases/org/acme/lib/2.0/lib-2.0.jar HTTP/1.1\r\nHost: x\r\n\r\n";
 
 const STAGE_JAR_3: &str =
@@ -51,7 +53,7 @@ const STAGE_MD5_OF_NONE: &str =
 const STAGE_DOCUMENT: &str =
     "PUT /api/sessions/1/files/org/acme/lib/maven-metadata.xml HTTP/1.1\r\nHost: x\r\nContent-Length: 11\r\n\r\n<metadata/>";
 
-const STAGE_SNAPSHOT: &str =
+pub const STAGE_SNAPSHOT: &str =
     "PUT /api/sessions/1/files/org/acme/lib/1.1-SNAPSHOT/lib-1.1-20240229.235959-1.jar HTTP/1.1\r\nHost: x\r\nContent-Length: 3\r\n\r\nabc";
 
 const STAGE_EXPECTING: &str =
@@ -60,7 +62,7 @@ const STAGE_EXPECTING: &str =
 const STAGE_TORN: &str =
     "PUT /api/sessions/1/files/org/acme/lib/2.0/lib-2.0.jar HTTP/1.1\r\nHost: x\r\nContent-Length: 5\r\n\r\nabc";
 
-const GET_STATUS: &str = "GET /api/status HTTP/1.1\r\nHost: x\r\n\r\n";
+pub const GET_STATUS: &str = "GET /api/status HTTP/1.1\r\nHost: x\r\n\r\n";
 
 const STAGE_IN_999: &str =
     "PUT /api/sessions/999/files/org/acme/lib/2.0/lib-2.0.jar HTTP/1.1\r\nHost: x\r\nContent-Length: 3\r\n\r\nabc";
@@ -83,22 +85,22 @@ const READ: &str =
 const READ_HEAD: &str =
     "HEAD /api/sessions/1/files/org/acme/lib/2.0/lib-2.0.jar HTTP/1.1\r\nHost: x\r\n\r\n";
 
-const SESSION_1: &str =
+pub const SESSION_1: &str =
     "HTTP/1.1 201 Created\r\nContent-Type: text/plain\r\nContent-Length: 10\r\n\r\nsession 1\n";
 
 const SESSION_2: &str =
     "HTTP/1.1 201 Created\r\nContent-Type: text/plain\r\nContent-Length: 10\r\n\r\nsession 2\n";
 
-const STAGED: &str =
+pub const STAGED: &str =
     "HTTP/1.1 201 Created\r\nContent-Type: text/plain\r\nContent-Length: 7\r\n\r\nstaged\n";
 
 const OFFENDS: &str =
     "HTTP/1.1 409 Conflict\r\nContent-Type: text/plain\r\nContent-Length: 199\r\n\r\noffends org/acme/lib/1.0/lib-1.0.jar kept 3 a9993e364706816aba3e25717850c26c9cd0d89d 900150983cd24fb0d6963f7d28e17f72 sent 0 da39a3ee5e6b4b0d3255bfef95601890afd80709 d41d8cd98f00b204e9800998ecf8427e\n";
 
-const ABORTED: &str =
+pub const ABORTED: &str =
     "HTTP/1.1 200 OK\r\nContent-Type: text/plain\r\nContent-Length: 8\r\n\r\naborted\n";
 
-const DONE_2: &str =
+pub const DONE_2: &str =
     "HTTP/1.1 200 OK\r\nContent-Type: text/plain\r\nContent-Length: 7\r\n\r\ndone 2\n";
 
 const MISSING_POM: &str =
@@ -121,6 +123,9 @@ const UNREAD: &str =
 
 const UNREAD_HEAD: &str =
     "HTTP/1.1 404 Not Found\r\nContent-Type: text/plain\r\nContent-Length: 7\r\n\r\n";
+
+const SESSIONS_FULL: &str =
+    "HTTP/1.1 429 Too Many Requests\r\nContent-Type: text/plain\r\nContent-Length: 14\r\n\r\nsessions-full\n";
 
 const ONE_SESSION: &str =
     "HTTP/1.1 200 OK\r\nContent-Type: text/plain\r\nContent-Length: 49\r\n\r\nfiles 0\nfading 0\ncached 0\ndocuments 0\nsessions 1\n";
@@ -278,4 +283,19 @@ static SESSIONS: [Exchange; 11] = [
 
 pub fn sessions() -> &'static [Exchange] {
     &SESSIONS
+}
+
+/// What 65 openings of sessions are answered.
+pub fn answers_to_65(alloc: Global) -> Result<Vec<u8>, Fail> {
+    let mut all = String::new(alloc);
+    for number in 1..10 {
+        let head = "HTTP/1.1 201 Created\r\nContent-Type: text/plain\r\nContent-Length: 10\r\n\r\n";
+        all.push_str(format!(in alloc; "{head}session {number}\n")?.as_str())?;
+    }
+    for number in 10..65 {
+        let head = "HTTP/1.1 201 Created\r\nContent-Type: text/plain\r\nContent-Length: 11\r\n\r\n";
+        all.push_str(format!(in alloc; "{head}session {number}\n")?.as_str())?;
+    }
+    all.push_str(SESSIONS_FULL)?;
+    Ok(Vec::from_slice(alloc, all.as_bytes())?)
 }

@@ -1,4 +1,4 @@
-// What the repository is to reply, as plain values, beside what it does.
+//! What the repository is to reply, as plain values, beside what it does.
 use mvn_digest::{Digest, Digests, Hashes};
 use outside_memory::MemHeld;
 use repo_core::Reply;
@@ -18,6 +18,11 @@ pub const ABC: Content = Content {
     sha1: "a9993e364706816aba3e25717850c26c9cd0d89d",
     md5: "900150983cd24fb0d6963f7d28e17f72",
 };
+
+/// SHA-1 of `abc`.
+pub const ABC_SHA1: Digest = Digest::Sha1(
+    *b"\xa9\x99\x3e\x36\x47\x06\x81\x6a\xba\x3e\x25\x71\x78\x50\xc2\x6c\x9c\xd0\xd8\x9d",
+);
 
 /// No bytes.
 pub const NOTHING: Content = Content {

@@ -1,4 +1,4 @@
-// What the tests share: a core over memory, and commands as plain values.
+//! A core over memory, and commands as plain values.
 use crate::said::{Said, is_said};
 use mvn_digest::{Digest, Hashes};
 use outside::{Blobs, Parcel};
@@ -7,7 +7,6 @@ use repo_config::Settings;
 use repo_core::{Command, Core, Place, Reply, start};
 use row_tables::MemRecords;
 use std::alloc::{AllocError, Global};
-use std::process::Abort;
 use std::test::Fail;
 use texts::Text;
 
@@ -103,16 +102,10 @@ pub fn settings_of(alloc: Global, text: &str) -> Result<Settings, Fail> {
     }
 }
 
-/// These blobs were removed from a store, in this order, and these are there.
-pub fn expect_blobs(
-    rt: &impl Abort,
-    blobs: &mut MemBlobs,
-    removed: &[u64],
-    there: &[u64],
-) -> Result<(), Fail> {
-    assert_eq!(rt; blobs.removed(), removed);
-    assert_eq!(rt; blobs.list()?.as_slice(), there);
-    Ok(())
+/// Whether these blobs were removed from a store, in this order, and these are there.
+pub fn has_blobs(blobs: &mut MemBlobs, removed: &[u64], there: &[u64]) -> Result<bool, Fail> {
+    let listed = blobs.list()?;
+    Ok(blobs.removed() == removed && listed.as_slice() == there)
 }
 
 fn look(alloc: Global, repo: &str, path: &str) -> Result<Command<MemHeld>, AllocError> {
@@ -304,12 +297,37 @@ impl Bench {
         }
     }
 
-    /// The next commands are answered so, one after the other.
-    pub fn follow(&mut self, rt: &impl Abort, steps: &[(Ask, Said)]) -> Result<(), Fail> {
+    /// The first of these commands, asked one after the other, that is answered otherwise.
+    pub fn first_other(&mut self, steps: &[(Ask, Said)]) -> Result<Option<usize>, Fail> {
         for (n, (ask, want)) in steps.iter().enumerate() {
-            assert!(rt; self.is_answered(*ask, want)?, "step {n}");
+            if !self.is_answered(*ask, want)? {
+                return Ok(Some(n));
+            }
         }
-        Ok(())
+        Ok(None)
+    }
+
+    // The reply to a command that meets its condition.
+    fn reply_to(&mut self, command: Command<MemHeld>) -> Result<Reply<MemHeld>, Fail> {
+        if !MemCore::fits(self.core.settings(), &command) {
+            return Err("no condition is met")?;
+        }
+        Ok(self.core.call(command))
+    }
+
+    /// Whether a session gives this draft at a path, and stages these bytes there.
+    pub fn is_staged(
+        &mut self,
+        session: u64,
+        path: &str,
+        draft: u64,
+        bytes: &[u8],
+    ) -> Result<bool, Fail> {
+        let asked = may_put(self.alloc, Place::Session(session), path)?;
+        let given = self.reply_to(asked)?;
+        let sent = self.stage(session, path, draft, bytes)?;
+        let staged = self.reply_to(sent)?;
+        Ok(is_said(&given, &Said::Draft(draft)) && is_said(&staged, &Said::Staged))
     }
 
     /// The parcel of a file that is there.
@@ -324,15 +342,9 @@ impl Bench {
         }
     }
 
-    /// A parcel that is held has these bytes.
-    pub fn expect_bytes(
-        &mut self,
-        rt: &impl Abort,
-        parcel: &Parcel<MemHeld>,
-        want: &[u8],
-    ) -> Result<(), Fail> {
+    /// Whether a parcel that is held has these bytes.
+    pub fn has_bytes(&mut self, parcel: &Parcel<MemHeld>, want: &[u8]) -> Result<bool, Fail> {
         let bytes = self.blobs.read(&parcel.held)?;
-        assert_eq!(rt; bytes.as_slice(), want);
-        Ok(())
+        Ok(bytes.as_slice() == want)
     }
 }

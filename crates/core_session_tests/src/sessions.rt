@@ -1,25 +1,25 @@
 // Deployment sessions: files are staged, and deployed all at once or not at all.
-use crate::bench::{ALL_KINDS, Ask, Bench, expect_blobs};
-use crate::said::{ABC, NOTHING, Said};
-use crate::sides::ABC_SHA1;
+use core_worlds::bench::{ALL_KINDS, Ask, Bench};
+use core_worlds::said::{ABC, ABC_SHA1, NOTHING, Said};
+use mvn_digest::Digest;
 use outside_memory::ScriptClock;
 use std::alloc::Global;
-use std::process::Abort;
 use std::test::Fail;
 
 const DIRECTORY: &str = "org/acme/lib/1.0";
 
-const JAR: &str = "org/acme/lib/1.0/lib-1.0.jar";
+pub const JAR: &str = "org/acme/lib/1.0/lib-1.0.jar";
 
-const JAR_SHA1: &str = "org/acme/lib/1.0/lib-1.0.jar.sha1";
+pub const JAR_SHA1: &str = "org/acme/lib/1.0/lib-1.0.jar.sha1";
 
-const POM: &str = "org/acme/lib/1.0/lib-1.0.pom";
+pub const POM: &str = "org/acme/lib/1.0/lib-1.0.pom";
 
 const DOCUMENT: &str = "org/acme/lib/maven-metadata.xml";
 
 const SNAPSHOT: &str = "org/acme/lib/1.1-SNAPSHOT/lib-1.1-20240229.235959-1.jar";
 
-fn bench_of(alloc: Global) -> Result<Bench, Fail> {
+/// A core whose clock goes on by a second each time that it is read.
+pub fn bench_of(alloc: Global) -> Result<Bench, Fail> {
     Bench::of(alloc, ALL_KINDS, ScriptClock::stepping(alloc, 1000, 1))
 }
 
@@ -52,7 +52,8 @@ static DEPLOYED: [(Ask, Said); 19] = [
 
 #[test]
 fn files_are_deployed_together(rt: HostRuntime) -> Result<(), Fail> {
-    bench_of(rt.alloc())?.follow(&rt, &DEPLOYED)
+    assert_eq!(rt; bench_of(rt.alloc())?.first_other(&DEPLOYED)?, None);
+    Ok(())
 }
 
 static OFFENDED: [(Ask, Said); 13] = [
@@ -74,7 +75,8 @@ static OFFENDED: [(Ask, Said); 13] = [
 
 #[test]
 fn one_file_of_another_content_offends(rt: HostRuntime) -> Result<(), Fail> {
-    bench_of(rt.alloc())?.follow(&rt, &OFFENDED)
+    assert_eq!(rt; bench_of(rt.alloc())?.first_other(&OFFENDED)?, None);
+    Ok(())
 }
 
 static EQUAL: [(Ask, Said); 10] = [
@@ -93,7 +95,8 @@ static EQUAL: [(Ask, Said); 10] = [
 
 #[test]
 fn an_equal_file_keeps_its_blob(rt: HostRuntime) -> Result<(), Fail> {
-    bench_of(rt.alloc())?.follow(&rt, &EQUAL)
+    assert_eq!(rt; bench_of(rt.alloc())?.first_other(&EQUAL)?, None);
+    Ok(())
 }
 
 static STAGED_TWICE: [(Ask, Said); 14] = [
@@ -116,58 +119,40 @@ static STAGED_TWICE: [(Ask, Said); 14] = [
 
 #[test]
 fn a_file_is_staged_once(rt: HostRuntime) -> Result<(), Fail> {
-    bench_of(rt.alloc())?.follow(&rt, &STAGED_TWICE)
+    assert_eq!(rt; bench_of(rt.alloc())?.first_other(&STAGED_TWICE)?, None);
+    Ok(())
 }
 
-static ONE_LESS: [(Ask, Said); 4] = [
-    (Ask::Open("releases"), Said::TooMany),
-    (Ask::Abort(1), Said::Aborted),
-    (Ask::Open("releases"), Said::Opened(65)),
-    (Ask::Status, Said::Counts([0, 0, 0, 0, 64])),
-];
+// SHA-1 of no bytes.
+const NOTHING_SHA1: Digest = Digest::Sha1(
+    *b"\xda\x39\xa3\xee\x5e\x6b\x4b\x0d\x32\x55\xbf\xef\x95\x60\x18\x90\xaf\xd8\x07\x09",
+);
 
-#[test]
-fn at_most_64_sessions_are_open(rt: HostRuntime) -> Result<(), Fail> {
-    let mut bench = bench_of(rt.alloc())?;
-    for number in 1..65 {
-        let is_open = bench.is_answered(Ask::Open("releases"), &Said::Opened(number))?;
-        assert!(rt; is_open, "session {number}");
-    }
-    bench.follow(&rt, &ONE_LESS)
-}
-
-static BEFORE: [(Ask, Said); 10] = [
+// The repository's own jar has no bytes.
+static OF_SIDES: [(Ask, Said); 10] = [
+    (Ask::MayPut("releases", JAR), Said::Draft(1)),
+    (Ask::Put("releases", JAR, 1, b""), Said::Created),
     (Ask::Open("releases"), Said::Opened(1)),
-    (Ask::MayStage(1, POM), Said::Draft(1)),
-    (Ask::Stage(1, POM, 1, b""), Said::Staged),
-    (Ask::Commit(1), Said::Deployed(1)),
-    (Ask::Open("releases"), Said::Opened(2)),
-    (Ask::Abort(2), Said::Aborted),
-    (Ask::Open("releases"), Said::Opened(3)),
-    (Ask::MayStage(3, JAR), Said::Draft(2)),
-    (Ask::Stage(3, JAR, 2, b"abc"), Said::Staged),
-    (Ask::Status, Said::Counts([1, 0, 0, 0, 1])),
-];
-
-static BEHIND: [(Ask, Said); 7] = [
-    (Ask::Status, Said::Counts([1, 0, 0, 0, 0])),
-    (Ask::Commit(1), Said::Deployed(1)),
-    (Ask::Abort(2), Said::Aborted),
-    // it was open
-    (Ask::Commit(3), Said::NoSession),
-    (Ask::Open("releases"), Said::Opened(4)),
-    (Ask::MayStage(4, JAR), Said::Draft(3)),
-    (Ask::Look("releases", POM), Said::File(1, 1, NOTHING)),
+    (Ask::StageSide(1, JAR_SHA1, NOTHING_SHA1), Said::NotThere),
+    (Ask::MayStage(1, JAR), Said::Draft(2)),
+    (Ask::Stage(1, JAR, 2, b"abc"), Said::Staged),
+    (Ask::StageSide(1, JAR_SHA1, ABC_SHA1), Said::Agreed),
+    (
+        Ask::StageSide(1, JAR_SHA1, NOTHING_SHA1),
+        Said::Differs(NOTHING_SHA1, ABC_SHA1),
+    ),
+    (
+        Ask::PutSide("releases", JAR_SHA1, ABC_SHA1),
+        Said::Differs(ABC_SHA1, NOTHING_SHA1),
+    ),
+    (
+        Ask::PutSide("releases", JAR_SHA1, NOTHING_SHA1),
+        Said::Agreed,
+    ),
 ];
 
 #[test]
-fn results_outlast_a_stop_and_open_sessions_do_not(rt: HostRuntime) -> Result<(), Fail> {
-    let alloc = rt.alloc();
-    let mut bench = bench_of(alloc)?;
-    bench.follow(&rt, &BEFORE)?;
-    let clock = ScriptClock::stepping(alloc, 2000, 1);
-    let mut bench = Bench::start(alloc, ALL_KINDS, bench.stop(), clock)?;
-    bench.follow(&rt, &BEHIND)?;
-    let mut parts = bench.stop();
-    expect_blobs(&rt, &mut parts.blobs, &[2], &[1])
+fn a_side_file_is_judged_by_the_staged_file(rt: HostRuntime) -> Result<(), Fail> {
+    assert_eq!(rt; bench_of(rt.alloc())?.first_other(&OF_SIDES)?, None);
+    Ok(())
 }
