@@ -1,15 +1,9 @@
 // Cleanings: what a pass unlists and removes, and why a repository is not opened.
-use crate::stock::{DAMAGED, ONE_FILE, Over, Stage, journal_over, run_over, stage_of, store_of};
+use crate::stock::{DAMAGED, ONE_FILE, journal_over, run_over, stage_of};
 use outside_memory::{FaultScript, MemBlobs};
-use record_disk::MemDisk;
-use record_journal::Journal;
 use row_tables::MemRecords;
 use std::alloc::Global;
 use std::test::Fail;
-
-// Two builds of one snapshot, each a jar of `abc`: the older one with blob 1, the newer one with blob 2.
-const TWO_BUILDS: &[u8] =
-    b"MVNROWS1\x01\0\0\x01\x07\x01\0\0\0\x02\x01\0\x09snapshots\07org/acme/lib/1.1-SNAPSHOT/lib-1.1-20240229.235959-1.jar\0\0\0\0\0\0\0\x01\0\0\0\0\0\0\0\x03\xa9\x99>6G\x06\x81j\xba>%qxP\xc2l\x9c\xd0\xd8\x9d\x90\x01P\x98<\xd2O\xb0\xd6\x96?}(\xe1\x7fr\0\0\0\0e\xe0q\xc0\x01\0\x09snapshots\07org/acme/lib/1.1-SNAPSHOT/lib-1.1-20240301.080000-2.jar\0\0\0\0\0\0\0\x02\0\0\0\0\0\0\0\x03\xa9\x99>6G\x06\x81j\xba>%qxP\xc2l\x9c\xd0\xd8\x9d\x90\x01P\x98<\xd2O\xb0\xd6\x96?}(\xe1\x7fr\0\0\0\0e\xe0q\xc0\0";
 
 #[test]
 fn nothing_is_cleaned(rt: HostRuntime) -> Result<(), Fail> {
@@ -50,41 +44,6 @@ fn a_damaged_file_ends_it(rt: HostRuntime) -> Result<(), Fail> {
     let line = format!(in alloc; "mvnrepod: {DAMAGED}")?;
     assert!(rt; over.said(line.as_str(), 5));
     assert!(rt; over.ran.cleaner.blobs.removed().is_empty());
-    Ok(())
-}
-
-fn stage_at(
-    alloc: Global,
-    records: Journal<MemDisk>,
-    garbage: MemBlobs,
-    at: u64,
-) -> Result<Stage<Journal<MemDisk>>, Fail> {
-    let mut stage = stage_of(alloc, records, &[])?;
-    stage.garbage = garbage;
-    stage.at = at;
-    Ok(stage)
-}
-
-// The pass unlists the older build; one that comes more than the grace later takes it away, and a start after it reads that.
-#[test]
-fn an_old_build_goes_in_two_passes(rt: HostRuntime) -> Result<(), Fail> {
-    let alloc = rt.alloc();
-    let store = store_of(alloc, &[(1, b"abc"), (2, b"abc")])?;
-    let first = stage_at(
-        alloc,
-        journal_over(alloc, TWO_BUILDS)?,
-        store,
-        1_709_300_000,
-    )?;
-    let Over { ran, out } = run_over(alloc, "clean", first)?;
-    assert_eq!(rt; out.bytes(), b"unlisted 1\nremoved 0\n".as_slice());
-    let second = stage_at(alloc, ran.records, ran.cleaner.blobs, 1_709_300_061)?;
-    let Over { ran, out } = run_over(alloc, "clean", second)?;
-    assert_eq!(rt; out.bytes(), b"unlisted 0\nremoved 1\n".as_slice());
-    assert_eq!(rt; ran.cleaner.blobs.removed(), [1].as_slice());
-    let third = stage_at(alloc, ran.records, ran.cleaner.blobs, 1_709_300_061)?;
-    let over = run_over(alloc, "clean", third)?;
-    assert!(rt; over.said("unlisted 0\nremoved 0\n", 0));
     Ok(())
 }
 
