@@ -8,6 +8,7 @@ use Rattle.http_wire.specs.Answer.{shown}
 use Rattle.http_wire.specs.Front.{Front, Clean, Cut, Bad, Whole, front}
 use Rattle.http_wire.specs.Head.{Head}
 use Rattle.repo_model.specs.Command.{look}
+use Rattle.repo_model.specs.declared.print.Print.{Print}
 use Rattle.repo_model.specs.Data.{Blob}
 use Rattle.repo_model.specs.History.{Entry}
 use Rattle.repo_model.specs.Reply.{Reply, file, text, doc, missed, spent}
@@ -23,11 +24,11 @@ use Rattle.repo_course.specs.declared.outcomes.End.{End}
 use Rattle.repo_course.specs.declared.outcomes.Sent.{Sent}
 use Rattle.repo_course.specs.declared.outcomes.Sent.TheVariants as sent
 use Rattle.repo_course.specs.declared.said.Said.TheVariants as said
-use Rattle.repo_course.specs.Serving.{Begins, Follows, IsFrontOf, IsWhole, Opens, clean, torn, failed as source_failed, refused as no_head, unread_head, starved as head_starved, served, Outside, SendsAnswer, Turn, writes}
+use Rattle.repo_course.specs.Serving.{Begins, Follows, IsFrontOf, IsOtherContent, IsWhole, Opens, clean, torn, failed as source_failed, refused as no_head, unread_head, starved as head_starved, served, Outside, SendsAnswer, Turn, print_of, writes}
 use Rattle.course_laws.specs.Duties.{is_head_only}
 use Rattle.course_laws.specs.Granted.{manner_for}
 use Rattle.course_laws.proofs.HeadOnly.{judged-head}
-use Rattle.closed_laws.specs.Answered.{IsLookedUp, looked, unread, failed, ShowsFile, whole, blob_fault, starved, cut, ShowsMemory, ShowsReply, ShowsSaid, file_shown}
+use Rattle.closed_laws.specs.Answered.{IsLookedUp, looked, unread, failed, ShowsFile, whole, blob_fault, blob_differs, starved, cut, ShowsMemory, ShowsReply, ShowsSaid, file_shown}
 
 -- the bytes that a file's answer has behind its head
 abbrev rest_of : Bool → List ℕ → List ℕ
@@ -37,23 +38,35 @@ any-told : (bytes : Option (List ℕ)) → IsWhereTold bytes (unwrap_or bytes []
 any-told None = tt
 any-told (Some bytes) = refl
 
+-- the bytes of a file that is sent, or of which the head alone is
+abbrev AreBytes : Bool → Blob → List ℕ → Type 0
+AreBytes only blob bytes = IsWhereTold blob.bytes bytes × (only ≡ false → blob.print ≡ print_of bytes)
+
+any-bytes : (blob : Blob) → AreBytes true blob (unwrap_or blob.bytes [])
+any-bytes blob = (any-told blob.bytes, λ bodied. absurd (false≢true (sym bodied)))
+
 -- what comes of sending the answer, with its bytes or its head alone
 sent-whole : (only : Bool) (blob : Blob) (head : List ℕ) (old mid : Outside) → SendsAnswer only blob head sent.Whole old mid
-    → (bytes : List ℕ) × IsWhereTold blob.bytes bytes × (mid ≡ writes (head ++ rest_of only bytes) old)
-sent-whole true blob head old mid t = (unwrap_or blob.bytes [], any-told blob.bytes, t ∙ ap (λ b. writes b old) (sym (append-nil head)))
-sent-whole false blob head old mid t = (t.0, t.1, t.2)
+    → (bytes : List ℕ) × AreBytes only blob bytes × (mid ≡ writes (head ++ rest_of only bytes) old)
+sent-whole true blob head old mid t = (unwrap_or blob.bytes [], any-bytes blob, t ∙ ap (λ b. writes b old) (sym (append-nil head)))
+sent-whole false blob head old mid t = (t.0, (t.1.0, λ bodied. t.1.1), t.2)
 
 not-sent : (only : Bool) (blob : Blob) (head : List ℕ) (old mid : Outside) → SendsAnswer only blob head sent.BlobFault old mid
     → (faults : ℕ) × (only ≡ false) × Rose old.blob_faults faults × (mid ≡ record old { blob_faults = faults })
 not-sent true blob head old mid t = absurd t
 not-sent false blob head old mid t = (t.0, refl, t.1, t.2)
 
+other-found : (only : Bool) (blob : Blob) (head : List ℕ) (recorded found : Print) (old mid : Outside)
+    → SendsAnswer only blob head (sent.BlobDiffers recorded found) old mid → (only ≡ false) × IsOtherContent blob recorded found × (mid ≡ old)
+other-found true blob head recorded found old mid t = absurd t
+other-found false blob head recorded found old mid t = (refl, t.0, t.1)
+
 sent-in-part : (only : Bool) (blob : Blob) (head : List ℕ) (old mid : Outside) → SendsAnswer only blob head sent.SinkFault old mid
-    → (faults : ℕ) × (bytes part : List ℕ) × Rose old.write_faults faults × IsWhereTold blob.bytes bytes
+    → (faults : ℕ) × (bytes part : List ℕ) × Rose old.write_faults faults × AreBytes only blob bytes
     × IsFrontOf part (head ++ rest_of only bytes) × (mid ≡ writes part (record old { write_faults = faults }))
 sent-in-part true blob head old mid t =
-    (t.0, unwrap_or blob.bytes [], t.1, t.2, any-told blob.bytes, subst (IsFrontOf t.1) (sym (append-nil head)) t.3, t.4)
-sent-in-part false blob head old mid t = (t.0, t.1, t.2, t.3, t.4, t.5, t.6)
+    (t.0, unwrap_or blob.bytes [], t.1, t.2, any-bytes blob, subst (IsFrontOf t.1) (sym (append-nil head)) t.3, t.4)
+sent-in-part false blob head old mid t = (t.0, t.1, t.2, t.3, (t.4.0, λ bodied. t.4.1), t.5, t.6)
 
 sent-nothing : (only : Bool) (blob : Blob) (head : List ℕ) (old mid : Outside) → SendsAnswer only blob head sent.NoMemory old mid → mid ≡ old
 sent-nothing true blob head old mid t = t
@@ -73,6 +86,9 @@ module _ (tells : Type 0) (manner : Manner) where
   sent-seen blob sent.BlobFault rest old mid new end t f =
       let w = not-sent manner.head_only blob (shown (file_answer blob manner)) old mid t in
       blob_fault w.0 w.1 w.2 (subst (λ (o : Outside). ShowsSaid manner said.BlobFault o new end) w.3 f.1)
+  sent-seen blob (sent.BlobDiffers recorded found) rest old mid new end t f =
+      let w = other-found manner.head_only blob (shown (file_answer blob manner)) recorded found old mid t in
+      blob_differs recorded found w.0 w.1 (subst (λ (o : Outside). ShowsSaid manner (said.BlobDiffers recorded found) o new end) w.2 f.1)
   sent-seen blob sent.SinkFault rest old mid new end t f =
       let w = sent-in-part manner.head_only blob (shown (file_answer blob manner)) old mid t in
       cut w.0 w.1 w.2 w.3 w.4 w.5 (f.1 ∙ w.6) f.2

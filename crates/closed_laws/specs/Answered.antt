@@ -5,6 +5,7 @@ use Rattle.outside.specs.Told.{IsWhereTold}
 use Rattle.http_wire.specs.Answer.{shown}
 use Rattle.http_wire.specs.Head.{Head}
 use Rattle.repo_model.specs.Command.{look}
+use Rattle.repo_model.specs.declared.print.Print.{Print}
 use Rattle.repo_model.specs.Data.{Blob}
 use Rattle.repo_model.specs.History.{Entry}
 use Rattle.repo_model.specs.Reply.{Reply, file, text, doc, missed, spent}
@@ -13,7 +14,7 @@ use Rattle.repo_routes.specs.Intent.{Judged, reads}
 use Rattle.repo_routes.specs.Judge.{judge}
 use Rattle.repo_course.specs.Answers.{answer_of, file_answer, memory_answer}
 use Rattle.repo_course.specs.Course.{end_of}
-use Rattle.repo_course.specs.Serving.{Begins, IsFrontOf, IsWhole, Outside, ReadsOn, Says, writes}
+use Rattle.repo_course.specs.Serving.{Begins, IsFrontOf, IsOtherContent, IsWhole, Outside, print_of, ReadsOn, Says, writes}
 use Rattle.repo_course.specs.declared.manner.Manner.{Manner}
 use Rattle.repo_course.specs.declared.outcomes.End.{End}
 use Rattle.repo_course.specs.declared.outcomes.End.TheVariants as stream
@@ -33,15 +34,23 @@ ShowsSaid manner answer old new end = Says (answer_of answer manner) (memory_ans
 abbrev pub ShowsMemory : Bool → Outside → Outside → Option End → Type 0
 ShowsMemory head_only old new end = Says (memory_answer head_only) (memory_answer head_only) (Some stream.Closed) old new end
 
--- What is seen of the answer with a file: 200 with its length and both checksums and its bytes, whole. Or the blobs did not give
--- them, whose count rose then, and 503 `blob-fault` is answered, never to a HEAD; or memory was wanted; or the sink took a front.
+-- these are bytes of the blob: those that it tells, and, unless the head alone is sent, of its recorded length and digests
+abbrev pub AreBytesOf : Manner → Blob → List ℕ → Type 0
+AreBytesOf manner blob bytes = IsWhereTold blob.bytes bytes × (manner.head_only ≡ false → blob.print ≡ print_of bytes)
+
+-- What is seen of the answer with a file: 200 with its length and both checksums and its bytes, whole, which have these. Or the
+-- blobs did not give them, whose count rose then, and 503 `blob-fault` is answered, never to a HEAD; or the blob, which does not
+-- tell its bytes, has others than were recorded, and 503 `blob-differs` is answered, never to a HEAD; or memory was wanted; or
+-- the sink took a front.
 pub data ShowsFile (manner : Manner) (blob : Blob) (old new : Outside) (end : Option End) : Type 0 where
-  whole : (bytes : List ℕ) → IsWhereTold blob.bytes bytes → new ≡ writes (file_shown manner blob bytes) old → end ≡ end_of manner
+  whole : (bytes : List ℕ) → AreBytesOf manner blob bytes → new ≡ writes (file_shown manner blob bytes) old → end ≡ end_of manner
       → ShowsFile manner blob old new end
   blob_fault : (faults : ℕ) → manner.head_only ≡ false → Rose old.blob_faults faults
       → ShowsSaid manner said.BlobFault (record old { blob_faults = faults }) new end → ShowsFile manner blob old new end
+  blob_differs : (recorded found : Print) → manner.head_only ≡ false → IsOtherContent blob recorded found
+      → ShowsSaid manner (said.BlobDiffers recorded found) old new end → ShowsFile manner blob old new end
   starved : ShowsMemory manner.head_only old new end → ShowsFile manner blob old new end
-  cut : (faults : ℕ) (bytes part : List ℕ) → Rose old.write_faults faults → IsWhereTold blob.bytes bytes
+  cut : (faults : ℕ) (bytes part : List ℕ) → Rose old.write_faults faults → AreBytesOf manner blob bytes
       → IsFrontOf part (file_shown manner blob bytes) → new ≡ writes part (record old { write_faults = faults })
       → end ≡ Some stream.SinkFault → ShowsFile manner blob old new end
 

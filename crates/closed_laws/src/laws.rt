@@ -37,9 +37,11 @@ pub fn reads_are_answered<H: Held>()
 
 /// A GET of a file that a served document named, whose look comes no later than the grace after the document was answered, gets
 /// the 200 with the file's bytes and both checksums, whole, as the row had it then, and a GET of its side file the side text. Or
-/// the count of the blobs rose, and 503 `blob-fault` is answered; or memory was wanted; or no lease is left; or the count of the
-/// sink rose, which took a front of the answer. To a HEAD comes the head. So it is of each turn whose first entry lies in a legal
-/// history from a sound state, whoever made the others: of each that looks there, and, where the input is told, of each whose request reads there.
+/// the count of the blobs rose, and 503 `blob-fault` is answered; or the blob, which tells no bytes, has others than were
+/// recorded, and 503 `blob-differs` is answered; or memory was wanted; or no lease is left; or the count of the sink rose, which
+/// took a front of the answer. To a HEAD comes the head. So it is of each turn whose first entry lies in a legal history from a
+/// sound state, whoever made the others: of each that looks there, and, where the input is told, of each whose request reads
+/// there.
 pub fn named_files_are_served<H: Held>()
     ensures files { (settings : Settings) (start : State) (before later : List Entry) (e : Entry) (repo tried : List ℕ) (row : Row)
         (last : Bool) (more : List Entry) (old new : Outside) (ending : Option End) →

@@ -28,6 +28,7 @@ module _ (manner : Manner) (by_text : List ℕ → Option Said) where
   send-due : (result : Sent) → Due (after_send manner result) (for_sent result)
   send-due sent.Whole = refl
   send-due sent.BlobFault = refl
+  send-due (sent.BlobDiffers recorded found) = refl
   send-due sent.SinkFault = refl
   send-due sent.NoMemory = refl
 

@@ -64,6 +64,7 @@ module _ (settings : Settings) where
     send-complete : (result : Sent) → HadRoomToSend result → IsComplete settings (after_send manner result)
     send-complete sent.Whole room = tt
     send-complete sent.BlobFault room = tt
+    send-complete (sent.BlobDiffers recorded found) room = tt
     send-complete sent.SinkFault room = tt
     send-complete sent.NoMemory room = absurd room
 

@@ -94,6 +94,7 @@ file-grew blob head sent.Whole old new t = subst (λ o. Grew old o) (sym t.2) (g
 file-grew blob head sent.BlobFault old new t =
     let mid : Outside = record old { blob_faults = t.0 } in
     from-is old mid new (record { reads = omega arith; writes = omega arith; blobs = t.1.0 }) t.2
+file-grew blob head (sent.BlobDiffers recorded found) old new t = still-grew old new t.1
 file-grew blob head sent.SinkFault old new t =
     subst (λ o. Grew old o) (sym t.6) (record { reads = omega arith; writes = t.3.0; blobs = omega arith })
 file-grew blob head sent.NoMemory old new t = still-grew old new t
@@ -101,6 +102,7 @@ file-grew blob head sent.NoMemory old new t = still-grew old new t
 head-grew : (head : List ℕ) (result : Sent) (old new : Outside) → SendsHead head result old new → Grew old new
 head-grew head sent.Whole old new t = subst (λ o. Grew old o) (sym t) (grew old _ refl refl refl)
 head-grew head sent.BlobFault old new t = absurd t
+head-grew head (sent.BlobDiffers recorded found) old new t = absurd t
 head-grew head sent.SinkFault old new t =
     subst (λ o. Grew old o) (sym t.4) (record { reads = omega arith; writes = t.2.0; blobs = omega arith })
 head-grew head sent.NoMemory old new t = still-grew old new t

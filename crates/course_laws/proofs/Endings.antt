@@ -120,6 +120,8 @@ file_caused manner blob head sent.Whole s old mid new none n t =
     subst (λ e. Caused e old new) (sym none) (to_same None old mid new n (counts mid _ t.2))
 file_caused manner blob head sent.BlobFault s old mid new none n t =
     subst (λ e. Caused e old new) (sym none) (to_same None old mid new n (counts mid _ t.2))
+file_caused manner blob head (sent.BlobDiffers recorded found) s old mid new none n t =
+    subst (λ e. Caused e old new) (sym none) (to_same None old mid new n (counts mid _ t.1))
 file_caused manner blob head sent.SinkFault s old mid new none n t = (
   ap (λ (o : Outside). o.read_faults) t.6 ∙ n.0,
   subst (λ (k : ℕ). Rose k new.write_faults) n.1 (subst (λ (k : ℕ). Rose mid.write_faults k) (sym (ap (λ (o : Outside). o.write_faults) t.6)) t.3),
@@ -130,6 +132,7 @@ head_caused : (manner : Manner) (head : List ℕ) (result : Sent) (s : Stand) (o
     → SendsHead head result mid new → Caused (stand_sent manner result s).early old new
 head_caused manner head sent.Whole s old mid new none n t = subst (λ e. Caused e old new) (sym none) (to_same None old mid new n (counts mid _ t))
 head_caused manner head sent.BlobFault s old mid new none n t = absurd t
+head_caused manner head (sent.BlobDiffers recorded found) s old mid new none n t = absurd t
 head_caused manner head sent.SinkFault s old mid new none n t = (
   ap (λ (o : Outside). o.read_faults) t.4 ∙ n.0,
   subst (λ (k : ℕ). Rose k new.write_faults) n.1 (subst (λ (k : ℕ). Rose mid.write_faults k) (sym (ap (λ (o : Outside). o.write_faults) t.4)) t.2),

@@ -13,6 +13,7 @@ use Rattle.http_wire.specs.Head.{Head}
 use Rattle.http_wire.specs.declared.answers.Answer.{Answer}
 use Rattle.std.specs.List.{AllByRecursion}
 use Rattle.repo_model.specs.Command.{Command, look, done, may_put, put, put_side, put_doc, drop_draft, open_session, stage, commit, abort, status, unlist, collect}
+use Rattle.repo_model.specs.declared.print.Print.{Print}
 use Rattle.repo_model.specs.Data.{Blob}
 use Rattle.repo_model.specs.History.{Entry}
 use Rattle.repo_model.specs.Settings.{Settings}
@@ -34,12 +35,13 @@ use Rattle.repo_course.specs.declared.outcomes.Sent.{Sent}
 use Rattle.repo_course.specs.declared.outcomes.Sent.TheVariants as sent
 use Rattle.repo_course.specs.declared.outcomes.Took.TheVariants as took
 use Rattle.repo_course.specs.declared.said.Said.{Said}
-use Rattle.repo_course.specs.Serving.{Begins, Continues, Follows, IsWhole, Opens, clean, torn, failed, refused, unread_head, starved as head_starved, served, Outside, Reads, ReadsBody, Says, whole, memory, cut, SendsAnswer, Takes, Turn, store_of, with_store, writes}
+use Rattle.repo_course.specs.declared.said.Said.TheVariants as said
+use Rattle.repo_course.specs.Serving.{Begins, Continues, Follows, IsOtherContent, IsWhole, Opens, clean, torn, failed, refused, unread_head, starved as head_starved, served, Outside, Reads, ReadsBody, Says, whole, memory, cut, SendsAnswer, Takes, Turn, store_of, with_store, writes}
 use Rattle.course_laws.specs.AsPlayed.{NoFaults, StoodStill}
 use Rattle.course_laws.specs.Causes.{due_after, for_pass, for_text}
 use Rattle.course_laws.specs.Faultless.{done_by}
 use Rattle.course_laws.specs.Duties.{by_memory, is_head_only, Keeps, MayAsk, Stand, stand_after, stand_continued, stand_read, stand_sent, stand_stored, at_first, has_read, most_of, starving, unread_of}
-use Rattle.course_laws.specs.Granted.{AllGranted, BodyIsTaken, ComesWhole, Grants, IsAnsweredFor, IsServed, IsSuccess, answered, sent as file_sent, starved, Owed, Rests, Cleans, Succeeds, SucceedsAt, answer_by, behind_body, body_length, due_by, file_after, file_by, invitation, is_invited, manner_for, owed_after, owed_at_first}
+use Rattle.course_laws.specs.Granted.{AllGranted, BodyIsTaken, ComesWhole, Grants, IsAnsweredFor, IsServed, IsSuccess, answered, sent as file_sent, differs, starved, Owed, Rests, RestsSaying, Cleans, Succeeds, SucceedsAt, answer_by, behind_body, body_length, due_by, file_after, file_by, invitation, is_invited, manner_for, owed_after, owed_at_first}
 use Rattle.course_laws.proofs.Counts.{Calm, Grew, calm-first, calm-then, cleans-grew, follows-grew, opens-grew, reads-body-grew, sends-grew, takes-grew, continues-grew}
 use Rattle.course_laws.proofs.Early.{SaysMemory, ends-early}
 use Rattle.course_laws.proofs.HeadOnly.{judged-head}
@@ -105,7 +107,7 @@ sent-whole true blob head old mid t =
     told : (bytes : Option (List ℕ)) → IsWhereTold bytes (unwrap_or bytes [])
     told None = tt
     told (Some bytes) = refl
-sent-whole false blob head old mid t = (t.0, t.1, t.2)
+sent-whole false blob head old mid t = (t.0, t.1.0, t.2)
 
 sent-unwritten : (only : Bool) (blob : Blob) (head : List ℕ) (old mid : Outside) → SendsAnswer only blob head sent.NoMemory old mid
     → mid.output ≡ old.output
@@ -116,6 +118,12 @@ sent-blob-fault : {P : Type 0} (only : Bool) (blob : Blob) (head : List ℕ) (ol
     → Quiet old mid → P
 sent-blob-fault true blob head old mid t q = absurd t
 sent-blob-fault false blob head old mid t q = no-blob-fault old mid t.0 t.1 (ap (λ o. o.blob_faults) t.2) q
+
+-- where the content is another one nothing was written, and it was not the head alone
+sent-differs : (only : Bool) (blob : Blob) (head : List ℕ) (recorded found : Print) (old mid : Outside)
+    → SendsAnswer only blob head (sent.BlobDiffers recorded found) old mid → (only ≡ false) × IsOtherContent blob recorded found × (mid ≡ old)
+sent-differs true blob head recorded found old mid t = absurd t
+sent-differs false blob head recorded found old mid t = (refl, t.0, t.1)
 
 sent-sink-fault : {P : Type 0} (only : Bool) (blob : Blob) (head : List ℕ) (old mid : Outside) → SendsAnswer only blob head sent.SinkFault old mid
     → Quiet old mid → P
@@ -146,6 +154,10 @@ module _ (manner : Manner) where
       let all = shown (file_answer blob manner) ++ (if manner.head_only then [] else bytes) in
       file_sent blob bytes kept is told
       (wrote ∙ ap (λ (m : Outside). writes all (record m { input = Some left; shelf = kept })) mid-is ∙ writes-writes first all (record old { input = Some left; shelf = kept })) ends
+  wrote-served first left answer lent old mid new end mid-is (differs blob recorded found kept is bodied other wrote ends) =
+      let all = shown (answer_of (said.BlobDiffers recorded found) manner) in
+      differs blob recorded found kept is bodied other
+      (wrote ∙ ap (λ (m : Outside). writes all (record m { input = Some left; shelf = kept })) mid-is ∙ writes-writes first all (record old { input = Some left; shelf = kept })) ends
   wrote-served first left answer lent old mid new end mid-is (starved part head_only to_head which output ends) =
       let said = shown (memory_answer head_only) in
       let none : part ≡ [] = elim which [ inl e ↦ e | inr e ↦ e ] in
@@ -161,6 +173,9 @@ module _ (manner : Manner) where
   read-served invited left answer lent old mid new rest end shelf mid-is (file_sent blob bytes kept is told wrote ends) =
       file_sent blob bytes kept is told
       (wrote ∙ ap (λ (m : Outside). writes (invited ++ (shown (file_answer blob manner) ++ (if manner.head_only then [] else bytes))) (record m { input = Some left; shelf = kept })) mid-is) ends
+  read-served invited left answer lent old mid new rest end shelf mid-is (differs blob recorded found kept is bodied other wrote ends) =
+      differs blob recorded found kept is bodied other
+      (wrote ∙ ap (λ (m : Outside). writes (invited ++ shown (answer_of (said.BlobDiffers recorded found) manner)) (record m { input = Some left; shelf = kept })) mid-is) ends
   read-served invited left answer lent old mid new rest end shelf mid-is (starved part head_only to_head which output ends) =
       starved part head_only to_head which (output ∙ ap (λ (m : Outside). behind m.output (part ++ shown (memory_answer head_only))) mid-is) ends
 
@@ -219,6 +234,26 @@ module _ (tells : Type 0) (manner : Manner) (by_text : List ℕ → Option Said)
   rests-so (says said own) r entries old new end lent f = absurd r
   rests-so (stops next) r entries old new end lent f = (f.1, f.2 ∙ r, subst (λ (es : List Entry). file_by es lent ≡ lent) (sym f.0) refl)
 
+  rests-saying : (cause : Said) (c : Course) → RestsSaying cause manner c → (entries : List Entry) (old new : Outside) (end : Option End) (lent : Option Blob)
+      → Follows tells c entries old new end
+      → Says (answer_of cause manner) (memory_answer manner.head_only) (end_of manner) old new end × (file_by entries lent ≡ lent)
+  rests-saying cause (asks (done lease) next) r [] old new end lent f = absurd f
+  rests-saying cause (asks (done lease) next) r (e ∷ entries) old new end lent f =
+      let rest = rests-saying cause (next e.reply) (r e.reply) entries old new end lent f.1 in
+      (rest.0, ap (λ c. file_by entries (file_after c e.reply lent)) f.0 ∙ rest.1)
+  rests-saying cause (asks command next) r entries old new end lent f = absurd r
+  rests-saying cause (continues next) r entries old new end lent f = absurd r
+  rests-saying cause (takes number count next) r entries old new end lent f = absurd r
+  rests-saying cause (reads count next) r entries old new end lent f = absurd r
+  rests-saying cause (sends blob own next) r entries old new end lent f = absurd r
+  rests-saying cause (cleans repos next) r entries old new end lent f = absurd r
+  rests-saying cause (says what own) r entries old new end lent f = (
+    subst (λ (m : Manner). Says (answer_of cause m) (memory_answer m.head_only) (end_of m) old new end) r.1
+        (subst (λ (w : Said). Says (answer_of w own) (memory_answer own.head_only) (end_of own) old new end) r.0 f.1),
+    subst (λ (es : List Entry). file_by es lent ≡ lent) (sym f.0) refl,
+  )
+  rests-saying cause (stops next) r entries old new end lent f = absurd r
+
   -- where nothing is owed but the answer
   ready-served : (o : Owed) (input : List ℕ) (answer : Option Said) (lent : Option Blob) (old new : Outside) (end : Option End) → o.invites ≡ false → o.unread ≡ None
       → IsServed manner [] input answer lent old new end
@@ -233,6 +268,19 @@ module _ (tells : Type 0) (manner : Manner) (by_text : List ℕ → Option Said)
   says-so said o due success old new end input input-is q said-it =
       elim (whole-said (answer_of said manner) (memory_answer manner.head_only) (end_of manner) old new end q said-it) [
         | inl w ↦ answered said old.shelf due success (w.0 ∙ ap (λ (i : Option (List ℕ)). writes (shown (answer_of said manner)) (record old { input = i })) input-is) w.1
+        | inr w ↦ starved [] manner.head_only (λ alone. alone) (inl refl) (ap (λ o. o.output) w.0) w.1
+      ]
+
+  -- the content of a lent blob is another one, and that is answered
+  differs-so : (blob : Blob) (recorded found : Print) (o : Owed) (entries : List Entry) → file_by entries o.file ≡ Some blob → manner.head_only ≡ false
+      → IsOtherContent blob recorded found → (old new : Outside) (end : Option End) (input : List ℕ) → old.input ≡ Some input → Quiet old new
+      → Says (answer_of (said.BlobDiffers recorded found) manner) (memory_answer manner.head_only) (end_of manner) old new end
+      → IsServed manner [] input (answer_by entries o.answer) (file_by entries o.file) old new end
+  differs-so blob recorded found o entries lent bodied other old new end input input-is q said-it =
+      let answer = answer_of (said.BlobDiffers recorded found) manner in
+      elim (whole-said answer (memory_answer manner.head_only) (end_of manner) old new end q said-it) [
+        | inl w ↦ differs blob recorded found old.shelf lent bodied other
+            (w.0 ∙ ap (λ (i : Option (List ℕ)). writes (shown answer) (record old { input = i })) input-is) w.1
         | inr w ↦ starved [] manner.head_only (λ alone. alone) (inl refl) (ap (λ o. o.output) w.0) w.1
       ]
 
@@ -307,19 +355,28 @@ module _ (tells : Type 0) (manner : Manner) (by_text : List ℕ → Option Said)
       memory-so (next (Err took.NoMemory)) o n (has_read s) (k.2 (Err took.NoMemory)) entries old mid new end input (body-unwritten count old mid t) more f
 
   -- the file in this manner
-  sends-so : (blob : Blob) (next : Sent → Course) (result : Sent) (o : Owed) → o.file ≡ Some blob → Rests manner (next sent.Whole) → (n : ℕ) (s : Stand)
+  sends-so : (blob : Blob) (next : Sent → Course) (result : Sent) (o : Owed) → o.file ≡ Some blob
+      → Rests manner (next sent.Whole) × ((recorded found : Print) → RestsSaying (said.BlobDiffers recorded found) manner (next (sent.BlobDiffers recorded found)))
+      → (n : ℕ) (s : Stand)
       → ((result : Sent) → Keeps manner.head_only (next result) n (stand_sent manner result s)) → o.invites ≡ false → o.unread ≡ None
       → (entries : List Entry) (old mid new : Outside) (end : Option End) (input : List ℕ) → old.input ≡ Some input
       → Quiet old mid → Quiet mid new → SendsAnswer manner.head_only blob (shown (file_answer blob manner)) result old mid
       → Follows tells (next result) entries mid new end → Served o input entries old new end
   sends-so blob next sent.Whole o lent r n s k invites unread entries old mid new end input input-is q more t f =
       let wrote = sent-whole manner.head_only blob (shown (file_answer blob manner)) old mid t in
-      let rest = rests-so (next sent.Whole) r entries mid new end o.file f in
+      let rest = rests-so (next sent.Whole) r.0 entries mid new end o.file f in
       ready-served o input (answer_by entries o.answer) (file_by entries o.file) old new end invites unread
       (file_sent blob wrote.0 old.shelf (rest.2 ∙ lent) wrote.1
       (rest.0 ∙ wrote.2 ∙ ap (λ (i : Option (List ℕ)). writes (shown (file_answer blob manner) ++ (if manner.head_only then [] else wrote.0)) (record old { input = i })) input-is) rest.1)
   sends-so blob next sent.BlobFault o lent r n s k invites unread entries old mid new end input input-is q more t f =
       sent-blob-fault manner.head_only blob (shown (file_answer blob manner)) old mid t q
+  sends-so blob next (sent.BlobDiffers recorded found) o lent r n s k invites unread entries old mid new end input input-is q more t f =
+      let seen = sent-differs manner.head_only blob (shown (file_answer blob manner)) recorded found old mid t in
+      let rest = rests-saying (said.BlobDiffers recorded found) (next (sent.BlobDiffers recorded found)) (r.1 recorded found) entries mid new end o.file f in
+      ready-served o input (answer_by entries o.answer) (file_by entries o.file) old new end invites unread
+      (differs-so blob recorded found o entries (rest.1 ∙ lent) seen.0 seen.1 old new end input input-is
+      (subst (λ (m : Outside). Quiet m new) seen.2 more)
+      (subst (λ (m : Outside). Says (answer_of (said.BlobDiffers recorded found) manner) (memory_answer manner.head_only) (end_of manner) m new end) seen.2 rest.0))
   sends-so blob next sent.SinkFault o lent r n s k invites unread entries old mid new end input input-is q more t f =
       sent-sink-fault manner.head_only blob (shown (file_answer blob manner)) old mid t q
   sends-so blob next sent.NoMemory o lent r n s k invites unread entries old mid new end input input-is q more t f =
@@ -355,7 +412,7 @@ module _ (tells : Type 0) (manner : Manner) (by_text : List ℕ → Option Said)
   follows-so (sends blob own next) o su n s k entries all old new end input input-is taken q f =
       let first = sends-grew own.head_only blob (shown (file_answer blob own)) f.0 old f.1 f.2 in
       let rest = follows-grew tells (next f.0) entries f.1 new end f.3 in
-      sends-so blob next f.0 o su.1 su.3 n s (subst (λ (m : Manner). (result : Sent) → Keeps manner.head_only (next result) n (stand_sent m result s)) su.2 k.5) su.0.0 su.0.1
+      sends-so blob next f.0 o su.1 (su.3, su.4) n s (subst (λ (m : Manner). (result : Sent) → Keeps manner.head_only (next result) n (stand_sent m result s)) su.2 k.5) su.0.0 su.0.1
       entries old f.1 new end input input-is (quiet-first old f.1 new rest q) (quiet-then old f.1 new first rest q)
       (subst (λ (m : Manner). SendsAnswer m.head_only blob (shown (file_answer blob m)) f.0 old f.1) su.2 f.2) f.3
   follows-so (cleans repos next) o su n s k entries all old new end input input-is taken q f = absurd su

@@ -65,6 +65,7 @@ module _ (manner : Manner) where
       → Owes (after_send manner result) n (record (stand_sent manner result (lent lease blob)) { lease = None })
   sent-keeps lease blob sent.Whole n = ((refl, refl), (manner, refl, refl, λ is. refl))
   sent-keeps lease blob sent.BlobFault n = ((refl, refl), (tt, refl, λ is. refl), refl)
+  sent-keeps lease blob (sent.BlobDiffers recorded found) n = ((refl, refl), (tt, refl, λ is. refl), refl)
   sent-keeps lease blob sent.SinkFault n = ((refl, refl), refl)
   sent-keeps lease blob sent.NoMemory n = ((refl, refl), (refl, refl, refl), refl)
 
@@ -72,6 +73,7 @@ module _ (manner : Manner) where
       → Owes (asks (done lease) (λ reply. after_send manner result)) (suc n) (stand_sent manner result (lent lease blob))
   file-keeps lease blob sent.Whole n = (refl, λ reply. sent-keeps lease blob sent.Whole n)
   file-keeps lease blob sent.BlobFault n = (refl, λ reply. sent-keeps lease blob sent.BlobFault n)
+  file-keeps lease blob (sent.BlobDiffers recorded found) n = (refl, λ reply. sent-keeps lease blob (sent.BlobDiffers recorded found) n)
   file-keeps lease blob sent.SinkFault n = (refl, λ reply. sent-keeps lease blob sent.SinkFault n)
   file-keeps lease blob sent.NoMemory n = (refl, λ reply. sent-keeps lease blob sent.NoMemory n)
 
@@ -387,6 +389,7 @@ module _ (P : Option ℕ → Option ℕ → Type 0) where
       → P (stand_sent manner result s).draft (stand_sent manner result s).lease
   sent-holds manner sent.Whole s h = h
   sent-holds manner sent.BlobFault s h = h
+  sent-holds manner (sent.BlobDiffers recorded found) s h = h
   sent-holds manner sent.SinkFault s h = h
   sent-holds manner sent.NoMemory s h = h
 

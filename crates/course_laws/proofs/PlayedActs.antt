@@ -34,6 +34,11 @@ pub bytes-are : (o : Option (List ℕ)) (bytes : List ℕ) → IsSome o → IsWh
 bytes-are None bytes some is = absurd (false≢true some)
 bytes-are (Some told) bytes some is = is
 
+-- bytes that are told are not untold
+pub untold : {P : Type 0} (o : Option (List ℕ)) → o ≡ None → IsSome o → P
+untold None none some = absurd (false≢true some)
+untold (Some told) none some = absurd (cc)
+
 -- the bytes in front of what is left
 pub front-of : (input body : List ℕ) (rest : Option (List ℕ)) → Some input ≡ in_front body rest
     → (r : List ℕ) × (rest ≡ Some r) × (input ≡ body ++ r)

@@ -31,7 +31,7 @@ use Rattle.course_laws.proofs.LeftBehind.{end_append, legal_cut}
 use Rattle.course_laws.proofs.Passes.{entries-clock, entries-told, no-store-faults, passes-ask, passes-hold, passes-played, passes-rose}
 use Rattle.course_laws.proofs.Counts.{Calm, Grew, calm-first, calm-then, cleans-grew, follows-grew, reads-body-grew, sends-grew, takes-grew}
 use Rattle.course_laws.proofs.Early.{Outcome, Ready, ends-early, outcome-before, outcome-so, says-memory}
-use Rattle.course_laws.proofs.PlayedActs.{InHandTold, Plays, at, body-torn, body-whole, bytes-are, front-of, memory-play, risen, says-play, short-of, sink-play, source-play, stops-play, taken-torn, taken-whole, told-is, torn-play, unwritten, wrote-play}
+use Rattle.course_laws.proofs.PlayedActs.{InHandTold, Plays, at, body-torn, body-whole, bytes-are, front-of, memory-play, risen, says-play, short-of, sink-play, source-play, stops-play, taken-torn, taken-whole, told-is, torn-play, untold, unwritten, wrote-play}
 use Rattle.course_laws.proofs.Unsent.{MayStarve, read-may, reply-may, says-unsent, starves-unsent}
 use Rattle.course_laws.proofs.Told.{CommandTold, ReplyTold, after-told, clock-stays, due-is, faults-are, faults-grow, moment-is, reply-told}
 
@@ -301,20 +301,23 @@ module _ (settings : Settings) (tells : Type 0) (witness : tells) (head_only : B
       (wrote-play settings tells head_only (MayStarve head_only s) head (next sent.Whole) (ih sent.Whole) n (stand_sent manner sent.Whole s)
       (λ alone front may. absurd (none-some manner (sym may.1.0))) (k sent.Whole) hand entries st legal calm old mid new end input before ready quiet cause follows)
   sends-play true blob manner head next ih sent.BlobFault n s is unsent k hand entries st legal calm old mid new end input before ready quiet first grows cause follows = absurd cause
+  sends-play true blob manner head next ih (sent.BlobDiffers recorded found) n s is unsent k hand entries st legal calm old mid new end input before ready quiet first grows cause follows = absurd cause
   sends-play true blob manner head next ih sent.SinkFault n s is unsent k hand entries st legal calm old mid new end input before ready quiet first grows cause follows =
       inr (sink-play settings tells head_only (MayStarve head_only s) (head ++ []) (play settings (next sent.Whole) (at st input)).written cause.1 (next sent.SinkFault) n s (k sent.SinkFault) cause.0
       entries st old mid new end input before ready cause.2 (cause.3.0, append-nil head ∙ cause.3.1) cause.4 follows)
   sends-play true blob manner head next ih sent.NoMemory n s is unsent k hand entries st legal calm old mid new end input before ready quiet first grows cause follows =
       inr (memory-play settings tells head_only (MayStarve head_only s) (refl, (unsent, inl refl)) _ (next sent.NoMemory) n s (k sent.NoMemory) entries st old mid new end input before ready first (ap (λ o. o.output) cause) follows)
   sends-play false blob manner head next ih sent.Whole n s is unsent k hand entries st legal calm old mid new end input before ready quiet first grows cause follows =
-      let bytes = bytes-are blob.bytes cause.0 (subst (λ b. InHandTold b) is hand) cause.1 in
+      let bytes = bytes-are blob.bytes cause.0 (subst (λ b. InHandTold b) is hand) cause.1.0 in
       wrote-play settings tells head_only (MayStarve head_only s) (head ++ unwrap_or blob.bytes []) (next sent.Whole) (ih sent.Whole) n (stand_sent manner sent.Whole s)
       (λ alone front may. absurd (none-some manner (sym may.1.0))) (k sent.Whole) hand entries st legal calm old mid new end input before ready quiet
       (cause.2 ∙ ap (λ b. writes (head ++ b) old) (sym bytes)) follows
   sends-play false blob manner head next ih sent.BlobFault n s is unsent k hand entries st legal calm old mid new end input before ready quiet first grows cause follows =
       risen old.blob_faults cause.0 new.blob_faults cause.1 (subst (λ m. m ≤ new.blob_faults) (ap (λ o. o.blob_faults) cause.2) grows.blobs) quiet
+  sends-play false blob manner head next ih (sent.BlobDiffers recorded found) n s is unsent k hand entries st legal calm old mid new end input before ready quiet first grows cause follows =
+      untold blob.bytes cause.0.0 (subst (λ b. InHandTold b) is hand)
   sends-play false blob manner head next ih sent.SinkFault n s is unsent k hand entries st legal calm old mid new end input before ready quiet first grows cause follows =
-      let bytes = bytes-are blob.bytes cause.1 (subst (λ b. InHandTold b) is hand) cause.4 in
+      let bytes = bytes-are blob.bytes cause.1 (subst (λ b. InHandTold b) is hand) cause.4.0 in
       inr (sink-play settings tells head_only (MayStarve head_only s) (head ++ unwrap_or blob.bytes []) (play settings (next sent.Whole) (at st input)).written cause.2 (next sent.SinkFault) n s (k sent.SinkFault) cause.0
       entries st old mid new end input before ready cause.3 (cause.5.0, ap (λ b. head ++ b) bytes ∙ cause.5.1) cause.6 follows)
   sends-play false blob manner head next ih sent.NoMemory n s is unsent k hand entries st legal calm old mid new end input before ready quiet first grows cause follows =

@@ -28,7 +28,7 @@ module _ (manner : Manner) where
     Does c o = Succeeds by_text manner c o
 
     look-does : (repo path : List ℕ) (reply : Reply) → Grants (look repo path []) reply → Does (after_look manner reply) (owed_after (look repo path []) reply ready)
-    look-does repo path (file lease blob) granted = ((refl, refl), refl, refl, λ reply. refl)
+    look-does repo path (file lease blob) granted = ((refl, refl), refl, refl, (λ reply. refl), λ recorded found reply. (refl, refl))
     look-does repo path (text bytes) granted = ((refl, refl), refl, tt, refl)
     look-does repo path (doc bytes digests) granted = ((refl, refl), refl, tt, refl)
     look-does repo path reply granted = absurd granted

@@ -119,6 +119,7 @@ for_stored (Err fault) = for_fault fault
 abbrev pub for_sent : Sent → Option Said
 for_sent sent.Whole = None
 for_sent sent.BlobFault = Some said.BlobFault
+for_sent (sent.BlobDiffers recorded found) = Some (said.BlobDiffers recorded found)
 for_sent sent.SinkFault = None
 for_sent sent.NoMemory = Some said.NoMemory
 

@@ -183,6 +183,7 @@ stand_read (Err fault) s = stand_fault fault (has_read s)
 abbrev pub stand_sent : Manner → Sent → Stand → Stand
 stand_sent manner sent.Whole s = record s { sent = Some manner }
 stand_sent manner sent.BlobFault s = s
+stand_sent manner (sent.BlobDiffers recorded found) s = s
 stand_sent manner sent.SinkFault s = failing stream.SinkFault s
 stand_sent manner sent.NoMemory s = starving s
 

@@ -7,20 +7,22 @@ use Rattle.http_wire.specs.Answer.{continue_bytes, shown}
 use Rattle.http_wire.specs.declared.answers.Status.{Status}
 use Rattle.http_wire.specs.declared.answers.Status.TheVariants as status_code
 use Rattle.repo_model.specs.Command.{Command, look, done, may_put, put, put_side, put_doc, drop_draft, open_session, stage, commit, abort, status, unlist, collect}
+use Rattle.repo_model.specs.declared.print.Print.{Print}
 use Rattle.repo_model.specs.Data.{Blob}
 use Rattle.repo_model.specs.History.{Entry}
 use Rattle.repo_model.specs.Reply.{Reply, file, text, doc, draft, same, relisted, created, agreed, noted, opened, staged, ended, counts as counts_reply, unlisted, collected, no_memory}
 use Rattle.repo_routes.specs.Intent.{Intent, Judged, reads as reads_path, puts_file, puts_side, puts_document, counts, cleans as cleans_all, opens, commits, aborts}
 use Rattle.repo_course.specs.Answers.{answer_of, file_answer, full_answer, memory_answer}
 use Rattle.repo_course.specs.Course.{Course, asks, continues, takes, reads, sends, cleans, says, stops, end_of}
-use Rattle.repo_course.specs.Serving.{Outside, writes}
+use Rattle.repo_course.specs.Serving.{IsOtherContent, Outside, writes}
 use Rattle.repo_course.specs.declared.manner.Manner.{Manner}
 use Rattle.repo_course.specs.declared.outcomes.Cleaned.{Cleaned}
 use Rattle.repo_course.specs.declared.outcomes.Continued.TheVariants.{Written}
 use Rattle.repo_course.specs.declared.outcomes.End.{End}
 use Rattle.repo_course.specs.declared.outcomes.End.TheVariants as stream
-use Rattle.repo_course.specs.declared.outcomes.Sent.TheVariants.{Whole as whole}
+use Rattle.repo_course.specs.declared.outcomes.Sent.TheVariants.{BlobDiffers as Differs, Whole as whole}
 use Rattle.repo_course.specs.declared.said.Said.{Said}
+use Rattle.repo_course.specs.declared.said.Said.TheVariants.{BlobDiffers}
 use Rattle.course_laws.specs.Causes.{due_after, for_pass, for_text}
 use Rattle.course_laws.specs.Faultless.{done_by}
 
@@ -85,9 +87,15 @@ Rests manner (asks (done lease) next) = (reply : Reply) → Rests manner (next r
 Rests manner (stops end) = end ≡ end_of manner
 Rests manner course = ⊥
 
+-- behind a file that was not sent its lease is given back, and this is answered
+abbrev pub RestsSaying : Said → Manner → Course → Type 0
+RestsSaying cause manner (asks (done lease) next) = (reply : Reply) → RestsSaying cause manner (next reply)
+RestsSaying cause manner (says said own) = (said ≡ cause) × (own ≡ manner)
+RestsSaying cause manner course = ⊥
+
 -- Where each command gets what it asks for, no act fails and the body is refused by nothing that it says, the body is invited
 -- where that is owed, and read; and then the answer is the one that the replies came to, of 200 or 201 and in this manner, or
--- the file, sent whole.
+-- the file, sent whole, or what its blob has in place of the recorded content.
 abbrev pub Succeeds : (List ℕ → Option Said) → Manner → Course → Owed → Type 0
 Succeeds by_text manner (asks command next) o =
     (reply : Reply) → Grants command reply → Succeeds by_text manner (next reply) (owed_after command reply o)
@@ -97,7 +105,9 @@ Succeeds by_text manner (takes number count next) o =
 Succeeds by_text manner (reads count next) o =
     (o.invites ≡ false) × (o.unread ≡ Some count)
     × ((bytes : List ℕ) → by_text bytes ≡ None → Succeeds by_text manner (next (Ok bytes)) (record o { unread = None }))
-Succeeds by_text manner (sends blob own next) o = IsReady o × (o.file ≡ Some blob) × (own ≡ manner) × Rests manner (next whole)
+Succeeds by_text manner (sends blob own next) o =
+    IsReady o × (o.file ≡ Some blob) × (own ≡ manner) × Rests manner (next whole)
+    × ((recorded found : Print) → RestsSaying (BlobDiffers recorded found) manner (next (Differs recorded found)))
 Succeeds by_text manner (says said own) o = IsReady o × (o.answer ≡ Some said) × IsSuccess (full_answer said).status × (own ≡ manner)
 Succeeds by_text manner (cleans repos next) o = ⊥
 Succeeds by_text manner (stops end) o = ⊥
@@ -173,8 +183,9 @@ invitation true = continue_bytes
 invitation false = []
 
 -- What came to the sink and was used of the input, which is told: the invitation and the answer, whole; or the invitation and the
--- file, whole, or the head of its answer alone; or, where memory was wanted, the answer that says so, its head alone
--- to HEAD only, in front of which the invitation stands or nothing. Of the blobs that are told this says nothing.
+-- file, whole, or the head of its answer alone; or, where its blob has another content than was recorded, the answer that says
+-- so; or, where memory was wanted, the answer that says so, its head alone to HEAD only, in front of which the invitation stands
+-- or nothing. Of the blobs that are told this says nothing.
 pub data IsServed (manner : Manner) (invited : List ℕ) (left : List ℕ) (answer : Option Said) (lent : Option Blob) (old new : Outside)
     (end : Option End) : Type 0 where
   answered : (said : Said) (kept : Shelf) → answer ≡ Some said → IsSuccess (full_answer said).status
@@ -182,6 +193,9 @@ pub data IsServed (manner : Manner) (invited : List ℕ) (left : List ℕ) (answ
       → end ≡ end_of manner → IsServed manner invited left answer lent old new end
   sent : (blob : Blob) (bytes : List ℕ) (kept : Shelf) → lent ≡ Some blob → IsWhereTold blob.bytes bytes
       → new ≡ writes (invited ++ (shown (file_answer blob manner) ++ (if manner.head_only then [] else bytes))) (record old { input = Some left; shelf = kept })
+      → end ≡ end_of manner → IsServed manner invited left answer lent old new end
+  differs : (blob : Blob) (recorded found : Print) (kept : Shelf) → lent ≡ Some blob → manner.head_only ≡ false → IsOtherContent blob recorded found
+      → new ≡ writes (invited ++ shown (answer_of (BlobDiffers recorded found) manner)) (record old { input = Some left; shelf = kept })
       → end ≡ end_of manner → IsServed manner invited left answer lent old new end
   starved : (part : List ℕ) (head_only : Bool) → (head_only ≡ true → manner.head_only ≡ true) → (part ≡ []) ⊎ (part ≡ invited)
       → new.output ≡ behind old.output (part ++ shown (memory_answer head_only))

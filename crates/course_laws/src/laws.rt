@@ -102,9 +102,10 @@ pub fn courses_succeed()
 {}
 
 /// A request of a served stream that nothing refuses, neither its head, nor a reply to its commands, nor what its body says, and
-/// whose body came whole, gets its answer of 200 or 201, whole, where no count of the stream and the blobs rose, unless memory
-/// was wanted, by a command or for what is read or sent; then that is answered, by a head alone only to HEAD, behind a draft
-/// that was given up too. No more of the input is used than the head and the body. The input is told.
+/// whose body came whole, gets its answer of 200 or 201, whole, where no count of the stream and the blobs rose, unless the blob
+/// of a file, which tells no bytes, has others than were recorded, which is then answered; or unless memory was wanted, by a
+/// command or for what is read or sent; then that is answered, by a head alone only to HEAD, behind a draft that was given up
+/// too. No more of the input is used than the head and the body. The input is told.
 pub fn granted_requests_are_answered<H: Held>()
     ensures { (settings : Settings) (last : Bool) (entries : List Entry) (old new : Outside) (ending : Option End) (input rest : List ℕ)
         (head : Head) (request : Judged) →

@@ -377,6 +377,17 @@ fn what_is_there_is_answered(rt: HostRuntime) -> Result<(), Fail> {
             b"HTTP/1.1 503 Service Unavailable\r\nContent-Type: text/plain\r\nContent-Length: 11\r\n\r\nblob-fault\n"
         )?
     );
+    assert!(rt;
+        is_written(
+            a,
+            Said::BlobDiffers {
+                recorded: abc_print(),
+                found: nothing_print(),
+            },
+            GOES_ON,
+            b"HTTP/1.1 503 Service Unavailable\r\nContent-Type: text/plain\r\nContent-Length: 180\r\n\r\nblob-differs recorded 3 a9993e364706816aba3e25717850c26c9cd0d89d 900150983cd24fb0d6963f7d28e17f72 found 0 da39a3ee5e6b4b0d3255bfef95601890afd80709 d41d8cd98f00b204e9800998ecf8427e\n"
+        )?
+    );
     Ok(())
 }
 

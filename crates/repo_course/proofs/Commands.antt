@@ -85,6 +85,7 @@ module _ (settings : Settings) where
   after_send-meets : (manner : Manner) (result : Sent) → Meets settings (after_send manner result)
   after_send-meets manner sent.Whole = tt
   after_send-meets manner sent.BlobFault = tt
+  after_send-meets manner (sent.BlobDiffers recorded found) = tt
   after_send-meets manner sent.SinkFault = tt
   after_send-meets manner sent.NoMemory = tt
 

@@ -17,7 +17,7 @@ use Rattle.repo_routes.specs.declared.refusal.Refusal.{Refusal}
 use Rattle.repo_routes.specs.declared.refusal.Refusal.TheVariants as refusal
 use Rattle.repo_course.specs.declared.manner.Manner.{Manner}
 use Rattle.repo_course.specs.declared.said.Said.{Said}
-use Rattle.repo_course.specs.declared.said.Said.TheVariants.{BadHead, HeadTooLong, Refused, Text, Doc, NotThere, KindRefused, Created, Same, Relisted, Taken, NoDigest, Agreed, Differs, NoDocument, Noted, Counts, Cleaned, NoSession, TooMany, Opened, SessionFull, Staged, Offends, MissingPom, Ended, NoDraft, Spent, StoreFault, BlobFault, NoMemory}
+use Rattle.repo_course.specs.declared.said.Said.TheVariants.{BadHead, HeadTooLong, Refused, Text, Doc, NotThere, KindRefused, Created, Same, Relisted, Taken, NoDigest, Agreed, Differs, NoDocument, Noted, Counts, Cleaned, NoSession, TooMany, Opened, SessionFull, Staged, Offends, MissingPom, Ended, NoDraft, Spent, StoreFault, BlobFault, BlobDiffers, NoMemory}
 
 -- a text of one line
 abbrev pub line : List ℕ → List ℕ
@@ -79,6 +79,10 @@ taken_text kept sent = codes "taken " ++ prints_text kept sent
 abbrev pub offends_text : List ℕ → Print → Print → List ℕ
 offends_text path kept sent = codes "offends " ++ path ++ 32 ∷ prints_text kept sent
 
+-- a stored content that is another one than was recorded
+abbrev pub blob_differs_text : Print → Print → List ℕ
+blob_differs_text recorded found = codes "blob-differs recorded " ++ print_text recorded ++ codes " found " ++ print_text found
+
 abbrev pub differs_text : List ℕ → List ℕ → List ℕ
 differs_text said kept = codes "digest-differs said " ++ said ++ codes " kept " ++ kept
 
@@ -134,6 +138,7 @@ full_answer NoDraft = line_answer status.InternalServerError (codes "no-draft")
 full_answer Spent = line_answer status.InternalServerError (codes "spent")
 full_answer StoreFault = line_answer status.ServiceUnavailable (codes "store-fault")
 full_answer BlobFault = line_answer status.ServiceUnavailable (codes "blob-fault")
+full_answer (BlobDiffers recorded found) = line_answer status.ServiceUnavailable (blob_differs_text recorded found)
 full_answer NoMemory = line_answer status.InsufficientStorage (codes "memory")
 
 -- the connection ends behind the answer

@@ -89,6 +89,7 @@ invites expects cut body = if expects then continues (after_continue cut body) e
 abbrev pub after_send : Manner → Sent → Course
 after_send manner sent.Whole = stops (end_of manner)
 after_send manner sent.BlobFault = says said.BlobFault manner
+after_send manner (sent.BlobDiffers recorded found) = says (said.BlobDiffers recorded found) manner
 after_send manner sent.SinkFault = cut_off
 after_send manner sent.NoMemory = without_memory manner
 

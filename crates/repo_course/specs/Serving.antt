@@ -1,5 +1,5 @@
 -- How a stream is served: for each request the steps of its course, one after another, each with the causes of its result.
-use Rattle.std.specs.Prelude.{◌≡◌, ℕ, zero, suc, ◌<◌, ◌⊎◌, ◌==◌, Bool, true, false, List, [], ◌∷◌, ◌++◌, length, Option, Some, None, IfSome, IsSome, Ok, Err}
+use Rattle.std.specs.Prelude.{◌≡◌, ◌≢◌, ℕ, zero, suc, ◌<◌, ◌⊎◌, ◌==◌, Bool, true, false, List, [], ◌∷◌, ◌++◌, length, Option, Some, None, IfSome, IsSome, Ok, Err}
 use Rattle.outside.specs.declared.tells.Tells.{Ghosts}
 use Rattle.outside.specs.Blobs.{Shelf, with_blob}
 use Rattle.outside.specs.Faults.{Rose}
@@ -101,14 +101,24 @@ Takes tells draft count (Err took.BlobFault) old new =
     (faults : ℕ) × (body : List ℕ) × Rose old.blob_faults faults × ReadsBody count body (record old { blob_faults = faults }) new
 Takes tells draft count (Err fault) old new = Reads count (Err fault) old new
 
+-- the bytes have the fingerprint that was recorded of the blob, and are its own where these are told
+abbrev pub IsContentOf : Blob → List ℕ → Type 0
+IsContentOf blob bytes = IsWhereTold blob.bytes bytes × (blob.print ≡ print_of bytes)
+
+-- Bytes of another fingerprint than the recorded one were found, which is only where the blob doesn't tell its own.
+abbrev pub IsOtherContent : Blob → Print → Print → Type 0
+IsOtherContent blob recorded found =
+    (blob.bytes ≡ None) × (recorded ≡ blob.print) × ((bytes : List ℕ) × (found ≡ print_of bytes)) × (found ≢ recorded)
+
 -- What comes of sending a file behind a head.
 abbrev pub Sends : Blob → List ℕ → Sent → Outside → Outside → Type 0
 Sends blob head sent.Whole old new =
-    (bytes : List ℕ) × IsWhereTold blob.bytes bytes × (new ≡ writes (head ++ bytes) old)
+    (bytes : List ℕ) × IsContentOf blob bytes × (new ≡ writes (head ++ bytes) old)
 Sends blob head sent.BlobFault old new =
     (faults : ℕ) × Rose old.blob_faults faults × (new ≡ record old { blob_faults = faults })
+Sends blob head (sent.BlobDiffers recorded found) old new = IsOtherContent blob recorded found × (new ≡ old)
 Sends blob head sent.SinkFault old new =
-    (faults : ℕ) × (bytes part : List ℕ) × Rose old.write_faults faults × IsWhereTold blob.bytes bytes
+    (faults : ℕ) × (bytes part : List ℕ) × Rose old.write_faults faults × IsContentOf blob bytes
     × IsFrontOf part (head ++ bytes) × (new ≡ writes part (record old { write_faults = faults }))
 Sends blob head sent.NoMemory old new = new ≡ old
 
@@ -116,6 +126,7 @@ Sends blob head sent.NoMemory old new = new ≡ old
 abbrev pub SendsHead : List ℕ → Sent → Outside → Outside → Type 0
 SendsHead head sent.Whole old new = new ≡ writes head old
 SendsHead head sent.BlobFault old new = ⊥
+SendsHead head (sent.BlobDiffers recorded found) old new = ⊥
 SendsHead head sent.SinkFault old new =
     (faults : ℕ) × (part : List ℕ) × Rose old.write_faults faults × IsFrontOf part head
     × (new ≡ writes part (record old { write_faults = faults }))

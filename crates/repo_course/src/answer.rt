@@ -6,7 +6,7 @@ ghost use Rattle.http_wire.specs.declared.answers.Status.TheVariants as status;
 ghost use Rattle.mvn_coords.specs.Fault.{name_of_fault};
 ghost use Rattle.repo_routes.specs.declared.refusal.Refusal.TheVariants as refused;
 ghost use Rattle.repo_model.specs.Shown.{shown_parcel};
-ghost use Rattle.repo_course.specs.Answers.{answer_of, cleaned_text, count_line, counts_text, differs_text, file_answer, full_answer, in_manner, line_answer, methods_text, no_session_answer, offends_text, print_text, prints_text, refusal_answer, result_text, taken_text, text_answer};
+ghost use Rattle.repo_course.specs.Answers.{answer_of, blob_differs_text, cleaned_text, count_line, counts_text, differs_text, file_answer, full_answer, in_manner, line_answer, methods_text, no_session_answer, offends_text, print_text, prints_text, refusal_answer, result_text, taken_text, text_answer};
 
 use crate::manner::Manner;
 use crate::said::Said;
@@ -172,6 +172,17 @@ fn offends_text(
     Ok(text)
 }
 
+/// The text that a blob has another content than was recorded of it.
+fn blob_differs_text(alloc: Global, recorded: &Print, found: &Print) -> Result<Vec<u8>, AllocError>
+    ensures { IfOk result (λ text. text.items ≡ blob_differs_text recorded.now found.now) }
+{
+    let mut text = Vec::from_slice(alloc, b"blob-differs recorded ")?;
+    push_print(alloc, &mut text, recorded)?;
+    text.extend_from_slice(b" found ")?;
+    push_print(alloc, &mut text, found)?;
+    Ok(text)
+}
+
 /// An answer with a name and a number.
 fn number_answer(
     alloc: Global,
@@ -318,6 +329,10 @@ fn full_answer(alloc: Global, said: Said) -> Result<Answer, AllocError>
         Said::Spent => line_answer(alloc, Status::InternalServerError, b"spent"),
         Said::StoreFault => line_answer(alloc, Status::ServiceUnavailable, b"store-fault"),
         Said::BlobFault => line_answer(alloc, Status::ServiceUnavailable, b"blob-fault"),
+        Said::BlobDiffers { recorded, found } => {
+            let text = blob_differs_text(alloc, &recorded, &found)?;
+            line_answer(alloc, Status::ServiceUnavailable, text.as_slice())
+        }
         Said::NoMemory => Err(AllocError),
     }
 }

@@ -72,6 +72,9 @@ fn after_done<H: Held>(manner: Manner, sent: Sent) -> Act<H>
     match sent {
         Sent::Whole => Act::Stop(manner.end()),
         Sent::BlobFault => say(Said::BlobFault, manner),
+        Sent::BlobDiffers { recorded, found } => {
+            say(Said::BlobDiffers { recorded, found }, manner)
+        }
         Sent::SinkFault => Act::Stop(Some(End::SinkFault)),
         Sent::NoMemory => no_memory(manner),
     }

@@ -1,16 +1,17 @@
 //! Bodies taken into a store, and files sent from it.
 ghost use Rattle.std.specs.Prelude.{◌≡◌, ◌≤◌, ℕ, length as list_length, List, Option};
 ghost use Rattle.outside.specs.Blobs.{Shelf};
-ghost use Rattle.outside.specs.Told.{in_front, IsWhereTold};
+ghost use Rattle.outside.specs.Told.{in_front};
 ghost use Rattle.repo_course.specs.Acts.{shown_stored};
-ghost use Rattle.repo_course.specs.Serving.{AllTell, Outside, outside, Reads, Sends, Takes};
+ghost use Rattle.repo_course.specs.Serving.{AllTell, IsContentOf, Outside, outside, Reads, Sends, Takes};
 ghost use Rattle.repo_model.specs.Data.{Blob};
 ghost use Rattle.repo_model.specs.Shown.{shown_parcel};
 
 use http_wire::{Wire, WireFault};
 use mvn_digest::Hashes;
-use outside::{BlobFault, Blobs, Parcel, Sink, Source, Tells, write_all};
+use outside::{BlobFault, Blobs, CheckFault, Parcel, Sink, Source, Tells, read_checked, write_all};
 use repo_course::{Sent, Took};
+use repo_model::Print;
 use std::alloc::Global;
 use texts::Bytes;
 
@@ -84,7 +85,7 @@ pub fn read_body<S: Source>(
 
 /// Writes the head of a file's answer and the file's bytes.
 fn write_file<O: Sink>(head: &[u8], bytes: &[u8], sink: &mut O) -> Sent
-    ensures { (blob : Blob) (held : List ℕ) (blobs : ℕ) (shelf : Shelf) → IsWhereTold blob.bytes bytes.now → Sends blob head.now result
+    ensures { (blob : Blob) (held : List ℕ) (blobs : ℕ) (shelf : Shelf) → IsContentOf blob bytes.now → Sends blob head.now result
         (outside ⟦<O as Tells>⟧ held sink.old blobs shelf) (outside ⟦<O as Tells>⟧ held sink.new blobs shelf) }
 {
     match write_all(sink, head) {
@@ -96,10 +97,11 @@ fn write_file<O: Sink>(head: &[u8], bytes: &[u8], sink: &mut O) -> Sent
     }
 }
 
-/// Reads a blob and writes `head` and its bytes.
+/// Reads a blob and writes `head` and its bytes, which are looked at before: they have the recorded length and digests.
 ///
-/// Nothing is written where the blob is not read. `BlobFault` and `SinkFault` come where the count of the blobs or of
-/// the sink rose. What the source's side of a stream tells stays, whatever bytes of it are held.
+/// Nothing is written where the blob is not read or has another content. `BlobFault` and `SinkFault` come where the count of
+/// the blobs or of the sink rose, `BlobDiffers` where the two contents differ, and never over blobs that tell their bytes.
+/// What the source's side of a stream tells stays, whatever bytes of it are held.
 pub fn send_file<B: Blobs, O: Sink>(
     blobs: &mut B,
     parcel: &Parcel<B::Held>,
@@ -109,9 +111,16 @@ pub fn send_file<B: Blobs, O: Sink>(
     ensures { (held : List ℕ) → Sends (shown_parcel parcel.now) head.now result
         (outside ⟦<O as Tells>⟧ held sink.old (B.faults blobs.old) (B.shelf blobs.old)) (outside ⟦<O as Tells>⟧ held sink.new (B.faults blobs.new) (B.shelf blobs.new)) }
 {
-    match blobs.read(&parcel.held) {
+    match read_checked(blobs, parcel) {
         Ok(bytes) => write_file(head, bytes.as_slice(), sink),
-        Err(BlobFault::Failed) => Sent::BlobFault,
-        Err(BlobFault::NoMemory) => Sent::NoMemory,
+        Err(CheckFault::Failed) => Sent::BlobFault,
+        Err(CheckFault::NoMemory) => Sent::NoMemory,
+        Err(CheckFault::Differs { length, digests }) => Sent::BlobDiffers {
+            recorded: Print {
+                length: parcel.length,
+                digests: parcel.digests,
+            },
+            found: Print { length, digests },
+        },
     }
 }

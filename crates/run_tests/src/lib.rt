@@ -31,8 +31,6 @@ mod lengths;
 #[cfg(test)]
 mod literals;
 #[cfg(test)]
-mod lock_step;
-#[cfg(test)]
 mod paths;
 #[cfg(test)]
 mod runs;

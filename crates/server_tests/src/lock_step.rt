@@ -86,8 +86,8 @@ impl Stream for LockStep {}
 fn an_answer_is_written_before_the_next_request_comes(rt: HostRuntime) -> Result<(), Fail> {
     let alloc = rt.alloc();
     let settings = settings(alloc)?;
-    let mut core = opened(alloc, &settings)?;
     let mut blobs = MemBlobs::new(alloc, FaultScript::none(alloc));
+    let mut core = opened(alloc, &settings, &mut blobs)?;
     let mut stream = LockStep {
         given: 0,
         taken: 0,

@@ -1,0 +1,35 @@
+// A core to serve streams over.
+ghost use Rattle.std.specs.Prelude.{◌≡◌, IfOk};
+
+use outside::Blobs;
+use outside_memory::ScriptClock;
+use repo_config::{Settings, read};
+use repo_core::{Core, start};
+use row_tables::MemRecords;
+use std::alloc::{AllocError, Global};
+
+const SETTINGS: &str = "[[hosted]]\nid = \"releases\"\nreleases = true\nsnapshots = false\n";
+
+pub fn settings(alloc: Global) -> Result<Settings, AllocError> {
+    match read(alloc, SETTINGS.as_bytes()) {
+        Ok(settings) => Ok(settings),
+        Err(_) => Err(AllocError),
+    }
+}
+
+/// A core of these settings, without files, before its first call.
+pub fn opened<B: Blobs>(
+    alloc: Global,
+    settings: &Settings,
+    blobs: &mut B,
+) -> Result<Core<MemRecords, ScriptClock, B::Held>, AllocError>
+    ensures { IfOk result (λ core. core.settings ≡ settings.now) }
+{
+    let own = settings.copied(alloc)?;
+    let records = MemRecords::new(alloc, Vec::new(alloc));
+    let clock = ScriptClock::stepping(alloc, 0, 0);
+    match start(alloc, own, records, blobs, clock) {
+        Ok(core) => Ok(core),
+        Err(_) => Err(AllocError),
+    }
+}
