@@ -23,6 +23,7 @@ use Rattle.turn_lock.specs.contracts.law.LawTableRuleSlotCallReplyViewCallReplyS
 use Rattle.turn_lock.specs.contracts.view.Slot as Slot
 use Rattle.turn_lock.specs.contracts.view.View as View
 use Rattle.turn_lock.proofs.Crosses.{slot_crosses}
+use Rattle.desk_work.specs.contracts.jobs.CleanerJob as CleanerJob
 use Rattle.desk_work.specs.contracts.jobs.DeskJob as DeskJob
 use Rattle.desk_work.specs.contracts.jobs.House as House
 
@@ -63,3 +64,10 @@ job_crosses κ P B T L H C R g p b t =
     let fields : IsSend (DeskJob.the_field κ P B T L H C R g).row =
     struct_send (shape (DeskJob.the_type κ P B T L H C R g)) (house, (search (sendable, seat_send, slot_crosses) depth 30, (search sendable depth 30, (search (sendable, crosses) depth 30, tt)))) in
     recorded_send (DeskJob.the_field κ P B T L H C R g).row _ _ (DeskJob.the_type κ P B T L H C R g).to_one fields
+
+pub cleaner_crosses : (κ : NamedLft) (B Q T H C R : RattleType) (g : Ghosts T.Denot C.Denot R.Denot) → IsSend B → IsSend Q → IsSend T → IsSend (CleanerJob.the_row κ B Q T H C R g)
+cleaner_crosses κ B Q T H C R g b q t =
+    let house : IsSend (denote.Ref.ShrRef κ.mir κ.lft (House.the_row T C R g)) = shr_send _ _ _ (house_shared T C R g t) in
+    let fields : IsSend (CleanerJob.the_field κ B Q T H C R g).row =
+    struct_send (shape (CleanerJob.the_type κ B Q T H C R g)) (house, (search (sendable, seat_send, slot_crosses) depth 30, (search sendable depth 30, (search (sendable, crosses) depth 30, tt)))) in
+    recorded_send (CleanerJob.the_field κ B Q T H C R g).row _ _ (CleanerJob.the_type κ B Q T H C R g).to_one fields

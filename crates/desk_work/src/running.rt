@@ -18,16 +18,17 @@ use run_desks::{Cleaner, Desk};
 use std::alloc::Global;
 use std::sync::Wait;
 use std::thread::Threads;
-use thread_jobs::run_all;
+use thread_jobs::run_beside;
 use turn_lock::Seat;
 use turn_seats::Repository;
 
-// Runs all desks at once, each in a thread of its own where one can be made, and the cleaner in this one.
+// Runs all desks at once, each in a thread of its own where one can be made and the last in this one, and the cleaner beside
+// them, which ends only once they have: where threads are wanting it is the cleaner that waits, and no desk.
 fn run_jobs<
     'a,
     P: Port + Drop + Send,
     B: Blobs + Drop + Send,
-    Q: Pace + Drop,
+    Q: Pace + Drop + Send,
     T: Repository<Call = Command<B::Held>, Reply = Reply<B::Held>> + Send,
     R: Threads + Wait + Sync,
 >(
@@ -53,7 +54,7 @@ where
         (store (B.shelf last.entry.cleaner.blobs) (B.faults last.entry.cleaner.blobs)) (store (B.shelf result.1.1.blobs) (B.faults result.1.1.blobs)) }
     ensures len { vec_len result.0 ≡ vec_len jobs.entry }
 {
-    run_all(rt, jobs, last, room)
+    run_beside(rt, last, jobs, room)
 }
 
 // The desks in their order, in a room that was made before and is empty, and whether a port failed.
@@ -78,7 +79,7 @@ pub fn parted<P: Port + Drop, B: Blobs + Drop>(
 pub fn serve_all<
     P: Port + Drop + Send,
     B: Blobs + Drop + Send,
-    Q: Pace + Drop,
+    Q: Pace + Drop + Send,
     T: Repository<Call = Command<B::Held>, Reply = Reply<B::Held>> + Send,
     R: Threads + Wait + Sync,
 >(

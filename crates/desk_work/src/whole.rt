@@ -120,15 +120,16 @@ fn rooms<P: Port + Drop, B: Blobs + Drop, T: Thing>(
 /// Serves all desks at once, each with a seat of its own, until none of their ports hands out a connection any more, and cleans
 /// beside them, until the timer says that no pass is wanted; then ends the history.
 ///
-/// A desk for which no thread can be made is served by the caller, behind the cleaner. `refused` says that memory was wanted
-/// before any connection was served: then nothing was done. `failed` says that a port failed, which is so exactly where its
-/// count rose. The seat has all parts, and the settings are those of the repository. The entries of all connections and all
-/// passes, and no others, lie in one legal history that goes on from what the seat had seen; the repository is left as it says,
+/// A desk for which no thread can be made is served by the caller, behind its own, and a cleaner for which none can be made
+/// makes its passes behind all desks. `refused` says that memory was wanted before any connection was served: then nothing was
+/// done. `failed` says that a port failed, which is so exactly where its count rose. The seat has all parts, and the settings
+/// are those of the repository. The entries of all connections and all passes, and no others, lie in one legal history that
+/// goes on from what the seat had seen; the repository is left as it says,
 /// and the number of calls is its length.
 pub fn work<
     P: Port + Drop + Send,
     B: Blobs + Drop + Send,
-    Q: Pace + Drop,
+    Q: Pace + Drop + Send,
     T: Repository<Call = Command<B::Held>, Reply = Reply<B::Held>> + Send,
     R: Threads + Wait + Sync,
 >(

@@ -33,7 +33,7 @@ use turn_seats::Repository;
 pub fn run<
     P: Port + Drop + Send,
     B: Blobs + Drop + Send,
-    Q: Pace + Drop,
+    Q: Pace + Drop + Send,
     K: Records + Send,
     C: Clock + Send,
     S: Source,

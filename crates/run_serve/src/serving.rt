@@ -29,7 +29,7 @@ use turn_seats::Repository;
 fn serve_core<
     P: Port + Drop + Send,
     B: Blobs + Drop + Send,
-    Q: Pace + Drop,
+    Q: Pace + Drop + Send,
     K: Records + Send,
     C: Clock + Send,
     O: Sink,
@@ -97,7 +97,7 @@ where
 fn serve_by<
     P: Port + Drop + Send,
     B: Blobs + Drop + Send,
-    Q: Pace + Drop,
+    Q: Pace + Drop + Send,
     K: Records + Send,
     C: Clock + Send,
     O: Sink,
@@ -165,7 +165,7 @@ where
 pub fn serve<
     P: Port + Drop + Send,
     B: Blobs + Drop + Send,
-    Q: Pace + Drop,
+    Q: Pace + Drop + Send,
     K: Records + Send,
     C: Clock + Send,
     S: Source,
