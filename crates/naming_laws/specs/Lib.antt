@@ -1,0 +1,4 @@
+pub mod Named
+pub mod Limits
+pub mod Cases
+pub mod Answered
