@@ -1,3 +1,4 @@
+pub mod CountLemmas
 pub mod MapLemmas
 pub mod PlaceLemmas
 pub mod YardLemmas

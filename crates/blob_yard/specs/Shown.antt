@@ -26,7 +26,7 @@ numbers_from places leases next_draft next_lease next_session = record {
 }
 
 abbrev pub shown_numbers : Inside → Numbers
-shown_numbers yard = numbers_from yard.places.entries yard.leases.entries yard.next_draft yard.next_lease yard.next_session
+shown_numbers yard = numbers_from yard.places yard.leases.entries yard.next_draft yard.next_lease yard.next_session
 
 -- each number has as many leases as are counted at its place
 abbrev pub AreCounted : List (ℕ × Place) → List (ℕ × ℕ) → Type 0
@@ -34,9 +34,9 @@ AreCounted places leases = (n : ℕ) → leases_at n places ≡ count_by (λ blo
 
 -- numbers to come are greater than those that were drawn
 pub record IsTight (yard : Inside) : Type 0 where
-  pub drawn : AreBelow yard.next_draft yard.places.entries
+  pub drawn : AreBelow yard.next_draft yard.places
   pub lent : AreBelow yard.next_lease yard.leases.entries
-  pub counted : AreCounted yard.places.entries yard.leases.entries
+  pub counted : AreCounted yard.places yard.leases.entries
   pub draft : yard.next_draft ≤ number_end
   pub lease : yard.next_lease ≤ number_end
   pub session : yard.next_session ≤ number_end

@@ -27,7 +27,8 @@ pub enum DrawFault {
 /// Numbers of blobs (drawn and not yet used, in use, garbage), of their leases, and of sessions.
 ///
 /// Each blob number has one place, which is made when it is drawn, so keeping it, giving it up and giving a lease back take
-/// no memory. All but `collect` take steps by the logarithm of the numbers.
+/// no memory. All but `collect` take steps by the logarithm of the numbers. How many numbers are garbage without a lease is
+/// counted: where there are none, `collect` looks at no number, and else at those up to the last that it gives.
 #[derive(Drop)]
 pub struct Yard {
     places: Places,
@@ -84,7 +85,7 @@ impl Yard {
         if number == NUMBER_END {
             return Err(DrawFault::Spent);
         }
-        match places::add(&mut self.places, number, Stand::Draft) {
+        match places::add(&mut self.places, number) {
             Ok(()) => {
                 self.next_draft = number + 1;
                 Ok(number)

@@ -81,6 +81,31 @@ fn lent_blobs_wait(rt: HostRuntime) -> Result<(), Fail> {
     Ok(())
 }
 
+// Garbage stands between numbers that are in use, and some of it is lent.
+#[test]
+fn garbage_is_found_among_blobs_in_use(rt: HostRuntime) -> Result<(), Fail> {
+    let alloc = rt.alloc();
+    let mut yard = Yard::start(alloc, &[1, 2, 3, 4, 5, 6, 7, 8], 9, 1)?;
+    for blob in [2, 7, 6] {
+        lease(&mut yard, blob)?;
+    }
+    for blob in [4, 6, 2] {
+        condemn(&mut yard, blob)?;
+    }
+    // The lease of 7, which is in use.
+    assert!(rt; yard.done(2));
+    expect_collected(&rt, alloc, &mut yard, &[4])?;
+    expect_collected(&rt, alloc, &mut yard, &[])?;
+    condemn(&mut yard, 8)?;
+    assert!(rt; yard.done(3) && yard.done(1));
+    expect_collected(&rt, alloc, &mut yard, &[2, 6, 8])?;
+    expect_collected(&rt, alloc, &mut yard, &[])?;
+    for blob in [1, 3, 5, 7] {
+        assert!(rt; yard.is_kept(blob));
+    }
+    Ok(())
+}
+
 fn with_dropped(alloc: Global, count: usize) -> Result<Yard, Fail> {
     let mut yard = Yard::start(alloc, &[], 1, 1)?;
     for _ in 0..count {

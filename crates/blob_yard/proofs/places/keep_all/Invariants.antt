@@ -6,7 +6,7 @@ use Rattle.blob_yard.proofs.places.keep_all.Given as goal
 
 abbrev pub invariant-loop-number : goal.invariant-loop-number
 invariant-loop-number l = record {
-  below : AreBelow l.next l.places.entries;
-  kept : AreKept l.places.entries;
-  numbers : (n : ℕ) → is_among n (keys_of l.places.entries) ≡ is_among n (take l.number-index l.numbers);
+  below : AreBelow l.next l.map.entries;
+  kept : AreKept l.map.entries;
+  numbers : (n : ℕ) → is_among n (keys_of l.map.entries) ≡ is_among n (take l.number-index l.numbers);
 }

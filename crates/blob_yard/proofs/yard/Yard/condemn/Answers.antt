@@ -16,9 +16,9 @@ invariant_of-self c =
     let h = c.self.invariant in
     let change = c.set_stand.ensures.changed in
     record {
-      drawn = subst (λ (es : List (ℕ × Place)). AreBelow y.next_draft es) (sym change) (AreBelow-changed y.next_draft c.args.number (placed Condemned) y.places.entries h.drawn);
+      drawn = subst (λ (es : List (ℕ × Place)). AreBelow y.next_draft es) (sym change) (AreBelow-changed y.next_draft c.args.number (placed Condemned) y.places h.drawn);
       lent = h.lent;
-      counted = subst (λ (es : List (ℕ × Place)). AreCounted es y.leases.entries) (sym change) (placed_counted c.args.number Condemned y.places.entries y.leases.entries h.counted);
+      counted = subst (λ (es : List (ℕ × Place)). AreCounted es y.leases.entries) (sym change) (placed_counted c.args.number Condemned y.places y.leases.entries h.counted);
       draft = h.draft;
       lease = h.lease;
       session = h.session;
@@ -30,5 +30,5 @@ returns c =
     let n = c.args.number in
     let among = ap (λ (v : Numbers). is_among n v.kept) c.self.view_is ∙ c.requires in
     ap (λ es. numbers_from es y.leases.entries y.next_draft y.next_lease y.next_session) c.set_stand.ensures.changed
-    ∙ condemned_shown n y.places.entries y.leases.entries y.next_draft y.next_lease y.next_session c.set_stand.ensures.rising among
+    ∙ condemned_shown n y.places y.leases.entries y.next_draft y.next_lease y.next_session c.set_stand.ensures.rising among
     ∙ ap (λ (v : Numbers). record { yard = condemning n v.yard; kept = without_number n v.kept }) c.self.view_is

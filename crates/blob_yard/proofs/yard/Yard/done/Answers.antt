@@ -16,10 +16,10 @@ invariant_of-self c =
     let h = c.self.invariant in
     let places = c.give_back.ensures in
     record {
-      drawn = subst (λ (es : List (ℕ × Place)). AreBelow y.next_draft es) (sym places) (AreBelow-changed y.next_draft c.in-Some.blob give_back y.places.entries h.drawn);
+      drawn = subst (λ (es : List (ℕ × Place)). AreBelow y.next_draft es) (sym places) (AreBelow-changed y.next_draft c.in-Some.blob give_back y.places h.drawn);
       lent = subst (λ (ls : List (ℕ × ℕ)). AreBelow y.next_lease ls) (sym c.in-Some.ensures.rest) (AreBelow-filter y.next_lease _ y.leases.entries h.lent);
       counted = subst (λ (es : List (ℕ × Place)). AreCounted es c.drop_lease.new.leases.entries) (sym places)
-          (returned_counted c.in-Some.blob y.places.entries y.leases.entries c.drop_lease.new.leases.entries c.in-Some.ensures.count h.counted);
+          (returned_counted c.in-Some.blob y.places y.leases.entries c.drop_lease.new.leases.entries c.in-Some.ensures.count h.counted);
       draft = h.draft;
       lease = h.lease;
       session = h.session;
@@ -48,8 +48,8 @@ pub returns-in-Some-clause-returned : goal.returns-in-Some-clause-returned
 returns-in-Some-clause-returned c =
     let y = c.self.inside in
     ap (λ es. numbers_from es c.drop_lease.new.leases.entries y.next_draft y.next_lease y.next_session) c.give_back.ensures
-    ∙ ap (λ ls. numbers_from (changed c.in-Some.blob give_back y.places.entries) ls y.next_draft y.next_lease y.next_session) c.in-Some.ensures.rest
-    ∙ returned_shown c.in-Some.blob c.args.lease y.places.entries y.leases.entries y.next_draft y.next_lease y.next_session
+    ∙ ap (λ ls. numbers_from (changed c.in-Some.blob give_back y.places) ls y.next_draft y.next_lease y.next_session) c.in-Some.ensures.rest
+    ∙ returned_shown c.in-Some.blob c.args.lease y.places y.leases.entries y.next_draft y.next_lease y.next_session
     ∙ ap (λ (v : Numbers). record v { yard = yard_after (returns_lease c.args.lease) v.yard }) c.self.view_is
 
 pub returns-in-None-clause-lease : goal.returns-in-None-clause-lease
@@ -61,6 +61,6 @@ returns-in-None-clause-lease c =
 pub returns-in-None-clause-returned : goal.returns-in-None-clause-returned
 returns-in-None-clause-returned c =
     let y = c.self.inside in
-    ap (λ ls. numbers_from y.places.entries ls y.next_draft y.next_lease y.next_session) c.in-None.ensures.rest
-    ∙ unreturned_shown c.args.lease y.places.entries y.leases.entries y.next_draft y.next_lease y.next_session
+    ap (λ ls. numbers_from y.places ls y.next_draft y.next_lease y.next_session) c.in-None.ensures.rest
+    ∙ unreturned_shown c.args.lease y.places y.leases.entries y.next_draft y.next_lease y.next_session
     ∙ ap (λ (v : Numbers). record v { yard = yard_after (returns_lease c.args.lease) v.yard }) c.self.view_is

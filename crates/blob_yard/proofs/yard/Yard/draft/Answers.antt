@@ -13,9 +13,9 @@ invariant_of-self c =
     let h = c.self.invariant in
     let change = c.in-Ok.ensures.ok in
     record {
-      drawn = subst (λ (es : List (ℕ × Place)). AreBelow (y.next_draft + 1) es) (sym change) (AreBelow-push y.next_draft (record { stand = Draft; leases = 0 }) y.places.entries h.drawn);
+      drawn = subst (λ (es : List (ℕ × Place)). AreBelow (y.next_draft + 1) es) (sym change) (AreBelow-push y.next_draft (record { stand = Draft; leases = 0 }) y.places h.drawn);
       lent = h.lent;
-      counted = subst (λ (es : List (ℕ × Place)). AreCounted es y.leases.entries) (sym change) (drawn_counted y.next_draft y.places.entries y.leases.entries h.counted);
+      counted = subst (λ (es : List (ℕ × Place)). AreCounted es y.leases.entries) (sym change) (drawn_counted y.next_draft y.places y.leases.entries h.counted);
       draft = omega (arith, h.draft, c.if-number.false);
       lease = h.lease;
       session = h.session;

@@ -6,5 +6,5 @@ use Rattle.blob_yard.proofs.yard.Yard.is_kept.Goals as goal
 
 pub returns : goal.returns
 returns c =
-    c.is_kept.ensures.value ∙ among-kept c.args.number c.self.inside.places.entries c.is_kept.ensures.rising
+    c.is_kept.ensures.value ∙ among-kept c.args.number c.self.inside.places c.is_kept.ensures.rising
     ∙ ap (λ (v : Numbers). is_among c.args.number v.kept) c.self.view_is

@@ -16,9 +16,9 @@ invariant_of-self c =
     let h = c.self.invariant in
     let change = c.set_stand.ensures.changed in
     record {
-      drawn = subst (λ (es : List (ℕ × Place)). AreBelow y.next_draft es) (sym change) (AreBelow-changed y.next_draft c.args.draft (placed Kept) y.places.entries h.drawn);
+      drawn = subst (λ (es : List (ℕ × Place)). AreBelow y.next_draft es) (sym change) (AreBelow-changed y.next_draft c.args.draft (placed Kept) y.places h.drawn);
       lent = h.lent;
-      counted = subst (λ (es : List (ℕ × Place)). AreCounted es y.leases.entries) (sym change) (placed_counted c.args.draft Kept y.places.entries y.leases.entries h.counted);
+      counted = subst (λ (es : List (ℕ × Place)). AreCounted es y.leases.entries) (sym change) (placed_counted c.args.draft Kept y.places y.leases.entries h.counted);
       draft = h.draft;
       lease = h.lease;
       session = h.session;
@@ -30,5 +30,5 @@ returns-clause-kept c =
     let n = c.args.draft in
     let among = ap (λ (v : Numbers). is_among n v.yard.drafts) c.self.view_is ∙ sym c.is_draft.ensures ∙ c.if-not-is_draft.false in
     ap (λ es. numbers_from es y.leases.entries y.next_draft y.next_lease y.next_session) c.set_stand.ensures.changed
-    ∙ kept_shown n y.places.entries y.leases.entries y.next_draft y.next_lease y.next_session c.set_stand.ensures.rising among
+    ∙ kept_shown n y.places y.leases.entries y.next_draft y.next_lease y.next_session c.set_stand.ensures.rising among
     ∙ ap (λ (v : Numbers). record { yard = without_draft n v.yard; kept = with_number n v.kept }) c.self.view_is

@@ -1,7 +1,7 @@
 use Rattle.std.proofs.Common.{◌≡◌, ◌≤◌, ◌++◌, map, vec_len, vec_capacity}
 use Rattle.std.specs.Map.Iter.{deref_pair}
 use Rattle.blob_yard.specs.Places.{garbage_of}
-use Rattle.blob_yard.proofs.places.push_garbage.Given as goal
+use Rattle.blob_yard.proofs.places.push_first.Given as goal
 
 abbrev pub invariant-loop-number : goal.invariant-loop-number
 invariant-loop-number l = record {
