@@ -88,7 +88,7 @@ impl<C: Clock, H: Held> Machine<C, H> {
     ghost use Rattle.repo_model.specs.Turn.{turn};
     ghost use Rattle.row_tables.specs.Commits.{tables_with};
     ghost use Rattle.hosted_repo.specs.Expired.{blob_of};
-    ghost use Rattle.hosted_repo.specs.Recording.{FitWhereTold};
+    ghost use Rattle.hosted_repo.specs.Recording.{FitWhereTold, HasReplyCause};
     ghost use Rattle.deploy_session.specs.Shown.{shown_abort, shown_begin, shown_commit, shown_stage};
     ghost use Rattle.repo_model.specs.State.{is_among};
     ghost use Rattle.repo_core.specs.Deploys.{AreStagedInUse};
@@ -143,6 +143,7 @@ impl<C: Clock, H: Held> Machine<C, H> {
             (entry_of command self.new.state.last result (K.faults records.new)) }
         ensures tables { K.tables records.new ≡ tables_with (recorded (effects_of self.old.settings (counting (K.faults records.old) self.old.state)
             (entry_of command self.new.state.last result (K.faults records.new)))) (K.tables records.old) }
+        ensures cause { HasReplyCause (K.faults records.old) (K.faults records.new) (shown_reply result) }
         ensures settled { IsSettled (shown_command command) (shown_reply result) (K.unsettled records.new) }
         ensures ready { K.ready records.new }
         ensures settings { self.new.settings ≡ self.old.settings }

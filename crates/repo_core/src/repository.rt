@@ -37,6 +37,7 @@ impl<K: Records, C: Clock, H: Held> Model for Core<K, C, H> {
 impl<K: Records, C: Clock, H: Held> Core<K, C, H> {
     ghost use Rattle.std.specs.Prelude.{◌≡◌, ◌+◌, min, IsTrue};
     ghost use Rattle.std.specs.Option.{ForSome};
+    ghost use Rattle.hosted_repo.specs.Recording.{HasReplyCause};
     ghost use Rattle.outside.specs.Faults.{last_count};
     ghost use Rattle.repo_model.specs.Asking.{IsAnswerTo};
     ghost use Rattle.repo_model.specs.Command.{meets};
@@ -64,9 +65,10 @@ impl<K: Records, C: Clock, H: Held> Core<K, C, H> {
     /// The command meets its condition, as [`Core::fits`] tells. The turn is an entry that fits the machine's state, and
     /// leaves the state that the machine says; the tables, where told, are those with its items, and hold the new state.
     /// Every command but `Done` and `Drop` may want memory; where it is wanting, or where the records fail, nothing changes
-    /// but the moment and the count of the records. The row of a release is there afterwards with every field as before. A
-    /// draft for a file is given only where the repository takes the file. A `Collect` is always committed, an empty one too: where
-    /// it gives blobs out to be removed, no change whose commit failed, and which may name one of them, is found any more.
+    /// but the moment and the count of the records. That count has risen where `StoreFault` is answered, and is as it was where
+    /// anything else is. The row of a release is there afterwards with every field as before. A draft for a file is given only
+    /// where the repository takes the file. A `Collect` is always committed, an empty one too: where it gives blobs out to be
+    /// removed, no change whose commit failed, and which may name one of them, is found any more.
     pub fn call(&mut self, command: Command<H>) -> Reply<H>
         requires { IsTrue (meets self.old.settings (shown_command command)) }
         ensures fits { Fits self.old.settings self.old.state (entry_of command self.new.state.last result self.new.state.faults) }
@@ -75,6 +77,7 @@ impl<K: Records, C: Clock, H: Held> Core<K, C, H> {
             (entry_of command self.new.state.last result self.new.state.faults))) self.old.tables }
         ensures holds { ForSome self.new.tables (λ t. Holds t self.new.state) }
         ensures settled { IsSettled (shown_command command) (shown_reply result) self.new.unsettled }
+        ensures cause { HasReplyCause self.old.state.faults self.new.state.faults (shown_reply result) }
         ensures answer { IsAnswerTo self.old.settings (shown_command command) (shown_reply result) }
         ensures settings { self.new.settings ≡ self.old.settings }
         ensures calls { self.new.calls ≡ min (self.old.calls + 1) last_count }

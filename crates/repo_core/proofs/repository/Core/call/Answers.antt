@@ -1,7 +1,8 @@
 use Rattle.std.proofs.Common.{◌≡◌, [], ◌∷◌, subst, sym}
+use Rattle.hosted_repo.specs.Recording.{HasReplyCause}
 use Rattle.repo_model.specs.Effect.{recorded}
 use Rattle.repo_model.specs.History.{Entry, Fits, after, effects_of}
-use Rattle.repo_model.specs.Shown.{entry_of, shown_command}
+use Rattle.repo_model.specs.Shown.{entry_of, shown_command, shown_reply}
 use Rattle.repo_laws.specs.Laws.{KeepsReleases}
 use Rattle.repo_laws.proofs.Lasting.{releases-last}
 use Rattle.row_tables.specs.Commits.{tables_with}
@@ -68,3 +69,7 @@ returns-clause-sound g c =
     let old : Whole = whole_of c.self.inside.machine (g.K.Records.tables c.self.inside.records) (g.K.Records.unsettled c.self.inside.records) (g.K.Records.faults c.self.inside.records) in
     let new : Whole = whole_of c.call.new.self (g.K.Records.tables c.call.new.records) (g.K.Records.unsettled c.call.new.records) faults in
     (kept-more old new (entry_of c.args.command c.call.new.self.state.last c.call.result faults) c.self.invariant.kept c.call.ensures.fits c.call.ensures.after c.call.ensures.settings c.call.ensures.tables).sound
+
+pub returns-clause-cause : goal.returns-clause-cause
+returns-clause-cause g c =
+    subst (λ (w : Whole). HasReplyCause w.state.faults (g.K.Records.faults c.call.new.records) (shown_reply c.call.result)) c.self.view_is c.call.ensures.cause
