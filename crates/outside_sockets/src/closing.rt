@@ -1,15 +1,15 @@
 //! How a connection is closed whose peer may still be sending.
-use std::io::Read;
+use std::io::{ErrorKind, Read};
 use std::net::{OpenStream, Shutdown};
 use std::time::{Clock, Duration, Instant};
 
 // How long a peer is listened to that goes on sending, in seconds.
 const MOST_TIME: u64 = 2;
 
-// How many bytes one read drops at most, and how many reads there are.
-const PIECE: usize = 8192;
+// How many bytes are dropped, but for those of the last read, and how many one read drops at most.
+const MOST_BYTES: usize = 16_777_216;
 
-const MOST_PIECES: u32 = 2048;
+const PIECE: usize = 8192;
 
 // How much of that time is left.
 fn time_left(timer: &impl Clock, since: &Instant) -> Option<Duration> {
@@ -18,13 +18,15 @@ fn time_left(timer: &impl Clock, since: &Instant) -> Option<Duration> {
     if left.is_zero() { None } else { Some(left) }
 }
 
-// Drops what comes next; none where nothing comes any more.
-fn drop_piece<N: OpenStream + Read>(stream: &mut N, left: Duration) -> Option<()> {
+// Drops what comes next, and says how many bytes; none where nothing comes any more.
+fn drop_piece<N: OpenStream + Read>(stream: &mut N, left: Duration) -> Option<usize> {
     stream.set_read_timeout(Some(left)).ok()?;
     let mut piece = [0; PIECE];
     match stream.read(&mut piece) {
-        Ok(0) | Err(_) => None,
-        Ok(_) => Some(()),
+        Ok(0) => None,
+        Ok(count) => Some(count),
+        Err(error) if error.kind() == ErrorKind::Interrupted => Some(0),
+        Err(_) => None,
     }
 }
 
@@ -37,11 +39,16 @@ pub fn linger<N: OpenStream + Read>(stream: &mut N, timer: &impl Clock) {
     if stream.shutdown(Shutdown::Write).is_err() {
         return;
     }
-    for _ in 0..MOST_PIECES {
+    let mut dropped = 0usize;
+    for _ in 0..MOST_BYTES {
         let Some(left) = time_left(timer, &since) else {
             return;
         };
-        if drop_piece(stream, left).is_none() {
+        let Some(count) = drop_piece(stream, left) else {
+            return;
+        };
+        dropped = dropped.saturating_add(count);
+        if dropped >= MOST_BYTES {
             return;
         }
     }

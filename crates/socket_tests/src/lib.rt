@@ -4,6 +4,8 @@
 #[cfg(test)]
 mod accepting;
 #[cfg(test)]
+mod closing;
+#[cfg(test)]
 mod connections;
 #[cfg(test)]
 mod timers;
