@@ -4,20 +4,25 @@ ghost use Rattle.data_folder.specs.Faults.{faults_of};
 
 use crate::disk::FolderDisk;
 use outside::NoMemory;
-use outside_system::FolderBlobs;
+use outside_system::{FolderBlobs, clear_parts};
 use record_disk::FileDisk;
 use std::fs::{self, File, Files, OpenFile, OpenOptions};
 use std::io::{self, ErrorKind};
 
-// Makes a folder that is missing. Its name is kept before it returns: `..` of a folder is the one that has its name.
+// Makes a folder that is missing. Its name is kept before it returns: `..` of a folder is the one that has its name. So is
+// that of a folder which stood before, since an earlier run may have stopped right behind making it; but where the one above
+// may not be read, it was made by somebody else.
 fn make_folder<R: Files + AllocGlobal>(rt: &R, folder: &str) -> io::Result<()> {
-    match fs::create_dir(rt, folder) {
-        Ok(()) => {
-            let above = format!(in rt.alloc(); "{folder}/..")?;
-            fs::open(rt, above.as_str())?.sync_all()
-        }
-        Err(error) if error.kind() == ErrorKind::AlreadyExists => Ok(()),
-        Err(error) => Err(error),
+    let is_new = match fs::create_dir(rt, folder) {
+        Ok(()) => true,
+        Err(error) if error.kind() == ErrorKind::AlreadyExists => false,
+        Err(error) => return Err(error),
+    };
+    let above = format!(in rt.alloc(); "{folder}/..")?;
+    match fs::open(rt, above.as_str()) {
+        Ok(above) => above.sync_all(),
+        Err(error) if is_new => Err(error),
+        Err(_) => Ok(()),
     }
 }
 
@@ -36,13 +41,17 @@ fn lock_of<R: Files<File = File> + AllocGlobal>(rt: &R, folder: &str) -> io::Res
     Ok(lock)
 }
 
-fn locked_disk<R: Files<File = File> + AllocGlobal>(rt: &R, folder: &str) -> io::Result<FolderDisk>
+fn locked_disk<R: Files<File = File> + AllocGlobal + Clone + Drop>(
+    rt: &R,
+    folder: &str,
+) -> io::Result<FolderDisk>
     ensures { IfOk result (λ disk. faults_of disk ≡ 0) }
 {
     make_folder(rt, folder)?;
     let lock = lock_of(rt, folder)?;
     let blobs = format!(in rt.alloc(); "{folder}/blobs")?;
     make_folder(rt, blobs.as_str())?;
+    clear_parts(rt, blobs.as_str())?;
     let rows = format!(in rt.alloc(); "{folder}/rows")?;
     let file = open_file(rt, rows.as_str())?;
     let disk = FileDisk::new(file, fs::open(rt, folder)?);
@@ -52,7 +61,10 @@ fn locked_disk<R: Files<File = File> + AllocGlobal>(rt: &R, folder: &str) -> io:
 /// The file `rows` of the folder at this path, for as long as nobody else has it. The folder, its folder `blobs` and the
 /// file are made where they are missing. Where one of these cannot be made, opened, read or written, or another process has
 /// the lock of the folder, each call of what is given fails and is counted.
-pub fn open_disk<R: Files<File = File> + AllocGlobal>(rt: &R, folder: &str) -> FolderDisk
+pub fn open_disk<R: Files<File = File> + AllocGlobal + Clone + Drop>(
+    rt: &R,
+    folder: &str,
+) -> FolderDisk
     ensures { faults_of result ≡ 0 }
 {
     match locked_disk(rt, folder) {

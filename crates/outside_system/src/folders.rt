@@ -87,6 +87,28 @@ fn has_file<R: Files + AllocGlobal>(rt: &R, folder: &str, blob: u64) -> io::Resu
     }
 }
 
+// Removes the file of a name that ends in `.part`, where the system allows it.
+fn clear_part<R: Files + AllocGlobal>(rt: &R, folder: &str, name: &str) -> io::Result<()> {
+    if name.ends_with(".part") {
+        let path = format!(in rt.alloc(); "{folder}/{name}")?;
+        let _ = fs::remove_file(rt, path.as_str());
+    }
+    Ok(())
+}
+
+/// Removes what stores that were stopped have left in the folder of blobs at this path, where the system allows it: the files
+/// whose names end in `.part`. Nobody may be storing there.
+pub fn clear_parts<R: Files + AllocGlobal + Clone + Drop>(rt: &R, folder: &str) -> io::Result<()> {
+    for entry in fs::read_dir(rt, folder)? {
+        match entry {
+            Ok(entry) => clear_part(rt, folder, entry.file_name())?,
+            Err(error) if error.kind() == ErrorKind::InvalidFilename => {}
+            Err(error) => return Err(error),
+        }
+    }
+    Ok(())
+}
+
 // The numbers that are names of files, in rising order. Files with other names are passed over, and folders.
 fn numbers_in<R: Files + AllocGlobal + Clone + Drop>(rt: &R, folder: &str) -> io::Result<Vec<u64>>
     ensures { IfOk result (λ numbers. IsSorted nat_cmp numbers.items) }

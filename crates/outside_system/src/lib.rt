@@ -9,5 +9,5 @@ mod standard;
 
 pub use clocks::SystemClock;
 pub use files::{OpenedFile, file_source};
-pub use folders::{FolderBlobs, FolderHeld};
+pub use folders::{FolderBlobs, FolderHeld, clear_parts};
 pub use standard::{ReaderSource, WriterSink};

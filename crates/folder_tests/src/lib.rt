@@ -1,0 +1,5 @@
+//! Tests of the folder in which a program keeps what outlasts it.
+#![tactic(auto)]
+
+#[cfg(test)]
+mod openings;
