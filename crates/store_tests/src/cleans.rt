@@ -1,9 +1,17 @@
 // Cleanings: what a pass unlists and removes, and why a repository is not opened.
-use crate::stock::{DAMAGED, ONE_FILE, journal_over, run_over, stage_of};
+use crate::stock::{DAMAGED, ONE_FILE, Over, Stage, journal_over, run_over, stage_of, store_of};
 use outside_memory::{FaultScript, MemBlobs};
+use record_disk::MemDisk;
+use record_journal::Journal;
+use repo_run::Ran;
 use row_tables::MemRecords;
+use run_desks::Cleaner;
 use std::alloc::Global;
 use std::test::Fail;
+
+// Two builds of one snapshot, each a jar of `abc`: the older one with blob 1, the newer one with blob 2.
+const TWO_BUILDS: &[u8] =
+    b"MVNROWS1\x01\0\0\x01\x07\x01\0\0\0\x02\x01\0\x09snapshots\07org/acme/lib/1.1-SNAPSHOT/lib-1.1-20240229.235959-1.jar\0\0\0\0\0\0\0\x01\0\0\0\0\0\0\0\x03\xa9\x99>6G\x06\x81j\xba>%qxP\xc2l\x9c\xd0\xd8\x9d\x90\x01P\x98<\xd2O\xb0\xd6\x96?}(\xe1\x7fr\0\0\0\0e\xe0q\xc0\x01\0\x09snapshots\07org/acme/lib/1.1-SNAPSHOT/lib-1.1-20240301.080000-2.jar\0\0\0\0\0\0\0\x02\0\0\0\0\0\0\0\x03\xa9\x99>6G\x06\x81j\xba>%qxP\xc2l\x9c\xd0\xd8\x9d\x90\x01P\x98<\xd2O\xb0\xd6\x96?}(\xe1\x7fr\0\0\0\0e\xe0q\xc0\0";
 
 #[test]
 fn nothing_is_cleaned(rt: HostRuntime) -> Result<(), Fail> {
@@ -60,5 +68,61 @@ fn failures_are_told(rt: HostRuntime) -> Result<(), Fail> {
     stage.garbage = MemBlobs::new(alloc, FaultScript::failing_at(vec![in alloc; 0]?));
     let blobs = run_over(alloc, "clean", stage)?;
     assert!(rt; blobs.said("mvnrepod: store\n", 4));
+    Ok(())
+}
+
+fn stage_at(
+    alloc: Global,
+    records: Journal<MemDisk>,
+    garbage: MemBlobs,
+    at: u64,
+) -> Result<Stage<Journal<MemDisk>>, Fail> {
+    let mut stage = stage_of(alloc, records, &[])?;
+    stage.garbage = garbage;
+    stage.at = at;
+    Ok(stage)
+}
+
+// What a run leaves of the store: its records, and the cleaner's blobs.
+fn left_by(over: Over<Journal<MemDisk>>) -> (Journal<MemDisk>, MemBlobs) {
+    let Over { ran, out: _ } = over;
+    let Ran {
+        status: _,
+        desks: _,
+        cleaner,
+        records,
+        clock: _,
+    } = ran;
+    let Cleaner { blobs, pace: _ } = cleaner;
+    (records, blobs)
+}
+
+// The pass unlists the older build; one that comes more than the grace later takes it away, and a start after it reads that.
+#[test]
+fn an_old_build_goes_in_two_passes(rt: HostRuntime) -> Result<(), Fail> {
+    let alloc = rt.alloc();
+    let store = store_of(alloc, &[(1, b"abc"), (2, b"abc")])?;
+    let records = journal_over(alloc, TWO_BUILDS)?;
+    let over = run_over(
+        alloc,
+        "clean",
+        stage_at(alloc, records, store, 1_709_300_000)?,
+    )?;
+    assert!(rt; over.said("unlisted 1\nremoved 0\n", 0));
+    let (records, store) = left_by(over);
+    let over = run_over(
+        alloc,
+        "clean",
+        stage_at(alloc, records, store, 1_709_300_061)?,
+    )?;
+    assert!(rt; over.said("unlisted 0\nremoved 1\n", 0));
+    let (records, store) = left_by(over);
+    assert_eq!(rt; store.removed(), [1].as_slice());
+    let over = run_over(
+        alloc,
+        "clean",
+        stage_at(alloc, records, store, 1_709_300_061)?,
+    )?;
+    assert!(rt; over.said("unlisted 0\nremoved 0\n", 0));
     Ok(())
 }
