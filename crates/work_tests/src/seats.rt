@@ -1,0 +1,183 @@
+// Two seats at the turns of a repository in memory.
+ghost use Rattle.std.specs.Prelude.{◌≡◌, ◌^◌, IfOk};
+ghost use Rattle.repo_model.specs.Shown.{shown_command, shown_reply};
+ghost use Rattle.turn_lock.specs.History.{IsStep};
+ghost use Rattle.turn_lock.specs.Seats.{opening, parts_of, IsSeatOf};
+
+use crate::literals::SETTINGS;
+use mvn_digest::Hashes;
+use outside::{Blobs, Parcel};
+use outside_memory::{FaultScript, MemBlobs, MemHeld, ScriptClock};
+use repo_config::Settings;
+use repo_core::Core;
+use repo_model::{Command, Place, Reply};
+use repo_run::begin;
+use row_tables::MemRecords;
+use std::alloc::{AllocError, Global};
+use std::sync::Wait;
+use std::test::Fail;
+use texts::Text;
+use turn_lock::{Seat, Turns, close};
+use turn_seats::Repository;
+
+const PATH: &str = "org/acme/lib/1.0/lib-1.0.jar";
+
+type MemCore = Core<MemRecords, ScriptClock, MemHeld>;
+
+// What came of three commands.
+#[derive(Drop)]
+struct Told {
+    drawn: Option<Reply<MemHeld>>,
+    put: Option<Reply<MemHeld>>,
+    found: Option<Reply<MemHeld>>,
+    calls: u64,
+}
+
+// What a seat is told; nothing where the command does not fit the settings.
+fn ask<T: Repository<Call = Command<MemHeld>, Reply = Reply<MemHeld>>, W: Wait>(
+    rt: &W,
+    turns: &Turns<T>,
+    settings: &Settings,
+    seat: &mut Seat<T>,
+    command: Command<MemHeld>,
+) -> Option<Reply<MemHeld>>
+    requires asked { (call : _) → T.sight.asked call ≡ shown_command call }
+    requires seat { IsSeatOf (IsStep T.fixed T.may_ask T.turned) turns.now seat.old }
+    requires settings { T.sight.settings (opening turns.now) ≡ settings.now }
+    ensures seat { IsSeatOf (IsStep T.fixed T.may_ask T.turned) turns.now seat.new }
+    ensures parts { parts_of seat.new ≡ parts_of seat.old }
+{
+    if !MemCore::fits(settings, &command) {
+        return None;
+    }
+    Some(seat.call(rt, turns, command))
+}
+
+// One seat asks the first two commands and makes a note; the other learns it, and asks the third.
+fn ask_by_two<T: Repository<Call = Command<MemHeld>, Reply = Reply<MemHeld>>, W: Wait>(
+    rt: &W,
+    turns: Turns<T>,
+    settings: &Settings,
+    seat: Seat<T>,
+    commands: (Command<MemHeld>, Command<MemHeld>, Command<MemHeld>),
+) -> (T, Told)
+    requires asked { (call : _) → T.sight.asked call ≡ shown_command call }
+    requires seat { IsSeatOf (IsStep T.fixed T.may_ask T.turned) turns seat }
+    requires parts { parts_of seat ≡ 2 ^ 64 }
+    requires settings { T.sight.settings (opening turns) ≡ settings.now }
+{
+    let (may_put, put, look) = commands;
+    let mut first = seat;
+    let mut second = first.split(&turns, 7);
+    let drawn = ask(rt, &turns, settings, &mut first, may_put);
+    let put = ask(rt, &turns, settings, &mut first, put);
+    let note = first.note(&turns);
+    second.learn(&turns, note);
+    let found = ask(rt, &turns, settings, &mut second, look);
+    first.join(&turns, second);
+    let (thing, calls) = close(turns, first);
+    let told = Told {
+        drawn,
+        put,
+        found,
+        calls,
+    };
+    (thing, told)
+}
+
+fn settings_of(alloc: Global) -> Result<Settings, Fail> {
+    match repo_config::read(alloc, SETTINGS.as_bytes()) {
+        Ok(settings) => Ok(settings),
+        Err(_) => Err("settings")?,
+    }
+}
+
+// A repository over nothing.
+fn core_of(alloc: Global, settings: &Settings, blobs: &mut MemBlobs) -> Result<MemCore, Fail>
+    ensures { IfOk result (λ core. core.settings ≡ settings.now) }
+{
+    let records = MemRecords::new(alloc, Vec::new(alloc));
+    let clock = ScriptClock::stepping(alloc, 1_709_208_000, 1);
+    match begin(alloc, settings, records, blobs, clock) {
+        Ok(core) => Ok(core),
+        Err(_) => Err("no start")?,
+    }
+}
+
+fn may_put(alloc: Global) -> Result<Command<MemHeld>, AllocError> {
+    let repo = Text::new(alloc, "releases")?;
+    let path = Text::new(alloc, PATH)?;
+    Ok(Command::MayPut {
+        place: Place::Repository(repo),
+        path,
+    })
+}
+
+fn look(alloc: Global) -> Result<Command<MemHeld>, AllocError> {
+    let repo = Text::new(alloc, "releases")?;
+    let path = Text::new(alloc, PATH)?;
+    Ok(Command::Look { repo, path })
+}
+
+// The bytes `abc`, stored under the first draft.
+fn put(alloc: Global, blobs: &mut MemBlobs) -> Result<Command<MemHeld>, Fail> {
+    let mut hashes = Hashes::new();
+    hashes.update(b"abc");
+    let parcel = Parcel {
+        blob: 1,
+        held: blobs.store(1, b"abc")?,
+        length: 3,
+        digests: hashes.finish(),
+    };
+    let repo = Text::new(alloc, "releases")?;
+    let path = Text::new(alloc, PATH)?;
+    Ok(Command::Put {
+        repo,
+        path,
+        draft: 1,
+        parcel,
+    })
+}
+
+// The draft, the file under it, and the look at it.
+fn commands_of(
+    alloc: Global,
+    blobs: &mut MemBlobs,
+) -> Result<(Command<MemHeld>, Command<MemHeld>, Command<MemHeld>), Fail> {
+    Ok((may_put(alloc)?, put(alloc, blobs)?, look(alloc)?))
+}
+
+// What two seats of a repository over nothing are told.
+fn told_by_two<W: Wait>(rt: &W, alloc: Global) -> Result<Told, Fail> {
+    let settings = settings_of(alloc)?;
+    let mut blobs = MemBlobs::new(alloc, FaultScript::none(alloc));
+    let core = core_of(alloc, &settings, &mut blobs)?;
+    let commands = commands_of(alloc, &mut blobs)?;
+    let Ok((turns, seat)) = Turns::begin(alloc, core) else {
+        return Err("memory".into());
+    };
+    let (_, told) = ask_by_two(rt, turns, &settings, seat, commands);
+    Ok(told)
+}
+
+// Whether this is the file `abc`, lent for the first time.
+fn is_abc(found: &Option<Reply<MemHeld>>) -> bool {
+    match found {
+        Some(Reply::File { lease, parcel }) => {
+            *lease == 1
+                && parcel.length == 3
+                && parcel.digests.sha1_text() == *b"a9993e364706816aba3e25717850c26c9cd0d89d"
+        }
+        _ => false,
+    }
+}
+
+#[test]
+fn a_seat_finds_what_it_learns_was_put(rt: HostRuntime) -> Result<(), Fail> {
+    let told = told_by_two(&rt, rt.alloc())?;
+    assert_eq!(rt; told.calls, 3);
+    assert!(rt; matches!(&told.drawn, Some(Reply::Draft(1))));
+    assert!(rt; matches!(&told.put, Some(Reply::Created)));
+    assert!(rt; is_abc(&told.found));
+    Ok(())
+}
