@@ -1,0 +1,112 @@
+use crate::rows::Rows;
+use crate::steps::Form;
+use mvn_digest::Hashes;
+use outside::{Blobs, Parcel};
+use outside_memory::{FaultScript, MemBlobs, MemHeld};
+use repo_core::{Command, Place};
+use std::alloc::{AllocError, Global};
+use texts::Text;
+
+/// The content of all files.
+const CONTENT: &[u8] = b"abc";
+
+/// What commands are made of.
+#[derive(Drop)]
+pub struct Maker {
+    alloc: Global,
+    rows: Rows,
+    blobs: MemBlobs,
+}
+
+impl Maker {
+    pub fn new(alloc: Global, rows: Rows) -> Maker {
+        Maker {
+            alloc,
+            rows,
+            blobs: MemBlobs::new(alloc, FaultScript::none(alloc)),
+        }
+    }
+
+    // A blob of its own, under a number. The store keeps the last one alone.
+    fn parcel(&mut self, blob: u64) -> Result<Parcel<MemHeld>, AllocError> {
+        let mut hashes = Hashes::new();
+        hashes.update(CONTENT);
+        let Ok(held) = self.blobs.store(1, CONTENT) else {
+            return Err(AllocError);
+        };
+        Ok(Parcel {
+            blob,
+            held,
+            length: CONTENT.len() as u64,
+            digests: hashes.finish(),
+        })
+    }
+
+    fn repo(&self) -> Result<Text, AllocError> {
+        Text::new(self.alloc, self.rows.repository())
+    }
+
+    fn path(&self, n: u64) -> Result<Text, AllocError> {
+        Text::new(self.alloc, self.rows.path(self.alloc, n)?.as_str())
+    }
+
+    fn look(&self, path: &str) -> Result<Command<MemHeld>, AllocError> {
+        Ok(Command::Look {
+            repo: self.repo()?,
+            path: Text::new(self.alloc, path)?,
+        })
+    }
+
+    // A file at the path of the `n`th turn, under a draft: of the repository, or of the session 1.
+    fn file(&mut self, n: u64, draft: u64, staged: bool) -> Result<Command<MemHeld>, AllocError> {
+        let path = self.path(n)?;
+        let parcel = self.parcel(draft)?;
+        if staged {
+            return Ok(Command::Stage {
+                session: 1,
+                path,
+                draft,
+                parcel,
+            });
+        }
+        Ok(Command::Put {
+            repo: self.repo()?,
+            path,
+            draft,
+            parcel,
+        })
+    }
+
+    /// The command of the `n`th turn, with the number that one before it gave.
+    pub fn command(
+        &mut self,
+        form: Form,
+        n: u64,
+        number: u64,
+    ) -> Result<Command<MemHeld>, AllocError> {
+        match form {
+            Form::Look | Form::Lease => self.look(self.rows.path(self.alloc, n)?.as_str()),
+            Form::Document => self.look(self.rows.document(self.alloc, n)?.as_str()),
+            Form::Group => self.look("org/acme/maven-metadata.xml"),
+            Form::Above => self.look("org/maven-metadata.xml"),
+            Form::MayPut => {
+                let place = Place::Repository(self.repo()?);
+                let path = self.path(n)?;
+                Ok(Command::MayPut { place, path })
+            }
+            Form::MayStage => {
+                let place = Place::Session(1);
+                let path = self.path(n)?;
+                Ok(Command::MayPut { place, path })
+            }
+            Form::Put => self.file(n, number, false),
+            Form::Stage => self.file(n, number, true),
+            Form::Done => Ok(Command::Done { lease: number }),
+            Form::OpenSession => Ok(Command::Open { repo: self.repo()? }),
+            Form::Commit => Ok(Command::Commit { session: 1 }),
+            Form::Unlist => Ok(Command::Unlist { repo: self.repo()? }),
+            Form::Collect => Ok(Command::Collect),
+            Form::Status => Ok(Command::Status),
+        }
+    }
+}
