@@ -11,4 +11,6 @@ mod folders;
 #[cfg(test)]
 mod restarts;
 #[cfg(test)]
+mod sessions;
+#[cfg(test)]
 mod stock;

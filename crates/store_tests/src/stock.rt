@@ -64,6 +64,34 @@ impl<K: Records + Drop> Over<K> {
         records
     }
 
+    /// A stage that has what the run has left, and a connection with this input.
+    pub fn into_stage(self, input: &'static str) -> Result<Stage<K>, Fail> {
+        let Over { ran, out: _ } = self;
+        let Ran {
+            status: _,
+            mut desks,
+            cleaner,
+            records,
+            clock: _,
+        } = ran;
+        let Cleaner {
+            blobs: garbage,
+            pace: _,
+        } = cleaner;
+        let Some(desk) = desks.pop() else {
+            return Err("no desk")?;
+        };
+        let Desk { port: _, blobs } = desk;
+        Ok(Stage {
+            input,
+            blobs,
+            garbage,
+            records,
+            at: 1_709_208_000,
+            room: 2_000,
+        })
+    }
+
     /// What was written on the first connection that was given back.
     pub fn answers(&self) -> &[u8] {
         match self.ran.desks.get(0) {
