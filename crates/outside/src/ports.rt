@@ -1,5 +1,5 @@
-ghost use Rattle.std.specs.Prelude.{◌≡◌, ℕ, List, [], ◌∷◌, Option, None, option_to_list, IfOk, IfNone, OnSome, OnErr};
-ghost use Rattle.outside.specs.Faults.{HasCause};
+ghost use Rattle.std.specs.Prelude.{◌≡◌, ◌+◌, ℕ, List, [], ◌∷◌, Option, None, min, option_to_list, IfOk, IfNone, OnSome, OnErr};
+ghost use Rattle.outside.specs.Faults.{HasCause, last_count};
 ghost use Rattle.outside.specs.Told.{in_front, behind, IsAtEnd};
 
 use crate::faults::Failed;
@@ -25,6 +25,9 @@ pub trait Port {
     /// Waits for the next connection. None comes exactly where none is left.
     fn next(&mut self) -> Result<Option<Self::Link>, Failed>
         ensures cause { HasCause (faults self.old) (faults self.new) result }
+
+        // A failed call is counted once.
+        ensures once { OnErr result (faults self.new ≡ min (faults self.old + 1) last_count) }
 
         // The connection is the first of those that were left. A failed call takes none.
         ensures given { IfOk result (λ link. left self.old ≡ in_front (option_to_list link) (left self.new)) }

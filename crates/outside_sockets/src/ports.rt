@@ -1,6 +1,6 @@
 //! The listener.
-ghost use Rattle.std.specs.Prelude.{◌≡◌, None, IfOk, IsOk, IsSome, OnSome};
-ghost use Rattle.outside.specs.Faults.{HasCause};
+ghost use Rattle.std.specs.Prelude.{◌≡◌, ◌+◌, None, min, IfOk, IsOk, IsSome, OnErr, OnSome};
+ghost use Rattle.outside.specs.Faults.{HasCause, last_count};
 
 use crate::links::TcpLink;
 use outside::{Failed, Port};
@@ -130,6 +130,7 @@ impl<R: Net + Clock + Clone + Drop> Port for TcpPort<R> {
 
     fn next(&mut self) -> Result<Option<TcpLink<R::Stream, R>>, Failed>
         ensures cause { HasCause self.old self.new result }
+        ensures once { OnErr result (self.new ≡ min (self.old + 1) last_count) }
         ensures some { IfOk result (λ link. IsSome link) }
     {
         let accepted = match &self.listener {
