@@ -1,8 +1,8 @@
 -- What a desk does: the connections that its port hands out, one after another, each served as a stream; its seat's entries are theirs.
-use Rattle.std.specs.Prelude.{◌≡◌, ℕ, Bool, true, false, List, [], ◌∷◌, map, Option}
+use Rattle.std.specs.Prelude.{◌≡◌, ◌+◌, ℕ, Bool, true, false, List, [], ◌∷◌, map, min, Option}
 use Rattle.std.specs.List.{flat_map}
 use Rattle.outside.specs.declared.tells.Tells.{Ghosts}
-use Rattle.outside.specs.Faults.{Rose}
+use Rattle.outside.specs.Faults.{last_count}
 use Rattle.outside.specs.Told.{in_front, behind, IsAtEnd}
 use Rattle.repo_model.specs.History.{Entry}
 use Rattle.repo_model.specs.Settings.{Settings}
@@ -43,7 +43,7 @@ pub record Attended {L P T C R : Type 0} (G : Ghosts L) (settings : Settings) (t
   pub came : left port ≡ in_front (map (λ (v : Visit L). v.came) visits) (left port')
   pub went : given_back port' ≡ behind (given_back port) (map (λ (v : Visit L). v.went) visits)
 
--- a port failed, and its count rose; or no connection is left, where it tells them
+-- a port failed, once, and was asked for nothing afterwards; or no connection is left, where it tells them
 abbrev pub IsOver : {L : Type 0} → Bool → Option (List L) → ℕ → ℕ → Type 0
-IsOver true left before after = Rose before after
+IsOver true left before after = after ≡ min (before + 1) last_count
 IsOver false left before after = (after ≡ before) × IsAtEnd left
