@@ -3,7 +3,7 @@ ghost use Rattle.std.specs.Prelude.{◌≡◌, IfOk};
 ghost use Rattle.data_folder.specs.Faults.{faults_of};
 
 use crate::disk::FolderDisk;
-use outside::NoMemory;
+use outside::{Blobs, NoMemory};
 use outside_system::{FolderBlobs, clear_parts};
 use record_disk::FileDisk;
 use std::fs::{self, File, Files, OpenFile, OpenOptions};
@@ -41,6 +41,32 @@ fn lock_of<R: Files<File = File> + AllocGlobal>(rt: &R, folder: &str) -> io::Res
     Ok(lock)
 }
 
+// Whether there is nothing at a path.
+fn is_missing<R: Files>(rt: &R, path: &str) -> io::Result<bool> {
+    match fs::metadata(rt, path) {
+        Ok(_) => Ok(false),
+        Err(error) if error.kind() == ErrorKind::NotFound => Ok(true),
+        Err(error) => Err(error),
+    }
+}
+
+// Whether a folder has contents and no file of records. No run leaves it so, since the name of that file is kept before any
+// content is stored; and a start over a new one would remove all of them.
+fn has_contents_alone<R: Files + AllocGlobal + Clone + Drop>(
+    rt: &R,
+    folder: &str,
+    rows: &str,
+) -> io::Result<bool> {
+    if !is_missing(rt, rows)? {
+        return Ok(false);
+    }
+    let listed = blobs_in(rt, folder)?.list();
+    match listed {
+        Ok(numbers) => Ok(!numbers.is_empty()),
+        Err(_) => Ok(true),
+    }
+}
+
 fn locked_disk<R: Files<File = File> + AllocGlobal + Clone + Drop>(
     rt: &R,
     folder: &str,
@@ -53,14 +79,17 @@ fn locked_disk<R: Files<File = File> + AllocGlobal + Clone + Drop>(
     make_folder(rt, blobs.as_str())?;
     clear_parts(rt, blobs.as_str())?;
     let rows = format!(in rt.alloc(); "{folder}/rows")?;
+    if has_contents_alone(rt, folder, rows.as_str())? {
+        return Err(io::Error::from(ErrorKind::NotFound));
+    }
     let file = open_file(rt, rows.as_str())?;
     let disk = FileDisk::new(file, fs::open(rt, folder)?);
     Ok(FolderDisk::Open { disk, lock })
 }
 
 /// The file `rows` of the folder at this path, for as long as nobody else has it. The folder, its folder `blobs` and the
-/// file are made where they are missing. Where one of these cannot be made, opened, read or written, or another process has
-/// the lock of the folder, each call of what is given fails and is counted.
+/// file are made where they are missing, the file only where `blobs` has no contents. Where one of these cannot be made,
+/// opened, read or written, or another process has the lock of the folder, each call of what is given fails and is counted.
 pub fn open_disk<R: Files<File = File> + AllocGlobal + Clone + Drop>(
     rt: &R,
     folder: &str,

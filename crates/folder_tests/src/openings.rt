@@ -110,6 +110,7 @@ fn parts_are_cleared(rt: HostRuntime) -> Result<(), Fail> {
     let folder = "folder_tests_parts";
     let _ = fs::remove_dir_all(&rt, folder);
     fs::create_dir_all(&rt, "folder_tests_parts/blobs")?;
+    fs::write(&rt, "folder_tests_parts/rows", "")?;
     fs::write(&rt, "folder_tests_parts/blobs/7", "abc")?;
     fs::write(&rt, "folder_tests_parts/blobs/8.part", "left over")?;
     fs::write(&rt, "folder_tests_parts/blobs/9", "abd")?;
@@ -140,5 +141,22 @@ fn parts_stay_where_another_has_the_lock(rt: HostRuntime) -> Result<(), Fail> {
     drop(first);
     fs::remove_dir_all(&rt, folder)?;
     assert!(rt; stays);
+    Ok(())
+}
+
+// Contents whose file of records is missing are not taken for left-overs: nothing is opened, made or removed.
+#[test]
+fn contents_alone_are_refused(rt: HostRuntime) -> Result<(), Fail> {
+    let folder = "folder_tests_alone";
+    let _ = fs::remove_dir_all(&rt, folder);
+    fs::create_dir_all(&rt, "folder_tests_alone/blobs")?;
+    fs::write(&rt, "folder_tests_alone/blobs/7", "abc")?;
+    let mut disk = open_disk(&rt, folder);
+    let refused = disk.sync().is_err();
+    drop(disk);
+    let stays = fs::metadata(&rt, "folder_tests_alone/blobs/7").is_ok();
+    let made = fs::metadata(&rt, "folder_tests_alone/rows").is_ok();
+    fs::remove_dir_all(&rt, folder)?;
+    assert!(rt; refused && stays && !made);
     Ok(())
 }
