@@ -195,6 +195,7 @@ impl Wire {
         ensures unread { unread self.new (S.left source.new) ≡ unread self.old (S.left source.old) }
         ensures found { IfOk result (IsHeld self.new (S.left source.new)) }
         ensures unasked { IsSome (head_place self.old) → source.new ≡ source.old }
+        ensures needed { OnErr result (head_place self.new ≡ None) }
         ensures taken { S.taken source.new ≡ S.taken source.old }
         ensures write_faults { S.write_faults source.new ≡ S.write_faults source.old }
     {
@@ -275,8 +276,10 @@ impl Wire {
             → BeginsWithHead (unread self.old (S.left source.old)) }
         ensures faults { CountsFaults (S.read_faults source.old) (S.read_faults source.new) result }
 
-        // Where the wire holds a whole head the source isn't read.
+        // Where the wire holds a whole head the source isn't read, also where this call read that head: any read may
+        // fail, and none fails over a whole head.
         ensures unasked { IsSome (head_place self.old) → source.new ≡ source.old }
+        ensures needed { result ≡ Err WireFault.SourceFault → head_place self.new ≡ None }
 
         // Without a request nothing is used up.
         ensures kept_at_end { IfOk result (λ given. IfNone given
