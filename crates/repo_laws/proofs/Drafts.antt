@@ -1,85 +1,87 @@
--- A draft serves once: it is given up by the command that names it, and never drawn again.
+-- A draft serves once: it stands until a command that names it gives it up, and is never drawn again.
 use native.Mathlib.Omega.{arith}
-use Rattle.std.proofs.Common.{◌≡◌, ℕ, ◌<◌, true, false, not, List, [], ◌∷◌, refl, sym, ◌∙◌, ap, subst, eqb-true}
-use Rattle.std.specs.Prelude.{◌==◌}
-use Rattle.std.proofs.lemmas.Bool.{ne_eqb, and_parts}
+use Rattle.std.proofs.Common.{◌≡◌, ℕ, ◌<◌, Bool, true, false, not, cond, ◌&&◌, ◌||◌, List, [], ◌∷◌, ◌++◌, length, refl, sym, ◌∙◌, ap, subst, eqb-true}
+use Rattle.std.specs.Prelude.{◌==◌, IsTrue}
+use Rattle.std.specs.List.{AllByRecursion, list_any}
+use Rattle.std.proofs.lemmas.Bool.{false≢true, ne_eqb, eq-eqb, and_parts, or_left, or_right}
+use Rattle.std.proofs.lemmas.List.Folds.{list_any-append}
+use Rattle.repo_model.specs.declared.session.SessionResult.TheVariants.{Aborted, Done}
 use Rattle.repo_model.specs.Data.{Blob}
 use Rattle.repo_model.specs.Settings.{Settings}
 use Rattle.repo_model.specs.Paths.{takes}
-use Rattle.repo_model.specs.State.{State, is_among}
-use Rattle.repo_model.specs.Effect.{Effect, draws, drops, creates, stages, relists, with_effect, with_effects}
+use Rattle.repo_model.specs.State.{State, rows_of, is_among}
+use Rattle.repo_model.specs.Effect.{Effect, draws, drops, creates, stages, relists, without_number, with_effect, with_effects}
+use Rattle.repo_model.specs.Purge.{expire_all}
 use Rattle.repo_model.specs.Command.{Command, put, stage, drop_draft, meets, is_fit, is_parcel, rule_of, is_file_path}
-use Rattle.repo_model.specs.Reply.{is_free}
-use Rattle.repo_model.specs.Turn.{Turn, turn}
-use Rattle.repo_model.specs.History.{Entry, Fits, ticked, effects_of, after}
+use Rattle.repo_model.specs.Reply.{draft, no_draft, is_free}
+use Rattle.repo_model.specs.Turn.{Turn, turn, unlent}
+use Rattle.repo_model.specs.History.{Entry, Fits, ticked, effects_of, after, Legal}
 use Rattle.repo_laws.specs.Laws.{count_of}
+use Rattle.repo_laws.specs.Replies.{uses_draft, leaves_drafts, spends}
 use Rattle.repo_laws.proofs.Counts.{one_if, count-push, count-filter, count-without_number}
 use Rattle.repo_laws.proofs.Given.{not-among-counts}
-use Rattle.repo_laws.proofs.Answered.{state-determined, draft-dropped}
-use Rattle.repo_laws.proofs.Cases.{Case, not_drawn, makes_row, has_same, lists_again, has_other, gives_up, gives_nothing_up, stage_not_drawn, stage_nowhere, stages_one, stage_full, stage_same, stage_other, turn-case}
+use Rattle.repo_laws.proofs.Making.{Bulk, deploys-made, aborts-made, unlists-made, collects-made}
+use Rattle.repo_laws.proofs.Answered.{free-none, reply-determined, state-determined, draft-dropped}
+use Rattle.repo_laws.proofs.Cases.{Case, lends_file, takes_back, gives_draft, not_drawn, makes_row, has_same, lists_again, has_other, gives_up, gives_nothing_up, opens_one, stage_not_drawn, stage_nowhere, stages_one, stage_full, stage_same, stage_other, deploys, aborts, unlists, collects, turn-case}
 
 -- it stands among no drafts once these effects are made
 abbrev Gone : ℕ → State → List Effect → Type 0
 Gone n s es = count_of n (with_effects s es).yard.drafts ≡ 0
 
+-- the blob that a command sends has its draft's number
+of-parcel : (n : ℕ) (blob : Blob) → is_parcel n blob ≡ true → blob.number ≡ n
+of-parcel n blob parcel = eqb-true blob.number n (and_parts (blob.number == n) _ parcel).0
+
+module _ (settings : Settings) where
+  of-put : (repo path : List ℕ) (n : ℕ) (blob : Blob) → meets settings (put repo path n blob) ≡ true → blob.number ≡ n
+  of-put repo path n blob fits = of-parcel n blob (and_parts (is_fit (λ rule. takes rule path) (rule_of repo settings)) (is_parcel n blob) fits).1
+
+  of-stage : (at : ℕ) (path : List ℕ) (n : ℕ) (blob : Blob) → meets settings (stage at path n blob) ≡ true → blob.number ≡ n
+  of-stage at path n blob fits = of-parcel n blob (and_parts (is_file_path path) (is_parcel n blob) fits).1
+
+-- ---- given up
 module _ (settings : Settings) (s : State) (now : ℕ) (t : State) (same : t.yard.drafts ≡ s.yard.drafts) where
-  taken-out : (n : ℕ) → count_of n (with_effect t (drops n)).yard.drafts ≡ 0
-  taken-out n = count-without_number n t.yard.drafts
+  taken-out : (n m : ℕ) → m ≡ n → count_of n (with_effect t (drops m)).yard.drafts ≡ 0
+  taken-out n m is = subst (λ k. count_of k (with_effect t (drops m)).yard.drafts ≡ 0) is (count-without_number m t.yard.drafts)
 
-  never : (n : ℕ) → is_among n s.yard.drafts ≡ false → count_of n t.yard.drafts ≡ 0
-  never n none = ap (count_of n) same ∙ not-among-counts n s.yard.drafts none
+  never : (n m : ℕ) → m ≡ n → is_among m s.yard.drafts ≡ false → count_of n t.yard.drafts ≡ 0
+  never n m is none = subst (λ k. count_of k t.yard.drafts ≡ 0) is (ap (count_of m) same ∙ not-among-counts m s.yard.drafts none)
 
-  of-blob : (n : ℕ) (blob : Blob) → is_parcel n blob ≡ true → blob.number ≡ n
-  of-blob n blob parcel = eqb-true blob.number n (and_parts (blob.number == n) _ parcel).0
-
-  -- the draft that a turn's command names
-  abbrev named_by : Command → ℕ → Type 0
-  named_by (put repo path m blob) n = (m ≡ n) × (is_parcel m blob ≡ true)
-  named_by (stage at path m blob) n = (m ≡ n) × (is_parcel m blob ≡ true)
-  named_by (drop_draft m) n = m ≡ n
-  named_by c n = ⊥
-
-  case-gone : (c : Command) (u : Turn) (n : ℕ) → Case settings s now c u → named_by c n → Gone n t u.effects
-  case-gone c u n (not_drawn repo path m blob none) named = subst (λ k. count_of k t.yard.drafts ≡ 0) named.0 (never m none)
-  case-gone c u n (makes_row repo path m blob among) named =
-      subst (λ k. count_of k (with_effect t (creates repo path blob now)).yard.drafts ≡ 0) (of-blob m blob named.1 ∙ named.0) (count-without_number blob.number t.yard.drafts)
-  case-gone c u n (has_same repo path m blob among) named = subst (λ k. Gone k t (drops m ∷ [])) named.0 (taken-out m)
-  case-gone c u n (lists_again repo path m blob among) named = subst (λ k. Gone k t (relists repo path now ∷ drops m ∷ [])) named.0 (count-without_number m t.yard.drafts)
-  case-gone c u n (has_other repo path m blob kept among) named = subst (λ k. Gone k t (drops m ∷ [])) named.0 (taken-out m)
-  case-gone c u n (gives_up m among) named = subst (λ k. Gone k t (drops m ∷ [])) named (taken-out m)
-  case-gone c u n (gives_nothing_up m none) named = subst (λ k. count_of k t.yard.drafts ≡ 0) named (never m none)
-  case-gone c u n (stage_not_drawn at path m blob none) named = subst (λ k. count_of k t.yard.drafts ≡ 0) named.0 (never m none)
-  case-gone c u n (stage_nowhere at path m blob among) named = subst (λ k. Gone k t (drops m ∷ [])) named.0 (taken-out m)
-  case-gone c u n (stages_one at path m blob number among) named =
-      subst (λ k. count_of k (with_effect t (stages number path blob)).yard.drafts ≡ 0) (of-blob m blob named.1 ∙ named.0) (count-without_number blob.number t.yard.drafts)
-  case-gone c u n (stage_full at path m blob among) named = subst (λ k. Gone k t (drops m ∷ [])) named.0 (taken-out m)
-  case-gone c u n (stage_same at path m blob among) named = subst (λ k. Gone k t (drops m ∷ [])) named.0 (taken-out m)
-  case-gone c u n (stage_other at path m blob kept among) named = subst (λ k. Gone k t (drops m ∷ [])) named.0 (taken-out m)
-  case-gone c u n case named = absurd named
+  case-gone : (c : Command) (u : Turn) (n : ℕ) → Case settings s now c u → meets settings c ≡ true → uses_draft n c ≡ true → Gone n t u.effects
+  case-gone c u n (not_drawn repo path m blob none) fits used = never n m (eqb-true m n used) none
+  case-gone c u n (makes_row repo path m blob among) fits used =
+      subst (λ k. count_of k (with_effect t (creates repo path blob now)).yard.drafts ≡ 0) (of-put settings repo path m blob fits ∙ eqb-true m n used) (count-without_number blob.number t.yard.drafts)
+  case-gone c u n (has_same repo path m blob among) fits used = taken-out n m (eqb-true m n used)
+  case-gone c u n (lists_again repo path m blob among) fits used =
+      subst (λ k. Gone k t (relists repo path now ∷ drops m ∷ [])) (eqb-true m n used) (count-without_number m t.yard.drafts)
+  case-gone c u n (has_other repo path m blob kept among) fits used = taken-out n m (eqb-true m n used)
+  case-gone c u n (gives_up m among) fits used = taken-out n m (eqb-true m n used)
+  case-gone c u n (gives_nothing_up m none) fits used = never n m (eqb-true m n used) none
+  case-gone c u n (stage_not_drawn at path m blob none) fits used = never n m (eqb-true m n used) none
+  case-gone c u n (stage_nowhere at path m blob among) fits used = taken-out n m (eqb-true m n used)
+  case-gone c u n (stages_one at path m blob number among) fits used =
+      subst (λ k. count_of k (with_effect t (stages number path blob)).yard.drafts ≡ 0) (of-stage settings at path m blob fits ∙ eqb-true m n used) (count-without_number blob.number t.yard.drafts)
+  case-gone c u n (stage_full at path m blob among) fits used = taken-out n m (eqb-true m n used)
+  case-gone c u n (stage_same at path m blob among) fits used = taken-out n m (eqb-true m n used)
+  case-gone c u n (stage_other at path m blob kept among) fits used = taken-out n m (eqb-true m n used)
+  case-gone c u n case fits used = absurd (false≢true used)
 
 module _ (settings : Settings) (old : State) (e : Entry) where
-  gone-by : (n : ℕ) → named_by settings old e.moment (ticked old e.moment e.faults) refl e.command n → is_free e.reply ≡ false → count_of n (after settings old e).yard.drafts ≡ 0
-  gone-by n named bound =
+  gone-by : (n : ℕ) → Fits settings old e → uses_draft n e.command ≡ true → is_free e.reply ≡ false → count_of n (after settings old e).yard.drafts ≡ 0
+  gone-by n fits used bound =
       ap (λ (t : State). count_of n t.yard.drafts) (state-determined settings old e bound)
-      ∙ case-gone settings old e.moment (ticked old e.moment e.faults) refl e.command (turn settings old e.moment e.command) n (turn-case settings old e.moment e.command) named
+      ∙ case-gone settings old e.moment (ticked old e.moment e.faults) refl e.command (turn settings old e.moment e.command) n (turn-case settings old e.moment e.command) fits.condition used
 
   pub drafts-put : (repo path : List ℕ) (n : ℕ) (blob : Blob) → Fits settings old e → e.command ≡ put repo path n blob → is_free e.reply ≡ false
       → count_of n (after settings old e).yard.drafts ≡ 0
-  drafts-put repo path n blob fits is bound =
-      let condition : meets settings (put repo path n blob) ≡ true = ap (meets settings) (sym is) ∙ fits.condition in
-      let parcel = (and_parts (is_fit (λ rule. takes rule path) (rule_of repo settings)) (is_parcel n blob) condition).1 in
-      gone-by n (subst (λ c. named_by settings old e.moment (ticked old e.moment e.faults) refl c n) (sym is) (refl, parcel)) bound
+  drafts-put repo path n blob fits is bound = gone-by n fits (ap (uses_draft n) is ∙ eq-eqb n n refl) bound
 
   pub drafts-staged : (at : ℕ) (path : List ℕ) (n : ℕ) (blob : Blob) → Fits settings old e → e.command ≡ stage at path n blob → is_free e.reply ≡ false
       → count_of n (after settings old e).yard.drafts ≡ 0
-  drafts-staged at path n blob fits is bound =
-      let condition : meets settings (stage at path n blob) ≡ true = ap (meets settings) (sym is) ∙ fits.condition in
-      let parcel = (and_parts (is_file_path path) (is_parcel n blob) condition).1 in
-      gone-by n (subst (λ c. named_by settings old e.moment (ticked old e.moment e.faults) refl c n) (sym is) (refl, parcel)) bound
+  drafts-staged at path n blob fits is bound = gone-by n fits (ap (uses_draft n) is ∙ eq-eqb n n refl) bound
 
   pub drafts-dropped : (n : ℕ) → Fits settings old e → e.command ≡ drop_draft n → count_of n (after settings old e).yard.drafts ≡ 0
-  drafts-dropped n fits is =
-      gone-by n (subst (λ c. named_by settings old e.moment (ticked old e.moment e.faults) refl c n) (sym is) refl) (ap is_free (draft-dropped settings old e n fits is))
+  drafts-dropped n fits is = gone-by n fits (ap (uses_draft n) is ∙ eq-eqb n n refl) (ap is_free (draft-dropped settings old e n fits is))
 
 -- a number that is drawn and no draft any more is none later
 gone-stays : (s : State) (e : Effect) (n : ℕ) → (n < s.yard.next_draft) × (count_of n s.yard.drafts ≡ 0) → (n < (with_effect s e).yard.next_draft) × (count_of n (with_effect s e).yard.drafts ≡ 0)
@@ -99,3 +101,130 @@ all-gone (e ∷ es) s n gone = all-gone es (with_effect s e) n (gone-stays s e n
 pub drafts-gone : (settings : Settings) (old : State) (e : Entry) (n : ℕ) → n < old.yard.next_draft → count_of n old.yard.drafts ≡ 0
     → (n < (after settings old e).yard.next_draft) × (count_of n (after settings old e).yard.drafts ≡ 0)
 drafts-gone settings old e n drawn none = all-gone (effects_of settings old e) (ticked old e.moment e.faults) n (drawn, none)
+
+-- ---- kept
+-- an effect takes a draft from where it stands
+abbrev takes_draft : ℕ → Effect → Bool
+takes_draft n (drops m) = m == n
+takes_draft n (creates repo path blob moment) = blob.number == n
+takes_draft n (stages at path blob) = blob.number == n
+takes_draft n e = false
+
+abbrev Untaken : ℕ → Effect → Type 0
+Untaken n e = takes_draft n e ≡ false
+
+stays-among : (n m : ℕ) (ns : List ℕ) → (m == n) ≡ false → is_among n ns ≡ true → is_among n (without_number m ns) ≡ true
+stays-among n m [] other among = absurd (false≢true among)
+stays-among n m (k ∷ ks) other among =
+    elim (k == m) as (λ b. (k == m) ≡ b → is_among n (cond (not b) (k ∷ without_number m ks) (without_number m ks)) ≡ true) [
+      | true ↦ λ is.
+          let apart : (k == n) ≡ false = ap (λ i. i == n) (eqb-true k m is) ∙ other in
+          stays-among n m ks other (sym (ap (λ b. b || is_among n ks) apart) ∙ among)
+      | false ↦ λ _.
+          elim (k == n) as (λ b. (b || is_among n ks) ≡ true → (b || is_among n (without_number m ks)) ≡ true) [
+            | true ↦ λ _. refl
+            | false ↦ λ later. stays-among n m ks other later
+          ] among
+    ] refl
+
+still : (s : State) (e : Effect) (n : ℕ) → Untaken n e → is_among n s.yard.drafts ≡ true → is_among n (with_effect s e).yard.drafts ≡ true
+still s draws n untaken among =
+    list_any-append (λ m. m == n) s.yard.drafts (s.yard.next_draft ∷ []) ∙ or_left (is_among n s.yard.drafts) (is_among n (s.yard.next_draft ∷ [])) among
+still s (drops m) n untaken among = stays-among n m s.yard.drafts untaken among
+still s (creates repo path blob moment) n untaken among = stays-among n blob.number s.yard.drafts untaken among
+still s (stages at path blob) n untaken among = stays-among n blob.number s.yard.drafts untaken among
+still s e n untaken among = among
+
+all-still : (es : List Effect) (s : State) (n : ℕ) → AllByRecursion (Untaken n) es → is_among n s.yard.drafts ≡ true → is_among n (with_effects s es).yard.drafts ≡ true
+all-still [] s n untaken among = among
+all-still (e ∷ es) s n untaken among = all-still es (with_effect s e) n untaken.1 (still s e n untaken.0 among)
+
+many-untaken : (n : ℕ) → Bulk (Untaken n)
+many-untaken n = record {
+  delivers_so = λ m repo path blob moment. refl;
+  discards_so = λ m path d. refl;
+  relists_so = λ repo path moment. refl;
+  fades_so = λ repo path moment. refl;
+  expires_so = λ repo path blob. refl;
+  ends_so = λ m result. refl;
+}
+
+unused : (b : Bool) → (b && true) ≡ false → b ≡ false
+unused true is = is
+unused false is = refl
+
+module _ (settings : Settings) (s : State) (now : ℕ) where
+  case-untaken : (c : Command) (u : Turn) (n : ℕ) → Case settings s now c u → meets settings c ≡ true → (uses_draft n c && not (leaves_drafts u.reply)) ≡ false → AllByRecursion (Untaken n) u.effects
+  case-untaken c u n (lends_file repo path tried blob more is) fits unspent = (refl, tt)
+  case-untaken c u n (takes_back lease) fits unspent = (refl, tt)
+  case-untaken c u n (gives_draft place path more) fits unspent = (refl, tt)
+  case-untaken c u n (makes_row repo path m blob among) fits unspent = (ap (λ k. k == n) (of-put settings repo path m blob fits) ∙ unused (m == n) unspent, tt)
+  case-untaken c u n (has_same repo path m blob among) fits unspent = (unused (m == n) unspent, tt)
+  case-untaken c u n (lists_again repo path m blob among) fits unspent = (refl, (unused (m == n) unspent, tt))
+  case-untaken c u n (has_other repo path m blob kept among) fits unspent = (unused (m == n) unspent, tt)
+  case-untaken c u n (gives_up m among) fits unspent = (unused (m == n) unspent, tt)
+  case-untaken c u n (opens_one repo more) fits unspent = (refl, tt)
+  case-untaken c u n (stage_nowhere at path m blob among) fits unspent = (unused (m == n) unspent, tt)
+  case-untaken c u n (stages_one at path m blob number among) fits unspent = (ap (λ k. k == n) (of-stage settings at path m blob fits) ∙ unused (m == n) unspent, tt)
+  case-untaken c u n (stage_full at path m blob among) fits unspent = (unused (m == n) unspent, tt)
+  case-untaken c u n (stage_same at path m blob among) fits unspent = (unused (m == n) unspent, tt)
+  case-untaken c u n (stage_other at path m blob kept among) fits unspent = (unused (m == n) unspent, tt)
+  case-untaken c u n (deploys m one is) fits unspent = deploys-made (Untaken n) (many-untaken n) one now (rows_of one.repo s) (Done (length one.staged))
+  case-untaken c u n (aborts m one) fits unspent = aborts-made (Untaken n) (many-untaken n) one Aborted
+  case-untaken c u n (unlists repo h) fits unspent = unlists-made (Untaken n) (many-untaken n) h now
+  case-untaken c u n collects fits unspent =
+      collects-made (Untaken n) (many-untaken n) settings.grace now s.hosted (unlent (with_effects s (expire_all settings.grace now s.hosted)).yard) refl
+  case-untaken c u n case fits unspent = tt
+
+  -- a draft that is given stands
+  case-given : (c : Command) (u : Turn) (n faults : ℕ) → Case settings s now c u → u.reply ≡ draft n → is_among n (with_effects (ticked s now faults) u.effects).yard.drafts ≡ true
+  case-given c u n faults (gives_draft place path more) is =
+      let drawn : draft s.yard.next_draft ≡ draft n = is in
+      let same : s.yard.next_draft ≡ n = cc in
+      list_any-append (λ m. m == n) s.yard.drafts (s.yard.next_draft ∷ [])
+      ∙ or_right (is_among n s.yard.drafts) (is_among n (s.yard.next_draft ∷ [])) (or_left (s.yard.next_draft == n) false (eq-eqb s.yard.next_draft n same))
+  case-given c u n faults case is = absurd (cc)
+
+  -- a command that is answered that its draft is none, names none
+  case-none : (c : Command) (u : Turn) (n : ℕ) → Case settings s now c u → u.reply ≡ no_draft → uses_draft n c ≡ true → is_among n s.yard.drafts ≡ false
+  case-none c u n (not_drawn repo path m blob none) is used = ap (λ k. is_among k s.yard.drafts) (sym (eqb-true m n used)) ∙ none
+  case-none c u n (stage_not_drawn at path m blob none) is used = ap (λ k. is_among k s.yard.drafts) (sym (eqb-true m n used)) ∙ none
+  case-none c u n case is used = absurd (cc)
+
+module _ (settings : Settings) (old : State) (e : Entry) (n : ℕ) (fits : Fits settings old e) where
+  pub drafts-kept : is_among n old.yard.drafts ≡ true → spends n e ≡ false → is_among n (after settings old e).yard.drafts ≡ true
+  drafts-kept among unspent =
+      elim (is_free e.reply) as (λ b. is_free e.reply ≡ b → is_among n (after settings old e).yard.drafts ≡ true) [
+        | true ↦ λ free. subst (λ es. is_among n (with_effects (ticked old e.moment e.faults) es).yard.drafts ≡ true) (sym (free-none settings old e free)) among
+        | false ↦ λ bound.
+            let unspent_so = subst (λ r. (uses_draft n e.command && not (leaves_drafts r)) ≡ false) (reply-determined settings old e fits bound) unspent in
+            let u : Turn = turn settings old e.moment e.command in
+            subst (λ (t : State). is_among n t.yard.drafts ≡ true) (sym (state-determined settings old e bound))
+            (all-still u.effects (ticked old e.moment e.faults) n
+            (case-untaken settings old e.moment e.command u n (turn-case settings old e.moment e.command) fits.condition unspent_so) among)
+      ] refl
+
+  given-stands : e.reply ≡ draft n → is_among n (after settings old e).yard.drafts ≡ true
+  given-stands is =
+      let bound : is_free e.reply ≡ false = ap is_free is in
+      subst (λ (t : State). is_among n t.yard.drafts ≡ true) (sym (state-determined settings old e bound))
+      (case-given settings old e.moment e.command (turn settings old e.moment e.command) n e.faults (turn-case settings old e.moment e.command) (sym (reply-determined settings old e fits bound) ∙ is))
+
+  asked-none : e.reply ≡ no_draft → uses_draft n e.command ≡ true → is_among n old.yard.drafts ≡ false
+  asked-none is used =
+      case-none settings old e.moment e.command (turn settings old e.moment e.command) n (turn-case settings old e.moment e.command)
+      (sym (reply-determined settings old e fits (ap is_free is)) ∙ is) used
+
+module _ (settings : Settings) (asked : Entry) (n : ℕ) (used : uses_draft n asked.command ≡ true) (none : asked.reply ≡ no_draft) where
+  spent-by : (between : List Entry) (s : State) → Legal settings s (between ++ asked ∷ []) → is_among n s.yard.drafts ≡ true → list_any (spends n) between ≡ true
+  spent-by [] s legal among = absurd (false≢true (sym (asked-none settings s asked n legal.0 none used) ∙ among))
+  spent-by (e ∷ between) s legal among =
+      elim (spends n e) as (λ b. spends n e ≡ b → (b || list_any (spends n) between) ≡ true) [
+        | true ↦ λ _. refl
+        | false ↦ λ unspent. spent-by between (after settings s e) legal.1 (drafts-kept settings s e n legal.0 among unspent)
+      ] refl
+
+pub drafts-spent_between : (settings : Settings) (old : State) (given asked : Entry) (between : List Entry) (n : ℕ) → Legal settings old (given ∷ between ++ asked ∷ [])
+    → given.reply ≡ draft n → IsTrue (uses_draft n asked.command) → asked.reply ≡ no_draft → IsTrue (list_any (spends n) between)
+drafts-spent_between settings old given asked between n legal is used none =
+    spent-by settings asked n used none between (after settings old given) legal.1 (given-stands settings old given n legal.0 is)

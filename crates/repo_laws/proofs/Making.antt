@@ -9,7 +9,7 @@ use Rattle.repo_model.specs.Settings.{Settings}
 use Rattle.repo_model.specs.State.{State, row_at, rows_of}
 use Rattle.repo_model.specs.Effect.{Effect, draws, drops, creates, stages, delivers, discards, relists, fades, expires, forgets, lends, returns, opens, ends, with_effects}
 use Rattle.repo_model.specs.Command.{Command, done, collect}
-use Rattle.repo_model.specs.Purge.{due_rows, expire_all, expired_of, is_over, most_rows}
+use Rattle.repo_model.specs.Purge.{due_rows, fade_all, expire_all, expired_of, is_over, most_rows}
 use Rattle.repo_model.specs.Deploy.{deliver_at, deliver_again, deliver_all, discard_all}
 use Rattle.repo_model.specs.Turn.{Turn, turn, unlent}
 use Rattle.repo_laws.proofs.Cases.{Case, lends_file, takes_back, gives_draft, makes_row, has_same, lists_again, has_other, gives_up, opens_one, stage_nowhere, stages_one, stage_full, stage_same, stage_other, deploys, aborts, unlists, collects, turn-case}
@@ -34,13 +34,22 @@ pub record Common (R : Effect → Type 0) : Type 0 where
   pub opens_so : (n : ℕ) (repo : List ℕ) → R (opens n repo)
   pub ends_so : (n : ℕ) (result : SessionResult) → R (ends n result)
 
-module _ (R : Effect → Type 0) (common : Common R) where
+-- each effect has it of those that a turn makes of a list of files or of rows
+pub record Bulk (R : Effect → Type 0) : Type 0 where
+  pub delivers_so : (n : ℕ) (repo path : List ℕ) (blob : Blob) (moment : ℕ) → R (delivers n repo path blob moment)
+  pub discards_so : (n : ℕ) (path : List ℕ) (draft : ℕ) → R (discards n path draft)
+  pub relists_so : (repo path : List ℕ) (moment : ℕ) → R (relists repo path moment)
+  pub fades_so : (repo path : List ℕ) (moment : ℕ) → R (fades repo path moment)
+  pub expires_so : (repo path : List ℕ) (blob : ℕ) → R (expires repo path blob)
+  pub ends_so : (n : ℕ) (result : SessionResult) → R (ends n result)
+
+module _ (R : Effect → Type 0) (bulk : Bulk R) where
   delivered : (one : Session) (now : ℕ) (f : Staged) (found : Option Row) → AllByRecursion R (deliver_at one now f found)
-  delivered one now f None = (common.delivers_so one.number one.repo f.path f.blob now, tt)
+  delivered one now f None = (bulk.delivers_so one.number one.repo f.path f.blob now, tt)
   delivered one now f (Some row) = again row.phase where
     again : (phase : Phase) → AllByRecursion R (deliver_again one now f phase)
-    again listed = (common.discards_so one.number f.path f.blob.number, tt)
-    again (fading since) = (common.relists_so one.repo f.path now, (common.discards_so one.number f.path f.blob.number, tt))
+    again listed = (bulk.discards_so one.number f.path f.blob.number, tt)
+    again (fading since) = (bulk.relists_so one.repo f.path now, (bulk.discards_so one.number f.path f.blob.number, tt))
 
   all-delivered : (one : Session) (now : ℕ) (rows : List Row) (files : List Staged) → AllByRecursion R (flat_map (λ (f : Staged). deliver_at one now f (row_at f.path rows)) files)
   all-delivered one now rows [] = tt
@@ -50,21 +59,48 @@ module _ (R : Effect → Type 0) (common : Common R) where
 
   all-discarded : (one : Session) (files : List Staged) → AllByRecursion R (map (λ (f : Staged). discards one.number f.path f.blob.number) files)
   all-discarded one [] = tt
-  all-discarded one (f ∷ files) = (common.discards_so one.number f.path f.blob.number, all-discarded one files)
+  all-discarded one (f ∷ files) = (bulk.discards_so one.number f.path f.blob.number, all-discarded one files)
 
   all-faded : (id : List ℕ) (now : ℕ) (rows : List Row) → AllByRecursion R (map (λ (row : Row). fades id row.path now) rows)
   all-faded id now [] = tt
-  all-faded id now (row ∷ rows) = (common.fades_so id row.path now, all-faded id now rows)
+  all-faded id now (row ∷ rows) = (bulk.fades_so id row.path now, all-faded id now rows)
 
-  pub all-expired : (grace now : ℕ) (hosted : List Hosted) → AllByRecursion R (expire_all grace now hosted)
-  all-expired grace now hosted = all-take R most_rows (flat_map (expired_of grace now) hosted) (of-all hosted) where
+  expired-all : (grace now : ℕ) (hosted : List Hosted) → AllByRecursion R (expire_all grace now hosted)
+  expired-all grace now hosted = all-take R most_rows (flat_map (expired_of grace now) hosted) (of-all hosted) where
     of-rows : (id : List ℕ) (rows : List Row) (es : List Effect) → AllByRecursion R es → AllByRecursion R (map (λ (row : Row). expires id row.path row.blob.number) rows ++ es)
     of-rows id [] es all = all
-    of-rows id (row ∷ rows) es all = (common.expires_so id row.path row.blob.number, of-rows id rows es all)
+    of-rows id (row ∷ rows) es all = (bulk.expires_so id row.path row.blob.number, of-rows id rows es all)
 
     of-all : (hosted : List Hosted) → AllByRecursion R (flat_map (expired_of grace now) hosted)
     of-all [] = tt
     of-all (h ∷ hosted) = of-rows h.rule.id (filter (λ (row : Row). is_over grace now row.phase) h.rows) (flat_map (expired_of grace now) hosted) (of-all hosted)
+
+  -- what a commit, an abort, an unlisting and a Collect make
+  pub deploys-made : (one : Session) (now : ℕ) (rows : List Row) (result : SessionResult) → AllByRecursion R (deliver_all one now rows ++ ends one.number result ∷ [])
+  deploys-made one now rows result = all-append R (deliver_all one now rows) (ends one.number result ∷ []) (all-delivered one now rows one.staged) (bulk.ends_so one.number result, tt)
+
+  pub aborts-made : (one : Session) (result : SessionResult) → AllByRecursion R (discard_all one ++ ends one.number result ∷ [])
+  aborts-made one result = all-append R (discard_all one) (ends one.number result ∷ []) (all-discarded one one.staged) (bulk.ends_so one.number result, tt)
+
+  pub unlists-made : (h : Hosted) (now : ℕ) → AllByRecursion R (fade_all h now)
+  unlists-made h now = all-faded h.rule.id now (due_rows h.rule now h.rows)
+
+  pub collects-made : (grace now : ℕ) (hosted : List Hosted) (blobs : List ℕ) → R (forgets blobs) → AllByRecursion R (expire_all grace now hosted ++ forgets blobs ∷ [])
+  collects-made grace now hosted blobs forgets_so = all-append R (expire_all grace now hosted) (forgets blobs ∷ []) (expired-all grace now hosted) (forgets_so, tt)
+
+module _ (R : Effect → Type 0) (common : Common R) where
+  bulk-of : Bulk R
+  bulk-of = record {
+    delivers_so = common.delivers_so;
+    discards_so = common.discards_so;
+    relists_so = common.relists_so;
+    fades_so = common.fades_so;
+    expires_so = common.expires_so;
+    ends_so = common.ends_so;
+  }
+
+  pub all-expired : (grace now : ℕ) (hosted : List Hosted) → AllByRecursion R (expire_all grace now hosted)
+  all-expired = expired-all R bulk-of
 
   module _ (settings : Settings) (s : State) (now : ℕ) where
     case-makes : (c : Command) (t : Turn) → Case settings s now c t → ((lease : ℕ) → c ≡ done lease → R (returns lease)) → ((blobs : List ℕ) → c ≡ collect → R (forgets blobs)) → AllByRecursion R t.effects
@@ -82,15 +118,12 @@ module _ (R : Effect → Type 0) (common : Common R) where
     case-makes c t (stage_full at path n blob among) returned forgotten = (common.drops_so n, tt)
     case-makes c t (stage_same at path n blob among) returned forgotten = (common.drops_so n, tt)
     case-makes c t (stage_other at path n blob kept among) returned forgotten = (common.drops_so n, tt)
-    case-makes c t (deploys n one is) returned forgotten =
-        all-append R (deliver_all one now (rows_of one.repo s)) (ends one.number (Done (length one.staged)) ∷ [])
-        (all-delivered one now (rows_of one.repo s) one.staged) (common.ends_so one.number (Done (length one.staged)), tt)
-    case-makes c t (aborts n one) returned forgotten =
-        all-append R (discard_all one) (ends one.number Aborted ∷ []) (all-discarded one one.staged) (common.ends_so one.number Aborted, tt)
-    case-makes c t (unlists repo h) returned forgotten = all-faded h.rule.id now (due_rows h.rule now h.rows)
+    case-makes c t (deploys n one is) returned forgotten = deploys-made R bulk-of one now (rows_of one.repo s) (Done (length one.staged))
+    case-makes c t (aborts n one) returned forgotten = aborts-made R bulk-of one Aborted
+    case-makes c t (unlists repo h) returned forgotten = unlists-made R bulk-of h now
     case-makes c t collects returned forgotten =
-        all-append R (expire_all settings.grace now s.hosted) (forgets (unlent (with_effects s (expire_all settings.grace now s.hosted)).yard) ∷ [])
-        (all-expired settings.grace now s.hosted) (forgotten (unlent (with_effects s (expire_all settings.grace now s.hosted)).yard) refl, tt)
+        let blobs = unlent (with_effects s (expire_all settings.grace now s.hosted)).yard in
+        collects-made R bulk-of settings.grace now s.hosted blobs (forgotten blobs refl)
     case-makes c t case returned forgotten = tt
 
     -- the effects of a turn

@@ -6,7 +6,7 @@ use Rattle.repo_model.specs.Data.{repository, session}
 use Rattle.repo_model.specs.Command.{look, done, may_put, put, put_side, put_doc, drop_draft, open_session, stage, commit, abort, unlist, collect, status}
 use Rattle.repo_model.specs.Reply.{file, text, missed, given_back, kind_refused, draft, no_draft, taken, same, created, relisted, not_there, differs, agreed, noted, dropped, opened, sessions_full, no_session, staged, offends, missing_pom, ended, unlisted, collected, counts}
 use Rattle.repo_model.specs.History.{Entry}
-use Rattle.repo_laws.specs.Worked.{abc, letter_a, nothing, print_of_abc, print_of_a, print_of_nothing, sha1_of_abc, sha1_of_nothing, sha1_text_of_abc, at, snapshots, releases, jar_1, pom_1, pom_2, jar_3, release_jar, release_pom, release_sources, other_jar, next_jar, next_pom, later_jar, sha1_file, artifact_document}
+use Rattle.repo_laws.specs.Worked.{abc, letter_a, nothing, print_of_abc, print_of_a, print_of_nothing, sha1_of_abc, sha1_of_nothing, sha1_text_of_abc, at, snapshots, nightly, releases, jar_1, pom_1, pom_2, pom_3, jar_3, release_jar, release_pom, release_sources, other_jar, next_jar, next_pom, later_jar, sha1_file, artifact_document}
 
 -- a build's jar and pom, and the pom of a newer build
 abbrev pub two_builds : List Entry
@@ -151,6 +151,58 @@ aged =
     ∷ at 1066 (look snapshots (sha1_file jar_1) []) (text sha1_text_of_abc)
     ∷ at 1067 collect (collected 2 (3 ∷ 4 ∷ []))
     ∷ at 1067 (look snapshots (sha1_file jar_1) []) missed
+    ∷ []
+
+-- three builds, of which the two older ones fade a second behind the day from which their files were accepted, and the newest never
+abbrev pub kept_a_day : List Entry
+kept_a_day =
+    at 1000 (may_put (repository snapshots) jar_1) (draft 1)
+    ∷ at 1000 (put snapshots jar_1 1 (abc 1)) created
+    ∷ at 2000 (may_put (repository snapshots) pom_2) (draft 2)
+    ∷ at 2000 (put snapshots pom_2 2 (abc 2)) created
+    ∷ at 3000 (may_put (repository snapshots) pom_3) (draft 3)
+    ∷ at 3000 (put snapshots pom_3 3 (abc 3)) created
+    ∷ at 87400 (unlist snapshots) (unlisted 0)
+    ∷ at 87401 (unlist snapshots) (unlisted 1)
+    ∷ at 88400 (unlist snapshots) (unlisted 0)
+    ∷ at 88401 (unlist snapshots) (unlisted 1)
+    ∷ at 1000000 (unlist snapshots) (unlisted 0)
+    ∷ at 1000000 status (counts 3 2 0 0 0)
+    ∷ at 1000000 collect (collected 2 (1 ∷ 2 ∷ []))
+    ∷ at 1000000 (look snapshots pom_3 []) (file 1 (abc 3))
+    ∷ []
+
+-- the same two builds in each of two repositories
+abbrev pub shelved : List Entry
+shelved =
+    at 1000 (may_put (repository nightly) jar_1) (draft 1)
+    ∷ at 1000 (put nightly jar_1 1 (abc 1)) created
+    ∷ at 1000 (may_put (repository nightly) pom_2) (draft 2)
+    ∷ at 1000 (put nightly pom_2 2 (abc 2)) created
+    ∷ at 1000 (may_put (repository snapshots) pom_1) (draft 3)
+    ∷ at 1000 (put snapshots pom_1 3 (abc 3)) created
+    ∷ at 1000 (may_put (repository snapshots) jar_1) (draft 4)
+    ∷ at 1000 (put snapshots jar_1 4 (abc 4)) created
+    ∷ at 1000 (may_put (repository snapshots) pom_2) (draft 5)
+    ∷ at 1000 (put snapshots pom_2 5 (abc 5)) created
+    ∷ []
+
+-- each lets its own fade
+abbrev pub shelves_faded : List Entry
+shelves_faded =
+    shelved
+    ++ at 87401 (unlist nightly) (unlisted 1)
+    ∷ at 87401 status (counts 5 1 0 0 0)
+    ∷ at 87401 (unlist snapshots) (unlisted 2)
+    ∷ []
+
+abbrev pub shelves_cleared : List Entry
+shelves_cleared =
+    shelves_faded
+    ++ at 87461 collect (collected 0 [])
+    ∷ at 87462 collect (collected 3 (1 ∷ 3 ∷ 4 ∷ []))
+    ∷ at 87462 (look nightly jar_1 []) missed
+    ∷ at 87462 (look nightly pom_2 []) (file 1 (abc 2))
     ∷ []
 
 -- what is staged once more; the first directory without its pom; a pom that is there already; what an ended session answers

@@ -1,11 +1,11 @@
--- Words of the laws on replies: refusals and what they give up, replies that may change rows, entries that ask alike, and the moments of a history.
-use Rattle.std.specs.Prelude.{◌≡◌, ◌↔◌, ℕ, Bool, true, false, ◌&&◌, List, [], ◌∷◌, map}
+-- Words of the laws on replies: refusals and what they give up, entries that spend a draft, replies that may change rows, entries that ask alike, and the moments of a history.
+use Rattle.std.specs.Prelude.{◌≡◌, ◌↔◌, ℕ, Bool, true, false, not, ◌&&◌, ◌==◌, List, [], ◌∷◌, map}
 use Rattle.repo_model.specs.declared.session.SessionResult.TheVariants.{Done}
 use Rattle.repo_model.specs.Paths.{takes}
 use Rattle.repo_model.specs.State.{State, hosted_of, open_of}
 use Rattle.repo_model.specs.Effect.{Effect, drops}
-use Rattle.repo_model.specs.Command.{Command, put, stage, is_fit}
-use Rattle.repo_model.specs.Reply.{Reply, missed, kind_refused, no_draft, taken, not_there, differs, no_session, sessions_full, session_full, offends, missing_pom, spent, no_memory, store_fault, relisted, created, ended, unlisted, collected}
+use Rattle.repo_model.specs.Command.{Command, put, stage, drop_draft, is_fit}
+use Rattle.repo_model.specs.Reply.{Reply, missed, kind_refused, no_draft, taken, not_there, differs, no_session, sessions_full, session_full, offends, missing_pom, spent, no_memory, store_fault, relisted, created, ended, unlisted, collected, is_free}
 use Rattle.repo_model.specs.Turn.{has_room}
 use Rattle.repo_model.specs.History.{Entry}
 
@@ -34,6 +34,22 @@ given_up (stage at path n blob) (taken kept sent) = drops n ∷ []
 given_up (stage at path n blob) no_session = drops n ∷ []
 given_up (stage at path n blob) session_full = drops n ∷ []
 given_up command reply = []
+
+-- a command puts, stages or drops this draft
+abbrev pub uses_draft : ℕ → Command → Bool
+uses_draft n (put repo path m blob) = m == n
+uses_draft n (stage at path m blob) = m == n
+uses_draft n (drop_draft m) = m == n
+uses_draft n command = false
+
+-- the replies behind which a draft stands as it did
+abbrev pub leaves_drafts : Reply → Bool
+leaves_drafts no_draft = true
+leaves_drafts reply = is_free reply
+
+-- an entry spends a draft, whether the file is taken or not
+abbrev pub spends : ℕ → Entry → Bool
+spends n e = uses_draft n e.command && not (leaves_drafts e.reply)
 
 -- the replies of turns that may change rows
 abbrev pub may_change_rows : Reply → Bool

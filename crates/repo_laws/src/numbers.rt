@@ -1,22 +1,23 @@
 //! Numbers of blobs, leases and sessions.
-ghost use Rattle.std.specs.Prelude.{false, ◌≡◌, ◌≢◌, ℕ, ◌+◌, ◌<◌, ◌≤◌, ◌^◌, ◌⊎◌, ◌↔◌, List, Option, IsTrue, count_by, length};
+ghost use Rattle.std.specs.Prelude.{false, ◌≡◌, ◌≢◌, ℕ, ◌+◌, ◌<◌, ◌≤◌, ◌^◌, ◌⊎◌, ◌↔◌, List, [], ◌∷◌, ◌++◌, Option, IsTrue, count_by, length};
+ghost use Rattle.std.specs.List.{list_any};
 ghost use Rattle.mvn_coords.specs.Kind.{kind};
 ghost use Rattle.outside.specs.Moments.{Moments};
 ghost use Rattle.repo_model.specs.Settings.{Settings};
 ghost use Rattle.repo_model.specs.Data.{Blob, repository, session};
-ghost use Rattle.repo_model.specs.State.{State, opening, rows_of, is_open, number_end, most_sessions, most_staged};
+ghost use Rattle.repo_model.specs.State.{State, opening, rows_of, is_open, is_among, number_end, most_sessions, most_staged};
 ghost use Rattle.repo_model.specs.Purge.{most_rows};
 ghost use Rattle.repo_model.specs.Effect.{Effect, with_effect};
 ghost use Rattle.repo_model.specs.May.{May};
 ghost use Rattle.repo_model.specs.Command.{look, done, may_put, put, stage, drop_draft, open_session, collect};
-ghost use Rattle.repo_model.specs.Reply.{file, spent, collected, is_free};
+ghost use Rattle.repo_model.specs.Reply.{file, draft, no_draft, spent, collected, is_free};
 ghost use Rattle.repo_model.specs.Turn.{turn, most_collected, seen_at, is_file};
 ghost use Rattle.repo_model.specs.History.{Entry, Fits, Legal, after, end};
 ghost use Rattle.repo_laws.specs.Laws.{places_of, leases_of, count_of};
 ghost use Rattle.repo_laws.specs.Sound.{AreNamedApart, IsSound};
 ghost use Rattle.repo_laws.specs.Closed.{IsGone, IsLentAs, all_given_out, Untouched, ReadersLast};
 ghost use Rattle.repo_laws.specs.Collected.{IsUnlent, IsFirstGarbage, cleared};
-ghost use Rattle.repo_laws.specs.Replies.{takes_at, takes_in};
+ghost use Rattle.repo_laws.specs.Replies.{takes_at, takes_in, uses_draft, spends};
 
 /// In every legal history from the opening state a blob number that was drawn stands in exactly one place (a draft, a row, a
 /// staged file or garbage) or was given out once to be removed; any other stands in none and was not given out.
@@ -42,16 +43,22 @@ pub fn readers_last()
         → ReadersLast settings s entries }
 {}
 
-/// A draft serves once: the command that puts, stages or drops it gives it up, and it is never drawn again.
+/// A draft serves once: the command that puts, stages or drops it gives it up, and it is never drawn again. It stands until then:
+/// who was given a draft and is answered that it is none comes behind another entry that spent it.
 pub fn drafts_serve_once()
-    ensures put { (settings : Settings) (old : State) (e : Entry) (repo path : List ℕ) (draft : ℕ) (blob : Blob) → Fits settings old e
-        → e.command ≡ put repo path draft blob → is_free e.reply ≡ false → count_of draft (after settings old e).yard.drafts ≡ 0 }
-    ensures staged { (settings : Settings) (old : State) (e : Entry) (at : ℕ) (path : List ℕ) (draft : ℕ) (blob : Blob) → Fits settings old e
-        → e.command ≡ stage at path draft blob → is_free e.reply ≡ false → count_of draft (after settings old e).yard.drafts ≡ 0 }
-    ensures dropped { (settings : Settings) (old : State) (e : Entry) (draft : ℕ) → Fits settings old e
-        → e.command ≡ drop_draft draft → count_of draft (after settings old e).yard.drafts ≡ 0 }
+    ensures put { (settings : Settings) (old : State) (e : Entry) (repo path : List ℕ) (n : ℕ) (blob : Blob) → Fits settings old e
+        → e.command ≡ put repo path n blob → is_free e.reply ≡ false → count_of n (after settings old e).yard.drafts ≡ 0 }
+    ensures staged { (settings : Settings) (old : State) (e : Entry) (at : ℕ) (path : List ℕ) (n : ℕ) (blob : Blob) → Fits settings old e
+        → e.command ≡ stage at path n blob → is_free e.reply ≡ false → count_of n (after settings old e).yard.drafts ≡ 0 }
+    ensures dropped { (settings : Settings) (old : State) (e : Entry) (n : ℕ) → Fits settings old e
+        → e.command ≡ drop_draft n → count_of n (after settings old e).yard.drafts ≡ 0 }
     ensures gone { (settings : Settings) (old : State) (e : Entry) (n : ℕ) → n < old.yard.next_draft → count_of n old.yard.drafts ≡ 0
         → (n < (after settings old e).yard.next_draft) × (count_of n (after settings old e).yard.drafts ≡ 0) }
+    ensures kept { (settings : Settings) (old : State) (e : Entry) (n : ℕ) → Fits settings old e → IsTrue (is_among n old.yard.drafts)
+        → spends n e ≡ false → IsTrue (is_among n (after settings old e).yard.drafts) }
+    ensures spent_between { (settings : Settings) (old : State) (given asked : Entry) (between : List Entry) (n : ℕ)
+        → Legal settings old (given ∷ between ++ asked ∷ []) → given.reply ≡ draft n → IsTrue (uses_draft n asked.command) → asked.reply ≡ no_draft
+        → IsTrue (list_any (spends n) between) }
 {}
 
 /// A file is answered with a lease on its blob, and a lease lasts until it is given back.

@@ -1,14 +1,18 @@
 //! Worked cases of the machine.
-ghost use Rattle.std.specs.Prelude.{◌≡◌, ◌++◌, List, None, Some, option_map};
+ghost use Rattle.std.specs.Prelude.{◌≡◌, ◌++◌, List, [], ◌∷◌, None, Some, option_map};
 ghost use Rattle.mvn_coords.specs.Calendar.{civil_of};
 ghost use Rattle.mvn_coords.specs.Layout.{Directory};
 ghost use Rattle.mvn_metadata.specs.Written as written;
+ghost use Rattle.repo_model.specs.declared.item.Item.TheVariants.{Faded, Removed};
 ghost use Rattle.repo_model.specs.Document.{document};
 ghost use Rattle.repo_model.specs.State.{State, opening, rows_of};
+ghost use Rattle.repo_model.specs.Effect.{recorded};
+ghost use Rattle.repo_model.specs.Command.{unlist, collect};
+ghost use Rattle.repo_model.specs.Turn.{turn};
 ghost use Rattle.repo_model.specs.History.{Entry, Legal, end};
-ghost use Rattle.repo_laws.specs.Worked.{shop, releases, snapshots, artifact, builds, artifact_text, builds_text, pom_text, release_text};
+ghost use Rattle.repo_laws.specs.Worked.{shop, shelves, releases, snapshots, nightly, jar_1, pom_1, artifact, builds, artifact_text, builds_text, pom_text, release_text};
 ghost use Rattle.repo_laws.specs.Starts.{purge_begun, purged_later, sessions_ended, asked_again};
-ghost use Rattle.repo_laws.specs.Histories.{two_builds, faded, purged, read_to_its_end, listed_again, still_there, deployed, refused, sent_again, aged, staged_again};
+ghost use Rattle.repo_laws.specs.Histories.{two_builds, faded, purged, read_to_its_end, listed_again, still_there, deployed, refused, sent_again, aged, staged_again, kept_a_day, shelved, shelves_faded, shelves_cleared};
 
 /// The worked histories are legal.
 pub fn worked_histories()
@@ -21,6 +25,8 @@ pub fn worked_histories()
     ensures sent_again { Legal shop (opening shop None) sent_again }
     ensures aged { Legal shop (opening shop None) aged }
     ensures staged_again { Legal shop (opening shop None) staged_again }
+    ensures kept_a_day { Legal shelves (opening shelves None) kept_a_day }
+    ensures shelves_cleared { Legal shelves (opening shelves None) shelves_cleared }
 {}
 
 /// So are those behind a start over the tables that such histories leave: what fades is read up to the grace and then goes, results
@@ -28,6 +34,14 @@ pub fn worked_histories()
 pub fn worked_starts()
     ensures purge { Legal shop purge_begun purged_later }
     ensures sessions { Legal shop sessions_ended asked_again }
+{}
+
+/// Rows fade and go in the order of the settings' repositories, and of paths in each.
+pub fn worked_order()
+    ensures fades { recorded (turn shelves (end shelves (opening shelves None) shelved) 87_401 (unlist snapshots)).effects
+        ≡ Faded snapshots jar_1 87_401 ∷ Faded snapshots pom_1 87_401 ∷ [] }
+    ensures goes { recorded (turn shelves (end shelves (opening shelves None) shelves_faded) 87_462 collect).effects
+        ≡ Removed snapshots jar_1 ∷ Removed snapshots pom_1 ∷ Removed nightly jar_1 ∷ [] }
 {}
 
 /// The documents that they leave have these texts.

@@ -1,4 +1,4 @@
-use Rattle.repo_laws.proofs.Drafts.{drafts-put, drafts-staged, drafts-dropped, drafts-gone}
+use Rattle.repo_laws.proofs.Drafts.{drafts-put, drafts-staged, drafts-dropped, drafts-gone, drafts-kept, drafts-spent_between}
 use Rattle.repo_laws.proofs.numbers.drafts_serve_once.Goals as goal
 
 pub returns-clause-put : goal.returns-clause-put
@@ -12,3 +12,9 @@ returns-clause-dropped c = drafts-dropped
 
 pub returns-clause-gone : goal.returns-clause-gone
 returns-clause-gone c = drafts-gone
+
+pub returns-clause-kept : goal.returns-clause-kept
+returns-clause-kept c = drafts-kept
+
+pub returns-clause-spent_between : goal.returns-clause-spent_between
+returns-clause-spent_between c = drafts-spent_between

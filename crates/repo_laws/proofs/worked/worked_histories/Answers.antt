@@ -38,3 +38,11 @@ returns-clause-aged c = search (rules, due)
 pub returns-clause-staged_again : goal.returns-clause-staged_again
 unfolding parts_of
 returns-clause-staged_again c = search (rules, due)
+
+pub returns-clause-kept_a_day : goal.returns-clause-kept_a_day
+unfolding parts_of
+returns-clause-kept_a_day c = search (rules, due)
+
+pub returns-clause-shelves_cleared : goal.returns-clause-shelves_cleared
+unfolding parts_of
+returns-clause-shelves_cleared c = search (rules, due)
