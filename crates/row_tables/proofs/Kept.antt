@@ -1,16 +1,18 @@
--- What the tables keep beside their rows: no blob's number is above the last one, and sessions rise.
-use Rattle.std.proofs.Common.{◌≡◌, ℕ, ◌<◌, max, Bool, true, false, cond, ◌&&◌, List, [], ◌∷◌, ◌++◌, filter, refl, ◌∙◌, ap, arith}
+-- What the tables keep beside their rows: the numbers of all blobs that rows name, and sessions rise.
+use Rattle.std.proofs.Common.{◌≡◌, ℕ, Bool, true, false, cond, ◌&&◌, List, [], ◌∷◌, ◌++◌, filter, refl, sym, ◌∙◌, ap}
 use Rattle.std.specs.Prelude.{◌||◌, ◌==◌, nat_lt, Some}
 use Rattle.std.specs.List.{list_all, list_any}
-use Rattle.std.specs.Ordering.{match_ordering}
+use Rattle.std.specs.Ordering.{match_ordering, nat_cmp, is_eq}
+use Rattle.std.specs.BTreeSet.{BTreeSet, contains, Updates}
 use Rattle.std.specs.declared.cmp.Ordering.{Ordering}
 use Rattle.std.specs.declared.cmp.Ordering.TheVariants.{Less, Equal, Greater}
-use Rattle.std.proofs.lemmas.Bool.Decides.{nat_tests}
+use Rattle.std.proofs.lemmas.Map.Views.{exact_unsigned_eq}
+use Rattle.std.specs.Cmp.{nat_cmp_is}
 use Rattle.repo_model.specs.Data.{Row}
 use Rattle.repo_model.specs.State.{change_where}
 use Rattle.repo_model.specs.Tables.{Tables, RecordedRow, RecordedSession, RecordedDocument, place_cmp, is_recorded, with_recorded, change_recorded, is_session}
 use Rattle.repo_model.specs.declared.session.SessionResult.{SessionResult}
-use Rattle.row_tables.specs.Applying.{NamesUpTo, AreRising}
+use Rattle.row_tables.specs.Applying.{NamesAmong, AreRising}
 use Rattle.row_tables.specs.Stored.{shown_session, shown_sessions}
 use Rattle.row_tables.specs.declared.sessions.SessionRow.{SessionRow}
 
@@ -53,36 +55,50 @@ any_filtered test p (r ∷ rows) none = by (any_filtered test p rows (or_false (
     by rest true = false_or (test r) (list_any test (filter p rows)) (or_false (test r) (list_any test rows) none).0 rest
     by rest false = rest
 
-module _ (last : ℕ) (rows other new : List RecordedRow) (documents : List RecordedDocument) (sessions : List RecordedSession) where
+neither : (x y : Bool) → cond x true y ≡ false → (x ≡ false) × (y ≡ false)
+neither true y is = absurd cc
+neither false y is = (refl, is)
+
+apart_numbers : (x y : ℕ) (b : Bool) → x == y ≡ b → is_eq (nat_cmp x y) ≡ false → b ≡ false
+apart_numbers x y true equal apart = ap is_eq (nat_cmp_is x y Equal (exact_unsigned_eq x y equal)) ∙ apart
+apart_numbers x y false equal apart = refl
+
+module _ (numbers : BTreeSet ℕ) (rows other new : List RecordedRow) (documents : List RecordedDocument) (sessions : List RecordedSession) where
   abbrev of_hosted : List RecordedRow → Tables
   of_hosted hosted = record { hosted = hosted; cached = other; documents = documents; sessions = sessions }
 
   abbrev of_cached : List RecordedRow → Tables
   of_cached cached = record { hosted = other; cached = cached; documents = documents; sessions = sessions }
 
-  apart : (blob n : ℕ) → max last blob < n → (blob == n) ≡ false
-  apart blob n above = grind (arith, nat_tests)
+  -- what the greater set does not have is not the number that was added, and was not there before
+  not_among : (blob : ℕ) (more : BTreeSet ℕ) → Updates nat_cmp numbers more blob true → (n : ℕ) → contains nat_cmp more n ≡ false → (blob == n ≡ false) × (contains nat_cmp numbers n ≡ false)
+  not_among blob more added n is =
+      let (apart, before) = neither (is_eq (nat_cmp blob n)) (contains nat_cmp numbers n) (sym (added.0 n) ∙ is) in
+      (apart_numbers blob n (blob == n) refl apart, before)
 
-  pub up_to_hosted : (r : RecordedRow) (top : ℕ) → top ≡ max last r.row.blob.number → new ≡ with_recorded r rows → NamesUpTo last (of_hosted rows) → NamesUpTo top (of_hosted new)
-  up_to_hosted r top greatest is below n above =
-      let high : max last r.row.blob.number < n = omega (arith, above, greatest) in
-      let old = or_false _ _ (below n (omega (arith, high))) in
-      false_or _ _ (ap (list_any (λ (s : RecordedRow). s.row.blob.number == n)) is ∙ any_with (λ (s : RecordedRow). s.row.blob.number == n) r rows ∙ false_or _ _ (apart r.row.blob.number n high) old.0) old.1
+  pub among_more : (blob : ℕ) (more : BTreeSet ℕ) (t : Tables) → Updates nat_cmp numbers more blob true → NamesAmong numbers t → NamesAmong more t
+  among_more blob more t added among n is = among n (not_among blob more added n is).1
 
-  pub up_to_cached : (r : RecordedRow) (top : ℕ) → top ≡ max last r.row.blob.number → new ≡ with_recorded r rows → NamesUpTo last (of_cached rows) → NamesUpTo top (of_cached new)
-  up_to_cached r top greatest is below n above =
-      let high : max last r.row.blob.number < n = omega (arith, above, greatest) in
-      let old = or_false _ _ (below n (omega (arith, high))) in
-      false_or _ _ old.0 (ap (list_any (λ (s : RecordedRow). s.row.blob.number == n)) is ∙ any_with (λ (s : RecordedRow). s.row.blob.number == n) r rows ∙ false_or _ _ (apart r.row.blob.number n high) old.1)
+  pub among_hosted : (r : RecordedRow) (more : BTreeSet ℕ) → Updates nat_cmp numbers more r.row.blob.number true → new ≡ with_recorded r rows → NamesAmong numbers (of_hosted rows) → NamesAmong more (of_hosted new)
+  among_hosted r more added is among n none =
+      let (apart, before) = not_among r.row.blob.number more added n none in
+      let old = or_false _ _ (among n before) in
+      false_or _ _ (ap (list_any (λ (s : RecordedRow). s.row.blob.number == n)) is ∙ any_with (λ (s : RecordedRow). s.row.blob.number == n) r rows ∙ false_or _ _ apart old.0) old.1
 
-  pub up_to_changed : (repo path : List ℕ) (f : Row → Row) → ((row : Row) → (f row).blob ≡ row.blob) → new ≡ change_recorded repo path f rows → NamesUpTo last (of_hosted rows) → NamesUpTo last (of_hosted new)
-  up_to_changed repo path f keeps is below n above =
-      let old = or_false _ _ (below n above) in
+  pub among_cached : (r : RecordedRow) (more : BTreeSet ℕ) → Updates nat_cmp numbers more r.row.blob.number true → new ≡ with_recorded r rows → NamesAmong numbers (of_cached rows) → NamesAmong more (of_cached new)
+  among_cached r more added is among n none =
+      let (apart, before) = not_among r.row.blob.number more added n none in
+      let old = or_false _ _ (among n before) in
+      false_or _ _ old.0 (ap (list_any (λ (s : RecordedRow). s.row.blob.number == n)) is ∙ any_with (λ (s : RecordedRow). s.row.blob.number == n) r rows ∙ false_or _ _ apart old.1)
+
+  pub among_changed : (repo path : List ℕ) (f : Row → Row) → ((row : Row) → (f row).blob ≡ row.blob) → new ≡ change_recorded repo path f rows → NamesAmong numbers (of_hosted rows) → NamesAmong numbers (of_hosted new)
+  among_changed repo path f keeps is among n none =
+      let old = or_false _ _ (among n none) in
       false_or _ _ (ap (list_any (λ (s : RecordedRow). s.row.blob.number == n)) is ∙ any_changed n repo path f rows keeps ∙ old.0) old.1
 
-  pub up_to_filtered : (p : RecordedRow → Bool) → new ≡ filter p rows → NamesUpTo last (of_hosted rows) → NamesUpTo last (of_hosted new)
-  up_to_filtered p is below n above =
-      let old = or_false _ _ (below n above) in
+  pub among_filtered : (p : RecordedRow → Bool) → new ≡ filter p rows → NamesAmong numbers (of_hosted rows) → NamesAmong numbers (of_hosted new)
+  among_filtered p is among n none =
+      let old = or_false _ _ (among n none) in
       false_or _ _ (ap (list_any (λ (s : RecordedRow). s.row.blob.number == n)) is ∙ any_filtered (λ (s : RecordedRow). s.row.blob.number == n) p rows old.0) old.1
 
 -- a session with a greater number behind the others

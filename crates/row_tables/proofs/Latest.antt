@@ -1,6 +1,6 @@
 -- The greatest moment of the entries of a map is that of its values.
 use Rattle.std.proofs.Common.{◌≡◌, ℕ, List, [], ◌∙◌, sym}
-use Rattle.std.specs.Prelude.{fold, max, map}
+use Rattle.std.specs.Prelude.{fold, max}
 use Rattle.std.specs.Map.{values_of}
 use Rattle.std.proofs.lemmas.List.Folds.{fold-map}
 use Rattle.repo_model.specs.Tables.{RecordedRow, RecordedDocument, moment_of}

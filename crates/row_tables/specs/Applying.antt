@@ -1,6 +1,8 @@
 -- What applying items to the tables gives and leaves, and what the tables keep beside their rows.
-use Rattle.std.specs.Prelude.{◌≡◌, ◌<◌, ℕ, Bool, false, nat_lt, if◌then◌else◌, IsTrue, List, [], ◌∷◌, fold, take, Result, Ok, Err}
+use Rattle.std.specs.Prelude.{◌≡◌, ℕ, Bool, false, nat_lt, if◌then◌else◌, IsTrue, List, [], ◌∷◌, fold, take, Result, Ok, Err}
 use Rattle.std.specs.List.{list_all}
+use Rattle.std.specs.Ordering.{nat_cmp}
+use Rattle.std.specs.BTreeSet.{BTreeSet, contains}
 use Rattle.repo_model.specs.declared.item.Item.{Item}
 use Rattle.repo_model.specs.Tables.{Tables, RecordedSession, item_on, applied, names_blob}
 use Rattle.row_tables.specs.declared.faults.ApplyFault.{ApplyFault}
@@ -21,9 +23,9 @@ Applies old items new (Ok done) = applied old items ≡ Ok new
 Applies old items new (Err (Misfit n)) = (applied old items ≡ Err n) × (new ≡ with_items old (take n items))
 Applies old items new (Err NoMemory) = (n : ℕ) × (new ≡ with_items old (take n items))
 
--- no row names a blob above this number
-abbrev pub NamesUpTo : ℕ → Tables → Type 0
-NamesUpTo last t = (n : ℕ) → last < n → names_blob n t ≡ false
+-- each number of a blob that a row names is among these
+abbrev pub NamesAmong : BTreeSet ℕ → Tables → Type 0
+NamesAmong numbers t = (n : ℕ) → contains nat_cmp numbers n ≡ false → names_blob n t ≡ false
 
 -- sessions in rising order of number
 abbrev pub AreRising : List RecordedSession → Type 0

@@ -18,7 +18,7 @@ use crate::paths::is_snapshot;
 use crate::sessions::{SessionRow, end_in, is_next};
 use repo_model::SessionResult;
 use std::alloc::{AllocError, Global};
-use std::collections::BTreeMap;
+use std::collections::{BTreeMap, BTreeSet};
 use std::marker::Model;
 
 /// What the records hold: recorded files of hosted repositories and of proxies, kept documents, and sessions.
@@ -28,8 +28,8 @@ pub struct Tables {
     cached: BTreeMap<Place, FileRow>,
     documents: BTreeMap<Place, KeptDocument>,
     sessions: Vec<SessionRow>,
-    /// No file's blob has a greater number.
-    last_blob: u64,
+    /// The numbers of all files' blobs. Those of files that were taken away may be among them.
+    blobs: BTreeSet<u64>,
 }
 
 impl Model for Tables {
@@ -37,7 +37,7 @@ impl Model for Tables {
 
     ghost Value = { Plain };
 
-    ghost use Rattle.row_tables.specs.Applying.{NamesUpTo, AreRising};
+    ghost use Rattle.row_tables.specs.Applying.{NamesAmong, AreRising};
     ghost use Rattle.row_tables.specs.Stored.{shown_rows, shown_documents, shown_sessions};
 
     ghost view = { λ t. record {
@@ -47,7 +47,7 @@ impl Model for Tables {
       sessions = shown_sessions t.sessions.items;
     } };
 
-    ghost invariant = { λ t. NamesUpTo t.last_blob (record {
+    ghost invariant = { λ t. NamesAmong t.blobs (record {
       hosted = shown_rows t.hosted.entries;
       cached = shown_rows t.cached.entries;
       documents = shown_documents t.documents.entries;
@@ -72,7 +72,7 @@ impl Tables {
             cached: BTreeMap::new(alloc),
             documents: BTreeMap::new(alloc),
             sessions: Vec::new(alloc),
-            last_blob: 0,
+            blobs: BTreeSet::new(alloc),
         }
     }
 
@@ -110,7 +110,7 @@ impl Tables {
     fn names_blob(&self, number: u64) -> bool
         ensures { result ≡ names_blob number self.now }
     {
-        number <= self.last_blob && (names(&self.hosted, number) || names(&self.cached, number))
+        self.blobs.contains(&number) && (names(&self.hosted, number) || names(&self.cached, number))
     }
 
     // Records a file of a hosted repository at a place, where it fits.
@@ -123,8 +123,8 @@ impl Tables {
         if self.names_blob(row.blob) || file_at(&self.hosted, &place).is_some() {
             return Ok(false);
         }
+        self.blobs.insert(row.blob)?;
         add_file(&mut self.hosted, place, row)?;
-        self.last_blob = self.last_blob.max(row.blob);
         Ok(true)
     }
 
@@ -138,8 +138,8 @@ impl Tables {
         if self.names_blob(row.blob) || file_at(&self.cached, &place).is_some() {
             return Ok(false);
         }
+        self.blobs.insert(row.blob)?;
         add_file(&mut self.cached, place, row)?;
-        self.last_blob = self.last_blob.max(row.blob);
         Ok(true)
     }
 

@@ -1,9 +1,9 @@
 use Rattle.std.proofs.Common.{refl, string_bytes}
 use Rattle.repo_model.specs.Effect.{fade}
 use Rattle.row_tables.specs.Stored.{shown_documents, shown_sessions}
-use Rattle.row_tables.proofs.Kept.{up_to_changed}
+use Rattle.row_tables.proofs.Kept.{among_changed}
 use Rattle.row_tables.proofs.tables.Tables.fade.Goals as goal
 
 pub invariant_of-self : goal.invariant_of-self
 invariant_of-self c =
-    (up_to_changed _ _ _ _ (shown_documents c.self.inside.documents.entries) (shown_sessions c.self.inside.sessions.items) (string_bytes c.args.place.now.0) (string_bytes c.args.place.now.1) (fade c.args.moment) (λ row. refl) c.fade_file.ensures c.self.invariant.0, c.self.invariant.1)
+    (among_changed _ _ _ _ (shown_documents c.self.inside.documents.entries) (shown_sessions c.self.inside.sessions.items) (string_bytes c.args.place.now.0) (string_bytes c.args.place.now.1) (fade c.args.moment) (λ row. refl) c.fade_file.ensures c.self.invariant.0, c.self.invariant.1)
