@@ -20,11 +20,7 @@ use Rattle.repo_course.specs.declared.outcomes.End.{End}
 use Rattle.repo_course.specs.declared.outcomes.End.TheVariants as stream
 use Rattle.repo_course.specs.declared.said.Said.{Said}
 use Rattle.repo_course.specs.declared.said.Said.TheVariants as said
-use Rattle.course_laws.specs.Granted.{manner_for}
-
--- what the answer with a file writes: its head with the length and both checksums, and these bytes where it is not the head alone
-abbrev pub file_shown : Manner → Blob → List ℕ → List ℕ
-file_shown manner blob bytes = shown (file_answer blob manner) ++ (if manner.head_only then [] else bytes)
+use Rattle.course_laws.specs.Granted.{AreBytesOf, file_shown, manner_for}
 
 -- this is answered; or want of memory is, or a front of the one or the other is written where the count of the sink rose
 abbrev pub ShowsSaid : Manner → Said → Outside → Outside → Option End → Type 0
@@ -33,10 +29,6 @@ ShowsSaid manner answer old new end = Says (answer_of answer manner) (memory_ans
 -- want of memory is answered, and the stream ends; or a front of that is written where the count of the sink rose
 abbrev pub ShowsMemory : Bool → Outside → Outside → Option End → Type 0
 ShowsMemory head_only old new end = Says (memory_answer head_only) (memory_answer head_only) (Some stream.Closed) old new end
-
--- these are bytes of the blob: those that it tells, and, unless the head alone is sent, of its recorded length and digests
-abbrev pub AreBytesOf : Manner → Blob → List ℕ → Type 0
-AreBytesOf manner blob bytes = IsWhereTold blob.bytes bytes × (manner.head_only ≡ false → blob.print ≡ print_of bytes)
 
 -- What is seen of the answer with a file: 200 with its length and both checksums and its bytes, whole, which have these. Or the
 -- blobs did not give them, whose count rose then, and 503 `blob-fault` is answered, never to a HEAD; or the blob, which does not

@@ -22,7 +22,7 @@ use Rattle.course_laws.specs.AsPlayed.{RowsTold}
 use Rattle.course_laws.specs.Duties.{Early as Ending, by_memory, by_side, Keeps, SaysFor, Stand, StopsFor, MayAsk, stand_after}
 use Rattle.course_laws.specs.Faultless.{Played, Scene, due_entry, play, wrote}
 use Rattle.course_laws.proofs.Counts.{Grew, rose-before}
-use Rattle.course_laws.proofs.Kept.{reply-goes}
+use Rattle.course_laws.proofs.Replies.{reply-goes}
 
 -- memory was wanted, behind what may stand there then, and that was answered or the sink failed in it; or the source or the sink failed
 abbrev pub Ended : (So : Bool → List ℕ → Type 0) (head_only : Bool) (front part : List ℕ) → Outside → Outside → Option End → Type 0

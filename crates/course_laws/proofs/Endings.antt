@@ -35,7 +35,8 @@ use Rattle.course_laws.specs.Duties.{Early, by_memory, by_side, has_read, Keeps,
 use Rattle.course_laws.specs.Duties.{most_asked, most_for, most_of}
 use Rattle.course_laws.specs.Endings.{EndsByCause, NoneRose}
 use Rattle.course_laws.proofs.Passes.{passes-few}
-use Rattle.course_laws.proofs.Kept.{IsCalm, asking, end-calm, opens-keeps, reply-goes, shows_head, standing}
+use Rattle.course_laws.proofs.Kept.{IsCalm, asking, end-calm, opens-keeps, shows_head, standing}
+use Rattle.course_laws.proofs.Replies.{reply-goes}
 
 -- where a course stands, and how it ends, in the counts since the turn began
 abbrev Caused : Option Early → Outside → Outside → Type 0

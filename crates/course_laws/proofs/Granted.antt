@@ -12,7 +12,7 @@ use Rattle.http_wire.specs.Front.{Front, Clean, Cut, Bad, Whole, front}
 use Rattle.http_wire.specs.Head.{Head}
 use Rattle.http_wire.specs.declared.answers.Answer.{Answer}
 use Rattle.std.specs.List.{AllByRecursion}
-use Rattle.repo_model.specs.Command.{Command, look, done, may_put, put, put_side, put_doc, drop_draft, open_session, stage, commit, abort, status, unlist, collect}
+use Rattle.repo_model.specs.Command.{Command, done, unlist, collect}
 use Rattle.repo_model.specs.declared.print.Print.{Print}
 use Rattle.repo_model.specs.Data.{Blob}
 use Rattle.repo_model.specs.History.{Entry}
@@ -36,7 +36,7 @@ use Rattle.repo_course.specs.declared.outcomes.Sent.TheVariants as sent
 use Rattle.repo_course.specs.declared.outcomes.Took.TheVariants as took
 use Rattle.repo_course.specs.declared.said.Said.{Said}
 use Rattle.repo_course.specs.declared.said.Said.TheVariants as said
-use Rattle.repo_course.specs.Serving.{Begins, Continues, Follows, IsOtherContent, IsWhole, Opens, clean, torn, failed, refused, unread_head, starved as head_starved, served, Outside, Reads, ReadsBody, Says, whole, memory, cut, SendsAnswer, Takes, Turn, store_of, with_store, writes}
+use Rattle.repo_course.specs.Serving.{Begins, Continues, Follows, IsOtherContent, IsWhole, Opens, clean, torn, failed, refused, unread_head, starved as head_starved, served, Outside, Reads, ReadsBody, Says, whole, memory, cut, print_of, SendsAnswer, Takes, Turn, store_of, with_store, writes}
 use Rattle.course_laws.specs.AsPlayed.{NoFaults, StoodStill}
 use Rattle.course_laws.specs.Causes.{due_after, for_pass, for_text}
 use Rattle.course_laws.specs.Faultless.{done_by}
@@ -48,6 +48,7 @@ use Rattle.course_laws.proofs.HeadOnly.{judged-head}
 use Rattle.course_laws.proofs.Kept.{judged-keeps}
 use Rattle.course_laws.proofs.Passes.{ArePass, IsPassCommand, as_pass, pass-kept, pass-tells, passes-ask, passes-hold, passes-rose}
 use Rattle.course_laws.proofs.PlayedActs.{front-of, risen}
+use Rattle.course_laws.proofs.Replies.{starves}
 use Rattle.course_laws.proofs.Succeeding.{request-succeeds}
 
 -- no count rose
@@ -100,14 +101,14 @@ writes-writes a b o = ap (λ (out : Option (List ℕ)). record o { output = out 
 
 -- what was written is the answer's head, and the file's bytes where it is not the head alone
 sent-whole : (only : Bool) (blob : Blob) (head : List ℕ) (old mid : Outside) → SendsAnswer only blob head sent.Whole old mid
-    → (bytes : List ℕ) × IsWhereTold blob.bytes bytes × (mid ≡ writes (head ++ (if only then [] else bytes)) old)
+    → (bytes : List ℕ) × (IsWhereTold blob.bytes bytes × (only ≡ false → blob.print ≡ print_of bytes)) × (mid ≡ writes (head ++ (if only then [] else bytes)) old)
 sent-whole true blob head old mid t =
-    (unwrap_or blob.bytes [], told blob.bytes, t ∙ ap (λ b. writes b old) (sym (append-nil head)))
+    (unwrap_or blob.bytes [], (told blob.bytes, λ bodied. absurd (false≢true (sym bodied))), t ∙ ap (λ b. writes b old) (sym (append-nil head)))
   where
     told : (bytes : Option (List ℕ)) → IsWhereTold bytes (unwrap_or bytes [])
     told None = tt
     told (Some bytes) = refl
-sent-whole false blob head old mid t = (t.0, t.1.0, t.2)
+sent-whole false blob head old mid t = (t.0, (t.1.0, λ bodied. t.1.1), t.2)
 
 sent-unwritten : (only : Bool) (blob : Blob) (head : List ℕ) (old mid : Outside) → SendsAnswer only blob head sent.NoMemory old mid
     → mid.output ≡ old.output
@@ -185,22 +186,6 @@ module _ (manner : Manner) where
   starved-so head_only to_head invited left answer lent old mid new end kept q said =
       let so = memory-said head_only mid new end q said in
       starved [] head_only to_head (inl refl) (ap (λ o. o.output) so.0 ∙ ap (λ out. behind out (shown (memory_answer head_only))) kept) so.1
-
--- memory that is wanted for a command shows in what the course must end by; what only gives back is granted anyhow
-starves : (command : Command) (s : Stand) → MayAsk command s → Grants command no_memory ⊎ (stand_after command no_memory s ≡ starving s)
-starves (look repo path tried) s may = inr refl
-starves (done lease) s may = inl tt
-starves (may_put place path) s may = inr refl
-starves (put repo path n blob) s may = inr refl
-starves (put_side place path said) s may = inr refl
-starves (put_doc place path) s may = inr refl
-starves (open_session repo) s may = inr refl
-starves (stage at path n blob) s may = inr refl
-starves (commit n) s may = inr refl
-starves (abort n) s may = inr refl
-starves (drop_draft n) s may = inl tt
-starves status s may = inr refl
-starves _ s may = absurd may
 
 granted-or-starved : (command : Command) (e : Entry) (s : Stand) → e.command ≡ command → MayAsk command s → Grants e.command e.reply ⊎ (e.reply ≡ no_memory)
     → Grants command e.reply ⊎ (stand_after command e.reply s ≡ starving s)

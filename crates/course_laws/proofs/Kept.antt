@@ -1,5 +1,5 @@
 -- The courses of a stream do what they owe.
-use Rattle.std.proofs.Common.{◌≡◌, ◌⊎◌, inl, inr, ℕ, suc, ◌≤◌, Bool, true, false, ◌||◌, List, Option, Some, None, Result, Ok, Err, arith, refl, sym, subst}
+use Rattle.std.proofs.Common.{◌≡◌, ℕ, suc, ◌≤◌, Bool, true, false, ◌||◌, List, Option, Some, None, Result, Ok, Err, arith, refl, sym, subst}
 use Rattle.std.specs.Prelude.{nat_lt, if◌then◌else◌}
 use Rattle.std.proofs.lemmas.Bool.{ltb-false}
 use Rattle.http_wire.specs.declared.faults.HeadFault.{HeadFault}
@@ -8,7 +8,7 @@ use Rattle.mvn_coords.specs.declared.fault.Side.{Side}
 use Rattle.mvn_digest.specs.Sides.{read_side}
 use Rattle.mvn_doc.specs.Reading.{reading}
 use Rattle.mvn_metadata.specs.Document.{Document}
-use Rattle.repo_model.specs.Command.{Command, look, done, may_put, put as puts, put_side, put_doc, drop_draft, open_session, stage, commit, abort, status}
+use Rattle.repo_model.specs.Command.{done}
 use Rattle.repo_model.specs.Data.{Blob, Place, repository, session}
 use Rattle.repo_model.specs.Reply.{Reply, file, text, doc, missed, kind_refused, draft, no_draft, taken, same, relisted, created, not_there, differs, agreed, noted, no_session, sessions_full, opened, session_full, staged, offends, missing_pom, ended, counts as counts_reply, spent, store_fault}
 use Rattle.repo_model.specs.Settings.{Settings}
@@ -28,7 +28,7 @@ use Rattle.repo_course.specs.declared.outcomes.Sent.TheVariants as sent
 use Rattle.repo_course.specs.declared.outcomes.Took.{Took}
 use Rattle.repo_course.specs.declared.outcomes.Took.TheVariants as took
 use Rattle.repo_course.specs.Serving.{Opens, clean, torn, failed, refused, unread_head, starved, served, Outside}
-use Rattle.course_laws.specs.Duties.{Keeps, most_for, most_of, stand_cleaned, MayAsk, Stand, stand_after, at_first, by_memory, failing, has_aborted, has_committed, has_counted, has_opened, has_put, has_put_doc, has_put_side, has_read, has_staged, is_head_only, length_of, looked, asked_draft, stand_continued, stand_fault, stand_read, stand_sent, stand_stored, starving, unread_of}
+use Rattle.course_laws.specs.Duties.{Keeps, most_for, most_of, stand_cleaned, Stand, at_first, failing, has_aborted, has_committed, has_counted, has_opened, has_put, has_put_doc, has_put_side, has_read, has_staged, is_head_only, length_of, looked, asked_draft, stand_continued, stand_fault, stand_read, stand_sent, stand_stored, starving, unread_of}
 
 -- the stream goes on, or is closed
 abbrev pub IsCalm : Option End → Type 0
@@ -274,96 +274,6 @@ opens-keeps settings last old new c (starved head rest begins uses is) =
 opens-keeps settings last old new c (served head rest begins uses is) =
     let judged = judge settings head in
     subst (λ (d : Course). Keeps (is_head_only judged) d (most_of judged) (at_first (unread_of judged))) (sym is) (judged-keeps judged last)
-
--- a reply leaves the way that a course must end by, or memory was wanted
-abbrev Goes : Stand → Stand → Type 0
-Goes old new = (new.early ≡ old.early) ⊎ ((old.early ≡ None) × (new.early ≡ Some by_memory))
-
-looked-goes : (reply : Reply) (s : Stand) → s.early ≡ None → Goes s (looked reply s)
-looked-goes (file lease blob) s none = inl refl
-looked-goes (text bytes) s none = inl refl
-looked-goes (doc bytes digests) s none = inl refl
-looked-goes missed s none = inl refl
-looked-goes spent s none = inl refl
-looked-goes reply s none = inr (none, refl)
-
-asked-goes : (reply : Reply) (s : Stand) → s.early ≡ None → Goes s (asked_draft reply s)
-asked-goes (draft n) s none = inl refl
-asked-goes no_session s none = inl refl
-asked-goes kind_refused s none = inl refl
-asked-goes session_full s none = inl refl
-asked-goes spent s none = inl refl
-asked-goes reply s none = inr (none, refl)
-
-put-goes : (reply : Reply) (s : Stand) → s.early ≡ None → Goes s (has_put reply s)
-put-goes created s none = inl refl
-put-goes same s none = inl refl
-put-goes relisted s none = inl refl
-put-goes (taken kept given) s none = inl refl
-put-goes no_draft s none = inl refl
-put-goes store_fault s none = inl refl
-put-goes reply s none = inr (none, refl)
-
-stage-goes : (reply : Reply) (s : Stand) → s.early ≡ None → Goes s (has_staged reply s)
-stage-goes staged s none = inl refl
-stage-goes same s none = inl refl
-stage-goes (taken kept given) s none = inl refl
-stage-goes session_full s none = inl refl
-stage-goes no_session s none = inl refl
-stage-goes no_draft s none = inl refl
-stage-goes reply s none = inr (none, refl)
-
-side-goes : (reply : Reply) (s : Stand) → s.early ≡ None → Goes s (has_put_side reply s)
-side-goes agreed s none = inl refl
-side-goes (differs said kept) s none = inl refl
-side-goes not_there s none = inl refl
-side-goes no_session s none = inl refl
-side-goes reply s none = inr (none, refl)
-
-doc-goes : (reply : Reply) (s : Stand) → s.early ≡ None → Goes s (has_put_doc reply s)
-doc-goes noted s none = inl refl
-doc-goes no_session s none = inl refl
-doc-goes reply s none = inr (none, refl)
-
-counts-goes : (reply : Reply) (s : Stand) → s.early ≡ None → Goes s (has_counted reply s)
-counts-goes (counts_reply files fading cached documents sessions) s none = inl refl
-counts-goes reply s none = inr (none, refl)
-
-open-goes : (reply : Reply) (s : Stand) → s.early ≡ None → Goes s (has_opened reply s)
-open-goes (opened n) s none = inl refl
-open-goes sessions_full s none = inl refl
-open-goes spent s none = inl refl
-open-goes store_fault s none = inl refl
-open-goes reply s none = inr (none, refl)
-
-commit-goes : (reply : Reply) (s : Stand) → s.early ≡ None → Goes s (has_committed reply s)
-commit-goes (ended result) s none = inl refl
-commit-goes (offends path kept given) s none = inl refl
-commit-goes (missing_pom directory) s none = inl refl
-commit-goes no_session s none = inl refl
-commit-goes store_fault s none = inl refl
-commit-goes reply s none = inr (none, refl)
-
-abort-goes : (reply : Reply) (s : Stand) → s.early ≡ None → Goes s (has_aborted reply s)
-abort-goes (ended result) s none = inl refl
-abort-goes no_session s none = inl refl
-abort-goes store_fault s none = inl refl
-abort-goes reply s none = inr (none, refl)
-
-pub reply-goes : (command : Command) (reply : Reply) (s : Stand) → MayAsk command s → Goes s (stand_after command reply s)
-reply-goes (look repo path tried) reply s may = looked-goes reply s may.1
-reply-goes (done lease) reply s may = inl refl
-reply-goes (may_put place path) reply s may = asked-goes reply s may.1
-reply-goes (puts repo path n blob) reply s may = put-goes reply s may.1
-reply-goes (put_side place path said) reply s may = side-goes reply s may
-reply-goes (put_doc place path) reply s may = doc-goes reply s may
-reply-goes (drop_draft n) reply s may = inl refl
-reply-goes (open_session repo) reply s may = open-goes reply s may
-reply-goes (stage at path n blob) reply s may = stage-goes reply s may.1
-reply-goes (commit n) reply s may = commit-goes reply s may
-reply-goes (abort n) reply s may = abort-goes reply s may
-reply-goes status reply s may = counts-goes reply s may
-reply-goes _ reply s may = absurd may
 
 -- an act outside changes nothing of what is held
 module _ (P : Option ℕ → Option ℕ → Type 0) where

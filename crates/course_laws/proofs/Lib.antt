@@ -1,4 +1,5 @@
 pub mod Alls
+pub mod Replies
 pub mod Kept
 pub mod Bodies
 pub mod Endings

@@ -1,15 +1,14 @@
 -- A course is followed as it is played, up to where memory is wanted or the source or the sink fails, if nothing else fails.
 use Rattle.std.proofs.Common.{◌≡◌, ℕ, zero, suc, ◌≤◌, Bool, true, false, arith, inl, inr, List, [], ◌∷◌, ◌++◌, drop, Option, Some, None, Ok, Err, IsTrue, refl, sym, subst, ap, ◌∙◌, append-nil}
 use Rattle.std.specs.Prelude.{if◌then◌else◌, unwrap_or}
-use Rattle.std.proofs.lemmas.Bool.{false≢true}
 use Rattle.std.proofs.lemmas.Option.{none-some}
 use Rattle.std.proofs.Math.Seq.{drop-append_seam}
 use Rattle.outside.specs.Blobs.{with_blob}
 use Rattle.http_wire.specs.Answer.{continue_bytes, shown}
-use Rattle.repo_model.specs.Command.{Command, look, done, may_put, put, put_side, put_doc, drop_draft, open_session, stage, commit, abort, status}
+use Rattle.repo_model.specs.Command.{Command, done, put, stage}
 use Rattle.repo_model.specs.Data.{Blob}
 use Rattle.repo_model.specs.History.{Entry, Legal, after, due, wants_memory, failed, end as end_of}
-use Rattle.repo_model.specs.Reply.{Reply, file, text, doc, missed, spent, draft, kind_refused, created, same, relisted, taken, no_draft, no_memory, agreed, differs, not_there, noted, no_session, sessions_full, opened, session_full, staged, offends, missing_pom, ended, counts as counts_reply, store_fault, takes_memory}
+use Rattle.repo_model.specs.Reply.{Reply, file, no_memory, takes_memory}
 use Rattle.repo_model.specs.Settings.{Settings}
 use Rattle.repo_model.specs.State.{State}
 use Rattle.repo_course.specs.Answers.{file_answer}
@@ -25,122 +24,24 @@ use Rattle.repo_course.specs.declared.outcomes.Sent.TheVariants as sent
 use Rattle.repo_course.specs.declared.outcomes.Took.TheVariants as took
 use Rattle.repo_course.specs.Serving.{Continues, Follows, Outside, Reads, SendsAnswer, Takes, store_of, with_store, writes}
 use Rattle.course_laws.specs.AsPlayed.{RowsTold}
-use Rattle.course_laws.specs.Duties.{by_memory, Keeps, MayAsk, Stand, asked_draft, has_aborted, has_committed, has_counted, has_opened, has_put, has_put_doc, has_put_side, has_read, has_staged, looked, stand_after, stand_continued, stand_read, stand_sent, stand_stored, starving}
+use Rattle.course_laws.specs.Duties.{by_memory, Keeps, MayAsk, Stand, has_read, stand_after, stand_continued, stand_read, stand_sent, stand_stored, starving}
 use Rattle.course_laws.specs.Faultless.{body_of, due_entry, play, taken_body, wrote}
 use Rattle.course_laws.proofs.LeftBehind.{end_append, legal_cut}
 use Rattle.course_laws.proofs.Passes.{entries-clock, entries-told, no-store-faults, passes-ask, passes-hold, passes-played, passes-rose}
 use Rattle.course_laws.proofs.Counts.{Calm, Grew, calm-first, calm-then, cleans-grew, follows-grew, reads-body-grew, sends-grew, takes-grew}
 use Rattle.course_laws.proofs.Early.{Outcome, Ready, ends-early, outcome-before, outcome-so, says-memory}
 use Rattle.course_laws.proofs.PlayedActs.{InHandTold, Plays, at, body-torn, body-whole, bytes-are, front-of, memory-play, risen, says-play, short-of, sink-play, source-play, stops-play, taken-torn, taken-whole, told-is, torn-play, untold, unwritten, wrote-play}
+use Rattle.course_laws.proofs.Replies.{memory-early, reply-lends}
 use Rattle.course_laws.proofs.Unsent.{MayStarve, read-may, reply-may, says-unsent, starves-unsent}
 use Rattle.course_laws.proofs.Told.{CommandTold, ReplyTold, after-told, clock-stays, due-is, faults-are, faults-grow, moment-is, reply-told}
 
 reply-in-hand : (c : Command) (reply : Reply) (s : Stand) → MayAsk c s → ReplyTold reply → InHandTold s.blob → InHandTold (stand_after c reply s).blob
-reply-in-hand (look repo path tried) reply s may told hand = looks reply told
-  where
-    looks : (reply : Reply) → ReplyTold reply → InHandTold (looked reply s).blob
-    looks (file lease blob) told = told
-    looks (text bytes) told = hand
-    looks (doc bytes digests) told = hand
-    looks missed told = hand
-    looks spent told = hand
-    looks _ told = hand
-reply-in-hand (done lease) reply s may told hand = hand
-reply-in-hand (may_put place path) reply s may told hand = draws reply
-  where
-    draws : (reply : Reply) → InHandTold (asked_draft reply s).blob
-    draws (draft n) = hand
-    draws no_session = hand
-    draws kind_refused = hand
-    draws session_full = hand
-    draws spent = hand
-    draws _ = hand
-reply-in-hand (put repo path n blob) reply s may told hand = puts reply
-  where
-    puts : (reply : Reply) → InHandTold (has_put reply s).blob
-    puts created = hand
-    puts same = hand
-    puts relisted = hand
-    puts (taken kept given) = hand
-    puts no_draft = hand
-    puts store_fault = hand
-    puts _ = hand
-reply-in-hand (put_side place path said) reply s may told hand = compares reply
-  where
-    compares : (reply : Reply) → InHandTold (has_put_side reply s).blob
-    compares agreed = hand
-    compares (differs said kept) = hand
-    compares not_there = hand
-    compares no_session = hand
-    compares _ = hand
-reply-in-hand (put_doc place path) reply s may told hand = notes reply
-  where
-    notes : (reply : Reply) → InHandTold (has_put_doc reply s).blob
-    notes noted = hand
-    notes no_session = hand
-    notes _ = hand
-reply-in-hand (drop_draft n) reply s may told hand = hand
-reply-in-hand (open_session repo) reply s may told hand = opens reply
-  where
-    opens : (reply : Reply) → InHandTold (has_opened reply s).blob
-    opens (opened n) = hand
-    opens sessions_full = hand
-    opens spent = hand
-    opens store_fault = hand
-    opens _ = hand
-reply-in-hand (stage at path n blob) reply s may told hand = stages reply
-  where
-    stages : (reply : Reply) → InHandTold (has_staged reply s).blob
-    stages staged = hand
-    stages same = hand
-    stages (taken kept given) = hand
-    stages session_full = hand
-    stages no_session = hand
-    stages no_draft = hand
-    stages _ = hand
-reply-in-hand (commit n) reply s may told hand = commits reply
-  where
-    commits : (reply : Reply) → InHandTold (has_committed reply s).blob
-    commits (ended result) = hand
-    commits (offends path kept given) = hand
-    commits (missing_pom directory) = hand
-    commits no_session = hand
-    commits store_fault = hand
-    commits _ = hand
-reply-in-hand (abort n) reply s may told hand = aborts reply
-  where
-    aborts : (reply : Reply) → InHandTold (has_aborted reply s).blob
-    aborts (ended result) = hand
-    aborts no_session = hand
-    aborts store_fault = hand
-    aborts _ = hand
-reply-in-hand status reply s may told hand = tells reply
-  where
-    tells : (reply : Reply) → InHandTold (has_counted reply s).blob
-    tells (counts_reply files fading cached documents sessions) = hand
-    tells _ = hand
-reply-in-hand _ reply s may told hand = absurd may
+reply-in-hand c reply s may told hand = reply-lends InHandTold c reply s may (λ lease blob is. subst ReplyTold is told) hand
 
 command-in-hand : (c : Command) (s : Stand) → MayAsk c s → InHandTold s.blob → CommandTold c
 command-in-hand (put repo path n blob) s may hand = subst (λ b. InHandTold b) may.2 hand
 command-in-hand (stage at path n blob) s may hand = subst (λ b. InHandTold b) may.2 hand
 command-in-hand _ s may hand = tt
-
--- a command that memory was wanted for
-memory-early : (c : Command) (s : Stand) → MayAsk c s → IsTrue (takes_memory c) → (stand_after c no_memory s).early ≡ Some by_memory
-memory-early (look repo path tried) s may can = refl
-memory-early (done lease) s may can = absurd (false≢true can)
-memory-early (may_put place path) s may can = refl
-memory-early (put repo path n blob) s may can = refl
-memory-early (put_side place path said) s may can = refl
-memory-early (put_doc place path) s may can = refl
-memory-early (drop_draft n) s may can = absurd (false≢true can)
-memory-early (open_session repo) s may can = refl
-memory-early (stage at path n blob) s may can = refl
-memory-early (commit n) s may can = refl
-memory-early (abort n) s may can = refl
-memory-early status s may can = refl
-memory-early _ s may can = absurd may
 
 module _ (settings : Settings) (tells : Type 0) (witness : tells) (head_only : Bool) where
   asks-play : (command : Command) (next : Reply → Course) → ((reply : Reply) → Plays settings tells head_only (next reply)) → Plays settings tells head_only (asks command next)

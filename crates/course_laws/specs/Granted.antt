@@ -14,7 +14,7 @@ use Rattle.repo_model.specs.Reply.{Reply, file, text, doc, draft, same, relisted
 use Rattle.repo_routes.specs.Intent.{Intent, Judged, reads as reads_path, puts_file, puts_side, puts_document, counts, cleans as cleans_all, opens, commits, aborts}
 use Rattle.repo_course.specs.Answers.{answer_of, file_answer, full_answer, memory_answer}
 use Rattle.repo_course.specs.Course.{Course, asks, continues, takes, reads, sends, cleans, says, stops, end_of}
-use Rattle.repo_course.specs.Serving.{IsOtherContent, Outside, writes}
+use Rattle.repo_course.specs.Serving.{IsOtherContent, Outside, print_of, writes}
 use Rattle.repo_course.specs.declared.manner.Manner.{Manner}
 use Rattle.repo_course.specs.declared.outcomes.Cleaned.{Cleaned}
 use Rattle.repo_course.specs.declared.outcomes.Continued.TheVariants.{Written}
@@ -182,6 +182,14 @@ abbrev pub invitation : Bool → List ℕ
 invitation true = continue_bytes
 invitation false = []
 
+-- what the answer with a file writes: its head with the length and both checksums, and these bytes where it is not the head alone
+abbrev pub file_shown : Manner → Blob → List ℕ → List ℕ
+file_shown manner blob bytes = shown (file_answer blob manner) ++ (if manner.head_only then [] else bytes)
+
+-- these are bytes of the blob: those that it tells, and, unless the head alone is sent, of its recorded length and digests
+abbrev pub AreBytesOf : Manner → Blob → List ℕ → Type 0
+AreBytesOf manner blob bytes = IsWhereTold blob.bytes bytes × (manner.head_only ≡ false → blob.print ≡ print_of bytes)
+
 -- What came to the sink and was used of the input, which is told: the invitation and the answer, whole; or the invitation and the
 -- file, whole, or the head of its answer alone; or, where its blob has another content than was recorded, the answer that says
 -- so; or, where memory was wanted, the answer that says so, its head alone to HEAD only, in front of which the invitation stands
@@ -191,8 +199,8 @@ pub data IsServed (manner : Manner) (invited : List ℕ) (left : List ℕ) (answ
   answered : (said : Said) (kept : Shelf) → answer ≡ Some said → IsSuccess (full_answer said).status
       → new ≡ writes (invited ++ shown (answer_of said manner)) (record old { input = Some left; shelf = kept })
       → end ≡ end_of manner → IsServed manner invited left answer lent old new end
-  sent : (blob : Blob) (bytes : List ℕ) (kept : Shelf) → lent ≡ Some blob → IsWhereTold blob.bytes bytes
-      → new ≡ writes (invited ++ (shown (file_answer blob manner) ++ (if manner.head_only then [] else bytes))) (record old { input = Some left; shelf = kept })
+  sent : (blob : Blob) (bytes : List ℕ) (kept : Shelf) → lent ≡ Some blob → AreBytesOf manner blob bytes
+      → new ≡ writes (invited ++ file_shown manner blob bytes) (record old { input = Some left; shelf = kept })
       → end ≡ end_of manner → IsServed manner invited left answer lent old new end
   differs : (blob : Blob) (recorded found : Print) (kept : Shelf) → lent ≡ Some blob → manner.head_only ≡ false → IsOtherContent blob recorded found
       → new ≡ writes (invited ++ shown (answer_of (BlobDiffers recorded found) manner)) (record old { input = Some left; shelf = kept })
