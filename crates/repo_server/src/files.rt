@@ -83,8 +83,11 @@ pub fn read_body<S: Source>(
     }
 }
 
-/// Writes the head of a file's answer and the file's bytes.
-fn write_file<O: Sink>(head: &[u8], bytes: &[u8], sink: &mut O) -> Sent
+// A file of at most these bytes is written at once with the head of its answer, so in one packet where it is small.
+const TOGETHER: usize = 65_536;
+
+/// Writes the head of a file's answer and the file's bytes, one after the other.
+fn write_apart<O: Sink>(head: &[u8], bytes: &[u8], sink: &mut O) -> Sent
     ensures { (blob : Blob) (held : List ℕ) (blobs : ℕ) (shelf : Shelf) → IsContentOf blob bytes.now → Sends blob head.now result
         (outside ⟦<O as Tells>⟧ held sink.old blobs shelf) (outside ⟦<O as Tells>⟧ held sink.new blobs shelf) }
 {
@@ -97,6 +100,32 @@ fn write_file<O: Sink>(head: &[u8], bytes: &[u8], sink: &mut O) -> Sent
     }
 }
 
+/// Writes them at once.
+fn write_together<O: Sink>(mut head: Vec<u8>, bytes: &[u8], sink: &mut O) -> Sent
+    ensures { (blob : Blob) (held : List ℕ) (blobs : ℕ) (shelf : Shelf) → IsContentOf blob bytes.now → Sends blob head.items result
+        (outside ⟦<O as Tells>⟧ held sink.old blobs shelf) (outside ⟦<O as Tells>⟧ held sink.new blobs shelf) }
+{
+    match head.extend_from_slice(bytes) {
+        Ok(()) => match write_all(sink, head.as_slice()) {
+            Ok(()) => Sent::Whole,
+            Err(_) => Sent::SinkFault,
+        },
+        Err(_) => Sent::NoMemory,
+    }
+}
+
+/// Writes the head of a file's answer and the file's bytes.
+fn write_file<O: Sink>(head: Vec<u8>, bytes: &[u8], sink: &mut O) -> Sent
+    ensures { (blob : Blob) (held : List ℕ) (blobs : ℕ) (shelf : Shelf) → IsContentOf blob bytes.now → Sends blob head.items result
+        (outside ⟦<O as Tells>⟧ held sink.old blobs shelf) (outside ⟦<O as Tells>⟧ held sink.new blobs shelf) }
+{
+    if bytes.len() <= TOGETHER {
+        write_together(head, bytes, sink)
+    } else {
+        write_apart(head.as_slice(), bytes, sink)
+    }
+}
+
 /// Reads a blob and writes `head` and its bytes, which are looked at before: they have the recorded length and digests.
 ///
 /// Nothing is written where the blob is not read or has another content. `BlobFault` and `SinkFault` come where the count of
@@ -105,10 +134,10 @@ fn write_file<O: Sink>(head: &[u8], bytes: &[u8], sink: &mut O) -> Sent
 pub fn send_file<B: Blobs, O: Sink>(
     blobs: &mut B,
     parcel: &Parcel<B::Held>,
-    head: &[u8],
+    head: Vec<u8>,
     sink: &mut O,
 ) -> Sent
-    ensures { (held : List ℕ) → Sends (shown_parcel parcel.now) head.now result
+    ensures { (held : List ℕ) → Sends (shown_parcel parcel.now) head.items result
         (outside ⟦<O as Tells>⟧ held sink.old (B.faults blobs.old) (B.shelf blobs.old)) (outside ⟦<O as Tells>⟧ held sink.new (B.faults blobs.new) (B.shelf blobs.new)) }
 {
     match read_checked(blobs, parcel) {

@@ -87,7 +87,7 @@ pub fn send<B: Blobs, O: Sink>(
             if manner.head_only {
                 send_head(head.as_slice(), sink)
             } else {
-                send_file(blobs, parcel, head.as_slice(), sink)
+                send_file(blobs, parcel, head, sink)
             }
         }
         Err(_) => Sent::NoMemory,
