@@ -10,10 +10,10 @@ use Rattle.mvn_digest.specs.Digests.{digests_of}
 use Rattle.repo_model.specs.Data.{Blob, Hosted, Staged, Session, repository, session}
 use Rattle.repo_model.specs.Settings.{Settings}
 use Rattle.repo_model.specs.Paths.{takes}
-use Rattle.repo_model.specs.State.{State, hosted_of, open_of, rows_of, is_open, is_among, number_end, most_sessions}
-use Rattle.repo_model.specs.Effect.{draws, drops, discards, lends, opens, ends, with_effects}
-use Rattle.repo_model.specs.Command.{Command, look, done, may_put, drop_draft, open_session, is_fit}
-use Rattle.repo_model.specs.Reply.{Reply, file, text, doc, missed, given_back, draft, dropped, opened, spent, kind_refused, no_session, session_full, sessions_full, no_memory, store_fault, is_free, can_get, takes_memory}
+use Rattle.repo_model.specs.State.{State, hosted_of, open_of, rows_of, is_open, number_end, most_sessions}
+use Rattle.repo_model.specs.Effect.{draws, discards, lends, opens, ends, with_effects}
+use Rattle.repo_model.specs.Command.{Command, look, done, may_put, open_session, is_fit}
+use Rattle.repo_model.specs.Reply.{Reply, file, text, doc, missed, given_back, draft, opened, spent, kind_refused, no_session, session_full, sessions_full, no_memory, store_fault, is_free, can_get, takes_memory}
 use Rattle.repo_model.specs.Turn.{Turn, turn, says, draws_or_spent, draws_draft, in_repository, may_put_in, has_room, Seen, is_file, is_text, is_doc, is_nothing, seen_at, shows}
 use Rattle.repo_model.specs.History.{Entry, IsReply, due, wants_memory, failed, Fits, ticked, commits, effects_of, after, Legal}
 use Rattle.repo_laws.specs.Replies.{is_refusal, given_up, may_change_rows, takes_at, takes_in, AsksAlike}
@@ -34,16 +34,16 @@ module _ (settings : Settings) (s : State) (now : ℕ) where
   case-refused c t (shows_doc repo path tried bytes) refused = absurd (false≢true refused)
   case-refused c t (takes_back lease) refused = absurd (false≢true refused)
   case-refused c t (gives_draft place path more) refused = absurd (false≢true refused)
-  case-refused c t (makes_row repo path n blob among) refused = absurd (false≢true refused)
+  case-refused c t (makes_row repo path n blob among free) refused = absurd (false≢true refused)
   case-refused c t (has_same repo path n blob among) refused = absurd (false≢true refused)
-  case-refused c t (lists_again repo path n blob among) refused = absurd (false≢true refused)
+  case-refused c t (lists_again repo path n blob among row since found phase_is) refused = absurd (false≢true refused)
   case-refused c t (gives_up n among) refused = absurd (false≢true refused)
-  case-refused c t (opens_one repo more) refused = absurd (false≢true refused)
-  case-refused c t (stages_one at path n blob number among) refused = absurd (false≢true refused)
+  case-refused c t (opens_one repo more few) refused = absurd (false≢true refused)
+  case-refused c t (stages_one at path n blob one among known free room) refused = absurd (false≢true refused)
   case-refused c t (stage_same at path n blob among) refused = absurd (false≢true refused)
-  case-refused c t (deploys n one is) refused = absurd (false≢true refused)
-  case-refused c t (aborts n one) refused = absurd (false≢true refused)
-  case-refused c t (unlists repo h) refused = absurd (false≢true refused)
+  case-refused c t (deploys n one is going) refused = absurd (false≢true refused)
+  case-refused c t (aborts n one is going) refused = absurd (false≢true refused)
+  case-refused c t (unlists repo h is) refused = absurd (false≢true refused)
   case-refused c t collects refused = absurd (false≢true refused)
   case-refused c t case refused = refl
 
@@ -54,11 +54,11 @@ module _ (settings : Settings) (s : State) (now : ℕ) where
   discards-hosted number (f ∷ files) u = discards-hosted number files (with_effects u (discards number f.path f.blob.number ∷ []))
 
   case-rows : (c : Command) (t : Turn) → Case settings s now c t → may_change_rows t.reply ≡ false → (u : State) → (with_effects u t.effects).hosted ≡ u.hosted
-  case-rows c t (makes_row repo path n blob among) still u = absurd (false≢true (sym still))
-  case-rows c t (lists_again repo path n blob among) still u = absurd (false≢true (sym still))
-  case-rows c t (deploys n one is) still u = absurd (false≢true (sym still))
-  case-rows c t (aborts n one) still u = discards-hosted one.number one.staged u
-  case-rows c t (unlists repo h) still u = absurd (false≢true (sym still))
+  case-rows c t (makes_row repo path n blob among free) still u = absurd (false≢true (sym still))
+  case-rows c t (lists_again repo path n blob among row since found phase_is) still u = absurd (false≢true (sym still))
+  case-rows c t (deploys n one is going) still u = absurd (false≢true (sym still))
+  case-rows c t (aborts n one is going) still u = discards-hosted one.number one.staged u
+  case-rows c t (unlists repo h is) still u = absurd (false≢true (sym still))
   case-rows c t collects still u = absurd (false≢true (sym still))
   case-rows c t case still u = refl
 
@@ -72,7 +72,7 @@ due-all settings s e bound = ap (λ b. if b then [] else (turn settings s e.mome
 pub no-free : (settings : Settings) (s : State) (now : ℕ) (c : Command) → is_free (turn settings s now c).reply ≡ false
 no-free settings s now c = free-case c (turn settings s now c) (turn-case settings s now c) where
   free-case : (c : Command) (t : Turn) → Case settings s now c t → is_free t.reply ≡ false
-  free-case c t (unlists repo h) = refl
+  free-case c t (unlists repo h is) = refl
   free-case c t case = refl
 
 pub reply-determined : (settings : Settings) (old : State) (e : Entry) → Fits settings old e → is_free e.reply ≡ false
@@ -131,16 +131,6 @@ lease-given_back settings old e lease fits is_done = by fits.reply where
   by (due is _) = is ∙ ap (λ c. (turn settings old e.moment c).reply) is_done
   by (wants_memory is takes _) = absurd (false≢true (ap takes_memory (sym is_done) ∙ takes))
   by (failed is commits_so _) = absurd (false≢true (ap (λ c. commits c (turn settings old e.moment c).effects) (sym is_done) ∙ commits_so))
-
-pub draft-dropped : (settings : Settings) (old : State) (e : Entry) (n : ℕ) → Fits settings old e → e.command ≡ drop_draft n → e.reply ≡ dropped
-draft-dropped settings old e n fits is_drop = by fits.reply where
-  none : commits (drop_draft n) (turn settings old e.moment (drop_draft n)).effects ≡ false
-  none = elim (is_among n old.yard.drafts) as (λ b. commits (drop_draft n) (if b then drops n ∷ [] else []) ≡ false) [ true ↦ refl | false ↦ refl ]
-
-  by : IsReply settings old e → e.reply ≡ dropped
-  by (due is _) = is ∙ ap (λ c. (turn settings old e.moment c).reply) is_drop
-  by (wants_memory is takes _) = absurd (false≢true (ap takes_memory (sym is_drop) ∙ takes))
-  by (failed is commits_so _) = absurd (false≢true (sym none ∙ ap (λ c. commits c (turn settings old e.moment c).effects) (sym is_drop) ∙ commits_so))
 
 -- histories that ask alike from one state are the same
 same_reply : (settings : Settings) (old : State) (one other : Entry) → Fits settings old one → Fits settings old other → AsksAlike one other → one.reply ≡ other.reply

@@ -1,6 +1,6 @@
 -- Each turn by what it comes to: one case for each reply that a command can get.
 use Rattle.std.proofs.Common.{◌≡◌, ℕ, Bool, true, false, List, [], ◌∷◌, ◌++◌, length, Option, Some, None, Result, Ok, Err, refl}
-use Rattle.std.specs.Prelude.{◌==◌, nat_le, count_by, if◌then◌else◌, bytes_eq}
+use Rattle.std.specs.Prelude.{◌==◌, nat_le, count_by, find, if◌then◌else◌, bytes_eq}
 use Rattle.std.specs.Option.{option_map}
 use Rattle.mvn_coords.specs.Kind.{kind}
 use Rattle.mvn_coords.specs.declared.kind.Kind.{Kind}
@@ -11,10 +11,10 @@ use Rattle.mvn_digest.specs.Digests.{digests_of}
 use Rattle.repo_model.specs.declared.print.Print.{Print}
 use Rattle.repo_model.specs.declared.session.SessionResult.{SessionResult}
 use Rattle.repo_model.specs.declared.session.SessionResult.TheVariants.{Aborted, Done}
-use Rattle.repo_model.specs.Data.{Blob, Row, Phase, listed, fading, Hosted, Session, Place, repository, session, is_same_print}
+use Rattle.repo_model.specs.Data.{Blob, Row, Phase, listed, fading, Hosted, Staged, Session, Place, repository, session, is_same_print}
 use Rattle.repo_model.specs.Settings.{Settings}
 use Rattle.repo_model.specs.Paths.{takes}
-use Rattle.repo_model.specs.State.{State, hosted_of, row_at, rows_of, session_of, open_of, is_open, is_among, number_end, most_sessions}
+use Rattle.repo_model.specs.State.{State, hosted_of, row_at, rows_of, session_of, open_of, is_open, is_staged, is_among, number_end, most_sessions}
 use Rattle.repo_model.specs.Effect.{Effect, draws, drops, creates, stages, relists, lends, returns, opens, ends, with_effects}
 use Rattle.repo_model.specs.Command.{Command, look, done, may_put, put, put_side, put_doc, drop_draft, open_session, stage, commit, abort, unlist, collect, status}
 use Rattle.repo_model.specs.Reply.{Reply, file, text, doc, missed, given_back, kind_refused, draft, no_draft, taken, same, relisted, created, not_there, differs, agreed, noted, dropped, no_session, sessions_full, opened, session_full, staged, offends, missing_pom, ended, unlisted, spent}
@@ -43,10 +43,11 @@ pub data Case (settings : Settings) (s : State) (now : ℕ) : Command → Turn �
   no_place : (place : Place) (path : List ℕ) → Case settings s now (may_put place path) (says no_session)
   no_room : (place : Place) (path : List ℕ) → Case settings s now (may_put place path) (says session_full)
   not_drawn : (repo path : List ℕ) (n : ℕ) (blob : Blob) → is_among n s.yard.drafts ≡ false → Case settings s now (put repo path n blob) (says no_draft)
-  makes_row : (repo path : List ℕ) (n : ℕ) (blob : Blob) → is_among n s.yard.drafts ≡ true
+  makes_row : (repo path : List ℕ) (n : ℕ) (blob : Blob) → is_among n s.yard.drafts ≡ true → row_at path (rows_of repo s) ≡ None
       → Case settings s now (put repo path n blob) (does created (creates repo path blob now ∷ []))
   has_same : (repo path : List ℕ) (n : ℕ) (blob : Blob) → is_among n s.yard.drafts ≡ true → Case settings s now (put repo path n blob) (does same (drops n ∷ []))
   lists_again : (repo path : List ℕ) (n : ℕ) (blob : Blob) → is_among n s.yard.drafts ≡ true
+      → (row : Row) (since : ℕ) → row_at path (rows_of repo s) ≡ Some row → row.phase ≡ fading since
       → Case settings s now (put repo path n blob) (does relisted (relists repo path now ∷ drops n ∷ []))
   has_other : (repo path : List ℕ) (n : ℕ) (blob : Blob) (kept : Print) → is_among n s.yard.drafts ≡ true
       → Case settings s now (put repo path n blob) (does (taken kept blob.print) (drops n ∷ []))
@@ -58,14 +59,15 @@ pub data Case (settings : Settings) (s : State) (now : ℕ) : Command → Turn �
   notes_nowhere : (place : Place) (path : List ℕ) → Case settings s now (put_doc place path) (says no_session)
   gives_up : (n : ℕ) → is_among n s.yard.drafts ≡ true → Case settings s now (drop_draft n) (does dropped (drops n ∷ []))
   gives_nothing_up : (n : ℕ) → is_among n s.yard.drafts ≡ false → Case settings s now (drop_draft n) (says dropped)
-  opens_one : (repo : List ℕ) → (s.yard.next_session == number_end) ≡ false
+  opens_one : (repo : List ℕ) → (s.yard.next_session == number_end) ≡ false → nat_le most_sessions (count_by is_open s.sessions) ≡ false
       → Case settings s now (open_session repo) (does (opened s.yard.next_session) (opens s.yard.next_session repo ∷ []))
   no_more_sessions : (repo : List ℕ) → (s.yard.next_session == number_end) ≡ true → Case settings s now (open_session repo) (says spent)
   too_many : (repo : List ℕ) → Case settings s now (open_session repo) (says sessions_full)
   stage_not_drawn : (at : ℕ) (path : List ℕ) (n : ℕ) (blob : Blob) → is_among n s.yard.drafts ≡ false → Case settings s now (stage at path n blob) (says no_draft)
   stage_nowhere : (at : ℕ) (path : List ℕ) (n : ℕ) (blob : Blob) → is_among n s.yard.drafts ≡ true → Case settings s now (stage at path n blob) (does no_session (drops n ∷ []))
-  stages_one : (at : ℕ) (path : List ℕ) (n : ℕ) (blob : Blob) (number : ℕ) → is_among n s.yard.drafts ≡ true
-      → Case settings s now (stage at path n blob) (does staged (stages number path blob ∷ []))
+  stages_one : (at : ℕ) (path : List ℕ) (n : ℕ) (blob : Blob) (one : Session) → is_among n s.yard.drafts ≡ true
+      → open_of at s ≡ Some one → find (is_staged path) one.staged ≡ None → has_room path one.staged ≡ true
+      → Case settings s now (stage at path n blob) (does staged (stages one.number path blob ∷ []))
   stage_full : (at : ℕ) (path : List ℕ) (n : ℕ) (blob : Blob) → is_among n s.yard.drafts ≡ true → Case settings s now (stage at path n blob) (does session_full (drops n ∷ []))
   stage_same : (at : ℕ) (path : List ℕ) (n : ℕ) (blob : Blob) → is_among n s.yard.drafts ≡ true → Case settings s now (stage at path n blob) (does same (drops n ∷ []))
   stage_other : (at : ℕ) (path : List ℕ) (n : ℕ) (blob : Blob) (kept : Print) → is_among n s.yard.drafts ≡ true
@@ -74,13 +76,15 @@ pub data Case (settings : Settings) (s : State) (now : ℕ) : Command → Turn �
   committed : (n : ℕ) (result : SessionResult) → Case settings s now (commit n) (says (ended result))
   commit_offends : (n : ℕ) (other : Offence) → Case settings s now (commit n) (says (offends other.path other.kept other.sent))
   commit_lacks : (n : ℕ) (directory : List ℕ) → Case settings s now (commit n) (says (missing_pom directory))
-  deploys : (n : ℕ) (one : Session) → session_of n s ≡ Some one
+  deploys : (n : ℕ) (one : Session) → session_of n s ≡ Some one → one.ended ≡ None
       → Case settings s now (commit n) (does (ended (Done (length one.staged))) (deliver_all one now (rows_of one.repo s) ++ ends one.number (Done (length one.staged)) ∷ []))
   aborts_nothing : (n : ℕ) → Case settings s now (abort n) (says no_session)
   has_ended : (n : ℕ) (result : SessionResult) → Case settings s now (abort n) (says (ended result))
-  aborts : (n : ℕ) (one : Session) → Case settings s now (abort n) (does (ended Aborted) (discard_all one ++ ends one.number Aborted ∷ []))
+  aborts : (n : ℕ) (one : Session) → session_of n s ≡ Some one → one.ended ≡ None
+      → Case settings s now (abort n) (does (ended Aborted) (discard_all one ++ ends one.number Aborted ∷ []))
   unlists_nothing : (repo : List ℕ) → Case settings s now (unlist repo) (says (unlisted 0))
-  unlists : (repo : List ℕ) (h : Hosted) → Case settings s now (unlist repo) (does (unlisted (length (due_rows h.rule now h.rows))) (fade_all h now))
+  unlists : (repo : List ℕ) (h : Hosted) → hosted_of repo s ≡ Some h
+      → Case settings s now (unlist repo) (does (unlisted (length (due_rows h.rule now h.rows))) (fade_all h now))
   collects : Case settings s now collect (collect_of (expire_all settings.grace now s.hosted) (with_effects s (expire_all settings.grace now s.hosted)).yard)
   tells : Case settings s now status (says (counts_of s))
 
@@ -115,14 +119,15 @@ module _ (settings : Settings) (s : State) (now : ℕ) where
       in-case (session n) path (hosted_of one.repo s) (if has_room path one.staged then draws_draft s.yard.next_draft else says session_full)
       (if-case (may_put (session n) path) (has_room path one.staged) (draws_draft s.yard.next_draft) (says session_full) (λ _. draft-case (session n) path) (λ _. no_room (session n) path))
 
-  put-case : (repo path : List ℕ) (n : ℕ) (blob : Blob) (found : Option Row) → is_among n s.yard.drafts ≡ true → Is (put repo path n blob) (put_at repo path n blob now found)
-  put-case repo path n blob None among = makes_row repo path n blob among
-  put-case repo path n blob (Some row) among =
+  put-case : (repo path : List ℕ) (n : ℕ) (blob : Blob) (found : Option Row) → is_among n s.yard.drafts ≡ true → row_at path (rows_of repo s) ≡ found
+      → Is (put repo path n blob) (put_at repo path n blob now found)
+  put-case repo path n blob None among is = makes_row repo path n blob among is
+  put-case repo path n blob (Some row) among is =
       if-case (put repo path n blob) (is_same_print row.blob.print blob.print) (put_again repo path n now row.phase) (does (taken row.blob.print blob.print) (drops n ∷ []))
-      (λ _. again row.phase) (λ _. has_other repo path n blob row.blob.print among) where
-        again : (phase : Phase) → Is (put repo path n blob) (put_again repo path n now phase)
-        again listed = has_same repo path n blob among
-        again (fading since) = lists_again repo path n blob among
+      (λ _. again row.phase refl) (λ _. has_other repo path n blob row.blob.print among) where
+        again : (phase : Phase) → row.phase ≡ phase → Is (put repo path n blob) (put_again repo path n now phase)
+        again listed phase_is = has_same repo path n blob among
+        again (fading since) phase_is = lists_again repo path n blob among row since is phase_is
 
   compared-case : (place : Place) (path said : List ℕ) (found : Option (List ℕ)) → Is (put_side place path said) (compared said found)
   compared-case place path said None = side_alone place path said
@@ -140,34 +145,34 @@ module _ (settings : Settings) (s : State) (now : ℕ) where
   open-case c None f none some = none
   open-case c (Some one) f none some = some one refl
 
-  stage-case : (at : ℕ) (path : List ℕ) (n : ℕ) (blob : Blob) → is_among n s.yard.drafts ≡ true → (found : Option Session) → Is (stage at path n blob) (stage_in path n blob found)
-  stage-case at path n blob among None = stage_nowhere at path n blob among
-  stage-case at path n blob among (Some one) = by_kept (staged_at path one.staged) where
-    by_kept : (kept : Option Blob) → Is (stage at path n blob) (stage_at one path n blob kept)
-    by_kept None =
+  stage-case : (at : ℕ) (path : List ℕ) (n : ℕ) (blob : Blob) → is_among n s.yard.drafts ≡ true → (found : Option Session) → open_of at s ≡ found → Is (stage at path n blob) (stage_in path n blob found)
+  stage-case at path n blob among None _ = stage_nowhere at path n blob among
+  stage-case at path n blob among (Some one) known = by_kept (find (is_staged path) one.staged) refl where
+    by_kept : (kept : Option Staged) → find (is_staged path) one.staged ≡ kept → Is (stage at path n blob) (stage_at one path n blob (option_map (λ (f : Staged). f.blob) kept))
+    by_kept None free =
         if-case (stage at path n blob) (has_room path one.staged) (does staged (stages one.number path blob ∷ [])) (does session_full (drops n ∷ []))
-        (λ _. stages_one at path n blob one.number among) (λ _. stage_full at path n blob among)
-    by_kept (Some kept) =
-        elim (is_same_print kept.print blob.print) as (λ b. Is (stage at path n blob) (does (if b then same else taken kept.print blob.print) (drops n ∷ []))) [
+        (λ room. stages_one at path n blob one among known free room) (λ _. stage_full at path n blob among)
+    by_kept (Some other) _ =
+        elim (is_same_print other.blob.print blob.print) as (λ b. Is (stage at path n blob) (does (if b then same else taken other.blob.print blob.print) (drops n ∷ []))) [
           | true ↦ stage_same at path n blob among
-          | false ↦ stage_other at path n blob kept.print among
+          | false ↦ stage_other at path n blob other.blob.print among
         ]
 
-  commit-case : (n : ℕ) (one : Session) → session_of n s ≡ Some one → (ended : Option SessionResult) → Is (commit n) (commit_of one now (rows_of one.repo s) ended)
-  commit-case n one is (Some result) = committed n result
-  commit-case n one is None = by_offence (offence (rows_of one.repo s) one.staged) (without_pom (rows_of one.repo s) one.staged) where
+  commit-case : (n : ℕ) (one : Session) → session_of n s ≡ Some one → (ended : Option SessionResult) → one.ended ≡ ended → Is (commit n) (commit_of one now (rows_of one.repo s) ended)
+  commit-case n one is (Some result) _ = committed n result
+  commit-case n one is None going = by_offence (offence (rows_of one.repo s) one.staged) (without_pom (rows_of one.repo s) one.staged) where
     by_offence : (other : Option Offence) (pom : Option (List ℕ)) → Is (commit n) (commit_by one now (rows_of one.repo s) other pom)
     by_offence (Some other) pom = commit_offends n other
     by_offence None (Some directory) = commit_lacks n directory
-    by_offence None None = deploys n one is
+    by_offence None None = deploys n one is going
 
-  abort-case : (n : ℕ) (one : Session) (ended : Option SessionResult) → Is (abort n) (abort_of one ended)
-  abort-case n one (Some result) = has_ended n result
-  abort-case n one None = aborts n one
+  abort-case : (n : ℕ) (one : Session) → session_of n s ≡ Some one → (ended : Option SessionResult) → one.ended ≡ ended → Is (abort n) (abort_of one ended)
+  abort-case n one is (Some result) _ = has_ended n result
+  abort-case n one is None going = aborts n one is going
 
-  unlist-case : (repo : List ℕ) (found : Option Hosted) → Is (unlist repo) (unlist_of now found)
-  unlist-case repo None = unlists_nothing repo
-  unlist-case repo (Some h) = unlists repo h
+  unlist-case : (repo : List ℕ) (found : Option Hosted) → hosted_of repo s ≡ found → Is (unlist repo) (unlist_of now found)
+  unlist-case repo None _ = unlists_nothing repo
+  unlist-case repo (Some h) is = unlists repo h is
 
   -- each turn is one of the cases
   pub turn-case : (c : Command) → Is c (turn settings s now c)
@@ -177,7 +182,7 @@ module _ (settings : Settings) (s : State) (now : ℕ) where
   turn-case (may_put (session n) path) = may_put-case n path (open_of n s)
   turn-case (put repo path n blob) =
       if-case (put repo path n blob) (is_among n s.yard.drafts) (put_at repo path n blob now (row_at path (rows_of repo s))) (says no_draft)
-      (λ among. put-case repo path n blob (row_at path (rows_of repo s)) among) (λ none. not_drawn repo path n blob none)
+      (λ among. put-case repo path n blob (row_at path (rows_of repo s)) among refl) (λ none. not_drawn repo path n blob none)
   turn-case (put_side (repository repo) path said) = judged-case (repository repo) path said (kind path) (λ at. option_map (λ (row : Row). row.blob) (row_at at (rows_of repo s)))
   turn-case (put_side (session n) path said) =
       open-case (put_side (session n) path said) (open_of n s) (λ found. judged (kind path) said (λ at. staged_at at found.staged)) (side_nowhere (session n) path said)
@@ -194,15 +199,15 @@ module _ (settings : Settings) (s : State) (now : ℕ) where
       if-case (open_session repo) (nat_le most_sessions (count_by is_open s.sessions)) (says sessions_full)
       (draws_or_spent s.yard.next_session (does (opened s.yard.next_session) (opens s.yard.next_session repo ∷ [])))
       (λ _. too_many repo)
-      (λ _. if-case (open_session repo) (s.yard.next_session == number_end) (says spent) (does (opened s.yard.next_session) (opens s.yard.next_session repo ∷ []))
-      (λ last. no_more_sessions repo last) (λ more. opens_one repo more))
+      (λ few. if-case (open_session repo) (s.yard.next_session == number_end) (says spent) (does (opened s.yard.next_session) (opens s.yard.next_session repo ∷ []))
+      (λ last. no_more_sessions repo last) (λ more. opens_one repo more few))
   turn-case (stage at path n blob) =
       if-case (stage at path n blob) (is_among n s.yard.drafts) (stage_in path n blob (open_of at s)) (says no_draft)
-      (λ among. stage-case at path n blob among (open_of at s)) (λ none. stage_not_drawn at path n blob none)
+      (λ among. stage-case at path n blob among (open_of at s) refl) (λ none. stage_not_drawn at path n blob none)
   turn-case (commit n) =
-      open-case (commit n) (session_of n s) (λ known. commit_of known now (rows_of known.repo s) known.ended) (commits_nothing n) (λ one is. commit-case n one is one.ended)
+      open-case (commit n) (session_of n s) (λ known. commit_of known now (rows_of known.repo s) known.ended) (commits_nothing n) (λ one is. commit-case n one is one.ended refl)
   turn-case (abort n) =
-      open-case (abort n) (session_of n s) (λ known. abort_of known known.ended) (aborts_nothing n) (λ one _. abort-case n one one.ended)
-  turn-case (unlist repo) = unlist-case repo (hosted_of repo s)
+      open-case (abort n) (session_of n s) (λ known. abort_of known known.ended) (aborts_nothing n) (λ one is. abort-case n one is one.ended refl)
+  turn-case (unlist repo) = unlist-case repo (hosted_of repo s) refl
   turn-case collect = collects
   turn-case status = tells

@@ -1,7 +1,7 @@
 -- A draft serves once: it stands until a command that names it gives it up, and is never drawn again.
 use native.Mathlib.Omega.{arith}
 use Rattle.std.proofs.Common.{◌≡◌, ℕ, ◌<◌, Bool, true, false, not, cond, ◌&&◌, ◌||◌, List, [], ◌∷◌, ◌++◌, length, refl, sym, ◌∙◌, ap, subst, eqb-true}
-use Rattle.std.specs.Prelude.{◌==◌, IsTrue}
+use Rattle.std.specs.Prelude.{◌==◌, IsTrue, if◌then◌else◌}
 use Rattle.std.specs.List.{AllByRecursion, list_any}
 use Rattle.std.proofs.lemmas.Bool.{false≢true, ne_eqb, eq-eqb, and_parts, or_left, or_right}
 use Rattle.std.proofs.lemmas.List.Folds.{list_any-append}
@@ -13,15 +13,15 @@ use Rattle.repo_model.specs.State.{State, rows_of, is_among}
 use Rattle.repo_model.specs.Effect.{Effect, draws, drops, creates, stages, relists, without_number, with_effect, with_effects}
 use Rattle.repo_model.specs.Purge.{expire_all}
 use Rattle.repo_model.specs.Command.{Command, put, stage, drop_draft, meets, is_fit, is_parcel, rule_of, is_file_path}
-use Rattle.repo_model.specs.Reply.{draft, no_draft, is_free}
+use Rattle.repo_model.specs.Reply.{draft, no_draft, dropped, is_free, takes_memory}
 use Rattle.repo_model.specs.Turn.{Turn, turn, unlent}
-use Rattle.repo_model.specs.History.{Entry, Fits, ticked, effects_of, after, Legal}
+use Rattle.repo_model.specs.History.{Entry, IsReply, due, wants_memory, failed, Fits, ticked, commits, effects_of, after, Legal}
 use Rattle.repo_laws.specs.Laws.{count_of}
 use Rattle.repo_laws.specs.Replies.{uses_draft, leaves_drafts, spends}
 use Rattle.repo_laws.proofs.Counts.{one_if, count-push, count-filter, count-without_number}
 use Rattle.repo_laws.proofs.Given.{not-among-counts}
 use Rattle.repo_laws.proofs.Making.{Bulk, deploys-made, aborts-made, unlists-made, collects-made}
-use Rattle.repo_laws.proofs.Answered.{free-none, reply-determined, state-determined, draft-dropped}
+use Rattle.repo_laws.proofs.Answered.{free-none, reply-determined, state-determined}
 use Rattle.repo_laws.proofs.Cases.{Case, lends_file, takes_back, gives_draft, not_drawn, makes_row, has_same, lists_again, has_other, gives_up, gives_nothing_up, opens_one, stage_not_drawn, stage_nowhere, stages_one, stage_full, stage_same, stage_other, deploys, aborts, unlists, collects, turn-case}
 
 -- it stands among no drafts once these effects are made
@@ -40,6 +40,17 @@ module _ (settings : Settings) where
   of-stage at path n blob fits = of-parcel n blob (and_parts (is_file_path path) (is_parcel n blob) fits).1
 
 -- ---- given up
+-- to drop one is never refused
+pub draft-dropped : (settings : Settings) (old : State) (e : Entry) (n : ℕ) → Fits settings old e → e.command ≡ drop_draft n → e.reply ≡ dropped
+draft-dropped settings old e n fits is_drop = by fits.reply where
+  none : commits (drop_draft n) (turn settings old e.moment (drop_draft n)).effects ≡ false
+  none = elim (is_among n old.yard.drafts) as (λ b. commits (drop_draft n) (if b then drops n ∷ [] else []) ≡ false) [ true ↦ refl | false ↦ refl ]
+
+  by : IsReply settings old e → e.reply ≡ dropped
+  by (due is _) = is ∙ ap (λ c. (turn settings old e.moment c).reply) is_drop
+  by (wants_memory is takes _) = absurd (false≢true (ap takes_memory (sym is_drop) ∙ takes))
+  by (failed is commits_so _) = absurd (false≢true (sym none ∙ ap (λ c. commits c (turn settings old e.moment c).effects) (sym is_drop) ∙ commits_so))
+
 module _ (settings : Settings) (s : State) (now : ℕ) (t : State) (same : t.yard.drafts ≡ s.yard.drafts) where
   taken-out : (n m : ℕ) → m ≡ n → count_of n (with_effect t (drops m)).yard.drafts ≡ 0
   taken-out n m is = subst (λ k. count_of k (with_effect t (drops m)).yard.drafts ≡ 0) is (count-without_number m t.yard.drafts)
@@ -49,18 +60,18 @@ module _ (settings : Settings) (s : State) (now : ℕ) (t : State) (same : t.yar
 
   case-gone : (c : Command) (u : Turn) (n : ℕ) → Case settings s now c u → meets settings c ≡ true → uses_draft n c ≡ true → Gone n t u.effects
   case-gone c u n (not_drawn repo path m blob none) fits used = never n m (eqb-true m n used) none
-  case-gone c u n (makes_row repo path m blob among) fits used =
+  case-gone c u n (makes_row repo path m blob among free) fits used =
       subst (λ k. count_of k (with_effect t (creates repo path blob now)).yard.drafts ≡ 0) (of-put settings repo path m blob fits ∙ eqb-true m n used) (count-without_number blob.number t.yard.drafts)
   case-gone c u n (has_same repo path m blob among) fits used = taken-out n m (eqb-true m n used)
-  case-gone c u n (lists_again repo path m blob among) fits used =
+  case-gone c u n (lists_again repo path m blob among row since found phase_is) fits used =
       subst (λ k. Gone k t (relists repo path now ∷ drops m ∷ [])) (eqb-true m n used) (count-without_number m t.yard.drafts)
   case-gone c u n (has_other repo path m blob kept among) fits used = taken-out n m (eqb-true m n used)
   case-gone c u n (gives_up m among) fits used = taken-out n m (eqb-true m n used)
   case-gone c u n (gives_nothing_up m none) fits used = never n m (eqb-true m n used) none
   case-gone c u n (stage_not_drawn at path m blob none) fits used = never n m (eqb-true m n used) none
   case-gone c u n (stage_nowhere at path m blob among) fits used = taken-out n m (eqb-true m n used)
-  case-gone c u n (stages_one at path m blob number among) fits used =
-      subst (λ k. count_of k (with_effect t (stages number path blob)).yard.drafts ≡ 0) (of-stage settings at path m blob fits ∙ eqb-true m n used) (count-without_number blob.number t.yard.drafts)
+  case-gone c u n (stages_one at path m blob one among known free room) fits used =
+      subst (λ k. count_of k (with_effect t (stages one.number path blob)).yard.drafts ≡ 0) (of-stage settings at path m blob fits ∙ eqb-true m n used) (count-without_number blob.number t.yard.drafts)
   case-gone c u n (stage_full at path m blob among) fits used = taken-out n m (eqb-true m n used)
   case-gone c u n (stage_same at path m blob among) fits used = taken-out n m (eqb-true m n used)
   case-gone c u n (stage_other at path m blob kept among) fits used = taken-out n m (eqb-true m n used)
@@ -158,20 +169,20 @@ module _ (settings : Settings) (s : State) (now : ℕ) where
   case-untaken c u n (lends_file repo path tried blob more is) fits unspent = (refl, tt)
   case-untaken c u n (takes_back lease) fits unspent = (refl, tt)
   case-untaken c u n (gives_draft place path more) fits unspent = (refl, tt)
-  case-untaken c u n (makes_row repo path m blob among) fits unspent = (ap (λ k. k == n) (of-put settings repo path m blob fits) ∙ unused (m == n) unspent, tt)
+  case-untaken c u n (makes_row repo path m blob among free) fits unspent = (ap (λ k. k == n) (of-put settings repo path m blob fits) ∙ unused (m == n) unspent, tt)
   case-untaken c u n (has_same repo path m blob among) fits unspent = (unused (m == n) unspent, tt)
-  case-untaken c u n (lists_again repo path m blob among) fits unspent = (refl, (unused (m == n) unspent, tt))
+  case-untaken c u n (lists_again repo path m blob among row since found phase_is) fits unspent = (refl, (unused (m == n) unspent, tt))
   case-untaken c u n (has_other repo path m blob kept among) fits unspent = (unused (m == n) unspent, tt)
   case-untaken c u n (gives_up m among) fits unspent = (unused (m == n) unspent, tt)
-  case-untaken c u n (opens_one repo more) fits unspent = (refl, tt)
+  case-untaken c u n (opens_one repo more few) fits unspent = (refl, tt)
   case-untaken c u n (stage_nowhere at path m blob among) fits unspent = (unused (m == n) unspent, tt)
-  case-untaken c u n (stages_one at path m blob number among) fits unspent = (ap (λ k. k == n) (of-stage settings at path m blob fits) ∙ unused (m == n) unspent, tt)
+  case-untaken c u n (stages_one at path m blob one among known free room) fits unspent = (ap (λ k. k == n) (of-stage settings at path m blob fits) ∙ unused (m == n) unspent, tt)
   case-untaken c u n (stage_full at path m blob among) fits unspent = (unused (m == n) unspent, tt)
   case-untaken c u n (stage_same at path m blob among) fits unspent = (unused (m == n) unspent, tt)
   case-untaken c u n (stage_other at path m blob kept among) fits unspent = (unused (m == n) unspent, tt)
-  case-untaken c u n (deploys m one is) fits unspent = deploys-made (Untaken n) (many-untaken n) one now (rows_of one.repo s) (Done (length one.staged))
-  case-untaken c u n (aborts m one) fits unspent = aborts-made (Untaken n) (many-untaken n) one Aborted
-  case-untaken c u n (unlists repo h) fits unspent = unlists-made (Untaken n) (many-untaken n) h now
+  case-untaken c u n (deploys m one is going) fits unspent = deploys-made (Untaken n) (many-untaken n) one now (rows_of one.repo s) (Done (length one.staged))
+  case-untaken c u n (aborts m one is going) fits unspent = aborts-made (Untaken n) (many-untaken n) one Aborted
+  case-untaken c u n (unlists repo h is) fits unspent = unlists-made (Untaken n) (many-untaken n) h now
   case-untaken c u n collects fits unspent =
       collects-made (Untaken n) (many-untaken n) settings.grace now s.hosted (unlent (with_effects s (expire_all settings.grace now s.hosted)).yard) refl
   case-untaken c u n case fits unspent = tt

@@ -1,30 +1,53 @@
 -- Each refusal has its cause, and comes where there is one.
-use Rattle.std.proofs.Common.{◌≡◌, ◌⊎◌, inl, inr, ℕ, true, false, not, ◌||◌, [], length, Option, Some, None, refl, sym, ◌∙◌, ap}
+use Rattle.std.proofs.Common.{◌≡◌, ◌⊎◌, inl, inr, ℕ, Bool, true, false, not, ◌||◌, [], length, refl, sym, ◌∙◌, ap}
 use Rattle.std.specs.Prelude.{◌↔◌, ◌==◌}
 use Rattle.std.proofs.lemmas.Bool.{false≢true}
 use Rattle.mvn_coords.specs.Kind.{kind}
-use Rattle.repo_model.specs.Data.{Hosted, repository, session}
+use Rattle.repo_model.specs.Data.{repository, session}
 use Rattle.repo_model.specs.Settings.{Settings}
-use Rattle.repo_model.specs.State.{State, hosted_of, rows_of, session_of, open_of}
-use Rattle.repo_model.specs.Command.{Command, look, done, may_put, put, put_side, put_doc, drop_draft, open_session, stage, commit, abort, unlist, collect, status}
+use Rattle.repo_model.specs.State.{State, rows_of, session_of, open_of}
+use Rattle.repo_model.specs.Command.{Command, look, may_put, put, put_side, put_doc, open_session, stage, commit, abort, collect}
 use Rattle.repo_model.specs.Effect.{recorded}
-use Rattle.repo_model.specs.Reply.{Reply, given_back, dropped, noted, no_session, created, relisted, opened, ended, unlisted, collected, no_memory, is_free}
-use Rattle.repo_model.specs.Purge.{due_rows}
-use Rattle.repo_model.specs.Turn.{turn, seen_at, unlist_of, counts_of}
+use Rattle.repo_model.specs.Reply.{Reply, noted, no_session, created, relisted, opened, ended, unlisted, collected, no_memory, is_free}
+use Rattle.repo_model.specs.Turn.{Turn, turn, seen_at}
 use Rattle.repo_model.specs.History.{Entry, IsReply, due, wants_memory, failed, Fits, is_collect, commits}
 use Rattle.repo_laws.specs.Causes.{Cause, DocRefused}
 use Rattle.repo_laws.specs.Holds.{can_record}
 use Rattle.repo_laws.specs.Replies.{is_refusal}
 use Rattle.repo_laws.proofs.Answered.{reply-determined}
+use Rattle.repo_laws.proofs.Cases.{Case, takes_back, gives_up, gives_nothing_up, unlists_nothing, unlists, collects, tells, turn-case}
 use Rattle.repo_laws.proofs.HoldingTurns.{refused-quiet}
 use Rattle.repo_laws.proofs.CausesPut.{no-refusal, look-caused, look-refused, may_put-caused, may_put-refused, put-caused, put-refused}
 use Rattle.repo_laws.proofs.CausesSession.{may_stage-caused, may_stage-refused, side-caused, side-refused, staged_side-caused, staged_side-refused, doc-caused, doc-refused, open-caused, open-refused, stage-caused, stage-refused}
 use Rattle.repo_laws.proofs.CausesCommit.{commit-caused, commit-refused, abort-caused, abort-refused}
 
+-- a command that may be refused
+abbrev is_refusable : Command → Bool
+is_refusable (look repo path tried) = true
+is_refusable (may_put place path) = true
+is_refusable (put repo path n blob) = true
+is_refusable (put_side place path said) = true
+is_refusable (put_doc place path) = true
+is_refusable (open_session repo) = true
+is_refusable (stage at path n blob) = true
+is_refusable (commit n) = true
+is_refusable (abort n) = true
+is_refusable c = false
+
 module _ (settings : Settings) (s : State) (now : ℕ) where
+  -- no other command is
+  case-refusable : (c : Command) (t : Turn) → Case settings s now c t → is_refusal t.reply ≡ true → is_refusable c ≡ true
+  case-refusable c t (takes_back lease) refused = absurd (false≢true refused)
+  case-refusable c t (gives_up n among) refused = absurd (false≢true refused)
+  case-refusable c t (gives_nothing_up n none) refused = absurd (false≢true refused)
+  case-refusable c t (unlists_nothing repo) refused = absurd (false≢true refused)
+  case-refusable c t (unlists repo h is) refused = absurd (false≢true refused)
+  case-refusable c t collects refused = absurd (false≢true refused)
+  case-refusable c t tells refused = absurd (false≢true refused)
+  case-refusable c t case refused = refl
+
   caused : (c : Command) (r : Reply) → is_refusal r ≡ true → (turn settings s now c).reply ≡ r → Cause s c r
   caused (look repo path tried) r refused is = look-caused s repo path r refused (seen_at (rows_of repo s) path (kind path)) refl is
-  caused (done lease) r refused is = absurd (no-refusal given_back r refl is refused)
   caused (may_put (repository repo) path) r refused is = may_put-caused s repo path r refused is
   caused (may_put (session n) path) r refused is = may_stage-caused s n path r refused (open_of n s) refl is
   caused (put repo path n blob) r refused is = put-caused s now repo path n blob r refused is
@@ -32,17 +55,11 @@ module _ (settings : Settings) (s : State) (now : ℕ) where
   caused (put_side (session n) path said) r refused is = staged_side-caused s n path said r refused (open_of n s) refl is
   caused (put_doc (repository repo) path) r refused is = absurd (no-refusal noted r refl is refused)
   caused (put_doc (session n) path) r refused is = doc-caused s n path [] r refused (open_of n s) refl is
-  caused (drop_draft n) r refused is = absurd (no-refusal dropped r refl is refused)
   caused (open_session repo) r refused is = open-caused s repo r refused is
   caused (stage at path n blob) r refused is = stage-caused s at path n blob r refused is
   caused (commit n) r refused is = commit-caused s now n r refused (session_of n s) refl is
   caused (abort n) r refused is = abort-caused s now n r refused (session_of n s) refl is
-  caused (unlist repo) r refused is = by (hosted_of repo s) is where
-    by : (found : Option Hosted) → (unlist_of now found).reply ≡ r → ⊥
-    by None e = no-refusal (unlisted 0) r refl e refused
-    by (Some h) e = no-refusal (unlisted (length (due_rows h.rule now h.rows))) r refl e refused
-  caused collect r refused is = absurd (no-refusal (turn settings s now collect).reply r refl is refused)
-  caused status r refused is = absurd (no-refusal (counts_of s) r refl is refused)
+  caused c r refused is = absurd (false≢true (case-refusable c (turn settings s now c) (turn-case settings s now c) (ap is_refusal is ∙ refused)))
 
   refused-so : (c : Command) (r : Reply) → Cause s c r → (turn settings s now c).reply ≡ r
   refused-so (look repo path tried) r cause = look-refused s repo path r cause
@@ -60,11 +77,7 @@ module _ (settings : Settings) (s : State) (now : ℕ) where
   refused-so (stage at path n blob) r cause = stage-refused s at path n blob r cause
   refused-so (commit n) r cause = commit-refused s now n r cause
   refused-so (abort n) r cause = abort-refused s now n r cause
-  refused-so (done lease) r cause = absurd cause
-  refused-so (drop_draft n) r cause = absurd cause
-  refused-so (unlist repo) r cause = absurd cause
-  refused-so collect r cause = absurd cause
-  refused-so status r cause = absurd cause
+  refused-so c r cause = absurd cause
 
   pub each-cause : (c : Command) (r : Reply) → is_refusal r ≡ true → ((turn settings s now c).reply ≡ r) ↔ Cause s c r
   each-cause c r refused = (caused c r refused, refused-so c r)

@@ -149,16 +149,16 @@ no-more (x ∷ xs) = ap (λ rest. x ∷ rest) (no-more xs)
 
 module _ (settings : Settings) (s : State) (now : ℕ) where
   commit-case : (n : ℕ) (c : Command) (t : Turn) → Case settings s now c t → c ≡ commit n → StagedByPath s → IsStrictlySortedBy path_cmp (row_paths (recorded t.effects))
-  commit-case n c t (deploys m one known) is old =
+  commit-case n c t (deploys m one known going) is old =
       let rising = found-has (λ (x : Session). IsStrictlySortedBy staged_cmp x.staged) (is_session m) s.sessions one old known in
       subst (λ items. IsStrictlySortedBy path_cmp (row_paths items)) (sym (deploy-items one now (rows_of one.repo s) (Done (length one.staged))))
       (subst (IsStrictlySortedBy path_cmp) (sym (flat_map-append row_path (flat_map (λ (file : Staged). item_at one.repo now file (row_at file.path (rows_of one.repo s))) one.staged) _ ∙ no-more _))
       (paths-rise one.repo now (rows_of one.repo s) one.staged rising))
-  commit-case n c t (makes_row repo path m blob among) is old = cc
-  commit-case n c t (lists_again repo path m blob among) is old = cc
-  commit-case n c t (opens_one repo more) is old = cc
-  commit-case n c t (aborts m one) is old = cc
-  commit-case n c t (unlists repo h) is old = cc
+  commit-case n c t (makes_row repo path m blob among free) is old = cc
+  commit-case n c t (lists_again repo path m blob among row since found phase_is) is old = cc
+  commit-case n c t (opens_one repo more few) is old = cc
+  commit-case n c t (aborts m one known going) is old = cc
+  commit-case n c t (unlists repo h found) is old = cc
   commit-case n c t collects is old = cc
   commit-case n c t case is old = none-rise path_cmp
 

@@ -14,7 +14,6 @@ use Rattle.repo_model.specs.State.{State, is_session, is_open, hosted_of, row_at
 use Rattle.repo_model.specs.Effect.{Effect, drops, discards, fades, expires, forgets, opens, ends, with_effects, items_of, recorded}
 use Rattle.repo_model.specs.Command.{Command, put, open_session, commit, abort, unlist, collect}
 use Rattle.repo_model.specs.Reply as answered
-use Rattle.repo_model.specs.Reply.{Reply}
 use Rattle.repo_model.specs.Purge.{expire_all, expired_of, is_over, due_rows, fade_all, most_rows}
 use Rattle.repo_model.specs.Deploy.{Offence, offence, without_pom, deliver_all, deliver_at, deliver_again}
 use Rattle.repo_model.specs.Turn.{Turn, says, draws_or_spent, put_again, put_at, commit_by, unlist_of, unlent, turn}
@@ -24,12 +23,12 @@ use Rattle.repo_laws.proofs.Lists.{found-passes, all-take}
 
 module _ (settings : Settings) (s : State) (now : ℕ) where
   case-quiet : (c : Command) (t : Turn) → Case settings s now c t → can_record t.reply ≡ false → recorded t.effects ≡ []
-  case-quiet c t (makes_row repo path n blob among) is = absurd (false≢true (sym is))
-  case-quiet c t (lists_again repo path n blob among) is = absurd (false≢true (sym is))
-  case-quiet c t (opens_one repo more) is = absurd (false≢true (sym is))
-  case-quiet c t (deploys n one known) is = absurd (false≢true (sym is))
-  case-quiet c t (aborts n one) is = absurd (false≢true (sym is))
-  case-quiet c t (unlists repo h) is = absurd (false≢true (sym is))
+  case-quiet c t (makes_row repo path n blob among free) is = absurd (false≢true (sym is))
+  case-quiet c t (lists_again repo path n blob among row since found phase_is) is = absurd (false≢true (sym is))
+  case-quiet c t (opens_one repo more few) is = absurd (false≢true (sym is))
+  case-quiet c t (deploys n one known going) is = absurd (false≢true (sym is))
+  case-quiet c t (aborts n one known going) is = absurd (false≢true (sym is))
+  case-quiet c t (unlists repo h found) is = absurd (false≢true (sym is))
   case-quiet c t collects is = absurd (false≢true (sym is))
   case-quiet c t case is = refl
 

@@ -107,20 +107,20 @@ module _ (R : Effect → Type 0) (common : Common R) where
     case-makes c t (lends_file repo path tried blob more is) returned forgotten = (common.lends_so blob.number, tt)
     case-makes c t (takes_back lease) returned forgotten = (returned lease refl, tt)
     case-makes c t (gives_draft place path more) returned forgotten = (common.draws_so, tt)
-    case-makes c t (makes_row repo path n blob among) returned forgotten = (common.creates_so repo path blob now, tt)
+    case-makes c t (makes_row repo path n blob among free) returned forgotten = (common.creates_so repo path blob now, tt)
     case-makes c t (has_same repo path n blob among) returned forgotten = (common.drops_so n, tt)
-    case-makes c t (lists_again repo path n blob among) returned forgotten = (common.relists_so repo path now, (common.drops_so n, tt))
+    case-makes c t (lists_again repo path n blob among row since found phase_is) returned forgotten = (common.relists_so repo path now, (common.drops_so n, tt))
     case-makes c t (has_other repo path n blob kept among) returned forgotten = (common.drops_so n, tt)
     case-makes c t (gives_up n among) returned forgotten = (common.drops_so n, tt)
-    case-makes c t (opens_one repo more) returned forgotten = (common.opens_so s.yard.next_session repo, tt)
+    case-makes c t (opens_one repo more few) returned forgotten = (common.opens_so s.yard.next_session repo, tt)
     case-makes c t (stage_nowhere at path n blob among) returned forgotten = (common.drops_so n, tt)
-    case-makes c t (stages_one at path n blob number among) returned forgotten = (common.stages_so number path blob, tt)
+    case-makes c t (stages_one at path n blob one among known free room) returned forgotten = (common.stages_so one.number path blob, tt)
     case-makes c t (stage_full at path n blob among) returned forgotten = (common.drops_so n, tt)
     case-makes c t (stage_same at path n blob among) returned forgotten = (common.drops_so n, tt)
     case-makes c t (stage_other at path n blob kept among) returned forgotten = (common.drops_so n, tt)
-    case-makes c t (deploys n one is) returned forgotten = deploys-made R bulk-of one now (rows_of one.repo s) (Done (length one.staged))
-    case-makes c t (aborts n one) returned forgotten = aborts-made R bulk-of one Aborted
-    case-makes c t (unlists repo h) returned forgotten = unlists-made R bulk-of h now
+    case-makes c t (deploys n one is going) returned forgotten = deploys-made R bulk-of one now (rows_of one.repo s) (Done (length one.staged))
+    case-makes c t (aborts n one is going) returned forgotten = aborts-made R bulk-of one Aborted
+    case-makes c t (unlists repo h is) returned forgotten = unlists-made R bulk-of h now
     case-makes c t collects returned forgotten =
         let blobs = unlent (with_effects s (expire_all settings.grace now s.hosted)).yard in
         collects-made R bulk-of settings.grace now s.hosted blobs (forgotten blobs refl)

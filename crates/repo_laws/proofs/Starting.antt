@@ -15,7 +15,7 @@ use Rattle.repo_model.specs.declared.session.SessionResult.{SessionResult}
 use Rattle.repo_model.specs.Data.{Row, Hosted, Session}
 use Rattle.repo_model.specs.Settings.{Rule, Settings}
 use Rattle.repo_model.specs.State.{State, is_repository, is_session, is_open, is_open_at, row_at, number_end}
-use Rattle.repo_model.specs.Tables.{Tables, RecordedRow, RecordedSession, is_recorded, recorded_at, names_blob, greatest_moment}
+use Rattle.repo_model.specs.Tables.{Tables, RecordedRow, RecordedSession, is_recorded, recorded_at, names_blob}
 use Rattle.repo_model.specs.Tables as kept
 use Rattle.repo_model.specs.Restart.{with_bytes, is_of, recorded_of, hosted_from, session_from, sessions_from, greatest_number, blobs_named, started}
 use Rattle.repo_laws.specs.Laws.{staged_with}

@@ -1,6 +1,6 @@
 -- What a turn does may be done, in a state in order.
-use Rattle.std.proofs.Common.{◌≡◌, ◌≤◌, ◌<◌, ℕ, Bool, true, false, not, cond, ◌&&◌, ◌||◌, List, [], ◌∷◌, length, Option, Some, None, Result, Ok, Err, refl, sym, ◌∙◌, ap, subst, eqb-true, option_map}
-use Rattle.std.specs.Prelude.{◌==◌, nat_lt, nat_le, IsTrue, filter, find, bytes_eq, is_some, is_none, count_by, if◌then◌else◌}
+use Rattle.std.proofs.Common.{◌≡◌, ◌≢◌, ◌<◌, ℕ, Bool, true, false, not, cond, ◌&&◌, ◌||◌, List, [], ◌∷◌, length, Option, Some, None, Result, Ok, Err, refl, sym, ◌∙◌, ap, subst, eqb-true}
+use Rattle.std.specs.Prelude.{◌==◌, nat_lt, nat_le, IsTrue, filter, find, is_some, is_none, count_by}
 use Rattle.std.specs.List.{AllByRecursion, list_any, list_all}
 use Rattle.std.proofs.lemmas.Bool.{false≢true, leb-false, and_parts, and_from, or_left, or_right, eq-eqb}
 use Rattle.std.proofs.lemmas.Option.{none-some}
@@ -10,26 +10,24 @@ use Rattle.mvn_coords.specs.declared.kind.Kind.TheVariants.{File, FileSide, Doc,
 use Rattle.mvn_coords.specs.declared.fault.PathFault.{PathFault}
 use Rattle.mvn_coords.specs.Layout.{text_of}
 use Rattle.mvn_digest.specs.Digests.{digests_of}
-use Rattle.repo_model.specs.declared.session.SessionResult.{SessionResult}
 use Rattle.repo_model.specs.declared.session.SessionResult.TheVariants.{Aborted, Done}
-use Rattle.repo_model.specs.Data.{Blob, Row, listed, fading, Hosted, Staged, Session, repository, session, is_same_print}
+use Rattle.repo_model.specs.Data.{Blob, Row, Staged, Session}
 use Rattle.repo_model.specs.Settings.{Rule, Settings}
 use Rattle.repo_model.specs.Paths.{takes}
-use Rattle.repo_model.specs.State.{State, Yard, Lease, is_repository, is_staged, is_session, is_open, is_open_at, hosted_of, row_at, rows_of, session_of, open_of, is_among, number_end, most_sessions, most_staged}
-use Rattle.repo_model.specs.Effect.{draws, drops, stages, forgets, lends, opens, with_effects}
+use Rattle.repo_model.specs.State.{State, Yard, Lease, is_repository, is_staged, is_session, is_open, is_open_at, row_at, rows_of, session_of, open_of, is_among, number_end, most_sessions, most_staged}
+use Rattle.repo_model.specs.Effect.{forgets, with_effects}
 use Rattle.repo_model.specs.May.{AllMay}
-use Rattle.repo_model.specs.Command.{Command, look, done, may_put, put, put_side, put_doc, drop_draft, open_session, stage, commit, abort, unlist, collect, status, meets, rule_of, is_there, is_fit, is_parcel, is_file_path}
-use Rattle.repo_model.specs.Reply.{file, draft, kind_refused, session_full, no_draft, taken, agreed, differs, noted, staged, sessions_full, opened, spent}
+use Rattle.repo_model.specs.Command.{Command, meets, rule_of, is_there, is_fit, is_parcel, is_file_path}
 use Rattle.repo_model.specs.Purge.{expire_all}
-use Rattle.repo_model.specs.Deploy.{offence, without_pom}
-use Rattle.repo_model.specs.Turn.{Turn, most_collected, says, draws_or_spent, is_file, is_text, is_doc, shows, seen_at, or_nothing, document_text, in_repository, has_room, draws_draft, may_put_in, put_again, put_at, compared, judged, with_open, staged_at, stage_at, stage_in, commit_by, commit_of, abort_of, unlent, collect_of, turn}
-use Rattle.mvn_digest.specs.Sides.{side_text, side_of}
+use Rattle.repo_model.specs.Turn.{Turn, Seen, most_collected, is_file, is_text, is_doc, seen_at, or_nothing, document_text, has_room, unlent, unlist_of, collect_of, turn}
+use Rattle.mvn_digest.specs.Sides.{side_text}
 use Rattle.repo_laws.specs.Laws.{AreApart}
 use Rattle.repo_laws.specs.Sound.{AreNamedApart, IsInOrder, Sound}
 use Rattle.repo_laws.proofs.ByPath.{all-apart}
 use Rattle.repo_laws.proofs.Lists.{found-passes, all-then, all-take, filter-has, all-list_all, below-end, all-may-append}
-use Rattle.repo_laws.proofs.Purges.{unlists, expires-all}
-use Rattle.repo_laws.proofs.Commits.{commits, aborts}
+use Rattle.repo_laws.proofs.Purges.{unlists-can, expires-all}
+use Rattle.repo_laws.proofs.Commits.{commits-can, aborts-can}
+use Rattle.repo_laws.proofs.Cases.{Case, lends_file, takes_back, gives_draft, makes_row, has_same, lists_again, has_other, gives_up, opens_one, stage_nowhere, stages_one, stage_full, stage_same, stage_other, deploys, aborts, unlists, collects, turn-case}
 use Rattle.repo_laws.proofs.Orderly.{found-has, there-as-set}
 
 -- each number is among its list
@@ -60,103 +58,26 @@ room-left path files none room =
       | false ↦ λ few _. leb-false most_staged (length files) few
     ] refl room
 
+-- what is seen as a file is a row's blob
+abbrev IsRowOf : List Row → List ℕ → Blob → Type 0
+IsRowOf rows path blob = (row : Row) × (row_at path rows ≡ Some row) × (row.blob ≡ blob)
+
+no-file : {A : Type 0} (f : A → Seen) (found : Option A) (blob : Blob) → ((x : A) → f x ≢ is_file blob) → or_nothing f found ≢ is_file blob
+no-file f None blob other is = absurd (cc)
+no-file f (Some x) blob other is = other x is
+
+seen-row : (rows : List Row) (path : List ℕ) (k : Result Kind PathFault) (blob : Blob) → seen_at rows path k ≡ is_file blob → IsRowOf rows path blob
+seen-row rows path (Ok (File c)) blob is =
+    elim (row_at path rows) as (λ found. row_at path rows ≡ found → or_nothing (λ (row : Row). is_file row.blob) found ≡ is_file blob → IsRowOf rows path blob) [
+      | None ↦ λ _ none. absurd (cc)
+      | (Some row) ↦ λ found seen. let same : row.blob ≡ blob = cc in (row, found, same)
+    ] refl is
+seen-row rows path (Ok (FileSide c side)) blob is = absurd (no-file (λ (row : Row). is_text (side_text side row.blob.print.digests)) (row_at (text_of c) rows) blob (λ row e. absurd (cc)) is)
+seen-row rows path (Ok (Doc d)) blob is = absurd (no-file is_doc (document_text d rows) blob (λ bytes e. absurd (cc)) is)
+seen-row rows path (Ok (DocSide d side)) blob is = absurd (no-file (λ bytes. is_text (side_text side (digests_of bytes))) (document_text d rows) blob (λ bytes e. absurd (cc)) is)
+seen-row rows path (Err fault) blob is = absurd (cc)
+
 module _ (grace now : ℕ) where
-  abbrev Can : State → Turn → Type 0
-  Can s t = AllMay grace now s t.effects
-
-  if-can : (s : State) (b : Bool) (t u : Turn) → (b ≡ true → Can s t) → (b ≡ false → Can s u) → Can s (if b then t else u)
-  if-can s true t u yes_can no_can = yes_can refl
-  if-can s false t u yes_can no_can = no_can refl
-
-  -- a number that is drawn, unless it is the last
-  draws-can : (s : State) (next : ℕ) (t : Turn) → next ≤ number_end → (next < number_end → Can s t) → Can s (draws_or_spent next t)
-  draws-can s next t up can = if-can s (next == number_end) (says spent) t (λ _. tt) (λ other. can (below-end next number_end up other))
-
-  look-can : (s : State) (repo path : List ℕ) (k : Result Kind PathFault) → s.yard.next_lease ≤ number_end → Can s (shows s.yard.next_lease (seen_at (rows_of repo s) path k))
-  look-can s repo path (Ok (File c)) up =
-      elim (row_at path (rows_of repo s))
-      as (λ found. row_at path (rows_of repo s) ≡ found → Can s (shows s.yard.next_lease (or_nothing (λ (row : Row). is_file row.blob) found))) [
-        | None ↦ λ _. tt
-        | (Some row) ↦ λ is. draws-can s s.yard.next_lease (record { reply = file s.yard.next_lease row.blob; effects = lends row.blob.number ∷ [] }) up (λ below. ((repo, path, row, below, is, refl), tt))
-      ] refl
-  look-can s repo path (Ok (FileSide c side)) up =
-      elim (row_at (text_of c) (rows_of repo s))
-      as (λ found. Can s (shows s.yard.next_lease (or_nothing (λ (row : Row). is_text (side_text side row.blob.print.digests)) found))) [ None ↦ tt | (Some row) ↦ tt ]
-  look-can s repo path (Ok (Doc d)) up =
-      elim (document_text d (rows_of repo s)) as (λ found. Can s (shows s.yard.next_lease (or_nothing is_doc found))) [ None ↦ tt | (Some bytes) ↦ tt ]
-  look-can s repo path (Ok (DocSide d side)) up =
-      elim (document_text d (rows_of repo s)) as (λ found. Can s (shows s.yard.next_lease (or_nothing (λ bytes. is_text (side_text side (digests_of bytes))) found))) [ None ↦ tt | (Some bytes) ↦ tt ]
-  look-can s repo path (Err fault) up = tt
-
-  draft-can : (s : State) → s.yard.next_draft ≤ number_end → Can s (draws_draft s.yard.next_draft)
-  draft-can s up = draws-can s s.yard.next_draft (record { reply = draft s.yard.next_draft; effects = draws ∷ [] }) up (λ below. (below, tt))
-
-  in-can : (s : State) (path : List ℕ) (found : Option Hosted) (t : Turn) → Can s t → Can s (in_repository path found t)
-  in-can s path None t can = tt
-  in-can s path (Some h) t can = if-can s (takes h.rule path) t (says kind_refused) (λ _. can) (λ _. tt)
-
-  may_put-can : (s : State) (path : List ℕ) (found : Option Session) → s.yard.next_draft ≤ number_end → Can s (may_put_in s path found)
-  may_put-can s path None up = tt
-  may_put-can s path (Some one) up =
-      in-can s path (hosted_of one.repo s) (if has_room path one.staged then draws_draft s.yard.next_draft else says session_full)
-      (if-can s (has_room path one.staged) (draws_draft s.yard.next_draft) (says session_full) (λ _. draft-can s up) (λ _. tt))
-
-  put-again-can : (s : State) (repo path : List ℕ) (n : ℕ) (row : Row) → IsTrue (is_among n s.yard.drafts) → row_at path (rows_of repo s) ≡ Some row → Can s (put_again repo path n now row.phase)
-  put-again-can s repo path n row among found =
-      elim row.phase as (λ phase. row.phase ≡ phase → Can s (put_again repo path n now phase)) [
-        | listed ↦ λ _. (among, tt)
-        | (fading since) ↦ λ is. ((row, since, refl, found, is), (among, tt))
-      ] refl
-
-  put-can : (s : State) (repo path : List ℕ) (n : ℕ) (blob : Blob) → IsTrue (list_any (is_repository repo) s.hosted) → blob.number ≡ n
-      → Can s (if is_among n s.yard.drafts then put_at repo path n blob now (row_at path (rows_of repo s)) else says no_draft)
-  put-can s repo path n blob there named =
-      if-can s (is_among n s.yard.drafts) (put_at repo path n blob now (row_at path (rows_of repo s))) (says no_draft)
-      (λ among.
-      elim (row_at path (rows_of repo s)) as (λ found. row_at path (rows_of repo s) ≡ found → Can s (put_at repo path n blob now found)) [
-        | None ↦ λ free. ((refl, there, subst (λ k. IsTrue (is_among k s.yard.drafts)) (sym named) among, free), tt)
-        | (Some row) ↦ λ is.
-            if-can s (is_same_print row.blob.print blob.print) (put_again repo path n now row.phase) (record { reply = taken row.blob.print blob.print; effects = drops n ∷ [] })
-            (λ _. put-again-can s repo path n row among is) (λ _. (among, tt))
-      ] refl)
-      (λ _. tt)
-
-  compared-can : (s : State) (said : List ℕ) (found : Option (List ℕ)) → Can s (compared said found)
-  compared-can s said None = tt
-  compared-can s said (Some kept) = if-can s (bytes_eq said kept) (says agreed) (says (differs said kept)) (λ _. tt) (λ _. tt)
-
-  judged-can : (s : State) (k : Result Kind PathFault) (said : List ℕ) (blob_at : List ℕ → Option Blob) → Can s (judged k said blob_at)
-  judged-can s (Ok (File c)) said blob_at = tt
-  judged-can s (Ok (FileSide c side)) said blob_at = compared-can s said (option_map (λ (blob : Blob). side_of blob.print.digests side) (blob_at (text_of c)))
-  judged-can s (Ok (Doc d)) said blob_at = tt
-  judged-can s (Ok (DocSide d side)) said blob_at = tt
-  judged-can s (Err fault) said blob_at = tt
-
-  with_open-can : (s : State) (found : Option Session) (f : Session → Turn) → ((one : Session) → found ≡ Some one → Can s (f one)) → Can s (with_open found f)
-  with_open-can s None f can = tt
-  with_open-can s (Some one) f can = can one refl
-
-  stage-can : (s : State) (at : ℕ) (path : List ℕ) (n : ℕ) (blob : Blob) → blob.number ≡ n
-      → Can s (if is_among n s.yard.drafts then stage_in path n blob (open_of at s) else says no_draft)
-  stage-can s at path n blob named =
-      if-can s (is_among n s.yard.drafts) (stage_in path n blob (open_of at s)) (says no_draft)
-      (λ among.
-      elim (open_of at s) as (λ found. open_of at s ≡ found → Can s (stage_in path n blob found)) [
-        | None ↦ λ _. (among, tt)
-        | (Some one) ↦ λ opened.
-            let numbered : one.number ≡ at = eqb-true one.number at (and_parts (one.number == at) (is_open one) (found-passes (is_open_at at) s.sessions one opened)).0 in
-            let opened_so : open_of one.number s ≡ Some one = subst (λ k. open_of k s ≡ Some one) (sym numbered) opened in
-            let among_so : IsTrue (is_among blob.number s.yard.drafts) = subst (λ k. IsTrue (is_among k s.yard.drafts)) (sym named) among in
-            elim (find (is_staged path) one.staged)
-            as (λ kept. find (is_staged path) one.staged ≡ kept → Can s (stage_at one path n blob (option_map (λ (f : Staged). f.blob) kept))) [
-              | None ↦ λ free.
-                  if-can s (has_room path one.staged) (record { reply = staged; effects = stages one.number path blob ∷ [] }) (record { reply = session_full; effects = drops n ∷ [] })
-                  (λ room. ((one, opened_so, among_so, free, room-left path one.staged free room), tt)) (λ _. (among, tt))
-              | (Some one_there) ↦ λ _. (among, tt)
-            ] refl
-      ] refl)
-      (λ _. tt)
-
   -- a known session that has not ended is the open one of its number
   pub open-too : (n : ℕ) (sessions : List Session) (one : Session) → find (is_session n) sessions ≡ Some one → one.ended ≡ None → find (is_open_at one.number) sessions ≡ Some one
   open-too n sessions one known going =
@@ -174,33 +95,6 @@ module _ (grace now : ℕ) where
             ] is
 
   module _ (settings : Settings) (s : State) (sound : Sound settings s) where
-    ended-can : (n : ℕ) (f : Session → Option SessionResult → Turn) → ((one : Session) (outcome : SessionResult) → Can s (f one (Some outcome)))
-        → ((one : Session) → open_of one.number s ≡ Some one → AreApart one.staged → IsTrue (list_any (is_repository one.repo) s.hosted) → Can s (f one None))
-        → Can s (with_open (session_of n s) (λ one. f one one.ended))
-    ended-can n f over going =
-        with_open-can s (session_of n s) (λ one. f one one.ended)
-        (λ one known.
-        elim one.ended as (λ ended. one.ended ≡ ended → Can s (f one ended)) [
-          | None ↦ λ is.
-              let (there, apart) = found-has (IsInOrder settings) (is_session n) s.sessions one sound.sessions known in
-              going one (open-too n s.sessions one known is) apart (there-as-set settings s one.repo sound.rules ∙ there is)
-          | (Some outcome) ↦ λ _. over one outcome
-        ] refl)
-
-    commit-can : (n : ℕ) → Can s (with_open (session_of n s) (λ known. commit_of known now (rows_of known.repo s) known.ended))
-    commit-can n = ended-can n (λ known ended. commit_of known now (rows_of known.repo s) ended) (λ one outcome. tt)
-        (λ one opened apart there.
-        elim (offence (rows_of one.repo s) one.staged) as (λ offends. Can s (commit_by one now (rows_of one.repo s) offends (without_pom (rows_of one.repo s) one.staged))) [
-          | (Some reply) ↦ tt
-          | None ↦ elim (without_pom (rows_of one.repo s) one.staged) as (λ pom. Can s (commit_by one now (rows_of one.repo s) None pom)) [
-            | (Some directory) ↦ tt
-            | None ↦ commits grace now s one opened apart there (Done (length one.staged))
-          ]
-        ])
-
-    abort-can : (n : ℕ) → Can s (with_open (session_of n s) (λ known. abort_of known known.ended))
-    abort-can n = ended-can n abort_of (λ one outcome. tt) (λ one opened apart there. aborts grace now s one opened apart there Aborted)
-
     free-garbage : (yard : Yard) → list_all (λ n. is_among n yard.condemned && not (list_any (λ (l : Lease). l.blob == n) yard.leases)) (unlent yard) ≡ true
     free-garbage yard =
         let unleased : ℕ → Bool = λ n. not (list_any (λ (l : Lease). l.blob == n) yard.leases) in
@@ -217,34 +111,54 @@ module _ (grace now : ℕ) where
     named-so : (n : ℕ) (blob : Blob) → is_parcel n blob ≡ true → blob.number ≡ n
     named-so n blob is = eqb-true blob.number n (and_parts (blob.number == n) (nat_lt blob.print.length number_end) is).0
 
-    -- all that a turn does may be done
-    pub turn-can : AreNamedApart settings.hosted → (command : Command) → IsTrue (meets settings command) → grace ≡ settings.grace → AllMay grace now s (turn settings s now command).effects
-    turn-can apart (look repo path tried) fits same = look-can s repo path (kind path) sound.lease
-    turn-can apart (done lease) fits same = (tt, tt)
-    turn-can apart (may_put (repository repo) path) fits same = in-can s path (hosted_of repo s) (draws_draft s.yard.next_draft) (draft-can s sound.draft)
-    turn-can apart (may_put (session n) path) fits same = may_put-can s path (open_of n s) sound.draft
-    turn-can apart (put repo path n blob) fits same =
+    -- the session of a command is the open one of its number, with its files apart, for a repository that is there
+    begun : (n : ℕ) (one : Session) → session_of n s ≡ Some one → one.ended ≡ None
+        → (open_of one.number s ≡ Some one) × AreApart one.staged × IsTrue (list_any (is_repository one.repo) s.hosted)
+    begun n one known going =
+        let (there, apart) = found-has (IsInOrder settings) (is_session n) s.sessions one sound.sessions known in
+        (open-too n s.sessions one known going, apart, there-as-set settings s one.repo sound.rules ∙ there going)
+
+    case-can : AreNamedApart settings.hosted → (c : Command) (t : Turn) → Case settings s now c t → IsTrue (meets settings c) → grace ≡ settings.grace → AllMay grace now s t.effects
+    case-can apart c t (lends_file repo path tried blob more is) fits same =
+        let (row, found, blob_is) = seen-row (rows_of repo s) path (kind path) blob is in
+        ((repo, path, row, below-end s.yard.next_lease number_end sound.lease more, found, ap (λ (b : Blob). b.number) blob_is), tt)
+    case-can apart c t (takes_back lease) fits same = (tt, tt)
+    case-can apart c t (gives_draft place path more) fits same = (below-end s.yard.next_draft number_end sound.draft more, tt)
+    case-can apart c t (makes_row repo path n blob among free) fits same =
         let (taken_in, parcel) = and_parts (is_fit (λ rule. takes rule path) (rule_of repo settings)) (is_parcel n blob) fits in
-        put-can s repo path n blob (there-as-set settings s repo sound.rules ∙ fit-there repo (λ rule. takes rule path) taken_in) (named-so n blob parcel)
-    turn-can apart (put_side (repository repo) path said) fits same = judged-can s (kind path) said (λ at. option_map (λ (row : Row). row.blob) (row_at at (rows_of repo s)))
-    turn-can apart (put_side (session n) path said) fits same =
-        with_open-can s (open_of n s) (λ found. judged (kind path) said (λ at. staged_at at found.staged)) (λ one _. judged-can s (kind path) said (λ at. staged_at at one.staged))
-    turn-can apart (put_doc (repository repo) path) fits same = tt
-    turn-can apart (put_doc (session n) path) fits same = with_open-can s (open_of n s) (λ found. says noted) (λ one _. tt)
-    turn-can apart (drop_draft n) fits same =
-        elim (is_among n s.yard.drafts) as (λ b. is_among n s.yard.drafts ≡ b → AllMay grace now s (if b then drops n ∷ [] else [])) [ true ↦ λ among. (among, tt) | false ↦ λ _. tt ] refl
-    turn-can apart (open_session repo) fits same =
-        if-can s (nat_le most_sessions (count_by is_open s.sessions)) (says sessions_full) (draws_or_spent s.yard.next_session (record { reply = opened s.yard.next_session; effects = opens s.yard.next_session repo ∷ [] }))
-        (λ _. tt)
-        (λ few. draws-can s s.yard.next_session (record { reply = opened s.yard.next_session; effects = opens s.yard.next_session repo ∷ [] }) sound.session
-        (λ below. ((refl, below, there-as-set settings s repo sound.rules ∙ fits, leb-false most_sessions (count_by is_open s.sessions) few), tt)))
-    turn-can apart (stage at path n blob) fits same = stage-can s at path n blob (named-so n blob (and_parts (is_file_path path) (is_parcel n blob) fits).1)
-    turn-can apart (commit n) fits same = commit-can n
-    turn-can apart (abort n) fits same = abort-can n
-    turn-can apart (unlist repo) fits same = unlists grace now s (all-apart s.hosted sound.rows) repo
-    turn-can apart collect fits same =
+        let among_so : IsTrue (is_among blob.number s.yard.drafts) = subst (λ k. IsTrue (is_among k s.yard.drafts)) (sym (named-so n blob parcel)) among in
+        ((refl, there-as-set settings s repo sound.rules ∙ fit-there repo (λ rule. takes rule path) taken_in, among_so, free), tt)
+    case-can apart c t (has_same repo path n blob among) fits same = (among, tt)
+    case-can apart c t (lists_again repo path n blob among row since found phase_is) fits same = ((row, since, refl, found, phase_is), (among, tt))
+    case-can apart c t (has_other repo path n blob kept among) fits same = (among, tt)
+    case-can apart c t (gives_up n among) fits same = (among, tt)
+    case-can apart c t (opens_one repo more few) fits same =
+        let below = below-end s.yard.next_session number_end sound.session more in
+        ((refl, below, there-as-set settings s repo sound.rules ∙ fits, leb-false most_sessions (count_by is_open s.sessions) few), tt)
+    case-can apart c t (stage_nowhere at path n blob among) fits same = (among, tt)
+    case-can apart c t (stages_one at path n blob one among known free room) fits same =
+        let named = named-so n blob (and_parts (is_file_path path) (is_parcel n blob) fits).1 in
+        let numbered : one.number ≡ at = eqb-true one.number at (and_parts (one.number == at) (is_open one) (found-passes (is_open_at at) s.sessions one known)).0 in
+        let opened_so : open_of one.number s ≡ Some one = subst (λ k. open_of k s ≡ Some one) (sym numbered) known in
+        let among_so : IsTrue (is_among blob.number s.yard.drafts) = subst (λ k. IsTrue (is_among k s.yard.drafts)) (sym named) among in
+        ((one, opened_so, among_so, free, room-left path one.staged free room), tt)
+    case-can apart c t (stage_full at path n blob among) fits same = (among, tt)
+    case-can apart c t (stage_same at path n blob among) fits same = (among, tt)
+    case-can apart c t (stage_other at path n blob kept among) fits same = (among, tt)
+    case-can apart c t (deploys n one is going) fits same =
+        let (opened_so, files_apart, there) = begun n one is going in
+        commits-can grace now s one opened_so files_apart there (Done (length one.staged))
+    case-can apart c t (aborts n one is going) fits same =
+        let (opened_so, files_apart, there) = begun n one is going in
+        aborts-can grace now s one opened_so files_apart there Aborted
+    case-can apart c t (unlists repo h is) fits same = subst (λ found. AllMay grace now s (unlist_of now found).effects) is (unlists-can grace now s (all-apart s.hosted sound.rows) repo)
+    case-can apart c t collects fits same =
         subst (λ (g : ℕ). AllMay grace now s (collect_of (expire_all g now s.hosted) (with_effects s (expire_all g now s.hosted)).yard).effects) same
         (all-may-append grace now (expire_all grace now s.hosted) (forgets (unlent (with_effects s (expire_all grace now s.hosted)).yard) ∷ []) s
         (expires-all grace now s settings apart sound.rules (all-apart s.hosted sound.rows))
         (free-garbage (with_effects s (expire_all grace now s.hosted)).yard, tt))
-    turn-can apart status fits same = tt
+    case-can apart c t case fits same = tt
+
+    -- all that a turn does may be done
+    pub turn-can : AreNamedApart settings.hosted → (command : Command) → IsTrue (meets settings command) → grace ≡ settings.grace → AllMay grace now s (turn settings s now command).effects
+    turn-can apart command fits same = case-can apart command (turn settings s now command) (turn-case settings s now command) fits same

@@ -8,7 +8,7 @@ use Rattle.repo_model.specs.Settings.{Settings}
 use Rattle.repo_model.specs.State.{State, Lease, is_among}
 use Rattle.repo_model.specs.Effect.{Effect, draws, drops, creates, stages, delivers, discards, relists, fades, expires, forgets, lends, returns, opens, ends, with_effect, with_effects}
 use Rattle.repo_model.specs.May.{May}
-use Rattle.repo_model.specs.Command.{Command, look, done, may_put, put, put_side, put_doc, drop_draft, open_session, stage, commit, abort, unlist, collect, status}
+use Rattle.repo_model.specs.Command.{Command, look, collect}
 use Rattle.repo_model.specs.Reply.{Reply, collected, is_free}
 use Rattle.repo_model.specs.Purge.{expire_all}
 use Rattle.repo_model.specs.Turn.{turn, unlent}
@@ -105,18 +105,7 @@ forgets-gone t n placed among =
 pub only-collect : (n : ℕ) (c : Command) (r : Reply) → is_among n (given_out c r) ≡ true → c ≡ collect
 only-collect n collect r among = refl
 only-collect n (look repo path tried) r among = absurd (false≢true among)
-only-collect n (done lease) r among = absurd (false≢true among)
-only-collect n (may_put place path) r among = absurd (false≢true among)
-only-collect n (put repo path m blob) r among = absurd (false≢true among)
-only-collect n (put_side place path said) r among = absurd (false≢true among)
-only-collect n (put_doc place path) r among = absurd (false≢true among)
-only-collect n (drop_draft m) r among = absurd (false≢true among)
-only-collect n (open_session repo) r among = absurd (false≢true among)
-only-collect n (stage m path d blob) r among = absurd (false≢true among)
-only-collect n (commit m) r among = absurd (false≢true among)
-only-collect n (abort m) r among = absurd (false≢true among)
-only-collect n (unlist repo) r among = absurd (false≢true among)
-only-collect n status r among = absurd (false≢true among)
+only-collect n c r among = absurd (false≢true among)
 
 module _ (settings : Settings) (apart : AreNamedApart settings.hosted) where
   -- the state of a Collect once the rows whose time is over are gone

@@ -1,7 +1,6 @@
 //! Releases stay, and a row that was visible stands until the grace period is over.
-ghost use Rattle.std.specs.Prelude.{◌≡◌, ℕ, ◌+◌, ◌≤◌, List, Option, Some, None, length};
+ghost use Rattle.std.specs.Prelude.{◌≡◌, ℕ, ◌+◌, ◌≤◌, List, Some, None, length};
 ghost use Rattle.std.specs.List.{AllByRecursion};
-ghost use Rattle.outside.specs.Moments.{Moments};
 ghost use Rattle.repo_model.specs.declared.session.SessionResult.TheVariants.{Done};
 ghost use Rattle.repo_model.specs.Settings.{Settings};
 ghost use Rattle.repo_model.specs.Data.{Blob, Staged, Session};

@@ -1,5 +1,5 @@
 //! Each file that a served document names is answered up to the grace.
-ghost use Rattle.std.specs.Prelude.{◌≡◌, ◌↔◌, ℕ, ◌+◌, ◌≤◌, List, [], ◌∷◌, None, Some, Result, Ok, IsTrue};
+ghost use Rattle.std.specs.Prelude.{◌≡◌, ◌↔◌, ℕ, ◌+◌, ◌≤◌, List, [], ◌∷◌, None, Some, Ok, IsTrue};
 ghost use Rattle.std.specs.List.{AllByRecursion};
 ghost use Rattle.mvn_coords.specs.Kind.{kind};
 ghost use Rattle.mvn_coords.specs.declared.kind.Kind.TheVariants.{Doc, DocSide};

@@ -12,7 +12,7 @@ ghost use Rattle.repo_model.specs.Effect.{with_effects};
 ghost use Rattle.repo_model.specs.Command.{Command, done, drop_draft};
 ghost use Rattle.repo_model.specs.Reply.{given_back, dropped, store_fault, is_free, can_get};
 ghost use Rattle.repo_model.specs.Turn.{turn};
-ghost use Rattle.repo_model.specs.History.{Entry, Fits, Legal, effects_of, latest_moment, ticked, after, end};
+ghost use Rattle.repo_model.specs.History.{Entry, Fits, Legal, latest_moment, ticked, after, end};
 ghost use Rattle.repo_laws.specs.Faults.{is_store_fault, AsksRecords};
 ghost use Rattle.repo_laws.specs.Replies.{is_refusal, given_up, may_change_rows, AsksAlike, moments_of};
 

@@ -1,5 +1,5 @@
 //! What each state of a history keeps.
-ghost use Rattle.std.specs.Prelude.{◌≡◌, ℕ, List, Option, IsTrue};
+ghost use Rattle.std.specs.Prelude.{ℕ, List, Option, IsTrue};
 ghost use Rattle.outside.specs.Moments.{Moments};
 ghost use Rattle.repo_model.specs.Settings.{Settings};
 ghost use Rattle.repo_model.specs.State.{State, opening};

@@ -1,15 +1,14 @@
 //! Worked cases of the machine.
-ghost use Rattle.std.specs.Prelude.{◌≡◌, ◌++◌, List, [], ◌∷◌, None, Some, option_map};
+ghost use Rattle.std.specs.Prelude.{◌≡◌, ◌++◌, [], ◌∷◌, None, Some, option_map};
 ghost use Rattle.mvn_coords.specs.Calendar.{civil_of};
-ghost use Rattle.mvn_coords.specs.Layout.{Directory};
 ghost use Rattle.mvn_metadata.specs.Written as written;
 ghost use Rattle.repo_model.specs.declared.item.Item.TheVariants.{Faded, Removed};
 ghost use Rattle.repo_model.specs.Document.{document};
-ghost use Rattle.repo_model.specs.State.{State, opening, rows_of};
+ghost use Rattle.repo_model.specs.State.{opening, rows_of};
 ghost use Rattle.repo_model.specs.Effect.{recorded};
 ghost use Rattle.repo_model.specs.Command.{unlist, collect};
 ghost use Rattle.repo_model.specs.Turn.{turn};
-ghost use Rattle.repo_model.specs.History.{Entry, Legal, end};
+ghost use Rattle.repo_model.specs.History.{Legal, end};
 ghost use Rattle.repo_laws.specs.Worked.{shop, shelves, releases, snapshots, nightly, jar_1, pom_1, artifact, builds, artifact_text, builds_text, pom_text, release_text};
 ghost use Rattle.repo_laws.specs.Starts.{purge_begun, purged_later, sessions_ended, asked_again};
 ghost use Rattle.repo_laws.specs.Histories.{two_builds, faded, purged, read_to_its_end, listed_again, still_there, deployed, refused, sent_again, aged, staged_again, kept_a_day, shelved, shelves_faded, shelves_cleared};

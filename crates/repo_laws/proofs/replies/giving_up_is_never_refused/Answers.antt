@@ -1,4 +1,5 @@
-use Rattle.repo_laws.proofs.Answered.{lease-given_back, draft-dropped}
+use Rattle.repo_laws.proofs.Answered.{lease-given_back}
+use Rattle.repo_laws.proofs.Drafts.{draft-dropped}
 use Rattle.repo_laws.proofs.replies.giving_up_is_never_refused.Goals as goal
 
 pub returns-clause-lease : goal.returns-clause-lease
