@@ -26,9 +26,9 @@ use Rattle.repo_course.specs.declared.outcomes.Sent.TheVariants as sent
 use Rattle.repo_course.specs.declared.said.Said.TheVariants as said
 use Rattle.repo_course.specs.Serving.{Begins, Follows, IsFrontOf, IsOtherContent, IsWhole, Opens, clean, torn, failed as source_failed, refused as no_head, unread_head, starved as head_starved, served, Outside, SendsAnswer, Turn, print_of, writes}
 use Rattle.course_laws.specs.Duties.{is_head_only}
-use Rattle.course_laws.specs.Granted.{manner_for}
+use Rattle.course_laws.specs.Granted.{file_shown, manner_for}
 use Rattle.course_laws.proofs.HeadOnly.{judged-head}
-use Rattle.closed_laws.specs.Answered.{IsLookedUp, looked, unread, failed, ShowsFile, whole, blob_fault, blob_differs, starved, cut, ShowsMemory, ShowsReply, ShowsSaid, file_shown}
+use Rattle.closed_laws.specs.Answered.{IsLookedUp, looked, unread, failed, ShowsFile, whole, blob_fault, blob_differs, starved, cut, ShowsMemory, ShowsReply, ShowsSaid}
 
 -- the bytes that a file's answer has behind its head
 abbrev rest_of : Bool → List ℕ → List ℕ
