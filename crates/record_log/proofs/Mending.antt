@@ -1,9 +1,10 @@
 -- What a crash leaves while a file is made anew, or its gate is closed.
-use Rattle.std.proofs.Common.{◌≡◌, ◌⊎◌, inl, inr, ℕ, ◌+◌, ◌-◌, ◌≤◌, ◌<◌, Bool, true, false, List, [], ◌∷◌, ◌++◌, length, get_or, take, drop, refl, sym, ◌∙◌, ap, subst, arith, length-append}
+use Rattle.std.proofs.Common.{◌≡◌, ◌⊎◌, inl, inr, ℕ, ◌+◌, ◌≤◌, Bool, true, false, List, [], ◌∷◌, ◌++◌, length, take, drop, refl, sym, ◌∙◌, ap, subst, arith, length-append}
 use Rattle.std.specs.Prelude.{if◌then◌else◌, unwrap_or, Option, None, Some}
 use Rattle.std.proofs.lemmas.List.{drop_more, drop_all, take_at}
+use Rattle.std.proofs.lemmas.Option.{get_or_from_slice_get}
 use Rattle.record_disk.specs.Disk.{Trace, content, Torn, AllImages, Here, Told, Keeps, IsDurable, Tears, Cuts}
-use Rattle.record_log.specs.Frames.{Frames, New, Foreign, Framed, frames, payloads_of, gate_of, end_of, Holds, head_of}
+use Rattle.record_log.specs.Frames.{Frames, New, Foreign, Framed, frames, payloads_of, gate_of, end_of, EndsAt, Holds, head_of}
 use Rattle.record_log.specs.Log.{at_rest, IsAtRest, HasFront, HasTail}
 use Rattle.record_disk.proofs.Moments.{joined, weaker}
 use Rattle.record_log.proofs.Reading.{frames_short}
@@ -42,13 +43,12 @@ pub one_list : (file : List ℕ) (ps qs : List (List ℕ)) → Holds ps file →
 one_list file ps qs one two = ap the (sym one ∙ two)
 
 module _ (bytes : List ℕ) (gate : ℕ) (are : AreBytes bytes) (is : gate_of (frames bytes) ≡ Some gate) where
-  pub rests_now : (end : ℕ) → end ≡ length bytes → 0 < end → end - 1 ≡ gate → get_or bytes (end - 1) 0 ≡ 0
-      → (s : Trace) → IsDurable bytes s → (ps : List (List ℕ)) → Holds ps bytes → IsAtRest gate ps s
-  rests_now end long some place shut s durable ps holds =
+  rests_now : EndsAt gate bytes → (s : Trace) → IsDurable bytes s → (ps : List (List ℕ)) → Holds ps bytes → IsAtRest gate ps s
+  rests_now ends s durable ps holds =
       let them = parts bytes gate are is in
       let same : them.payloads ≡ ps = one_list bytes them.payloads ps them.holds holds in
       let last : drop gate bytes ≡ 0 ∷ [] =
-      drop_more bytes gate 0 (omega (arith, long, place)) ∙ (λ i. (ap (λ (k : ℕ). get_or bytes k 0) (sym place) ∙ shut) i ∷ drop_all (gate + 1) bytes (omega (arith, long, place)) i) in
+      drop_more bytes gate 0 (omega (arith, ends.size)) ∙ (λ i. get_or_from_slice_get bytes gate 0 0 ends.closed i ∷ drop_all (gate + 1) bytes (omega (arith, ends.size)) i) in
       let rest : bytes ≡ at_rest them.payloads = them.split ∙ ap (λ (l : List ℕ). head_of them.payloads ++ l) last in
       subst (λ qs. IsAtRest gate qs s) same (record { durable = subst (λ f. IsDurable f s) rest durable; place = them.place; short = them.short })
 
@@ -80,9 +80,8 @@ module _ (bytes : List ℕ) (gate : ℕ) (are : AreBytes bytes) (is : gate_of (f
   pub close_told : (a : Option Trace) → Told a a (λ s t. IsDurable bytes s → (ps : List (List ℕ)) → Holds ps bytes → Keeps (Holds ps) s t)
   close_told a = told_same a (λ s t. IsDurable bytes s → (ps : List (List ℕ)) → Holds ps bytes → Keeps (Holds ps) s t) close_none
 
-  pub close_done : 0 < length bytes → length bytes - 1 ≡ gate → get_or bytes (length bytes - 1) 0 ≡ 0
-      → (a : Option Trace) → Told a a (λ s t. IsDurable bytes s → (ps : List (List ℕ)) → Holds ps bytes → IsAtRest gate ps t)
-  close_done some place shut a = told_same a (λ s t. IsDurable bytes s → (ps : List (List ℕ)) → Holds ps bytes → IsAtRest gate ps t) (rests_now (length bytes) refl some place shut)
+  pub close_done : EndsAt gate bytes → (a : Option Trace) → Told a a (λ s t. IsDurable bytes s → (ps : List (List ℕ)) → Holds ps bytes → IsAtRest gate ps t)
+  close_done ends a = told_same a (λ s t. IsDurable bytes s → (ps : List (List ℕ)) → Holds ps bytes → IsAtRest gate ps t) (rests_now ends)
 
 -- a file that holds nothing, made anew
 module _ (bytes : List ℕ) (ps : List (List ℕ)) (holds : Holds ps bytes) (none : gate_of (frames bytes) ≡ None) where

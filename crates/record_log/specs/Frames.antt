@@ -1,5 +1,5 @@
 -- What a file of records reads as: 8 bytes of magic, then frames, each a gate, a length of 4 bytes and a payload.
-use Rattle.std.specs.Prelude.{◌≡◌, ◌≢◌, ◌⊎◌, ◌<◌, ◌+◌, ◌^◌, ◌==◌, ◌&&◌, if◌then◌else◌, Bool, true, false, ⊤, ℕ, zero, suc, List, [], ◌∷◌, ◌++◌, length, take, drop, nat_eq, nat_lt, nat_le, Option, None, Some, IsSome, unwrap_or}
+use Rattle.std.specs.Prelude.{◌≡◌, ◌≢◌, ◌⊎◌, ◌<◌, ◌+◌, ◌^◌, ◌==◌, ◌&&◌, if◌then◌else◌, Bool, true, false, ⊤, ℕ, zero, suc, List, [], ◌∷◌, ◌++◌, length, take, drop, nat_eq, nat_lt, nat_le, slice_get, Option, None, Some, IsSome, unwrap_or}
 use Rattle.std.specs.List.{flat_map, starts_with}
 use Rattle.std.specs.Int.{w32, to_be_bytes, from_be_bytes}
 
@@ -68,6 +68,11 @@ gate_of (Framed found) = if found.is_cut then None else Some (8 + found.size)
 -- the place of the gate once the end is written anew: a new file's stands behind the magic
 abbrev pub end_of : Frames → ℕ
 end_of read = unwrap_or (gate_of read) 8
+
+-- the file ends with a closed gate at this place
+pub record EndsAt (gate : ℕ) (file : List ℕ) : Type 0 where
+  pub size : length file ≡ gate + 1
+  pub closed : slice_get file gate ≡ Some 0
 
 -- the file holds these payloads
 abbrev pub Holds : List (List ℕ) → List ℕ → Type 0

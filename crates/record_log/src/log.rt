@@ -1,7 +1,7 @@
 ghost use Rattle.std.specs.Prelude.{◌≡◌, ◌<◌, ◌+◌, ◌^◌, [], ◌∷◌, ◌++◌, List, ℕ, Option, None, Some, length, IfOk, IfSome, OnOk, OnErr, IsOk, IsErrOf};
 ghost use Rattle.outside.specs.Faults.{HasCause};
 ghost use Rattle.record_disk.specs.Disk.{After, Sync, Told, Throughout, Keeps, IsDurable, content};
-ghost use Rattle.record_log.specs.Frames.{IsWhole, frames, end_of, Holds, HoldsOneMore};
+ghost use Rattle.record_log.specs.Frames.{IsWhole, frames, gate_of, end_of, EndsAt, Holds, HoldsOneMore};
 ghost use Rattle.record_log.specs.Log.{IsAtRest, StandsFor, MayHold, HasAcknowledged, MaySync, HasLogCause};
 ghost use Rattle.record_log.specs.declared.faults.LogFault.TheVariants.{Failed as failed, NoMemory as no_memory};
 
@@ -81,7 +81,7 @@ impl<D: Disk> Log<D> {
     }
 
     /// Makes the end of the file that `load` gave ready for payloads: what stands behind its frames is cut off and the
-    /// gate closed. A new file is made anew.
+    /// gate closed. A new file is made anew. Where a closed gate and nothing else stands behind them, nothing is done.
     pub fn mend(&mut self, bytes: &[u8]) -> Result<(), Failed>
         requires undone { self.old.pending ≡ None }
         requires whole { IsWhole bytes.now }
@@ -97,6 +97,10 @@ impl<D: Disk> Log<D> {
         // The gate stands where the file's frames end, or, in a file that was new, behind the magic.
         ensures gate { OnOk result (self.new.gate ≡ end_of (frames bytes.now)) }
         ensures stays { OnErr result (self.new.gate ≡ self.old.gate) }
+
+        // A file that ends as it should is neither written nor cut.
+        ensures still { (gate : ℕ) → gate_of (frames bytes.now) ≡ Some gate → EndsAt gate bytes.now
+            → IsOk result × (self.new ≡ record self.old { gate = gate }) }
     {
         self.gate = mend_file(&mut self.disk, bytes)?;
         Ok(())

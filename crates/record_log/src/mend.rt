@@ -1,7 +1,7 @@
-ghost use Rattle.std.specs.Prelude.{◌≡◌, ◌<◌, ◌≤◌, ◌^◌, ℕ, List, [], Some, IfOk, IfSome, OnOk, length};
+ghost use Rattle.std.specs.Prelude.{◌≡◌, ◌↔◌, ◌<◌, ◌≤◌, ◌^◌, ℕ, List, [], Some, IfOk, IfSome, IsOk, IsTrue, OnOk, length};
 ghost use Rattle.outside.specs.Faults.{HasCause};
 ghost use Rattle.record_disk.specs.Disk.{After, Sync, content, AllImages, Told, Keeps, IsDurable};
-ghost use Rattle.record_log.specs.Frames.{IsWhole, frames, gate_of, end_of, Holds};
+ghost use Rattle.record_log.specs.Frames.{IsWhole, frames, gate_of, end_of, EndsAt, Holds};
 ghost use Rattle.record_log.specs.Log.{IsAtRest, MaySync, HasLogCause};
 
 use crate::faults::LogFault;
@@ -49,6 +49,14 @@ fn renew<D: Disk>(disk: &mut D) -> Result<(), Failed>
     Ok(())
 }
 
+/// Whether a file with these bytes ends with a closed gate at a place.
+fn ends_at(bytes: &[u8], gate: u64) -> bool
+    ensures { IsTrue result ↔ EndsAt gate bytes.now }
+{
+    let end = bytes.len();
+    end > 0 && end as u64 - 1 == gate && bytes[end - 1] == 0
+}
+
 /// Closes the gate of a file with these bytes, all of them on the disk, where it isn't closed or something stands behind it.
 fn close<D: Disk>(disk: &mut D, bytes: &[u8], gate: u64) -> Result<(), Failed>
     requires { gate_of (frames bytes.now) ≡ Some gate }
@@ -57,9 +65,9 @@ fn close<D: Disk>(disk: &mut D, bytes: &[u8], gate: u64) -> Result<(), Failed>
         → (payloads : List (List ℕ)) → Holds payloads bytes.now → Keeps (Holds payloads) s t) }
     ensures done { OnOk result (Told (D.trace disk.old) (D.trace disk.new) (λ s t. IsDurable bytes.now s
         → (payloads : List (List ℕ)) → Holds payloads bytes.now → IsAtRest gate payloads t)) }
+    ensures still { EndsAt gate bytes.now → IsOk result × (disk.new ≡ disk.old) }
 {
-    let end = bytes.len();
-    if end > 0 && end as u64 - 1 == gate && bytes[end - 1] == 0 {
+    if ends_at(bytes, gate) {
         return Ok(());
     }
     undo_frame(disk, gate)?;
@@ -76,6 +84,7 @@ pub fn mend_file<D: Disk>(disk: &mut D, bytes: &[u8]) -> Result<u64, Failed>
         → (payloads : List (List ℕ)) → Holds payloads bytes.now → IsAtRest gate payloads t)) }
     ensures place { IfOk result (λ gate. gate < 2 ^ 63) }
     ensures end { IfOk result (λ gate. gate ≡ end_of (frames bytes.now)) }
+    ensures still { (gate : ℕ) → gate_of (frames bytes.now) ≡ Some gate → EndsAt gate bytes.now → IsOk result × (disk.new ≡ disk.old) }
 {
     match gate_in(bytes) {
         None => {
