@@ -1,6 +1,6 @@
 -- What is left once a journal's file is synced, and once its end is mended.
 use Rattle.std.proofs.Common.{◌≡◌, ◌≤◌, inl, inr, ℕ, List, Result, Ok, Err, refl, sym, ◌∙◌, ap, subst}
-use Rattle.std.specs.Prelude.{Option, Some, None, IfSome, OnOk, IfOk, false, true, is_some}
+use Rattle.std.specs.Prelude.{Option, Some, None, IsSome, IfSome, OnOk, IfOk, false, true, is_some}
 use Rattle.std.specs.Option.{option_map}
 use Rattle.std.specs.Result.{result_ok}
 use Rattle.record_disk.specs.Disk.{Trace, After, Sync, content, AllImages, Throughout, Here, Then, Told, Keeps, IsDurable}
@@ -11,12 +11,12 @@ use Rattle.record_log.proofs.Calls.{told_same}
 use Rattle.repo_model.specs.Tables.{Tables}
 use Rattle.row_tables.specs.declared.faults.LoadFault.{LoadFault}
 use Rattle.row_tables.specs.declared.faults.LoadFault.TheVariants.{Failed, NoMemory, NotOurs, Row}
-use Rattle.row_tables.specs.Records.{Expected, LoadsUnlessFailed}
+use Rattle.row_tables.specs.Records.{Expected, IsRefusal, LoadsUnlessFailed}
 use Rattle.record_journal.specs.Given.{Loads}
 use Rattle.record_journal.specs.Loading.{loading}
-use Rattle.record_journal.specs.Journal.{tables_by, tables_of, LoadsTo, MayLoad, Fits, IsStanding, IsReady, IsSteady, KeepsTables, Recovers}
+use Rattle.record_journal.specs.Journal.{acknowledged, tables_by, tables_of, LoadsTo, MayLoad, Fits, IsStanding, IsReady, IsSteady, KeepsTables, Recovers}
 use Rattle.record_journal.proofs.Loads.{HeldBy, loads_held, held_by}
-use Rattle.record_journal.proofs.Standing.{may_load}
+use Rattle.record_journal.proofs.Standing.{may_load, standing_loads}
 
 abbrev loaded : Tables → Result Tables LoadFault
 loaded t = Ok t
@@ -178,6 +178,30 @@ loads_too (Some s) expected found r same loads = by r loads
     by (Err NoMemory) is = tt
     by (Err NotOurs) is = same ∙ is
     by (Err (Row frame at)) is = same ∙ is
+
+-- a file that loads to tables is not refused
+not_refused : (expected r : Expected) (t : Tables) → expected ≡ Ok t → Loads expected r → IsRefusal r → ⊥
+not_refused expected (Ok u) t is loads refused = refused
+not_refused expected (Err Failed) t is loads refused = refused
+not_refused expected (Err NoMemory) t is loads refused = refused
+not_refused expected (Err NotOurs) t is loads refused = let no : loaded t ≡ Err NotOurs = sym is ∙ loads in absurd cc
+not_refused expected (Err (Row frame at)) t is loads refused = let no : loaded t ≡ Err (Row frame at) = sym is ∙ loads in absurd cc
+
+-- where the bytes that were read are refused, nothing was pending, and the file was synced alone
+pub refused_left : (old mid : LogState) (bytes : List ℕ) (r : Expected) → IsSteady old → Told old.trace mid.trace (KeepsTables (tables_of old) old.pending mid.pending)
+    → (old.pending ≡ None → Told old.trace mid.trace (λ s t. t ≡ After Sync (content s) s)) → IfSome old.trace (λ s. loading (acknowledged old.gate old.pending (content s)) ≡ loading bytes)
+    → Loads (loading bytes) r → IsRefusal r → Told old.trace mid.trace (λ s t. t ≡ After Sync (content s) s)
+refused_left old mid bytes r steady told synced reads loads refused = by old.trace mid.trace old.pending (λ some. (steady some).standing) told synced reads
+  where
+    by : (a b : Option Trace) (pending : Option (List ℕ)) → (IsSome pending → IfSome a (IsStanding old.gate pending)) → Told a b (KeepsTables (tables_of old) old.pending mid.pending)
+        → (pending ≡ None → Told a b (λ s t. t ≡ After Sync (content s) s)) → IfSome a (λ s. loading (acknowledged old.gate pending (content s)) ≡ loading bytes) → Told a b (λ s t. t ≡ After Sync (content s) s)
+    by None None pending stands told synced reads = tt
+    by None (Some t) pending stands told synced reads = told
+    by (Some s) None pending stands told synced reads = told
+    by (Some s) (Some t) None stands told synced reads = synced refl
+    by (Some s) (Some t) (Some p) stands told synced reads =
+        let known = stands refl in
+        absurd (not_refused (loading bytes) r known.tables (sym reads ∙ standing_loads old.gate (Some p) known.payloads s known.stands ∙ known.builds) loads refused)
 
 pub none_told : (a : Option Trace) (expected : Trace → Expected) → IfSome (option_map expected a) (λ e. LoadsUnlessFailed e (Err Failed))
 none_told None expected = tt

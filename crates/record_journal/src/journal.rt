@@ -1,6 +1,6 @@
 ghost use Rattle.std.specs.Prelude.{◌≡◌, ◌⊎◌, [], None, Some, Ok, IfOk, IfSome, IsOk, OnOk, OnErr, false, is_some};
 ghost use Rattle.std.specs.Option.{ForSome, option_map};
-ghost use Rattle.record_disk.specs.Disk.{Told};
+ghost use Rattle.record_disk.specs.Disk.{After, Sync, content, Told};
 ghost use Rattle.repo_model.specs.Tables.{applied};
 ghost use Rattle.row_tables.specs.Applying.{with_items};
 ghost use Rattle.row_tables.specs.Items.{change_bytes};
@@ -78,6 +78,9 @@ impl<D: Disk> Records for Journal<D> {
 
         // The tables and the refusals are those of the file's frames.
         ensures loads { IfSome (expected_of self.old) (λ expected. LoadsUnlessFailed expected result) }
+
+        // A file that it refuses was synced, and is neither written nor cut.
+        ensures left { IsRefusal result → Told self.old.trace self.new.trace (λ s t. t ≡ After Sync (content s) s) }
 
         // A crash at each moment of the call leaves a file that loads to the same tables, or to these with the pending change.
         ensures crash { Told self.old.trace self.new.trace (KeepsTables (tables_of self.old) self.old.pending self.new.pending) }

@@ -3,7 +3,7 @@ ghost use Rattle.std.specs.Prelude.{◌≡◌, None, IfOk, IfSome, OnOk};
 ghost use Rattle.record_disk.specs.Disk.{After, Sync, content, Told, IsDurable};
 ghost use Rattle.record_log.specs.Log.{HasLogCause};
 ghost use Rattle.row_tables.specs.Recorded.{IsBuiltUp};
-ghost use Rattle.row_tables.specs.Records.{HasLoadCause, LoadsUnlessFailed};
+ghost use Rattle.row_tables.specs.Records.{HasLoadCause, IsRefusal, LoadsUnlessFailed};
 ghost use Rattle.record_journal.specs.Journal.{acknowledged, expected_of, tables_of, IsReady, IsSteady, KeepsTables, Recovers};
 ghost use Rattle.record_journal.specs.Loading.{loading};
 
@@ -38,6 +38,7 @@ pub fn load_log<D: Disk>(alloc: Global, log: &mut Log<D>) -> Result<Tables, Load
     ensures crash { Told log.old.trace log.new.trace (KeepsTables (tables_of log.old) log.old.pending log.new.pending) }
     ensures first { log.old.pending ≡ None → Told log.old.trace log.new.trace Recovers }
     ensures loads { IfSome (expected_of log.old) (λ expected. LoadsUnlessFailed expected result) }
+    ensures left { IsRefusal result → Told log.old.trace log.new.trace (λ s t. t ≡ After Sync (content s) s) }
     ensures built { IfOk result IsBuiltUp }
     ensures ready { OnOk result (IsReady log.new) }
     ensures undone { OnOk result (log.new.pending ≡ None) }

@@ -1,12 +1,21 @@
-use Rattle.std.proofs.Common.{◌≡◌, ◌≤◌, ℕ, List, sym, ◌∙◌, ap, subst, Ok}
+use Rattle.std.proofs.Common.{◌≡◌, ◌≤◌, ℕ, List, sym, ◌∙◌, ap, subst, Ok, Err}
+use Rattle.std.proofs.lemmas.Result.{err_from_is_err_and}
 use Rattle.std.specs.Prelude.{IfSome}
 use Rattle.record_disk.specs.Disk.{Told, IsDurable}
 use Rattle.record_log.specs.Frames.{frames, Holds}
 use Rattle.record_log.specs.Log.{HasAcknowledged}
 use Rattle.record_log.proofs.Mending.{behind_magic}
+use Rattle.record_journal.specs.Given.{Loads}
 use Rattle.record_journal.specs.Loading.{loading}
-use Rattle.record_journal.proofs.Reloaded.{Mending, loads_too, reload_crash, reload_tables, reload_ready, reload_recovers}
+use Rattle.record_journal.proofs.Reloaded.{Mending, loads_too, refused_left, reload_crash, reload_tables, reload_ready, reload_recovers}
 use Rattle.record_journal.proofs.reloading.load_log.Goals as goal
+
+pub returns-in_err-tables-clause-left : goal.returns-in_err-tables-clause-left
+returns-in_err-tables-clause-left g c = λ refused.
+    let fault = err_from_is_err_and c.from_residual.result c.from_residual.ensures.1 in
+    let loads : Loads (loading c.in-Ok.bytes.items) c.from_residual.result =
+    rw (fault.1, fault.2) (subst (λ l. Loads (loading l) (Err c.in_err-tables.field-0.0)) c.deref.ensures.value c.in_err-tables.ensures.loads) in
+    refused_left c.args.log.now c.synced_bytes.new.log c.in-Ok.bytes.items c.from_residual.result c.requires c.synced_bytes.ensures.crash c.in-Ok.ensures.synced c.in-Ok.ensures.bytes loads refused
 
 pub returns-in-Ok-mend-clause-crash : goal.returns-in-Ok-mend-clause-crash
 returns-in-Ok-mend-clause-crash g c =
