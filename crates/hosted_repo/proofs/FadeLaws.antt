@@ -19,6 +19,7 @@ use Rattle.repo_model.specs.Settings.{Rule}
 use Rattle.repo_model.specs.State.{change_where, is_row, row_at}
 use Rattle.repo_model.specs.Turn.{Seen, is_file, is_text, or_nothing, seen_at}
 use Rattle.hosted_repo.specs.Dues.{is_due_row}
+use Rattle.hosted_repo.specs.Releases.{AllFadeRightly, FadesRightly}
 use Rattle.hosted_repo.specs.Rows.{rows_after_all}
 use Rattle.hosted_repo.specs.Seens.{is_of_document}
 
@@ -115,3 +116,24 @@ pub releases_kept : (rule : Rule) (now : ℕ) (rows : List plain.Row) (path : Li
     → row_at path (rows_after_all (map (λ (row : plain.Row). fades rule.id row.path now) (due_rows rule now rows)) rows) ≡ row_at path rows
 releases_kept rule now rows path other =
     kept_apart rule.id now (due_rows rule now rows) rows path (snapshots_take most_rows (filter (is_due_row rule now rows) rows) (due_filter rule now rows rows)) other
+
+-- rows that fade at a snapshot's path
+rightly-one : (at : List ℕ) (now : ℕ) (rows : List plain.Row) → is_snapshot_path at ≡ true → AllFadeRightly rows → AllFadeRightly (change_where (is_row at) (fade now) rows)
+rightly-one at now [] snapshot all = tt
+rightly-one at now (row ∷ rows) snapshot all = (
+  elim (is_row at row) as (λ b. is_row at row ≡ b → FadesRightly (cond b (fade now row) row)) [
+    | true ↦ λ is since e. ap is_snapshot_path ((bytes_eq-Decides row.path at).0 is) ∙ snapshot
+    | false ↦ λ is. all.0
+  ] refl,
+  rightly-one at now rows snapshot all.1,
+)
+
+rightly-some : (repo : List ℕ) (now : ℕ) (due rows : List plain.Row) → AreSnapshots due → AllFadeRightly rows
+    → AllFadeRightly (rows_after_all (map (λ (row : plain.Row). fades repo row.path now) due) rows)
+rightly-some repo now [] rows h all = all
+rightly-some repo now (row ∷ due) rows h all = rightly-some repo now due (rows_after (fades repo row.path now) rows) h.1 (rightly-one row.path now rows h.0 all)
+
+pub rightly_faded : (rule : Rule) (now : ℕ) (rows : List plain.Row) → AllFadeRightly rows
+    → AllFadeRightly (rows_after_all (map (λ (row : plain.Row). fades rule.id row.path now) (due_rows rule now rows)) rows)
+rightly_faded rule now rows all =
+    rightly-some rule.id now (due_rows rule now rows) rows (snapshots_take most_rows (filter (is_due_row rule now rows) rows) (due_filter rule now rows rows)) all

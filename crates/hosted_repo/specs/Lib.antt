@@ -4,6 +4,7 @@ pub mod Dues
 pub mod Expired
 pub mod Puts
 pub mod Recording
+pub mod Releases
 pub mod Restored
 pub mod Rows
 pub mod Rules

@@ -20,6 +20,7 @@ ghost use Rattle.hosted_repo.specs.Deliveries.{blobs_of, deliveries, delivery, i
 ghost use Rattle.hosted_repo.specs.Expired.{blob_of};
 ghost use Rattle.hosted_repo.specs.Recording.{FitWhereTold, HasKeptCause, HasReplyCause, IsRemoved};
 ghost use Rattle.hosted_repo.specs.Rules.{shown_rule};
+ghost use Rattle.hosted_repo.specs.Releases.{FadesRightly, KeepsReleases};
 ghost use Rattle.hosted_repo.specs.Restored.{kept_row};
 ghost use Rattle.hosted_repo.specs.Rows.{fades, shown_at, rows_after_all};
 ghost use Rattle.hosted_repo.specs.Puts.{shown_put, put_turn, GivesBack};
@@ -45,7 +46,8 @@ use std::alloc::Global;
 use std::collections::BTreeMap;
 use std::marker::Model;
 
-/// A hosted repository: its rule and its rows, each path once and the path of a file, in byte order of path.
+/// A hosted repository: its rule and its rows, each path once and the path of a file, in byte order of path. Only rows of
+/// snapshots are unlisted.
 #[derive(Drop)]
 pub struct Hosted<H: Held> {
     alloc: Global,
@@ -63,10 +65,11 @@ impl<H: Held> Model for Hosted<H> {
 
     ghost view = { λ h. record { rule = shown_rule h.rule; rows = h.rows } };
 
+    ghost use Rattle.hosted_repo.specs.Releases.{AllFadeRightly};
     ghost use Rattle.hosted_repo.specs.Rows.{AreFiles};
     ghost use Rattle.row_tables.specs.Items.{is_id};
 
-    ghost invariant = { λ h. record { named : IsTrue (is_id h.rule.id); files : AreFiles h.rows } };
+    ghost invariant = { λ h. record { named : IsTrue (is_id h.rule.id); files : AreFiles h.rows; fading : AllFadeRightly h.rows } };
 }
 
 impl<H: Held> Hosted<H> {
@@ -133,6 +136,7 @@ impl<H: Held> Hosted<H> {
             self.new ≡ (if is_free (shown_put result) then self.old else record self.old { rows = rows_after_all turn.effects self.old.rows }) }
         ensures tables { let turn = put_turn self.old path.now (shown_parcel parcel) now in
             K.tables records.new ≡ (if is_free (shown_put result) then K.tables records.old else tables_with (recorded turn.effects) (K.tables records.old)) }
+        ensures releases { KeepsReleases self.old.rows self.new.rows }
         ensures cause { HasReplyCause (K.faults records.old) (K.faults records.new) (shown_put result) }
         ensures ready { K.ready records.new }
         ensures parcel { GivesBack result parcel }
@@ -165,6 +169,7 @@ impl<H: Held> Hosted<H> {
             else record self.old { rows = with_row (new_row path.now (shown_parcel parcel) now) self.old.rows }) }
         ensures tables { K.tables records.new ≡ (if is_free (shown_put result) then K.tables records.old
             else tables_with (HostedPut self.old.rule.id path.now parcel.blob (shown_print parcel) now ∷ []) (K.tables records.old)) }
+        ensures releases { KeepsReleases self.old.rows self.new.rows }
         ensures cause { HasReplyCause (K.faults records.old) (K.faults records.new) (shown_put result) }
         ensures ready { K.ready records.new }
         ensures parcel { GivesBack result parcel }
@@ -191,12 +196,14 @@ impl<H: Held> Hosted<H> {
         requires moment { now ≤ latest_moment }
         requires ready { K.ready records.old }
         requires path { IsTrue (is_file_path path.now) }
+        requires snapshot { is_snapshot_path path.now ≡ true }
         requires fits { FitWhereTold (K.tables records.old) (Relisted self.old.rule.id path.now now ∷ []) }
         ensures reply { (shown_put result ≡ relisted) ⊎ IsTrue (is_free (shown_put result)) }
         ensures rows { self.new ≡ (if is_free (shown_put result) then self.old
             else record self.old { rows = change_where (is_row path.now) (list_again now) self.old.rows }) }
         ensures tables { K.tables records.new ≡ (if is_free (shown_put result) then K.tables records.old
             else tables_with (Relisted self.old.rule.id path.now now ∷ []) (K.tables records.old)) }
+        ensures releases { KeepsReleases self.old.rows self.new.rows }
         ensures cause { HasReplyCause (K.faults records.old) (K.faults records.new) (shown_put result) }
         ensures ready { K.ready records.new }
         ensures parcel { GivesBack result parcel }
@@ -235,6 +242,7 @@ impl<H: Held> Hosted<H> {
         ensures blobs { blobs_of result ≡ (if is_done result then flat_map left_by (deliveries self.old (shown_files staged.now.entries) now) else []) }
         ensures tables { K.tables records.new ≡ (if is_done result
             then tables_with (recorded (deliveries self.old (shown_files staged.now.entries) now) ++ also ∷ []) (K.tables records.old) else K.tables records.old) }
+        ensures releases { KeepsReleases self.old.rows self.new.rows }
         ensures cause { HasReplyCause (K.faults records.old) (K.faults records.new) (shown_put_all result) }
         ensures ready { K.ready records.new }
     {
@@ -252,8 +260,8 @@ impl<H: Held> Hosted<H> {
         }
     }
 
-    /// Takes up a row that is recorded, as it was kept: so a repository starts. Nothing is recorded anew. Where memory is wanting
-    /// the parcel comes back and nothing is changed.
+    /// Takes up a row that is recorded, as it was kept: so a repository starts. Only a snapshot's is unlisted. Nothing is recorded
+    /// anew. Where memory is wanting the parcel comes back and nothing is changed.
     pub fn restore(
         &mut self,
         path: &str,
@@ -264,8 +272,10 @@ impl<H: Held> Hosted<H> {
         requires path { IsTrue (is_file_path path.now) }
         requires free { row_at path.now self.old.rows ≡ None }
         requires moment { accepted ≤ latest_moment }
+        requires fading { FadesRightly (kept_row path.now (shown_parcel parcel) accepted phase) }
         ensures ok { OnOk result (self.new ≡ record self.old { rows = with_row (kept_row path.now (shown_parcel parcel) accepted phase) self.old.rows }) }
         ensures err { OnErr result (self.new ≡ self.old) }
+        ensures releases { KeepsReleases self.old.rows self.new.rows }
         ensures back { IfErr result (λ back. back ≡ parcel) }
     {
         let row = Row {
@@ -350,7 +360,11 @@ impl<H: Held> Hosted<H> {
     /// Takes the first `count` rows away whose grace period, in seconds, is over at a moment. It takes no memory; that they go
     /// was recorded with `expiring`.
     pub fn drop_expired(&mut self, grace: u64, now: u64, count: u64)
-        ensures { self.new ≡ record self.old { rows = rows_after_all (take count (expired_of grace now self.old)) self.old.rows } }
+        ensures rows { self.new ≡ record self.old { rows = rows_after_all (take count (expired_of grace now self.old)) self.old.rows } }
+
+        // Files of releases stay as they are.
+        ensures releases { (path : List ℕ) → is_snapshot_path path ≡ false
+            → row_at path self.new.rows ≡ row_at path self.old.rows }
     {
         // Its contract says that the paths rise.
         let _len = self.rows.map().len();

@@ -1,7 +1,10 @@
 // What the tests share: a repository over memory, and what it answers as plain values.
-ghost use Rattle.std.specs.Prelude.{◌≡◌, ◌≤◌, IsTrue};
+ghost use Rattle.std.specs.Prelude.{◌≡◌, ◌≤◌, ℕ, IsTrue, true};
 ghost use Rattle.row_tables.specs.Items.{is_file_path, is_id};
+ghost use Rattle.repo_model.specs.Data.{fading};
 ghost use Rattle.repo_model.specs.History.{latest_moment};
+ghost use Rattle.repo_model.specs.Paths.{is_snapshot_path};
+ghost use Rattle.hosted_repo.specs.Rows.{shown_phase};
 
 use crate::records::CountedRecords;
 use hosted_repo::{Hosted, Kept, Phase, Put, Rule, Seen};
@@ -53,6 +56,25 @@ pub fn is_file(path: &str) -> bool
     ensures { result ≡ is_file_path path.now }
 {
     matches!(kind_of(path), Ok(Kind::File(_)))
+}
+
+/// Whether a row at a path may have this phase: only a snapshot's is unlisted.
+pub fn may_be(path: &str, phase: Phase) -> bool
+    ensures { IsTrue result → (since : ℕ) → shown_phase phase ≡ fading since → is_snapshot_path path.now ≡ true }
+{
+    match phase {
+        Phase::Listed => true,
+        Phase::Fading(_) => is_snapshot(path),
+    }
+}
+
+fn is_snapshot(path: &str) -> bool
+    ensures { result ≡ is_snapshot_path path.now }
+{
+    match kind_of(path) {
+        Ok(Kind::File(c)) => c.is_snapshot(),
+        _ => false,
+    }
 }
 
 /// A repository, its records and its blobs.
@@ -148,7 +170,7 @@ impl Bench {
         requires { accepted ≤ latest_moment }
     {
         let parcel = self.parcel(bytes)?;
-        if !is_file(path) {
+        if !is_file(path) || !may_be(path, phase) {
             return Ok(false);
         }
         match self.repo.row(path) {

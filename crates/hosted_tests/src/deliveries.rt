@@ -20,6 +20,8 @@ const JAR: &str = "org/acme/lib/2.0/lib-2.0.jar";
 
 const POM: &str = "org/acme/lib/2.0/lib-2.0.pom";
 
+const BUILD: &str = "org/acme/lib/1.9-SNAPSHOT/lib-1.9-20240229.120000-1.jar";
+
 type Staged = BTreeMap<String, Parcel<MemHeld>>;
 
 // Whether a file may be recorded as a row.
@@ -80,8 +82,8 @@ fn is_done(answer: &PutAll, want: u64, left: &[u64]) -> bool {
 #[test]
 fn files_are_recorded_together_and_then_visible(rt: HostRuntime) -> Result<(), Fail> {
     let mut bench = Bench::new(rt.alloc(), true, true)?;
-    assert!(rt; bench.restore(JAR, b"abc", T, Phase::Fading(T))?);
-    let files = staged(&mut bench, rt.alloc(), &[JAR, POM])?;
+    assert!(rt; bench.restore(BUILD, b"abc", T, Phase::Fading(T))?);
+    let files = staged(&mut bench, rt.alloc(), &[BUILD, POM])?;
     let answer = put_all(&mut bench, &files)?;
     assert!(rt; is_done(&answer, 2, &[2]));
     // a new row, one that is visible again, and the end of the session, which comes last
@@ -115,8 +117,8 @@ fn a_path_with_other_bytes_stands_against_all(rt: HostRuntime) -> Result<(), Fai
 #[test]
 fn all_is_as_before_where_nothing_is_recorded(rt: HostRuntime) -> Result<(), Fail> {
     let mut bench = Bench::new(rt.alloc(), true, true)?;
-    assert!(rt; bench.restore(JAR, b"abc", T, Phase::Fading(T))?);
-    let files = staged(&mut bench, rt.alloc(), &[JAR, POM])?;
+    assert!(rt; bench.restore(BUILD, b"abc", T, Phase::Fading(T))?);
+    let files = staged(&mut bench, rt.alloc(), &[BUILD, POM])?;
     bench.records.fails = true;
     match put_all(&mut bench, &files)? {
         PutAll::StoreFault => {}

@@ -52,6 +52,7 @@ restorable t built =
       apart = λ n. omega (arith, order.blobs n);
       files = all-then StandsAtFile (λ (r : RecordedRow). IsTrue (is_file_path r.row.path)) (λ r so. so.1) t.hosted (built-hosted t built);
       in_time = all-then (λ (r : RecordedRow). IsRowInRange r × FadesRightly r.row) (λ (r : RecordedRow). r.row.accepted ≤ latest_moment) (λ r so. so.0.3.0) t.hosted range.hosted;
+      fading = all-then (λ (r : RecordedRow). IsRowInRange r × FadesRightly r.row) (λ (r : RecordedRow). FadesRightly r.row) (λ r so. so.1) t.hosted range.hosted;
     }
 
 -- ---- numbers

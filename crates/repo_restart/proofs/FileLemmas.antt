@@ -18,6 +18,7 @@ use Rattle.blob_audit.specs.Order.{File}
 use Rattle.blob_audit.specs.declared.damages.Damaged.{Damaged}
 use Rattle.blob_audit.specs.declared.order.RecordedFile.{RecordedFile}
 use Rattle.repo_laws.specs.Holds.{row_cmp}
+use Rattle.repo_laws.specs.Laws.{FadesRightly}
 use Rattle.repo_laws.specs.Sound.{AreNamedApart}
 use Rattle.repo_restart.specs.declared.faults.RestoreFault.{RestoreFault}
 use Rattle.repo_restart.specs.declared.faults.RestoreFault.TheVariants as fault
@@ -85,6 +86,7 @@ module _ (files : List RecordedFile) (i : ℕ) (file : RecordedFile) (within : i
           let rest = rows_of (drop (i + 1) files) in (
             among (λ (r : RecordedRow). IsTrue (is_file_path r.row.path)) front x rest (behind hosted).files,
             among (λ (r : RecordedRow). r.row.accepted ≤ latest_moment) front x rest (behind hosted).in_time,
+            among (λ (r : RecordedRow). FadesRightly r.row) front x rest (behind hosted).fading,
             subst (λ them. row_at x.row.path (rows_in x.repo them) ≡ None) (sym old.made) (none-yet old.tells x front (earlier hosted) rules),
           )
 

@@ -10,16 +10,19 @@ use Rattle.repo_model.specs.Settings.{Rule}
 use Rattle.repo_model.specs.Tables.{RecordedRow}
 use Rattle.row_tables.specs.Items.{is_file_path}
 use Rattle.repo_laws.specs.Holds.{row_cmp}
+use Rattle.repo_laws.specs.Laws.{FadesRightly}
 use Rattle.blob_audit.specs.Damages.{AreDamaged}
 use Rattle.blob_audit.specs.Order.{File}
 use Rattle.blob_audit.specs.declared.damages.Damaged.{Damaged}
 
--- rows that rise strictly, each with a blob of its own, at paths of files, none later than the latest moment
+-- rows that rise strictly, each with a blob of its own, at paths of files, none later than the latest moment; what fades is a
+-- snapshot's
 pub record AreRestorable (rows : List RecordedRow) : Type 0 where
   pub rising : IsStrictlySortedBy row_cmp rows
   pub apart : (n : ℕ) → count_by (λ (r : RecordedRow). r.row.blob.number == n) rows ≤ 1
   pub files : AllByRecursion (λ (r : RecordedRow). IsTrue (is_file_path r.row.path)) rows
   pub in_time : AllByRecursion (λ (r : RecordedRow). r.row.accepted ≤ latest_moment) rows
+  pub fading : AllByRecursion (λ (r : RecordedRow). FadesRightly r.row) rows
 
 -- Each rule's repository has the rows that are recorded of it. Their bytes are those that stand under their numbers, where the
 -- store tells its blobs.

@@ -8,6 +8,7 @@ use Rattle.repo_model.specs.History.{latest_moment}
 use Rattle.repo_model.specs.State.{change_first, is_repository, row_at}
 use Rattle.repo_model.specs.Tables.{RecordedRow}
 use Rattle.row_tables.specs.Items.{is_file_path}
+use Rattle.hosted_repo.specs.Releases.{FadesRightly}
 use Rattle.blob_audit.specs.Damages.{IsFound}
 use Rattle.blob_audit.specs.Order.{File}
 
@@ -27,10 +28,11 @@ with_taken r bytes repos =
 abbrev pub with_file : File → Option (List ℕ) → List Hosted → List Hosted
 with_file f bytes repos = if f.is_hosted then with_taken f.row bytes repos else repos
 
--- a hosted file can be taken up: its path is that of a file and has no row yet, and its moment is none too late
+-- a hosted file can be taken up: its path is that of a file and has no row yet, its moment is none too late, and it is a
+-- snapshot's where it fades
 abbrev pub CanTake : File → List Hosted → Type 0
 CanTake f repos =
-    f.is_hosted ≡ true → IsTrue (is_file_path f.row.row.path) × (f.row.row.accepted ≤ latest_moment)
+    f.is_hosted ≡ true → IsTrue (is_file_path f.row.row.path) × (f.row.row.accepted ≤ latest_moment) × FadesRightly f.row.row
     × (row_at f.row.row.path (rows_in f.row.repo repos) ≡ None)
 
 -- the file's blob is the recorded one, and its row is taken up with the bytes that stand, where the store tells its blobs

@@ -4,6 +4,7 @@ ghost use Rattle.std.specs.List.{position};
 ghost use Rattle.repo_model.specs.History.{latest_moment};
 ghost use Rattle.repo_model.specs.Shown.{shown_print};
 ghost use Rattle.repo_model.specs.State.{is_repository, row_at};
+ghost use Rattle.hosted_repo.specs.Releases.{FadesRightly};
 ghost use Rattle.hosted_repo.specs.Rows as rows;
 ghost use Rattle.row_tables.specs.Items.{is_file_path};
 ghost use Rattle.row_tables.specs.Stored as stored;
@@ -44,6 +45,7 @@ fn take_row<H: Held>(
 ) -> Result<(), NoMemory>
     requires path { IsTrue (is_file_path (shown_file file.now).row.row.path) }
     requires moment { file.now.row.now.accepted ≤ latest_moment }
+    requires fading { FadesRightly (shown_file file.now).row.row }
     requires free { row_at (shown_file file.now).row.row.path (rows_in (shown_file file.now).row.repo repos.old.items) ≡ None }
     requires number { parcel.blob ≡ file.now.row.now.blob }
     requires print { shown_print parcel ≡ file.now.row.now.print }

@@ -100,6 +100,7 @@ restorable t order range files = record {
   files = all-then StandsAtFile (λ (r : RecordedRow). IsTrue (is_file_path r.row.path)) (λ r at. at.1) t.hosted files;
   in_time =
       all-then (λ (r : RecordedRow). IsRowInRange r × FadesRightly r.row) (λ (r : RecordedRow). r.row.accepted ≤ latest_moment) (λ r in_range. in_range.0.3.0) t.hosted range.hosted;
+  fading = all-then (λ (r : RecordedRow). IsRowInRange r × FadesRightly r.row) (λ (r : RecordedRow). FadesRightly r.row) (λ r in_range. in_range.1) t.hosted range.hosted;
 }
   where
     all-then : (P Q : RecordedRow → Type 0) → ((r : RecordedRow) → P r → Q r) → (rows : List RecordedRow) → AllByRecursion P rows → AllByRecursion Q rows

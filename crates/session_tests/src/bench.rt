@@ -1,9 +1,13 @@
 // What the tests share: sessions, their records and blobs, and what the calls answer as plain values.
-ghost use Rattle.std.specs.Prelude.{◌≡◌};
+ghost use Rattle.std.specs.Prelude.{◌≡◌, ℕ, IsTrue, true};
 ghost use Rattle.row_tables.specs.Items.{is_file_path};
+ghost use Rattle.repo_model.specs.Data.{fading};
+ghost use Rattle.repo_model.specs.Paths.{is_snapshot_path};
+ghost use Rattle.hosted_repo.specs.Rows.{shown_phase};
 
 use crate::records::CountedRecords;
 use deploy_session::{Abort as GaveUp, Begin, Sessions, Stage};
+use hosted_repo::Phase;
 use mvn_coords::{Kind, kind_of};
 use mvn_digest::Hashes;
 use outside::{Blobs, Parcel};
@@ -44,6 +48,25 @@ pub fn is_file(path: &str) -> bool
     ensures { result ≡ is_file_path path.now }
 {
     matches!(kind_of(path), Ok(Kind::File(_)))
+}
+
+/// Whether a row at a path may have this phase: only a snapshot's is unlisted.
+pub fn may_be(path: &str, phase: Phase) -> bool
+    ensures { IsTrue result → (since : ℕ) → shown_phase phase ≡ fading since → is_snapshot_path path.now ≡ true }
+{
+    match phase {
+        Phase::Listed => true,
+        Phase::Fading(_) => is_snapshot(path),
+    }
+}
+
+fn is_snapshot(path: &str) -> bool
+    ensures { result ≡ is_snapshot_path path.now }
+{
+    match kind_of(path) {
+        Ok(Kind::File(c)) => c.is_snapshot(),
+        _ => false,
+    }
 }
 
 /// Sessions, their records and their blobs.

@@ -16,20 +16,25 @@ const BETA_JAR: &str = "org/acme/lib/2.0-beta/lib-2.0-beta.jar";
 
 const SNAPSHOT: &str = "org/acme/lib/2.1-SNAPSHOT/lib-2.1-20240229.120000-1.jar";
 
+// Snapshots that stand before 2.0 in byte order.
+const OLD_SNAPSHOT: &str = "org/acme/lib/1.9-SNAPSHOT/lib-1.9-20240229.120000-1.jar";
+
+const OLDEST_SNAPSHOT: &str = "org/acme/lib/1.8-SNAPSHOT/lib-1.8-20240229.120000-1.jar";
+
 #[test]
 fn new_equal_and_unlisted_files_are_deployed_together(rt: HostRuntime) -> Result<(), Fail> {
     let mut stock = Stock::new(rt.alloc())?;
     stock.row(JAR, b"abc", Phase::Listed)?;
-    stock.row(SOURCES, b"x", Phase::Fading(EARLIER))?;
+    stock.row(OLD_SNAPSHOT, b"x", Phase::Fading(EARLIER))?;
     stock.bench.begin_as(&rt, 1);
     stock.stage(&rt, POM, b"p")?;
     stock.stage(&rt, JAR, b"abc")?;
-    stock.stage(&rt, SOURCES, b"x")?;
-    // the blobs of the sources and of the jar, which have rows: 5 and 4
+    stock.stage(&rt, OLD_SNAPSHOT, b"x")?;
+    // the blobs of the snapshot and of the jar, which have rows: 5 and 4
     assert_eq!(rt; stock.came(1), Came::Done(3, 2, 5));
     assert_eq!(rt; stock.row_of(POM), Some((3, T, None)));
     assert_eq!(rt; stock.row_of(JAR), Some((1, EARLIER, None)));
-    assert_eq!(rt; stock.row_of(SOURCES), Some((2, T, None)));
+    assert_eq!(rt; stock.row_of(OLD_SNAPSHOT), Some((2, T, None)));
     // a new row, one that is visible again, and the end, in one change
     assert_eq!(rt; stock.bench.records.changes, 2);
     assert_eq!(rt; stock.bench.records.items, 3);
@@ -59,19 +64,19 @@ fn the_result_is_kept_and_nothing_is_recorded_again(rt: HostRuntime) -> Result<(
 fn the_first_other_content_is_named_and_nothing_changes(rt: HostRuntime) -> Result<(), Fail> {
     let mut stock = Stock::new(rt.alloc())?;
     stock.row(POM, b"p", Phase::Listed)?;
-    stock.row(JAR, b"abc", Phase::Fading(EARLIER))?;
+    stock.row(OLD_SNAPSHOT, b"abc", Phase::Fading(EARLIER))?;
     stock.bench.begin_as(&rt, 1);
     stock.stage(&rt, POM, b"other")?;
-    stock.stage(&rt, JAR, b"x")?;
-    stock.stage(&rt, SOURCES, b"new")?;
+    stock.stage(&rt, OLD_SNAPSHOT, b"x")?;
+    stock.stage(&rt, OLDEST_SNAPSHOT, b"new")?;
     assert_eq!(rt; stock.came(1), Came::Offends(3, 1));
     match stock.commit(1) {
-        Some(answer) => assert!(rt; names(&answer, JAR)),
+        Some(answer) => assert!(rt; names(&answer, OLD_SNAPSHOT)),
         None => Err("another repository")?,
     }
     assert_eq!(rt; stock.bench.records.changes, 1);
-    assert_eq!(rt; stock.row_of(SOURCES), None);
-    assert_eq!(rt; stock.row_of(JAR), Some((2, EARLIER, Some(EARLIER))));
+    assert_eq!(rt; stock.row_of(OLDEST_SNAPSHOT), None);
+    assert_eq!(rt; stock.row_of(OLD_SNAPSHOT), Some((2, EARLIER, Some(EARLIER))));
     assert_eq!(rt; stock.bench.sessions.count(), 1);
     assert_eq!(rt; stock.bench.files(1), Some(3));
     Ok(())
@@ -80,24 +85,23 @@ fn the_first_other_content_is_named_and_nothing_changes(rt: HostRuntime) -> Resu
 #[test]
 fn a_release_needs_its_pom(rt: HostRuntime) -> Result<(), Fail> {
     let mut stock = Stock::new(rt.alloc())?;
-    stock.row(POM, b"p", Phase::Fading(EARLIER))?;
     stock.bench.begin_as(&rt, 1);
     stock.stage(&rt, JAR, b"abc")?;
     stock.stage(&rt, BETA_JAR, b"abc")?;
-    // an unlisted pom counts for nothing, and the first directory is named
+    // the first directory is named
     match stock.commit(1) {
         Some(answer) => assert!(rt; names(&answer, "org/acme/lib/2.0")),
         None => Err("another repository")?,
     }
     assert_eq!(rt; stock.row_of(JAR), None);
-    // a staged one does
+    // a staged pom counts
     stock.stage(&rt, POM, b"p")?;
     match stock.commit(1) {
         Some(answer) => assert!(rt; names(&answer, "org/acme/lib/2.0-beta")),
         None => Err("another repository")?,
     }
     assert_eq!(rt; stock.bench.records.changes, 1);
-    assert_eq!(rt; stock.row_of(POM), Some((1, EARLIER, Some(EARLIER))));
+    assert_eq!(rt; stock.row_of(POM), None);
     assert_eq!(rt; stock.bench.files(1), Some(3));
     Ok(())
 }
@@ -138,16 +142,16 @@ fn a_session_without_files_is_done(rt: HostRuntime) -> Result<(), Fail> {
 #[test]
 fn nothing_is_deployed_where_that_is_not_recorded(rt: HostRuntime) -> Result<(), Fail> {
     let mut stock = Stock::new(rt.alloc())?;
-    stock.row(SOURCES, b"x", Phase::Fading(EARLIER))?;
+    stock.row(OLD_SNAPSHOT, b"x", Phase::Fading(EARLIER))?;
     stock.bench.begin_as(&rt, 1);
     stock.stage(&rt, JAR, b"abc")?;
     stock.stage(&rt, POM, b"p")?;
-    stock.stage(&rt, SOURCES, b"x")?;
+    stock.stage(&rt, OLD_SNAPSHOT, b"x")?;
     stock.bench.records.fails = true;
     assert_eq!(rt; stock.came(1), Came::StoreFault);
     assert_eq!(rt; stock.row_of(JAR), None);
     assert_eq!(rt; stock.row_of(POM), None);
-    assert_eq!(rt; stock.row_of(SOURCES), Some((1, EARLIER, Some(EARLIER))));
+    assert_eq!(rt; stock.row_of(OLD_SNAPSHOT), Some((1, EARLIER, Some(EARLIER))));
     assert_eq!(rt; stock.hosted.counts(), (1, 1));
     assert_eq!(rt; stock.bench.files(1), Some(3));
     stock.bench.records.fails = false;

@@ -5,7 +5,7 @@ ghost use Rattle.repo_model.specs.Data as plain;
 ghost use Rattle.repo_model.specs.History.{latest_moment};
 ghost use Rattle.repo_model.specs.State.{is_open_at};
 
-use crate::bench::{Bench, is_file};
+use crate::bench::{Bench, is_file, may_be};
 use deploy_session::{Commit, Sessions, Stage};
 use hosted_repo::{Hosted, Phase, Rule};
 use outside_memory::MemHeld;
@@ -119,7 +119,7 @@ impl Stock {
     /// Makes a row of bytes at a path that has none, accepted 12 seconds before, as the next blob.
     pub fn row(&mut self, path: &str, bytes: &[u8], phase: Phase) -> Result<(), Fail> {
         let parcel = self.bench.parcel(bytes)?;
-        if !is_file(path) {
+        if !is_file(path) || !may_be(path, phase) {
             return Err("no file's path")?;
         }
         let done = match self.hosted.row(path) {

@@ -23,6 +23,9 @@ restore-requires-clause-free g c =
     let rows = rows-at r.repo items c.in-Some.place c.index_mut.result.now there c.index_mut.ensures.value in
     rw (c.as_str-2.ensures.value, ← rows) c.requires.free
 
+pub restore-requires-clause-fading : goal.restore-requires-clause-fading
+restore-requires-clause-fading g c = λ since e. rw c.as_str-2.ensures.value (c.requires.fading since (sym c.phase_of.ensures ∙ e))
+
 pub returns-in-Ok : goal.returns-in-Ok
 returns-in-Ok g c =
     let items = c.args.repos.now.items in

@@ -4,8 +4,10 @@ use Rattle.repo_model.specs.declared.item.Item.TheVariants.{HostedPut}
 use Rattle.repo_model.specs.Effect.{new_row}
 use Rattle.repo_model.specs.Shown.{shown_parcel, shown_print}
 use Rattle.hosted_repo.specs.Recording.{FitWhereTold}
+use Rattle.hosted_repo.specs.Releases.{AllFadeRightly}
 use Rattle.hosted_repo.specs.Rows.{AreFiles}
 use Rattle.hosted_repo.proofs.FormLemmas.{files-more, from-both, puts-change}
+use Rattle.hosted_repo.proofs.ReleaseLemmas.{new-rightly, rightly-more}
 use Rattle.hosted_repo.proofs.hosted.Hosted.create.Goals as goal
 
 pub create-requires-clause-change : goal.create-requires-clause-change
@@ -20,9 +22,13 @@ create-requires-clause-fits g c =
 pub invariant_of-self : goal.invariant_of-self
 invariant_of-self g c =
     let old = c.self.inside.rows in
+    let new : plain.Row = new_row c.args.path.now (shown_parcel c.args.parcel) c.args.now in
     record {
       named = c.self.invariant.named;
       files = from-both c.create.result c.create.ensures.ok c.create.ensures.err
-          (λ made. subst AreFiles (sym made) (files-more (new_row c.args.path.now (shown_parcel c.args.parcel) c.args.now) old c.requires.path c.self.invariant.files))
+          (λ made. subst AreFiles (sym made) (files-more new old c.requires.path c.self.invariant.files))
           (λ same. subst AreFiles (sym same) c.self.invariant.files);
+      fading = from-both c.create.result c.create.ensures.ok c.create.ensures.err
+          (λ made. subst AllFadeRightly (sym made) (rightly-more new old (new-rightly new.path new.blob new.accepted) c.self.invariant.fading))
+          (λ same. subst AllFadeRightly (sym same) c.self.invariant.fading);
     }

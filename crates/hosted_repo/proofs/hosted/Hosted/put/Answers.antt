@@ -11,6 +11,7 @@ use Rattle.repo_model.specs.Turn.{Turn, put_again, put_at}
 use Rattle.hosted_repo.specs.Puts.{standing, standing_by}
 use Rattle.hosted_repo.specs.Recording.{FitWhereTold}
 use Rattle.hosted_repo.specs.declared.put.Standing.TheVariants as stands
+use Rattle.hosted_repo.proofs.ReleaseLemmas.{fading-at}
 use Rattle.hosted_repo.proofs.hosted.Hosted.put.Goals as goal
 
 phase-free : (p : plain.Phase) → standing_by p ≡ stands.Free → ⊥
@@ -40,6 +41,20 @@ is_again repo path n now blob (Some row) e =
       | false ↦ λ h. cc
     ] e
 
+-- a row that stands unlisted fades
+phase-unlisted : (p : plain.Phase) → standing_by p ≡ stands.Unlisted → (since : ℕ) × (p ≡ plain.fading since)
+phase-unlisted plain.listed e = absurd (let same : stands.Same ≡ stands.Unlisted = e in cc)
+phase-unlisted (plain.fading since) e = (since, refl)
+
+unlisted_row : (sent : Print) (o : Option plain.Row) → standing sent o ≡ stands.Unlisted → (row : plain.Row) × (since : ℕ) × (o ≡ Some row) × (row.phase ≡ plain.fading since)
+unlisted_row sent None e = absurd (let free : stands.Free ≡ stands.Unlisted = e in cc)
+unlisted_row sent (Some row) e =
+    elim (is_same_print row.blob.print sent)
+    as (λ b. cond b (standing_by row.phase) (stands.Other row.blob.print) ≡ stands.Unlisted → (r : plain.Row) × (since : ℕ) × (Some row ≡ Some r) × (r.phase ≡ plain.fading since)) [
+      | true ↦ λ h. let (since, fades) = phase-unlisted row.phase h in (row, since, refl, fades)
+      | false ↦ λ h. absurd (let other : stands.Other row.blob.print ≡ stands.Unlisted = h in cc)
+    ] e
+
 pub create-requires-clause-fits : goal.create-requires-clause-fits
 create-requires-clause-fits g c =
     let path = c.args.path.now in
@@ -58,3 +73,12 @@ relist-requires-clause-fits g c =
     let rows = c.self.inside.rows in
     let faded = ap (λ (k : plain.Hosted). standing blob.print (row_at path k.rows)) (sym c.self.view_is) ∙ ap (λ (s : Print). standing s (row_at path rows)) (sym c.print_of.ensures) ∙ ap (λ rs. standing c.print_of.result (row_at path rs)) (sym c.map.ensures) ∙ sym c.standing.ensures ∙ c.in-Unlisted.is in
     subst (FitWhereTold (g.K.Records.tables c.args.records.now)) (is_again old.rule.id path blob.number c.args.now blob (row_at path old.rows) faded) c.requires.fits
+
+pub relist-requires-clause-snapshot : goal.relist-requires-clause-snapshot
+relist-requires-clause-snapshot g c =
+    let path = c.args.path.now in
+    let rows = c.self.inside.rows in
+    let faded : standing c.print_of.result (row_at path rows) ≡ stands.Unlisted
+    = ap (λ rs. standing c.print_of.result (row_at path rs)) (sym c.map.ensures) ∙ sym c.standing.ensures ∙ c.in-Unlisted.is in
+    let (row, since, found, fades) = unlisted_row c.print_of.result (row_at path rows) faded in
+    fading-at path rows row since c.self.invariant.fading found fades

@@ -4,9 +4,11 @@ use Rattle.repo_model.specs.Deploy.{offence, without_pom}
 use Rattle.repo_model.specs.Effect.{recorded}
 use Rattle.hosted_repo.specs.Deliveries.{deliveries, session_with, shown_files}
 use Rattle.hosted_repo.specs.Recording.{FitWhereTold}
+use Rattle.hosted_repo.specs.Releases.{AllFadeRightly}
 use Rattle.hosted_repo.specs.Rows.{AreFiles}
 use Rattle.hosted_repo.proofs.DeliveryLemmas.{files-delivered}
 use Rattle.hosted_repo.proofs.FormLemmas.{from-both}
+use Rattle.hosted_repo.proofs.ReleaseLemmas.{keeps-all, keeps-delivered, rightly-delivered}
 use Rattle.hosted_repo.proofs.hosted.Hosted.put_all.Goals as goal
 
 pub deliver-requires-clause-fits : goal.deliver-requires-clause-fits
@@ -27,4 +29,7 @@ invariant_of-self g c =
       files = from-both c.deliver.result c.deliver.ensures.rows c.deliver.ensures.err
           (λ made. subst AreFiles (sym made) (files-delivered (session_with c.self.inside.rule.id files) c.args.now rows files rows c.requires.files c.self.invariant.files))
           (λ same. subst AreFiles (sym same) c.self.invariant.files);
+      fading = from-both c.deliver.result c.deliver.ensures.rows c.deliver.ensures.err
+          (λ made. subst AllFadeRightly (sym made) (rightly-delivered (session_with c.self.inside.rule.id files) c.args.now rows files rows c.self.invariant.fading))
+          (λ same. subst AllFadeRightly (sym same) c.self.invariant.fading);
     }

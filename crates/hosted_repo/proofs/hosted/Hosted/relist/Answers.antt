@@ -2,8 +2,10 @@ use Rattle.std.proofs.Common.{[], ◌∷◌, sym, subst}
 use Rattle.repo_model.specs.Data as plain
 use Rattle.repo_model.specs.declared.item.Item.TheVariants.{Relisted}
 use Rattle.hosted_repo.specs.Recording.{FitWhereTold}
+use Rattle.hosted_repo.specs.Releases.{AllFadeRightly}
 use Rattle.hosted_repo.specs.Rows.{AreFiles}
 use Rattle.hosted_repo.proofs.FormLemmas.{files-again, from-both, relists-change}
+use Rattle.hosted_repo.proofs.ReleaseLemmas.{rightly-again}
 use Rattle.hosted_repo.proofs.hosted.Hosted.relist.Goals as goal
 
 pub relist-requires-clause-change : goal.relist-requires-clause-change
@@ -20,4 +22,6 @@ invariant_of-self g c =
       named = c.self.invariant.named;
       files = from-both c.relist.result c.relist.ensures.ok c.relist.ensures.err
           (λ made. subst AreFiles (sym made) (files-again c.args.path.now c.args.now old c.self.invariant.files)) (λ same. subst AreFiles (sym same) c.self.invariant.files);
+      fading = from-both c.relist.result c.relist.ensures.ok c.relist.ensures.err
+          (λ made. subst AllFadeRightly (sym made) (rightly-again c.args.path.now c.args.now old c.self.invariant.fading)) (λ same. subst AllFadeRightly (sym same) c.self.invariant.fading);
     }

@@ -8,8 +8,9 @@ use Rattle.repo_model.specs.State.{row_at}
 use Rattle.repo_model.specs.Turn.{seen_at}
 use Rattle.row_tables.specs.Commits.{tables_with}
 use Rattle.hosted_repo.specs.Recording.{FitWhereTold}
+use Rattle.hosted_repo.specs.Releases.{AllFadeRightly}
 use Rattle.hosted_repo.specs.Rows.{AreFiles, hosted_of, rows_after_all}
-use Rattle.hosted_repo.proofs.FadeLaws.{answered_alike, releases_kept}
+use Rattle.hosted_repo.proofs.FadeLaws.{answered_alike, releases_kept, rightly_faded}
 use Rattle.hosted_repo.proofs.FormLemmas.{fades-change, files-faded, from-both}
 use Rattle.hosted_repo.proofs.hosted.Hosted.unlist.Goals as goal
 
@@ -28,6 +29,9 @@ invariant_of-self g c =
       files = from-both c.unlist_rows.result c.unlist_rows.ensures.rows c.unlist_rows.ensures.err
           (λ made. subst AreFiles (sym made) (files-faded h.rule.id c.args.now (due_rows h.rule c.args.now h.rows) h.rows c.self.invariant.files))
           (λ same. subst AreFiles (sym same) c.self.invariant.files);
+      fading = from-both c.unlist_rows.result c.unlist_rows.ensures.rows c.unlist_rows.ensures.err
+          (λ made. subst AllFadeRightly (sym made) (rightly_faded h.rule c.args.now h.rows c.self.invariant.fading))
+          (λ same. subst AllFadeRightly (sym same) c.self.invariant.fading);
     }
 
 pub returns-clause-count : goal.returns-clause-count
