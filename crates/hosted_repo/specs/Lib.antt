@@ -2,6 +2,7 @@ pub mod Deliveries
 pub mod Documents
 pub mod Dues
 pub mod Expired
+pub mod Homes
 pub mod Puts
 pub mod Recording
 pub mod Releases

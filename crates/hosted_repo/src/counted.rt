@@ -1,23 +1,27 @@
-//! Rows in an ordered map, and how many of them are unlisted.
-ghost use Rattle.std.specs.Prelude.{◌≡◌, ◌≤◌, [], None, OnErr, OnOk, IfErr, count_by, length, not, if◌then◌else◌};
+//! Rows in an ordered map, how many of them are unlisted, and the directories of their artifacts.
+ghost use Rattle.std.specs.Prelude.{◌≡◌, ◌≤◌, [], false, None, OnErr, OnOk, IfErr, count_by, length, not, if◌then◌else◌};
 ghost use Rattle.repo_model.specs.State.{row_at, change_where, is_row};
 ghost use Rattle.repo_model.specs.Effect.{list_again, fade, with_row, without_row};
 ghost use Rattle.repo_model.specs.Document.{is_listed};
 ghost use Rattle.repo_model.specs.History.{latest_moment};
+ghost use Rattle.hosted_repo.specs.Homes.{AreElsewhere};
 ghost use Rattle.hosted_repo.specs.Rows.{fades, shown_at, shown_phase, shown_rows, without_first};
 
+use crate::homes::{add_home, has_home};
 use crate::row::{Phase, Row};
 use crate::rows::is_before;
 use outside::{Held, Parcel};
 use std::alloc::Global;
-use std::collections::BTreeMap;
+use std::collections::{BTreeMap, BTreeSet};
 use std::marker::Model;
 
-/// Rows by path, in byte order, and the count of those that are unlisted.
+/// Rows by path, in byte order, the count of those that are unlisted, and directories of artifacts, among them that of each
+/// row.
 #[derive(Drop)]
 pub struct CountedRows<H: Held> {
     pub(crate) map: BTreeMap<String, Row<H>>,
     pub(crate) fading: u64,
+    pub(crate) homes: BTreeSet<String>,
 }
 
 impl<H: Held> Model for CountedRows<H> {
@@ -31,9 +35,13 @@ impl<H: Held> Model for CountedRows<H> {
     ghost view = { λ r. shown_rows r.map.entries };
 
     ghost use Rattle.std.specs.Prelude.{◌≡◌, count_by};
+    ghost use Rattle.hosted_repo.specs.Homes.{AreHomed};
     ghost use Rattle.hosted_repo.specs.Rows.{fades};
 
-    ghost invariant = { λ r. r.fading ≡ count_by fades (shown_rows r.map.entries) };
+    ghost invariant = { λ r. record {
+        counted : r.fading ≡ count_by fades (shown_rows r.map.entries);
+        homed : AreHomed r.homes.keys (shown_rows r.map.entries);
+    } };
 }
 
 // How much a row of this phase adds to the count.
@@ -54,6 +62,7 @@ impl<H: Held> CountedRows<H> {
         CountedRows {
             map: BTreeMap::new(alloc),
             fading: 0,
+            homes: BTreeSet::new(alloc),
         }
     }
 
@@ -72,6 +81,13 @@ impl<H: Held> CountedRows<H> {
         (self.map.len() as u64, self.fading)
     }
 
+    /// Whether the artifact of this directory may have rows.
+    pub fn may_have(&self, home: &str) -> bool
+        ensures { result ≡ false → AreElsewhere home.now self.now }
+    {
+        has_home(&self.homes, home)
+    }
+
     /// Adds a row at a path that has none. Where memory is wanting its parcel comes back.
     pub fn add(&mut self, alloc: Global, path: &str, row: Row<H>) -> Result<(), Parcel<H>>
         requires { row_at path.now self.old ≡ None }
@@ -79,11 +95,14 @@ impl<H: Held> CountedRows<H> {
         ensures err { OnErr result (self.new ≡ self.old) }
         ensures back { IfErr result (λ parcel. parcel ≡ row.parcel) }
     {
-        let Ok(path) = String::from_str(alloc, path) else {
+        let Ok(key) = String::from_str(alloc, path) else {
             return Err(row.parcel);
         };
+        if let Err(_) = add_home(alloc, &mut self.homes, path) {
+            return Err(row.parcel);
+        }
         let more = weight(row.phase);
-        match self.map.insert(path, row) {
+        match self.map.insert(key, row) {
             Ok(_) => {
                 // No more rows fade than the map has.
                 let _len = self.map.len();

@@ -12,8 +12,9 @@ ghost use Rattle.hosted_repo.specs.Rows.{shown_at, shown_rows};
 ghost use Rattle.hosted_repo.specs.Walks.{IsUpTo, IsWalkOf};
 
 use crate::NoMemory;
+use crate::counted::CountedRows;
 use crate::row::{Phase, Row};
-use crate::walk::{Step, step_from};
+use crate::walk::{Step, joined, step_from};
 use mvn_coords::{Coord, Dir, Kind, Stamp, kind_of};
 use mvn_metadata::{Doc, Listing, Pair, SnapshotBuild, empty};
 use mvn_version::Version;
@@ -155,9 +156,25 @@ fn walk_from<H: Held>(
     Ok((found, None))
 }
 
-/// The document of a directory; none where none of its rows is visible. It takes steps by the directory's rows, and by a
-/// few for each directory below it, not by all rows that stand deeper.
+/// The document of a directory; none where none of its rows is visible. Where its artifact can have no rows, as that of a
+/// group, none is looked at.
 pub fn document_of<H: Held>(
+    alloc: Global,
+    rows: &CountedRows<H>,
+    dir: &Dir<'_>,
+) -> Result<Option<Doc>, NoMemory>
+    ensures { IfOk result (λ d. d ≡ document dir.now rows.now) }
+{
+    let home = joined(alloc, dir.group(), "/", dir.artifact(), "", "")?;
+    if !rows.may_have(home.as_str()) {
+        return Ok(None);
+    }
+    document_among(alloc, rows.map(), dir)
+}
+
+/// The same by a walk. It takes steps by the directory's rows, and by a few for each directory below it, not by all rows that
+/// stand deeper.
+fn document_among<H: Held>(
     alloc: Global,
     rows: &BTreeMap<String, Row<H>>,
     dir: &Dir<'_>,

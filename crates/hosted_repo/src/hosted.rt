@@ -104,7 +104,7 @@ impl<H: Held> Hosted<H> {
         ensures seen { IfOk result (λ s. shown_seen s ≡ seen_at self.now.rows path.now (kind path.now)) }
         ensures room { OnErr result (is_of_document (kind path.now) ≡ true) }
     {
-        looks::look_at(self.alloc, self.rows.map(), path)
+        looks::look_at(self.alloc, &self.rows, path)
     }
 
     /// The row at a path.
@@ -290,7 +290,7 @@ impl<H: Held> Hosted<H> {
     pub fn document(&self, dir: &Dir<'_>) -> Result<Option<Doc>, NoMemory>
         ensures { IfOk result (λ d. d ≡ document dir.now self.now.rows) }
     {
-        documents::document_of(self.alloc, self.rows.map(), dir)
+        documents::document_of(self.alloc, &self.rows, dir)
     }
 
     /// How many rows it has, and how many of them are unlisted.

@@ -6,6 +6,7 @@ mod counted;
 mod delivering;
 mod documents;
 mod dues;
+mod homes;
 mod hosted;
 mod judging;
 mod kept;

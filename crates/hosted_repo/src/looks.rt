@@ -4,12 +4,11 @@ ghost use Rattle.std.specs.Option.{option_map};
 ghost use Rattle.mvn_coords.specs.Kind.{kind};
 ghost use Rattle.mvn_digest.specs.Digests.{digests_of};
 ghost use Rattle.repo_model.specs.Turn.{seen_at, document_text};
-ghost use Rattle.hosted_repo.specs.Rows.{shown_rows};
 ghost use Rattle.hosted_repo.specs.Seens.{shown_seen, is_of_document};
 
 use crate::NoMemory;
+use crate::counted::CountedRows;
 use crate::documents::document_of;
-use crate::row::Row;
 use crate::rows::find;
 use crate::seen::{DocText, Seen};
 use mvn_coords::{Dir, Kind, Side, kind_of};
@@ -17,7 +16,6 @@ use mvn_digest::{Digests, Hashes, side_text};
 use mvn_doc::write;
 use outside::Held;
 use std::alloc::Global;
-use std::collections::BTreeMap;
 
 fn digests_of(text: &[u8]) -> Digests
     ensures { result ≡ digests_of text.now }
@@ -30,10 +28,10 @@ fn digests_of(text: &[u8]) -> Digests
 /// The written document of a directory, with its digests.
 fn written_of<H: Held>(
     alloc: Global,
-    rows: &BTreeMap<String, Row<H>>,
+    rows: &CountedRows<H>,
     dir: &Dir<'_>,
 ) -> Result<Option<DocText>, NoMemory>
-    ensures { IfOk result (λ t. option_map (λ d. d.text.items) t ≡ document_text dir.now (shown_rows rows.now.entries)) }
+    ensures { IfOk result (λ t. option_map (λ d. d.text.items) t ≡ document_text dir.now rows.now) }
 {
     let Some(doc) = document_of(alloc, rows, dir)? else {
         return Ok(None);
@@ -46,18 +44,18 @@ fn written_of<H: Held>(
 /// What the rows have at a path. Only a document or its side file takes memory.
 pub fn look_at<'a, H: Held>(
     alloc: Global,
-    rows: &'a BTreeMap<String, Row<H>>,
+    rows: &'a CountedRows<H>,
     path: &str,
 ) -> Result<Option<Seen<'a, H>>, NoMemory>
-    ensures seen { IfOk result (λ s. shown_seen s ≡ seen_at (shown_rows rows.now.entries) path.now (kind path.now)) }
+    ensures seen { IfOk result (λ s. shown_seen s ≡ seen_at rows.now path.now (kind path.now)) }
     ensures room { OnErr result (is_of_document (kind path.now) ≡ true) }
 {
     match kind_of(path) {
-        Ok(Kind::File(_)) => match find(rows, path) {
+        Ok(Kind::File(_)) => match find(rows.map(), path) {
             Some(row) => Ok(Some(Seen::File(&row.parcel))),
             None => Ok(None),
         },
-        Ok(Kind::FileSide(c, side)) => match find(rows, c.path()) {
+        Ok(Kind::FileSide(c, side)) => match find(rows.map(), c.path()) {
             Some(row) => Ok(Some(Seen::Text(side_text(&row.parcel.digests, side)))),
             None => Ok(None),
         },

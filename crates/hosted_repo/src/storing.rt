@@ -11,6 +11,7 @@ ghost use Rattle.hosted_repo.specs.Recording.{CauseOf, FitWhereTold, HasKeptCaus
 
 use crate::changes::{put_change, relist_change};
 use crate::counted::CountedRows;
+use crate::homes::add_home;
 use crate::kept::Kept;
 use crate::put::Returned;
 use crate::row::{Phase, Row};
@@ -59,6 +60,9 @@ pub fn create<H: Held, K: Records>(
     let (Ok(change), Ok(key)) = (change, String::from_str(alloc, path)) else {
         return Err(no_memory(parcel));
     };
+    if let Err(_) = add_home(alloc, &mut rows.homes, path) {
+        return Err(no_memory(parcel));
+    }
     let row = Row {
         parcel,
         accepted,

@@ -131,6 +131,39 @@ fn all_is_as_before_where_nothing_is_recorded(rt: HostRuntime) -> Result<(), Fai
     Ok(())
 }
 
+const OF_LIB: &str = "<?xml version=\"1.0\" encoding=\"UTF-8\"?>
+<metadata modelVersion=\"1.1.0\">
+  <groupId>org.acme</groupId>
+  <artifactId>lib</artifactId>
+  <versioning>
+    <latest>2.0</latest>
+    <release>2.0</release>
+    <versions>
+      <version>2.0</version>
+    </versions>
+    <lastUpdated>20240229120000</lastUpdated>
+  </versioning>
+</metadata>
+";
+
+#[test]
+fn a_document_is_there_once_all_is_recorded(rt: HostRuntime) -> Result<(), Fail> {
+    let mut bench = Bench::new(rt.alloc(), true, true)?;
+    let files = staged(&mut bench, rt.alloc(), &[JAR, POM])?;
+    bench.records.fails = true;
+    match put_all(&mut bench, &files)? {
+        PutAll::StoreFault => {}
+        _ => Err("recorded")?,
+    }
+    bench.expect_nothing(&rt, "org/acme/lib/maven-metadata.xml")?;
+    bench.records.fails = false;
+    let answer = put_all(&mut bench, &files)?;
+    assert!(rt; is_done(&answer, 2, &[]));
+    bench.expect_document(&rt, "org/acme/lib/maven-metadata.xml", OF_LIB)?;
+    bench.expect_nothing(&rt, "org/acme/maven-metadata.xml")?;
+    Ok(())
+}
+
 #[test]
 fn a_release_without_its_pom_is_named(rt: HostRuntime) -> Result<(), Fail> {
     let mut bench = Bench::new(rt.alloc(), true, true)?;

@@ -11,6 +11,8 @@ mod documents;
 #[cfg(test)]
 mod fades;
 #[cfg(test)]
+mod homes;
+#[cfg(test)]
 mod purges;
 #[cfg(test)]
 mod puts;

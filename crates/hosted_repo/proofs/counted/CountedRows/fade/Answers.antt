@@ -1,19 +1,29 @@
-use Rattle.std.proofs.Common.{sym, ap, ◌∙◌, refl}
+use Rattle.std.proofs.Common.{sym, ap, ◌∙◌, refl, subst}
 use Rattle.repo_model.specs.Effect.{fade as faded}
 use Rattle.repo_model.specs.State.{change_where, is_row}
+use Rattle.hosted_repo.specs.Homes.{AreHomed, IsHomed}
 use Rattle.hosted_repo.specs.Rows.{shown_rows}
 use Rattle.hosted_repo.proofs.CountLemmas.{at_least, faded_one}
+use Rattle.hosted_repo.proofs.HomeLemmas.{each-changed}
 use Rattle.hosted_repo.proofs.MapLemmas.{rewritten, unwritten}
 use Rattle.hosted_repo.proofs.counted.CountedRows.fade.Goals as goal
 
 pub overflow_sub-self : goal.overflow_sub-self
 overflow_sub-self g c =
-    at_least c.args.path.now c.self.inside.map.entries c.self.inside.map.entries c.self.inside.fading c.weight.result c.self.invariant c.in-Some.row.now c.weight.ensures (sym c.in-Some.ensures.value)
+    at_least c.args.path.now c.self.inside.map.entries c.self.inside.map.entries c.self.inside.fading c.weight.result c.self.invariant.counted c.in-Some.row.now c.weight.ensures (sym c.in-Some.ensures.value)
 
 pub invariant_of-self : goal.invariant_of-self
 invariant_of-self g c =
-    faded_one c.args.path.now c.self.inside.map.entries _ c.self.inside.fading c.weight.result c.self.invariant c.in-Some.row.now _ c.weight.ensures refl (sym c.in-Some.ensures.value)
-    (c.get_mut.follows.holds _).0
+    let path = c.args.path.now in
+    let es = c.self.inside.map.entries in
+    let homes = c.self.inside.homes.keys in
+    record {
+      counted = faded_one c.args.path.now c.self.inside.map.entries _ c.self.inside.fading c.weight.result c.self.invariant.counted c.in-Some.row.now _ c.weight.ensures refl (sym c.in-Some.ensures.value)
+    (c.get_mut.follows.holds _).0;
+      homed = subst (AreHomed homes)
+          (sym (ap shown_rows (c.get_mut.follows.holds _).0 ∙ rewritten path (faded c.args.moment) es c.in-Some.row.now _ c.get_mut.ensures.ordered (sym c.in-Some.ensures.value) refl))
+          (each-changed (IsHomed homes) (is_row path) (faded c.args.moment) (λ row. refl) (shown_rows es) c.self.invariant.homed);
+    }
 
 pub returns-in-Some : goal.returns-in-Some
 returns-in-Some g c =

@@ -1,18 +1,25 @@
-use Rattle.std.proofs.Common.{sym, ap, ◌∙◌}
+use Rattle.std.proofs.Common.{sym, ap, ◌∙◌, subst}
 use Rattle.repo_model.specs.Effect.{without_row}
+use Rattle.hosted_repo.specs.Homes.{AreHomed, IsHomed}
 use Rattle.hosted_repo.specs.Rows.{shown_rows}
 use Rattle.hosted_repo.proofs.CountLemmas.{at_least, removed_one}
+use Rattle.hosted_repo.proofs.HomeLemmas.{each-without}
 use Rattle.hosted_repo.proofs.MapLemmas.{removed}
 use Rattle.hosted_repo.proofs.counted.CountedRows.remove.Goals as goal
 
 pub overflow_sub-self : goal.overflow_sub-self
 overflow_sub-self g c =
-    at_least c.args.path.now c.self.inside.map.entries c.self.inside.map.entries c.self.inside.fading c.weight.result c.self.invariant c.in-Some.row c.weight.ensures (sym c.in-Some.ensures.value)
+    at_least c.args.path.now c.self.inside.map.entries c.self.inside.map.entries c.self.inside.fading c.weight.result c.self.invariant.counted c.in-Some.row c.weight.ensures (sym c.in-Some.ensures.value)
 
 pub invariant_of-self : goal.invariant_of-self
 invariant_of-self g c =
-    removed_one c.args.path.now c.self.inside.map.entries c.remove.new.self.entries c.self.inside.fading c.weight.result c.self.invariant c.in-Some.row c.weight.ensures (sym c.in-Some.ensures.value)
-    c.remove.ensures.entries
+    let path = c.args.path.now in
+    let es = c.self.inside.map.entries in
+    let homes = c.self.inside.homes.keys in
+    record {
+      counted = removed_one path es c.remove.new.self.entries c.self.inside.fading c.weight.result c.self.invariant.counted c.in-Some.row c.weight.ensures (sym c.in-Some.ensures.value) c.remove.ensures.entries;
+      homed = subst (AreHomed homes) (sym (ap shown_rows c.remove.ensures.entries ∙ removed path es c.len-len.ensures.ordered)) (each-without (IsHomed homes) path (shown_rows es) c.self.invariant.homed);
+    }
 
 pub returns-in-Some : goal.returns-in-Some
 returns-in-Some g c =

@@ -4,7 +4,7 @@ use Rattle.repo_model.specs.Document.{document}
 use Rattle.hosted_repo.specs.Documents.{gone_on, rest_from}
 use Rattle.hosted_repo.specs.Rows.{shown_rows}
 use Rattle.hosted_repo.specs.Walks.{IsUpTo}
-use Rattle.hosted_repo.proofs.documents.document_of.Given as goal
+use Rattle.hosted_repo.proofs.documents.document_among.Given as goal
 
 abbrev pub invariant-loop-next : goal.invariant-loop-next
 invariant-loop-next g l = record {
