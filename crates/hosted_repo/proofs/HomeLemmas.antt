@@ -1,5 +1,5 @@
 -- The directories of artifacts: what is among them as rows come, change and go, and a directory that is not.
-use Rattle.std.proofs.Common.{◌≡◌, ℕ, ◌-◌, Bool, true, false, cond, not, ◌||◌, List, [], ◌∷◌, ◌++◌, Some, None, String, Global, string_bytes, bytes_eq, Less, Equal, Greater, is_eq, nat_cmp, refl, sym, ap, ◌∙◌, subst, MatchOption, Option, Bor}
+use Rattle.std.proofs.Common.{◌≡◌, ℕ, ◌-◌, Bool, true, false, cond, not, ◌||◌, List, [], ◌∷◌, ◌++◌, Some, None, String, Global, string_bytes, bytes_eq, Less, Equal, Greater, is_eq, nat_cmp, refl, sym, ap, ◌∙◌, subst}
 use Rattle.std.proofs.lemmas.Bool.{false≢true}
 use Rattle.std.proofs.lemmas.Slice.Eq.{bytes_eq-Decides}
 use Rattle.std.specs.BTreeSet.{insert_key}

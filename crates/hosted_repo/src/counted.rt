@@ -39,8 +39,8 @@ impl<H: Held> Model for CountedRows<H> {
     ghost use Rattle.hosted_repo.specs.Rows.{fades};
 
     ghost invariant = { λ r. record {
-        counted : r.fading ≡ count_by fades (shown_rows r.map.entries);
-        homed : AreHomed r.homes.keys (shown_rows r.map.entries);
+      counted : r.fading ≡ count_by fades (shown_rows r.map.entries);
+      homed : AreHomed r.homes.keys (shown_rows r.map.entries);
     } };
 }
 

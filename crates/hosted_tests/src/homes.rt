@@ -83,7 +83,10 @@ fn a_failed_put_hides_no_document(rt: HostRuntime) -> Result<(), Fail> {
     assert_eq!(rt; bench.put_at(JAR, 1_010)?, Did::Created);
     bench.expect_document(&rt, OF_LIB, WITH_RELEASE)?;
     bench.records.fails = true;
-    assert_eq!(rt; bench.put_at("org/acme/lib/2.0/lib-2.0.jar", 1_020)?, Did::StoreFault(3));
+    assert_eq!(rt;
+        bench.put_at("org/acme/lib/2.0/lib-2.0.jar", 1_020)?,
+        Did::StoreFault(3)
+    );
     bench.expect_document(&rt, OF_LIB, WITH_RELEASE)?;
     expect_none_above(&rt, &bench)?;
     Ok(())

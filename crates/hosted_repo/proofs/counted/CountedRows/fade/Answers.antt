@@ -19,7 +19,7 @@ invariant_of-self g c =
     let homes = c.self.inside.homes.keys in
     record {
       counted = faded_one c.args.path.now c.self.inside.map.entries _ c.self.inside.fading c.weight.result c.self.invariant.counted c.in-Some.row.now _ c.weight.ensures refl (sym c.in-Some.ensures.value)
-    (c.get_mut.follows.holds _).0;
+          (c.get_mut.follows.holds _).0;
       homed = subst (AreHomed homes)
           (sym (ap shown_rows (c.get_mut.follows.holds _).0 ∙ rewritten path (faded c.args.moment) es c.in-Some.row.now _ c.get_mut.ensures.ordered (sym c.in-Some.ensures.value) refl))
           (each-changed (IsHomed homes) (is_row path) (faded c.args.moment) (λ row. refl) (shown_rows es) c.self.invariant.homed);
