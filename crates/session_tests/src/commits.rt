@@ -76,7 +76,10 @@ fn the_first_other_content_is_named_and_nothing_changes(rt: HostRuntime) -> Resu
     }
     assert_eq!(rt; stock.bench.records.changes, 1);
     assert_eq!(rt; stock.row_of(OLDEST_SNAPSHOT), None);
-    assert_eq!(rt; stock.row_of(OLD_SNAPSHOT), Some((2, EARLIER, Some(EARLIER))));
+    assert_eq!(rt;
+        stock.row_of(OLD_SNAPSHOT),
+        Some((2, EARLIER, Some(EARLIER)))
+    );
     assert_eq!(rt; stock.bench.sessions.count(), 1);
     assert_eq!(rt; stock.bench.files(1), Some(3));
     Ok(())
@@ -151,7 +154,10 @@ fn nothing_is_deployed_where_that_is_not_recorded(rt: HostRuntime) -> Result<(),
     assert_eq!(rt; stock.came(1), Came::StoreFault);
     assert_eq!(rt; stock.row_of(JAR), None);
     assert_eq!(rt; stock.row_of(POM), None);
-    assert_eq!(rt; stock.row_of(OLD_SNAPSHOT), Some((1, EARLIER, Some(EARLIER))));
+    assert_eq!(rt;
+        stock.row_of(OLD_SNAPSHOT),
+        Some((1, EARLIER, Some(EARLIER)))
+    );
     assert_eq!(rt; stock.hosted.counts(), (1, 1));
     assert_eq!(rt; stock.bench.files(1), Some(3));
     stock.bench.records.fails = false;
