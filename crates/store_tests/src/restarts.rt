@@ -9,13 +9,13 @@ const PUT: &str =
 const GET: &str =
     "GET /repository/releases/org/acme/lib/1.0/lib-1.0.jar HTTP/1.1\r\nHost: x\r\nConnection: close\r\n\r\n";
 
-const CREATED: &[u8] =
+pub const CREATED: &[u8] =
     b"HTTP/1.1 201 Created\r\nContent-Type: text/plain\r\nContent-Length: 8\r\n\r\ncreated\n";
 
-const FAILED: &[u8] =
+pub const FAILED: &[u8] =
     b"HTTP/1.1 503 Service Unavailable\r\nContent-Type: text/plain\r\nContent-Length: 12\r\n\r\nstore-fault\n";
 
-const FILE: &[u8] =
+pub const FILE: &[u8] =
     b"HTTP/1.1 200 OK\r\nContent-Type: application/octet-stream\r\nContent-Length: 3\r\nX-Checksum-SHA1: a9993e364706816aba3e25717850c26c9cd0d89d\r\nX-Checksum-MD5: 900150983cd24fb0d6963f7d28e17f72\r\nConnection: close\r\n\r\nabc";
 
 // A file outlasts the run that took it. The journal has the bytes that are written out.

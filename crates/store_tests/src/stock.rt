@@ -113,8 +113,12 @@ pub fn store_of(alloc: Global, blobs: &[(u64, &[u8])]) -> Result<MemBlobs, Fail>
     Ok(store)
 }
 
-/// A journal over a disk in memory, which has this file.
-pub fn journal_over(alloc: Global, file: &[u8]) -> Result<Journal<MemDisk>, AllocError> {
+/// A journal over a disk in memory, which has this file, and of which the calls fail that the script says.
+pub fn journal_with(
+    alloc: Global,
+    file: &[u8],
+    script: DiskScript,
+) -> Result<Journal<MemDisk>, AllocError> {
     let room = DiskRoom {
         file: 2_000,
         written: 2_000,
@@ -123,7 +127,12 @@ pub fn journal_over(alloc: Global, file: &[u8]) -> Result<Journal<MemDisk>, Allo
     if file.len() > 2_000 {
         return Err(AllocError);
     }
-    Ok(Journal::new(MemDisk::new(alloc, file, room, DiskScript::none(alloc))?))
+    Ok(Journal::new(MemDisk::new(alloc, file, room, script)?))
+}
+
+/// The same, of which no call fails.
+pub fn journal_over(alloc: Global, file: &[u8]) -> Result<Journal<MemDisk>, AllocError> {
+    journal_with(alloc, file, DiskScript::none(alloc))
 }
 
 /// A stage without a connection's input, at 2024-02-29T12:00:00Z.
