@@ -5,6 +5,7 @@
 
 mod closing;
 mod links;
+mod parts;
 mod ports;
 mod stages;
 

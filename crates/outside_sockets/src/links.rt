@@ -17,7 +17,8 @@ const TRIES: u32 = 1_000_000;
 ///
 /// A read waits at most 5 seconds for the first byte of all, and half a second for the first one after an answer: none coming
 /// is the connection's end. The bytes of a head may take 10 seconds in all, and any other read or write 30 seconds: more is a
-/// failure, and so is what the system refuses. Once the end was read, each read gives it again.
+/// failure, and so is what the system refuses. A read of a body, after an interim answer or after an answer to a request
+/// before it too, is such another one. Once the end was read, each read gives it again.
 #[derive(Drop)]
 pub struct TcpLink<N: OpenStream + Read + Write + Drop, T: Clock + Drop> {
     stream: N,
@@ -157,7 +158,7 @@ fn write_once<N: Write>(stream: &mut N, piece: &[u8]) -> Result<usize, Failed>
 impl<N: OpenStream + Read + Write + Drop, T: Clock + Drop> Sink for TcpLink<N, T> {
     fn write(&mut self, piece: &[u8]) -> Result<usize, Failed> {
         let written = write_once(&mut self.stream, piece);
-        self.stage = self.stage.with_written(piece);
+        self.stage = self.stage.with_written();
         if written.is_err() {
             self.write_faults = self.write_faults.saturating_add(1);
         }

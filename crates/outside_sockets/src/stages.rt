@@ -1,4 +1,5 @@
 //! How far a connection has come, and how long each of its reads may wait.
+use crate::parts::Part;
 use std::time::{Clock, Duration, Instant};
 
 // How long a connection may stay silent before its first byte, in milliseconds.
@@ -18,53 +19,15 @@ pub fn longest_write() -> Duration {
     Duration::from_millis(ANY_OTHER)
 }
 
-/// How far the bytes of a head have come.
-#[derive(Clone, Copy, Debug, PartialEq, Eq)]
-pub(crate) enum Line {
-    /// Nothing has come but blank lines.
-    Blank,
-    /// The line has bytes.
-    Begun,
-    /// A line that had bytes is over.
-    Over,
-    /// Behind that, a CR.
-    Return,
-    /// The empty line behind the last one: the head is whole (RFC 9112, 2.1).
-    Empty,
-}
-
-impl Line {
-    fn with_byte(self, byte: u8) -> Line {
-        match self {
-            Line::Empty => Line::Empty,
-            Line::Blank if byte == b'\r' || byte == b'\n' => Line::Blank,
-            Line::Over | Line::Return if byte == b'\n' => Line::Empty,
-            Line::Over if byte == b'\r' => Line::Return,
-            _ if byte == b'\n' => Line::Over,
-            _ => Line::Begun,
-        }
-    }
-
-    fn with_bytes(self, bytes: &[u8]) -> Line {
-        let mut line = self;
-        for byte in bytes {
-            line = line.with_byte(*byte);
-        }
-        line
-    }
-}
-
 /// How far a connection has come.
 #[derive(Clone, Copy)]
 pub enum Stage {
     /// Nothing has come yet.
     Silent,
-    /// An answer was written, and nothing has come since.
-    Answered,
-    /// Bytes of a head have come, the first of them at this moment.
-    Head { line: Line, since: Instant },
-    /// A whole head has come, and no answer was written since.
-    Body,
+    /// Each request that came whole has its answer, at least in part, and nothing has come since.
+    Answered(Part),
+    /// Bytes have come since, the first of them at this moment, where the clock could be read.
+    Asking { next: Part, since: Option<Instant> },
     /// The peer has ended it, or has stayed silent between requests.
     Ended,
 }
@@ -72,7 +35,7 @@ pub enum Stage {
 impl Stage {
     /// Whether no request is under way.
     pub fn is_between(&self) -> bool {
-        matches!(self, Stage::Silent | Stage::Answered)
+        matches!(self, Stage::Silent | Stage::Answered(_))
     }
 
     /// Whether nothing more will come.
@@ -84,56 +47,46 @@ impl Stage {
     pub fn patience(&self, timer: &impl Clock) -> Option<Duration> {
         match self {
             Stage::Silent => Some(Duration::from_millis(FIRST_BYTE)),
-            Stage::Answered => Some(Duration::from_millis(NEXT_REQUEST)),
-            Stage::Head { line: _, since } => left_of_head(timer, since),
-            Stage::Body | Stage::Ended => Some(Duration::from_millis(ANY_OTHER)),
+            Stage::Answered(_) => Some(Duration::from_millis(NEXT_REQUEST)),
+            Stage::Asking { next, since } if !next.is_body() => left_of_head(timer, since),
+            Stage::Asking { .. } | Stage::Ended => Some(Duration::from_millis(ANY_OTHER)),
         }
     }
 
     /// The stage once these bytes have come.
     pub fn with_bytes(self, timer: &impl Clock, bytes: &[u8]) -> Stage {
-        match self {
-            Stage::Silent | Stage::Answered => begun(timer, bytes),
-            Stage::Head { line, since } => in_head(line.with_bytes(bytes), since),
-            Stage::Body => Stage::Body,
-            Stage::Ended => Stage::Ended,
+        let (next, since) = match self {
+            Stage::Silent => (Part::first(), Instant::now(timer).ok()),
+            Stage::Answered(next) => (next, Instant::now(timer).ok()),
+            Stage::Asking { next, since } => (next, since),
+            Stage::Ended => return Stage::Ended,
+        };
+        Stage::Asking {
+            next: next.behind(bytes),
+            since,
         }
     }
 
-    /// The stage once a write began with these bytes. An interim answer ends no request (RFC 9110, 15.2), also where its head
-    /// came together with an earlier request. A write that begins no answer goes on with one.
-    pub fn with_written(self, bytes: &[u8]) -> Stage {
+    /// The stage once something was written. Where bytes of a body are still to come it was the interim answer that asks for
+    /// them, or an answer to a request before that one; else it was an answer, or a part of one. What was written tells less:
+    /// bytes of a file may look like an answer.
+    pub fn with_written(self) -> Stage {
         match self {
-            Stage::Ended => Stage::Ended,
-            stage if !bytes.starts_with(b"HTTP/1.1 ") => stage,
-            _ if bytes.starts_with(b"HTTP/1.1 100") => Stage::Body,
-            _ => Stage::Answered,
+            Stage::Asking { next, since: _ } if !next.is_body() => Stage::Answered(next),
+            stage => stage,
         }
     }
 }
 
 // How much of a head's time is left.
-fn left_of_head(timer: &impl Clock, since: &Instant) -> Option<Duration> {
+fn left_of_head(timer: &impl Clock, since: &Option<Instant>) -> Option<Duration> {
     let most = Duration::from_millis(WHOLE_HEAD);
+    let Some(since) = since else {
+        return Some(most);
+    };
     let Ok(spent) = since.elapsed(timer) else {
         return Some(most);
     };
     let left = most.checked_sub(spent)?;
     if left.is_zero() { None } else { Some(left) }
-}
-
-// The first bytes of a request. Where the clock can't be read its head has the time of a body.
-fn begun(timer: &impl Clock, bytes: &[u8]) -> Stage {
-    match Instant::now(timer) {
-        Ok(since) => in_head(Line::Blank.with_bytes(bytes), since),
-        Err(_) => Stage::Body,
-    }
-}
-
-fn in_head(line: Line, since: Instant) -> Stage {
-    if line == Line::Empty {
-        Stage::Body
-    } else {
-        Stage::Head { line, since }
-    }
 }

@@ -7,7 +7,7 @@ use std::net::{OpenStream, Shutdown};
 use std::test::Fail;
 use std::time::Duration;
 
-/// A peer that sends on and on, at most 1,000 bytes at once. A signal interrupts the first read.
+/// A peer that sends on and on, at most 7,000 bytes at once. A signal interrupts the first read.
 #[derive(Drop)]
 struct Sender<'a> {
     shut: &'a Cell<bool>,
@@ -40,7 +40,7 @@ impl<'a> Read for Sender<'a> {
             self.interrupted = true;
             return Err(io::Error::from(ErrorKind::Interrupted));
         }
-        let count = buffer.len().min(1_000);
+        let count = buffer.len().min(7_000);
         self.taken.set(self.taken.get().saturating_add(count));
         Ok(count)
     }
@@ -56,7 +56,8 @@ impl<'a> Write for Sender<'a> {
     }
 }
 
-// Up to 16 MiB are dropped, however small the pieces are that come.
+// Up to 16 MiB are dropped, however small the pieces are that come. These are so large that all of them come in time also on
+// a machine that is busy.
 #[test]
 fn what_a_peer_still_sends_is_dropped(rt: HostRuntime) -> Result<(), Fail> {
     let shut = Cell::new(false);
@@ -69,6 +70,6 @@ fn what_a_peer_still_sends_is_dropped(rt: HostRuntime) -> Result<(), Fail> {
     let link = TcpLink::new(sender, rt.clone()?)?;
     link.close();
     assert!(rt; shut.get());
-    assert_eq!(rt; taken.get(), 16_778_000);
+    assert_eq!(rt; taken.get(), 16_779_000);
     Ok(())
 }

@@ -78,7 +78,7 @@ fn silence_after_an_answer_is_the_end(rt: HostRuntime) -> Result<(), Fail> {
 fn a_body_may_come_late(rt: HostRuntime) -> Result<(), Fail> {
     let mut port = TcpPort::bind(rt.clone()?, 0, Running::new(rt.alloc(), 1)?);
     let mut peer = client(&rt, &port)?;
-    peer.write_all(HEAD)?;
+    peer.write_all(b"PUT /x HTTP/1.1\r\nContent-Length: 3\r\n\r\n")?;
     let mut link = link_of(&mut port)?;
     let mut buffer = [0; 64];
     link.read(&mut buffer).map_err(|_| "not read")?;

@@ -8,7 +8,14 @@ use std::net::OpenStream;
 use std::test::Fail;
 use std::time::Duration;
 
-const HEAD: &[u8] = b"PUT /x HTTP/1.1\r\nExpect: 100-continue\r\n\r\n";
+const HEAD: &[u8] = b"PUT /x HTTP/1.1\r\nContent-Length: 3\r\nExpect: 100-continue\r\n\r\n";
+
+const GET: &[u8] = b"GET /x HTTP/1.1\r\n\r\n";
+
+// A request and then one whose body has 12 bytes, but for the last of them. One field's name begins as another's, and one
+// field's value is as another field.
+const ALL_BUT_ONE: &[u8] =
+    b"GET / HTTP/1.1\r\n\r\n\r\nPUT /x HTTP/1.1\r\nContent: 1\r\nX: Content-Length: 2\r\nCONTENT-length:0012 \r\n\r\n\r\n\r\nGET / H";
 
 const INTERIM: &[u8] = b"HTTP/1.1 100 Continue\r\n\r\n";
 
@@ -103,7 +110,7 @@ fn stand_in<'a>(asked: &'a Asked, pieces: &'a [&'static [u8]]) -> StandIn<'a> {
 
 // How many bytes come next, none where the read fails, and how long they may take.
 fn next<S: Source>(asked: &Asked, link: &mut S) -> (Option<usize>, u128) {
-    let mut buffer = [0; 64];
+    let mut buffer = [0; 128];
     let count = link.read(&mut buffer).ok();
     (count, asked.read.get())
 }
@@ -131,9 +138,10 @@ fn each_call_has_its_time(rt: HostRuntime) -> Result<(), Fail> {
 #[test]
 fn a_body_that_does_not_come_is_a_fault(rt: HostRuntime) -> Result<(), Fail> {
     let asked = Asked::nothing();
-    let pieces = [HEAD];
+    let pieces = [HEAD, b"abcPUT /y HTTP/1.1\r\nContent-Length: 1\r\n\r\n"];
     let mut link = TcpLink::new(stand_in(&asked, &pieces), rt.clone()?)?;
     assert_eq!(rt; next(&asked, &mut link), (Some(HEAD.len()), 5_000));
+    assert_eq!(rt; next(&asked, &mut link), (Some(41), 30_000));
     assert_eq!(rt; next(&asked, &mut link), (None, 30_000));
     write_all(&mut link, ANSWER).map_err(|_| "not written")?;
     write_all(&mut link, &INTERIM[..15]).map_err(|_| "not written")?;
@@ -142,13 +150,63 @@ fn a_body_that_does_not_come_is_a_fault(rt: HostRuntime) -> Result<(), Fail> {
     Ok(())
 }
 
+// The rest of a body whose first bytes came together with an earlier request is waited for as any body, wherever the bytes
+// before it were cut.
+#[test]
+fn the_rest_of_a_body_is_waited_for(rt: HostRuntime) -> Result<(), Fail> {
+    for cut in 1..ALL_BUT_ONE.len() {
+        let asked = Asked::nothing();
+        let pieces = [&ALL_BUT_ONE[..cut], &ALL_BUT_ONE[cut..], b"T", b"P"];
+        let mut link = TcpLink::new(stand_in(&asked, &pieces), rt.clone()?)?;
+        assert_eq!(rt; next(&asked, &mut link).0, Some(cut));
+        assert_eq!(rt; next(&asked, &mut link).0, Some(ALL_BUT_ONE.len() - cut));
+        write_all(&mut link, ANSWER).map_err(|_| "not written")?;
+        assert_eq!(rt; next(&asked, &mut link), (Some(1), 30_000), "{cut}");
+        write_all(&mut link, ANSWER).map_err(|_| "not written")?;
+        assert_eq!(rt; next(&asked, &mut link), (Some(1), 500), "{cut}");
+    }
+    Ok(())
+}
+
+// A head whose end comes behind an earlier answer has its body behind that.
+#[test]
+fn a_head_that_came_apart_has_a_body(rt: HostRuntime) -> Result<(), Fail> {
+    let asked = Asked::nothing();
+    let pieces: [&'static [u8]; 2] = [
+        b"GET / HTTP/1.1\r\n\r\nPUT / HTTP/1.1\r\nContent-Length: 3\r\n\r",
+        b"\n",
+    ];
+    let mut link = TcpLink::new(stand_in(&asked, &pieces), rt.clone()?)?;
+    assert_eq!(rt; next(&asked, &mut link), (Some(pieces[0].len()), 5_000));
+    write_all(&mut link, ANSWER).map_err(|_| "not written")?;
+    assert_eq!(rt; next(&asked, &mut link), (Some(1), 500));
+    assert_eq!(rt; next(&asked, &mut link), (None, 30_000));
+    Ok(())
+}
+
+// Bytes of a file are no answer, whatever they look like.
+#[test]
+fn a_file_may_look_like_an_answer(rt: HostRuntime) -> Result<(), Fail> {
+    let asked = Asked::nothing();
+    let pieces = [GET, GET];
+    let mut link = TcpLink::new(stand_in(&asked, &pieces), rt.clone()?)?;
+    assert_eq!(rt; next(&asked, &mut link), (Some(GET.len()), 5_000));
+    write_all(&mut link, ANSWER).map_err(|_| "not written")?;
+    write_all(&mut link, INTERIM).map_err(|_| "not written")?;
+    assert_eq!(rt; next(&asked, &mut link), (Some(GET.len()), 500));
+    write_all(&mut link, ANSWER).map_err(|_| "not written")?;
+    write_all(&mut link, INTERIM).map_err(|_| "not written")?;
+    assert_eq!(rt; next(&asked, &mut link), (Some(0), 500));
+    Ok(())
+}
+
 // Where nothing comes behind an answer, or at all, that is the end, and stays it.
 #[test]
 fn silence_between_requests_is_the_end(rt: HostRuntime) -> Result<(), Fail> {
     let asked = Asked::nothing();
-    let pieces = [HEAD];
+    let pieces = [GET];
     let mut link = TcpLink::new(stand_in(&asked, &pieces), rt.clone()?)?;
-    assert_eq!(rt; next(&asked, &mut link), (Some(HEAD.len()), 5_000));
+    assert_eq!(rt; next(&asked, &mut link), (Some(GET.len()), 5_000));
     write_all(&mut link, ANSWER).map_err(|_| "not written")?;
     write_all(&mut link, b"the rest of it").map_err(|_| "not written")?;
     assert_eq!(rt; next(&asked, &mut link), (Some(0), 500));
