@@ -21,8 +21,8 @@ fn make_folder<R: Files + AllocGlobal>(rt: &R, folder: &str) -> io::Result<()> {
     let above = format!(in rt.alloc(); "{folder}/..")?;
     match fs::open(rt, above.as_str()) {
         Ok(above) => above.sync_all(),
-        Err(error) if is_new => Err(error),
-        Err(_) => Ok(()),
+        Err(error) if !is_new && error.kind() == ErrorKind::PermissionDenied => Ok(()),
+        Err(error) => Err(error),
     }
 }
 

@@ -5,16 +5,19 @@ use record_disk::Disk;
 use std::alloc::{AllocError, Allocator, Global};
 use std::cell::Cell;
 use std::fs::{self, File, Files, Metadata, OpenOptions};
-use std::io;
+use std::io::{self, ErrorKind};
 use std::test::Fail;
 
 const FOLDER: &str = "folder_tests_data";
 
-/// The file system. It counts how often the folder that has the name of `FOLDER` was opened.
+const FOLDER_BELOW: &str = "folder_tests_below";
+
+/// The file system. It counts how often the folder that has the name of `FOLDER` was opened, and may refuse that.
 #[derive(Drop)]
 struct Watched<'a> {
     rt: &'a HostRuntime,
     above: &'a Cell<u64>,
+    refusal: Option<ErrorKind>,
 }
 
 impl<'a> Clone for Watched<'a> {
@@ -22,6 +25,7 @@ impl<'a> Clone for Watched<'a> {
         Ok(Watched {
             rt: self.rt,
             above: self.above,
+            refusal: self.refusal,
         })
     }
 }
@@ -40,8 +44,11 @@ impl<'a> Files for Watched<'a> {
     type Dir = <HostRuntime as Files>::Dir;
 
     fn open_file(&self, how: &OpenOptions, path: &str) -> io::Result<File> {
-        if path == "folder_tests_data/.." {
+        if path == "folder_tests_data/.." || path == "folder_tests_below/.." {
             self.above.set(self.above.get().saturating_add(1));
+            if let Some(kind) = self.refusal {
+                return Err(kind.into());
+            }
         }
         self.rt.open_file(how, path)
     }
@@ -91,6 +98,7 @@ fn a_folder_that_was_there_keeps_its_name(rt: HostRuntime) -> Result<(), Fail> {
     let watched = Watched {
         rt: &rt,
         above: &above,
+        refusal: None,
     };
     let mut first = open_disk(&watched, FOLDER);
     assert!(rt; first.sync().is_ok());
@@ -101,6 +109,32 @@ fn a_folder_that_was_there_keeps_its_name(rt: HostRuntime) -> Result<(), Fail> {
     assert_eq!(rt; above.get(), 2);
     drop(second);
     fs::remove_dir_all(&rt, FOLDER)?;
+    Ok(())
+}
+
+// Whether the folder opens where the one above is refused so.
+fn opens_under(rt: &HostRuntime, kind: ErrorKind) -> bool {
+    let above = Cell::new(0);
+    let watched = Watched {
+        rt,
+        above: &above,
+        refusal: Some(kind),
+    };
+    open_disk(&watched, FOLDER_BELOW).sync().is_ok()
+}
+
+// Where the folder above may not be read, one that was there is opened all the same; no other fault is passed over, and no
+// new folder is taken whose name may be lost.
+#[test]
+fn only_a_folder_that_may_not_be_read_is_passed_over(rt: HostRuntime) -> Result<(), Fail> {
+    let _ = fs::remove_dir_all(&rt, FOLDER_BELOW);
+    fs::create_dir(&rt, FOLDER_BELOW)?;
+    assert!(rt; opens_under(&rt, ErrorKind::PermissionDenied));
+    assert!(rt; !opens_under(&rt, ErrorKind::NotFound));
+    assert!(rt; !opens_under(&rt, ErrorKind::OutOfMemory));
+    fs::remove_dir_all(&rt, FOLDER_BELOW)?;
+    assert!(rt; !opens_under(&rt, ErrorKind::PermissionDenied));
+    fs::remove_dir_all(&rt, FOLDER_BELOW)?;
     Ok(())
 }
 
