@@ -8,7 +8,7 @@ use outside::{Failed, Sink, Source, Stream, Tells};
 use std::io::{self, ErrorKind, Read, Write};
 use std::marker::Model;
 use std::net::OpenStream;
-use std::time::Clock;
+use std::time::{Clock, Duration};
 
 // How often a call that a signal interrupts is tried.
 const TRIES: u32 = 1_000_000;
@@ -24,6 +24,8 @@ pub struct TcpLink<N: OpenStream + Read + Write + Drop, T: Clock + Drop> {
     stream: N,
     timer: T,
     stage: Stage,
+    /// How long the system lets a read wait, where it was told.
+    waits: Option<Duration>,
     read_faults: u64,
     write_faults: u64,
 }
@@ -48,6 +50,7 @@ impl<N: OpenStream + Read + Write + Drop, T: Clock + Drop> TcpLink<N, T> {
             stream,
             timer,
             stage: Stage::Silent,
+            waits: None,
             read_faults: 0,
             write_faults: 0,
         })
@@ -60,6 +63,7 @@ impl<N: OpenStream + Read + Write + Drop, T: Clock + Drop> TcpLink<N, T> {
             mut stream,
             timer,
             stage,
+            waits: _,
             read_faults: _,
             write_faults: _,
         } = self;
@@ -97,11 +101,29 @@ fn is_silence(kind: ErrorKind) -> bool {
     )
 }
 
+// Lets a read wait as long as this. The system is told only where it was told another time before.
+fn let_wait<N: OpenStream>(
+    stream: &mut N,
+    waits: &mut Option<Duration>,
+    patience: Duration,
+) -> Result<(), Failed> {
+    if *waits == Some(patience) {
+        return Ok(());
+    }
+    *waits = None;
+    if stream.set_read_timeout(Some(patience)).is_err() {
+        return Err(Failed);
+    }
+    *waits = Some(patience);
+    Ok(())
+}
+
 // Reads as long as the stage allows, and says what the stage is then.
 fn read_in<N: OpenStream + Read>(
     stream: &mut N,
     timer: &impl Clock,
     stage: &mut Stage,
+    waits: &mut Option<Duration>,
     buffer: &mut [u8],
 ) -> Result<usize, Failed>
     ensures { IfOk result (λ n. n ≤ length buffer.new) }
@@ -110,9 +132,7 @@ fn read_in<N: OpenStream + Read>(
         return Ok(0);
     }
     let patience = stage.patience(timer).ok_or(Failed)?;
-    if stream.set_read_timeout(Some(patience)).is_err() {
-        return Err(Failed);
-    }
+    let_wait(stream, waits, patience)?;
     match read_once(stream, buffer) {
         Ok(0) => {
             *stage = Stage::Ended;
@@ -132,7 +152,13 @@ fn read_in<N: OpenStream + Read>(
 
 impl<N: OpenStream + Read + Write + Drop, T: Clock + Drop> Source for TcpLink<N, T> {
     fn read(&mut self, buffer: &mut [u8]) -> Result<usize, Failed> {
-        let read = read_in(&mut self.stream, &self.timer, &mut self.stage, buffer);
+        let read = read_in(
+            &mut self.stream,
+            &self.timer,
+            &mut self.stage,
+            &mut self.waits,
+            buffer,
+        );
         if read.is_err() {
             self.read_faults = self.read_faults.saturating_add(1);
         }
