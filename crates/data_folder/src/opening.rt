@@ -3,9 +3,10 @@ ghost use Rattle.std.specs.Prelude.{◌≡◌, IfOk};
 ghost use Rattle.data_folder.specs.Faults.{faults_of};
 
 use crate::disk::FolderDisk;
-use outside::{Blobs, NoMemory};
+use outside::{BlobFault, Blobs, NoMemory};
 use outside_system::{FolderBlobs, clear_parts};
 use record_disk::FileDisk;
+use std::alloc::AllocError;
 use std::fs::{self, File, Files, OpenFile, OpenOptions};
 use std::io::{self, ErrorKind};
 
@@ -63,7 +64,8 @@ fn has_contents_alone<R: Files + AllocGlobal + Clone + Drop>(
     let listed = blobs_in(rt, folder)?.list();
     match listed {
         Ok(numbers) => Ok(!numbers.is_empty()),
-        Err(_) => Ok(true),
+        Err(BlobFault::NoMemory) => Err(io::Error::from(ErrorKind::OutOfMemory)),
+        Err(BlobFault::Failed) => Ok(true),
     }
 }
 
@@ -93,12 +95,13 @@ fn locked_disk<R: Files<File = File> + AllocGlobal + Clone + Drop>(
 pub fn open_disk<R: Files<File = File> + AllocGlobal + Clone + Drop>(
     rt: &R,
     folder: &str,
-) -> FolderDisk
-    ensures { faults_of result ≡ 0 }
+) -> Result<FolderDisk, NoMemory>
+    ensures { IfOk result (λ disk. faults_of disk ≡ 0) }
 {
     match locked_disk(rt, folder) {
-        Ok(disk) => disk,
-        Err(_) => FolderDisk::Refused { faults: 0 },
+        Ok(disk) => Ok(disk),
+        Err(error) if error.kind() == ErrorKind::OutOfMemory => Err(AllocError),
+        Err(_) => Ok(FolderDisk::Refused { faults: 0 }),
     }
 }
 

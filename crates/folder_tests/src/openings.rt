@@ -100,11 +100,11 @@ fn a_folder_that_was_there_keeps_its_name(rt: HostRuntime) -> Result<(), Fail> {
         above: &above,
         refusal: None,
     };
-    let mut first = open_disk(&watched, FOLDER);
+    let mut first = open_disk(&watched, FOLDER)?;
     assert!(rt; first.sync().is_ok());
     assert_eq!(rt; above.get(), 1);
     drop(first);
-    let mut second = open_disk(&watched, FOLDER);
+    let mut second = open_disk(&watched, FOLDER)?;
     assert!(rt; second.sync().is_ok());
     assert_eq!(rt; above.get(), 2);
     drop(second);
@@ -120,7 +120,10 @@ fn opens_under(rt: &HostRuntime, kind: ErrorKind) -> bool {
         above: &above,
         refusal: Some(kind),
     };
-    open_disk(&watched, FOLDER_BELOW).sync().is_ok()
+    match open_disk(&watched, FOLDER_BELOW) {
+        Ok(mut disk) => disk.sync().is_ok(),
+        Err(_) => false,
+    }
 }
 
 // Where the folder above may not be read, one that was there is opened all the same; no other fault is passed over, and no
@@ -148,7 +151,7 @@ fn parts_are_cleared(rt: HostRuntime) -> Result<(), Fail> {
     fs::write(&rt, "folder_tests_parts/blobs/7", "abc")?;
     fs::write(&rt, "folder_tests_parts/blobs/8.part", "left over")?;
     fs::write(&rt, "folder_tests_parts/blobs/9", "abd")?;
-    let mut disk = open_disk(&rt, folder);
+    let mut disk = open_disk(&rt, folder)?;
     assert!(rt; disk.sync().is_ok());
     let mut blobs = blobs_in(&rt, folder)?;
     let listed = blobs.list()?;
@@ -165,10 +168,10 @@ fn parts_are_cleared(rt: HostRuntime) -> Result<(), Fail> {
 fn parts_stay_where_another_has_the_lock(rt: HostRuntime) -> Result<(), Fail> {
     let folder = "folder_tests_held";
     let _ = fs::remove_dir_all(&rt, folder);
-    let mut first = open_disk(&rt, folder);
+    let mut first = open_disk(&rt, folder)?;
     assert!(rt; first.sync().is_ok());
     fs::write(&rt, "folder_tests_held/blobs/8.part", "being written")?;
-    let mut second = open_disk(&rt, folder);
+    let mut second = open_disk(&rt, folder)?;
     assert!(rt; second.sync().is_err());
     let stays = fs::metadata(&rt, "folder_tests_held/blobs/8.part").is_ok();
     drop(second);
@@ -185,7 +188,7 @@ fn contents_alone_are_refused(rt: HostRuntime) -> Result<(), Fail> {
     let _ = fs::remove_dir_all(&rt, folder);
     fs::create_dir_all(&rt, "folder_tests_alone/blobs")?;
     fs::write(&rt, "folder_tests_alone/blobs/7", "abc")?;
-    let mut disk = open_disk(&rt, folder);
+    let mut disk = open_disk(&rt, folder)?;
     let refused = disk.sync().is_err();
     drop(disk);
     let stays = fs::metadata(&rt, "folder_tests_alone/blobs/7").is_ok();

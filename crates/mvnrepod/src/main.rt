@@ -103,7 +103,7 @@ fn status_over_folder<R: Threads + Wait + Sync>(
     let links: Vec<MemLink> = Vec::new(alloc);
     let desks = desks_with(alloc, links, blobs_in(rt, folder)?)?;
     let cleaner = cleaner_over(alloc, blobs_in(rt, folder)?)?;
-    let records = Journal::new(open_disk(rt, folder));
+    let records = Journal::new(open_disk(rt, folder)?);
     let clock = SystemClock::new(rt.clone()?);
     let mut out = WriterSink::new(rt.stdout());
     Ok(
@@ -203,7 +203,7 @@ fn status_of_server<R: Threads + Wait + Sync>(
         clock,
     } = server_of(rt, wanted)?;
     let mut settings = file_source(rt, wanted.settings.as_str());
-    let records = Journal::new(open_disk(rt, wanted.folder.as_str()));
+    let records = Journal::new(open_disk(rt, wanted.folder.as_str())?);
     let mut out = WriterSink::new(rt.stderr());
     Ok(
         run(
