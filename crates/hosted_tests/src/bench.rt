@@ -1,4 +1,5 @@
-// What the tests share: a repository over memory, and what it answers as plain values.
+// What the tests share: a repository over memory, and what it answers as plain values. Each call of the repository is made in a
+// small function of its own, so that what it promises is not carried through the tests.
 ghost use Rattle.std.specs.Prelude.{◌≡◌, ◌≤◌, ℕ, IsTrue, true};
 ghost use Rattle.row_tables.specs.Items.{is_file_path, is_id};
 ghost use Rattle.repo_model.specs.Data.{fading};
@@ -6,14 +7,17 @@ ghost use Rattle.repo_model.specs.History.{latest_moment};
 ghost use Rattle.repo_model.specs.Paths.{is_snapshot_path};
 ghost use Rattle.hosted_repo.specs.Rows.{shown_phase};
 
+use crate::asks::{Ask, Said, are_blobs, are_paths, is_put, is_seen, remove_all};
+use crate::deliveries::{Staged, delivers};
 use crate::records::CountedRecords;
-use hosted_repo::{Hosted, Kept, Phase, Put, Rule, Seen};
-use mvn_coords::{Dir, Kind, kind_of};
+use hosted_repo::{Hosted, Kept, Phase, Put, Rule};
+use mvn_coords::{Kind, kind_of};
 use mvn_digest::Hashes;
-use outside::{Blobs, Parcel};
+use outside::{Blobs, NoMemory, Parcel};
 use outside_memory::{FaultScript, MemBlobs, MemHeld};
-use repo_model::Print;
+use row_tables::Change;
 use std::alloc::Global;
+use std::collections::BTreeMap;
 use std::process::Abort;
 use std::test::Fail;
 use texts::Text;
@@ -24,33 +28,6 @@ pub const MOST: u64 = 9_223_372_036_854_775_807;
 // 2024-02-29 12:00:00 UTC.
 pub const T: u64 = 1_709_208_000;
 
-/// What a put came to.
-#[derive(Clone, Copy, Debug, PartialEq, Eq)]
-pub enum Did {
-    Created,
-    // with the blob that came back
-    Same(u64),
-    Relisted(u64),
-    // with the lengths of both contents, and the blob that came back
-    Taken(u64, u64, u64),
-    // the records failed, with the blob that came back
-    StoreFault(u64),
-    NoMemory(u64),
-    // what was to be put is no file's path or blob
-    Unfit,
-}
-
-fn did_of(put: Put<MemHeld>) -> Did {
-    match put {
-        Put::Created => Did::Created,
-        Put::Same(parcel) => Did::Same(parcel.blob),
-        Put::Relisted(parcel) => Did::Relisted(parcel.blob),
-        Put::Taken { kept, sent } => Did::Taken(kept.length, sent.length, sent.blob),
-        Put::StoreFault(parcel) => Did::StoreFault(parcel.blob),
-        Put::NoMemory(parcel) => Did::NoMemory(parcel.blob),
-    }
-}
-
 /// Whether a path is a file's.
 pub fn is_file(path: &str) -> bool
     ensures { result ≡ is_file_path path.now }
@@ -59,7 +36,7 @@ pub fn is_file(path: &str) -> bool
 }
 
 /// Whether a row at a path may have this phase: only a snapshot's is unlisted.
-pub fn may_be(path: &str, phase: Phase) -> bool
+fn may_be(path: &str, phase: Phase) -> bool
     ensures { IsTrue result → (since : ℕ) → shown_phase phase ≡ fading since → is_snapshot_path path.now ≡ true }
 {
     match phase {
@@ -77,13 +54,22 @@ fn is_snapshot(path: &str) -> bool
     }
 }
 
-/// A repository, its records and its blobs.
+/// Whether a clock may come to a moment.
+fn is_moment(now: u64) -> bool
+    ensures { IsTrue result → now ≤ latest_moment }
+{
+    now <= 253_402_207_200
+}
+
+/// A repository, its records and its blobs, and files that are staged.
 #[derive(Drop)]
 pub struct Bench {
-    pub repo: Hosted<MemHeld>,
-    pub records: CountedRecords,
+    alloc: Global,
+    repo: Hosted<MemHeld>,
+    records: CountedRecords,
     blobs: MemBlobs,
     next: u64,
+    staged: Staged,
 }
 
 impl Bench {
@@ -115,15 +101,17 @@ impl Bench {
         requires { IsTrue (is_id rule.id) }
     {
         Bench {
+            alloc,
             repo: Hosted::new(alloc, rule),
             records: CountedRecords::new(),
             blobs: MemBlobs::new(alloc, FaultScript::none(alloc)),
             next: 1,
+            staged: BTreeMap::new(alloc),
         }
     }
 
-    /// Bytes, as the next blob.
-    pub fn parcel(&mut self, bytes: &[u8]) -> Result<Parcel<MemHeld>, Fail> {
+    // Bytes, as the next blob.
+    fn parcel(&mut self, bytes: &[u8]) -> Result<Parcel<MemHeld>, Fail> {
         let mut hashes = Hashes::new();
         hashes.update(bytes);
         let blob = self.next;
@@ -136,41 +124,40 @@ impl Bench {
         })
     }
 
-    /// Puts bytes at a path, as the next blob.
-    pub fn put(&mut self, path: &str, bytes: &[u8]) -> Result<Did, Fail> {
-        let parcel = self.parcel(bytes)?;
-        Ok(self.put_parcel(path, parcel, T))
-    }
-
-    /// Puts `abc` at a path at a moment, as the next blob.
-    pub fn put_at(&mut self, path: &str, now: u64) -> Result<Did, Fail>
-        requires { now ≤ latest_moment }
-    {
-        let parcel = self.parcel(b"abc")?;
-        Ok(self.put_parcel(path, parcel, now))
-    }
-
-    fn put_parcel(&mut self, path: &str, parcel: Parcel<MemHeld>, now: u64) -> Did
-        requires { now ≤ latest_moment }
-    {
+    // Puts a parcel, where a repository may be asked to.
+    fn put_parcel(
+        &mut self,
+        path: &str,
+        parcel: Parcel<MemHeld>,
+        now: u64,
+    ) -> Option<Put<MemHeld>> {
         if !is_file(path) || parcel.blob == 0 || parcel.blob > MOST || parcel.length > MOST {
-            return Did::Unfit;
+            return None;
         }
-        did_of(self.repo.put(&mut self.records, path, parcel, now))
+        if !is_moment(now) {
+            return None;
+        }
+        Some(self.repo.put(&mut self.records, path, parcel, now))
     }
 
-    /// Takes bytes up at a path that has none, as the next blob; whether that was done.
-    pub fn restore(
+    fn puts(&mut self, path: &str, bytes: &[u8], now: u64, want: &Said) -> Result<bool, Fail> {
+        let parcel = self.parcel(bytes)?;
+        match self.put_parcel(path, parcel, now) {
+            Some(put) => Ok(is_put(&put, want)),
+            None => Ok(false),
+        }
+    }
+
+    // Takes bytes up at a path that has none, as the next blob; whether that was done.
+    fn restores(
         &mut self,
         path: &str,
         bytes: &[u8],
         accepted: u64,
         phase: Phase,
-    ) -> Result<bool, Fail>
-        requires { accepted ≤ latest_moment }
-    {
+    ) -> Result<bool, Fail> {
         let parcel = self.parcel(bytes)?;
-        if !is_file(path) || !may_be(path, phase) {
+        if !is_file(path) || !may_be(path, phase) || !is_moment(accepted) {
             return Ok(false);
         }
         match self.repo.row(path) {
@@ -179,74 +166,171 @@ impl Bench {
         }
     }
 
-    /// Unlists the rows that are to fade at a moment.
-    pub fn unlist(&mut self, now: u64) -> Result<u64, Kept>
-        requires { now ≤ latest_moment }
-    {
-        self.repo.unlist(&mut self.records, now)
-    }
-
-    /// Puts `abc` at some paths that are free.
-    pub fn fill(&mut self, rt: &impl Abort, paths: &[&str]) -> Result<(), Fail> {
-        for path in paths {
-            assert_eq!(rt; self.put(path, b"abc")?, Did::Created);
-        }
-        Ok(())
-    }
-
-    /// Whether the repository takes a file at a path.
-    pub fn may_put(&self, path: &str) -> bool {
+    // Whether the repository takes a file at a path.
+    fn may_put(&self, path: &str) -> bool {
         match kind_of(path) {
             Ok(kind) => self.repo.may_put(&kind),
             Err(_) => false,
         }
     }
 
-    /// The length and the first and last bytes of a look's digests or text.
-    pub fn expect_file(
-        &self,
-        rt: &impl Abort,
-        path: &str,
-        sha1: &[u8],
-        md5: &[u8],
-    ) -> Result<(), Fail> {
-        match self.repo.look(path)? {
-            Some(Seen::File(parcel)) => {
-                assert_eq!(rt; parcel.digests.sha1_text().as_slice(), sha1);
-                assert_eq!(rt; parcel.digests.md5_text().as_slice(), md5);
-                Ok(())
-            }
-            _ => Err("no file")?,
+    fn looks(&self, path: &str, want: &Said) -> Result<bool, NoMemory> {
+        Ok(is_seen(&self.repo.look(path)?, want))
+    }
+
+    fn has_due(&self, now: u64, want: &Said) -> Result<bool, NoMemory> {
+        let paths = self.repo.due_paths(now)?;
+        match want {
+            Said::Paths(others) => Ok(are_paths(&paths, others)),
+            _ => Ok(false),
         }
     }
 
-    /// A look gives this text of a side file.
-    pub fn expect_side(&self, rt: &impl Abort, path: &str, want: &[u8]) -> Result<(), Fail> {
-        assert!(rt; is_side(&self.repo.look(path)?, want));
-        Ok(())
+    fn unlist(&mut self, now: u64) -> Option<Result<u64, Kept>> {
+        if !is_moment(now) {
+            return None;
+        }
+        Some(self.repo.unlist(&mut self.records, now))
     }
 
-    /// A look gives this document.
-    pub fn expect_document(&self, rt: &impl Abort, path: &str, want: &str) -> Result<(), Fail> {
-        match self.repo.look(path)? {
-            Some(Seen::Doc(doc)) => {
-                assert_eq!(rt; doc.text.as_slice(), want.as_bytes());
-                Ok(())
-            }
-            _ => Err("no document")?,
+    fn unlists(&mut self, now: u64, want: &Said) -> bool {
+        match (self.unlist(now), want) {
+            (Some(Ok(count)), Said::Unlisted(number)) => count == *number,
+            (Some(Err(Kept::StoreFault)), Said::NotUnlisted) => true,
+            _ => false,
         }
     }
 
-    /// A look gives nothing.
-    pub fn expect_nothing(&self, rt: &impl Abort, path: &str) -> Result<(), Fail> {
-        assert!(rt; self.repo.look(path)?.is_none());
+    // The rows that go: how many, and whether they are removed from the tables and their blobs given out.
+    fn is_expiring(&self, now: u64, want: &[(&str, u64)]) -> Result<bool, NoMemory> {
+        let mut change = Change::new(self.alloc);
+        let mut blobs = Vec::new(self.alloc);
+        let count = self.repo.expiring(60, now, &mut change, &mut blobs)?;
+        Ok(
+            count == want.len() as u64
+                && remove_all(change.items(), want)
+                && are_blobs(&blobs, want),
+        )
+    }
+
+    fn expires(&self, now: u64, want: &Said) -> Result<bool, NoMemory> {
+        match want {
+            Said::Rows(rows) => self.is_expiring(now, rows),
+            _ => Ok(false),
+        }
+    }
+
+    fn expire(&mut self, now: u64, count: u64) {
+        self.repo.drop_expired(60, now, count);
+    }
+
+    fn has_counts(&self, want: &Said) -> bool {
+        let (rows, fading) = self.repo.counts();
+        match want {
+            Said::Counts(all, some) => rows == *all && fading == *some,
+            _ => false,
+        }
+    }
+
+    fn has_recorded(&self, want: &Said) -> bool {
+        match want {
+            Said::Recorded(changes, items, last) => {
+                self.records.changes == *changes
+                    && self.records.items == *items
+                    && self.records.last == *last
+            }
+            _ => false,
+        }
+    }
+
+    fn stage(&mut self, paths: &[&str]) -> Result<usize, Fail> {
+        for path in paths {
+            let parcel = self.parcel(b"abc")?;
+            let path = String::from_str(self.alloc, path)?;
+            self.staged.insert(path, parcel)?;
+        }
+        Ok(self.staged.len())
+    }
+
+    fn delivers(&mut self, want: &Said) -> bool {
+        delivers(&mut self.repo, &mut self.records, &self.staged, want)
+    }
+
+    // Whether a call is answered so.
+    fn is_answered(&mut self, ask: Ask, want: &Said) -> Result<bool, Fail> {
+        match ask {
+            Ask::Put(path, bytes, now) => self.puts(path, bytes, now, want),
+            Ask::Restore(path, bytes, accepted, phase) => {
+                let done = self.restores(path, bytes, accepted, phase)?;
+                Ok(is_told(done, want))
+            }
+            Ask::MayPut(path) => Ok(is_told(self.may_put(path), want)),
+            Ask::Look(path) => Ok(self.looks(path, want)?),
+            Ask::Due(now) => Ok(self.has_due(now, want)?),
+            Ask::Unlist(now) => Ok(self.unlists(now, want)),
+            Ask::Expiring(now) => Ok(self.expires(now, want)?),
+            Ask::Expire(now, count) => {
+                self.expire(now, count);
+                Ok(matches!(want, Said::Done))
+            }
+            Ask::Counts => Ok(self.has_counts(want)),
+            Ask::Fail(fails) => {
+                self.records.fails = fails;
+                Ok(matches!(want, Said::Done))
+            }
+            Ask::Recorded => Ok(self.has_recorded(want)),
+            Ask::Stage(paths) => {
+                let count = self.stage(paths)?;
+                Ok(is_count(count, want))
+            }
+            Ask::Deliver => Ok(self.delivers(want)),
+        }
+    }
+
+    /// The first of these calls, made one after the other, that is answered otherwise.
+    pub fn first_other(&mut self, steps: &[(Ask, Said)]) -> Result<Option<usize>, Fail> {
+        for (n, (ask, want)) in steps.iter().enumerate() {
+            if !self.is_answered(*ask, want)? {
+                return Ok(Some(n));
+            }
+        }
+        Ok(None)
+    }
+
+    /// The first of these paths that is not free for `abc`.
+    fn first_taken(&mut self, paths: &[&str]) -> Result<Option<usize>, Fail> {
+        for (n, path) in paths.iter().enumerate() {
+            if !self.puts(path, b"abc", T, &Said::Created)? {
+                return Ok(Some(n));
+            }
+        }
+        Ok(None)
+    }
+
+    /// Puts `abc` at some paths that are free.
+    pub fn fill(&mut self, rt: &impl Abort, paths: &[&str]) -> Result<(), Fail> {
+        assert_eq!(rt; self.first_taken(paths)?, None);
         Ok(())
     }
 }
 
-fn is_side(seen: &Option<Seen<'_, MemHeld>>, want: &[u8]) -> bool {
-    match seen {
-        Some(Seen::Text(text)) => text.as_bytes() == want,
+fn is_count(count: usize, want: &Said) -> bool {
+    match want {
+        Said::Staged(number) => count == *number,
         _ => false,
     }
+}
+
+fn is_told(answer: bool, want: &Said) -> bool {
+    match want {
+        Said::Yes => answer,
+        Said::No => !answer,
+        _ => false,
+    }
+}
+
+/// Each call is answered as is said beside it.
+pub fn follow(rt: &impl Abort, mut bench: Bench, steps: &[(Ask, Said)]) -> Result<(), Fail> {
+    assert_eq!(rt; bench.first_other(steps)?, None);
+    Ok(())
 }

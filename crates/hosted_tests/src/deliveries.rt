@@ -5,15 +5,14 @@ ghost use Rattle.hosted_repo.specs.Deliveries.{is_recordable, shown_files};
 ghost use Rattle.repo_model.specs.Purge.{most_rows};
 ghost use Rattle.repo_model.specs.Shown.{shown_parcel};
 
-use crate::bench::{Bench, Did, MOST, T, is_file};
-use crate::records::Kind;
-use hosted_repo::{Phase, PutAll};
+use crate::asks::{Ask, Said};
+use crate::bench::{Bench, MOST, T, follow, is_file};
+use crate::records::{CountedRecords, Kind};
+use hosted_repo::{Hosted, Phase, PutAll};
 use outside::Parcel;
 use outside_memory::MemHeld;
 use repo_model::{Item, SessionResult};
-use std::alloc::Global;
 use std::collections::BTreeMap;
-use std::process::Abort;
 use std::test::Fail;
 
 const JAR: &str = "org/acme/lib/2.0/lib-2.0.jar";
@@ -22,7 +21,7 @@ const POM: &str = "org/acme/lib/2.0/lib-2.0.pom";
 
 const BUILD: &str = "org/acme/lib/1.9-SNAPSHOT/lib-1.9-20240229.120000-1.jar";
 
-type Staged = BTreeMap<String, Parcel<MemHeld>>;
+pub type Staged = BTreeMap<String, Parcel<MemHeld>>;
 
 // Whether a file may be recorded as a row.
 fn is_fit(path: &str, parcel: &Parcel<MemHeld>) -> bool
@@ -49,86 +48,95 @@ fn are_few(staged: &Staged) -> bool
     staged.len() <= 1_000_000
 }
 
-// Stages `abc` at some paths, each as the next blob.
-fn staged(bench: &mut Bench, alloc: Global, paths: &[&str]) -> Result<Staged, Fail> {
-    let mut files = BTreeMap::new(alloc);
-    for path in paths {
-        let parcel = bench.parcel(b"abc")?;
-        files.insert(String::from_str(alloc, path)?, parcel)?;
-    }
-    Ok(files)
-}
-
-// Puts them all, with the end of session 7.
-fn put_all(bench: &mut Bench, files: &Staged) -> Result<PutAll, Fail> {
+// Puts them all, with the end of session 7, where a repository may be asked to.
+fn put_all(
+    repo: &mut Hosted<MemHeld>,
+    records: &mut CountedRecords,
+    files: &Staged,
+) -> Option<PutAll> {
     if !are_fit(files) || !are_few(files) {
-        return Err("not recordable")?;
+        return None;
     }
     let also = Item::SessionEnded {
         session: 7,
         result: SessionResult::Done(2),
     };
-    Ok(bench.repo.put_all(&mut bench.records, files, also, T))
+    Some(repo.put_all(records, files, also, T))
 }
 
-// The count, and the blobs that no row took.
-fn is_done(answer: &PutAll, want: u64, left: &[u64]) -> bool {
-    match answer {
-        PutAll::Done { count, blobs } => *count == want && blobs.as_slice() == left,
+fn is_delivered(answer: &PutAll, want: &Said) -> bool {
+    match (answer, want) {
+        (PutAll::Done { count, blobs }, Said::Delivered(number, left)) => {
+            *count == *number && blobs.as_slice() == *left
+        }
+        (PutAll::Offends { path, kept, sent }, Said::Offends(at, old, new)) => {
+            path.as_str() == *at && kept.length == *old && sent.length == *new
+        }
+        (PutAll::MissingPom { dir }, Said::MissingPom(at)) => dir.as_str() == *at,
+        (PutAll::StoreFault, Said::NotDelivered) => true,
         _ => false,
     }
 }
 
+/// Whether a repository that is to take them all answers so.
+pub fn delivers(
+    repo: &mut Hosted<MemHeld>,
+    records: &mut CountedRecords,
+    files: &Staged,
+    want: &Said,
+) -> bool {
+    match put_all(repo, records, files) {
+        Some(answer) => is_delivered(&answer, want),
+        None => false,
+    }
+}
+
+// The blob that comes back is that of the row that is visible again; those that are staged are only read.
+static OF_TWO_FILES: [(Ask, Said); 6] = [
+    (Ask::Restore(BUILD, b"abc", T, Phase::Fading(T)), Said::Yes),
+    (Ask::Stage(&[BUILD, POM]), Said::Staged(2)),
+    (Ask::Deliver, Said::Delivered(2, &[2])),
+    // a new row, one that is visible again, and the end of the session, which comes last
+    (Ask::Recorded, Said::Recorded(1, 3, Some(Kind::Other))),
+    (Ask::Counts, Said::Counts(2, 0)),
+    (Ask::Stage(&[]), Said::Staged(2)),
+];
+
 #[test]
 fn files_are_recorded_together_and_then_visible(rt: HostRuntime) -> Result<(), Fail> {
-    let mut bench = Bench::new(rt.alloc(), true, true)?;
-    assert!(rt; bench.restore(BUILD, b"abc", T, Phase::Fading(T))?);
-    let files = staged(&mut bench, rt.alloc(), &[BUILD, POM])?;
-    let answer = put_all(&mut bench, &files)?;
-    assert!(rt; is_done(&answer, 2, &[2]));
-    // a new row, one that is visible again, and the end of the session, which comes last
-    assert_eq!(rt; bench.records.changes, 1);
-    assert_eq!(rt; bench.records.items, 3);
-    assert_eq!(rt; bench.records.last, Some(Kind::Other));
-    assert_eq!(rt; bench.repo.counts(), (2, 0));
-    // those that are staged are only read
-    assert_eq!(rt; files.len(), 2);
-    Ok(())
+    follow(&rt, Bench::new(rt.alloc(), true, true)?, &OF_TWO_FILES)
 }
+
+static OF_OTHER_BYTES: [(Ask, Said); 5] = [
+    (Ask::Put(POM, b"p", T), Said::Created),
+    (Ask::Stage(&[JAR, POM]), Said::Staged(2)),
+    (Ask::Deliver, Said::Offends(POM, 1, 3)),
+    (Ask::Recorded, Said::Recorded(1, 1, Some(Kind::HostedPut))),
+    (Ask::Counts, Said::Counts(1, 0)),
+];
 
 #[test]
 fn a_path_with_other_bytes_stands_against_all(rt: HostRuntime) -> Result<(), Fail> {
-    let mut bench = Bench::new(rt.alloc(), true, true)?;
-    assert_eq!(rt; bench.put(POM, b"p")?, Did::Created);
-    let files = staged(&mut bench, rt.alloc(), &[JAR, POM])?;
-    match put_all(&mut bench, &files)? {
-        PutAll::Offends { path, kept, sent } => {
-            assert_eq!(rt; path.as_str().as_bytes(), POM.as_bytes());
-            assert_eq!(rt; kept.length, 1);
-            assert_eq!(rt; sent.length, 3);
-        }
-        _ => Err("deployed")?,
-    }
-    assert_eq!(rt; bench.records.changes, 1);
-    assert_eq!(rt; bench.repo.counts(), (1, 0));
-    Ok(())
+    follow(&rt, Bench::new(rt.alloc(), true, true)?, &OF_OTHER_BYTES)
 }
+
+static OF_A_FAILED_COMMIT: [(Ask, Said); 7] = [
+    (Ask::Restore(BUILD, b"abc", T, Phase::Fading(T)), Said::Yes),
+    (Ask::Stage(&[BUILD, POM]), Said::Staged(2)),
+    (Ask::Fail(true), Said::Done),
+    (Ask::Deliver, Said::NotDelivered),
+    (Ask::Counts, Said::Counts(1, 1)),
+    (Ask::Fail(false), Said::Done),
+    (Ask::Deliver, Said::Delivered(2, &[2])),
+];
 
 #[test]
 fn all_is_as_before_where_nothing_is_recorded(rt: HostRuntime) -> Result<(), Fail> {
-    let mut bench = Bench::new(rt.alloc(), true, true)?;
-    assert!(rt; bench.restore(BUILD, b"abc", T, Phase::Fading(T))?);
-    let files = staged(&mut bench, rt.alloc(), &[BUILD, POM])?;
-    bench.records.fails = true;
-    match put_all(&mut bench, &files)? {
-        PutAll::StoreFault => {}
-        _ => Err("recorded")?,
-    }
-    assert_eq!(rt; bench.repo.counts(), (1, 1));
-    bench.records.fails = false;
-    let answer = put_all(&mut bench, &files)?;
-    assert!(rt; is_done(&answer, 2, &[2]));
-    Ok(())
+    follow(
+        &rt,
+        Bench::new(rt.alloc(), true, true)?,
+        &OF_A_FAILED_COMMIT,
+    )
 }
 
 const OF_LIB: &str = "<?xml version=\"1.0\" encoding=\"UTF-8\"?>
@@ -146,34 +154,32 @@ const OF_LIB: &str = "<?xml version=\"1.0\" encoding=\"UTF-8\"?>
 </metadata>
 ";
 
+static OF_A_DOCUMENT: [(Ask, Said); 8] = [
+    (Ask::Stage(&[JAR, POM]), Said::Staged(2)),
+    (Ask::Fail(true), Said::Done),
+    (Ask::Deliver, Said::NotDelivered),
+    (Ask::Look("org/acme/lib/maven-metadata.xml"), Said::Nothing),
+    (Ask::Fail(false), Said::Done),
+    (Ask::Deliver, Said::Delivered(2, &[])),
+    (
+        Ask::Look("org/acme/lib/maven-metadata.xml"),
+        Said::Document(OF_LIB),
+    ),
+    (Ask::Look("org/acme/maven-metadata.xml"), Said::Nothing),
+];
+
 #[test]
 fn a_document_is_there_once_all_is_recorded(rt: HostRuntime) -> Result<(), Fail> {
-    let mut bench = Bench::new(rt.alloc(), true, true)?;
-    let files = staged(&mut bench, rt.alloc(), &[JAR, POM])?;
-    bench.records.fails = true;
-    match put_all(&mut bench, &files)? {
-        PutAll::StoreFault => {}
-        _ => Err("recorded")?,
-    }
-    bench.expect_nothing(&rt, "org/acme/lib/maven-metadata.xml")?;
-    bench.records.fails = false;
-    let answer = put_all(&mut bench, &files)?;
-    assert!(rt; is_done(&answer, 2, &[]));
-    bench.expect_document(&rt, "org/acme/lib/maven-metadata.xml", OF_LIB)?;
-    bench.expect_nothing(&rt, "org/acme/maven-metadata.xml")?;
-    Ok(())
+    follow(&rt, Bench::new(rt.alloc(), true, true)?, &OF_A_DOCUMENT)
 }
+
+static OF_NO_POM: [(Ask, Said); 3] = [
+    (Ask::Stage(&[JAR]), Said::Staged(1)),
+    (Ask::Deliver, Said::MissingPom("org/acme/lib/2.0")),
+    (Ask::Counts, Said::Counts(0, 0)),
+];
 
 #[test]
 fn a_release_without_its_pom_is_named(rt: HostRuntime) -> Result<(), Fail> {
-    let mut bench = Bench::new(rt.alloc(), true, true)?;
-    let files = staged(&mut bench, rt.alloc(), &[JAR])?;
-    match put_all(&mut bench, &files)? {
-        PutAll::MissingPom { dir } => {
-            assert_eq!(rt; dir.as_str().as_bytes(), "org/acme/lib/2.0".as_bytes())
-        }
-        _ => Err("deployed")?,
-    }
-    assert_eq!(rt; bench.repo.counts(), (0, 0));
-    Ok(())
+    follow(&rt, Bench::new(rt.alloc(), true, true)?, &OF_NO_POM)
 }

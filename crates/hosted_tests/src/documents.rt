@@ -1,5 +1,6 @@
 // Documents of directories, beside neighbours whose paths begin alike.
-use crate::bench::Bench;
+use crate::asks::{Ask, Said};
+use crate::bench::{Bench, follow};
 use std::test::Fail;
 
 const OF_SNAPSHOT: &str = "<?xml version=\"1.0\" encoding=\"UTF-8\"?>
@@ -43,27 +44,34 @@ const OF_ARTIFACT: &str = "<?xml version=\"1.0\" encoding=\"UTF-8\"?>
 </metadata>
 ";
 
+static BUILDS: [&str; 3] = [
+    "org/acme/lib/1.1-SNAPSHOT/lib-1.1-20240229.235959-1.jar",
+    "org/acme/lib/1.1-SNAPSHOT/lib-1.1-20240229.235959-1.pom",
+    "org/acme/lib/1.1-SNAPSHOT/lib-1.1-20240301.080000-2.pom",
+];
+
+static OF_BUILDS: [(Ask, Said); 5] = [
+    (
+        Ask::Look("org/acme/lib/1.1-SNAPSHOT/maven-metadata.xml"),
+        Said::Document(OF_SNAPSHOT),
+    ),
+    (
+        Ask::Look("org/acme/lib/maven-metadata.xml"),
+        Said::Document(OF_ARTIFACT),
+    ),
+    (Ask::Look("org/acme/maven-metadata.xml"), Said::Nothing),
+    (Ask::Look("org/maven-metadata.xml"), Said::Nothing),
+    (
+        Ask::Look("org/acme/lib/1.2-SNAPSHOT/maven-metadata.xml"),
+        Said::Nothing,
+    ),
+];
+
 #[test]
 fn builds_make_documents(rt: HostRuntime) -> Result<(), Fail> {
     let mut bench = Bench::new(rt.alloc(), false, true)?;
-    bench.fill(
-        &rt,
-        &[
-            "org/acme/lib/1.1-SNAPSHOT/lib-1.1-20240229.235959-1.jar",
-            "org/acme/lib/1.1-SNAPSHOT/lib-1.1-20240229.235959-1.pom",
-            "org/acme/lib/1.1-SNAPSHOT/lib-1.1-20240301.080000-2.pom",
-        ],
-    )?;
-    bench.expect_document(
-        &rt,
-        "org/acme/lib/1.1-SNAPSHOT/maven-metadata.xml",
-        OF_SNAPSHOT,
-    )?;
-    bench.expect_document(&rt, "org/acme/lib/maven-metadata.xml", OF_ARTIFACT)?;
-    bench.expect_nothing(&rt, "org/acme/maven-metadata.xml")?;
-    bench.expect_nothing(&rt, "org/maven-metadata.xml")?;
-    bench.expect_nothing(&rt, "org/acme/lib/1.2-SNAPSHOT/maven-metadata.xml")?;
-    Ok(())
+    bench.fill(&rt, &BUILDS)?;
+    follow(&rt, bench, &OF_BUILDS)
 }
 
 // In byte order `-` and `.` come before `/`, and digits after it.
@@ -129,20 +137,29 @@ const OF_A_B: &str = "<?xml version=\"1.0\" encoding=\"UTF-8\"?>
 </metadata>
 ";
 
+static OF_NEIGHBOURS: [(Ask, Said); 8] = [
+    (Ask::Look("g/a/maven-metadata.xml"), Said::Document(OF_A)),
+    (
+        Ask::Look("g/a/1/c/maven-metadata.xml"),
+        Said::Document(OF_C),
+    ),
+    (
+        Ask::Look("g/a-b/maven-metadata.xml"),
+        Said::Document(OF_A_B),
+    ),
+    // directories of versions, of a group, and of no row
+    (Ask::Look("g/a/1/maven-metadata.xml"), Said::Nothing),
+    (Ask::Look("g/maven-metadata.xml"), Said::Nothing),
+    (Ask::Look("g/a/1/x/maven-metadata.xml"), Said::Nothing),
+    (Ask::Look("g/c/maven-metadata.xml"), Said::Nothing),
+    (Ask::Counts, Said::Counts(11, 0)),
+];
+
 #[test]
 fn neighbours_stay_out(rt: HostRuntime) -> Result<(), Fail> {
     let mut bench = Bench::new(rt.alloc(), true, true)?;
     bench.fill(&rt, &NEIGHBOURS)?;
-    bench.expect_document(&rt, "g/a/maven-metadata.xml", OF_A)?;
-    bench.expect_document(&rt, "g/a/1/c/maven-metadata.xml", OF_C)?;
-    bench.expect_document(&rt, "g/a-b/maven-metadata.xml", OF_A_B)?;
-    // directories of versions, of a group, and of no row
-    bench.expect_nothing(&rt, "g/a/1/maven-metadata.xml")?;
-    bench.expect_nothing(&rt, "g/maven-metadata.xml")?;
-    bench.expect_nothing(&rt, "g/a/1/x/maven-metadata.xml")?;
-    bench.expect_nothing(&rt, "g/c/maven-metadata.xml")?;
-    assert_eq!(rt; bench.repo.counts(), (11, 0));
-    Ok(())
+    follow(&rt, bench, &OF_NEIGHBOURS)
 }
 
 static DEEP: [&str; 4] = [
@@ -174,29 +191,25 @@ const OF_DEEP: &str = "<?xml version=\"1.0\" encoding=\"UTF-8\"?>
 </metadata>
 ";
 
-const DEEP_SHA1: &[u8] = b"78df468bcef0f9f6bd913fbb379be90ce39c26ac";
-
-const DEEP_MD5: &[u8] = b"d5ee6c49372606166c946d312ec2efcb";
+// with SHA-1 and MD5 of that text
+static OF_DEEP_ONES: [(Ask, Said); 3] = [
+    (
+        Ask::Look("org/acme/deep/lib/2-SNAPSHOT/maven-metadata.xml"),
+        Said::Document(OF_DEEP),
+    ),
+    (
+        Ask::Look("org/acme/deep/lib/2-SNAPSHOT/maven-metadata.xml.sha1"),
+        Said::Side(b"78df468bcef0f9f6bd913fbb379be90ce39c26ac"),
+    ),
+    (
+        Ask::Look("org/acme/deep/lib/2-SNAPSHOT/maven-metadata.xml.md5"),
+        Said::Side(b"d5ee6c49372606166c946d312ec2efcb"),
+    ),
+];
 
 #[test]
 fn deeper_directories_stay_out(rt: HostRuntime) -> Result<(), Fail> {
     let mut bench = Bench::new(rt.alloc(), true, true)?;
     bench.fill(&rt, &DEEP)?;
-    bench.expect_document(
-        &rt,
-        "org/acme/deep/lib/2-SNAPSHOT/maven-metadata.xml",
-        OF_DEEP,
-    )?;
-    // SHA-1 and MD5 of that text
-    bench.expect_side(
-        &rt,
-        "org/acme/deep/lib/2-SNAPSHOT/maven-metadata.xml.sha1",
-        DEEP_SHA1,
-    )?;
-    bench.expect_side(
-        &rt,
-        "org/acme/deep/lib/2-SNAPSHOT/maven-metadata.xml.md5",
-        DEEP_MD5,
-    )?;
-    Ok(())
+    follow(&rt, bench, &OF_DEEP_ONES)
 }

@@ -1,7 +1,7 @@
 // Documents of artifacts whose rows came, went and came again: they are found wherever a visible row is.
-use crate::bench::{Bench, Did};
+use crate::asks::{Ask, Said};
+use crate::bench::{Bench, follow};
 use hosted_repo::Phase;
-use std::process::Abort;
 use std::test::Fail;
 
 const JAR: &str = "org/acme/lib/1.0/lib-1.0.jar";
@@ -66,79 +66,96 @@ const OF_BUILD_2: &str = "<?xml version=\"1.0\" encoding=\"UTF-8\"?>
 </metadata>
 ";
 
-// The directories above the artifact's have no document.
-fn expect_none_above(rt: &impl Abort, bench: &Bench) -> Result<(), Fail> {
-    bench.expect_nothing(rt, "org/acme/maven-metadata.xml")?;
-    bench.expect_nothing(rt, "org/maven-metadata.xml")?;
-    Ok(())
-}
+// The directories above the artifact's.
+const ABOVE: &str = "org/acme/maven-metadata.xml";
+
+const TOP: &str = "org/maven-metadata.xml";
+
+static OF_FAILED_PUTS: [(Ask, Said); 11] = [
+    (Ask::Fail(true), Said::Done),
+    (Ask::Put(JAR, b"abc", 1_000), Said::NotPut(1)),
+    (Ask::Look(OF_LIB), Said::Nothing),
+    (Ask::Fail(false), Said::Done),
+    (Ask::Put(JAR, b"abc", 1_010), Said::Created),
+    (Ask::Look(OF_LIB), Said::Document(WITH_RELEASE)),
+    (Ask::Fail(true), Said::Done),
+    (
+        Ask::Put("org/acme/lib/2.0/lib-2.0.jar", b"abc", 1_020),
+        Said::NotPut(3),
+    ),
+    (Ask::Look(OF_LIB), Said::Document(WITH_RELEASE)),
+    (Ask::Look(ABOVE), Said::Nothing),
+    (Ask::Look(TOP), Said::Nothing),
+];
 
 #[test]
 fn a_failed_put_hides_no_document(rt: HostRuntime) -> Result<(), Fail> {
-    let mut bench = Bench::new(rt.alloc(), true, false)?;
-    bench.records.fails = true;
-    assert_eq!(rt; bench.put_at(JAR, 1_000)?, Did::StoreFault(1));
-    bench.expect_nothing(&rt, OF_LIB)?;
-    bench.records.fails = false;
-    assert_eq!(rt; bench.put_at(JAR, 1_010)?, Did::Created);
-    bench.expect_document(&rt, OF_LIB, WITH_RELEASE)?;
-    bench.records.fails = true;
-    assert_eq!(rt;
-        bench.put_at("org/acme/lib/2.0/lib-2.0.jar", 1_020)?,
-        Did::StoreFault(3)
-    );
-    bench.expect_document(&rt, OF_LIB, WITH_RELEASE)?;
-    expect_none_above(&rt, &bench)?;
-    Ok(())
+    follow(&rt, Bench::new(rt.alloc(), true, false)?, &OF_FAILED_PUTS)
 }
+
+static OF_A_START: [(Ask, Said); 5] = [
+    (
+        Ask::Restore(BUILD_2, b"abc", 1_010, Phase::Listed),
+        Said::Yes,
+    ),
+    (Ask::Look(OF_BUILDS), Said::Document(OF_BUILD_2)),
+    (Ask::Look(OF_LIB), Said::Document(WITH_SNAPSHOT)),
+    (Ask::Look(ABOVE), Said::Nothing),
+    (Ask::Look(TOP), Said::Nothing),
+];
 
 #[test]
 fn documents_are_there_behind_a_start(rt: HostRuntime) -> Result<(), Fail> {
-    let mut bench = Bench::kept(rt.alloc(), 1, 0)?;
-    assert!(rt; bench.restore(BUILD_2, b"abc", 1_010, Phase::Listed)?);
-    bench.expect_document(&rt, OF_BUILDS, OF_BUILD_2)?;
-    bench.expect_document(&rt, OF_LIB, WITH_SNAPSHOT)?;
-    expect_none_above(&rt, &bench)?;
-    Ok(())
+    follow(&rt, Bench::kept(rt.alloc(), 1, 0)?, &OF_A_START)
 }
+
+static OF_A_ROW_AGAIN: [(Ask, Said); 6] = [
+    (
+        Ask::Restore(BUILD_2, b"abc", 1_000, Phase::Fading(2_000)),
+        Said::Yes,
+    ),
+    (Ask::Look(OF_BUILDS), Said::Nothing),
+    (Ask::Look(OF_LIB), Said::Nothing),
+    (Ask::Put(BUILD_2, b"abc", 1_010), Said::Relisted(2)),
+    (Ask::Look(OF_BUILDS), Said::Document(OF_BUILD_2)),
+    (Ask::Look(OF_LIB), Said::Document(WITH_SNAPSHOT)),
+];
 
 #[test]
 fn a_row_that_is_visible_again_makes_a_document(rt: HostRuntime) -> Result<(), Fail> {
-    let mut bench = Bench::kept(rt.alloc(), 1, 0)?;
-    assert!(rt; bench.restore(BUILD_2, b"abc", 1_000, Phase::Fading(2_000))?);
-    bench.expect_nothing(&rt, OF_BUILDS)?;
-    bench.expect_nothing(&rt, OF_LIB)?;
-    assert_eq!(rt; bench.put_at(BUILD_2, 1_010)?, Did::Relisted(2));
-    bench.expect_document(&rt, OF_BUILDS, OF_BUILD_2)?;
-    bench.expect_document(&rt, OF_LIB, WITH_SNAPSHOT)?;
-    Ok(())
+    follow(&rt, Bench::kept(rt.alloc(), 1, 0)?, &OF_A_ROW_AGAIN)
 }
+
+static OF_ONE_ROW_OF_TWO: [(Ask, Said); 9] = [
+    (Ask::Put(BUILD_1, b"abc", 1_000), Said::Created),
+    (Ask::Put(BUILD_2, b"abc", 1_010), Said::Created),
+    (Ask::Unlist(2_000), Said::Unlisted(1)),
+    (Ask::Expire(2_061, 1), Said::Done),
+    (Ask::Counts, Said::Counts(1, 0)),
+    (Ask::Look(OF_BUILDS), Said::Document(OF_BUILD_2)),
+    (Ask::Look(OF_LIB), Said::Document(WITH_SNAPSHOT)),
+    (Ask::Look(ABOVE), Said::Nothing),
+    (Ask::Look(TOP), Said::Nothing),
+];
 
 #[test]
 fn one_of_two_rows_goes(rt: HostRuntime) -> Result<(), Fail> {
-    let mut bench = Bench::kept(rt.alloc(), 1, 0)?;
-    assert_eq!(rt; bench.put_at(BUILD_1, 1_000)?, Did::Created);
-    assert_eq!(rt; bench.put_at(BUILD_2, 1_010)?, Did::Created);
-    assert_eq!(rt; bench.unlist(2_000)?, 1);
-    bench.repo.drop_expired(60, 2_061, 1);
-    assert_eq!(rt; bench.repo.counts(), (1, 0));
-    bench.expect_document(&rt, OF_BUILDS, OF_BUILD_2)?;
-    bench.expect_document(&rt, OF_LIB, WITH_SNAPSHOT)?;
-    expect_none_above(&rt, &bench)?;
-    Ok(())
+    follow(&rt, Bench::kept(rt.alloc(), 1, 0)?, &OF_ONE_ROW_OF_TWO)
 }
+
+static OF_THE_LAST_ROW: [(Ask, Said); 9] = [
+    (Ask::Put(BUILD_2, b"abc", 1_000), Said::Created),
+    (Ask::Unlist(2_000), Said::Unlisted(1)),
+    (Ask::Expire(2_061, 1), Said::Done),
+    (Ask::Counts, Said::Counts(0, 0)),
+    (Ask::Look(OF_BUILDS), Said::Nothing),
+    (Ask::Look(OF_LIB), Said::Nothing),
+    (Ask::Put(BUILD_2, b"abc", 1_010), Said::Created),
+    (Ask::Look(OF_BUILDS), Said::Document(OF_BUILD_2)),
+    (Ask::Look(OF_LIB), Said::Document(WITH_SNAPSHOT)),
+];
 
 #[test]
 fn the_last_row_goes_and_comes_again(rt: HostRuntime) -> Result<(), Fail> {
-    let mut bench = Bench::kept(rt.alloc(), 0, 0)?;
-    assert_eq!(rt; bench.put_at(BUILD_2, 1_000)?, Did::Created);
-    assert_eq!(rt; bench.unlist(2_000)?, 1);
-    bench.repo.drop_expired(60, 2_061, 1);
-    assert_eq!(rt; bench.repo.counts(), (0, 0));
-    bench.expect_nothing(&rt, OF_BUILDS)?;
-    bench.expect_nothing(&rt, OF_LIB)?;
-    assert_eq!(rt; bench.put_at(BUILD_2, 1_010)?, Did::Created);
-    bench.expect_document(&rt, OF_BUILDS, OF_BUILD_2)?;
-    bench.expect_document(&rt, OF_LIB, WITH_SNAPSHOT)?;
-    Ok(())
+    follow(&rt, Bench::kept(rt.alloc(), 0, 0)?, &OF_THE_LAST_ROW)
 }
