@@ -1,12 +1,11 @@
 // Deployment sessions beside files that came from outside while they were open.
-use crate::exchanges::{EXCHANGE, Exchange};
-use crate::literals::{ABC, CREATED, NOT_THERE, PUT_JAR_1, PUT_JAR_2};
 use crate::sessions::{
-    ABORT, ABORTED, COMMIT, DONE_2, GET_JAR, GET_STATUS, OPEN, SESSION_1, STAGE_JAR, STAGE_POM,
-    STAGE_SNAPSHOT, STAGED,
+    ABORT, ABORTED, COMMIT, DONE_2, GET_JAR, STAGE_JAR, STAGE_POM, STAGE_SNAPSHOT,
 };
-
-const CLEAN: &str = "POST /api/clean HTTP/1.1\r\nHost: x\r\n\r\n";
+use run_worlds::exchanges::{EXCHANGE, Exchange};
+use run_worlds::literals::{
+    ABC, CLEAN, CREATED, GET_STATUS, NOT_THERE, OPEN, PUT_JAR_1, PUT_JAR_2, SESSION_1, STAGED,
+};
 
 const DONE_1: &str =
     "HTTP/1.1 200 OK\r\nContent-Type: text/plain\r\nContent-Length: 7\r\n\r\ndone 1\n";

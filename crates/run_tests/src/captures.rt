@@ -1,6 +1,6 @@
 // What a build client sent when it deployed, byte for byte: Maven 3.8.7 over its Wagon, captured on a connection each. The
 // client waits for `100 Continue` before each body; here all bytes come unasked.
-use crate::literals::INTERIM;
+use run_worlds::literals::INTERIM;
 use std::alloc::{AllocError, Global};
 
 /// A request of a capture.

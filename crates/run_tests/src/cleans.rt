@@ -1,8 +1,7 @@
 // Cleanings: what a repository does not keep is unlisted, and goes once the grace period is over.
-use crate::exchanges::{EXCHANGE, Exchange, PLAIN, Script};
-use crate::literals::{
-    ABC, CREATED, GET, METHOD_AT_HOSTED, METHOD_AT_STATUS, NO_ROUTE, NOT_THERE, PUT_ABC, PUT_JAR_1,
-    PUT_JAR_2, SAME,
+use run_worlds::exchanges::{EXCHANGE, Exchange, PLAIN, Script};
+use run_worlds::literals::{
+    ABC, CLEAN, CREATED, GET, GET_STATUS, NOT_THERE, PUT_ABC, PUT_JAR_1, PUT_JAR_2, SAME,
 };
 
 const GET_JAR_1: &str =
@@ -10,10 +9,6 @@ const GET_JAR_1: &str =
 
 const GET_JAR_2: &str =
     "GET /repository/snapshots/org/acme/lib/1.1-SNAPSHOT/lib-1.1-20240301.080000-2.jar HTTP/1.1\r\nHost: x\r\n\r\n";
-
-const GET_STATUS: &str = "GET /api/status HTTP/1.1\r\nHost: x\r\n\r\n";
-
-const CLEAN: &str = "POST /api/clean HTTP/1.1\r\nHost: x\r\n\r\n";
 
 const UNLISTED_AND_REMOVED: &str =
     "HTTP/1.1 200 OK\r\nContent-Type: text/plain\r\nContent-Length: 21\r\n\r\nunlisted 1\nremoved 1\n";
@@ -38,15 +33,6 @@ const ONE_LEFT: &str =
 
 const BLOB_FAULT: &str =
     "HTTP/1.1 503 Service Unavailable\r\nContent-Type: text/plain\r\nContent-Length: 11\r\n\r\nblob-fault\n";
-
-const METHOD_AT_CLEAN: &str =
-    "HTTP/1.1 405 Method Not Allowed\r\nContent-Type: text/plain\r\nContent-Length: 7\r\nAllow: POST\r\n\r\nmethod\n";
-
-const METHOD_AT_CLEAN_OF_HEAD: &str =
-    "HTTP/1.1 405 Method Not Allowed\r\nContent-Type: text/plain\r\nContent-Length: 7\r\nAllow: POST\r\n\r\n";
-
-const UNEXPECTED_BODY_LAST: &str =
-    "HTTP/1.1 400 Bad Request\r\nContent-Type: text/plain\r\nContent-Length: 16\r\nConnection: close\r\n\r\nunexpected-body\n";
 
 /// A clock that steps by 61 seconds, one more than the grace period.
 const BY_61: Exchange = Exchange {
@@ -76,7 +62,7 @@ const BY_60: Exchange = Exchange {
     ..EXCHANGE
 };
 
-static CLEANS: [Exchange; 11] = [
+static CLEANS: [Exchange; 8] = [
     Exchange {
         name: "an old build goes once the grace period is over",
         input: &[(1, PUT_JAR_1), (1, PUT_JAR_2), (1, CLEAN)],
@@ -177,56 +163,6 @@ static CLEANS: [Exchange; 11] = [
         input: &[(1, "POST /api/clean HTTP/1.0\r\n\r\n"), (1, CLEAN)],
         answers: &[(1, NOTHING_LAST)],
         line: "calls 3 end Closed\n",
-        ..EXCHANGE
-    },
-    Exchange {
-        name: "a clean is a POST",
-        input: &[
-            (1, "GET /api/clean HTTP/1.1\r\nHost: x\r\n\r\n"),
-            (1, "HEAD /api/clean HTTP/1.1\r\nHost: x\r\n\r\n"),
-            (
-                1,
-                "PUT /api/clean HTTP/1.1\r\nHost: x\r\nContent-Length: 0\r\n\r\n",
-            ),
-            (1, "DELETE /api/clean HTTP/1.1\r\nHost: x\r\n\r\n"),
-        ],
-        answers: &[
-            (1, METHOD_AT_CLEAN),
-            (1, METHOD_AT_CLEAN_OF_HEAD),
-            (2, METHOD_AT_CLEAN),
-        ],
-        line: "calls 0 end Closed\n",
-        ..EXCHANGE
-    },
-    Exchange {
-        name: "a clean has no body",
-        input: &[
-            (
-                1,
-                "POST /api/clean HTTP/1.1\r\nHost: x\r\nContent-Length: 3\r\n\r\nabc",
-            ),
-            (1, CLEAN),
-        ],
-        answers: &[(1, UNEXPECTED_BODY_LAST)],
-        line: "calls 0 end Closed\n",
-        ..EXCHANGE
-    },
-    Exchange {
-        name: "a POST is no method of other paths",
-        input: &[
-            (1, "POST /api/status HTTP/1.1\r\nHost: x\r\n\r\n"),
-            (
-                1,
-                "POST /repository/releases/org/acme/lib/1.0/lib-1.0.jar HTTP/1.1\r\nHost: x\r\n\r\n",
-            ),
-            (1, "POST /api/clean/ HTTP/1.1\r\nHost: x\r\n\r\n"),
-            (
-                1,
-                "POST /api/sessions/1/commit/ HTTP/1.1\r\nHost: x\r\n\r\n",
-            ),
-        ],
-        answers: &[(1, METHOD_AT_STATUS), (1, METHOD_AT_HOSTED), (2, NO_ROUTE)],
-        line: "calls 0 end Closed\n",
         ..EXCHANGE
     },
 ];

@@ -1,9 +1,6 @@
 // What is left in the core where something fails.
 ghost use Rattle.std.specs.Prelude.{◌≡◌, IfOk};
 
-use crate::exchanges::{PLAIN, Parts, SETTINGS, Script};
-use crate::literals::{GET_LAST, PUT_ABC};
-use crate::runs::{desk_of, joined};
 use outside_memory::{FaultScript, MemBlobs, MemHeld, ScriptClock};
 use repo_config::{Settings, read};
 use repo_core::{Core, start};
@@ -11,6 +8,9 @@ use repo_course::End;
 use repo_model::{Command, Reply};
 use repo_run::serve_first;
 use row_tables::MemRecords;
+use run_worlds::exchanges::{PLAIN, Parts, SETTINGS, Script};
+use run_worlds::literals::{GET_LAST, PUT_ABC};
+use run_worlds::runs::{desk_of, joined};
 use std::alloc::{AllocError, Global};
 use std::test::Fail;
 use texts::Text;

@@ -1,6 +1,6 @@
 // The deploy of a release: a jar, its pom, two more jars and a signature, their side files, and the document of the artifact.
 use crate::captures::{Deploy, Sent};
-use crate::literals::{AGREED, CREATED, NOTED};
+use run_worlds::literals::{AGREED, CREATED, NOTED};
 
 /// The computed document of the artifact, once its files are there.
 const DOCUMENT: &str =

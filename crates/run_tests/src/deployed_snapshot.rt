@@ -1,6 +1,6 @@
 // The deploy of a snapshot: a jar, its pom and its sources, their side files, and the documents of the build and of the artifact.
 use crate::captures::{Deploy, Sent};
-use crate::literals::{AGREED, CREATED, NOT_THERE, NOTED};
+use run_worlds::literals::{AGREED, CREATED, NOT_THERE, NOTED};
 
 /// The computed document of the artifact, once its files are there.
 const DOCUMENT: &str =

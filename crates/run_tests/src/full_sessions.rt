@@ -1,11 +1,10 @@
 // A session with as many files as it may have. It is filled on several connections, since one has a thousand requests.
 use crate::cores::{MemCore, opened, settings};
-use crate::exchanges::{PLAIN, Parts};
-use crate::literals::SAME;
-use crate::runs::{desk_of, joined};
-use crate::sessions::{OPEN, SESSION_1, STAGED};
 use repo_course::End;
 use repo_run::serve_first;
+use run_worlds::exchanges::{PLAIN, Parts};
+use run_worlds::literals::{GET_STATUS, OPEN, SAME, SESSION_1, STAGED};
+use run_worlds::runs::{desk_of, joined};
 use std::alloc::Global;
 use std::test::Fail;
 
@@ -19,8 +18,6 @@ const STAGE_1001_WITH_A_BODY: &str =
     "PUT /api/sessions/1/files/g/a/1001/a-1001.pom HTTP/1.1\r\nHost: x\r\nContent-Length: 3\r\n\r\nabc";
 
 const COMMIT: &str = "POST /api/sessions/1/commit HTTP/1.1\r\nHost: x\r\n\r\n";
-
-const GET_STATUS: &str = "GET /api/status HTTP/1.1\r\nHost: x\r\n\r\n";
 
 const SESSION_FULL: &str =
     "HTTP/1.1 429 Too Many Requests\r\nContent-Type: text/plain\r\nContent-Length: 13\r\n\r\nsession-full\n";

@@ -9,29 +9,15 @@ mod captures;
 #[cfg(test)]
 mod cleans;
 #[cfg(test)]
-mod connections;
-#[cfg(test)]
-mod continued;
-#[cfg(test)]
 mod cores;
 #[cfg(test)]
 mod deployed_release;
 #[cfg(test)]
 mod deployed_snapshot;
 #[cfg(test)]
-mod exchanges;
-#[cfg(test)]
-mod framing;
+mod files;
 #[cfg(test)]
 mod full_sessions;
-#[cfg(test)]
-mod judged;
-#[cfg(test)]
-mod lengths;
-#[cfg(test)]
-mod literals;
-#[cfg(test)]
-mod paths;
 #[cfg(test)]
 mod runs;
 #[cfg(test)]

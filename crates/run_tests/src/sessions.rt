@@ -1,12 +1,11 @@
 // Deployment sessions: files are staged, and deployed at once or given up.
-use crate::exchanges::{EXCHANGE, Exchange};
-use crate::literals::{
-    ABC, AGREED, CREATED, INTERIM, KIND_REFUSED_LAST, NOT_THERE, NOTED, PUT_ABC, SAME,
+use run_worlds::exchanges::{EXCHANGE, Exchange};
+use run_worlds::literals::{
+    ABC, AGREED, CREATED, GET_STATUS, INTERIM, KIND_REFUSED_LAST, NOT_THERE, NOTED, OPEN, PUT_ABC,
+    SAME, SESSION_1, STAGED,
 };
 use std::alloc::Global;
 use std::test::Fail;
-
-pub const OPEN: &str = "POST /api/repositories/releases/sessions HTTP/1.1\r\nHost: x\r\n\r\n";
 
 pub const STAGE_JAR: &str =
     "PUT /api/sessions/1/files/org/acme/lib/2.0/lib-2.0.jar HTTP/1.1\r\nHost: x\r\nContent-Length: 3\r\n\r\nabc";
@@ -62,8 +61,6 @@ const STAGE_EXPECTING: &str =
 const STAGE_TORN: &str =
     "PUT /api/sessions/1/files/org/acme/lib/2.0/lib-2.0.jar HTTP/1.1\r\nHost: x\r\nContent-Length: 5\r\n\r\nabc";
 
-pub const GET_STATUS: &str = "GET /api/status HTTP/1.1\r\nHost: x\r\n\r\n";
-
 const STAGE_IN_999: &str =
     "PUT /api/sessions/999/files/org/acme/lib/2.0/lib-2.0.jar HTTP/1.1\r\nHost: x\r\nContent-Length: 3\r\n\r\nabc";
 
@@ -79,20 +76,8 @@ const ABORT_999: &str = "POST /api/sessions/999/abort HTTP/1.1\r\nHost: x\r\n\r\
 
 const COMMIT_0: &str = "POST /api/sessions/0/commit HTTP/1.1\r\nHost: x\r\n\r\n";
 
-const READ: &str =
-    "GET /api/sessions/1/files/org/acme/lib/2.0/lib-2.0.jar HTTP/1.1\r\nHost: x\r\n\r\n";
-
-const READ_HEAD: &str =
-    "HEAD /api/sessions/1/files/org/acme/lib/2.0/lib-2.0.jar HTTP/1.1\r\nHost: x\r\n\r\n";
-
-pub const SESSION_1: &str =
-    "HTTP/1.1 201 Created\r\nContent-Type: text/plain\r\nContent-Length: 10\r\n\r\nsession 1\n";
-
 const SESSION_2: &str =
     "HTTP/1.1 201 Created\r\nContent-Type: text/plain\r\nContent-Length: 10\r\n\r\nsession 2\n";
-
-pub const STAGED: &str =
-    "HTTP/1.1 201 Created\r\nContent-Type: text/plain\r\nContent-Length: 7\r\n\r\nstaged\n";
 
 const OFFENDS: &str =
     "HTTP/1.1 409 Conflict\r\nContent-Type: text/plain\r\nContent-Length: 199\r\n\r\noffends org/acme/lib/1.0/lib-1.0.jar kept 3 a9993e364706816aba3e25717850c26c9cd0d89d 900150983cd24fb0d6963f7d28e17f72 sent 0 da39a3ee5e6b4b0d3255bfef95601890afd80709 d41d8cd98f00b204e9800998ecf8427e\n";
@@ -118,19 +103,13 @@ const NO_SESSION: &str =
 const NO_SESSION_LAST: &str =
     "HTTP/1.1 404 Not Found\r\nContent-Type: text/plain\r\nContent-Length: 11\r\nConnection: close\r\n\r\nno-session\n";
 
-const UNREAD: &str =
-    "HTTP/1.1 404 Not Found\r\nContent-Type: text/plain\r\nContent-Length: 7\r\n\r\nunread\n";
-
-const UNREAD_HEAD: &str =
-    "HTTP/1.1 404 Not Found\r\nContent-Type: text/plain\r\nContent-Length: 7\r\n\r\n";
-
 const SESSIONS_FULL: &str =
     "HTTP/1.1 429 Too Many Requests\r\nContent-Type: text/plain\r\nContent-Length: 14\r\n\r\nsessions-full\n";
 
 const ONE_SESSION: &str =
     "HTTP/1.1 200 OK\r\nContent-Type: text/plain\r\nContent-Length: 49\r\n\r\nfiles 0\nfading 0\ncached 0\ndocuments 0\nsessions 1\n";
 
-static SESSIONS: [Exchange; 11] = [
+static SESSIONS: [Exchange; 10] = [
     Exchange {
         name: "a session that offends is given up, and the next is deployed",
         input: &[
@@ -270,13 +249,6 @@ static SESSIONS: [Exchange; 11] = [
         ],
         answers: &[(5, NO_SESSION), (1, NO_SESSION_LAST)],
         line: "calls 5 end Closed\n",
-        ..EXCHANGE
-    },
-    Exchange {
-        name: "the files of a session are not read",
-        input: &[(1, READ), (1, READ_HEAD)],
-        answers: &[(1, UNREAD), (1, UNREAD_HEAD)],
-        line: "calls 0 end Closed\n",
         ..EXCHANGE
     },
 ];

@@ -1,6 +1,6 @@
 // Side files.
-use crate::exchanges::{EXCHANGE, Exchange};
-use crate::literals::{AGREED, CREATED, GET, NOT_THERE, PUT_ABC, SIDE_TEXT};
+use run_worlds::exchanges::{EXCHANGE, Exchange};
+use run_worlds::literals::{AGREED, CREATED, GET, NOT_THERE, PUT_ABC, SIDE_TEXT};
 
 static SIDES: [Exchange; 5] = [
     Exchange {

@@ -1,6 +1,6 @@
 // Snapshots and documents.
-use crate::exchanges::{EXCHANGE, Exchange};
-use crate::literals::{
+use run_worlds::exchanges::{EXCHANGE, Exchange};
+use run_worlds::literals::{
     AGREED, CREATED, DOCUMENT_10, GET, KIND_REFUSED_LAST, NOT_THERE, NOTED, PUT_ABC, PUT_JAR_1,
     PUT_POM_1, PUT_POM_2, SIDE_TEXT,
 };

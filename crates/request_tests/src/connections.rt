@@ -1,6 +1,6 @@
 // Heads, and what ends a connection.
-use crate::exchanges::{EXCHANGE, Exchange};
-use crate::literals::{GET, HEAD_TOO_LONG, KIND_REFUSED_LAST, METHOD_AT_HOSTED, NOT_THERE};
+use run_worlds::exchanges::{EXCHANGE, Exchange};
+use run_worlds::literals::{GET, HEAD_TOO_LONG, KIND_REFUSED_LAST, METHOD_AT_HOSTED, NOT_THERE};
 
 static CONNECTIONS: [Exchange; 9] = [
     Exchange {

@@ -1,6 +1,6 @@
 // Routes, methods and hosts.
-use crate::exchanges::{EXCHANGE, Exchange};
-use crate::literals::{
+use run_worlds::exchanges::{EXCHANGE, Exchange};
+use run_worlds::literals::{
     ABC_LAST, BAD_HOST, CREATED, GET, METHOD_AT_HOSTED, METHOD_AT_STATUS, NO_REPOSITORY, NO_ROUTE,
     NOT_THERE, PUT_ABC,
 };

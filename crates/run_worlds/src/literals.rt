@@ -1,4 +1,4 @@
-// Requests and answers that stand in several exchanges, byte for byte.
+//! Requests and answers that stand in several exchanges, byte for byte.
 
 pub const PUT_ABC: &str =
     "PUT /repository/releases/org/acme/lib/1.0/lib-1.0.jar HTTP/1.1\r\nHost: x\r\nContent-Length: 3\r\n\r\nabc";
@@ -85,3 +85,15 @@ pub const PUT_POM_2: &str =
 
 pub const HEAD_TOO_LONG: &str =
     "HTTP/1.1 431 Request Header Fields Too Large\r\nContent-Type: text/plain\r\nContent-Length: 14\r\nConnection: close\r\n\r\nhead-too-long\n";
+
+pub const OPEN: &str = "POST /api/repositories/releases/sessions HTTP/1.1\r\nHost: x\r\n\r\n";
+
+pub const GET_STATUS: &str = "GET /api/status HTTP/1.1\r\nHost: x\r\n\r\n";
+
+pub const SESSION_1: &str =
+    "HTTP/1.1 201 Created\r\nContent-Type: text/plain\r\nContent-Length: 10\r\n\r\nsession 1\n";
+
+pub const STAGED: &str =
+    "HTTP/1.1 201 Created\r\nContent-Type: text/plain\r\nContent-Length: 7\r\n\r\nstaged\n";
+
+pub const CLEAN: &str = "POST /api/clean HTTP/1.1\r\nHost: x\r\n\r\n";

@@ -1,6 +1,6 @@
 // The longest document.
-use crate::exchanges::{EXCHANGE, Exchange, Pieces};
-use crate::literals::NOTED;
+use run_worlds::exchanges::{EXCHANGE, Exchange, Pieces};
+use run_worlds::literals::NOTED;
 
 static LENGTHS: [Exchange; 1] = [Exchange {
     name: "a document has at most 1,048,576 bytes",

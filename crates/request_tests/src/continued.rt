@@ -1,6 +1,6 @@
 // Bodies that are asked for.
-use crate::exchanges::{EXCHANGE, Exchange};
-use crate::literals::{
+use run_worlds::exchanges::{EXCHANGE, Exchange};
+use run_worlds::literals::{
     ABC_LAST, AGREED, CREATED, GET_LAST, INTERIM, KIND_REFUSED_LAST, NOT_NAMED_LAST, NOTED, PUT_ABC,
 };
 

@@ -1,6 +1,6 @@
 // Lengths of bodies.
-use crate::exchanges::{EXCHANGE, Exchange};
-use crate::literals::{BAD_LENGTH, CREATED, GET, NO_LENGTH, NOT_THERE, TOO_LARGE};
+use run_worlds::exchanges::{EXCHANGE, Exchange};
+use run_worlds::literals::{BAD_LENGTH, CREATED, GET, NO_LENGTH, NOT_THERE, TOO_LARGE};
 
 static FRAMING: [Exchange; 9] = [
     Exchange {

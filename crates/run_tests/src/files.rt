@@ -1,9 +1,6 @@
-// The worked exchanges: what comes in, and what has to be answered.
-use crate::literals::{ABC, ABC_LAST, CREATED, GET, GET_LAST, NOT_THERE, PUT_ABC, SAME};
-
-/// The settings of the exchanges.
-pub const SETTINGS: &str =
-    "grace_seconds = 60\n[[hosted]]\nid = \"releases\"\nreleases = true\nsnapshots = false\n[[hosted]]\nid = \"snapshots\"\nreleases = false\nsnapshots = true\nkeep_count = 1\nkeep_days = 0\n[[proxy]]\nid = \"central\"\nhost = \"repo.test\"\nport = 8080\nprefix = \"/m2\"\nupdate = \"daily\"\nnegative_seconds = 300\n[[group]]\nid = \"public\"\nmembers = [\"releases\", \"snapshots\", \"central\"]\n";
+// Files that are put and got, ends of runs, and what is told of failures.
+use run_worlds::exchanges::{EXCHANGE, Exchange, PLAIN, Pieces, Script};
+use run_worlds::literals::{ABC, ABC_LAST, CREATED, GET, GET_LAST, NOT_THERE, PUT_ABC, SAME};
 
 const PUT_NOTHING: &str =
     "PUT /repository/releases/org/acme/lib/1.0/lib-1.0.jar HTTP/1.1\r\nHost: x\r\nContent-Length: 0\r\n\r\n";
@@ -13,12 +10,6 @@ const PUT_LONG: &str =
 
 const PUT_TORN: &str =
     "PUT /repository/releases/org/acme/lib/1.0/lib-1.0.jar HTTP/1.1\r\nHost: x\r\nContent-Length: 5\r\n\r\nabc";
-
-const PUT_OTHER_NAME: &str =
-    "PUT /repository/releases/org/acme/lib/1.0/other-1.0.jar HTTP/1.1\r\nHost: x\r\nContent-Length: 3\r\n\r\nabc";
-
-const DELETE: &str =
-    "DELETE /repository/releases/org/acme/lib/1.0/lib-1.0.jar HTTP/1.1\r\nHost: x\r\n\r\n";
 
 const LONG_HEAD: &str =
     "HTTP/1.1 200 OK\r\nContent-Type: application/octet-stream\r\nContent-Length: 70000\r\nX-Checksum-SHA1: 49dc0e9304ca87f2151de32f6c5291bf09c5e652\r\nX-Checksum-MD5: 0b21388e04a856f824a29c58d71c8d40\r\n\r\n";
@@ -32,85 +23,8 @@ const TAKEN: &str =
 const NOT_THERE_LAST: &str =
     "HTTP/1.1 404 Not Found\r\nContent-Type: text/plain\r\nContent-Length: 10\r\nConnection: close\r\n\r\nnot-there\n";
 
-const BAD_HEAD: &str =
-    "HTTP/1.1 400 Bad Request\r\nContent-Type: text/plain\r\nContent-Length: 9\r\nConnection: close\r\n\r\nbad-head\n";
-
 const BLOB_FAULT: &str =
     "HTTP/1.1 503 Service Unavailable\r\nContent-Type: text/plain\r\nContent-Length: 11\r\n\r\nblob-fault\n";
-
-/// Texts one after another, each so many times.
-pub type Parts = &'static [(usize, &'static str)];
-
-/// Which call of each object fails, if one does, and the room of both sinks.
-#[derive(Clone, Copy)]
-pub struct Script {
-    pub settings: Option<u64>,
-    pub port: Option<u64>,
-    pub reads: Option<u64>,
-    pub blobs: Option<u64>,
-    pub room: usize,
-    pub line_room: usize,
-}
-
-/// Nothing fails.
-pub const PLAIN: Script = Script {
-    settings: None,
-    port: None,
-    reads: None,
-    blobs: None,
-    room: 500_000,
-    line_room: 100,
-};
-
-/// The pieces that an input comes in.
-#[derive(Clone, Copy)]
-pub enum Pieces {
-    WholeAndBytes,
-    Blocks,
-    Bytes,
-}
-
-impl Pieces {
-    /// The greatest pieces, by runs.
-    pub fn most(self) -> &'static [usize] {
-        match self {
-            Pieces::WholeAndBytes => &[1_000_000, 1],
-            Pieces::Blocks => &[4096],
-            Pieces::Bytes => &[1],
-        }
-    }
-}
-
-/// A run of the program: its words, its settings, its input and the pieces that it comes in, and what the run has to write and
-/// to give.
-#[derive(Clone, Copy)]
-pub struct Exchange {
-    pub name: &'static str,
-    pub words: &'static [&'static str],
-    pub settings: &'static str,
-    /// The seconds between two moments of the clock.
-    pub step: u64,
-    pub input: Parts,
-    pub pieces: Pieces,
-    pub script: Script,
-    pub answers: Parts,
-    pub line: &'static str,
-    pub status: u8,
-}
-
-/// A replay of nothing.
-pub const EXCHANGE: Exchange = Exchange {
-    name: "nothing comes",
-    words: &["replay", "settings.toml", "--at", "1709208000"],
-    settings: SETTINGS,
-    step: 0,
-    input: &[],
-    pieces: Pieces::WholeAndBytes,
-    script: PLAIN,
-    answers: &[],
-    line: "calls 0 end Closed\n",
-    status: 0,
-};
 
 // Want of memory may be answered anywhere by proof, so these also say that it is not.
 static FILES: [Exchange; 4] = [

@@ -1,6 +1,6 @@
 // Targets and paths.
-use crate::exchanges::{EXCHANGE, Exchange};
-use crate::literals::{ABC, BAD_SEGMENT, CREATED, GET, NO_ROUTE, NOT_NAMED_LAST, PUT_ABC};
+use run_worlds::exchanges::{EXCHANGE, Exchange};
+use run_worlds::literals::{ABC, BAD_SEGMENT, CREATED, GET, NO_ROUTE, NOT_NAMED_LAST, PUT_ABC};
 
 static PATHS: [Exchange; 4] = [
     Exchange {

@@ -1,0 +1,6 @@
+//! What tests of `repo_run` share: runs of the program over memory, as plain values.
+#![tactic(auto)]
+
+pub mod exchanges;
+pub mod literals;
+pub mod runs;
