@@ -97,6 +97,7 @@ const REFUSED: &str = "
     check s.toml => refused
     check s.toml data more => refused
     check s.toml data --at 1 => refused
+    clean => refused
     clean s.toml => refused
     clean s.toml data more => refused
     serve s.toml data => refused

@@ -98,7 +98,7 @@ pub fn thousandths() -> &'static [Exchange] {
     &THOUSANDTHS
 }
 
-static ENDINGS: [Exchange; 7] = [
+static ENDINGS: [Exchange; 8] = [
     Exchange {
         name: "a PUT that closes",
         input: &[
@@ -174,6 +174,18 @@ static ENDINGS: [Exchange; 7] = [
         answers: &[(
             1,
             "HTTP/1.1 404 Not Found\r\nContent-Type: text/plain\r\nContent-Length: 9\r\nConnection: close\r\n\r\nno-route\n",
+        )],
+        ..EXCHANGE
+    },
+    Exchange {
+        name: "a body that has not come is not read either",
+        input: &[(
+            1,
+            "PUT /api/sessions/1/commit HTTP/1.1\r\nHost: x\r\nContent-Length: 3\r\n\r\n",
+        )],
+        answers: &[(
+            1,
+            "HTTP/1.1 405 Method Not Allowed\r\nContent-Type: text/plain\r\nContent-Length: 7\r\nAllow: POST\r\nConnection: close\r\n\r\nmethod\n",
         )],
         ..EXCHANGE
     },

@@ -4,10 +4,10 @@ use run_worlds::literals::{
     CLEAN, CREATED, GET_STATUS, METHOD_AT_HOSTED, METHOD_AT_STATUS, NO_ROUTE, PUT_ABC,
 };
 
-const METHOD_AT_CLEAN: &str =
+const ONLY_POST: &str =
     "HTTP/1.1 405 Method Not Allowed\r\nContent-Type: text/plain\r\nContent-Length: 7\r\nAllow: POST\r\n\r\nmethod\n";
 
-const METHOD_AT_CLEAN_OF_HEAD: &str =
+const ONLY_POST_OF_HEAD: &str =
     "HTTP/1.1 405 Method Not Allowed\r\nContent-Type: text/plain\r\nContent-Length: 7\r\nAllow: POST\r\n\r\n";
 
 const UNEXPECTED_BODY_LAST: &str =
@@ -25,7 +25,7 @@ const UNREAD: &str =
 const UNREAD_HEAD: &str =
     "HTTP/1.1 404 Not Found\r\nContent-Type: text/plain\r\nContent-Length: 7\r\n\r\n";
 
-static METHODS: [Exchange; 8] = [
+static METHODS: [Exchange; 9] = [
     Exchange {
         name: "a HEAD without a host",
         input: &[(1, "HEAD /api/status HTTP/1.1\r\n\r\n"), (1, GET_STATUS)],
@@ -51,10 +51,7 @@ static METHODS: [Exchange; 8] = [
                 1,
                 "HTTP/1.1 404 Not Found\r\nContent-Type: text/plain\r\nContent-Length: 9\r\n\r\n",
             ),
-            (
-                1,
-                "HTTP/1.1 405 Method Not Allowed\r\nContent-Type: text/plain\r\nContent-Length: 7\r\nAllow: POST\r\n\r\n",
-            ),
+            (1, ONLY_POST_OF_HEAD),
             (
                 1,
                 "HTTP/1.1 404 Not Found\r\nContent-Type: text/plain\r\nContent-Length: 14\r\n\r\n",
@@ -108,20 +105,43 @@ static METHODS: [Exchange; 8] = [
             (1, "HEAD /api/sessions/1/abort HTTP/1.1\r\nHost: x\r\n\r\n"),
         ],
         answers: &[
-            (
-                1,
-                "HTTP/1.1 405 Method Not Allowed\r\nContent-Type: text/plain\r\nContent-Length: 7\r\nAllow: POST\r\n\r\nmethod\n",
-            ),
+            (1, ONLY_POST),
             (1, METHOD_AT_HOSTED),
+            (1, ONLY_POST),
+            (1, ONLY_POST_OF_HEAD),
+        ],
+        ..EXCHANGE
+    },
+    Exchange {
+        name: "other methods at each route of sessions",
+        input: &[
             (
                 1,
-                "HTTP/1.1 405 Method Not Allowed\r\nContent-Type: text/plain\r\nContent-Length: 7\r\nAllow: POST\r\n\r\nmethod\n",
+                "PUT /api/repositories/releases/sessions HTTP/1.1\r\nHost: x\r\nContent-Length: 0\r\n\r\n",
             ),
             (
                 1,
-                "HTTP/1.1 405 Method Not Allowed\r\nContent-Type: text/plain\r\nContent-Length: 7\r\nAllow: POST\r\n\r\n",
+                "DELETE /api/repositories/snapshots/sessions HTTP/1.1\r\nHost: x\r\n\r\n",
+            ),
+            (
+                1,
+                "POST /api/sessions/1/files/org/acme/lib/1.0/lib-1.0.jar HTTP/1.1\r\nHost: x\r\n\r\n",
+            ),
+            (
+                1,
+                "PUT /api/sessions/1/commit HTTP/1.1\r\nHost: x\r\nContent-Length: 0\r\n\r\n",
+            ),
+            (
+                1,
+                "DELETE /api/sessions/1/commit HTTP/1.1\r\nHost: x\r\n\r\n",
+            ),
+            (1, "GET /api/sessions/1/abort HTTP/1.1\r\nHost: x\r\n\r\n"),
+            (
+                1,
+                "DELETE /api/sessions/1/abort HTTP/1.1\r\nHost: x\r\n\r\n",
             ),
         ],
+        answers: &[(2, ONLY_POST), (1, METHOD_AT_HOSTED), (4, ONLY_POST)],
         ..EXCHANGE
     },
     Exchange {
@@ -135,11 +155,7 @@ static METHODS: [Exchange; 8] = [
             ),
             (1, "DELETE /api/clean HTTP/1.1\r\nHost: x\r\n\r\n"),
         ],
-        answers: &[
-            (1, METHOD_AT_CLEAN),
-            (1, METHOD_AT_CLEAN_OF_HEAD),
-            (2, METHOD_AT_CLEAN),
-        ],
+        answers: &[(1, ONLY_POST), (1, ONLY_POST_OF_HEAD), (2, ONLY_POST)],
         line: "calls 0 end Closed\n",
         ..EXCHANGE
     },

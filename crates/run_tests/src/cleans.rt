@@ -4,19 +4,19 @@ use run_worlds::literals::{
     ABC, CLEAN, CREATED, GET, GET_STATUS, NOT_THERE, PUT_ABC, PUT_JAR_1, PUT_JAR_2, SAME,
 };
 
-const GET_JAR_1: &str =
+pub const GET_JAR_1: &str =
     "GET /repository/snapshots/org/acme/lib/1.1-SNAPSHOT/lib-1.1-20240229.235959-1.jar HTTP/1.1\r\nHost: x\r\n\r\n";
 
 const GET_JAR_2: &str =
     "GET /repository/snapshots/org/acme/lib/1.1-SNAPSHOT/lib-1.1-20240301.080000-2.jar HTTP/1.1\r\nHost: x\r\n\r\n";
 
-const UNLISTED_AND_REMOVED: &str =
+pub const UNLISTED_AND_REMOVED: &str =
     "HTTP/1.1 200 OK\r\nContent-Type: text/plain\r\nContent-Length: 21\r\n\r\nunlisted 1\nremoved 1\n";
 
-const UNLISTED: &str =
+pub const UNLISTED: &str =
     "HTTP/1.1 200 OK\r\nContent-Type: text/plain\r\nContent-Length: 21\r\n\r\nunlisted 1\nremoved 0\n";
 
-const REMOVED: &str =
+pub const REMOVED: &str =
     "HTTP/1.1 200 OK\r\nContent-Type: text/plain\r\nContent-Length: 21\r\n\r\nunlisted 0\nremoved 1\n";
 
 const NOTHING: &str =
@@ -49,7 +49,7 @@ const BY_61: Exchange = Exchange {
 };
 
 /// A clock that steps by the grace period.
-const BY_60: Exchange = Exchange {
+pub const BY_60: Exchange = Exchange {
     words: &[
         "replay",
         "settings.toml",

@@ -68,7 +68,7 @@ pub fn files() -> &'static [Exchange] {
     &FILES
 }
 
-static ENDS: [Exchange; 9] = [
+static ENDS: [Exchange; 10] = [
     Exchange {
         name: "a torn body is not stored",
         input: &[(1, PUT_TORN)],
@@ -86,6 +86,13 @@ static ENDS: [Exchange; 9] = [
     Exchange {
         name: "words without settings are refused",
         words: &["replay"],
+        line: "mvnrepod: words\n",
+        status: 2,
+        ..EXCHANGE
+    },
+    Exchange {
+        name: "a cleaning without settings is refused",
+        words: &["clean"],
         line: "mvnrepod: words\n",
         status: 2,
         ..EXCHANGE

@@ -1,11 +1,10 @@
 // A session with as many files as it may have. It is filled on several connections, since one has a thousand requests.
-use crate::cores::{MemCore, opened, settings};
+use crate::cores::{MemCore, opened, serve};
 use repo_course::End;
-use repo_run::serve_first;
 use run_worlds::exchanges::{PLAIN, Parts};
 use run_worlds::literals::{GET_STATUS, OPEN, SAME, SESSION_1, STAGED};
-use run_worlds::runs::{desk_of, joined};
-use std::alloc::Global;
+use run_worlds::objects::{MemDesk, desk_of, joined};
+use std::alloc::{AllocError, Global};
 use std::test::Fail;
 
 const STAGE_1000: &str =
@@ -32,10 +31,10 @@ const A_THOUSAND: &str =
     "HTTP/1.1 200 OK\r\nContent-Type: text/plain\r\nContent-Length: 52\r\n\r\nfiles 1000\nfading 0\ncached 0\ndocuments 0\nsessions 0\n";
 
 /// A session that is opened, and empty poms that are staged under the numbers below an end.
-fn stagings(alloc: Global, end: u64) -> Result<Vec<u8>, Fail> {
-    let mut all = Vec::from_slice(alloc, OPEN.as_bytes())?;
+fn stagings(alloc: Global, end: u64) -> Result<Vec<u8>, AllocError> {
+    let mut all: Vec<u8> = Vec::from_slice(alloc, OPEN.as_bytes())?;
     for number in 1..end {
-        let request = format!(in alloc;
+        let request: String = format!(in alloc;
             "PUT /api/sessions/1/files/g/a/{number}/a-{number}.pom HTTP/1.1\r\nHost: x\r\nContent-Length: 0\r\n\r\n"
         )?;
         all.extend_from_slice(request.as_bytes())?;
@@ -43,16 +42,25 @@ fn stagings(alloc: Global, end: u64) -> Result<Vec<u8>, Fail> {
     Ok(all)
 }
 
-/// Whether a core answers so on a connection with this input.
-fn answers(alloc: Global, core: &mut MemCore, input: Vec<u8>, want: Parts) -> Result<bool, Fail> {
-    let settings = core.settings().copied(alloc)?;
-    let mut desk = desk_of(alloc, input, PLAIN, 4096)?;
-    let end = serve_first(alloc, &settings, &mut desk, core);
-    let want = joined(alloc, want)?;
+/// Whether the connection of a desk was given back, with these answers.
+fn has_written(desk: &MemDesk, want: &[u8]) -> bool {
     match desk.port.given_back().first() {
-        Some(link) => Ok(end == Some(End::Closed) && link.sink.bytes() == want.as_slice()),
-        None => Ok(false),
+        Some(link) => link.sink.bytes() == want,
+        None => false,
     }
+}
+
+/// Whether a core answers so on a connection with this input.
+fn answers(
+    alloc: Global,
+    core: &mut MemCore,
+    input: Vec<u8>,
+    want: Parts,
+) -> Result<bool, AllocError> {
+    let want: Vec<u8> = joined(alloc, want)?;
+    let mut desk: MemDesk = desk_of(alloc, input, PLAIN, 4096)?;
+    let end: Option<End> = serve(alloc, &mut desk, core)?;
+    Ok(end == Some(End::Closed) && has_written(&desk, want.as_slice()))
 }
 
 // The connections that follow the first one.
@@ -78,15 +86,23 @@ static LATER: [(Parts, Parts); 3] = [
     ),
 ];
 
+/// The first of the later connections that is not answered as it has to be.
+fn first_wrong(alloc: Global, core: &mut MemCore) -> Result<Option<usize>, AllocError> {
+    for (n, (input, want)) in LATER.iter().enumerate() {
+        let input: Vec<u8> = joined(alloc, *input)?;
+        if !answers(alloc, core, input, *want)? {
+            return Ok(Some(n));
+        }
+    }
+    Ok(None)
+}
+
 #[test]
 fn at_most_1000_files_are_staged(rt: HostRuntime) -> Result<(), Fail> {
     let alloc = rt.alloc();
-    let mut core = opened(alloc, &settings(alloc)?)?;
-    let first = stagings(alloc, 999)?;
+    let mut core: MemCore = opened(alloc)?;
+    let first: Vec<u8> = stagings(alloc, 999)?;
     assert!(rt; answers(alloc, &mut core, first, &[(1, SESSION_1), (998, STAGED)])?);
-    for (n, (input, want)) in LATER.iter().enumerate() {
-        let input = joined(alloc, *input)?;
-        assert!(rt; answers(alloc, &mut core, input, *want)?, "connection {n}");
-    }
+    assert_eq!(rt; first_wrong(alloc, &mut core)?, None);
     Ok(())
 }

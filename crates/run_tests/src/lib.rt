@@ -19,6 +19,8 @@ mod files;
 #[cfg(test)]
 mod full_sessions;
 #[cfg(test)]
+mod relistings;
+#[cfg(test)]
 mod runs;
 #[cfg(test)]
 mod sessions;

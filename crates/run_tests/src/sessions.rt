@@ -4,8 +4,7 @@ use run_worlds::literals::{
     ABC, AGREED, CREATED, GET_STATUS, INTERIM, KIND_REFUSED_LAST, NOT_THERE, NOTED, OPEN, PUT_ABC,
     SAME, SESSION_1, STAGED,
 };
-use std::alloc::Global;
-use std::test::Fail;
+use std::alloc::{AllocError, Global};
 
 pub const STAGE_JAR: &str =
     "PUT /api/sessions/1/files/org/acme/lib/2.0/lib-2.0.jar HTTP/1.1\r\nHost: x\r\nContent-Length: 3\r\n\r\nabc";
@@ -257,17 +256,32 @@ pub fn sessions() -> &'static [Exchange] {
     &SESSIONS
 }
 
-/// What 65 openings of sessions are answered.
-pub fn answers_to_65(alloc: Global) -> Result<Vec<u8>, Fail> {
-    let mut all = String::new(alloc);
-    for number in 1..10 {
-        let head = "HTTP/1.1 201 Created\r\nContent-Type: text/plain\r\nContent-Length: 10\r\n\r\n";
-        all.push_str(format!(in alloc; "{head}session {number}\n")?.as_str())?;
+/// Adds the answers to the openings of the sessions from one number up to another, with this head.
+fn push_sessions(
+    alloc: Global,
+    all: &mut Vec<u8>,
+    head: &str,
+    first: u64,
+    end: u64,
+) -> Result<(), AllocError> {
+    for number in first..end {
+        let answer: String = format!(in alloc; "{head}session {number}\n")?;
+        all.extend_from_slice(answer.as_bytes())?;
     }
-    for number in 10..65 {
-        let head = "HTTP/1.1 201 Created\r\nContent-Type: text/plain\r\nContent-Length: 11\r\n\r\n";
-        all.push_str(format!(in alloc; "{head}session {number}\n")?.as_str())?;
-    }
-    all.push_str(SESSIONS_FULL)?;
-    Ok(Vec::from_slice(alloc, all.as_bytes())?)
+    Ok(())
+}
+
+const HEAD_OF_10: &str =
+    "HTTP/1.1 201 Created\r\nContent-Type: text/plain\r\nContent-Length: 10\r\n\r\n";
+
+const HEAD_OF_11: &str =
+    "HTTP/1.1 201 Created\r\nContent-Type: text/plain\r\nContent-Length: 11\r\n\r\n";
+
+/// The answers to 65 openings.
+pub fn answers_to_65(alloc: Global) -> Result<Vec<u8>, AllocError> {
+    let mut all: Vec<u8> = Vec::new(alloc);
+    push_sessions(alloc, &mut all, HEAD_OF_10, 1, 10)?;
+    push_sessions(alloc, &mut all, HEAD_OF_11, 10, 65)?;
+    all.extend_from_slice(SESSIONS_FULL.as_bytes())?;
+    Ok(all)
 }

@@ -14,6 +14,7 @@ pub struct Script {
     pub port: Option<u64>,
     pub reads: Option<u64>,
     pub blobs: Option<u64>,
+    pub records: Option<u64>,
     pub room: usize,
     pub line_room: usize,
 }
@@ -24,6 +25,7 @@ pub const PLAIN: Script = Script {
     port: None,
     reads: None,
     blobs: None,
+    records: None,
     room: 500_000,
     line_room: 100,
 };

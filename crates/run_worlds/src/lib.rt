@@ -3,4 +3,5 @@
 
 pub mod exchanges;
 pub mod literals;
+pub mod objects;
 pub mod runs;
