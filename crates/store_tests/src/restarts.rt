@@ -26,7 +26,9 @@ fn a_file_is_there_again(rt: HostRuntime) -> Result<(), Fail> {
     first.input = PUT;
     let over = run_over(alloc, "replay", first)?;
     assert_eq!(rt; over.answers(), CREATED);
-    let mut second = stage_of(alloc, over.into_records(), &[(1, b"abc")])?;
+    let records = over.into_records();
+    assert_eq!(rt; records.disk().bytes(), ONE_FILE);
+    let mut second = stage_of(alloc, records, &[(1, b"abc")])?;
     second.input = GET;
     let over = run_over(alloc, "replay", second)?;
     assert_eq!(rt; over.answers(), FILE);
