@@ -2,7 +2,7 @@
 use run_worlds::exchanges::{EXCHANGE, Exchange};
 use run_worlds::literals::{ABC, BAD_SEGMENT, CREATED, GET, NO_ROUTE, NOT_NAMED_LAST, PUT_ABC};
 
-static PATHS: [Exchange; 4] = [
+static PATHS: [Exchange; 5] = [
     Exchange {
         name: "a path that names nothing is refused by its fault",
         input: &[
@@ -124,6 +124,37 @@ static PATHS: [Exchange; 4] = [
             (
                 1,
                 "HTTP/1.1 404 Not Found\r\nContent-Type: text/plain\r\nContent-Length: 10\r\n\r\npath Long\n",
+            ),
+        ],
+        ..EXCHANGE
+    },
+    Exchange {
+        name: "a PUT at a path that names nothing",
+        input: &[
+            (
+                1,
+                "PUT /repository/releases/a/b.jar HTTP/1.1\r\nHost: x\r\nContent-Length: 0\r\n\r\n",
+            ),
+            (
+                1,
+                "PUT /repository/releases/org/acme/lib/1.0/lib-1.0.jar.sha256 HTTP/1.1\r\nHost: x\r\nContent-Length: 0\r\n\r\n",
+            ),
+            (1, "PUT /repository/releases/"),
+            (1025, "a"),
+            (1, " HTTP/1.1\r\nHost: x\r\nContent-Length: 0\r\n\r\n"),
+        ],
+        answers: &[
+            (
+                1,
+                "HTTP/1.1 400 Bad Request\r\nContent-Type: text/plain\r\nContent-Length: 11\r\n\r\npath Short\n",
+            ),
+            (
+                1,
+                "HTTP/1.1 400 Bad Request\r\nContent-Type: text/plain\r\nContent-Length: 13\r\n\r\npath BadSide\n",
+            ),
+            (
+                1,
+                "HTTP/1.1 400 Bad Request\r\nContent-Type: text/plain\r\nContent-Length: 10\r\n\r\npath Long\n",
             ),
         ],
         ..EXCHANGE

@@ -106,7 +106,7 @@ static ENDS: [Exchange; 10] = [
     },
     Exchange {
         name: "a key that is unknown is refused",
-        settings: "grace = 1\n[[hosted]]\nid = \"releases\"\nreleases = true\nsnapshots = false\n",
+        settings: "grace = 1\ngrace_seconds = 60\n[[hosted]]\nid = \"releases\"\nreleases = true\nsnapshots = false\n[[hosted]]\nid = \"snapshots\"\nreleases = false\nsnapshots = true\nkeep_count = 1\nkeep_days = 0\n[[proxy]]\nid = \"central\"\nhost = \"repo.test\"\nport = 8080\nprefix = \"/m2\"\nupdate = \"daily\"\nnegative_seconds = 300\n[[group]]\nid = \"public\"\nmembers = [\"releases\", \"snapshots\", \"central\"]\n",
         input: &[(1, GET)],
         line: "mvnrepod: settings Unknown grace\n",
         status: 3,
@@ -121,7 +121,7 @@ static ENDS: [Exchange; 10] = [
     },
     Exchange {
         name: "a member that is not there is refused",
-        settings: "[[hosted]]\nid = \"a\"\nreleases = true\nsnapshots = false\n[[group]]\nid = \"g\"\nmembers = [\"x\"]\n",
+        settings: "grace_seconds = 60\n[[hosted]]\nid = \"releases\"\nreleases = true\nsnapshots = false\n[[hosted]]\nid = \"snapshots\"\nreleases = false\nsnapshots = true\nkeep_count = 1\nkeep_days = 0\n[[proxy]]\nid = \"central\"\nhost = \"repo.test\"\nport = 8080\nprefix = \"/m2\"\nupdate = \"daily\"\nnegative_seconds = 300\n[[group]]\nid = \"public\"\nmembers = [\"releases\", \"snapshots\", \"x\"]\n",
         line: "mvnrepod: settings NoMember x\n",
         status: 3,
         ..EXCHANGE

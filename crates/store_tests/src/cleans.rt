@@ -1,5 +1,6 @@
 // Cleanings: what a pass unlists and removes, and why a repository is not opened.
 use crate::stock::{DAMAGED, ONE_FILE, Over, Stage, journal_over, run_over, stage_of, store_of};
+use outside::Blobs;
 use outside_memory::{FaultScript, MemBlobs};
 use record_disk::MemDisk;
 use record_journal::Journal;
@@ -124,5 +125,38 @@ fn an_old_build_goes_in_two_passes(rt: HostRuntime) -> Result<(), Fail> {
         stage_at(alloc, records, store, 1_709_300_061)?,
     )?;
     assert!(rt; over.said("unlisted 0\nremoved 0\n", 0));
+    Ok(())
+}
+
+// A store with the blobs of both builds, of which this call fails, the first two having stored them.
+fn store_failing_at(alloc: Global, call: u64) -> Result<MemBlobs, Fail> {
+    let failing = vec![in alloc; call.saturating_add(2)]?;
+    let mut store = MemBlobs::new(alloc, FaultScript::failing_at(failing));
+    store.store(1, b"abc")?;
+    store.store(2, b"abc")?;
+    Ok(store)
+}
+
+// A start finds and reads both blobs and lists them; the sixth call removes the older build's, and fails. Its row is gone all
+// the same, so the next start removes what nothing names.
+#[test]
+fn a_removal_that_failed_is_made_by_the_next_start(rt: HostRuntime) -> Result<(), Fail> {
+    let alloc = rt.alloc();
+    let store = store_of(alloc, &[(1, b"abc"), (2, b"abc")])?;
+    let records = journal_over(alloc, TWO_BUILDS)?;
+    let stage = stage_at(alloc, records, store, 1_709_300_000)?;
+    let over = run_over(alloc, "clean", stage)?;
+    assert!(rt; over.said("unlisted 1\nremoved 0\n", 0));
+    let (records, _) = left_by(over);
+    let stage = stage_at(alloc, records, store_failing_at(alloc, 5)?, 1_709_300_061)?;
+    let over = run_over(alloc, "clean", stage)?;
+    assert!(rt; over.said("mvnrepod: store\n", 4));
+    let (records, store) = left_by(over);
+    assert!(rt; store.removed().is_empty());
+    let stage = stage_at(alloc, records, store, 1_709_300_061)?;
+    let over = run_over(alloc, "clean", stage)?;
+    assert!(rt; over.said("unlisted 0\nremoved 0\n", 0));
+    let (_, store) = left_by(over);
+    assert_eq!(rt; store.removed(), [1].as_slice());
     Ok(())
 }

@@ -1,6 +1,7 @@
 // Replays that begin where others have ended.
-use crate::stock::{DAMAGED, ONE_FILE, journal_over, run_over, stage_of};
+use crate::stock::{DAMAGED, MISSING, ONE_FILE, journal_over, run_over, stage_of};
 use row_tables::MemRecords;
+use std::alloc::Global;
 use std::test::Fail;
 
 const PUT: &str =
@@ -77,5 +78,34 @@ fn records_that_fail_are_told(rt: HostRuntime) -> Result<(), Fail> {
     let over = run_over(alloc, "replay", stage)?;
     assert_eq!(rt; over.answers(), FAILED);
     assert!(rt; over.said("calls 3 end Closed\n", 0));
+    Ok(())
+}
+
+#[test]
+fn a_missing_blob_ends_it(rt: HostRuntime) -> Result<(), Fail> {
+    let alloc = rt.alloc();
+    let mut stage = stage_of(alloc, journal_over(alloc, ONE_FILE)?, &[(2, b"abc")])?;
+    stage.input = GET;
+    let over = run_over(alloc, "replay", stage)?;
+    let line = format!(in alloc; "mvnrepod: {MISSING}")?;
+    assert!(rt; over.said(line.as_str(), 5));
+    assert!(rt; over.answers().is_empty());
+    Ok(())
+}
+
+// Whether a replay over this file is refused with this line, and answers nothing.
+fn is_refused(alloc: Global, file: &[u8], line: &str) -> Result<bool, Fail> {
+    let mut stage = stage_of(alloc, journal_over(alloc, file)?, &[])?;
+    stage.input = GET;
+    let over = run_over(alloc, "replay", stage)?;
+    Ok(over.said(line, 4) && over.answers().is_empty())
+}
+
+#[test]
+fn records_are_refused(rt: HostRuntime) -> Result<(), Fail> {
+    let alloc = rt.alloc();
+    assert!(rt; is_refused(alloc, b"SOMETHING ELSE", "mvnrepod: not-ours\n")?);
+    let bad_tag = b"MVNROWS1\x01\0\0\0\x0e\x01\0\0\0\x01\x09\0\0\0\0\0\0\0\x01\0";
+    assert!(rt; is_refused(alloc, bad_tag, "mvnrepod: row 0 5\n")?);
     Ok(())
 }
