@@ -5,7 +5,7 @@ use run_worlds::literals::{
     PUT_POM_1, PUT_POM_2, SIDE_TEXT,
 };
 
-static SNAPSHOTS: [Exchange; 7] = [
+static SNAPSHOTS: [Exchange; 5] = [
     Exchange {
         name: "snapshots are named by their builds",
         input: &[
@@ -198,100 +198,6 @@ static SNAPSHOTS: [Exchange; 7] = [
             (1, NOT_THERE),
         ],
         line: "calls 3 end Closed\n",
-        ..EXCHANGE
-    },
-    Exchange {
-        name: "documents are refused at their first fault",
-        input: &[
-            (
-                1,
-                "PUT /repository/releases/org/acme/lib/maven-metadata.xml HTTP/1.1\r\nHost: x\r\nContent-Length: 10\r\n\r\n<metadata>",
-            ),
-            (
-                1,
-                "PUT /repository/releases/org/acme/lib/maven-metadata.xml HTTP/1.1\r\nHost: x\r\nContent-Length: 21\r\n\r\n<metadata></metadatb>",
-            ),
-            (
-                1,
-                "PUT /repository/releases/org/acme/lib/maven-metadata.xml HTTP/1.1\r\nHost: x\r\nContent-Length: 12\r\n\r\n<metadata/>x",
-            ),
-            (
-                1,
-                "PUT /repository/releases/org/acme/lib/maven-metadata.xml HTTP/1.1\r\nHost: x\r\nContent-Length: 23\r\n\r\n<!DOCTYPE x><metadata/>",
-            ),
-            (
-                1,
-                "PUT /repository/releases/org/acme/lib/maven-metadata.xml HTTP/1.1\r\nHost: x\r\nContent-Length: 153\r\n\r\n<metadata><groupId> x </groupId><versioning><versions><version>1.0</version><version>1</version><version>1.0</version></versions></versioning></metadata>",
-            ),
-        ],
-        answers: &[
-            (2, DOCUMENT_10),
-            (
-                1,
-                "HTTP/1.1 400 Bad Request\r\nContent-Type: text/plain\r\nContent-Length: 12\r\n\r\ndocument 11\n",
-            ),
-            (
-                1,
-                "HTTP/1.1 400 Bad Request\r\nContent-Type: text/plain\r\nContent-Length: 11\r\n\r\ndocument 0\n",
-            ),
-            (1, NOTED),
-        ],
-        line: "calls 1 end Closed\n",
-        ..EXCHANGE
-    },
-    Exchange {
-        name: "versions stand in their order",
-        settings: "[[hosted]]\nid = \"mixed\"\nreleases = true\nsnapshots = true\n",
-        input: &[
-            (
-                1,
-                "PUT /repository/mixed/org/acme/lib/1.10/lib-1.10.jar HTTP/1.1\r\nHost: x\r\nContent-Length: 3\r\n\r\nabc",
-            ),
-            (
-                1,
-                "PUT /repository/mixed/org/acme/lib/1.0/lib-1.0.jar HTTP/1.1\r\nHost: x\r\nContent-Length: 3\r\n\r\nabc",
-            ),
-            (
-                1,
-                "PUT /repository/mixed/org/acme/lib/1.0-sp/lib-1.0-sp.jar HTTP/1.1\r\nHost: x\r\nContent-Length: 3\r\n\r\nabc",
-            ),
-            (
-                1,
-                "PUT /repository/mixed/org/acme/lib/1.9/lib-1.9.jar HTTP/1.1\r\nHost: x\r\nContent-Length: 3\r\n\r\nabc",
-            ),
-            (
-                1,
-                "PUT /repository/mixed/org/acme/lib/1.0-SNAPSHOT/lib-1.0-20240229.235959-1.jar HTTP/1.1\r\nHost: x\r\nContent-Length: 3\r\n\r\nabc",
-            ),
-            (
-                1,
-                "PUT /repository/mixed/org/acme/lib/1.0.1/lib-1.0.1.jar HTTP/1.1\r\nHost: x\r\nContent-Length: 3\r\n\r\nabc",
-            ),
-            (
-                1,
-                "PUT /repository/mixed/org/acme/lib/1.0-1/lib-1.0-1.jar HTTP/1.1\r\nHost: x\r\nContent-Length: 3\r\n\r\nabc",
-            ),
-            (
-                1,
-                "PUT /repository/mixed/org/acme/lib/1/lib-1.jar HTTP/1.1\r\nHost: x\r\nContent-Length: 3\r\n\r\nabc",
-            ),
-            (
-                1,
-                "PUT /repository/mixed/org/acme/lib/1.0-rc1/lib-1.0-rc1.jar HTTP/1.1\r\nHost: x\r\nContent-Length: 3\r\n\r\nabc",
-            ),
-            (
-                1,
-                "GET /repository/mixed/org/acme/lib/maven-metadata.xml HTTP/1.1\r\nHost: x\r\n\r\n",
-            ),
-        ],
-        answers: &[
-            (9, CREATED),
-            (
-                1,
-                "HTTP/1.1 200 OK\r\nContent-Type: text/xml\r\nContent-Length: 586\r\nX-Checksum-SHA1: 442bef0887875c0506d16d1759170c6745b94473\r\nX-Checksum-MD5: 9a30b44311881dee523a7b99ff73b5e0\r\n\r\n<?xml version=\"1.0\" encoding=\"UTF-8\"?>\n<metadata modelVersion=\"1.1.0\">\n  <groupId>org.acme</groupId>\n  <artifactId>lib</artifactId>\n  <versioning>\n    <latest>1.10</latest>\n    <release>1.10</release>\n    <versions>\n      <version>1.0-rc1</version>\n      <version>1.0-SNAPSHOT</version>\n      <version>1</version>\n      <version>1.0</version>\n      <version>1.0-sp</version>\n      <version>1.0-1</version>\n      <version>1.0.1</version>\n      <version>1.9</version>\n      <version>1.10</version>\n    </versions>\n    <lastUpdated>20240229120000</lastUpdated>\n  </versioning>\n</metadata>\n",
-            ),
-        ],
-        line: "calls 19 end Closed\n",
         ..EXCHANGE
     },
 ];
