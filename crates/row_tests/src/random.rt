@@ -4,9 +4,6 @@ use repo_rows::{RowFault, put, take};
 use std::alloc::{AllocError, Global};
 use std::test::Fail;
 
-// How many changes a test makes of one seed.
-const CHANGES: usize = 5_000;
-
 // Numbers that look random (the generator of Knuth's MMIX).
 #[derive(Drop)]
 struct Numbers(u64);
@@ -97,10 +94,10 @@ fn is_well(alloc: Global, bytes: &[u8]) -> Result<bool, AllocError> {
     }
 }
 
-// Whether random changes are read and written again.
+// Whether 5,000 random changes are read and written again.
 fn changes_stay(alloc: Global, seed: u64) -> Result<bool, AllocError> {
     let mut numbers = Numbers(seed);
-    for _ in 0..CHANGES {
+    for _ in 0..5_000 {
         let bytes = change_by(alloc, &mut numbers)?;
         if taken_again(alloc, &bytes)? != Became::Same(bytes.len()) {
             return Ok(false);
@@ -121,10 +118,10 @@ fn more_changes_are_read_and_written_again(rt: HostRuntime) -> Result<(), Fail> 
     Ok(())
 }
 
-// Whether each front of the same changes is refused, behind the last field that is whole.
+// Whether each front of 1,000 random changes is refused, behind the last field that is whole.
 fn fronts_are_refused(alloc: Global, seed: u64) -> Result<bool, AllocError> {
     let mut numbers = Numbers(seed);
-    for _ in 0..CHANGES {
+    for _ in 0..1_000 {
         let bytes = change_by(alloc, &mut numbers)?;
         for size in 0..bytes.len() {
             let front = bytes.get(..size).unwrap_or(&[]);
@@ -154,15 +151,16 @@ fn is_well_with(
     Ok(well)
 }
 
-// The same of these changes with each byte changed.
+// The same of 500 random changes with each byte changed.
 fn changed_bytes_are_judged(alloc: Global, seed: u64) -> Result<bool, AllocError> {
     let mut numbers = Numbers(seed);
-    for _ in 0..CHANGES {
+    for _ in 0..500 {
         let mut bytes = change_by(alloc, &mut numbers)?;
         for place in 0..bytes.len() {
-            let by = if place % 2 == 0 { 1 } else { 128 };
-            if !is_well_with(alloc, &mut bytes, place, by)? {
-                return Ok(false);
+            for by in [1, 128] {
+                if !is_well_with(alloc, &mut bytes, place, by)? {
+                    return Ok(false);
+                }
             }
         }
     }
@@ -171,24 +169,24 @@ fn changed_bytes_are_judged(alloc: Global, seed: u64) -> Result<bool, AllocError
 
 #[test]
 fn changes_are_cut_at_every_place(rt: HostRuntime) -> Result<(), Fail> {
-    assert!(rt; fronts_are_refused(rt.alloc(), 1)?);
+    assert!(rt; fronts_are_refused(rt.alloc(), 2)?);
     Ok(())
 }
 
 #[test]
 fn more_changes_are_cut_at_every_place(rt: HostRuntime) -> Result<(), Fail> {
-    assert!(rt; fronts_are_refused(rt.alloc(), 6)?);
+    assert!(rt; fronts_are_refused(rt.alloc(), 3)?);
     Ok(())
 }
 
 #[test]
 fn each_byte_is_changed(rt: HostRuntime) -> Result<(), Fail> {
-    assert!(rt; changed_bytes_are_judged(rt.alloc(), 1)?);
+    assert!(rt; changed_bytes_are_judged(rt.alloc(), 4)?);
     Ok(())
 }
 
 #[test]
 fn each_byte_of_more_changes_is_changed(rt: HostRuntime) -> Result<(), Fail> {
-    assert!(rt; changed_bytes_are_judged(rt.alloc(), 6)?);
+    assert!(rt; changed_bytes_are_judged(rt.alloc(), 5)?);
     Ok(())
 }
