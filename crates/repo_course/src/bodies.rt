@@ -10,7 +10,7 @@ use crate::act::{Act, After, Coming, FileBody, Form, SmallBody};
 use crate::manner::Manner;
 use crate::outcomes::{Continued, End, Took};
 use crate::said::Said;
-use crate::steps::{no_memory, say};
+use crate::steps::{give_up, no_memory, say};
 use mvn_coords::Side;
 use mvn_digest::read_side;
 use mvn_doc::DocFault;
@@ -30,10 +30,7 @@ pub fn after_continue<H: Held>(manner: Manner, coming: Coming, written: Continue
             Coming::Small(body) => Act::Read(body),
         },
         Continued::SinkFault => match coming {
-            Coming::File(body) => {
-                let drop = Command::Drop { draft: body.draft };
-                Act::Ask(drop, After::Stop(End::SinkFault))
-            }
+            Coming::File(body) => give_up(body.draft, After::Stop(End::SinkFault)),
             Coming::Small(_) => Act::Stop(Some(End::SinkFault)),
         },
     }
@@ -88,7 +85,7 @@ pub fn after_take<H: Held>(manner: Manner, body: FileBody, taken: Result<Parcel<
     let draft = body.draft;
     match taken {
         Ok(parcel) => put_at(body.place, body.path, draft, parcel),
-        Err(fault) => Act::Ask(Command::Drop { draft }, after_drop(fault)),
+        Err(fault) => give_up(draft, after_drop(fault)),
     }
 }
 

@@ -2,7 +2,7 @@
 ghost use Rattle.std.specs.Prelude.{◌≡◌, ◌<◌, ◌+◌};
 ghost use Rattle.mvn_digest.specs.Hex.{hex_text};
 ghost use Rattle.mvn_digest.specs.Sides.{bytes_in};
-ghost use Rattle.repo_model.specs.Command.{done};
+ghost use Rattle.repo_model.specs.Command.{done, drop_draft};
 ghost use Rattle.repo_model.specs.Shown.{shown_place, shown_reply};
 ghost use Rattle.repo_course.specs.declared.manner.Manner.{Manner as AnyManner};
 ghost use Rattle.repo_course.specs.Acts.{after_reply, left_of, left_of_body, left_uninvited, rank_after, rank_of};
@@ -49,6 +49,14 @@ pub(crate) fn invite<H: Held>(expects: bool, coming: Coming) -> Act<H>
         Coming::File(body) => Act::Take(body),
         Coming::Small(body) => Act::Read(body),
     }
+}
+
+/// A draft is given up, and then this follows.
+pub(crate) fn give_up<H: Held>(draft: u64, then: After) -> Act<H>
+    ensures left { (any : AnyManner) → left_of any result ≡ asks (drop_draft draft) (after_reply any then) }
+    ensures rank { rank_of result ≡ rank_after then + 1 }
+{
+    Act::Ask(Command::Drop { draft }, then)
 }
 
 fn after_look<H: Held>(manner: Manner, reply: Reply<H>) -> Act<H>
@@ -119,9 +127,9 @@ fn after_put<H: Held>(manner: Manner, draft: u64, reply: Reply<H>) -> Act<H>
         Reply::Same => say(Said::Same, manner),
         Reply::Relisted => say(Said::Relisted, manner),
         Reply::Taken { kept, sent } => say(Said::Taken { kept, sent }, manner),
-        Reply::NoDraft => Act::Ask(Command::Drop { draft }, After::Say(Said::NoDraft)),
-        Reply::StoreFault => Act::Ask(Command::Drop { draft }, After::Say(Said::StoreFault)),
-        _ => Act::Ask(Command::Drop { draft }, After::NoMemory),
+        Reply::NoDraft => give_up(draft, After::Say(Said::NoDraft)),
+        Reply::StoreFault => give_up(draft, After::Say(Said::StoreFault)),
+        _ => give_up(draft, After::NoMemory),
     }
 }
 
@@ -135,8 +143,8 @@ fn after_stage<H: Held>(manner: Manner, draft: u64, reply: Reply<H>) -> Act<H>
         Reply::Taken { kept, sent } => say(Said::Taken { kept, sent }, manner),
         Reply::SessionFull => say(Said::SessionFull, manner),
         Reply::NoSession => say(Said::NoSession, manner),
-        Reply::NoDraft => Act::Ask(Command::Drop { draft }, After::Say(Said::NoDraft)),
-        _ => Act::Ask(Command::Drop { draft }, After::NoMemory),
+        Reply::NoDraft => give_up(draft, After::Say(Said::NoDraft)),
+        _ => give_up(draft, After::NoMemory),
     }
 }
 
