@@ -3,4 +3,10 @@
 #![tactic(auto)]
 
 #[cfg(test)]
-mod answers;
+mod bench;
+#[cfg(test)]
+mod files;
+#[cfg(test)]
+mod refusals;
+#[cfg(test)]
+mod sessions;
