@@ -1,8 +1,8 @@
 // Changes with literal bytes.
-use crate::parts::fault_in;
+use crate::parts::refused_at;
 use mvn_digest::Digests;
 use repo_model::{Item, Print};
-use repo_rows::{RowFault, put, start_of, take};
+use repo_rows::{put, start_of, take};
 use row_tables::Change;
 use std::test::Fail;
 
@@ -27,13 +27,11 @@ fn an_opened_session_has_14_bytes(rt: HostRuntime) -> Result<(), Fail> {
 }
 
 #[test]
-fn an_unknown_tag_is_refused_where_it_stands(rt: HostRuntime) {
+fn an_unknown_tag_is_refused_where_it_stands(rt: HostRuntime) -> Result<(), Fail> {
     let mut bytes = OPENED;
     bytes[5] = 9;
-    assert_eq!(rt;
-        fault_in(rt.alloc(), &bytes),
-        Some(RowFault::BadField { at: 5 })
-    );
+    assert_eq!(rt; refused_at(rt.alloc(), &bytes)?, Some(5));
+    Ok(())
 }
 
 #[test]
@@ -98,10 +96,8 @@ fn items_begin_behind_those_before_them(rt: HostRuntime) -> Result<(), Fail> {
 
 // A change that announces 4,294,967,295 items and has 9 bytes: no memory is taken for them.
 #[test]
-fn announced_items_are_not_believed(rt: HostRuntime) {
-    let bytes = *b"\x01\xff\xff\xff\xff\x07\0\0\0";
-    assert_eq!(rt;
-        fault_in(rt.alloc(), &bytes),
-        Some(RowFault::BadField { at: 6 })
-    );
+fn announced_items_are_not_believed(rt: HostRuntime) -> Result<(), Fail> {
+    let bytes = b"\x01\xff\xff\xff\xff\x07\0\0\0";
+    assert_eq!(rt; refused_at(rt.alloc(), bytes)?, Some(6));
+    Ok(())
 }

@@ -1,113 +1,153 @@
 // Each item that does not fit the tables, with literal bytes.
-use crate::parts::{MOMENT, ONE, RELEASE, SNAPSHOT, TWO, file_item, item, misfit_in};
+use crate::parts::{LENGTH, MD5, MOMENT, ONE, RELEASE, SHA1, SNAPSHOT, TWO};
+use repo_rows::take;
+use row_tables::{ApplyFault, Tables};
 use std::alloc::{AllocError, Global};
 use std::test::Fail;
 
-// The file at this place fades.
-fn fading(alloc: Global, place: &[u8]) -> Result<Vec<u8>, AllocError> {
-    item(alloc, 2, &[place, MOMENT])
+// An item: its tag and what stands behind it.
+type Item = &'static [&'static [u8]];
+
+// Items of one change, and the first of them that does not fit the tables which those before it leave.
+type Row = (&'static [Item], Option<u64>);
+
+const RELEASED: Item = &[b"\x01", RELEASE, ONE, LENGTH, SHA1, MD5, MOMENT];
+
+const RELEASED_AS_TWO: Item = &[b"\x01", RELEASE, TWO, LENGTH, SHA1, MD5, MOMENT];
+
+const BUILT: Item = &[b"\x01", SNAPSHOT, ONE, LENGTH, SHA1, MD5, MOMENT];
+
+const CACHED: Item = &[b"\x05", RELEASE, ONE, LENGTH, SHA1, MD5, MOMENT];
+
+const CACHED_AS_TWO: Item = &[b"\x05", RELEASE, TWO, LENGTH, SHA1, MD5, MOMENT];
+
+const CACHED_BUILD: Item = &[b"\x05", SNAPSHOT, ONE, LENGTH, SHA1, MD5, MOMENT];
+
+const FADES: Item = &[b"\x02", SNAPSHOT, MOMENT];
+
+const RELEASE_FADES: Item = &[b"\x02", RELEASE, MOMENT];
+
+const LISTED: Item = &[b"\x03", SNAPSHOT, MOMENT];
+
+const REMOVED: Item = &[b"\x04", SNAPSHOT];
+
+const OPENED: Item = &[b"\x07", ONE];
+
+const OPENED_AS_TWO: Item = &[b"\x07", TWO];
+
+const ABORTED: Item = &[b"\x08", ONE, b"\0\0\0\0\0\0\0\0\0"];
+
+const TWO_ABORTED: Item = &[b"\x08", TWO, b"\0\0\0\0\0\0\0\0\0"];
+
+const DONE: Item = &[b"\x08", ONE, b"\x01\0\0\0\0\0\0\0\x02"];
+
+// The change of less than 200 items.
+fn change_of(alloc: Global, items: &[Item]) -> Result<Vec<u8>, AllocError> {
+    let count = items.len().min(200) as u8;
+    let mut bytes = [1, 0, 0, 0, count].to_vec(alloc)?;
+    for item in items {
+        for part in *item {
+            bytes.extend_from_slice(part)?;
+        }
+    }
+    Ok(bytes)
 }
+
+fn misfit_in(alloc: Global, items: &[Item]) -> Result<Option<u64>, AllocError> {
+    let Ok((change, _)) = take(alloc, &change_of(alloc, items)?) else {
+        return Err(AllocError);
+    };
+    match Tables::new(alloc).apply(alloc, &change) {
+        Ok(()) => Ok(None),
+        Err(ApplyFault::Misfit { item }) => Ok(Some(item)),
+        Err(ApplyFault::NoMemory) => Err(AllocError),
+    }
+}
+
+// The first of these rows that is judged otherwise.
+fn first_other(alloc: Global, rows: &[Row]) -> Result<Option<usize>, AllocError> {
+    for (n, (items, misfit)) in rows.iter().enumerate() {
+        if misfit_in(alloc, items)? != *misfit {
+            return Ok(Some(n));
+        }
+    }
+    Ok(None)
+}
+
+static AT_ONE_PATH: [Row; 4] = [
+    (&[RELEASED], None),
+    (&[RELEASED, RELEASED_AS_TWO], Some(1)),
+    (&[CACHED, CACHED_AS_TWO], Some(1)),
+    (&[RELEASED, CACHED_AS_TWO], None),
+];
 
 #[test]
 fn files_do_not_fit_at_a_path_with_a_row(rt: HostRuntime) -> Result<(), Fail> {
-    let alloc = rt.alloc();
-    let put = file_item(alloc, 1, RELEASE, ONE)?;
-    let again = file_item(alloc, 1, RELEASE, TWO)?;
-    let cached = file_item(alloc, 5, RELEASE, ONE)?;
-    let cached_again = file_item(alloc, 5, RELEASE, TWO)?;
-    assert_eq!(rt; misfit_in(alloc, &[&put])?, None);
-    assert_eq!(rt; misfit_in(alloc, &[&put, &again])?, Some(1));
-    assert_eq!(rt; misfit_in(alloc, &[&cached, &cached_again])?, Some(1));
-    assert_eq!(rt; misfit_in(alloc, &[&put, &cached_again])?, None);
+    assert_eq!(rt; first_other(rt.alloc(), &AT_ONE_PATH)?, None);
     Ok(())
 }
+
+static OF_ONE_BLOB: [Row; 4] = [
+    (&[RELEASED, BUILT], Some(1)),
+    (&[RELEASED, CACHED], Some(1)),
+    (&[CACHED, RELEASED], Some(1)),
+    (&[CACHED, CACHED_BUILD], Some(1)),
+];
 
 #[test]
 fn a_blob_has_one_row(rt: HostRuntime) -> Result<(), Fail> {
-    let alloc = rt.alloc();
-    let put = file_item(alloc, 1, RELEASE, ONE)?;
-    let other = file_item(alloc, 1, SNAPSHOT, ONE)?;
-    let cached = file_item(alloc, 5, RELEASE, ONE)?;
-    let other_cached = file_item(alloc, 5, SNAPSHOT, ONE)?;
-    assert_eq!(rt; misfit_in(alloc, &[&put, &other])?, Some(1));
-    assert_eq!(rt; misfit_in(alloc, &[&put, &cached])?, Some(1));
-    assert_eq!(rt; misfit_in(alloc, &[&cached, &put])?, Some(1));
-    assert_eq!(rt; misfit_in(alloc, &[&cached, &other_cached])?, Some(1));
+    assert_eq!(rt; first_other(rt.alloc(), &OF_ONE_BLOB)?, None);
     Ok(())
 }
+
+static OF_FADING: [Row; 5] = [
+    (&[BUILT, FADES], None),
+    (&[FADES], Some(0)),
+    (&[CACHED_BUILD, FADES], Some(1)),
+    (&[RELEASED, RELEASE_FADES], Some(1)),
+    (&[BUILT, FADES, FADES], Some(2)),
+];
 
 #[test]
 fn a_visible_snapshot_fades(rt: HostRuntime) -> Result<(), Fail> {
-    let alloc = rt.alloc();
-    let release = file_item(alloc, 1, RELEASE, ONE)?;
-    let snapshot = file_item(alloc, 1, SNAPSHOT, ONE)?;
-    let cached = file_item(alloc, 5, SNAPSHOT, ONE)?;
-    let fades = fading(alloc, SNAPSHOT)?;
-    let release_fades = fading(alloc, RELEASE)?;
-    assert_eq!(rt; misfit_in(alloc, &[&snapshot, &fades])?, None);
-    assert_eq!(rt; misfit_in(alloc, &[&fades])?, Some(0));
-    assert_eq!(rt; misfit_in(alloc, &[&cached, &fades])?, Some(1));
-    assert_eq!(rt; misfit_in(alloc, &[&release, &release_fades])?, Some(1));
-    assert_eq!(rt; misfit_in(alloc, &[&snapshot, &fades, &fades])?, Some(2));
+    assert_eq!(rt; first_other(rt.alloc(), &OF_FADING)?, None);
     Ok(())
 }
 
-// Whether an item fits a Fading row of the snapshot's file, once, and no other.
-fn needs_a_fading_row(alloc: Global, item: &[u8]) -> Result<bool, AllocError> {
-    let put = file_item(alloc, 1, SNAPSHOT, ONE)?;
-    let fades = fading(alloc, SNAPSHOT)?;
-    Ok(
-        misfit_in(alloc, &[item])? == Some(0)
-            && misfit_in(alloc, &[&put, item])? == Some(1)
-            && misfit_in(alloc, &[&put, &fades, item])?.is_none()
-            && misfit_in(alloc, &[&put, &fades, item, item])? == Some(3),
-    )
-}
+// Each fits a fading row of the file, once, and no other. A removed row leaves its path and its blob's number.
+static OF_FADING_ROWS: [Row; 9] = [
+    (&[LISTED], Some(0)),
+    (&[BUILT, LISTED], Some(1)),
+    (&[BUILT, FADES, LISTED], None),
+    (&[BUILT, FADES, LISTED, LISTED], Some(3)),
+    (&[REMOVED], Some(0)),
+    (&[BUILT, REMOVED], Some(1)),
+    (&[BUILT, FADES, REMOVED], None),
+    (&[BUILT, FADES, REMOVED, REMOVED], Some(3)),
+    (&[BUILT, FADES, REMOVED, BUILT], None),
+];
 
 #[test]
 fn a_fading_row_is_listed_again_or_removed(rt: HostRuntime) -> Result<(), Fail> {
-    let alloc = rt.alloc();
-    let listed = item(alloc, 3, &[SNAPSHOT, MOMENT])?;
-    let removed = item(alloc, 4, &[SNAPSHOT])?;
-    assert!(rt; needs_a_fading_row(alloc, &listed)?);
-    assert!(rt; needs_a_fading_row(alloc, &removed)?);
+    assert_eq!(rt; first_other(rt.alloc(), &OF_FADING_ROWS)?, None);
     Ok(())
 }
 
-// A removed row leaves its path and its blob's number.
-#[test]
-fn a_path_and_a_blob_are_free_again(rt: HostRuntime) -> Result<(), Fail> {
-    let alloc = rt.alloc();
-    let put = file_item(alloc, 1, SNAPSHOT, ONE)?;
-    let fades = fading(alloc, SNAPSHOT)?;
-    let removed = item(alloc, 4, &[SNAPSHOT])?;
-    assert_eq!(rt; misfit_in(alloc, &[&put, &fades, &removed, &put])?, None);
-    Ok(())
-}
+// Their numbers rise, and one that is open ends once.
+static OF_SESSIONS: [Row; 9] = [
+    (&[OPENED, OPENED_AS_TWO], None),
+    (&[OPENED_AS_TWO], None),
+    (&[OPENED, OPENED], Some(1)),
+    (&[OPENED_AS_TWO, OPENED], Some(1)),
+    (&[OPENED, ABORTED], None),
+    (&[OPENED, DONE], None),
+    (&[ABORTED], Some(0)),
+    (&[OPENED, TWO_ABORTED], Some(1)),
+    (&[OPENED, DONE, ABORTED], Some(2)),
+];
 
 #[test]
-fn session_numbers_rise(rt: HostRuntime) -> Result<(), Fail> {
-    let alloc = rt.alloc();
-    let one = item(alloc, 7, &[ONE])?;
-    let two = item(alloc, 7, &[TWO])?;
-    assert_eq!(rt; misfit_in(alloc, &[&one, &two])?, None);
-    assert_eq!(rt; misfit_in(alloc, &[&two])?, None);
-    assert_eq!(rt; misfit_in(alloc, &[&one, &one])?, Some(1));
-    assert_eq!(rt; misfit_in(alloc, &[&two, &one])?, Some(1));
-    Ok(())
-}
-
-#[test]
-fn an_open_session_ends_once(rt: HostRuntime) -> Result<(), Fail> {
-    let alloc = rt.alloc();
-    let opened = item(alloc, 7, &[ONE])?;
-    let aborted = item(alloc, 8, &[ONE, b"\0\0\0\0\0\0\0\0\0"])?;
-    let done = item(alloc, 8, &[ONE, b"\x01\0\0\0\0\0\0\0\x02"])?;
-    let other = item(alloc, 8, &[TWO, b"\0\0\0\0\0\0\0\0\0"])?;
-    assert_eq!(rt; misfit_in(alloc, &[&opened, &aborted])?, None);
-    assert_eq!(rt; misfit_in(alloc, &[&opened, &done])?, None);
-    assert_eq!(rt; misfit_in(alloc, &[&aborted])?, Some(0));
-    assert_eq!(rt; misfit_in(alloc, &[&opened, &other])?, Some(1));
-    assert_eq!(rt; misfit_in(alloc, &[&opened, &done, &aborted])?, Some(2));
+fn sessions_open_in_order_and_end_once(rt: HostRuntime) -> Result<(), Fail> {
+    assert_eq!(rt; first_other(rt.alloc(), &OF_SESSIONS)?, None);
     Ok(())
 }

@@ -1,6 +1,5 @@
 // Fields and items as literal bytes, and what reading and applying them gives.
 use repo_rows::{RowFault, take};
-use row_tables::{ApplyFault, Tables};
 use std::alloc::{AllocError, Global};
 
 // A place in a repository r: a release's file, a snapshot's, and the document of its artifact.
@@ -42,60 +41,53 @@ pub const SIZE: &[u8] = b"\0\0\x01\x44";
 
 // A change of so many items, which have these parts.
 pub fn change_of(alloc: Global, count: u8, parts: &[&[u8]]) -> Result<Vec<u8>, AllocError> {
-    let mut bytes = Vec::new(alloc);
-    bytes.extend_from_slice(&[1, 0, 0, 0, count])?;
+    let mut bytes = [1, 0, 0, 0, count].to_vec(alloc)?;
     for part in parts {
         bytes.extend_from_slice(part)?;
     }
     Ok(bytes)
 }
 
-// An item of these parts behind its tag.
-pub fn item(alloc: Global, tag: u8, parts: &[&[u8]]) -> Result<Vec<u8>, AllocError> {
-    let mut bytes = Vec::new(alloc);
-    bytes.push(tag)?;
-    for part in parts {
-        bytes.extend_from_slice(part)?;
-    }
-    Ok(bytes)
-}
-
-// A file's item.
-pub fn file_item(alloc: Global, tag: u8, place: &[u8], blob: &[u8]) -> Result<Vec<u8>, AllocError> {
-    item(alloc, tag, &[place, blob, LENGTH, SHA1, MD5, MOMENT])
-}
-
-// Why these bytes are no change.
-pub fn fault_in(alloc: Global, bytes: &[u8]) -> Option<RowFault> {
+// Where these bytes are refused.
+pub fn refused_at(alloc: Global, bytes: &[u8]) -> Result<Option<u64>, AllocError> {
     match take(alloc, bytes) {
-        Ok(_) => None,
-        Err(fault) => Some(fault),
+        Ok(_) => Ok(None),
+        Err(RowFault::BadField { at }) => Ok(Some(at)),
+        Err(RowFault::NoMemory) => Err(AllocError),
     }
 }
 
-// Where the fault of a change is that has one item, of these parts behind its tag.
-pub fn fault_at(alloc: Global, tag: u8, parts: &[&[u8]]) -> Result<Option<u64>, AllocError> {
-    let bytes = item(alloc, tag, parts)?;
-    match fault_in(alloc, &change_of(alloc, 1, &[&bytes])?) {
-        None => Ok(None),
-        Some(RowFault::BadField { at }) => Ok(Some(at)),
-        Some(RowFault::NoMemory) => Err(AllocError),
+// Bytes, and where they are refused.
+pub type Case = (&'static [u8], Option<u64>);
+
+// The first of these that is judged otherwise.
+pub fn first_other(alloc: Global, cases: &[Case]) -> Result<Option<usize>, AllocError> {
+    for (n, (bytes, at)) in cases.iter().enumerate() {
+        if refused_at(alloc, bytes)? != *at {
+            return Ok(Some(n));
+        }
     }
+    Ok(None)
 }
 
-// The first of these items that does not fit the tables which those before it leave.
-pub fn misfit_in(alloc: Global, items: &[&[u8]]) -> Result<Option<u64>, AllocError> {
-    if items.len() > 200 {
-        return Err(AllocError);
+// What an item has behind its tag, and where a change of it alone is refused.
+pub type Row = (&'static [&'static [u8]], Option<u64>);
+
+// Where a change of one item is refused.
+fn item_refused_at(alloc: Global, tag: u8, parts: &[&[u8]]) -> Result<Option<u64>, AllocError> {
+    let mut bytes = change_of(alloc, 1, &[&[tag]])?;
+    for part in parts {
+        bytes.extend_from_slice(part)?;
     }
-    let bytes = change_of(alloc, items.len() as u8, items)?;
-    let Ok((change, _)) = take(alloc, &bytes) else {
-        return Err(AllocError);
-    };
-    let mut tables = Tables::new(alloc);
-    match tables.apply(alloc, &change) {
-        Ok(()) => Ok(None),
-        Err(ApplyFault::Misfit { item }) => Ok(Some(item)),
-        Err(ApplyFault::NoMemory) => Err(AllocError),
+    refused_at(alloc, &bytes)
+}
+
+// The first of these that is judged otherwise in an item of this tag.
+pub fn first_other_item(alloc: Global, tag: u8, rows: &[Row]) -> Result<Option<usize>, AllocError> {
+    for (n, (parts, at)) in rows.iter().enumerate() {
+        if item_refused_at(alloc, tag, parts)? != *at {
+            return Ok(Some(n));
+        }
     }
+    Ok(None)
 }

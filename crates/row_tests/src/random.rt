@@ -1,7 +1,9 @@
-// Changes that are made of random fields, read and written again, cut short and changed.
-use crate::parts::{DOCUMENT, MD5, RELEASE, SHA1, SIZE, SNAPSHOT, WRITTEN, item};
+// 10,000 changes of random fields: read and written again, cut at every place, and with each byte changed. The tests share
+// them out, since each test has a time of its own.
+use crate::parts::{DOCUMENT, MD5, RELEASE, SHA1, SIZE, SNAPSHOT, WRITTEN};
 use repo_rows::{RowFault, put, take};
 use std::alloc::{AllocError, Global};
+use std::process::Abort;
 use std::test::Fail;
 
 // Numbers that look random (the generator of Knuth's MMIX).
@@ -18,6 +20,47 @@ impl Numbers {
     }
 }
 
+// A change as bytes, and where its fields begin.
+#[derive(Drop)]
+struct Made {
+    bytes: Vec<u8>,
+    starts: Vec<usize>,
+}
+
+impl Made {
+    fn new(alloc: Global) -> Made {
+        Made {
+            bytes: Vec::new(alloc),
+            starts: Vec::new(alloc),
+        }
+    }
+
+    fn push(&mut self, fields: &[&[u8]]) -> Result<(), AllocError> {
+        for field in fields {
+            self.starts.push(self.bytes.len())?;
+            self.bytes.extend_from_slice(field)?;
+        }
+        Ok(())
+    }
+
+    // A tag, and the fields of a place.
+    fn push_place(&mut self, tag: u8, place: &[u8]) -> Result<(), AllocError> {
+        let (id, path) = place.split_at(place.len().min(3));
+        self.push(&[&[tag], id, path])
+    }
+
+    // Where the field begins that has the byte at this place.
+    fn start_at(&self, place: usize) -> usize {
+        let mut last = 0;
+        for start in &self.starts {
+            if *start <= place {
+                last = *start;
+            }
+        }
+        last
+    }
+}
+
 // One of the two files' places.
 fn place_of(number: u64) -> &'static [u8] {
     match number % 2 {
@@ -26,31 +69,41 @@ fn place_of(number: u64) -> &'static [u8] {
     }
 }
 
-// A random item as bytes.
-fn item_of(alloc: Global, numbers: &mut Numbers) -> Result<Vec<u8>, AllocError> {
+// Puts a random item behind the others.
+fn push_item(made: &mut Made, numbers: &mut Numbers) -> Result<(), AllocError> {
     let number = (numbers.next() % 9_007_199_254_740_991 + 1).to_be_bytes();
     let count = numbers.next().to_be_bytes();
     let moment = (numbers.next() % 253_402_207_201).to_be_bytes();
     let place = place_of(numbers.next());
     let tag = (numbers.next() % 8 + 1) as u8;
     match tag {
-        1 | 5 => item(alloc, tag, &[place, &number, &count, SHA1, MD5, &moment]),
-        2 | 3 => item(alloc, tag, &[place, &moment]),
-        4 => item(alloc, tag, &[place]),
-        6 => item(alloc, tag, &[DOCUMENT, &moment, SIZE, WRITTEN]),
-        7 => item(alloc, tag, &[&number]),
-        _ => item(alloc, tag, &[&number, b"\x01", &count]),
+        1 | 5 => {
+            made.push_place(tag, place)?;
+            made.push(&[&number, &count, SHA1, MD5, &moment])
+        }
+        2 | 3 => {
+            made.push_place(tag, place)?;
+            made.push(&[&moment])
+        }
+        4 => made.push_place(tag, place),
+        6 => {
+            made.push_place(tag, DOCUMENT)?;
+            made.push(&[&moment, SIZE, WRITTEN])
+        }
+        7 => made.push(&[&[tag], &number]),
+        _ => made.push(&[&[tag], &number, b"\x01", &count]),
     }
 }
 
 // A random change of up to 5 items.
-fn change_by(alloc: Global, numbers: &mut Numbers) -> Result<Vec<u8>, AllocError> {
+fn change_by(alloc: Global, numbers: &mut Numbers) -> Result<Made, AllocError> {
     let count = (numbers.next() % 6) as u8;
-    let mut bytes = [1, 0, 0, 0, count].to_vec(alloc)?;
+    let mut made = Made::new(alloc);
+    made.push(&[&[1], &[0, 0, 0, count]])?;
     for _ in 0..count {
-        bytes.extend_from_slice(&item_of(alloc, numbers)?)?;
+        push_item(&mut made, numbers)?;
     }
-    Ok(bytes)
+    Ok(made)
 }
 
 // What became of bytes that were read.
@@ -77,116 +130,186 @@ fn taken_again(alloc: Global, bytes: &[u8]) -> Result<Became, AllocError> {
     }
 }
 
-// A field is refused at its start: the bytes in front of it are refused just where they end.
-fn begins_at(alloc: Global, bytes: &[u8], at: u64) -> Result<bool, AllocError> {
-    match bytes.get(..at as usize) {
+// Whether so many of these bytes are refused at this one.
+fn front_is_refused(alloc: Global, bytes: &[u8], size: usize, at: u64) -> Result<bool, AllocError> {
+    match bytes.get(..size) {
         Some(front) => Ok(taken_again(alloc, front)? == Became::Refused(at)),
         None => Ok(false),
     }
 }
 
-// Whether bytes are read as what they say, or refused where a field begins.
-fn is_well(alloc: Global, bytes: &[u8]) -> Result<bool, AllocError> {
-    match taken_again(alloc, bytes)? {
-        Became::Same(_) => Ok(true),
-        Became::Other => Ok(false),
-        Became::Refused(at) => begins_at(alloc, bytes, at),
-    }
-}
-
-// Whether 5,000 random changes are read and written again.
-fn changes_stay(alloc: Global, seed: u64) -> Result<bool, AllocError> {
-    let mut numbers = Numbers(seed);
-    for _ in 0..5_000 {
-        let bytes = change_by(alloc, &mut numbers)?;
-        if taken_again(alloc, &bytes)? != Became::Same(bytes.len()) {
+// Whether each front of a change is refused at the first field that is not there whole.
+fn fronts_are_refused(alloc: Global, made: &Made) -> Result<bool, AllocError> {
+    for size in 0..made.bytes.len() {
+        if !front_is_refused(alloc, &made.bytes, size, made.start_at(size) as u64)? {
             return Ok(false);
         }
     }
     Ok(true)
 }
 
-#[test]
-fn changes_are_read_and_written_again(rt: HostRuntime) -> Result<(), Fail> {
-    assert!(rt; changes_stay(rt.alloc(), 1)?);
-    Ok(())
-}
-
-#[test]
-fn more_changes_are_read_and_written_again(rt: HostRuntime) -> Result<(), Fail> {
-    assert!(rt; changes_stay(rt.alloc(), 6)?);
-    Ok(())
-}
-
-// Whether each front of 1,000 random changes is refused, behind the last field that is whole.
-fn fronts_are_refused(alloc: Global, seed: u64) -> Result<bool, AllocError> {
-    let mut numbers = Numbers(seed);
-    for _ in 0..1_000 {
-        let bytes = change_by(alloc, &mut numbers)?;
-        for size in 0..bytes.len() {
-            let front = bytes.get(..size).unwrap_or(&[]);
-            match taken_again(alloc, front)? {
-                Became::Refused(at) if begins_at(alloc, front, at)? => {}
-                _ => return Ok(false),
-            }
+// Whether bytes are read as what they say, or refused where a field begins (the bytes in front of it are refused just where
+// they end) that is the changed one, which begins here, or one behind it.
+fn are_judged(alloc: Global, bytes: &[u8], start: usize) -> Result<bool, AllocError> {
+    match taken_again(alloc, bytes)? {
+        Became::Same(_) => Ok(true),
+        Became::Other => Ok(false),
+        Became::Refused(at) => {
+            Ok(at >= start as u64 && front_is_refused(alloc, bytes, at as usize, at)?)
         }
     }
-    Ok(true)
 }
 
-// Whether these bytes are read as what they say, or refused where they should, with the byte at this place changed.
-fn is_well_with(
+// The same with the byte at this place changed.
+fn are_judged_with(
     alloc: Global,
     bytes: &mut Vec<u8>,
     place: usize,
     by: u8,
+    start: usize,
 ) -> Result<bool, AllocError> {
     if let Some(there) = bytes.get_mut(place) {
         *there ^= by;
     }
-    let well = is_well(alloc, bytes)?;
+    let judged = are_judged(alloc, bytes, start)?;
     if let Some(there) = bytes.get_mut(place) {
         *there ^= by;
     }
-    Ok(well)
+    Ok(judged)
 }
 
-// The same of 500 random changes with each byte changed.
-fn changed_bytes_are_judged(alloc: Global, seed: u64) -> Result<bool, AllocError> {
-    let mut numbers = Numbers(seed);
-    for _ in 0..500 {
-        let mut bytes = change_by(alloc, &mut numbers)?;
-        for place in 0..bytes.len() {
-            for by in [1, 128] {
-                if !is_well_with(alloc, &mut bytes, place, by)? {
-                    return Ok(false);
-                }
+// Whether that is so of a change with each of its bytes changed, in its lowest bit and in its highest.
+fn changed_bytes_are_judged(alloc: Global, made: &Made) -> Result<bool, AllocError> {
+    let mut bytes = made.bytes.as_slice().to_vec(alloc)?;
+    for place in 0..bytes.len() {
+        let start = made.start_at(place);
+        for by in [1, 128] {
+            if !are_judged_with(alloc, &mut bytes, place, by, start)? {
+                return Ok(false);
             }
         }
     }
     Ok(true)
 }
 
-#[test]
-fn changes_are_cut_at_every_place(rt: HostRuntime) -> Result<(), Fail> {
-    assert!(rt; fronts_are_refused(rt.alloc(), 2)?);
+// What is done with each change.
+#[derive(Clone, Copy)]
+enum Trial {
+    Whole,
+    Cut,
+    Changed,
+}
+
+fn passes(alloc: Global, made: &Made, trial: Trial) -> Result<bool, AllocError> {
+    match trial {
+        Trial::Whole => { Ok(taken_again(alloc, &made.bytes)? == Became::Same(made.bytes.len())) }
+        Trial::Cut => fronts_are_refused(alloc, made),
+        Trial::Changed => changed_bytes_are_judged(alloc, made),
+    }
+}
+
+// The first of the 1,000 changes of a seed that does not pass.
+fn first_bad(alloc: Global, seed: u64, trial: Trial) -> Result<Option<u64>, AllocError> {
+    let mut numbers = Numbers(seed);
+    for n in 0..1_000 {
+        let made = change_by(alloc, &mut numbers)?;
+        if !passes(alloc, &made, trial)? {
+            return Ok(Some(n));
+        }
+    }
+    Ok(None)
+}
+
+// The changes of these seeds pass, of the ten that there are.
+fn try_seeds(
+    rt: &impl Abort,
+    alloc: Global,
+    trial: Trial,
+    first: u64,
+    last: u64,
+) -> Result<(), Fail> {
+    for seed in first..=last {
+        assert_eq!(rt; first_bad(alloc, seed, trial)?, None, "{seed}");
+    }
     Ok(())
 }
 
 #[test]
-fn more_changes_are_cut_at_every_place(rt: HostRuntime) -> Result<(), Fail> {
-    assert!(rt; fronts_are_refused(rt.alloc(), 3)?);
-    Ok(())
+fn changes_are_read_and_written_again(rt: HostRuntime) -> Result<(), Fail> {
+    try_seeds(&rt, rt.alloc(), Trial::Whole, 1, 10)
 }
 
 #[test]
-fn each_byte_is_changed(rt: HostRuntime) -> Result<(), Fail> {
-    assert!(rt; changed_bytes_are_judged(rt.alloc(), 4)?);
-    Ok(())
+fn changes_of_seeds_1_and_2_are_cut(rt: HostRuntime) -> Result<(), Fail> {
+    try_seeds(&rt, rt.alloc(), Trial::Cut, 1, 2)
 }
 
 #[test]
-fn each_byte_of_more_changes_is_changed(rt: HostRuntime) -> Result<(), Fail> {
-    assert!(rt; changed_bytes_are_judged(rt.alloc(), 5)?);
-    Ok(())
+fn changes_of_seeds_3_and_4_are_cut(rt: HostRuntime) -> Result<(), Fail> {
+    try_seeds(&rt, rt.alloc(), Trial::Cut, 3, 4)
+}
+
+#[test]
+fn changes_of_seeds_5_and_6_are_cut(rt: HostRuntime) -> Result<(), Fail> {
+    try_seeds(&rt, rt.alloc(), Trial::Cut, 5, 6)
+}
+
+#[test]
+fn changes_of_seeds_7_and_8_are_cut(rt: HostRuntime) -> Result<(), Fail> {
+    try_seeds(&rt, rt.alloc(), Trial::Cut, 7, 8)
+}
+
+#[test]
+fn changes_of_seeds_9_and_10_are_cut(rt: HostRuntime) -> Result<(), Fail> {
+    try_seeds(&rt, rt.alloc(), Trial::Cut, 9, 10)
+}
+
+#[test]
+fn each_byte_of_seed_1_is_changed(rt: HostRuntime) -> Result<(), Fail> {
+    try_seeds(&rt, rt.alloc(), Trial::Changed, 1, 1)
+}
+
+#[test]
+fn each_byte_of_seed_2_is_changed(rt: HostRuntime) -> Result<(), Fail> {
+    try_seeds(&rt, rt.alloc(), Trial::Changed, 2, 2)
+}
+
+#[test]
+fn each_byte_of_seed_3_is_changed(rt: HostRuntime) -> Result<(), Fail> {
+    try_seeds(&rt, rt.alloc(), Trial::Changed, 3, 3)
+}
+
+#[test]
+fn each_byte_of_seed_4_is_changed(rt: HostRuntime) -> Result<(), Fail> {
+    try_seeds(&rt, rt.alloc(), Trial::Changed, 4, 4)
+}
+
+#[test]
+fn each_byte_of_seed_5_is_changed(rt: HostRuntime) -> Result<(), Fail> {
+    try_seeds(&rt, rt.alloc(), Trial::Changed, 5, 5)
+}
+
+#[test]
+fn each_byte_of_seed_6_is_changed(rt: HostRuntime) -> Result<(), Fail> {
+    try_seeds(&rt, rt.alloc(), Trial::Changed, 6, 6)
+}
+
+#[test]
+fn each_byte_of_seed_7_is_changed(rt: HostRuntime) -> Result<(), Fail> {
+    try_seeds(&rt, rt.alloc(), Trial::Changed, 7, 7)
+}
+
+#[test]
+fn each_byte_of_seed_8_is_changed(rt: HostRuntime) -> Result<(), Fail> {
+    try_seeds(&rt, rt.alloc(), Trial::Changed, 8, 8)
+}
+
+#[test]
+fn each_byte_of_seed_9_is_changed(rt: HostRuntime) -> Result<(), Fail> {
+    try_seeds(&rt, rt.alloc(), Trial::Changed, 9, 9)
+}
+
+#[test]
+fn each_byte_of_seed_10_is_changed(rt: HostRuntime) -> Result<(), Fail> {
+    try_seeds(&rt, rt.alloc(), Trial::Changed, 10, 10)
 }
