@@ -1,8 +1,7 @@
 // Sessions that are committed: what stands against it, what is deployed, and what they answer from then on.
-use crate::bench::Gone;
-use crate::stock::{Came, EARLIER, Stock, T, names};
+use crate::asks::{Ask, Said};
+use crate::bench::{Bench, EARLIER, T, follow};
 use hosted_repo::Phase;
-use std::process::Abort;
 use std::test::Fail;
 
 const JAR: &str = "org/acme/lib/2.0/lib-2.0.jar";
@@ -21,158 +20,170 @@ const OLD_SNAPSHOT: &str = "org/acme/lib/1.9-SNAPSHOT/lib-1.9-20240229.120000-1.
 
 const OLDEST_SNAPSHOT: &str = "org/acme/lib/1.8-SNAPSHOT/lib-1.8-20240229.120000-1.jar";
 
+static OF_THREE_FILES: [(Ask, Said); 15] = [
+    (Ask::Restore(JAR, b"abc", Phase::Listed), Said::Done),
+    (
+        Ask::Restore(OLD_SNAPSHOT, b"x", Phase::Fading(EARLIER)),
+        Said::Done,
+    ),
+    (Ask::Begin, Said::Opened(1)),
+    (Ask::Stage(1, POM, b"p"), Said::Staged),
+    (Ask::Stage(1, JAR, b"abc"), Said::Staged),
+    (Ask::Stage(1, OLD_SNAPSHOT, b"x"), Said::Staged),
+    // the blobs of the snapshot and of the jar, which have rows
+    (Ask::Commit(1), Said::Deployed(3, &[5, 4])),
+    (Ask::Row(POM), Said::Row(3, T, None)),
+    (Ask::Row(JAR), Said::Row(1, EARLIER, None)),
+    (Ask::Row(OLD_SNAPSHOT), Said::Row(2, T, None)),
+    // a new row, one that is visible again, and the end, in one change
+    (Ask::Changes, Said::Number(2)),
+    (Ask::Items, Said::Number(3)),
+    (Ask::LastEnded, Said::Number(1)),
+    (Ask::Open, Said::Number(0)),
+    (Ask::Files(1), Said::Nothing),
+];
+
 #[test]
 fn new_equal_and_unlisted_files_are_deployed_together(rt: HostRuntime) -> Result<(), Fail> {
-    let mut stock = Stock::new(rt.alloc())?;
-    stock.row(JAR, b"abc", Phase::Listed)?;
-    stock.row(OLD_SNAPSHOT, b"x", Phase::Fading(EARLIER))?;
-    stock.bench.begin_as(&rt, 1);
-    stock.stage(&rt, POM, b"p")?;
-    stock.stage(&rt, JAR, b"abc")?;
-    stock.stage(&rt, OLD_SNAPSHOT, b"x")?;
-    // the blobs of the snapshot and of the jar, which have rows: 5 and 4
-    assert_eq!(rt; stock.came(1), Came::Done(3, 2, 5));
-    assert_eq!(rt; stock.row_of(POM), Some((3, T, None)));
-    assert_eq!(rt; stock.row_of(JAR), Some((1, EARLIER, None)));
-    assert_eq!(rt; stock.row_of(OLD_SNAPSHOT), Some((2, T, None)));
-    // a new row, one that is visible again, and the end, in one change
-    assert_eq!(rt; stock.bench.records.changes, 2);
-    assert_eq!(rt; stock.bench.records.items, 3);
-    assert_eq!(rt; stock.bench.records.ended, 1);
-    assert_eq!(rt; stock.bench.sessions.count(), 0);
-    assert_eq!(rt; stock.bench.files(1), None);
-    Ok(())
+    follow(&rt, Bench::new(rt.alloc())?, &OF_THREE_FILES)
 }
+
+static OF_A_SECOND_TIME: [(Ask, Said); 10] = [
+    (Ask::Restore(POM, b"p", Phase::Listed), Said::Done),
+    (Ask::Begin, Said::Opened(1)),
+    (Ask::Stage(1, POM, b"p"), Said::Staged),
+    (Ask::Commit(1), Said::Deployed(1, &[2])),
+    (Ask::Items, Said::Number(1)),
+    (Ask::Changes, Said::Number(2)),
+    (Ask::Commit(1), Said::Deployed(1, &[])),
+    (Ask::Abort(1), Said::Ended(1)),
+    (Ask::Changes, Said::Number(2)),
+    (Ask::Commit(2), Said::NoSession),
+];
 
 #[test]
 fn the_result_is_kept_and_nothing_is_recorded_again(rt: HostRuntime) -> Result<(), Fail> {
-    let mut stock = Stock::new(rt.alloc())?;
-    stock.row(POM, b"p", Phase::Listed)?;
-    stock.bench.begin_as(&rt, 1);
-    stock.stage(&rt, POM, b"p")?;
-    assert_eq!(rt; stock.came(1), Came::Done(1, 1, 2));
-    assert_eq!(rt; stock.bench.records.items, 1);
-    assert_eq!(rt; stock.bench.records.changes, 2);
-    assert_eq!(rt; stock.came(1), Came::Done(1, 0, 0));
-    assert_eq!(rt; stock.bench.abort(1), Gone::Done(1));
-    assert_eq!(rt; stock.bench.records.changes, 2);
-    assert_eq!(rt; stock.came(2), Came::NoSession);
-    Ok(())
+    follow(&rt, Bench::new(rt.alloc())?, &OF_A_SECOND_TIME)
 }
+
+static OF_OTHER_BYTES: [(Ask, Said); 13] = [
+    (Ask::Restore(POM, b"p", Phase::Listed), Said::Done),
+    (
+        Ask::Restore(OLD_SNAPSHOT, b"abc", Phase::Fading(EARLIER)),
+        Said::Done,
+    ),
+    (Ask::Begin, Said::Opened(1)),
+    (Ask::Stage(1, POM, b"other"), Said::Staged),
+    (Ask::Stage(1, OLD_SNAPSHOT, b"x"), Said::Staged),
+    (Ask::Stage(1, OLDEST_SNAPSHOT, b"new"), Said::Staged),
+    (Ask::Commit(1), Said::Offends(OLD_SNAPSHOT, 3, 1)),
+    (Ask::Commit(1), Said::Offends(OLD_SNAPSHOT, 3, 1)),
+    (Ask::Changes, Said::Number(1)),
+    (Ask::Row(OLDEST_SNAPSHOT), Said::Nothing),
+    (Ask::Row(OLD_SNAPSHOT), Said::Row(2, EARLIER, Some(EARLIER))),
+    (Ask::Open, Said::Number(1)),
+    (Ask::Files(1), Said::Number(3)),
+];
 
 #[test]
 fn the_first_other_content_is_named_and_nothing_changes(rt: HostRuntime) -> Result<(), Fail> {
-    let mut stock = Stock::new(rt.alloc())?;
-    stock.row(POM, b"p", Phase::Listed)?;
-    stock.row(OLD_SNAPSHOT, b"abc", Phase::Fading(EARLIER))?;
-    stock.bench.begin_as(&rt, 1);
-    stock.stage(&rt, POM, b"other")?;
-    stock.stage(&rt, OLD_SNAPSHOT, b"x")?;
-    stock.stage(&rt, OLDEST_SNAPSHOT, b"new")?;
-    assert_eq!(rt; stock.came(1), Came::Offends(3, 1));
-    match stock.commit(1) {
-        Some(answer) => assert!(rt; names(&answer, OLD_SNAPSHOT)),
-        None => Err("another repository")?,
-    }
-    assert_eq!(rt; stock.bench.records.changes, 1);
-    assert_eq!(rt; stock.row_of(OLDEST_SNAPSHOT), None);
-    assert_eq!(rt;
-        stock.row_of(OLD_SNAPSHOT),
-        Some((2, EARLIER, Some(EARLIER)))
-    );
-    assert_eq!(rt; stock.bench.sessions.count(), 1);
-    assert_eq!(rt; stock.bench.files(1), Some(3));
-    Ok(())
+    follow(&rt, Bench::new(rt.alloc())?, &OF_OTHER_BYTES)
 }
+
+static OF_NO_POM: [(Ask, Said); 10] = [
+    (Ask::Begin, Said::Opened(1)),
+    (Ask::Stage(1, JAR, b"abc"), Said::Staged),
+    (Ask::Stage(1, BETA_JAR, b"abc"), Said::Staged),
+    // the first directory is named
+    (Ask::Commit(1), Said::MissingPom("org/acme/lib/2.0")),
+    (Ask::Row(JAR), Said::Nothing),
+    // a staged pom counts
+    (Ask::Stage(1, POM, b"p"), Said::Staged),
+    (Ask::Commit(1), Said::MissingPom("org/acme/lib/2.0-beta")),
+    (Ask::Changes, Said::Number(1)),
+    (Ask::Row(POM), Said::Nothing),
+    (Ask::Files(1), Said::Number(3)),
+];
 
 #[test]
 fn a_release_needs_its_pom(rt: HostRuntime) -> Result<(), Fail> {
-    let mut stock = Stock::new(rt.alloc())?;
-    stock.bench.begin_as(&rt, 1);
-    stock.stage(&rt, JAR, b"abc")?;
-    stock.stage(&rt, BETA_JAR, b"abc")?;
-    // the first directory is named
-    match stock.commit(1) {
-        Some(answer) => assert!(rt; names(&answer, "org/acme/lib/2.0")),
-        None => Err("another repository")?,
-    }
-    assert_eq!(rt; stock.row_of(JAR), None);
-    // a staged pom counts
-    stock.stage(&rt, POM, b"p")?;
-    match stock.commit(1) {
-        Some(answer) => assert!(rt; names(&answer, "org/acme/lib/2.0-beta")),
-        None => Err("another repository")?,
-    }
-    assert_eq!(rt; stock.bench.records.changes, 1);
-    assert_eq!(rt; stock.row_of(POM), None);
-    assert_eq!(rt; stock.bench.files(1), Some(3));
-    Ok(())
+    follow(&rt, Bench::new(rt.alloc())?, &OF_NO_POM)
 }
+
+static OF_A_POM: [(Ask, Said); 7] = [
+    (Ask::Restore(POM, b"p", Phase::Listed), Said::Done),
+    (Ask::Begin, Said::Opened(1)),
+    (Ask::Stage(1, JAR, b"abc"), Said::Staged),
+    (Ask::Stage(1, SOURCES, b"x"), Said::Staged),
+    (Ask::Commit(1), Said::Deployed(2, &[])),
+    (Ask::Row(JAR), Said::Row(2, T, None)),
+    (Ask::Row(SOURCES), Said::Row(3, T, None)),
+];
 
 #[test]
 fn a_pom_may_be_there_already(rt: HostRuntime) -> Result<(), Fail> {
-    let mut stock = Stock::new(rt.alloc())?;
-    stock.row(POM, b"p", Phase::Listed)?;
-    stock.bench.begin_as(&rt, 1);
-    stock.stage(&rt, JAR, b"abc")?;
-    stock.stage(&rt, SOURCES, b"x")?;
-    assert_eq!(rt; stock.came(1), Came::Done(2, 0, 0));
-    assert_eq!(rt; stock.row_of(JAR), Some((2, T, None)));
-    assert_eq!(rt; stock.row_of(SOURCES), Some((3, T, None)));
-    Ok(())
+    follow(&rt, Bench::new(rt.alloc())?, &OF_A_POM)
 }
+
+static OF_A_SNAPSHOT: [(Ask, Said); 4] = [
+    (Ask::Begin, Said::Opened(1)),
+    (Ask::Stage(1, SNAPSHOT, b"abc"), Said::Staged),
+    (Ask::Commit(1), Said::Deployed(1, &[])),
+    (Ask::Row(SNAPSHOT), Said::Row(1, T, None)),
+];
 
 #[test]
 fn a_snapshot_needs_no_pom(rt: HostRuntime) -> Result<(), Fail> {
-    let mut stock = Stock::new(rt.alloc())?;
-    stock.bench.begin_as(&rt, 1);
-    stock.stage(&rt, SNAPSHOT, b"abc")?;
-    assert_eq!(rt; stock.came(1), Came::Done(1, 0, 0));
-    assert_eq!(rt; stock.row_of(SNAPSHOT), Some((1, T, None)));
-    Ok(())
+    follow(&rt, Bench::new(rt.alloc())?, &OF_A_SNAPSHOT)
 }
+
+static OF_NO_FILES: [(Ask, Said); 4] = [
+    (Ask::Begin, Said::Opened(1)),
+    (Ask::Commit(1), Said::Deployed(0, &[])),
+    (Ask::Items, Said::Number(1)),
+    (Ask::LastEnded, Said::Number(1)),
+];
 
 #[test]
 fn a_session_without_files_is_done(rt: HostRuntime) -> Result<(), Fail> {
-    let mut stock = Stock::new(rt.alloc())?;
-    stock.bench.begin_as(&rt, 1);
-    assert_eq!(rt; stock.came(1), Came::Done(0, 0, 0));
-    assert_eq!(rt; stock.bench.records.items, 1);
-    assert_eq!(rt; stock.bench.records.ended, 1);
-    Ok(())
+    follow(&rt, Bench::new(rt.alloc())?, &OF_NO_FILES)
 }
+
+static OF_A_FAILED_COMMIT: [(Ask, Said); 15] = [
+    (
+        Ask::Restore(OLD_SNAPSHOT, b"x", Phase::Fading(EARLIER)),
+        Said::Done,
+    ),
+    (Ask::Begin, Said::Opened(1)),
+    (Ask::Stage(1, JAR, b"abc"), Said::Staged),
+    (Ask::Stage(1, POM, b"p"), Said::Staged),
+    (Ask::Stage(1, OLD_SNAPSHOT, b"x"), Said::Staged),
+    (Ask::Fail(true), Said::Done),
+    (Ask::Commit(1), Said::StoreFault),
+    (Ask::Row(JAR), Said::Nothing),
+    (Ask::Row(POM), Said::Nothing),
+    (Ask::Row(OLD_SNAPSHOT), Said::Row(1, EARLIER, Some(EARLIER))),
+    (Ask::Counts, Said::Counts(1, 1)),
+    (Ask::Files(1), Said::Number(3)),
+    (Ask::Fail(false), Said::Done),
+    (Ask::Commit(1), Said::Deployed(3, &[4])),
+    (Ask::Counts, Said::Counts(3, 0)),
+];
 
 #[test]
 fn nothing_is_deployed_where_that_is_not_recorded(rt: HostRuntime) -> Result<(), Fail> {
-    let mut stock = Stock::new(rt.alloc())?;
-    stock.row(OLD_SNAPSHOT, b"x", Phase::Fading(EARLIER))?;
-    stock.bench.begin_as(&rt, 1);
-    stock.stage(&rt, JAR, b"abc")?;
-    stock.stage(&rt, POM, b"p")?;
-    stock.stage(&rt, OLD_SNAPSHOT, b"x")?;
-    stock.bench.records.fails = true;
-    assert_eq!(rt; stock.came(1), Came::StoreFault);
-    assert_eq!(rt; stock.row_of(JAR), None);
-    assert_eq!(rt; stock.row_of(POM), None);
-    assert_eq!(rt;
-        stock.row_of(OLD_SNAPSHOT),
-        Some((1, EARLIER, Some(EARLIER)))
-    );
-    assert_eq!(rt; stock.hosted.counts(), (1, 1));
-    assert_eq!(rt; stock.bench.files(1), Some(3));
-    stock.bench.records.fails = false;
-    assert_eq!(rt; stock.came(1), Came::Done(3, 1, 4));
-    assert_eq!(rt; stock.hosted.counts(), (3, 0));
-    Ok(())
+    follow(&rt, Bench::new(rt.alloc())?, &OF_A_FAILED_COMMIT)
 }
+
+static OF_ONE_GIVEN_UP: [(Ask, Said); 5] = [
+    (Ask::Begin, Said::Opened(1)),
+    (Ask::Stage(1, POM, b"p"), Said::Staged),
+    (Ask::Abort(1), Said::Aborted(&[1])),
+    (Ask::Commit(1), Said::GivenUp),
+    (Ask::Row(POM), Said::Nothing),
+];
 
 #[test]
 fn one_that_was_given_up_deploys_nothing(rt: HostRuntime) -> Result<(), Fail> {
-    let mut stock = Stock::new(rt.alloc())?;
-    stock.bench.begin_as(&rt, 1);
-    stock.stage(&rt, POM, b"p")?;
-    assert_eq!(rt; stock.bench.abort(1), Gone::Aborted(1, 1));
-    assert_eq!(rt; stock.came(1), Came::Aborted);
-    assert_eq!(rt; stock.row_of(POM), None);
-    Ok(())
+    follow(&rt, Bench::new(rt.alloc())?, &OF_ONE_GIVEN_UP)
 }

@@ -3,6 +3,8 @@
 #![tactic(auto)]
 
 #[cfg(test)]
+mod asks;
+#[cfg(test)]
 mod bench;
 #[cfg(test)]
 mod commits;
@@ -16,5 +18,3 @@ mod records;
 mod restarts;
 #[cfg(test)]
 mod stagings;
-#[cfg(test)]
-mod stock;

@@ -1,62 +1,67 @@
 // Sessions that are opened: their numbers, how many there may be, and records that fail.
-use crate::bench::{Bench, Gone};
-use deploy_session::Begin;
-use std::process::Abort;
+use crate::asks::{Ask, Said};
+use crate::bench::{Bench, follow};
 use std::test::Fail;
+
+static OF_TWO: [(Ask, Said); 10] = [
+    (Ask::Open, Said::Number(0)),
+    (Ask::Begin, Said::Opened(1)),
+    (Ask::Begin, Said::Opened(2)),
+    (Ask::LastOpened, Said::Number(2)),
+    (Ask::Changes, Said::Number(2)),
+    (Ask::Open, Said::Number(2)),
+    (Ask::Opened(2), Said::For("releases")),
+    (Ask::Files(2), Said::Number(0)),
+    (Ask::Opened(3), Said::Nothing),
+    (Ask::Opened(0), Said::Nothing),
+];
 
 #[test]
 fn numbers_rise_from_one(rt: HostRuntime) -> Result<(), Fail> {
-    let mut bench = Bench::new(rt.alloc());
-    assert_eq!(rt; bench.sessions.count(), 0);
-    bench.begin_as(&rt, 1);
-    bench.begin_as(&rt, 2);
-    assert_eq!(rt; bench.records.opened, 2);
-    assert_eq!(rt; bench.records.changes, 2);
-    assert_eq!(rt; bench.sessions.count(), 2);
-    assert!(rt; bench.is_for(2, "releases"));
-    assert_eq!(rt; bench.files(2), Some(0));
-    assert!(rt; bench.sessions.opened(3).is_none());
-    assert!(rt; bench.sessions.opened(0).is_none());
-    Ok(())
+    follow(&rt, Bench::new(rt.alloc())?, &OF_TWO)
 }
+
+static OF_ONE_THAT_ENDED: [(Ask, Said); 5] = [
+    (Ask::Begin, Said::Opened(1)),
+    (Ask::Abort(1), Said::Aborted(&[])),
+    (Ask::Begin, Said::Opened(2)),
+    (Ask::Opened(1), Said::Nothing),
+    (Ask::Open, Said::Number(1)),
+];
 
 #[test]
 fn the_number_of_one_that_ended_is_not_drawn_again(rt: HostRuntime) -> Result<(), Fail> {
-    let mut bench = Bench::new(rt.alloc());
-    bench.begin_as(&rt, 1);
-    assert_eq!(rt; bench.abort(1), Gone::Aborted(0, 0));
-    bench.begin_as(&rt, 2);
-    assert!(rt; bench.sessions.opened(1).is_none());
-    assert_eq!(rt; bench.sessions.count(), 1);
-    Ok(())
+    follow(&rt, Bench::new(rt.alloc())?, &OF_ONE_THAT_ENDED)
 }
+
+static OF_SIXTY_FOUR: [(Ask, Said); 8] = [
+    (Ask::BeginBelow(65), Said::Done),
+    (Ask::Open, Said::Number(64)),
+    (Ask::Begin, Said::TooMany),
+    (Ask::Changes, Said::Number(64)),
+    (Ask::Abort(64), Said::Aborted(&[])),
+    (Ask::Open, Said::Number(63)),
+    (Ask::Begin, Said::Opened(65)),
+    (Ask::Begin, Said::TooMany),
+];
 
 #[test]
 fn sixty_four_are_open_at_most(rt: HostRuntime) -> Result<(), Fail> {
-    let mut bench = Bench::new(rt.alloc());
-    for number in 1..65 {
-        bench.begin_as(&rt, number);
-    }
-    assert_eq!(rt; bench.sessions.count(), 64);
-    assert_eq!(rt; bench.begin(), Begin::TooMany);
-    assert_eq!(rt; bench.records.changes, 64);
-    assert_eq!(rt; bench.abort(64), Gone::Aborted(0, 0));
-    assert_eq!(rt; bench.sessions.count(), 63);
-    bench.begin_as(&rt, 65);
-    assert_eq!(rt; bench.begin(), Begin::TooMany);
-    Ok(())
+    follow(&rt, Bench::new(rt.alloc())?, &OF_SIXTY_FOUR)
 }
+
+static OF_A_FAILED_COMMIT: [(Ask, Said); 8] = [
+    (Ask::Begin, Said::Opened(1)),
+    (Ask::Fail(true), Said::Done),
+    (Ask::Begin, Said::StoreFault),
+    (Ask::Open, Said::Number(1)),
+    (Ask::Opened(2), Said::Nothing),
+    (Ask::Fail(false), Said::Done),
+    (Ask::Begin, Said::Opened(2)),
+    (Ask::Changes, Said::Number(2)),
+];
 
 #[test]
 fn nothing_is_open_that_is_not_recorded(rt: HostRuntime) -> Result<(), Fail> {
-    let mut bench = Bench::new(rt.alloc());
-    bench.begin_as(&rt, 1);
-    bench.records.fails = true;
-    assert_eq!(rt; bench.begin(), Begin::StoreFault);
-    assert_eq!(rt; bench.sessions.count(), 1);
-    assert!(rt; bench.sessions.opened(2).is_none());
-    bench.records.fails = false;
-    bench.begin_as(&rt, 2);
-    assert_eq!(rt; bench.records.changes, 2);
-    Ok(())
+    follow(&rt, Bench::new(rt.alloc())?, &OF_A_FAILED_COMMIT)
 }

@@ -10,7 +10,7 @@ use std::alloc::Global;
 pub struct CountedRecords {
     pub fails: bool,
     pub changes: u64,
-    pub items: usize,
+    pub items: u64,
     pub opened: u64,
     pub ended: u64,
     faults: u64,
@@ -55,7 +55,7 @@ impl Records for CountedRecords {
             return Err(CommitFault::Failed);
         }
         self.changes = self.changes.saturating_add(1);
-        self.items = change.len();
+        self.items = change.len() as u64;
         if let Some(item) = change.items().last() {
             self.note(item);
         }
