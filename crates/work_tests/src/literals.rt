@@ -28,13 +28,18 @@ members = [\"releases\", \"snapshots\", \"central\"]
 pub const INPUT: &str =
     "PUT /repository/releases/org/acme/lib/1.0/lib-1.0.jar HTTP/1.1\r\nHost: x\r\nContent-Length: 3\r\n\r\nabcGET /repository/releases/org/acme/lib/1.0/lib-1.0.jar HTTP/1.1\r\nHost: x\r\nConnection: close\r\n\r\n";
 
-/// Four connections, each with a PUT and a GET of a file of its own.
-pub const INPUTS: [&str; 4] = [
-    "PUT /repository/releases/org/acme/lib/1.1/lib-1.1.jar HTTP/1.1\r\nHost: x\r\nContent-Length: 3\r\n\r\nabcGET /repository/releases/org/acme/lib/1.1/lib-1.1.jar HTTP/1.1\r\nHost: x\r\nConnection: close\r\n\r\n",
-    "PUT /repository/releases/org/acme/lib/1.2/lib-1.2.jar HTTP/1.1\r\nHost: x\r\nContent-Length: 3\r\n\r\nabcGET /repository/releases/org/acme/lib/1.2/lib-1.2.jar HTTP/1.1\r\nHost: x\r\nConnection: close\r\n\r\n",
-    "PUT /repository/releases/org/acme/lib/1.3/lib-1.3.jar HTTP/1.1\r\nHost: x\r\nContent-Length: 3\r\n\r\nabcGET /repository/releases/org/acme/lib/1.3/lib-1.3.jar HTTP/1.1\r\nHost: x\r\nConnection: close\r\n\r\n",
-    "PUT /repository/releases/org/acme/lib/1.4/lib-1.4.jar HTTP/1.1\r\nHost: x\r\nContent-Length: 3\r\n\r\nabcGET /repository/releases/org/acme/lib/1.4/lib-1.4.jar HTTP/1.1\r\nHost: x\r\nConnection: close\r\n\r\n",
-];
+// Four connections, each with a PUT and a GET of a file of its own.
+pub const INPUT_1: &str =
+    "PUT /repository/releases/org/acme/lib/1.1/lib-1.1.jar HTTP/1.1\r\nHost: x\r\nContent-Length: 3\r\n\r\nabcGET /repository/releases/org/acme/lib/1.1/lib-1.1.jar HTTP/1.1\r\nHost: x\r\nConnection: close\r\n\r\n";
+
+pub const INPUT_2: &str =
+    "PUT /repository/releases/org/acme/lib/1.2/lib-1.2.jar HTTP/1.1\r\nHost: x\r\nContent-Length: 3\r\n\r\nabcGET /repository/releases/org/acme/lib/1.2/lib-1.2.jar HTTP/1.1\r\nHost: x\r\nConnection: close\r\n\r\n";
+
+pub const INPUT_3: &str =
+    "PUT /repository/releases/org/acme/lib/1.3/lib-1.3.jar HTTP/1.1\r\nHost: x\r\nContent-Length: 3\r\n\r\nabcGET /repository/releases/org/acme/lib/1.3/lib-1.3.jar HTTP/1.1\r\nHost: x\r\nConnection: close\r\n\r\n";
+
+pub const INPUT_4: &str =
+    "PUT /repository/releases/org/acme/lib/1.4/lib-1.4.jar HTTP/1.1\r\nHost: x\r\nContent-Length: 3\r\n\r\nabcGET /repository/releases/org/acme/lib/1.4/lib-1.4.jar HTTP/1.1\r\nHost: x\r\nConnection: close\r\n\r\n";
 
 /// The file is taken, and given.
 pub const OUTPUT: &str =

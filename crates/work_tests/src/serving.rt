@@ -1,81 +1,129 @@
-// A server over objects in memory.
+// A server over objects in memory. No function here says what it gives, so that who calls several of them carries no facts.
 ghost use Rattle.std.specs.Prelude.{◌<◌, vec_len};
 
-use crate::literals::SETTINGS;
-use outside::{Blobs, Duplex};
-use outside_memory::{FaultScript, MemLink, MemSink, MemSource, ScriptClock, ScriptPort};
-use outside_pace::ScriptPace;
+use crate::cases::Case;
+use outside::{Blobs, Clock, Duplex, Port, Sink, Source};
+use outside_meeting::HeldBlobs;
+use outside_memory::{FaultScript, MemBlobs, MemLink, MemSink, MemSource, ScriptClock, ScriptPort};
+use outside_pace::{Pace, ScriptPace};
 use repo_run::Ran;
-use row_tables::MemRecords;
+use row_tables::{MemRecords, Records};
 use run_desks::{Cleaner, Desk};
 use run_serve::run;
 use std::alloc::{AllocError, Global};
+use std::process::Abort;
 use std::sync::Wait;
+use std::test::Fail;
 use std::thread::Threads;
 
-/// A port that gives connections in memory.
-pub type MemPort = ScriptPort<MemLink>;
+type MemPort = ScriptPort<MemLink>;
 
-/// A server that has ended, and the sink that took its line.
-#[derive(Drop)]
-pub struct Over<B: Blobs> {
-    pub ran: Ran<MemPort, B, ScriptPace, MemRecords, ScriptClock>,
-    pub out: MemSink,
+type HeldDesk = Desk<MemPort, HeldBlobs>;
+
+type HeldCleaner = Cleaner<HeldBlobs, ScriptPace>;
+
+type HeldRan = Ran<MemPort, HeldBlobs, ScriptPace, MemRecords, ScriptClock>;
+
+// A run of which nothing is known: what it came to is compared.
+fn run_plainly<
+    P: Port + Drop + Send,
+    B: Blobs + Drop + Send,
+    Q: Pace + Drop + Send,
+    K: Records + Send,
+    C: Clock + Send,
+    S: Source,
+    O: Sink,
+    R: Threads + Wait + Sync,
+>(
+    rt: &R,
+    alloc: Global,
+    words: &[String],
+    settings: &mut S,
+    desks: Vec<Desk<P, B>>,
+    cleaner: Cleaner<B, Q>,
+    records: K,
+    clock: C,
+    out: &mut O,
+) -> Ran<P, B, Q, K, C>
+where
+    P::Link: Send,
+    B::Held: Send,
+    requires { 0 < vec_len desks }
+{
+    run(
+        rt, alloc, words, settings, desks, cleaner, records, clock, out,
+    )
 }
 
-impl<B: Blobs> Over<B> {
-    /// Whether it ended with this status and this line.
-    pub fn ended(&self, status: u8, line: &str) -> bool {
-        self.ran.status == status && self.out.bytes() == line.as_bytes()
-    }
-
-    /// Whether there are so many desks, and each one's one connection came back with this output.
-    pub fn all_took(&self, count: usize, output: &str) -> bool {
-        for desk in &self.ran.desks {
-            if !took(desk, output) {
-                return false;
-            }
-        }
-        self.ran.desks.len() == count
-    }
-
-    /// Whether the first desk's one connection came back with this output.
-    pub fn first_took(&self, output: &str) -> bool {
-        match self.ran.desks.get(0) {
-            Some(desk) => took(desk, output),
-            None => false,
-        }
-    }
+/// The first twin over a store without blobs; so many others are to meet.
+pub fn first_twin(alloc: Global, members: u64) -> Result<HeldBlobs, AllocError> {
+    let store = MemBlobs::new(alloc, FaultScript::none(alloc));
+    HeldBlobs::new(alloc, store, members)
 }
 
-/// Whether a port gave one connection back, which took this output.
-fn took<B: Blobs>(desk: &Desk<MemPort, B>, output: &str) -> bool {
-    match desk.port.given_back() {
-        [link] => link.sink.bytes() == output.as_bytes(),
-        _ => false,
-    }
+// A source that gives a text, so many bytes a read.
+fn source_of(alloc: Global, text: &str, most: usize) -> Result<MemSource, AllocError> {
+    let bytes = Vec::from_slice(alloc, text.as_bytes())?;
+    Ok(MemSource::new(bytes, most.max(1), FaultScript::none(alloc)))
 }
 
-/// A connection that gives this input, seven bytes at a time.
+fn sink_of(alloc: Global, room: usize) -> Result<MemSink, AllocError> {
+    Ok(MemSink::new(alloc, room, FaultScript::none(alloc))?)
+}
+
+// A connection that gives this input, seven bytes at a time.
 fn link_of(alloc: Global, input: &str) -> Result<MemLink, AllocError> {
-    let bytes = Vec::from_slice(alloc, input.as_bytes())?;
-    let source = MemSource::new(bytes, 7, FaultScript::none(alloc));
-    let sink = MemSink::new(alloc, 10_000, FaultScript::none(alloc))?;
+    let source = source_of(alloc, input, 7)?;
+    let sink = sink_of(alloc, 10_000)?;
     Ok(Duplex { source, sink })
 }
 
-/// A port that gives a connection for each of these inputs, and fails at the calls with these numbers.
-pub fn port_of(alloc: Global, inputs: &[&str], failing: &[u64]) -> Result<MemPort, AllocError> {
+fn links_of(alloc: Global, inputs: &[&str]) -> Result<Vec<MemLink>, AllocError> {
     let mut links = Vec::new(alloc);
     for input in inputs {
         links.push(link_of(alloc, input)?)?;
     }
-    let faults = FaultScript::failing_at(Vec::from_slice(alloc, failing)?);
-    ScriptPort::new(alloc, links, faults)
+    Ok(links)
 }
 
-/// The words of a server.
-fn words(alloc: Global) -> Result<Vec<String>, AllocError> {
+fn port_of(alloc: Global, inputs: &[&str], failing: &[u64]) -> Result<MemPort, AllocError> {
+    let faults = FaultScript::failing_at(Vec::from_slice(alloc, failing)?);
+    let links = links_of(alloc, inputs)?;
+    Ok(ScriptPort::new(alloc, links, faults)?)
+}
+
+fn desk_of(
+    alloc: Global,
+    twin: &HeldBlobs,
+    inputs: &[&str],
+    failing: &[u64],
+) -> Result<HeldDesk, AllocError> {
+    let port = port_of(alloc, inputs, failing)?;
+    let blobs = twin.member()?;
+    Ok(Desk { port, blobs })
+}
+
+// The desks of a case, whose blobs are twins of this one.
+fn desks_of(alloc: Global, twin: &HeldBlobs, case: &Case) -> Result<Vec<HeldDesk>, AllocError> {
+    let mut desks = Vec::new(alloc);
+    for inputs in case.desks {
+        desks.push(desk_of(alloc, twin, inputs, case.failing)?)?;
+    }
+    Ok(desks)
+}
+
+// A timer that gives these answers, for a cleaner with these blobs.
+fn cleaner_of(
+    alloc: Global,
+    blobs: HeldBlobs,
+    answers: &[bool],
+) -> Result<HeldCleaner, AllocError> {
+    let pace = ScriptPace::new(alloc, Vec::from_slice(alloc, answers)?)?;
+    Ok(Cleaner { blobs, pace })
+}
+
+// The words of a server.
+fn words_of(alloc: Global) -> Result<Vec<String>, AllocError> {
     let mut words = Vec::new(alloc);
     for word in ["serve", "settings.toml", "data", "8080"] {
         words.push(String::from_str(alloc, word)?)?;
@@ -83,60 +131,138 @@ fn words(alloc: Global) -> Result<Vec<String>, AllocError> {
     Ok(words)
 }
 
-/// A timer that gives these answers, for a cleaner with these blobs.
-pub fn cleaner_of<B: Blobs + Drop>(
-    alloc: Global,
-    blobs: B,
-    answers: &[bool],
-) -> Result<Cleaner<B, ScriptPace>, AllocError> {
-    let pace = ScriptPace::new(alloc, Vec::from_slice(alloc, answers)?)?;
-    Ok(Cleaner { blobs, pace })
+// Where a server reads its settings, and where it prints its line.
+#[derive(Drop)]
+struct Ends {
+    settings: MemSource,
+    out: MemSink,
 }
 
-/// Runs the program as a server over no records, with these settings and desks and this cleaner.
-pub fn server_by<B: Blobs + Drop + Send, R: Threads + Wait + Sync>(
+fn ends_of(alloc: Global, case: &Case) -> Result<Ends, AllocError> {
+    let settings = source_of(alloc, case.settings, 1_000_000)?;
+    let out = sink_of(alloc, 1000)?;
+    Ok(Ends { settings, out })
+}
+
+// A server that has ended, and the sink that took its line.
+#[derive(Drop)]
+struct Over {
+    ran: HeldRan,
+    out: MemSink,
+}
+
+// Whether so many connections came back, each of which took this output.
+fn are_given(links: &[MemLink], count: usize, output: &str) -> bool {
+    for link in links {
+        if link.sink.bytes() != output.as_bytes() {
+            return false;
+        }
+    }
+    links.len() == count
+}
+
+// What the others of a case say of a desk.
+fn is_left(desk: &HeldDesk, count: usize, case: &Case) -> bool {
+    desk.blobs.faults() == case.faults && are_given(desk.port.given_back(), count, case.output)
+}
+
+impl Over {
+    fn has_ended(&self, case: &Case) -> bool {
+        self.ran.status == case.status && self.out.bytes() == case.line.as_bytes()
+    }
+
+    fn has_desks(&self, case: &Case) -> bool {
+        for (desk, count) in self.ran.desks.iter().zip(case.given) {
+            if !is_left(desk, *count, case) {
+                return false;
+            }
+        }
+        self.ran.desks.len() == case.given.len()
+    }
+
+    fn has_paused(&self, case: &Case) -> bool {
+        self.ran.cleaner.pace.kept() == case.pauses
+    }
+}
+
+// Runs the program as a server over no records.
+fn over_of<R: Threads + Wait + Sync>(
     rt: &R,
     alloc: Global,
-    settings: &str,
-    desks: Vec<Desk<MemPort, B>>,
-    cleaner: Cleaner<B, ScriptPace>,
-) -> Result<Over<B>, AllocError>
-where
-    B::Held: Send,
+    words: &[String],
+    desks: Vec<HeldDesk>,
+    cleaner: HeldCleaner,
+    ends: Ends,
+) -> Over
     requires { 0 < vec_len desks }
 {
-    let words = words(alloc)?;
-    let text = Vec::from_slice(alloc, settings.as_bytes())?;
-    let mut source = MemSource::new(text, 1_000_000, FaultScript::none(alloc));
-    let mut out = MemSink::new(alloc, 1000, FaultScript::none(alloc))?;
+    let Ends { settings, out } = ends;
+    let mut settings = settings;
+    let mut out = out;
     let records = MemRecords::new(alloc, Vec::new(alloc));
     let clock = ScriptClock::stepping(alloc, 1_709_208_000, 1);
-    let ran = run(
+    let ran = run_plainly(
         rt,
         alloc,
-        words.as_slice(),
-        &mut source,
+        words,
+        &mut settings,
         desks,
         cleaner,
         records,
         clock,
         &mut out,
     );
-    Ok(Over { ran, out })
+    Over { ran, out }
 }
 
-/// The same with the usual settings. The cleaner has these blobs, and a timer that gives these answers.
-pub fn server<B: Blobs + Drop + Send, R: Threads + Wait + Sync>(
+// Runs the server of a case; nothing where it has no desk.
+fn over_by<R: Threads + Wait + Sync>(
     rt: &R,
     alloc: Global,
-    desks: Vec<Desk<MemPort, B>>,
-    blobs: B,
-    answers: &[bool],
-) -> Result<Over<B>, AllocError>
-where
-    B::Held: Send,
-    requires { 0 < vec_len desks }
-{
-    let cleaner = cleaner_of(alloc, blobs, answers)?;
-    server_by(rt, alloc, SETTINGS, desks, cleaner)
+    case: &Case,
+) -> Result<Option<Over>, AllocError> {
+    let twin = first_twin(alloc, case.members)?;
+    let desks = desks_of(alloc, &twin, case)?;
+    let cleaner = cleaner_of(alloc, twin, case.passes)?;
+    let ends = ends_of(alloc, case)?;
+    let words = words_of(alloc)?;
+    if desks.is_empty() {
+        return Ok(None);
+    }
+    Ok(Some(over_of(rt, alloc, words.as_slice(), desks, cleaner, ends)))
+}
+
+// What is not as the case says.
+fn other_of(over: &Over, case: &Case) -> Option<&'static str> {
+    if !over.has_ended(case) {
+        return Some("the end");
+    }
+    if !over.has_desks(case) {
+        return Some("the desks");
+    }
+    if !over.has_paused(case) {
+        return Some("the pauses");
+    }
+    None
+}
+
+fn first_other<R: Threads + Wait + Sync>(
+    rt: &R,
+    alloc: Global,
+    case: &Case,
+) -> Result<Option<&'static str>, AllocError> {
+    match over_by(rt, alloc, case)? {
+        Some(over) => Ok(other_of(&over, case)),
+        None => Ok(Some("no desk")),
+    }
+}
+
+/// A server comes to what its case says.
+pub fn serve<R: Abort + Threads + Wait + Sync>(
+    rt: &R,
+    alloc: Global,
+    case: &Case,
+) -> Result<(), Fail> {
+    assert_eq!(rt; first_other(rt, alloc, case)?, None);
+    Ok(())
 }
