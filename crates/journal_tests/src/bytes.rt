@@ -52,7 +52,7 @@ fn one_deployed_file_makes_120_bytes(rt: HostRuntime) -> Result<(), Fail> {
 #[test]
 fn an_empty_change_undoes_a_frame(rt: HostRuntime) -> Result<(), Fail> {
     let alloc = rt.alloc();
-    let script = DiskScript::failing_at([10].to_vec(alloc)?, 0);
+    let script = DiskScript::failing_at([8].to_vec(alloc)?, 0);
     let mut journal = over(disk_of(alloc, b"", script)?, u64::MAX);
     open(alloc, &mut journal)?;
     assert_eq!(rt;

@@ -61,7 +61,7 @@ fn stops_well(rt: &HostRuntime, before: u8, calls: u64, whole: u64) -> Result<bo
 fn bad_stop(rt: &HostRuntime) -> Result<Option<u64>, Fail> {
     for calls in 0..14 {
         make_folder(rt, b"")?;
-        if !stops_well(rt, 0, calls, 11)? {
+        if !stops_well(rt, 0, calls, 9)? {
             return Ok(Some(calls));
         }
         make_folder(rt, &ONE_SESSION)?;

@@ -61,7 +61,7 @@ fn bad_stop(alloc: Global, file: &[u8], before: u8, whole: u64) -> Result<Option
 
 #[test]
 fn a_commit_to_a_new_file_stops_behind_each_call(rt: HostRuntime) -> Result<(), Fail> {
-    assert_eq!(rt; bad_stop(rt.alloc(), b"", 0, 11)?, None);
+    assert_eq!(rt; bad_stop(rt.alloc(), b"", 0, 9)?, None);
     Ok(())
 }
 
@@ -80,11 +80,22 @@ fn a_commit_to_a_longer_file_stops_behind_each_call(rt: HostRuntime) -> Result<(
     Ok(())
 }
 
-// Whether a load of this file that is stopped behind so many calls leaves this last session.
+// Whether each file that a crash may leave of this journal has so many bytes.
+fn all_have(alloc: Global, journal: &MemJournal, size: usize) -> Result<bool, AllocError> {
+    for image in images_of(alloc, journal.disk().inside())? {
+        if image.len() < size {
+            return Ok(false);
+        }
+    }
+    Ok(true)
+}
+
+// Whether a load of this file that is stopped behind so many calls leaves this last session, and takes off nothing of the
+// file's beginning of 8 bytes.
 fn load_leaves(alloc: Global, file: &[u8], last: u8, calls: u64) -> Result<bool, AllocError> {
     let mut journal = journal_of(alloc, file, calls)?;
     let _ = open(alloc, &mut journal);
-    all_find(alloc, &journal, &[last])
+    Ok(all_find(alloc, &journal, &[last])? && all_have(alloc, &journal, file.len().min(8))?)
 }
 
 // Whether a load of this file that is stopped behind any call leaves what it has.
@@ -151,14 +162,16 @@ fn failed_at(
 }
 
 // Behind the failure session 2 is opened: the first change or none while the second is not made, the second alone once it is.
+// The file keeps its beginning.
 fn undoes_well(alloc: Global, failing: u64, part: u64, calls: u64) -> Result<bool, AllocError> {
     let Some(mut journal) = failed_at(alloc, &[failing], part, calls)? else {
         return Ok(false);
     };
-    match add(alloc, &mut journal, &opened(2)) {
-        Ok(()) => all_find(alloc, &journal, &[2]),
-        Err(_) => all_find(alloc, &journal, &[0, 2, 5]),
-    }
+    let found = match add(alloc, &mut journal, &opened(2)) {
+        Ok(()) => all_find(alloc, &journal, &[2])?,
+        Err(_) => all_find(alloc, &journal, &[0, 2, 5])?,
+    };
+    Ok(found && all_have(alloc, &journal, 8)?)
 }
 
 // Behind the failure the journal is loaded again: the change or none while that is not done, none once it is.
@@ -186,9 +199,9 @@ fn both_do_well(alloc: Global, failing: u64, part: u64) -> Result<bool, AllocErr
     Ok(true)
 }
 
-// The first call that fails of which it is not. The load of a new file has the calls 0 to 6, the commit up to 4 more.
+// The first call that fails of which it is not. The load of a new file has the calls 0 to 4, the commit up to 4 more.
 fn bad_failure(alloc: Global, part: u64) -> Result<Option<u64>, AllocError> {
-    for failing in 7..11 {
+    for failing in 5..9 {
         if !both_do_well(alloc, failing, part)? {
             return Ok(Some(failing));
         }
@@ -223,7 +236,7 @@ fn undoes_later(alloc: Global, failing: u64, undo: u64, part: u64) -> Result<boo
 
 // The undo has 4 calls, right behind the one that failed: the first failure of which one of them does not do well.
 fn bad_undo(alloc: Global, part: u64) -> Result<Option<u64>, AllocError> {
-    for failing in 7..11u64 {
+    for failing in 5..9u64 {
         for undo in failing + 1..failing + 5 {
             if !undoes_later(alloc, failing, undo, part)? {
                 return Ok(Some(failing));

@@ -1,9 +1,9 @@
 -- What a crash leaves while a file is made anew, or its gate is closed.
-use Rattle.std.proofs.Common.{◌≡◌, ◌⊎◌, inl, inr, ℕ, ◌+◌, ◌≤◌, Bool, true, false, List, [], ◌∷◌, ◌++◌, length, take, drop, refl, sym, ◌∙◌, ap, subst, arith, length-append}
+use Rattle.std.proofs.Common.{◌≡◌, ℕ, ◌+◌, ◌≤◌, Bool, true, false, List, [], ◌∷◌, ◌++◌, length, take, drop, refl, sym, ◌∙◌, ap, subst, arith, length-append}
 use Rattle.std.specs.Prelude.{if◌then◌else◌, unwrap_or, Option, None, Some}
 use Rattle.std.proofs.lemmas.List.{drop_more, drop_all, take_at}
 use Rattle.std.proofs.lemmas.Option.{get_or_from_slice_get}
-use Rattle.record_disk.specs.Disk.{Trace, content, Torn, AllImages, Here, Told, Keeps, IsDurable, Tears, Cuts}
+use Rattle.record_disk.specs.Disk.{Trace, content, written, Torn, AllImages, Here, Told, Keeps, IsDurable, Tears}
 use Rattle.record_log.specs.Frames.{Frames, New, Foreign, Framed, frames, payloads_of, gate_of, end_of, EndsAt, Holds, head_of}
 use Rattle.record_log.specs.Log.{at_rest, IsAtRest, HasFront, HasTail}
 use Rattle.record_disk.proofs.Moments.{joined, weaker}
@@ -18,21 +18,22 @@ IsFew image = length image ≤ 9
 few_holds : (image : List ℕ) → IsFew image → Holds [] image
 few_holds image few = ap payloads_of (frames_short image few)
 
-pub renew_starts : (s t : Trace) → Cuts 0 s t → AllImages IsFew s → Keeps (Holds []) s t
-renew_starts s t cuts few = record { moments = weaker _ (Holds []) s t (λ c from. few_holds c (cut_few c from.0 (few from.0 from.1) from.2)) cuts.moments; image = cuts.image }
-  where
-    cut_few : (c from : List ℕ) → IsFew from → (c ≡ from) ⊎ (c ≡ take 0 from) → IsFew c
-    cut_few c from is (inl same) = omega (arith, is, ap length same)
-    cut_few c from is (inr none) = omega (arith, ap length none)
-
-pub renew_goes_on : (s t u : Trace) → Cuts 0 s t → IsDurable (take 0 (content s)) t → Tears 0 9 t u → AllImages IsFew s → Keeps (Holds []) s u
-renew_goes_on s t u cuts durable tears few = record {
-  moments = joined (Holds []) s t u (renew_starts s t cuts few).moments (weaker _ (Holds []) t u (λ c from. few_holds c (torn_few c from.0 (durable.only from.0 from.1) from.2)) tears.moments);
+pub renew_keeps : (s t : Trace) → Tears 0 9 s t → AllImages IsFew s → Keeps (Holds []) s t
+renew_keeps s t tears few = record {
+  moments = weaker _ (Holds []) s t (λ c from. few_holds c (torn_few c from.0 (few from.0 from.1) from.2)) tears.moments;
   image = tears.image;
 }
   where
-    torn_few : (c from : List ℕ) → from ≡ [] → Torn 0 9 from c → IsFew c
-    torn_few c from none torn = omega (arith, torn.no_longer, ap length none)
+    torn_few : (c from : List ℕ) → IsFew from → Torn 0 9 from c → IsFew c
+    torn_few c from is torn = omega (arith, torn.no_longer, is)
+
+-- a file of at most 9 bytes, with those of a new one written over them
+pub renew_rests : (s t : Trace) → IsDurable (written (content s) 0 (at_rest [])) t → IsFew (content s) → IsAtRest 8 [] t
+renew_rests s t durable few = record {
+  durable = subst (λ f. IsDurable f t) (ap (λ (l : List ℕ). at_rest [] ++ l) (drop_all 9 (content s) few)) durable;
+  place = refl;
+  short = tt;
+}
 
 abbrev the : Option (List (List ℕ)) → List (List ℕ)
 the None = []
@@ -92,8 +93,10 @@ module _ (bytes : List ℕ) (ps : List (List ℕ)) (holds : Holds ps bytes) (non
   fresh_moments s t renewed durable qs held =
       subst (λ rs. Keeps (Holds rs) s t) (one_list bytes [] qs (few_holds bytes is_few) held) (renewed (λ c image. subst IsFew (sym (durable.only c image)) is_few))
 
-  pub fresh_rests : (s t : Trace) → IsAtRest 8 [] t → IsDurable bytes s → (qs : List (List ℕ)) → Holds qs bytes → IsAtRest 8 qs t
-  fresh_rests s t rests durable qs held = subst (λ rs. IsAtRest 8 rs t) (one_list bytes [] qs (few_holds bytes is_few) held) rests
+pub fresh_rests : (bytes : List ℕ) → gate_of (frames bytes) ≡ None → (s t : Trace) → (IsFew (content s) → IsAtRest 8 [] t) → IsDurable bytes s → (qs : List (List ℕ)) → Holds qs bytes → IsAtRest 8 qs t
+fresh_rests bytes none s t rests durable qs held =
+    let few : IsFew bytes = is_few bytes qs held none in
+    subst (λ rs. IsAtRest 8 rs t) (one_list bytes [] qs (few_holds bytes few) held) (rests (subst IsFew (sym durable.reads) few))
 
 -- the gate stands behind the magic
 pub behind_magic : (read : Frames) → 8 ≤ end_of read

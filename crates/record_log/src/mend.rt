@@ -8,7 +8,7 @@ use crate::faults::LogFault;
 use crate::frame::undo_frame;
 use crate::frames::gate_in;
 use outside::Failed;
-use record_disk::{Disk, cut_through, write_through};
+use record_disk::{Disk, write_through};
 use std::alloc::Global;
 
 /// The magic and a closed gate.
@@ -38,15 +38,14 @@ fn read_all<D: Disk>(alloc: Global, disk: &mut D) -> Result<Vec<u8>, LogFault>
     Ok(bytes)
 }
 
-/// Makes a file that holds nothing anew.
+/// Makes a file that holds nothing anew, of at most as many bytes as are written over them. Nothing is cut, so one that has the
+/// magic keeps it at each moment.
 fn renew<D: Disk>(disk: &mut D) -> Result<(), Failed>
     ensures cause { HasCause (D.faults disk.old) (D.faults disk.new) result }
     ensures told { Told (D.trace disk.old) (D.trace disk.new) (λ s t. AllImages (λ image. length image ≤ 9) s → Keeps (Holds []) s t) }
-    ensures done { OnOk result (Told (D.trace disk.old) (D.trace disk.new) (λ s t. IsAtRest 8 [] t)) }
+    ensures done { OnOk result (Told (D.trace disk.old) (D.trace disk.new) (λ s t. length (content s) ≤ 9 → IsAtRest 8 [] t)) }
 {
-    cut_through(disk, 0)?;
-    write_through(disk, 0, &NEW)?;
-    Ok(())
+    write_through(disk, 0, &NEW)
 }
 
 /// Whether a file with these bytes ends with a closed gate at a place.

@@ -185,10 +185,8 @@ const EMPTY_CREATED_WHOLE: Row = Row {
     found: SECOND_ALONE,
 };
 
-// A new file is cut, and its beginning written, and each is synced.
-static PUT_EMPTY_DISK: [Row; 12] = [
-    EMPTY_NOT_STARTED,
-    EMPTY_NOT_STARTED,
+// The beginning of a new file is written and synced.
+static PUT_EMPTY_DISK: [Row; 10] = [
     EMPTY_NOT_STARTED,
     EMPTY_NOT_STARTED,
     EMPTY_NOT_STARTED,
