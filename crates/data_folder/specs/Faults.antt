@@ -3,6 +3,6 @@ use Rattle.std.specs.Prelude.{ℕ}
 use Rattle.data_folder.specs.declared.disk.FolderDisk.{FolderDisk}
 use Rattle.data_folder.specs.declared.disk.FolderDisk.TheVariants.{Open, Refused}
 
-abbrev pub faults_of : FolderDisk → ℕ
+abbrev pub faults_of : {F : Type 0} → FolderDisk F → ℕ
 faults_of (Open disk lock) = disk
 faults_of (Refused faults) = faults

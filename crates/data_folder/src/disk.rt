@@ -3,14 +3,15 @@ ghost use Rattle.outside.specs.Faults.{Rose};
 
 use outside::Failed;
 use record_disk::{Disk, FileDisk};
-use std::fs::File;
+use std::fs::OpenFile;
+use std::os::unix::fs::FileExt;
 
 /// The file with the records of a folder, while it is locked; or one that could not be opened, of which each call fails.
 /// It tells nothing but its faults.
 #[derive(Drop)]
-pub enum FolderDisk {
+pub enum FolderDisk<F: FileExt + OpenFile + Drop> {
     /// The lock is given back when this is dropped.
-    Open { disk: FileDisk<File>, lock: File },
+    Open { disk: FileDisk<F>, lock: F },
     /// How many calls have failed.
     Refused { faults: u64 },
 }
@@ -23,7 +24,7 @@ fn refuse(faults: &mut u64) -> Failed
     Failed
 }
 
-impl Disk for FolderDisk {
+impl<F: FileExt + OpenFile + Drop> Disk for FolderDisk<F> {
     ghost use Rattle.data_folder.specs.Faults.{faults_of};
 
     ghost faults = { faults_of };

@@ -2,7 +2,9 @@
 #![tactic(auto)]
 
 mod disk;
+mod lock;
 mod opening;
 
 pub use disk::FolderDisk;
+pub use lock::LockFile;
 pub use opening::{blobs_in, open_disk};

@@ -3,9 +3,11 @@ ghost use Rattle.std.specs.Prelude.{◌≡◌, IfOk};
 ghost use Rattle.data_folder.specs.Faults.{faults_of};
 
 use crate::disk::FolderDisk;
+use crate::lock::LockFile;
 use outside::{BlobFault, Blobs, NoMemory};
 use outside_system::{FolderBlobs, clear_parts};
 use record_disk::FileDisk;
+use record_log::MAGIC;
 use std::alloc::AllocError;
 use std::fs::{self, File, Files, OpenFile, OpenOptions};
 use std::io::{self, ErrorKind};
@@ -35,30 +37,42 @@ fn open_file<R: Files>(rt: &R, path: &str) -> io::Result<R::File> {
 }
 
 // The lock of a folder. It fails where another process has it.
-fn lock_of<R: Files<File = File> + AllocGlobal>(rt: &R, folder: &str) -> io::Result<File> {
+fn lock_of<F: LockFile, R: Files<File = F> + AllocGlobal>(rt: &R, folder: &str) -> io::Result<F> {
     let path = format!(in rt.alloc(); "{folder}/lock")?;
     let lock = open_file(rt, path.as_str())?;
     lock.try_lock()?;
     Ok(lock)
 }
 
-// Whether there is nothing at a path.
-fn is_missing<R: Files>(rt: &R, path: &str) -> io::Result<bool> {
-    match fs::metadata(rt, path) {
-        Ok(_) => Ok(false),
-        Err(error) if error.kind() == ErrorKind::NotFound => Ok(true),
+// Fails where no file can be made in a folder. Where only room is wanting it does not, since a cleaning may make some.
+fn try_folder<R: Files + AllocGlobal>(rt: &R, folder: &str) -> io::Result<()> {
+    let path = format!(in rt.alloc(); "{folder}/new.part")?;
+    match File::create_new(rt, path.as_str()) {
+        Ok(_) => fs::remove_file(rt, path.as_str()),
+        Err(error) => match error.kind() {
+            ErrorKind::StorageFull | ErrorKind::QuotaExceeded => Ok(()),
+            _ => Err(error),
+        },
+    }
+}
+
+// Whether a file of records has its beginning.
+fn is_begun<R: Files>(rt: &R, rows: &str) -> io::Result<bool> {
+    match fs::metadata(rt, rows) {
+        Ok(found) => Ok(found.len() >= MAGIC.len() as u64),
+        Err(error) if error.kind() == ErrorKind::NotFound => Ok(false),
         Err(error) => Err(error),
     }
 }
 
-// Whether a folder has contents and no file of records. No run leaves it so, since the name of that file is kept before any
-// content is stored; and a start over a new one would remove all of them.
+// Whether a folder has contents, and of its file of records not even the beginning. No run leaves it so, since that is on the
+// disk before any content is stored, and is never taken off again; and a start over a new file would remove all contents.
 fn has_contents_alone<R: Files + AllocGlobal + Clone + Drop>(
     rt: &R,
     folder: &str,
     rows: &str,
 ) -> io::Result<bool> {
-    if !is_missing(rt, rows)? {
+    if is_begun(rt, rows)? {
         return Ok(false);
     }
     let listed = blobs_in(rt, folder)?.list();
@@ -69,10 +83,10 @@ fn has_contents_alone<R: Files + AllocGlobal + Clone + Drop>(
     }
 }
 
-fn locked_disk<R: Files<File = File> + AllocGlobal + Clone + Drop>(
+fn locked_disk<F: LockFile + Drop, R: Files<File = F> + AllocGlobal + Clone + Drop>(
     rt: &R,
     folder: &str,
-) -> io::Result<FolderDisk>
+) -> io::Result<FolderDisk<F>>
     ensures { IfOk result (λ disk. faults_of disk ≡ 0) }
 {
     make_folder(rt, folder)?;
@@ -84,18 +98,20 @@ fn locked_disk<R: Files<File = File> + AllocGlobal + Clone + Drop>(
     if has_contents_alone(rt, folder, rows.as_str())? {
         return Err(io::Error::from(ErrorKind::NotFound));
     }
+    try_folder(rt, blobs.as_str())?;
     let file = open_file(rt, rows.as_str())?;
     let disk = FileDisk::new(file, fs::open(rt, folder)?);
     Ok(FolderDisk::Open { disk, lock })
 }
 
 /// The file `rows` of the folder at this path, for as long as nobody else has it. The folder, its folder `blobs` and the
-/// file are made where they are missing, the file only where `blobs` has no contents. Where one of these cannot be made,
-/// opened, read or written, or another process has the lock of the folder, each call of what is given fails and is counted.
-pub fn open_disk<R: Files<File = File> + AllocGlobal + Clone + Drop>(
+/// file are made where they are missing; where `blobs` has contents, the file has to have its beginning, of 8 bytes. Else, and
+/// where one of these cannot be made, opened, read or written, in `blobs` no file can be made, or another process has the lock
+/// of the folder, each call of what is given fails and is counted.
+pub fn open_disk<F: LockFile + Drop, R: Files<File = F> + AllocGlobal + Clone + Drop>(
     rt: &R,
     folder: &str,
-) -> Result<FolderDisk, NoMemory>
+) -> Result<FolderDisk<F>, NoMemory>
     ensures { IfOk result (λ disk. faults_of disk ≡ 0) }
 {
     match locked_disk(rt, folder) {

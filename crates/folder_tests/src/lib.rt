@@ -2,4 +2,8 @@
 #![tactic(auto)]
 
 #[cfg(test)]
+mod noted;
+#[cfg(test)]
 mod openings;
+#[cfg(test)]
+mod orders;

@@ -1,143 +1,41 @@
 // A real folder, whose opening is watched: what is synced of it, and what a stopped store left in it.
+use crate::noted::{Noted, Notes};
 use data_folder::{blobs_in, open_disk};
 use outside::Blobs;
 use record_disk::Disk;
-use std::alloc::{AllocError, Allocator, Global};
-use std::cell::Cell;
-use std::fs::{self, File, Files, Metadata, OpenOptions};
-use std::io::{self, ErrorKind};
+use std::fs;
+use std::io::ErrorKind;
 use std::test::Fail;
 
-const FOLDER: &str = "folder_tests_data";
-
-const FOLDER_BELOW: &str = "folder_tests_below";
-
-/// The file system. It counts how often the folder that has the name of `FOLDER` was opened, and may refuse that.
-#[derive(Drop)]
-struct Watched<'a> {
-    rt: &'a HostRuntime,
-    above: &'a Cell<u64>,
-    refusal: Option<ErrorKind>,
-}
-
-impl<'a> Clone for Watched<'a> {
-    fn clone(&self) -> Result<Watched<'a>, AllocError> {
-        Ok(Watched {
-            rt: self.rt,
-            above: self.above,
-            refusal: self.refusal,
-        })
-    }
-}
-
-impl<'a> Alloc for Watched<'a> {
-    type A = Global;
-
-    fn alloc(&self) -> Global {
-        self.rt.alloc()
-    }
-}
-
-impl<'a> Files for Watched<'a> {
-    type File = File;
-
-    type Dir = <HostRuntime as Files>::Dir;
-
-    fn open_file(&self, how: &OpenOptions, path: &str) -> io::Result<File> {
-        if path == "folder_tests_data/.." || path == "folder_tests_below/.." {
-            self.above.set(self.above.get().saturating_add(1));
-            if let Some(kind) = self.refusal {
-                return Err(kind.into());
-            }
-        }
-        self.rt.open_file(how, path)
-    }
-
-    fn open_dir(&self, path: &str) -> io::Result<<HostRuntime as Files>::Dir> {
-        self.rt.open_dir(path)
-    }
-
-    fn metadata(&self, path: &str) -> io::Result<Metadata> {
-        fs::metadata(self.rt, path)
-    }
-
-    fn symlink_metadata(&self, path: &str) -> io::Result<Metadata> {
-        fs::symlink_metadata(self.rt, path)
-    }
-
-    fn copy(&self, from: &str, to: &str) -> io::Result<u64> {
-        fs::copy(self.rt, from, to)
-    }
-
-    fn rename(&self, from: &str, to: &str) -> io::Result<()> {
-        fs::rename(self.rt, from, to)
-    }
-
-    fn remove_file(&self, path: &str) -> io::Result<()> {
-        fs::remove_file(self.rt, path)
-    }
-
-    fn create_dir(&self, path: &str) -> io::Result<()> {
-        fs::create_dir(self.rt, path)
-    }
-
-    fn remove_dir(&self, path: &str) -> io::Result<()> {
-        fs::remove_dir(self.rt, path)
-    }
-
-    fn remove_dir_all<B: Allocator>(&self, alloc: B, path: &str) -> io::Result<()> {
-        self.rt.remove_dir_all(alloc, path)
-    }
-}
-
-// The folder's name is kept also where the folder was there: who made it may have been stopped before it waited for that.
-#[test]
-fn a_folder_that_was_there_keeps_its_name(rt: HostRuntime) -> Result<(), Fail> {
-    let _ = fs::remove_dir_all(&rt, FOLDER);
-    let above = Cell::new(0);
-    let watched = Watched {
-        rt: &rt,
-        above: &above,
-        refusal: None,
-    };
-    let mut first = open_disk(&watched, FOLDER)?;
-    assert!(rt; first.sync().is_ok());
-    assert_eq!(rt; above.get(), 1);
-    drop(first);
-    let mut second = open_disk(&watched, FOLDER)?;
-    assert!(rt; second.sync().is_ok());
-    assert_eq!(rt; above.get(), 2);
-    drop(second);
-    fs::remove_dir_all(&rt, FOLDER)?;
-    Ok(())
-}
-
-// Whether the folder opens where the one above is refused so.
-fn opens_under(rt: &HostRuntime, kind: ErrorKind) -> bool {
-    let above = Cell::new(0);
-    let watched = Watched {
-        rt,
-        above: &above,
-        refusal: Some(kind),
-    };
-    match open_disk(&watched, FOLDER_BELOW) {
+// Whether a folder opens where this path is refused so.
+fn opens_without(rt: &HostRuntime, folder: &str, path: &'static str, kind: ErrorKind) -> bool {
+    let notes = Notes::new(rt.alloc());
+    let mut noted = Noted::new(rt, &notes);
+    noted.refusal = Some((path, kind));
+    match open_disk(&noted, folder) {
         Ok(mut disk) => disk.sync().is_ok(),
         Err(_) => false,
     }
+}
+
+const BELOW: &str = "folder_tests_below";
+
+fn opens_under(rt: &HostRuntime, kind: ErrorKind) -> bool {
+    opens_without(rt, BELOW, "folder_tests_below/..", kind)
 }
 
 // Where the folder above may not be read, one that was there is opened all the same; no other fault is passed over, and no
 // new folder is taken whose name may be lost.
 #[test]
 fn only_a_folder_that_may_not_be_read_is_passed_over(rt: HostRuntime) -> Result<(), Fail> {
-    let _ = fs::remove_dir_all(&rt, FOLDER_BELOW);
-    fs::create_dir(&rt, FOLDER_BELOW)?;
+    let _ = fs::remove_dir_all(&rt, BELOW);
+    fs::create_dir(&rt, BELOW)?;
     assert!(rt; opens_under(&rt, ErrorKind::PermissionDenied));
     assert!(rt; !opens_under(&rt, ErrorKind::NotFound));
     assert!(rt; !opens_under(&rt, ErrorKind::OutOfMemory));
-    fs::remove_dir_all(&rt, FOLDER_BELOW)?;
+    fs::remove_dir_all(&rt, BELOW)?;
     assert!(rt; !opens_under(&rt, ErrorKind::PermissionDenied));
-    fs::remove_dir_all(&rt, FOLDER_BELOW)?;
+    fs::remove_dir_all(&rt, BELOW)?;
     Ok(())
 }
 
@@ -147,7 +45,7 @@ fn parts_are_cleared(rt: HostRuntime) -> Result<(), Fail> {
     let folder = "folder_tests_parts";
     let _ = fs::remove_dir_all(&rt, folder);
     fs::create_dir_all(&rt, "folder_tests_parts/blobs")?;
-    fs::write(&rt, "folder_tests_parts/rows", "")?;
+    fs::write(&rt, "folder_tests_parts/rows", "MVNROWS1\0")?;
     fs::write(&rt, "folder_tests_parts/blobs/7", "abc")?;
     fs::write(&rt, "folder_tests_parts/blobs/8.part", "left over")?;
     fs::write(&rt, "folder_tests_parts/blobs/9", "abd")?;
@@ -195,5 +93,71 @@ fn contents_alone_are_refused(rt: HostRuntime) -> Result<(), Fail> {
     let made = fs::metadata(&rt, "folder_tests_alone/rows").is_ok();
     fs::remove_dir_all(&rt, folder)?;
     assert!(rt; refused && stays && !made);
+    Ok(())
+}
+
+// Whether a folder with this file of records opens, where it also has a content, which stays.
+fn opens_over(rt: &HostRuntime, rows: &[u8]) -> Result<bool, Fail> {
+    let folder = "folder_tests_begun";
+    let _ = fs::remove_dir_all(rt, folder);
+    fs::create_dir_all(rt, "folder_tests_begun/blobs")?;
+    fs::write(rt, "folder_tests_begun/rows", rows)?;
+    fs::write(rt, "folder_tests_begun/blobs/7", "abc")?;
+    let mut disk = open_disk(rt, folder)?;
+    let opened = disk.sync().is_ok();
+    drop(disk);
+    let left = fs::read(rt, "folder_tests_begun/rows")?;
+    let stays = fs::metadata(rt, "folder_tests_begun/blobs/7").is_ok();
+    fs::remove_dir_all(rt, folder)?;
+    if left.as_slice() != rows || !stays {
+        return Err("something was changed")?;
+    }
+    Ok(opened)
+}
+
+// Contents beside a file of records that has not even its beginning are refused too. One with its beginning may be as a run has
+// left it that was stopped behind its first content.
+#[test]
+fn contents_beside_less_than_a_beginning_are_refused(rt: HostRuntime) -> Result<(), Fail> {
+    assert!(rt; !opens_over(&rt, b"")?);
+    assert!(rt; !opens_over(&rt, b"M")?);
+    assert!(rt; !opens_over(&rt, b"MVNROWS")?);
+    assert!(rt; opens_over(&rt, b"MVNROWS1")?);
+    assert!(rt; opens_over(&rt, b"MVNROWS1\0")?);
+    Ok(())
+}
+
+// Without contents such a file is as a start has left it that was stopped before it wrote the beginning.
+#[test]
+fn an_empty_file_without_contents_is_new(rt: HostRuntime) -> Result<(), Fail> {
+    let _ = fs::remove_dir_all(&rt, "folder_tests_empty");
+    fs::create_dir_all(&rt, "folder_tests_empty/blobs")?;
+    fs::write(&rt, "folder_tests_empty/rows", "")?;
+    let mut disk = open_disk(&rt, "folder_tests_empty")?;
+    let opened = disk.sync().is_ok();
+    drop(disk);
+    fs::remove_dir_all(&rt, "folder_tests_empty")?;
+    assert!(rt; opened);
+    Ok(())
+}
+
+fn opens_unwritable(rt: &HostRuntime, kind: ErrorKind) -> bool {
+    opens_without(
+        rt,
+        "folder_tests_writes",
+        "folder_tests_writes/blobs/new.part",
+        kind,
+    )
+}
+
+// Where no content could be stored, that is told at once; but not where only room is wanting, which a cleaning may make.
+#[test]
+fn contents_that_may_not_be_written_are_refused(rt: HostRuntime) -> Result<(), Fail> {
+    let _ = fs::remove_dir_all(&rt, "folder_tests_writes");
+    assert!(rt; !opens_unwritable(&rt, ErrorKind::PermissionDenied));
+    assert!(rt; !opens_unwritable(&rt, ErrorKind::ReadOnlyFilesystem));
+    assert!(rt; opens_unwritable(&rt, ErrorKind::StorageFull));
+    assert!(rt; opens_unwritable(&rt, ErrorKind::QuotaExceeded));
+    fs::remove_dir_all(&rt, "folder_tests_writes")?;
     Ok(())
 }

@@ -64,8 +64,12 @@ fn put_file<R: Files + AllocGlobal>(
     fs::open(rt, folder)?.sync_all()
 }
 
+// Reads a number's file. What is no file, as a pipe, is not opened, since that may wait for ever.
 fn read_file<R: Files + AllocGlobal>(rt: &R, folder: &str, blob: u64) -> io::Result<Vec<u8>> {
     let path = path_of(rt.alloc(), folder, blob)?;
+    if !fs::metadata(rt, path.as_str())?.is_file() {
+        return Err(ErrorKind::InvalidInput.into());
+    }
     fs::read(rt, path.as_str())
 }
 
@@ -157,8 +161,8 @@ impl Held for FolderHeld {
 ///
 /// A call fails where the system refuses it; where the folder is missing, no number stands there and `store`, `read` and
 /// `list` fail. `store` answers Ok once the system keeps the bytes and their name, whatever stops afterwards. What a store
-/// that is stopped leaves is not listed, or it is the whole blob. A folder whose name is a number is no blob: it is
-/// neither listed nor adopted, and `store` fails at its number.
+/// that is stopped leaves is not listed, or it is the whole blob. What has a number for its name and is no file, as a folder
+/// or a pipe, is no blob: it is neither listed nor adopted nor opened, and where it is a folder `store` fails at its number.
 #[derive(Drop)]
 pub struct FolderBlobs<R: Files + AllocGlobal + Clone + Drop> {
     rt: R,

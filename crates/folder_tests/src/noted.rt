@@ -1,0 +1,237 @@
+// The real file system, which notes the calls that open, change or sync something of it, in their order.
+use data_folder::LockFile;
+use std::alloc::{AllocError, Allocator, Global};
+use std::cell::Cell;
+use std::fs::{self, File, Files, Metadata, OpenFile, OpenOptions};
+use std::io::{self, ErrorKind, Read, Seek, SeekFrom, Write};
+use std::os::unix::fs::FileExt;
+
+/// The calls so far, a line for each.
+#[derive(Drop)]
+pub struct Notes {
+    alloc: Global,
+    lines: Cell<String>,
+}
+
+impl Notes {
+    pub fn new(alloc: Global) -> Notes {
+        Notes {
+            alloc,
+            lines: Cell::new(String::new(alloc)),
+        }
+    }
+
+    fn add(&self, line: &str) -> Result<(), AllocError> {
+        let mut lines = self.take();
+        lines.push_str(line)?;
+        lines.push('\n')?;
+        self.lines.set(lines);
+        Ok(())
+    }
+
+    // A call of this name on a path.
+    fn add_call(&self, name: &str, path: &str) -> Result<(), AllocError> {
+        self.add(format!(in self.alloc; "{name} {path}")?.as_str())
+    }
+
+    /// The lines since they were last taken.
+    pub fn take(&self) -> String {
+        self.lines.replace(String::new(self.alloc))
+    }
+}
+
+/// The file system. It may refuse to open one path, by this kind of fault.
+#[derive(Drop)]
+pub struct Noted<'a> {
+    pub rt: &'a HostRuntime,
+    pub notes: &'a Notes,
+    pub refusal: Option<(&'static str, ErrorKind)>,
+}
+
+impl<'a> Noted<'a> {
+    /// One that refuses nothing.
+    pub fn new(rt: &'a HostRuntime, notes: &'a Notes) -> Noted<'a> {
+        Noted {
+            rt,
+            notes,
+            refusal: None,
+        }
+    }
+
+    fn refuse(&self, path: &str) -> io::Result<()> {
+        match self.refusal {
+            Some((refused, kind)) if path == refused => Err(kind.into()),
+            _ => Ok(()),
+        }
+    }
+}
+
+impl<'a> Clone for Noted<'a> {
+    fn clone(&self) -> Result<Noted<'a>, AllocError> {
+        Ok(Noted {
+            rt: self.rt,
+            notes: self.notes,
+            refusal: self.refusal,
+        })
+    }
+}
+
+impl<'a> Alloc for Noted<'a> {
+    type A = Global;
+
+    fn alloc(&self) -> Global {
+        self.rt.alloc()
+    }
+}
+
+/// What a file is opened for.
+fn purpose(how: &OpenOptions) -> &'static str {
+    if how.asks_create_new() {
+        "make"
+    } else if how.asks_truncate() {
+        "overwrite"
+    } else if how.asks_write() {
+        "open to write"
+    } else {
+        "open"
+    }
+}
+
+impl<'a> Files for Noted<'a> {
+    type File = NotedFile<'a>;
+
+    type Dir = <HostRuntime as Files>::Dir;
+
+    fn open_file(&self, how: &OpenOptions, path: &str) -> io::Result<NotedFile<'a>> {
+        self.notes.add_call(purpose(how), path)?;
+        self.refuse(path)?;
+        Ok(NotedFile {
+            file: self.rt.open_file(how, path)?,
+            path: String::from_str(self.rt.alloc(), path)?,
+            notes: self.notes,
+        })
+    }
+
+    fn open_dir(&self, path: &str) -> io::Result<<HostRuntime as Files>::Dir> {
+        self.notes.add_call("list", path)?;
+        self.rt.open_dir(path)
+    }
+
+    fn metadata(&self, path: &str) -> io::Result<Metadata> {
+        self.notes.add_call("look at", path)?;
+        fs::metadata(self.rt, path)
+    }
+
+    fn symlink_metadata(&self, path: &str) -> io::Result<Metadata> {
+        self.notes.add_call("look at link", path)?;
+        fs::symlink_metadata(self.rt, path)
+    }
+
+    fn copy(&self, from: &str, to: &str) -> io::Result<u64> {
+        self.notes.add_call("copy to", to)?;
+        fs::copy(self.rt, from, to)
+    }
+
+    fn rename(&self, from: &str, to: &str) -> io::Result<()> {
+        self.notes.add_call("rename", from)?;
+        self.notes.add_call("to", to)?;
+        fs::rename(self.rt, from, to)
+    }
+
+    fn remove_file(&self, path: &str) -> io::Result<()> {
+        self.notes.add_call("remove", path)?;
+        fs::remove_file(self.rt, path)
+    }
+
+    fn create_dir(&self, path: &str) -> io::Result<()> {
+        self.notes.add_call("make folder", path)?;
+        fs::create_dir(self.rt, path)
+    }
+
+    fn remove_dir(&self, path: &str) -> io::Result<()> {
+        self.notes.add_call("remove folder", path)?;
+        fs::remove_dir(self.rt, path)
+    }
+
+    fn remove_dir_all<B: Allocator>(&self, alloc: B, path: &str) -> io::Result<()> {
+        self.notes.add_call("remove all of", path)?;
+        self.rt.remove_dir_all(alloc, path)
+    }
+}
+
+/// An open file. Its reads are not noted.
+#[derive(Drop)]
+pub struct NotedFile<'a> {
+    file: File,
+    path: String,
+    notes: &'a Notes,
+}
+
+impl<'a> NotedFile<'a> {
+    fn note(&self, name: &str) -> Result<(), AllocError> {
+        self.notes.add_call(name, self.path.as_str())
+    }
+}
+
+impl<'a> Read for NotedFile<'a> {
+    fn read(&mut self, buf: &mut [u8]) -> io::Result<usize> {
+        self.file.read(buf)
+    }
+}
+
+impl<'a> Write for NotedFile<'a> {
+    fn write(&mut self, buf: &[u8]) -> io::Result<usize> {
+        self.note("write")?;
+        self.file.write(buf)
+    }
+
+    fn flush(&mut self) -> io::Result<()> {
+        self.file.flush()
+    }
+}
+
+impl<'a> Seek for NotedFile<'a> {
+    fn seek(&mut self, to: SeekFrom) -> io::Result<u64> {
+        self.file.seek(to)
+    }
+}
+
+impl<'a> FileExt for NotedFile<'a> {
+    fn read_at(&self, buf: &mut [u8], offset: u64) -> io::Result<usize> {
+        self.file.read_at(buf, offset)
+    }
+
+    fn write_at(&self, buf: &[u8], offset: u64) -> io::Result<usize> {
+        self.note("write")?;
+        self.file.write_at(buf, offset)
+    }
+}
+
+impl<'a> OpenFile for NotedFile<'a> {
+    fn metadata(&self) -> io::Result<Metadata> {
+        self.file.metadata()
+    }
+
+    fn set_len(&self, size: u64) -> io::Result<()> {
+        self.note("cut")?;
+        self.file.set_len(size)
+    }
+
+    fn sync_all(&self) -> io::Result<()> {
+        self.note("sync")?;
+        self.file.sync_all()
+    }
+
+    fn sync_data(&self) -> io::Result<()> {
+        self.note("sync data of")?;
+        self.file.sync_data()
+    }
+}
+
+impl<'a> LockFile for NotedFile<'a> {
+    fn try_lock(&self) -> io::Result<()> {
+        self.note("lock")?;
+        self.file.try_lock()?;
+        Ok(())
+    }
+}

@@ -1,0 +1,167 @@
+// The calls of a real file system, in their order: what is acknowledged was synced before, with its name.
+use crate::noted::{Noted, Notes};
+use data_folder::{blobs_in, open_disk};
+use outside::{BlobFault, Blobs, Failed};
+use outside_system::FolderBlobs;
+use record_disk::Disk;
+use std::fs;
+use std::os::unix::fs::symlink;
+use std::test::Fail;
+
+const NEW_FOLDER: &str = "make folder orders_new
+open orders_new/..
+sync orders_new/..
+open to write orders_new/lock
+lock orders_new/lock
+make folder orders_new/blobs
+open orders_new/blobs/..
+sync orders_new/blobs/..
+list orders_new/blobs/
+look at orders_new/rows
+list orders_new/blobs/
+make orders_new/blobs/new.part
+remove orders_new/blobs/new.part
+open to write orders_new/rows
+open orders_new
+";
+
+// The names of a new folder, of its `blobs` and of what is in it are on the disk before a first write is acknowledged.
+#[test]
+fn a_new_folder_is_synced(rt: HostRuntime) -> Result<(), Fail> {
+    let _ = fs::remove_dir_all(&rt, "orders_new");
+    let notes = Notes::new(rt.alloc());
+    let mut disk = open_disk(&Noted::new(&rt, &notes), "orders_new")?;
+    assert_eq!(rt; notes.take().as_str(), NEW_FOLDER);
+    disk.sync()?;
+    assert_eq!(rt;
+        notes.take().as_str(),
+        "sync data of orders_new/rows\nsync orders_new\n"
+    );
+    drop(disk);
+    fs::remove_dir_all(&rt, "orders_new")?;
+    Ok(())
+}
+
+const OLD_FOLDER: &str = "make folder orders_old
+open orders_old/..
+sync orders_old/..
+open to write orders_old/lock
+lock orders_old/lock
+make folder orders_old/blobs
+open orders_old/blobs/..
+sync orders_old/blobs/..
+list orders_old/blobs/
+look at orders_old/rows
+make orders_old/blobs/new.part
+remove orders_old/blobs/new.part
+open to write orders_old/rows
+open orders_old
+";
+
+// A folder that was there is synced all the same: who made it may have been stopped before.
+#[test]
+fn a_folder_that_was_there_is_synced(rt: HostRuntime) -> Result<(), Fail> {
+    let _ = fs::remove_dir_all(&rt, "orders_old");
+    fs::create_dir_all(&rt, "orders_old/blobs")?;
+    fs::write(&rt, "orders_old/rows", "MVNROWS1\0")?;
+    let notes = Notes::new(rt.alloc());
+    let disk = open_disk(&Noted::new(&rt, &notes), "orders_old")?;
+    assert_eq!(rt; notes.take().as_str(), OLD_FOLDER);
+    drop(disk);
+    fs::remove_dir_all(&rt, "orders_old")?;
+    Ok(())
+}
+
+// Writes, syncs, writes again and cuts.
+fn change<D: Disk>(disk: &mut D) -> Result<(), Failed> {
+    disk.write_at(0, b"abc")?;
+    disk.sync()?;
+    disk.write_at(3, b"d")?;
+    disk.sync()?;
+    disk.cut(2)?;
+    disk.sync()
+}
+
+const CHANGES: &str = "write orders_rows/rows
+sync data of orders_rows/rows
+sync orders_rows
+write orders_rows/rows
+sync data of orders_rows/rows
+cut orders_rows/rows
+sync data of orders_rows/rows
+";
+
+#[test]
+fn records_are_synced(rt: HostRuntime) -> Result<(), Fail> {
+    let _ = fs::remove_dir_all(&rt, "orders_rows");
+    let notes = Notes::new(rt.alloc());
+    let mut disk = open_disk(&Noted::new(&rt, &notes), "orders_rows")?;
+    let _ = notes.take();
+    change(&mut disk)?;
+    assert_eq!(rt; notes.take().as_str(), CHANGES);
+    drop(disk);
+    fs::remove_dir_all(&rt, "orders_rows")?;
+    Ok(())
+}
+
+const STORED: &str = "overwrite orders_blobs/blobs/7.part
+write orders_blobs/blobs/7.part
+sync orders_blobs/blobs/7.part
+rename orders_blobs/blobs/7.part
+to orders_blobs/blobs/7
+open orders_blobs/blobs
+sync orders_blobs/blobs
+";
+
+// What each call of a store of blobs makes of the system.
+#[test]
+fn a_blob_is_synced_and_then_its_name(rt: HostRuntime) -> Result<(), Fail> {
+    let _ = fs::remove_dir_all(&rt, "orders_blobs");
+    fs::create_dir_all(&rt, "orders_blobs/blobs")?;
+    let notes = Notes::new(rt.alloc());
+    let mut blobs = blobs_in(&Noted::new(&rt, &notes), "orders_blobs")?;
+    let held = blobs.store(7, b"abc")?;
+    assert_eq!(rt; notes.take().as_str(), STORED);
+    let bytes = blobs.read(&held)?;
+    assert_eq!(rt; bytes.as_slice(), b"abc".as_slice());
+    assert_eq!(rt;
+        notes.take().as_str(),
+        "look at orders_blobs/blobs/7\nopen orders_blobs/blobs/7\n"
+    );
+    assert!(rt; blobs.adopt(7)?.is_some());
+    assert_eq!(rt; notes.take().as_str(), "look at orders_blobs/blobs/7\n");
+    assert_eq!(rt; blobs.list()?.as_slice(), [7].as_slice());
+    assert_eq!(rt;
+        notes.take().as_str(),
+        "list orders_blobs/blobs/\nlook at orders_blobs/blobs/7\n"
+    );
+    blobs.remove(7)?;
+    assert_eq!(rt; notes.take().as_str(), "remove orders_blobs/blobs/7\n");
+    fs::remove_dir_all(&rt, "orders_blobs")?;
+    Ok(())
+}
+
+// Whether what stands under 7 is neither read, adopted nor listed. It was a blob when it was stored.
+fn is_no_blob(blobs: &mut FolderBlobs<Noted<'_>>, rt: &HostRuntime) -> Result<bool, Fail> {
+    let held = blobs.store(7, b"abc")?;
+    blobs.remove(7)?;
+    symlink(rt, "/dev/null", "orders_special/7")?;
+    let read = matches!(blobs.read(&held), Err(BlobFault::Failed)) && blobs.faults() == 1;
+    let absent = blobs.adopt(7)?.is_none() && blobs.list()?.is_empty();
+    Ok(read && absent && blobs.faults() == 1)
+}
+
+// A device is not opened, nor would a pipe be, on which an open waits until another one writes.
+#[test]
+fn what_is_no_file_is_not_opened(rt: HostRuntime) -> Result<(), Fail> {
+    let _ = fs::remove_dir_all(&rt, "orders_special");
+    fs::create_dir(&rt, "orders_special")?;
+    let notes = Notes::new(rt.alloc());
+    let folder = String::from_str(rt.alloc(), "orders_special")?;
+    let mut blobs = FolderBlobs::new(Noted::new(&rt, &notes), folder);
+    let none = is_no_blob(&mut blobs, &rt)?;
+    let calls = notes.take();
+    fs::remove_dir_all(&rt, "orders_special")?;
+    assert!(rt; none && !calls.as_str().contains("\nopen orders_special/7\n"));
+    Ok(())
+}
