@@ -1,0 +1,11 @@
+//! A run of the program `mvnrepod` over the system: the objects that its words have, and the run with them.
+#![tactic(auto)]
+
+mod folder;
+mod memory;
+mod server;
+mod status;
+mod stock;
+
+pub use server::{FolderCleaner, Server, TcpDesk, server_of};
+pub use status::status_for;
