@@ -101,44 +101,63 @@ impl<'a> OpenListener for FailingListener<'a> {
     }
 }
 
-// An error that passes is none of the port's, and where no file handle is left it waits a moment.
-#[test]
-fn passing_errors_are_not_told(rt: HostRuntime) -> Result<(), Fail> {
+// A client of a listener.
+fn client(rt: &HostRuntime, port: &TcpPort<StandIn<'_>>) -> Result<TcpStream, Fail> {
+    let number = port.number().ok_or("no port")?;
+    let address = SocketAddr::V4(SocketAddrV4::new(Ipv4Addr::LOCALHOST, number));
+    Ok(rt.connect(address)?)
+}
+
+// Whether a listener gives a connection, and after how many milliseconds.
+fn timed_next(rt: &HostRuntime, port: &mut TcpPort<StandIn<'_>>) -> Result<(bool, u128), Fail> {
+    let begin = Instant::now(rt)?;
+    let found = matches!(port.next(), Ok(Some(_)));
+    Ok((found, begin.elapsed(rt)?.as_millis()))
+}
+
+// What a listener gives: whether a connection and after how many milliseconds, how often it asked for one, and whether it
+// still runs.
+#[derive(Clone, Copy)]
+struct Outcome {
+    found: bool,
+    waited: u128,
+    asked: usize,
+    runs: bool,
+}
+
+// A listener whose calls fail with these errors first.
+fn accepted(rt: &HostRuntime, errors: &[i32]) -> Result<Outcome, Fail> {
     let asked = Cell::new(0);
-    let errors = [GIVEN_UP, INTERRUPTED, NO_HANDLES];
     let net = StandIn {
         rt: rt.clone()?,
-        errors: &errors,
+        errors,
         asked: &asked,
     };
     let running = Running::new(rt.alloc(), 1)?;
     let mut port = TcpPort::bind(net, 0, running.share()?);
-    let number = port.number().ok_or("no port")?;
-    let address = SocketAddr::V4(SocketAddrV4::new(Ipv4Addr::LOCALHOST, number));
-    let _peer = rt.connect(address)?;
-    let begin = Instant::now(&rt)?;
-    let link = port.next().map_err(|_| "no connection")?;
-    assert!(rt; link.is_some());
-    assert!(rt; begin.elapsed(&rt)?.as_millis() >= 90);
-    assert_eq!(rt; asked.get(), 4);
-    assert!(rt; running.is_any());
+    let _peer = client(rt, &port)?;
+    let (found, waited) = timed_next(rt, &mut port)?;
+    Ok(Outcome {
+        found,
+        waited,
+        asked: asked.get(),
+        runs: running.is_any(),
+    })
+}
+
+// An error that passes is none of the port's, and where no file handle is left it waits a moment.
+#[test]
+fn passing_errors_are_not_told(rt: HostRuntime) -> Result<(), Fail> {
+    let told = accepted(&rt, &[GIVEN_UP, INTERRUPTED, NO_HANDLES])?;
+    assert!(rt; told.found && told.asked == 4 && told.runs);
+    assert!(rt; told.waited >= 90);
     Ok(())
 }
 
 // Any other error ends the port.
 #[test]
 fn another_error_ends_the_port(rt: HostRuntime) -> Result<(), Fail> {
-    let asked = Cell::new(0);
-    let errors = [GIVEN_UP, NO_LISTENER];
-    let net = StandIn {
-        rt: rt.clone()?,
-        errors: &errors,
-        asked: &asked,
-    };
-    let running = Running::new(rt.alloc(), 1)?;
-    let mut port = TcpPort::bind(net, 0, running.share()?);
-    assert!(rt; port.next().is_err());
-    assert_eq!(rt; asked.get(), 2);
-    assert!(rt; !running.is_any());
+    let told = accepted(&rt, &[GIVEN_UP, NO_LISTENER])?;
+    assert!(rt; !told.found && told.asked == 2 && !told.runs);
     Ok(())
 }

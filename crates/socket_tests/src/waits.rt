@@ -17,6 +17,12 @@ const GET: &[u8] = b"GET /x HTTP/1.1\r\n\r\n";
 const ALL_BUT_ONE: &[u8] =
     b"GET / HTTP/1.1\r\n\r\n\r\nPUT /x HTTP/1.1\r\nContent: 1\r\nX: Content-Length: 2\r\nCONTENT-length:0012 \r\n\r\n\r\n\r\nGET / H";
 
+// The body of `HEAD` and another head, and a request and then all of another head but its last byte.
+const FRONT_AND_HEAD: &[u8] = b"abcPUT /y HTTP/1.1\r\nContent-Length: 1\r\n\r\n";
+
+const ALL_BUT_A_LINE_END: &[u8] =
+    b"GET / HTTP/1.1\r\n\r\nPUT / HTTP/1.1\r\nContent-Length: 3\r\n\r";
+
 const INTERIM: &[u8] = b"HTTP/1.1 100 Continue\r\n\r\n";
 
 const ANSWER: &[u8] = b"HTTP/1.1 201 Created\r\n\r\n";
@@ -108,113 +114,184 @@ fn stand_in<'a>(asked: &'a Asked, pieces: &'a [&'static [u8]]) -> StandIn<'a> {
     }
 }
 
-// How many bytes come next, none where the read fails, and how long they may take.
-fn next<S: Source>(asked: &Asked, link: &mut S) -> (Option<usize>, u128) {
-    let mut buffer = [0; 128];
-    let count = link.read(&mut buffer).ok();
-    (count, asked.read.get())
+type Link<'a> = TcpLink<StandIn<'a>, HostRuntime>;
+
+/// A call of a connection and what it gives, with the milliseconds that the system was told it may take.
+#[derive(Clone, Copy)]
+enum Step {
+    // a read gives these bytes
+    Gives(&'static [u8], u128),
+    // a read gives the end
+    Ends(u128),
+    // a read fails
+    Fails(u128),
+    // a read fails, and may take more than the first and no more than the second
+    FailsWithin(u128, u128),
+    // bytes are written
+    Writes(&'static [u8]),
 }
+
+// Whether a read gives these bytes.
+fn gives(link: &mut Link<'_>, want: &[u8]) -> bool {
+    let mut buffer = [0; 128];
+    match link.read(&mut buffer) {
+        Ok(count) => count == want.len() && buffer.starts_with(want),
+        Err(_) => false,
+    }
+}
+
+fn fails(link: &mut Link<'_>) -> bool {
+    link.read(&mut [0; 128]).is_err()
+}
+
+// Whether a call gives what it should.
+fn is_done(asked: &Asked, link: &mut Link<'_>, step: Step) -> bool {
+    match step {
+        Step::Gives(want, longest) => gives(link, want) && asked.read.get() == longest,
+        Step::Ends(longest) => gives(link, b"") && asked.read.get() == longest,
+        Step::Fails(longest) => fails(link) && asked.read.get() == longest,
+        Step::FailsWithin(more, longest) => {
+            fails(link) && asked.read.get() > more && asked.read.get() <= longest
+        }
+        Step::Writes(bytes) => write_all(link, bytes).is_ok(),
+    }
+}
+
+// The first of these calls, of a connection that gives these pieces, that gives something else.
+fn first_other(
+    rt: HostRuntime,
+    pieces: &[&'static [u8]],
+    steps: &[Step],
+) -> io::Result<Option<usize>> {
+    let asked = Asked::nothing();
+    let mut link = TcpLink::new(stand_in(&asked, pieces), rt)?;
+    for (n, step) in steps.iter().enumerate() {
+        if !is_done(&asked, &mut link, *step) {
+            return Ok(Some(n));
+        }
+    }
+    Ok(None)
+}
+
+static OF_EACH_CALL: [Step; 6] = [
+    Step::Gives(HEAD, 5_000),
+    Step::Writes(INTERIM),
+    Step::Gives(b"abc", 30_000),
+    Step::Writes(ANSWER),
+    Step::Gives(b"GET / HTTP/1.1\r\n", 500),
+    Step::FailsWithin(5_000, 10_000),
+];
 
 #[test]
 fn each_call_has_its_time(rt: HostRuntime) -> Result<(), Fail> {
-    let asked = Asked::nothing();
-    let pieces: [&'static [u8]; 3] = [HEAD, b"abc", b"GET / HTTP/1.1\r\n"];
-    let mut link = TcpLink::new(stand_in(&asked, &pieces), rt.clone()?)?;
-    assert!(rt; asked.at_once.get());
-    assert_eq!(rt; asked.write.get(), 30_000);
-    assert_eq!(rt; next(&asked, &mut link), (Some(HEAD.len()), 5_000));
-    write_all(&mut link, INTERIM).map_err(|_| "not written")?;
-    assert_eq!(rt; next(&asked, &mut link), (Some(3), 30_000));
-    write_all(&mut link, ANSWER).map_err(|_| "not written")?;
-    assert_eq!(rt; next(&asked, &mut link), (Some(16), 500));
-    let (count, waited) = next(&asked, &mut link);
-    assert_eq!(rt; count, None);
-    assert!(rt; waited > 5_000 && waited <= 10_000, "{waited}");
+    let pieces = [HEAD, b"abc", b"GET / HTTP/1.1\r\n"];
+    assert_eq!(rt; first_other(rt.clone()?, &pieces, &OF_EACH_CALL)?, None);
     Ok(())
 }
+
+#[test]
+fn writes_go_out_at_once(rt: HostRuntime) -> Result<(), Fail> {
+    let asked = Asked::nothing();
+    let _link = TcpLink::new(stand_in(&asked, &[]), rt.clone()?)?;
+    assert!(rt; asked.at_once.get());
+    assert_eq!(rt; asked.write.get(), 30_000);
+    Ok(())
+}
+
+static OF_A_MISSING_BODY: [Step; 7] = [
+    Step::Gives(HEAD, 5_000),
+    Step::Gives(FRONT_AND_HEAD, 30_000),
+    Step::Fails(30_000),
+    Step::Writes(ANSWER),
+    Step::Writes(b"HTTP/1.1 100 Co"),
+    Step::Writes(b"ntinue\r\n\r\n"),
+    Step::Fails(30_000),
+];
 
 // A body that doesn't come is a fault, also behind an interim answer to a head that came together with an earlier request,
 // and behind one that is written in two parts.
 #[test]
 fn a_body_that_does_not_come_is_a_fault(rt: HostRuntime) -> Result<(), Fail> {
-    let asked = Asked::nothing();
-    let pieces = [HEAD, b"abcPUT /y HTTP/1.1\r\nContent-Length: 1\r\n\r\n"];
-    let mut link = TcpLink::new(stand_in(&asked, &pieces), rt.clone()?)?;
-    assert_eq!(rt; next(&asked, &mut link), (Some(HEAD.len()), 5_000));
-    assert_eq!(rt; next(&asked, &mut link), (Some(41), 30_000));
-    assert_eq!(rt; next(&asked, &mut link), (None, 30_000));
-    write_all(&mut link, ANSWER).map_err(|_| "not written")?;
-    write_all(&mut link, &INTERIM[..15]).map_err(|_| "not written")?;
-    write_all(&mut link, &INTERIM[15..]).map_err(|_| "not written")?;
-    assert_eq!(rt; next(&asked, &mut link), (None, 30_000));
+    let pieces = [HEAD, FRONT_AND_HEAD];
+    assert_eq!(rt;
+        first_other(rt.clone()?, &pieces, &OF_A_MISSING_BODY)?,
+        None
+    );
     Ok(())
 }
 
-// The rest of a body whose first bytes came together with an earlier request is waited for as any body, wherever the bytes
-// before it were cut.
+// Whether the rest of the body of these bytes, which are cut here, is waited for as any body.
+fn rest_is_waited_for(rt: HostRuntime, cut: usize) -> io::Result<bool> {
+    let asked = Asked::nothing();
+    let (front, rest) = ALL_BUT_ONE.split_at(cut.min(ALL_BUT_ONE.len()));
+    let pieces = [front, rest, b"T", b"P"];
+    let mut link = TcpLink::new(stand_in(&asked, &pieces), rt)?;
+    Ok(
+        gives(&mut link, front)
+            && gives(&mut link, rest)
+            && is_done(&asked, &mut link, Step::Writes(ANSWER))
+            && is_done(&asked, &mut link, Step::Gives(b"T", 30_000))
+            && is_done(&asked, &mut link, Step::Writes(ANSWER))
+            && is_done(&asked, &mut link, Step::Gives(b"P", 500)),
+    )
+}
+
+// The rest of a body whose first bytes came together with an earlier request is waited for, wherever the bytes before it were
+// cut.
 #[test]
 fn the_rest_of_a_body_is_waited_for(rt: HostRuntime) -> Result<(), Fail> {
     for cut in 1..ALL_BUT_ONE.len() {
-        let asked = Asked::nothing();
-        let pieces = [&ALL_BUT_ONE[..cut], &ALL_BUT_ONE[cut..], b"T", b"P"];
-        let mut link = TcpLink::new(stand_in(&asked, &pieces), rt.clone()?)?;
-        assert_eq!(rt; next(&asked, &mut link).0, Some(cut));
-        assert_eq!(rt; next(&asked, &mut link).0, Some(ALL_BUT_ONE.len() - cut));
-        write_all(&mut link, ANSWER).map_err(|_| "not written")?;
-        assert_eq!(rt; next(&asked, &mut link), (Some(1), 30_000), "{cut}");
-        write_all(&mut link, ANSWER).map_err(|_| "not written")?;
-        assert_eq!(rt; next(&asked, &mut link), (Some(1), 500), "{cut}");
+        assert!(rt; rest_is_waited_for(rt.clone()?, cut)?, "{cut}");
     }
     Ok(())
 }
 
+static OF_A_HEAD_APART: [Step; 4] = [
+    Step::Gives(ALL_BUT_A_LINE_END, 5_000),
+    Step::Writes(ANSWER),
+    Step::Gives(b"\n", 500),
+    Step::Fails(30_000),
+];
+
 // A head whose end comes behind an earlier answer has its body behind that.
 #[test]
 fn a_head_that_came_apart_has_a_body(rt: HostRuntime) -> Result<(), Fail> {
-    let asked = Asked::nothing();
-    let pieces: [&'static [u8]; 2] = [
-        b"GET / HTTP/1.1\r\n\r\nPUT / HTTP/1.1\r\nContent-Length: 3\r\n\r",
-        b"\n",
-    ];
-    let mut link = TcpLink::new(stand_in(&asked, &pieces), rt.clone()?)?;
-    assert_eq!(rt; next(&asked, &mut link), (Some(pieces[0].len()), 5_000));
-    write_all(&mut link, ANSWER).map_err(|_| "not written")?;
-    assert_eq!(rt; next(&asked, &mut link), (Some(1), 500));
-    assert_eq!(rt; next(&asked, &mut link), (None, 30_000));
+    let pieces = [ALL_BUT_A_LINE_END, b"\n"];
+    assert_eq!(rt; first_other(rt.clone()?, &pieces, &OF_A_HEAD_APART)?, None);
     Ok(())
 }
+
+static OF_A_FILE: [Step; 7] = [
+    Step::Gives(GET, 5_000),
+    Step::Writes(ANSWER),
+    Step::Writes(INTERIM),
+    Step::Gives(GET, 500),
+    Step::Writes(ANSWER),
+    Step::Writes(INTERIM),
+    Step::Ends(500),
+];
 
 // Bytes of a file are no answer, whatever they look like.
 #[test]
 fn a_file_may_look_like_an_answer(rt: HostRuntime) -> Result<(), Fail> {
-    let asked = Asked::nothing();
-    let pieces = [GET, GET];
-    let mut link = TcpLink::new(stand_in(&asked, &pieces), rt.clone()?)?;
-    assert_eq!(rt; next(&asked, &mut link), (Some(GET.len()), 5_000));
-    write_all(&mut link, ANSWER).map_err(|_| "not written")?;
-    write_all(&mut link, INTERIM).map_err(|_| "not written")?;
-    assert_eq!(rt; next(&asked, &mut link), (Some(GET.len()), 500));
-    write_all(&mut link, ANSWER).map_err(|_| "not written")?;
-    write_all(&mut link, INTERIM).map_err(|_| "not written")?;
-    assert_eq!(rt; next(&asked, &mut link), (Some(0), 500));
+    assert_eq!(rt; first_other(rt.clone()?, &[GET, GET], &OF_A_FILE)?, None);
     Ok(())
 }
+
+static OF_SILENCE: [Step; 6] = [
+    Step::Gives(GET, 5_000),
+    Step::Writes(ANSWER),
+    Step::Writes(b"the rest of it"),
+    Step::Ends(500),
+    Step::Writes(INTERIM),
+    Step::Ends(500),
+];
 
 // Where nothing comes behind an answer, or at all, that is the end, and stays it.
 #[test]
 fn silence_between_requests_is_the_end(rt: HostRuntime) -> Result<(), Fail> {
-    let asked = Asked::nothing();
-    let pieces = [GET];
-    let mut link = TcpLink::new(stand_in(&asked, &pieces), rt.clone()?)?;
-    assert_eq!(rt; next(&asked, &mut link), (Some(GET.len()), 5_000));
-    write_all(&mut link, ANSWER).map_err(|_| "not written")?;
-    write_all(&mut link, b"the rest of it").map_err(|_| "not written")?;
-    assert_eq!(rt; next(&asked, &mut link), (Some(0), 500));
-    write_all(&mut link, INTERIM).map_err(|_| "not written")?;
-    assert_eq!(rt; next(&asked, &mut link), (Some(0), 500));
-    let other = Asked::nothing();
-    let mut silent = TcpLink::new(stand_in(&other, &[]), rt.clone()?)?;
-    assert_eq!(rt; next(&other, &mut silent), (Some(0), 5_000));
+    assert_eq!(rt; first_other(rt.clone()?, &[GET], &OF_SILENCE)?, None);
+    assert_eq!(rt; first_other(rt.clone()?, &[], &[Step::Ends(5_000)])?, None);
     Ok(())
 }
 
