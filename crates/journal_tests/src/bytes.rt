@@ -1,166 +1,242 @@
 // Journals with literal bytes, over a disk in memory.
+ghost use Rattle.std.specs.Prelude.{◌≡◌, None};
+ghost use Rattle.record_journal.specs.Journal.{tables_of, IsReady};
+
 use crate::images::disk_of;
 use crate::starts::{
-    MemJournal, NEW, ONE_SESSION, add, fits, journal_of, last_session, open, opened, over,
+    MemJournal, NEW, ONE_SESSION, add, fits, journal_of, last_session, open, over,
 };
 use record_disk::DiskScript;
 use row_tables::{CommitFault, LoadFault};
 use std::alloc::{AllocError, Global};
 use std::test::Fail;
 
+// The change that opens session 1, and the empty one.
+const OPENED: &[u8] = b"\x01\0\0\0\x01\x07\0\0\0\0\0\0\0\x01";
+
+const EMPTY: &[u8] = b"\x01\0\0\0\0";
+
 // The change of a PUT of `abc` to releases.
 const DEPLOYED: [u8; 106] =
     *b"\x01\0\0\0\x01\x01\0\x08releases\0\x1corg/acme/lib/1.0/lib-1.0.jar\0\0\0\0\0\0\0\x01\0\0\0\0\0\0\0\x03\xa9\x99\x3e\x36\x47\x06\x81\x6a\xba\x3e\x25\x71\x78\x50\xc2\x6c\x9c\xd0\xd8\x9d\x90\x01\x50\x98\x3c\xd2\x4f\xb0\xd6\x96\x3f\x7d\x28\xe1\x7f\x72\0\0\0\0\x65\xe0\x71\xc0";
+
+// The file of it: 8 bytes of magic, a gate, 4 bytes of length, a payload of 106 and the closed gate.
+const DEPLOYED_FILE: [u8; 120] =
+    *b"MVNROWS1\x01\0\0\0\x6a\x01\0\0\0\x01\x01\0\x08releases\0\x1corg/acme/lib/1.0/lib-1.0.jar\0\0\0\0\0\0\0\x01\0\0\0\0\0\0\0\x03\xa9\x99\x3e\x36\x47\x06\x81\x6a\xba\x3e\x25\x71\x78\x50\xc2\x6c\x9c\xd0\xd8\x9d\x90\x01\x50\x98\x3c\xd2\x4f\xb0\xd6\x96\x3f\x7d\x28\xe1\x7f\x72\0\0\0\0\x65\xe0\x71\xc0\0";
 
 // What a read of the file gives.
 fn file_of(journal: &MemJournal) -> &[u8] {
     journal.disk().inside().bytes()
 }
 
-// A change of 14 bytes, and the file of its journal.
-#[test]
-fn one_session_makes_28_bytes(rt: HostRuntime) -> Result<(), Fail> {
-    let alloc = rt.alloc();
-    let mut journal = journal_of(alloc, b"", u64::MAX)?;
-    open(alloc, &mut journal)?;
-    assert_eq!(rt; file_of(&journal), NEW.as_slice());
-    add(alloc, &mut journal, b"\x01\0\0\0\x01\x07\0\0\0\0\0\0\0\x01")?;
-    assert_eq!(rt; file_of(&journal), ONE_SESSION.as_slice());
-    Ok(())
+// A change, how its commit fails, and the file behind that.
+type Commit<'a> = (&'a [u8], Option<CommitFault>, &'a [u8]);
+
+fn commits(alloc: Global, journal: &mut MemJournal, commit: &Commit<'_>) -> bool
+    requires ready { IsReady journal.old }
+    requires untold { tables_of journal.old ≡ None }
+    ensures untold { tables_of journal.new ≡ None }
+    ensures ready { IsReady journal.new }
+{
+    let (change, fault, file) = *commit;
+    add(alloc, journal, change).err() == fault && file_of(journal) == file
 }
 
-// 8 bytes of magic, a gate, 4 bytes of length, a payload of 106 and the closed gate. A new start finds the row: the same file
-// does not fit.
-#[test]
-fn one_deployed_file_makes_120_bytes(rt: HostRuntime) -> Result<(), Fail> {
-    let alloc = rt.alloc();
-    let mut journal = journal_of(alloc, b"", u64::MAX)?;
-    let mut tables = open(alloc, &mut journal)?;
-    assert!(rt; fits(alloc, &mut tables, &DEPLOYED)?);
-    add(alloc, &mut journal, &DEPLOYED)?;
-    let mut file = b"MVNROWS1\x01\0\0\0\x6a".to_vec(alloc)?;
-    file.extend_from_slice(&DEPLOYED)?;
-    file.push(0)?;
-    assert_eq!(rt; file.len(), 120);
-    assert_eq!(rt; file_of(&journal), file.as_slice());
-    let mut later = open(alloc, &mut journal_of(alloc, &file, u64::MAX)?)?;
-    assert!(rt; !fits(alloc, &mut later, &DEPLOYED)?);
-    Ok(())
-}
-
-// The last call of a commit fails, behind the open gate; an empty change has no frame, and undoes that one.
-#[test]
-fn an_empty_change_undoes_a_frame(rt: HostRuntime) -> Result<(), Fail> {
-    let alloc = rt.alloc();
-    let script = DiskScript::failing_at([8].to_vec(alloc)?, 0);
+// Whether a new journal, of whose disk these calls fail, makes both of these commits so.
+fn both_commit(
+    alloc: Global,
+    failing: &[u64],
+    first: &Commit<'_>,
+    second: &Commit<'_>,
+) -> Result<bool, Fail> {
+    let script = DiskScript::failing_at(failing.to_vec(alloc)?, 0);
     let mut journal = over(disk_of(alloc, b"", script)?, u64::MAX);
     open(alloc, &mut journal)?;
-    assert_eq!(rt;
-        add(alloc, &mut journal, &opened(1)),
-        Err(CommitFault::Failed)
-    );
-    assert_eq!(rt; file_of(&journal), ONE_SESSION.as_slice());
-    add(alloc, &mut journal, b"\x01\0\0\0\0")?;
-    assert_eq!(rt; file_of(&journal), NEW.as_slice());
-    Ok(())
+    Ok(
+        file_of(&journal) == NEW.as_slice()
+            && commits(alloc, &mut journal, first)
+            && commits(alloc, &mut journal, second),
+    )
 }
 
-// Whether a load of this file gives this last session and leaves this other file.
-fn becomes(alloc: Global, file: &[u8], last: u8, left: &[u8]) -> Result<bool, Fail> {
-    let mut journal = journal_of(alloc, file, u64::MAX)?;
-    let tables = open(alloc, &mut journal)?;
-    Ok(last_session(alloc, tables)? == last && file_of(&journal) == left)
+// A change of 14 bytes, and the file of its journal. An empty change has no frame.
+#[test]
+fn one_session_makes_28_bytes(rt: HostRuntime) -> Result<(), Fail> {
+    let first = (OPENED, None, ONE_SESSION.as_slice());
+    let second = (EMPTY, None, ONE_SESSION.as_slice());
+    assert!(rt; both_commit(rt.alloc(), &[], &first, &second)?);
+    Ok(())
 }
 
 #[test]
-fn a_file_of_9_bytes_is_new(rt: HostRuntime) -> Result<(), Fail> {
-    let alloc = rt.alloc();
-    assert!(rt; becomes(alloc, b"", 0, &NEW)?);
-    assert!(rt; becomes(alloc, b"anything!", 0, &NEW)?);
-    assert!(rt; becomes(alloc, b"MVNROWS1", 0, &NEW)?);
-    assert!(rt; becomes(alloc, b"MVNROWS1\x01", 0, &NEW)?);
-    assert!(rt; becomes(alloc, b"MVNROWS1\0", 0, &NEW)?);
+fn one_deployed_file_makes_120_bytes(rt: HostRuntime) -> Result<(), Fail> {
+    let first = (DEPLOYED.as_slice(), None, DEPLOYED_FILE.as_slice());
+    let second = (EMPTY, None, DEPLOYED_FILE.as_slice());
+    assert!(rt; both_commit(rt.alloc(), &[], &first, &second)?);
     Ok(())
 }
 
-// Whether these bytes behind the frame of session 1 are cut off, and its gate is closed.
-fn is_mended(alloc: Global, behind: &[u8]) -> Result<bool, Fail> {
-    let mut file = b"MVNROWS1\x01\0\0\0\x0e".to_vec(alloc)?;
-    file.extend_from_slice(&opened(1))?;
-    file.extend_from_slice(behind)?;
-    becomes(alloc, &file, 1, &ONE_SESSION)
-}
-
-// Behind the last frame: nothing, an open gate, a closed one with bytes behind it, another byte.
+// The last call of a commit fails, behind the open gate; an empty change undoes that frame.
 #[test]
-fn the_end_of_a_file_is_mended(rt: HostRuntime) -> Result<(), Fail> {
-    let alloc = rt.alloc();
-    assert!(rt; is_mended(alloc, b"")?);
-    assert!(rt; is_mended(alloc, b"\x01")?);
-    assert!(rt; is_mended(alloc, b"\0")?);
-    assert!(rt; is_mended(alloc, b"\0\x01\0\0")?);
-    assert!(rt; is_mended(alloc, b"\x02xyz")?);
-    assert!(rt; becomes(alloc, b"MVNROWS1\0xyz", 0, &NEW)?);
+fn an_empty_change_undoes_a_frame(rt: HostRuntime) -> Result<(), Fail> {
+    let first = (OPENED, Some(CommitFault::Failed), ONE_SESSION.as_slice());
+    let second = (EMPTY, None, NEW.as_slice());
+    assert!(rt; both_commit(rt.alloc(), &[8], &first, &second)?);
     Ok(())
 }
 
-// Why a load refuses this file, if it leaves it as it is.
-fn refusal_of(alloc: Global, file: &[u8]) -> Result<Option<LoadFault>, AllocError> {
+// Whether the deployed file fits what a start over this file finds.
+fn is_new_to(alloc: Global, file: &[u8]) -> Result<bool, Fail> {
+    let mut tables = open(alloc, &mut journal_of(alloc, file, u64::MAX)?)?;
+    Ok(fits(alloc, &mut tables, &DEPLOYED)?)
+}
+
+// A start finds the row: the same file does not fit.
+#[test]
+fn a_deployed_file_is_found_by_a_start(rt: HostRuntime) -> Result<(), Fail> {
+    assert!(rt; is_new_to(rt.alloc(), b"")?);
+    assert!(rt; !is_new_to(rt.alloc(), &DEPLOYED_FILE)?);
+    Ok(())
+}
+
+// What a load comes to.
+#[derive(Clone, Copy)]
+enum Loaded {
+    // to this last session, and it leaves this file
+    To(u8, &'static [u8]),
+    // it is refused, and leaves the file as it was
+    Refused(LoadFault),
+}
+
+// A file, and what its load comes to.
+type Load = (&'static [u8], Loaded);
+
+fn is_loaded(alloc: Global, file: &[u8], want: Loaded) -> Result<bool, AllocError> {
     let mut journal = journal_of(alloc, file, u64::MAX)?;
-    match open(alloc, &mut journal) {
-        Err(fault) if file_of(&journal) == file => Ok(Some(fault)),
-        _ => Ok(None),
+    match (open(alloc, &mut journal), want) {
+        (Ok(tables), Loaded::To(last, left)) => {
+            Ok(last_session(alloc, tables)? == last && file_of(&journal) == left)
+        }
+        (Err(fault), Loaded::Refused(reason)) => Ok(fault == reason && file_of(&journal) == file),
+        _ => Ok(false),
     }
 }
 
-// Whether such a load is refused at this byte of this frame's payload.
-fn refused_at(alloc: Global, file: &[u8], frame: u64, at: u64) -> Result<bool, AllocError> {
-    Ok(refusal_of(alloc, file)? == Some(LoadFault::Row { frame, at }))
+// The first of these files whose load comes to something else.
+fn first_other(alloc: Global, loads: &[Load]) -> Result<Option<usize>, AllocError> {
+    for (n, (file, want)) in loads.iter().enumerate() {
+        if !is_loaded(alloc, file, *want)? {
+            return Ok(Some(n));
+        }
+    }
+    Ok(None)
 }
+
+static OF_9_BYTES: [Load; 5] = [
+    (b"", Loaded::To(0, &NEW)),
+    (b"anything!", Loaded::To(0, &NEW)),
+    (b"MVNROWS1", Loaded::To(0, &NEW)),
+    (b"MVNROWS1\x01", Loaded::To(0, &NEW)),
+    (b"MVNROWS1\0", Loaded::To(0, &NEW)),
+];
+
+#[test]
+fn a_file_of_9_bytes_is_new(rt: HostRuntime) -> Result<(), Fail> {
+    assert_eq!(rt; first_other(rt.alloc(), &OF_9_BYTES)?, None);
+    Ok(())
+}
+
+// Behind the frame of session 1: nothing, an open gate, a closed one with bytes behind it, another byte. What stands behind
+// the frame is cut off, and its gate is closed.
+static OF_ONE_FRAME: [Load; 6] = [
+    (
+        b"MVNROWS1\x01\0\0\0\x0e\x01\0\0\0\x01\x07\0\0\0\0\0\0\0\x01",
+        Loaded::To(1, &ONE_SESSION),
+    ),
+    (
+        b"MVNROWS1\x01\0\0\0\x0e\x01\0\0\0\x01\x07\0\0\0\0\0\0\0\x01\x01",
+        Loaded::To(1, &ONE_SESSION),
+    ),
+    (
+        b"MVNROWS1\x01\0\0\0\x0e\x01\0\0\0\x01\x07\0\0\0\0\0\0\0\x01\0",
+        Loaded::To(1, &ONE_SESSION),
+    ),
+    (
+        b"MVNROWS1\x01\0\0\0\x0e\x01\0\0\0\x01\x07\0\0\0\0\0\0\0\x01\0\x01\0\0",
+        Loaded::To(1, &ONE_SESSION),
+    ),
+    (
+        b"MVNROWS1\x01\0\0\0\x0e\x01\0\0\0\x01\x07\0\0\0\0\0\0\0\x01\x02xyz",
+        Loaded::To(1, &ONE_SESSION),
+    ),
+    (b"MVNROWS1\0xyz", Loaded::To(0, &NEW)),
+];
+
+#[test]
+fn the_end_of_a_file_is_mended(rt: HostRuntime) -> Result<(), Fail> {
+    assert_eq!(rt; first_other(rt.alloc(), &OF_ONE_FRAME)?, None);
+    Ok(())
+}
+
+static OF_ANOTHER: [Load; 2] = [
+    (b"MVNROWS2\0\0", Loaded::Refused(LoadFault::NotOurs)),
+    (b"mvnrows1\0\0", Loaded::Refused(LoadFault::NotOurs)),
+];
 
 #[test]
 fn another_beginning_is_refused(rt: HostRuntime) -> Result<(), Fail> {
-    let refused = Some(LoadFault::NotOurs);
-    assert_eq!(rt; refusal_of(rt.alloc(), b"MVNROWS2\0\0")?, refused);
-    assert_eq!(rt; refusal_of(rt.alloc(), b"mvnrows1\0\0")?, refused);
+    assert_eq!(rt; first_other(rt.alloc(), &OF_ANOTHER)?, None);
     Ok(())
 }
 
-// A frame that is cut short in its length, and in its payload.
-#[test]
-fn frames_that_are_cut_short_are_refused(rt: HostRuntime) -> Result<(), Fail> {
-    let alloc = rt.alloc();
-    let file = b"MVNROWS1\x01\0\0";
-    assert!(rt; refused_at(alloc, file, 0, 0)?);
-    let file = b"MVNROWS1\x01\0\0\0\x05\x01\0\0\0";
-    assert!(rt; refused_at(alloc, file, 0, 0)?);
-    let file = b"MVNROWS1\x01\0\0\0\x05\x01\0\0\0\0\x01\0\0\0\x05\x01\0\0\0";
-    assert!(rt; refused_at(alloc, file, 1, 0)?);
-    Ok(())
-}
+// Cut short in its length, and in its payload; longer than its change, an unknown tag, and an unknown version.
+static OF_BAD_FRAMES: [Load; 6] = [
+    (
+        b"MVNROWS1\x01\0\0",
+        Loaded::Refused(LoadFault::Row { frame: 0, at: 0 }),
+    ),
+    (
+        b"MVNROWS1\x01\0\0\0\x05\x01\0\0\0",
+        Loaded::Refused(LoadFault::Row { frame: 0, at: 0 }),
+    ),
+    (
+        b"MVNROWS1\x01\0\0\0\x05\x01\0\0\0\0\x01\0\0\0\x05\x01\0\0\0",
+        Loaded::Refused(LoadFault::Row { frame: 1, at: 0 }),
+    ),
+    (
+        b"MVNROWS1\x01\0\0\0\x06\x01\0\0\0\0\0\0",
+        Loaded::Refused(LoadFault::Row { frame: 0, at: 0 }),
+    ),
+    (
+        b"MVNROWS1\x01\0\0\0\x0e\x01\0\0\0\x01\x09\0\0\0\0\0\0\0\x01\0",
+        Loaded::Refused(LoadFault::Row { frame: 0, at: 5 }),
+    ),
+    (
+        b"MVNROWS1\x01\0\0\0\x05\x01\0\0\0\0\x01\0\0\0\x01\x02\0",
+        Loaded::Refused(LoadFault::Row { frame: 1, at: 0 }),
+    ),
+];
 
-// A frame that is longer than its change, an unknown tag, and an unknown version.
 #[test]
-fn payloads_that_do_not_read_are_refused(rt: HostRuntime) -> Result<(), Fail> {
-    let alloc = rt.alloc();
-    let file = b"MVNROWS1\x01\0\0\0\x06\x01\0\0\0\0\0\0";
-    assert!(rt; refused_at(alloc, file, 0, 0)?);
-    let file = b"MVNROWS1\x01\0\0\0\x0e\x01\0\0\0\x01\x09\0\0\0\0\0\0\0\x01\0";
-    assert!(rt; refused_at(alloc, file, 0, 5)?);
-    let file = b"MVNROWS1\x01\0\0\0\x05\x01\0\0\0\0\x01\0\0\0\x01\x02\0";
-    assert!(rt; refused_at(alloc, file, 1, 0)?);
+fn frames_that_do_not_read_are_refused(rt: HostRuntime) -> Result<(), Fail> {
+    assert_eq!(rt; first_other(rt.alloc(), &OF_BAD_FRAMES)?, None);
     Ok(())
 }
 
 // A session that is opened twice, in one change and in two.
+static OF_MISFITS: [Load; 2] = [
+    (
+        b"MVNROWS1\x01\0\0\0\x17\x01\0\0\0\x02\x07\0\0\0\0\0\0\0\x01\x07\0\0\0\0\0\0\0\x01\0",
+        Loaded::Refused(LoadFault::Row { frame: 0, at: 14 }),
+    ),
+    (
+        b"MVNROWS1\x01\0\0\0\x0e\x01\0\0\0\x01\x07\0\0\0\0\0\0\0\x01\x01\0\0\0\x0e\x01\0\0\0\x01\x07\0\0\0\0\0\0\0\x01\0",
+        Loaded::Refused(LoadFault::Row { frame: 1, at: 5 }),
+    ),
+];
+
 #[test]
 fn changes_that_do_not_fit_are_refused(rt: HostRuntime) -> Result<(), Fail> {
-    let alloc = rt.alloc();
-    let file =
-        b"MVNROWS1\x01\0\0\0\x17\x01\0\0\0\x02\x07\0\0\0\0\0\0\0\x01\x07\0\0\0\0\0\0\0\x01\0";
-    assert!(rt; refused_at(alloc, file, 0, 14)?);
-    let file =
-        b"MVNROWS1\x01\0\0\0\x0e\x01\0\0\0\x01\x07\0\0\0\0\0\0\0\x01\x01\0\0\0\x0e\x01\0\0\0\x01\x07\0\0\0\0\0\0\0\x01\0";
-    assert!(rt; refused_at(alloc, file, 1, 5)?);
+    assert_eq!(rt; first_other(rt.alloc(), &OF_MISFITS)?, None);
     Ok(())
 }

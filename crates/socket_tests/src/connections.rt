@@ -200,23 +200,6 @@ static BEHIND_AN_INTERIM_ANSWER: [Step; 2] = [
     Step::Writes(b"HTTP/1.1 100 Continue\r\n\r\n"),
 ];
 
-// How many bytes come of a body that is sent after 1,200 milliseconds, and after how many they do.
-fn late_body(rt: &HostRuntime, pair: Pair) -> Result<(Option<usize>, u128), Fail> {
-    let Pair {
-        mut peer,
-        mut link,
-        ..
-    } = pair;
-    let own = rt.clone()?;
-    let sender = thread::spawn(rt, move || {
-        thread::sleep(&own, Duration::from_millis(1_200));
-        let _ = peer.write_all(b"abc");
-    })?;
-    let read = timed_read(rt, &mut link);
-    sender.join(rt);
-    read
-}
-
 // Behind an interim answer the body is waited for.
 #[test]
 fn a_body_may_come_late(rt: HostRuntime) -> Result<(), Fail> {
@@ -225,7 +208,18 @@ fn a_body_may_come_late(rt: HostRuntime) -> Result<(), Fail> {
         first_other(&rt, &mut pair, &BEHIND_AN_INTERIM_ANSWER)?,
         None
     );
-    let (count, waited) = late_body(&rt, pair)?;
+    let Pair {
+        mut peer,
+        mut link,
+        ..
+    } = pair;
+    let own = rt.clone()?;
+    let sender = thread::spawn(&rt, move || {
+        thread::sleep(&own, Duration::from_millis(1_200));
+        peer.write_all(b"abc").is_ok()
+    })?;
+    let (count, waited) = timed_read(&rt, &mut link)?;
+    assert!(rt; sender.join(&rt));
     assert!(rt; count == Some(3) && waited >= 600, "{waited}");
     Ok(())
 }
