@@ -1,19 +1,13 @@
 // A PUT and a check over a journal, each call of the disk and of the store failing in turn, until a run meets none that fails: what
 // is there then is what was there before, or what the whole run leaves, and so says a new start.
-use crate::restarts::{CREATED, FAILED, FILE};
-use crate::stock::{ONE_FILE, Over, Stage, journal_over, journal_with, run_over, stage_of};
-use outside::Blobs;
-use outside_memory::{FaultScript, MemBlobs};
-use record_disk::{DiskScript, MemDisk};
-use record_journal::Journal;
-use std::alloc::{AllocError, Global};
+use crate::bench::Bench;
+use crate::literals::{CREATED, FAILED, FILE, GET, ONE_FILE};
+use crate::steps::{Step, Stored};
+use std::alloc::Global;
 use std::test::Fail;
 
 const PUT_SECOND: &str =
     "PUT /repository/releases/org/acme/lib/2.0/lib-2.0.jar HTTP/1.1\r\nHost: x\r\nContent-Length: 3\r\n\r\nabc";
-
-const GET_FIRST: &str =
-    "GET /repository/releases/org/acme/lib/1.0/lib-1.0.jar HTTP/1.1\r\nHost: x\r\nConnection: close\r\n\r\n";
 
 const GET_SECOND: &str =
     "GET /repository/releases/org/acme/lib/2.0/lib-2.0.jar HTTP/1.1\r\nHost: x\r\nConnection: close\r\n\r\n";
@@ -199,77 +193,42 @@ static PUT_EMPTY_DISK: [Row; 10] = [
     EMPTY_CREATED_WHOLE,
 ];
 
-type Kept = Journal<MemDisk>;
-
-/// A store with the blob of the first file and a blob that is left over, of which this call fails, the first two having stored them.
-fn store_failing_at(alloc: Global, call: usize) -> Result<MemBlobs, Fail> {
-    let failing = vec![in alloc; (call as u64).saturating_add(2)]?;
-    let mut store = MemBlobs::new(alloc, FaultScript::failing_at(failing));
-    store.store(1, b"abc")?;
-    store.store(9, b"left over")?;
-    Ok(store)
-}
-
-/// A journal over this file, of whose disk this call fails, a write among them behind its first `part` bytes.
-fn journal_failing_at(
-    alloc: Global,
-    file: &[u8],
-    call: usize,
-    part: u64,
-) -> Result<Kept, AllocError> {
-    let failing = vec![in alloc; call as u64]?;
-    journal_with(alloc, file, DiskScript::failing_at(failing, part))
-}
-
-/// A run over what another one has left.
-fn after(
-    alloc: Global,
-    over: Over<Kept>,
-    command: &str,
-    input: &'static str,
-) -> Result<Over<Kept>, Fail> {
-    Ok(run_over(alloc, command, over.into_stage(input)?)?)
-}
-
-fn is_said(over: &Over<Kept>, said: Said) -> bool {
-    over.said(said.0, said.1)
-}
-
-/// Whether this is found over what a stage has.
-fn is_found(alloc: Global, stage: Stage<Kept>, found: &Found) -> Result<bool, Fail> {
-    let over = run_over(alloc, "check", stage)?;
-    let checked = is_said(&over, found.checked);
-    let over = after(alloc, over, "replay", GET_FIRST)?;
-    let first = over.answers() == found.first;
-    let over = after(alloc, over, "replay", GET_SECOND)?;
-    Ok(checked && first && over.answers() == found.second)
-}
+// The blob of the first file, and one that is left over.
+const BLOBS: Stored = &[(1, b"abc"), (9, b"left over")];
 
 /// Whether a run of this command, and the runs behind it, go as a row says.
-fn goes(alloc: Global, command: &str, begun: Stage<Kept>, row: &Row) -> Result<bool, Fail> {
-    let over = run_over(alloc, command, begun)?;
-    let left = journal_over(alloc, over.ran.records.disk().bytes())?;
-    let answered = over.answers() == row.answers && is_said(&over, row.said);
-    let over = after(alloc, over, "check", "")?;
-    let again = is_said(&over, row.again);
-    let mut later = over.into_stage("")?;
-    later.records = left;
-    Ok(answered && again && is_found(alloc, later, &row.found)?)
+fn goes(alloc: Global, begun: [Step; 2], command: &'static str, row: &Row) -> Result<bool, Fail> {
+    let steps = [
+        begun[0],
+        begun[1],
+        Step::Run(command, PUT_SECOND),
+        Step::Keep,
+        Step::Answered(row.answers),
+        Step::Said("", row.said.0, row.said.1),
+        Step::Run("check", ""),
+        Step::Said("", row.again.0, row.again.1),
+        Step::Back,
+        Step::Run("check", ""),
+        Step::Said("", row.found.checked.0, row.found.checked.1),
+        Step::Run("replay", GET),
+        Step::Answered(row.found.first),
+        Step::Run("replay", GET_SECOND),
+        Step::Answered(row.found.second),
+    ];
+    Ok(Bench::new(alloc)?.first_other(&steps)?.is_none())
 }
 
-/// The first call of the disk that fails otherwise.
+/// The first call of the disk that fails otherwise, a write among them behind its first `part` bytes.
 fn first_of_disk(
     alloc: Global,
-    command: &str,
-    file: &[u8],
+    command: &'static str,
+    file: &'static [u8],
     part: u64,
     rows: &[Row],
 ) -> Result<Option<usize>, Fail> {
     for (call, row) in rows.iter().enumerate() {
-        let records = journal_failing_at(alloc, file, call, part)?;
-        let mut begun = stage_of(alloc, records, &[(1, b"abc"), (9, b"left over")])?;
-        begun.input = PUT_SECOND;
-        if !goes(alloc, command, begun, row)? {
+        let journal = Step::FailingJournal(file, call as u64, part);
+        if !goes(alloc, [journal, Step::Store(BLOBS)], command, row)? {
             return Ok(Some(call));
         }
     }
@@ -277,12 +236,14 @@ fn first_of_disk(
 }
 
 /// The first call of the store that fails otherwise.
-fn first_of_store(alloc: Global, command: &str, rows: &[Row]) -> Result<Option<usize>, Fail> {
+fn first_of_store(
+    alloc: Global,
+    command: &'static str,
+    rows: &[Row],
+) -> Result<Option<usize>, Fail> {
     for (call, row) in rows.iter().enumerate() {
-        let mut begun = stage_of(alloc, journal_over(alloc, ONE_FILE)?, &[])?;
-        begun.blobs = store_failing_at(alloc, call)?;
-        begun.input = PUT_SECOND;
-        if !goes(alloc, command, begun, row)? {
+        let blobs = Step::FailingBlobs(BLOBS, call as u64);
+        if !goes(alloc, [Step::Journal(ONE_FILE), blobs], command, row)? {
             return Ok(Some(call));
         }
     }

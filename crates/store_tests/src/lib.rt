@@ -3,6 +3,8 @@
 #![tactic(auto)]
 
 #[cfg(test)]
+mod bench;
+#[cfg(test)]
 mod checks;
 #[cfg(test)]
 mod cleans;
@@ -11,8 +13,12 @@ mod failures;
 #[cfg(test)]
 mod folders;
 #[cfg(test)]
+mod literals;
+#[cfg(test)]
+mod objects;
+#[cfg(test)]
 mod restarts;
 #[cfg(test)]
 mod sessions;
 #[cfg(test)]
-mod stock;
+mod steps;

@@ -1,0 +1,32 @@
+// Settings, files of journals, requests, answers and lines that several tests have, byte for byte.
+
+pub const SETTINGS: &str =
+    "grace_seconds = 60\n[[hosted]]\nid = \"releases\"\nreleases = true\nsnapshots = false\n[[hosted]]\nid = \"snapshots\"\nreleases = false\nsnapshots = true\nkeep_count = 1\nkeep_days = 0\n";
+
+/// A journal in which the jar of the worked requests is recorded, of `abc` in blob 1.
+pub const ONE_FILE: &[u8] =
+    b"MVNROWS1\x01\0\0\0\x6a\x01\0\0\0\x01\x01\0\x08releases\0\x1corg/acme/lib/1.0/lib-1.0.jar\0\0\0\0\0\0\0\x01\0\0\0\0\0\0\0\x03\xa9\x99\x3e\x36\x47\x06\x81\x6a\xba\x3e\x25\x71\x78\x50\xc2\x6c\x9c\xd0\xd8\x9d\x90\x01\x50\x98\x3c\xd2\x4f\xb0\xd6\x96\x3f\x7d\x28\xe1\x7f\x72\0\0\0\0\x65\xe0\x71\xc0\0";
+
+pub const DAMAGED: &str =
+    "damaged releases/org/acme/lib/1.0/lib-1.0.jar recorded 3 a9993e364706816aba3e25717850c26c9cd0d89d 900150983cd24fb0d6963f7d28e17f72 found 0 da39a3ee5e6b4b0d3255bfef95601890afd80709 d41d8cd98f00b204e9800998ecf8427e\n";
+
+pub const MISSING: &str =
+    "damaged releases/org/acme/lib/1.0/lib-1.0.jar recorded 3 a9993e364706816aba3e25717850c26c9cd0d89d 900150983cd24fb0d6963f7d28e17f72 found none\n";
+
+pub const PUT: &str =
+    "PUT /repository/releases/org/acme/lib/1.0/lib-1.0.jar HTTP/1.1\r\nHost: x\r\nContent-Length: 3\r\n\r\nabc";
+
+pub const GET: &str =
+    "GET /repository/releases/org/acme/lib/1.0/lib-1.0.jar HTTP/1.1\r\nHost: x\r\nConnection: close\r\n\r\n";
+
+pub const CREATED: &[u8] =
+    b"HTTP/1.1 201 Created\r\nContent-Type: text/plain\r\nContent-Length: 8\r\n\r\ncreated\n";
+
+pub const FAILED: &[u8] =
+    b"HTTP/1.1 503 Service Unavailable\r\nContent-Type: text/plain\r\nContent-Length: 12\r\n\r\nstore-fault\n";
+
+pub const FILE: &[u8] =
+    b"HTTP/1.1 200 OK\r\nContent-Type: application/octet-stream\r\nContent-Length: 3\r\nX-Checksum-SHA1: a9993e364706816aba3e25717850c26c9cd0d89d\r\nX-Checksum-MD5: 900150983cd24fb0d6963f7d28e17f72\r\nConnection: close\r\n\r\nabc";
+
+/// A journal with an item of an unknown tag.
+pub const BAD_TAG: &[u8] = b"MVNROWS1\x01\0\0\0\x0e\x01\0\0\0\x01\x09\0\0\0\0\0\0\0\x01\0";
