@@ -1,89 +1,73 @@
 // Damaged files, and stores that fail.
-use crate::stock::{JAR, four_files, full_store, nothing, started, store_of};
-use blob_audit::Damaged;
-use outside::Held;
-use outside_memory::{FaultScript, WrongBlobs};
-use repo_restart::{RestoreFault, Restored};
+use crate::bench::{first_other, follow};
+use crate::literals::{FOUR_FILES, JAR, NOTHING, SIX_BLOBS};
+use crate::steps::Step;
+use crate::stock::is_found_out;
 use std::alloc::Global;
-use std::process::Abort;
 use std::test::Fail;
 
-// The damage that ended a start.
-fn damage_in<H: Held>(ended: Result<Restored<H>, RestoreFault>) -> Result<Damaged, Fail> {
-    match ended {
-        Err(RestoreFault::Damaged(damage)) => Ok(damage),
-        _ => Err("not damaged")?,
-    }
-}
-
-fn is_store_fault<H: Held>(ended: &Result<Restored<H>, RestoreFault>) -> bool {
-    matches!(ended, Err(RestoreFault::Store))
-}
-
 // The proxy central comes first, then old, of which the settings say nothing; nothing is removed.
+static OF_A_DAMAGED_FILE: [Step; 8] = [
+    Step::Journal(FOUR_FILES),
+    Step::Store(&[(1, b""), (3, b""), (4, b"abc"), (7, b"left")]),
+    Step::Start,
+    Step::Damaged("old"),
+    Step::DamagedFile(JAR, 3),
+    Step::Found(Some(NOTHING)),
+    Step::Removed(&[]),
+    Step::Faults(0),
+];
+
 #[test]
 fn the_first_damaged_file_ends_it(rt: HostRuntime) -> Result<(), Fail> {
-    let alloc = rt.alloc();
-    let mut journal = four_files(alloc)?;
-    let blobs: [(u64, &[u8]); 4] = [(1, b""), (3, b""), (4, b"abc"), (7, b"left")];
-    let mut store = store_of(alloc, &blobs, Vec::new(alloc))?;
-    let damage = damage_in(started(alloc, &mut journal, &mut store)?)?;
-    assert_eq!(rt; damage.repo.as_str(), "old");
-    assert_eq!(rt; damage.path.as_str(), JAR);
-    assert_eq!(rt; damage.recorded.length, 3);
-    assert_eq!(rt; damage.found, Some(nothing()));
-    assert!(rt; store.removed().is_empty());
-    assert_eq!(rt; store.faults(), 0);
-    Ok(())
+    follow(&rt, rt.alloc(), &OF_A_DAMAGED_FILE)
 }
+
+static OF_A_MISSING_BLOB: [Step; 6] = [
+    Step::Journal(FOUR_FILES),
+    Step::Store(&[(1, b"abc"), (3, b"abc"), (4, b"abc"), (7, b"left")]),
+    Step::Start,
+    Step::Damaged("snapshots"),
+    Step::Found(None),
+    Step::Removed(&[]),
+];
 
 #[test]
 fn a_missing_blob_ends_it(rt: HostRuntime) -> Result<(), Fail> {
-    let alloc = rt.alloc();
-    let mut journal = four_files(alloc)?;
-    let blobs: [(u64, &[u8]); 4] = [(1, b"abc"), (3, b"abc"), (4, b"abc"), (7, b"left")];
-    let mut store = store_of(alloc, &blobs, Vec::new(alloc))?;
-    let damage = damage_in(started(alloc, &mut journal, &mut store)?)?;
-    assert_eq!(rt; damage.repo.as_str(), "snapshots");
-    assert_eq!(rt; damage.found, None);
-    assert!(rt; store.removed().is_empty());
-    Ok(())
+    follow(&rt, rt.alloc(), &OF_A_MISSING_BLOB)
 }
+
+static GIVEN: [(u64, &[u8]); 4] = [(1, b"abd"), (2, b"abc"), (3, b"abc"), (4, b"abc")];
 
 // A store that gives other bytes than were stored, and tells none.
 #[test]
 fn a_store_that_lies_is_found_out(rt: HostRuntime) -> Result<(), Fail> {
-    let alloc = rt.alloc();
-    let mut journal = four_files(alloc)?;
-    let mut store = WrongBlobs::new(alloc, FaultScript::none(alloc));
-    store.give(1, b"abd")?;
-    store.give(2, b"abc")?;
-    store.give(3, b"abc")?;
-    store.give(4, b"abc")?;
-    let damage = damage_in(started(alloc, &mut journal, &mut store)?)?;
-    assert_eq!(rt; damage.repo.as_str(), "releases");
+    assert!(rt; is_found_out(rt.alloc(), FOUR_FILES, &GIVEN, "releases")?);
     Ok(())
 }
 
 // A start whose call of this number, counted from 0, fails at the store, and the start after it.
-fn fails_at(rt: &impl Abort, alloc: Global, call: u64) -> Result<(), Fail> {
-    let mut journal = four_files(alloc)?;
-    let failing = vec![in alloc; call.wrapping_add(6)]?;
-    let mut store = full_store(alloc, failing)?;
-    assert!(rt; is_store_fault(&started(alloc, &mut journal, &mut store)?));
-    assert_eq!(rt; store.faults(), 1);
+fn fails_at(alloc: Global, call: u64) -> Result<Option<usize>, Fail> {
     let gone = if call == 10 { 1 } else { 0 };
-    assert_eq!(rt; store.removed().len(), gone);
-    assert!(rt; started(alloc, &mut journal, &mut store)?.is_ok());
-    assert_eq!(rt; store.removed(), [7, 9].as_slice());
-    Ok(())
+    let steps = [
+        Step::Journal(FOUR_FILES),
+        Step::FailingStore(SIX_BLOBS, call),
+        Step::Start,
+        Step::StoreFault,
+        Step::Faults(1),
+        Step::RemovedCount(gone),
+        Step::Start,
+        Step::Restored,
+        Step::Removed(&[7, 9]),
+    ];
+    first_other(alloc, &steps)
 }
 
 // Four files are found and read, the blobs are listed, and two go: each of these calls may fail.
 #[test]
 fn each_call_of_the_store_may_fail(rt: HostRuntime) -> Result<(), Fail> {
     for call in 0..11 {
-        fails_at(&rt, rt.alloc(), call)?;
+        assert_eq!(rt; fails_at(rt.alloc(), call)?, None);
     }
     Ok(())
 }

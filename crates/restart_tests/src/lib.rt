@@ -2,8 +2,16 @@
 #![tactic(auto)]
 
 #[cfg(test)]
+mod bench;
+#[cfg(test)]
+mod ends;
+#[cfg(test)]
 mod faults;
 #[cfg(test)]
+mod literals;
+#[cfg(test)]
 mod restarts;
+#[cfg(test)]
+mod steps;
 #[cfg(test)]
 mod stock;
