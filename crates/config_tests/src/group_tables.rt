@@ -1,5 +1,5 @@
 //! The keys of a group, its members, and how many repositories there may be.
-use super::answers::{HOSTED, answer, expect};
+use super::answers::{HOSTED, expect, is_answered};
 use std::alloc::Global;
 use std::test::Fail;
 
@@ -51,10 +51,11 @@ fn hosted(alloc: Global, count: u32) -> Result<String, Fail> {
     Ok(text)
 }
 
-fn repositories(alloc: Global, count: u32, end: &str) -> Result<String, Fail> {
-    let mut text = hosted(alloc, count)?;
+// Whether so many hosted repositories and the end of a text are answered so.
+fn are_answered(alloc: Global, count: u32, end: &str, wanted: &str) -> Result<bool, Fail> {
+    let mut text: String = hosted(alloc, count)?;
     text.push_str(end)?;
-    answer(alloc, text.as_bytes())
+    Ok(is_answered(alloc, text.as_bytes(), wanted))
 }
 
 const PROXY: &str = "[[proxy]]\nid = 'p'\nhost = 'h'\n";
@@ -62,31 +63,43 @@ const PROXY: &str = "[[proxy]]\nid = 'p'\nhost = 'h'\n";
 const PROXY_AND_GROUP: &str =
     "[[proxy]]\nid = 'p'\nhost = 'h'\n[[group]]\nid = 'p'\nmembers = ['x']\n";
 
+static MOST: [(u32, &str, &str); 5] = [
+    (64, "", "ok"),
+    (65, "", "Range repositories"),
+    (63, PROXY, "ok"),
+    (62, PROXY_AND_GROUP, "TwiceNamed p"),
+    (63, PROXY_AND_GROUP, "Range repositories"),
+];
+
 #[test]
 fn most_repositories(rt: HostRuntime) -> Result<(), Fail> {
-    let alloc = rt.alloc();
-    assert!(rt; repositories(alloc, 64, "")?.as_str() == "ok");
-    assert!(rt; repositories(alloc, 65, "")?.as_str() == "Range repositories");
-    assert!(rt; repositories(alloc, 63, PROXY)?.as_str() == "ok");
-    assert!(rt; repositories(alloc, 62, PROXY_AND_GROUP)?.as_str() == "TwiceNamed p");
-    assert!(rt; repositories(alloc, 63, PROXY_AND_GROUP)?.as_str() == "Range repositories");
+    for (count, end, wanted) in &MOST {
+        assert!(rt; are_answered(rt.alloc(), *count, end, wanted)?, "{count}");
+    }
     Ok(())
 }
 
+// The end of a text: a group with so many members.
 fn group_of(alloc: Global, count: u32) -> Result<String, Fail> {
-    let mut text = hosted(alloc, 20)?;
-    text.push_str("[[group]]\nid = 'g'\nmembers = [")?;
+    let mut text = String::from_str(alloc, "[[group]]\nid = 'g'\nmembers = [")?;
     for index in 0..count {
         let one = format!(in alloc; "'r{index}', ")?;
         text.push_str(one.as_str())?;
     }
     text.push_str("]\n")?;
-    answer(alloc, text.as_bytes())
+    Ok(text)
+}
+
+// Whether a group with so many of twenty hosted repositories is answered so.
+fn is_group_answered(alloc: Global, count: u32, wanted: &str) -> Result<bool, Fail> {
+    let end: String = group_of(alloc, count)?;
+    are_answered(alloc, 20, end.as_str(), wanted)
 }
 
 #[test]
 fn most_members(rt: HostRuntime) -> Result<(), Fail> {
-    assert!(rt; group_of(rt.alloc(), 16)?.as_str() == "ok");
-    assert!(rt; group_of(rt.alloc(), 17)?.as_str() == "Range members");
+    for (count, wanted) in [(16, "ok"), (17, "Range members")] {
+        assert!(rt; is_group_answered(rt.alloc(), count, wanted)?, "{count}");
+    }
     Ok(())
 }

@@ -1,5 +1,5 @@
 //! Which refusal comes first.
-use super::answers::{HOSTED, answer, expect};
+use super::answers::{HOSTED, expect, is_answered};
 use std::alloc::Global;
 use std::test::Fail;
 
@@ -41,21 +41,29 @@ fn first_refusals(rt: HostRuntime) -> Result<(), Fail> {
     expect(&rt, rt.alloc(), HOSTED, KEYS)
 }
 
-// The answer to accepted settings that a comment makes so long.
-fn padded(alloc: Global, length: usize) -> Result<String, Fail> {
+// Whether accepted settings that a comment makes so long are answered so.
+fn is_padded_answered(alloc: Global, length: usize, wanted: &str) -> Result<bool, Fail> {
     let mut text = format!(in alloc; "{HOSTED}#")?;
     for _ in text.len()..length {
         text.push_str("x")?;
     }
-    answer(alloc, text.as_bytes())
+    Ok(is_answered(alloc, text.as_bytes(), wanted))
+}
+
+// Whether so many zeros are answered so.
+fn are_zeros_answered(alloc: Global, count: usize, wanted: &str) -> Result<bool, Fail> {
+    let zeros: Vec<u8> = vec![in alloc; 0; count]?;
+    Ok(is_answered(alloc, &zeros, wanted))
 }
 
 #[test]
 fn length_comes_first(rt: HostRuntime) -> Result<(), Fail> {
-    assert!(rt; padded(rt.alloc(), 65_536)?.as_str() == "ok");
-    assert!(rt; padded(rt.alloc(), 65_537)?.as_str() == "Range settings");
-    let zeros = vec![in rt.alloc(); 0; 65_537]?;
-    assert!(rt; answer(rt.alloc(), &zeros)?.as_str() == "Range settings");
-    assert!(rt; answer(rt.alloc(), &zeros[1..])?.as_str() == "NotToml");
+    for (length, padded, zeros) in [
+        (65_536, "ok", "NotToml"),
+        (65_537, "Range settings", "Range settings"),
+    ] {
+        assert!(rt; is_padded_answered(rt.alloc(), length, padded)?, "{length}");
+        assert!(rt; are_zeros_answered(rt.alloc(), length, zeros)?, "{length}");
+    }
     Ok(())
 }

@@ -1,7 +1,6 @@
 //! The keys of a proxy.
-use super::answers::{PROXY, answer, expect};
+use super::answers::{PROXY, expect, is_answered, repeated};
 use std::alloc::Global;
-use std::process::Abort;
 use std::test::Fail;
 
 const REMOTES: &str = "
@@ -68,53 +67,48 @@ fn policies(rt: HostRuntime) -> Result<(), Fail> {
     expect(&rt, rt.alloc(), PROXY, POLICIES)
 }
 
-// Asserts the answer to a text with so many `x` between a front and an end.
-fn long(
-    rt: &impl Abort,
-    alloc: Global,
-    front: &str,
-    length: u32,
-    end: &str,
-    wanted: &str,
-) -> Result<(), Fail> {
-    let mut text = String::from_str(alloc, front)?;
-    for _ in 0..length {
-        text.push_str("x")?;
-    }
-    text.push_str(end)?;
-    let found = answer(alloc, text.as_bytes())?;
-    assert!(rt; found.as_str() == wanted, "{front}: {found}, not {wanted}");
-    Ok(())
-}
-
 const HOST: &str = "[[proxy]]\nid = 'p'\nhost = '";
 
 const PREFIX: &str = "[[proxy]]\nid = 'p'\nhost = 'h'\nprefix = '/";
 
 const BLOCK: &str = "[[proxy]]\nid = 'p'\nhost = 'h'\nblock = ['a', '";
 
+// A front, an end, and what a text is answered that has so many `x` between them.
+static LONG: [(&str, u32, &str, &str); 6] = [
+    (HOST, 255, "'\n", "ok"),
+    (HOST, 256, "'\n", "Range host"),
+    (PREFIX, 511, "'\n", "ok"),
+    (PREFIX, 512, "'\n", "Range prefix"),
+    (BLOCK, 256, "']\n", "ok"),
+    (BLOCK, 257, "']\n", "Range block"),
+];
+
 #[test]
 fn longest_texts(rt: HostRuntime) -> Result<(), Fail> {
-    long(&rt, rt.alloc(), HOST, 255, "'\n", "ok")?;
-    long(&rt, rt.alloc(), HOST, 256, "'\n", "Range host")?;
-    long(&rt, rt.alloc(), PREFIX, 511, "'\n", "ok")?;
-    long(&rt, rt.alloc(), PREFIX, 512, "'\n", "Range prefix")?;
-    long(&rt, rt.alloc(), BLOCK, 256, "']\n", "ok")?;
-    long(&rt, rt.alloc(), BLOCK, 257, "']\n", "Range block")
+    for (front, count, end, wanted) in &LONG {
+        let text: String = repeated(rt.alloc(), front, *count, "x", end)?;
+        assert!(rt;
+            is_answered(rt.alloc(), text.as_bytes(), wanted),
+            "{front}{count}"
+        );
+    }
+    Ok(())
 }
 
-fn patterns(alloc: Global, count: u32) -> Result<String, Fail> {
-    let mut text = format!(in alloc; "{PROXY}allow = [")?;
-    for _ in 0..count {
-        text.push_str("'**',")?;
-    }
-    text.push_str("]\n")?;
-    answer(alloc, text.as_bytes())
+// Whether a proxy that lets so many patterns through is answered so.
+fn are_patterns_answered(alloc: Global, count: u32, wanted: &str) -> Result<bool, Fail> {
+    let end: String = repeated(alloc, "allow = [", count, "'**',", "]\n")?;
+    let text: String = repeated(alloc, PROXY, 1, end.as_str(), "")?;
+    Ok(is_answered(alloc, text.as_bytes(), wanted))
 }
 
 #[test]
 fn most_patterns(rt: HostRuntime) -> Result<(), Fail> {
-    assert!(rt; patterns(rt.alloc(), 100)?.as_str() == "ok");
-    assert!(rt; patterns(rt.alloc(), 101)?.as_str() == "Range allow");
+    for (count, wanted) in [(100, "ok"), (101, "Range allow")] {
+        assert!(rt;
+            are_patterns_answered(rt.alloc(), count, wanted)?,
+            "{count}"
+        );
+    }
     Ok(())
 }
