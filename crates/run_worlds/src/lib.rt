@@ -2,6 +2,7 @@
 #![tactic(auto)]
 
 pub mod exchanges;
+mod failures;
 pub mod literals;
 pub mod objects;
 pub mod runs;

@@ -2,6 +2,7 @@
 ghost use Rattle.std.specs.Prelude.{◌<◌, vec_len};
 
 use crate::exchanges::Exchange;
+use crate::failures::unsound_of;
 use crate::objects::{
     Beside, Ends, MemDesk, MemPort, beside_of, desks_of, ends_of, joined, words_of,
 };
@@ -33,14 +34,14 @@ fn run_plainly<B: Blobs, S: Source, P: Port, Q: Pace, K: Records, C: Clock, O: S
 
 /// A run that is over, and the sink that took its line.
 #[derive(Drop)]
-struct Over {
+pub(crate) struct Over {
     ran: MemRan,
     out: MemSink,
 }
 
 impl Over {
     /// What was written on the first connection that was given back.
-    fn answers(&self) -> &[u8] {
+    pub(crate) fn answers(&self) -> &[u8] {
         match self.ran.desks.get(0) {
             Some(desk) => match desk.port.given_back().get(0) {
                 Some(link) => link.sink.bytes(),
@@ -50,15 +51,33 @@ impl Over {
         }
     }
 
+    /// The line that was printed.
+    pub(crate) fn line(&self) -> &[u8] {
+        self.out.bytes()
+    }
+
+    /// The status of the run.
+    pub(crate) fn status(&self) -> u8 {
+        self.ran.status
+    }
+
+    /// How many calls of the desk's blobs have failed.
+    pub(crate) fn blob_faults(&self) -> u64 {
+        match self.ran.desks.get(0) {
+            Some(desk) => desk.blobs.faults(),
+            None => 0,
+        }
+    }
+
     /// Whether the run wrote these answers, and ended with the line and the status of the exchange.
-    fn is_as_said(&self, exchange: &Exchange, answers: &[u8]) -> bool {
+    pub(crate) fn is_as_said(&self, exchange: &Exchange, answers: &[u8]) -> bool {
         self.answers() == answers
             && self.out.bytes() == exchange.line.as_bytes()
             && self.ran.status == exchange.status
     }
 
     /// What the run came to, to be read.
-    fn told(&self, alloc: Global) -> Result<String, AllocError> {
+    pub(crate) fn told(&self, alloc: Global) -> Result<String, AllocError> {
         let answers: String = String::from_utf8_lossy(alloc, self.answers())?;
         let line: String = String::from_utf8_lossy(alloc, self.out.bytes())?;
         let status: u8 = self.ran.status;
@@ -93,7 +112,7 @@ fn over_of(alloc: Global, words: &[String], desks: Vec<MemDesk>, beside: Beside,
 
 /// Runs the program with the words and the settings of an exchange, on one desk whose source gives this input, so many bytes at
 /// most.
-fn run_of(
+pub(crate) fn run_of(
     alloc: Global,
     exchange: &Exchange,
     input: Vec<u8>,
@@ -142,13 +161,18 @@ fn wrong_pieces(alloc: Global, exchange: &Exchange) -> Result<Option<String>, Al
     Ok(None)
 }
 
-/// What the first of these exchanges came to that does not go as it has to: its name, its pieces, and what it wrote.
+/// What the first of these exchanges came to that does not go as it has to, as it stands or with a call of one of its objects
+/// failing: its name, its pieces or the call, and what it wrote.
 pub fn first_wrong(
     alloc: Global,
     exchanges: &'static [Exchange],
 ) -> Result<Option<String>, AllocError> {
     for exchange in exchanges {
         let wrong: Option<String> = wrong_pieces(alloc, exchange)?;
+        if wrong.is_some() {
+            return Ok(wrong);
+        }
+        let wrong: Option<String> = unsound_of(alloc, exchange)?;
         if wrong.is_some() {
             return Ok(wrong);
         }
