@@ -70,9 +70,9 @@ fn number_of(core: &mut MemCore, look: Command<MemHeld>) -> u64 {
     }
 }
 
-/// The settings of the exchanges.
-fn settings(alloc: Global) -> Result<Settings, AllocError> {
-    match read(alloc, SETTINGS.as_bytes()) {
+/// The settings that a text says. Where the text stood here, what is known of them would be computed.
+fn settings_of(alloc: Global, text: &str) -> Result<Settings, AllocError> {
+    match read(alloc, text.as_bytes()) {
         Ok(settings) => Ok(settings),
         Err(_) => Err(AllocError),
     }
@@ -80,7 +80,7 @@ fn settings(alloc: Global) -> Result<Settings, AllocError> {
 
 /// A core of the settings of the exchanges, before its first call.
 pub fn opened(alloc: Global) -> Result<MemCore, AllocError> {
-    let settings: Settings = settings(alloc)?;
+    let settings: Settings = settings_of(alloc, SETTINGS)?;
     let mut blobs: MemBlobs = MemBlobs::new(alloc, FaultScript::none(alloc));
     let records: MemRecords = MemRecords::new(alloc, Vec::new(alloc));
     let clock: ScriptClock = ScriptClock::stepping(alloc, 0, 0);

@@ -24,14 +24,18 @@ fn loses(first: &mut HeldBlobs, second: &mut HeldBlobs) -> Result<bool, BlobFaul
     Ok(first.list()?.is_empty())
 }
 
+// Whether all that is so, and no call fails.
+fn are_shared(first: &mut HeldBlobs, second: &mut HeldBlobs) -> Result<bool, BlobFault> {
+    let same = finds(first, second)? && loses(first, second)?;
+    Ok(same && first.faults() == 0 && second.faults() == 0)
+}
+
 // What one twin stores or removes all others see. The second is the only one that is to meet, so its read goes on at once.
 #[test]
 fn twins_share_their_blobs(rt: HostRuntime) -> Result<(), Fail> {
     let mut first = first_twin(rt.alloc(), 1)?;
     let mut second = first.member()?;
-    assert!(rt; finds(&mut first, &mut second)?);
-    assert!(rt; loses(&mut first, &mut second)?);
-    assert_eq!(rt; (first.faults(), second.faults()), (0, 0));
+    assert!(rt; are_shared(&mut first, &mut second)?);
     Ok(())
 }
 

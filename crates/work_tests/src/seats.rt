@@ -1,18 +1,18 @@
 // Two seats at the turns of a repository in memory.
-ghost use Rattle.std.specs.Prelude.{◌≡◌, ◌^◌, IfOk};
+ghost use Rattle.std.specs.Prelude.{◌≡◌, ◌^◌, IfSome};
 ghost use Rattle.repo_model.specs.Shown.{shown_command, shown_reply};
 ghost use Rattle.turn_lock.specs.History.{IsStep};
 ghost use Rattle.turn_lock.specs.Seats.{opening, parts_of, IsSeatOf};
 
 use crate::literals::SETTINGS;
 use mvn_digest::Hashes;
-use outside::{Blobs, Parcel};
+use outside::{Blobs, Clock, Parcel};
 use outside_memory::{FaultScript, MemBlobs, MemHeld, ScriptClock};
 use repo_config::Settings;
 use repo_core::Core;
 use repo_model::{Command, Place, Reply};
 use repo_run::begin;
-use row_tables::MemRecords;
+use row_tables::{MemRecords, Records};
 use std::alloc::{AllocError, Global};
 use std::sync::Wait;
 use std::test::Fail;
@@ -23,6 +23,8 @@ use turn_seats::Repository;
 const PATH: &str = "org/acme/lib/1.0/lib-1.0.jar";
 
 type MemCore = Core<MemRecords, ScriptClock, MemHeld>;
+
+type Commands = (Command<MemHeld>, Command<MemHeld>, Command<MemHeld>);
 
 // What came of three commands.
 #[derive(Drop)]
@@ -59,7 +61,7 @@ fn ask_by_two<T: Repository<Call = Command<MemHeld>, Reply = Reply<MemHeld>>, W:
     turns: Turns<T>,
     settings: &Settings,
     seat: Seat<T>,
-    commands: (Command<MemHeld>, Command<MemHeld>, Command<MemHeld>),
+    commands: Commands,
 ) -> (T, Told)
     requires asked { (call : _) → T.sight.asked call ≡ shown_command call }
     requires seat { IsSeatOf (IsStep T.fixed T.may_ask T.turned) turns seat }
@@ -85,23 +87,37 @@ fn ask_by_two<T: Repository<Call = Command<MemHeld>, Reply = Reply<MemHeld>>, W:
     (thing, told)
 }
 
-fn settings_of(alloc: Global) -> Result<Settings, Fail> {
-    match repo_config::read(alloc, SETTINGS.as_bytes()) {
-        Ok(settings) => Ok(settings),
-        Err(_) => Err("settings")?,
+// The settings that a text says. Where the text stood here, what is known of them would be computed.
+fn settings_of(alloc: Global, text: &str) -> Option<Settings> {
+    match repo_config::read(alloc, text.as_bytes()) {
+        Ok(settings) => Some(settings),
+        Err(_) => None,
+    }
+}
+
+// A repository over what is recorded and stored. Only its settings are known of it.
+fn begun<K: Records + Drop, B: Blobs, C: Clock + Drop>(
+    alloc: Global,
+    settings: &Settings,
+    records: K,
+    blobs: &mut B,
+    clock: C,
+) -> Option<Core<K, C, B::Held>>
+    ensures { IfSome result (λ core. core.settings ≡ settings.now) }
+{
+    match begin(alloc, settings, records, blobs, clock) {
+        Ok(core) => Some(core),
+        Err(_) => None,
     }
 }
 
 // A repository over nothing.
-fn core_of(alloc: Global, settings: &Settings, blobs: &mut MemBlobs) -> Result<MemCore, Fail>
-    ensures { IfOk result (λ core. core.settings ≡ settings.now) }
+fn core_of(alloc: Global, settings: &Settings, blobs: &mut MemBlobs) -> Option<MemCore>
+    ensures { IfSome result (λ core. core.settings ≡ settings.now) }
 {
     let records = MemRecords::new(alloc, Vec::new(alloc));
     let clock = ScriptClock::stepping(alloc, 1_709_208_000, 1);
-    match begin(alloc, settings, records, blobs, clock) {
-        Ok(core) => Ok(core),
-        Err(_) => Err("no start")?,
-    }
+    begun(alloc, settings, records, blobs, clock)
 }
 
 fn may_put(alloc: Global) -> Result<Command<MemHeld>, AllocError> {
@@ -140,24 +156,44 @@ fn put(alloc: Global, blobs: &mut MemBlobs) -> Result<Command<MemHeld>, Fail> {
 }
 
 // The draft, the file under it, and the look at it.
-fn commands_of(
-    alloc: Global,
-    blobs: &mut MemBlobs,
-) -> Result<(Command<MemHeld>, Command<MemHeld>, Command<MemHeld>), Fail> {
+fn commands_of(alloc: Global, blobs: &mut MemBlobs) -> Result<Commands, Fail> {
     Ok((may_put(alloc)?, put(alloc, blobs)?, look(alloc)?))
 }
 
-// What two seats of a repository over nothing are told.
-fn told_by_two<W: Wait>(rt: &W, alloc: Global) -> Result<Told, Fail> {
-    let settings = settings_of(alloc)?;
-    let mut blobs = MemBlobs::new(alloc, FaultScript::none(alloc));
-    let core = core_of(alloc, &settings, &mut blobs)?;
-    let commands = commands_of(alloc, &mut blobs)?;
+// What two seats of a repository are told.
+fn told_of<K: Records + Drop, C: Clock + Drop, W: Wait>(
+    rt: &W,
+    alloc: Global,
+    settings: &Settings,
+    core: Core<K, C, MemHeld>,
+    commands: Commands,
+) -> Option<Told>
+    requires { core.settings ≡ settings.now }
+{
     let Ok((turns, seat)) = Turns::begin(alloc, core) else {
-        return Err("memory".into());
+        return None;
     };
-    let (_, told) = ask_by_two(rt, turns, &settings, seat, commands);
-    Ok(told)
+    let (_, told) = ask_by_two(rt, turns, settings, seat, commands);
+    Some(told)
+}
+
+// What two seats are told of a repository with these settings, over nothing.
+fn told_by<W: Wait>(rt: &W, alloc: Global, settings: &Settings) -> Result<Option<Told>, Fail> {
+    let mut blobs = MemBlobs::new(alloc, FaultScript::none(alloc));
+    let core = core_of(alloc, settings, &mut blobs);
+    let commands = commands_of(alloc, &mut blobs)?;
+    match core {
+        Some(core) => Ok(told_of(rt, alloc, settings, core, commands)),
+        None => Ok(None),
+    }
+}
+
+// The same with settings that a text says.
+fn told_by_two<W: Wait>(rt: &W, alloc: Global, text: &str) -> Result<Option<Told>, Fail> {
+    match settings_of(alloc, text) {
+        Some(settings) => told_by(rt, alloc, &settings),
+        None => Ok(None),
+    }
 }
 
 // Whether this is the file `abc`, lent for the first time.
@@ -172,12 +208,19 @@ fn is_abc(found: &Option<Reply<MemHeld>>) -> bool {
     }
 }
 
+// Whether the file was put under the first draft, and found.
+fn is_as_said(told: &Told) -> bool {
+    told.calls == 3
+        && matches!(&told.drawn, Some(Reply::Draft(1)))
+        && matches!(&told.put, Some(Reply::Created))
+        && is_abc(&told.found)
+}
+
 #[test]
 fn a_seat_finds_what_it_learns_was_put(rt: HostRuntime) -> Result<(), Fail> {
-    let told = told_by_two(&rt, rt.alloc())?;
-    assert_eq!(rt; told.calls, 3);
-    assert!(rt; matches!(&told.drawn, Some(Reply::Draft(1))));
-    assert!(rt; matches!(&told.put, Some(Reply::Created)));
-    assert!(rt; is_abc(&told.found));
+    match told_by_two(&rt, rt.alloc(), SETTINGS)? {
+        Some(told) => assert!(rt; is_as_said(&told)),
+        None => Err("no repository")?,
+    }
     Ok(())
 }
