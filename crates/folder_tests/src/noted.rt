@@ -5,20 +5,26 @@ use std::cell::Cell;
 use std::fs::{self, File, Files, Metadata, OpenFile, OpenOptions};
 use std::io::{self, ErrorKind, Read, Seek, SeekFrom, Write};
 use std::os::unix::fs::FileExt;
+use std::rc::Rc;
 
-/// The calls so far, a line for each.
+/// The calls so far, a line for each, which all that share it see.
 #[derive(Drop)]
 pub struct Notes {
     alloc: Global,
-    lines: Cell<String>,
+    lines: Rc<Cell<String>>,
 }
 
 impl Notes {
-    pub fn new(alloc: Global) -> Notes {
-        Notes {
-            alloc,
-            lines: Cell::new(String::new(alloc)),
-        }
+    pub fn new(alloc: Global) -> Result<Notes, AllocError> {
+        let lines = Rc::new(alloc, Cell::new(String::new(alloc)))?;
+        Ok(Notes { alloc, lines })
+    }
+
+    fn share(&self) -> Result<Notes, AllocError> {
+        Ok(Notes {
+            alloc: self.alloc,
+            lines: self.lines.clone()?,
+        })
     }
 
     fn add(&self, line: &str) -> Result<(), AllocError> {
@@ -42,20 +48,20 @@ impl Notes {
 
 /// The file system. It may refuse to open one path, by this kind of fault.
 #[derive(Drop)]
-pub struct Noted<'a> {
-    pub rt: &'a HostRuntime,
-    pub notes: &'a Notes,
+pub struct Noted {
+    rt: HostRuntime,
+    notes: Notes,
     pub refusal: Option<(&'static str, ErrorKind)>,
 }
 
-impl<'a> Noted<'a> {
+impl Noted {
     /// One that refuses nothing.
-    pub fn new(rt: &'a HostRuntime, notes: &'a Notes) -> Noted<'a> {
-        Noted {
-            rt,
-            notes,
+    pub fn new(rt: &HostRuntime, notes: &Notes) -> Result<Noted, AllocError> {
+        Ok(Noted {
+            rt: rt.clone()?,
+            notes: notes.share()?,
             refusal: None,
-        }
+        })
     }
 
     fn refuse(&self, path: &str) -> io::Result<()> {
@@ -66,17 +72,17 @@ impl<'a> Noted<'a> {
     }
 }
 
-impl<'a> Clone for Noted<'a> {
-    fn clone(&self) -> Result<Noted<'a>, AllocError> {
+impl Clone for Noted {
+    fn clone(&self) -> Result<Noted, AllocError> {
         Ok(Noted {
-            rt: self.rt,
-            notes: self.notes,
+            rt: self.rt.clone()?,
+            notes: self.notes.share()?,
             refusal: self.refusal,
         })
     }
 }
 
-impl<'a> Alloc for Noted<'a> {
+impl Alloc for Noted {
     type A = Global;
 
     fn alloc(&self) -> Global {
@@ -97,18 +103,18 @@ fn purpose(how: &OpenOptions) -> &'static str {
     }
 }
 
-impl<'a> Files for Noted<'a> {
-    type File = NotedFile<'a>;
+impl Files for Noted {
+    type File = NotedFile;
 
     type Dir = <HostRuntime as Files>::Dir;
 
-    fn open_file(&self, how: &OpenOptions, path: &str) -> io::Result<NotedFile<'a>> {
+    fn open_file(&self, how: &OpenOptions, path: &str) -> io::Result<NotedFile> {
         self.notes.add_call(purpose(how), path)?;
         self.refuse(path)?;
         Ok(NotedFile {
             file: self.rt.open_file(how, path)?,
             path: String::from_str(self.rt.alloc(), path)?,
-            notes: self.notes,
+            notes: self.notes.share()?,
         })
     }
 
@@ -119,38 +125,38 @@ impl<'a> Files for Noted<'a> {
 
     fn metadata(&self, path: &str) -> io::Result<Metadata> {
         self.notes.add_call("look at", path)?;
-        fs::metadata(self.rt, path)
+        fs::metadata(&self.rt, path)
     }
 
     fn symlink_metadata(&self, path: &str) -> io::Result<Metadata> {
         self.notes.add_call("look at link", path)?;
-        fs::symlink_metadata(self.rt, path)
+        fs::symlink_metadata(&self.rt, path)
     }
 
     fn copy(&self, from: &str, to: &str) -> io::Result<u64> {
         self.notes.add_call("copy to", to)?;
-        fs::copy(self.rt, from, to)
+        fs::copy(&self.rt, from, to)
     }
 
     fn rename(&self, from: &str, to: &str) -> io::Result<()> {
         self.notes.add_call("rename", from)?;
         self.notes.add_call("to", to)?;
-        fs::rename(self.rt, from, to)
+        fs::rename(&self.rt, from, to)
     }
 
     fn remove_file(&self, path: &str) -> io::Result<()> {
         self.notes.add_call("remove", path)?;
-        fs::remove_file(self.rt, path)
+        fs::remove_file(&self.rt, path)
     }
 
     fn create_dir(&self, path: &str) -> io::Result<()> {
         self.notes.add_call("make folder", path)?;
-        fs::create_dir(self.rt, path)
+        fs::create_dir(&self.rt, path)
     }
 
     fn remove_dir(&self, path: &str) -> io::Result<()> {
         self.notes.add_call("remove folder", path)?;
-        fs::remove_dir(self.rt, path)
+        fs::remove_dir(&self.rt, path)
     }
 
     fn remove_dir_all<B: Allocator>(&self, alloc: B, path: &str) -> io::Result<()> {
@@ -161,25 +167,25 @@ impl<'a> Files for Noted<'a> {
 
 /// An open file. Its reads are not noted.
 #[derive(Drop)]
-pub struct NotedFile<'a> {
+pub struct NotedFile {
     file: File,
     path: String,
-    notes: &'a Notes,
+    notes: Notes,
 }
 
-impl<'a> NotedFile<'a> {
+impl NotedFile {
     fn note(&self, name: &str) -> Result<(), AllocError> {
         self.notes.add_call(name, self.path.as_str())
     }
 }
 
-impl<'a> Read for NotedFile<'a> {
+impl Read for NotedFile {
     fn read(&mut self, buf: &mut [u8]) -> io::Result<usize> {
         self.file.read(buf)
     }
 }
 
-impl<'a> Write for NotedFile<'a> {
+impl Write for NotedFile {
     fn write(&mut self, buf: &[u8]) -> io::Result<usize> {
         self.note("write")?;
         self.file.write(buf)
@@ -190,13 +196,13 @@ impl<'a> Write for NotedFile<'a> {
     }
 }
 
-impl<'a> Seek for NotedFile<'a> {
+impl Seek for NotedFile {
     fn seek(&mut self, to: SeekFrom) -> io::Result<u64> {
         self.file.seek(to)
     }
 }
 
-impl<'a> FileExt for NotedFile<'a> {
+impl FileExt for NotedFile {
     fn read_at(&self, buf: &mut [u8], offset: u64) -> io::Result<usize> {
         self.file.read_at(buf, offset)
     }
@@ -207,7 +213,7 @@ impl<'a> FileExt for NotedFile<'a> {
     }
 }
 
-impl<'a> OpenFile for NotedFile<'a> {
+impl OpenFile for NotedFile {
     fn metadata(&self) -> io::Result<Metadata> {
         self.file.metadata()
     }
@@ -228,7 +234,7 @@ impl<'a> OpenFile for NotedFile<'a> {
     }
 }
 
-impl<'a> LockFile for NotedFile<'a> {
+impl LockFile for NotedFile {
     fn try_lock(&self) -> io::Result<()> {
         self.note("lock")?;
         self.file.try_lock()?;

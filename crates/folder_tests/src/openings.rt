@@ -8,19 +8,24 @@ use std::io::ErrorKind;
 use std::test::Fail;
 
 // Whether a folder opens where this path is refused so.
-fn opens_without(rt: &HostRuntime, folder: &str, path: &'static str, kind: ErrorKind) -> bool {
-    let notes = Notes::new(rt.alloc());
-    let mut noted = Noted::new(rt, &notes);
+fn opens_without(
+    rt: &HostRuntime,
+    folder: &str,
+    path: &'static str,
+    kind: ErrorKind,
+) -> Result<bool, Fail> {
+    let notes = Notes::new(rt.alloc())?;
+    let mut noted = Noted::new(rt, &notes)?;
     noted.refusal = Some((path, kind));
     match open_disk(&noted, folder) {
-        Ok(mut disk) => disk.sync().is_ok(),
-        Err(_) => false,
+        Ok(mut disk) => Ok(disk.sync().is_ok()),
+        Err(_) => Ok(false),
     }
 }
 
 const BELOW: &str = "folder_tests_below";
 
-fn opens_under(rt: &HostRuntime, kind: ErrorKind) -> bool {
+fn opens_under(rt: &HostRuntime, kind: ErrorKind) -> Result<bool, Fail> {
     opens_without(rt, BELOW, "folder_tests_below/..", kind)
 }
 
@@ -30,11 +35,11 @@ fn opens_under(rt: &HostRuntime, kind: ErrorKind) -> bool {
 fn only_a_folder_that_may_not_be_read_is_passed_over(rt: HostRuntime) -> Result<(), Fail> {
     let _ = fs::remove_dir_all(&rt, BELOW);
     fs::create_dir(&rt, BELOW)?;
-    assert!(rt; opens_under(&rt, ErrorKind::PermissionDenied));
-    assert!(rt; !opens_under(&rt, ErrorKind::NotFound));
-    assert!(rt; !opens_under(&rt, ErrorKind::OutOfMemory));
+    assert!(rt; opens_under(&rt, ErrorKind::PermissionDenied)?);
+    assert!(rt; !opens_under(&rt, ErrorKind::NotFound)?);
+    assert!(rt; !opens_under(&rt, ErrorKind::OutOfMemory)?);
     fs::remove_dir_all(&rt, BELOW)?;
-    assert!(rt; !opens_under(&rt, ErrorKind::PermissionDenied));
+    assert!(rt; !opens_under(&rt, ErrorKind::PermissionDenied)?);
     fs::remove_dir_all(&rt, BELOW)?;
     Ok(())
 }
@@ -141,7 +146,7 @@ fn an_empty_file_without_contents_is_new(rt: HostRuntime) -> Result<(), Fail> {
     Ok(())
 }
 
-fn opens_unwritable(rt: &HostRuntime, kind: ErrorKind) -> bool {
+fn opens_unwritable(rt: &HostRuntime, kind: ErrorKind) -> Result<bool, Fail> {
     opens_without(
         rt,
         "folder_tests_writes",
@@ -154,10 +159,10 @@ fn opens_unwritable(rt: &HostRuntime, kind: ErrorKind) -> bool {
 #[test]
 fn contents_that_may_not_be_written_are_refused(rt: HostRuntime) -> Result<(), Fail> {
     let _ = fs::remove_dir_all(&rt, "folder_tests_writes");
-    assert!(rt; !opens_unwritable(&rt, ErrorKind::PermissionDenied));
-    assert!(rt; !opens_unwritable(&rt, ErrorKind::ReadOnlyFilesystem));
-    assert!(rt; opens_unwritable(&rt, ErrorKind::StorageFull));
-    assert!(rt; opens_unwritable(&rt, ErrorKind::QuotaExceeded));
+    assert!(rt; !opens_unwritable(&rt, ErrorKind::PermissionDenied)?);
+    assert!(rt; !opens_unwritable(&rt, ErrorKind::ReadOnlyFilesystem)?);
+    assert!(rt; opens_unwritable(&rt, ErrorKind::StorageFull)?);
+    assert!(rt; opens_unwritable(&rt, ErrorKind::QuotaExceeded)?);
     fs::remove_dir_all(&rt, "folder_tests_writes")?;
     Ok(())
 }

@@ -1,6 +1,6 @@
 // The calls of a real file system, in their order: what is acknowledged was synced before, with its name.
 use crate::noted::{Noted, Notes};
-use data_folder::{blobs_in, open_disk};
+use data_folder::open_disk;
 use outside::{BlobFault, Blobs, Failed};
 use outside_system::FolderBlobs;
 use record_disk::Disk;
@@ -29,8 +29,8 @@ open orders_new
 #[test]
 fn a_new_folder_is_synced(rt: HostRuntime) -> Result<(), Fail> {
     let _ = fs::remove_dir_all(&rt, "orders_new");
-    let notes = Notes::new(rt.alloc());
-    let mut disk = open_disk(&Noted::new(&rt, &notes), "orders_new")?;
+    let notes = Notes::new(rt.alloc())?;
+    let mut disk = open_disk(&Noted::new(&rt, &notes)?, "orders_new")?;
     assert_eq!(rt; notes.take().as_str(), NEW_FOLDER);
     disk.sync()?;
     assert_eq!(rt;
@@ -64,8 +64,8 @@ fn a_folder_that_was_there_is_synced(rt: HostRuntime) -> Result<(), Fail> {
     let _ = fs::remove_dir_all(&rt, "orders_old");
     fs::create_dir_all(&rt, "orders_old/blobs")?;
     fs::write(&rt, "orders_old/rows", "MVNROWS1\0")?;
-    let notes = Notes::new(rt.alloc());
-    let disk = open_disk(&Noted::new(&rt, &notes), "orders_old")?;
+    let notes = Notes::new(rt.alloc())?;
+    let disk = open_disk(&Noted::new(&rt, &notes)?, "orders_old")?;
     assert_eq!(rt; notes.take().as_str(), OLD_FOLDER);
     drop(disk);
     fs::remove_dir_all(&rt, "orders_old")?;
@@ -94,8 +94,8 @@ sync data of orders_rows/rows
 #[test]
 fn records_are_synced(rt: HostRuntime) -> Result<(), Fail> {
     let _ = fs::remove_dir_all(&rt, "orders_rows");
-    let notes = Notes::new(rt.alloc());
-    let mut disk = open_disk(&Noted::new(&rt, &notes), "orders_rows")?;
+    let notes = Notes::new(rt.alloc())?;
+    let mut disk = open_disk(&Noted::new(&rt, &notes)?, "orders_rows")?;
     let _ = notes.take();
     change(&mut disk)?;
     assert_eq!(rt; notes.take().as_str(), CHANGES);
@@ -104,45 +104,52 @@ fn records_are_synced(rt: HostRuntime) -> Result<(), Fail> {
     Ok(())
 }
 
-const STORED: &str = "overwrite orders_blobs/blobs/7.part
-write orders_blobs/blobs/7.part
-sync orders_blobs/blobs/7.part
-rename orders_blobs/blobs/7.part
-to orders_blobs/blobs/7
-open orders_blobs/blobs
-sync orders_blobs/blobs
+// Of a store, a read, an adoption, a list and a removal.
+const BLOB_CALLS: &str = "overwrite orders_blobs/7.part
+write orders_blobs/7.part
+sync orders_blobs/7.part
+rename orders_blobs/7.part
+to orders_blobs/7
+open orders_blobs
+sync orders_blobs
+look at orders_blobs/7
+open orders_blobs/7
+look at orders_blobs/7
+list orders_blobs/
+look at orders_blobs/7
+remove orders_blobs/7
 ";
 
-// What each call of a store of blobs makes of the system.
+// An empty folder, and its blobs.
+fn blobs_of(rt: &HostRuntime, notes: &Notes, folder: &str) -> Result<FolderBlobs<Noted>, Fail> {
+    let _ = fs::remove_dir_all(rt, folder);
+    fs::create_dir(rt, folder)?;
+    let folder = String::from_str(rt.alloc(), folder)?;
+    Ok(FolderBlobs::new(Noted::new(rt, notes)?, folder))
+}
+
+fn calls_all<B: Blobs>(blobs: &mut B) -> Result<bool, BlobFault> {
+    let held = blobs.store(7, b"abc")?;
+    let bytes = blobs.read(&held)?;
+    let found = blobs.adopt(7)?.is_some();
+    let listed = blobs.list()?;
+    blobs.remove(7)?;
+    Ok(bytes.as_slice() == b"abc".as_slice() && found && listed.as_slice() == [7].as_slice())
+}
+
 #[test]
 fn a_blob_is_synced_and_then_its_name(rt: HostRuntime) -> Result<(), Fail> {
-    let _ = fs::remove_dir_all(&rt, "orders_blobs");
-    fs::create_dir_all(&rt, "orders_blobs/blobs")?;
-    let notes = Notes::new(rt.alloc());
-    let mut blobs = blobs_in(&Noted::new(&rt, &notes), "orders_blobs")?;
-    let held = blobs.store(7, b"abc")?;
-    assert_eq!(rt; notes.take().as_str(), STORED);
-    let bytes = blobs.read(&held)?;
-    assert_eq!(rt; bytes.as_slice(), b"abc".as_slice());
-    assert_eq!(rt;
-        notes.take().as_str(),
-        "look at orders_blobs/blobs/7\nopen orders_blobs/blobs/7\n"
-    );
-    assert!(rt; blobs.adopt(7)?.is_some());
-    assert_eq!(rt; notes.take().as_str(), "look at orders_blobs/blobs/7\n");
-    assert_eq!(rt; blobs.list()?.as_slice(), [7].as_slice());
-    assert_eq!(rt;
-        notes.take().as_str(),
-        "list orders_blobs/blobs/\nlook at orders_blobs/blobs/7\n"
-    );
-    blobs.remove(7)?;
-    assert_eq!(rt; notes.take().as_str(), "remove orders_blobs/blobs/7\n");
+    let notes = Notes::new(rt.alloc())?;
+    let mut blobs = blobs_of(&rt, &notes, "orders_blobs")?;
+    let gave = calls_all(&mut blobs)?;
     fs::remove_dir_all(&rt, "orders_blobs")?;
+    assert!(rt; gave);
+    assert_eq!(rt; notes.take().as_str(), BLOB_CALLS);
     Ok(())
 }
 
 // Whether what stands under 7 is neither read, adopted nor listed. It was a blob when it was stored.
-fn is_no_blob(blobs: &mut FolderBlobs<Noted<'_>>, rt: &HostRuntime) -> Result<bool, Fail> {
+fn is_no_blob(blobs: &mut FolderBlobs<Noted>, rt: &HostRuntime) -> Result<bool, Fail> {
     let held = blobs.store(7, b"abc")?;
     blobs.remove(7)?;
     symlink(rt, "/dev/null", "orders_special/7")?;
@@ -154,11 +161,8 @@ fn is_no_blob(blobs: &mut FolderBlobs<Noted<'_>>, rt: &HostRuntime) -> Result<bo
 // A device is not opened, nor would a pipe be, on which an open waits until another one writes.
 #[test]
 fn what_is_no_file_is_not_opened(rt: HostRuntime) -> Result<(), Fail> {
-    let _ = fs::remove_dir_all(&rt, "orders_special");
-    fs::create_dir(&rt, "orders_special")?;
-    let notes = Notes::new(rt.alloc());
-    let folder = String::from_str(rt.alloc(), "orders_special")?;
-    let mut blobs = FolderBlobs::new(Noted::new(&rt, &notes), folder);
+    let notes = Notes::new(rt.alloc())?;
+    let mut blobs = blobs_of(&rt, &notes, "orders_special")?;
     let none = is_no_blob(&mut blobs, &rt)?;
     let calls = notes.take();
     fs::remove_dir_all(&rt, "orders_special")?;
