@@ -55,10 +55,15 @@ fn asked<K: Records, C: Clock, H: Held>(
     Some(core.call(command))
 }
 
+/// A text of which nothing is known.
+fn text_of(alloc: Global, text: &str) -> Result<Text, AllocError> {
+    Text::new(alloc, text)
+}
+
 /// The look at the file of the worked requests.
 fn look_of(alloc: Global) -> Result<Command<MemHeld>, AllocError> {
-    let repo: Text = Text::new(alloc, "releases")?;
-    let path: Text = Text::new(alloc, "org/acme/lib/1.0/lib-1.0.jar")?;
+    let repo: Text = text_of(alloc, "releases")?;
+    let path: Text = text_of(alloc, "org/acme/lib/1.0/lib-1.0.jar")?;
     Ok(Command::Look { repo, path })
 }
 

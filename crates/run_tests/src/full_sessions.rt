@@ -32,7 +32,7 @@ const A_THOUSAND: &str =
 
 /// A session that is opened, and empty poms that are staged under the numbers below an end.
 fn stagings(alloc: Global, end: u64) -> Result<Vec<u8>, AllocError> {
-    let mut all: Vec<u8> = Vec::from_slice(alloc, OPEN.as_bytes())?;
+    let mut all: Vec<u8> = joined(alloc, &[(1, OPEN)])?;
     for number in 1..end {
         let request: String = format!(in alloc;
             "PUT /api/sessions/1/files/g/a/{number}/a-{number}.pom HTTP/1.1\r\nHost: x\r\nContent-Length: 0\r\n\r\n"

@@ -120,9 +120,14 @@ fn core_of(alloc: Global, settings: &Settings, blobs: &mut MemBlobs) -> Option<M
     begun(alloc, settings, records, blobs, clock)
 }
 
+// A text of which nothing is known.
+fn text_of(alloc: Global, text: &str) -> Result<Text, AllocError> {
+    Text::new(alloc, text)
+}
+
 fn may_put(alloc: Global) -> Result<Command<MemHeld>, AllocError> {
-    let repo = Text::new(alloc, "releases")?;
-    let path = Text::new(alloc, PATH)?;
+    let repo = text_of(alloc, "releases")?;
+    let path = text_of(alloc, PATH)?;
     Ok(Command::MayPut {
         place: Place::Repository(repo),
         path,
@@ -130,8 +135,8 @@ fn may_put(alloc: Global) -> Result<Command<MemHeld>, AllocError> {
 }
 
 fn look(alloc: Global) -> Result<Command<MemHeld>, AllocError> {
-    let repo = Text::new(alloc, "releases")?;
-    let path = Text::new(alloc, PATH)?;
+    let repo = text_of(alloc, "releases")?;
+    let path = text_of(alloc, PATH)?;
     Ok(Command::Look { repo, path })
 }
 
@@ -145,8 +150,8 @@ fn put(alloc: Global, blobs: &mut MemBlobs) -> Result<Command<MemHeld>, Fail> {
         length: 3,
         digests: hashes.finish(),
     };
-    let repo = Text::new(alloc, "releases")?;
-    let path = Text::new(alloc, PATH)?;
+    let repo = text_of(alloc, "releases")?;
+    let path = text_of(alloc, PATH)?;
     Ok(Command::Put {
         repo,
         path,
