@@ -1,11 +1,12 @@
 // What came to the repository between a file's staging and its session's commit.
-use crate::sessions::{JAR, JAR_SHA1, POM, bench_of};
-use core_worlds::bench::{ALL_KINDS, Ask, Bench};
+use crate::following::follow;
+use crate::sessions::{FROM_1000, JAR, JAR_SHA1, POM};
+use core_worlds::asks::{Ask, Moments, Setup};
 use core_worlds::said::{ABC, ABC_SHA1, NOTHING, Said};
-use outside_memory::ScriptClock;
 use std::test::Fail;
 
-static EQUAL: [(Ask, Said); 12] = [
+static EQUAL: [(Ask, Said); 13] = [
+    (Ask::Start(Setup::AllKinds, FROM_1000), Said::Started),
     (Ask::Open("releases"), Said::Opened(1)),
     (Ask::MayStage(1, JAR), Said::Draft(1)),
     (Ask::Stage(1, JAR, 1, b"abc"), Said::Staged),
@@ -22,14 +23,14 @@ static EQUAL: [(Ask, Said); 12] = [
 
 #[test]
 fn an_equal_file_is_deployed(rt: HostRuntime) -> Result<(), Fail> {
-    assert_eq!(rt; bench_of(rt.alloc())?.first_other(&EQUAL)?, None);
-    Ok(())
+    follow(&rt, rt.alloc(), &[&EQUAL])
 }
 
 const SOURCES: &str = "org/acme/lib/1.0/lib-1.0-sources.jar";
 
 // In byte order the sources come first, then the jar and the pom.
-static OTHER: [(Ask, Said); 20] = [
+static OTHER: [(Ask, Said); 21] = [
+    (Ask::Start(Setup::AllKinds, FROM_1000), Said::Started),
     (Ask::Open("releases"), Said::Opened(1)),
     (Ask::MayStage(1, POM), Said::Draft(1)),
     (Ask::Stage(1, POM, 1, b"abc"), Said::Staged),
@@ -55,15 +56,19 @@ static OTHER: [(Ask, Said); 20] = [
 
 #[test]
 fn the_first_file_of_another_content_offends(rt: HostRuntime) -> Result<(), Fail> {
-    assert_eq!(rt; bench_of(rt.alloc())?.first_other(&OTHER)?, None);
-    Ok(())
+    follow(&rt, rt.alloc(), &[&OTHER])
 }
 
 const FIRST: &str = "org/acme/lib/1.1-SNAPSHOT/lib-1.1-20240229.235959-1.jar";
 
 const SECOND: &str = "org/acme/lib/1.1-SNAPSHOT/lib-1.1-20240301.080000-2.pom";
 
-static UNLISTED: [(Ask, Said); 16] = [
+static UNLISTED: [(Ask, Said); 18] = [
+    // moments that lie further apart than the grace period
+    (
+        Ask::Start(Setup::AllKinds, Moments::Stepping(1000, 100)),
+        Said::Started,
+    ),
     (Ask::Open("snapshots"), Said::Opened(1)),
     (Ask::MayStage(1, FIRST), Said::Draft(1)),
     (Ask::Stage(1, FIRST, 1, b"abc"), Said::Staged),
@@ -82,21 +87,16 @@ static UNLISTED: [(Ask, Said); 16] = [
     // its row is visible again, so that it outlasts its grace period, and keeps its blob
     (Ask::Collect, Said::Collected(0, &[1])),
     (Ask::Look("snapshots", FIRST), Said::File(1, 3, ABC)),
+    (Ask::Status, Said::Counts([2, 0, 0, 0, 1])),
 ];
-
-static LISTED: [(Ask, Said); 1] = [(Ask::Status, Said::Counts([2, 0, 0, 0, 1]))];
 
 #[test]
 fn an_unlisted_file_is_listed_again(rt: HostRuntime) -> Result<(), Fail> {
-    // moments that lie further apart than the grace period
-    let clock = ScriptClock::stepping(rt.alloc(), 1000, 100);
-    let mut bench = Bench::of(rt.alloc(), ALL_KINDS, clock)?;
-    assert_eq!(rt; bench.first_other(&UNLISTED)?, None);
-    assert_eq!(rt; bench.first_other(&LISTED)?, None);
-    Ok(())
+    follow(&rt, rt.alloc(), &[&UNLISTED])
 }
 
-static WITH_A_POM: [(Ask, Said); 9] = [
+static WITH_A_POM: [(Ask, Said); 10] = [
+    (Ask::Start(Setup::AllKinds, FROM_1000), Said::Started),
     (Ask::Open("releases"), Said::Opened(1)),
     (Ask::MayStage(1, JAR), Said::Draft(1)),
     (Ask::Stage(1, JAR, 1, b"abc"), Said::Staged),
@@ -110,6 +110,5 @@ static WITH_A_POM: [(Ask, Said); 9] = [
 
 #[test]
 fn a_pom_that_is_visible_is_enough(rt: HostRuntime) -> Result<(), Fail> {
-    assert_eq!(rt; bench_of(rt.alloc())?.first_other(&WITH_A_POM)?, None);
-    Ok(())
+    follow(&rt, rt.alloc(), &[&WITH_A_POM])
 }

@@ -5,6 +5,8 @@
 #[cfg(test)]
 mod between;
 #[cfg(test)]
+mod following;
+#[cfg(test)]
 mod limits;
 #[cfg(test)]
 mod records;

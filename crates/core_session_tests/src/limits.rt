@@ -1,12 +1,13 @@
 // How many sessions may be open, and how many files one may have.
-use crate::sessions::{POM, bench_of};
-use core_worlds::bench::Ask;
+use crate::following::follow;
+use crate::sessions::{FROM_1000, POM};
+use core_worlds::asks::{Ask, Setup};
 use core_worlds::said::{NOTHING, Said};
 use std::test::Fail;
 
-static OPEN: [(Ask, Said); 1] = [(Ask::Open("releases"), Said::Opened(1))];
-
-static ONE_LESS: [(Ask, Said); 5] = [
+static ONE_LESS: [(Ask, Said); 7] = [
+    (Ask::Start(Setup::AllKinds, FROM_1000), Said::Started),
+    (Ask::OpenAll("releases", 64), Said::Done),
     (Ask::Open("releases"), Said::TooMany),
     (Ask::Status, Said::Counts([0, 0, 0, 0, 64])),
     (Ask::Abort(1), Said::Aborted),
@@ -16,20 +17,17 @@ static ONE_LESS: [(Ask, Said); 5] = [
 
 #[test]
 fn at_most_64_sessions_are_open(rt: HostRuntime) -> Result<(), Fail> {
-    let mut bench = bench_of(rt.alloc())?;
-    for number in 1..65 {
-        let is_open = bench.is_answered(Ask::Open("releases"), &Said::Opened(number))?;
-        assert!(rt; is_open, "session {number}");
-    }
-    assert_eq!(rt; bench.first_other(&ONE_LESS)?, None);
-    Ok(())
+    follow(&rt, rt.alloc(), &[&ONE_LESS])
 }
 
 const LAST: &str = "g/a/1000/a-1000.pom";
 
 const ONE_MORE: &str = "g/a/1001/a-1001.pom";
 
-static FULL: [(Ask, Said); 11] = [
+static FULL: [(Ask, Said); 14] = [
+    (Ask::Start(Setup::AllKinds, FROM_1000), Said::Started),
+    (Ask::Open("releases"), Said::Opened(1)),
+    (Ask::StageAll(1, 1000), Said::Done),
     (Ask::MayStage(1, ONE_MORE), Said::SessionFull),
     // a draft that was drawn for another place is given up
     (Ask::MayPut("releases", POM), Said::Draft(1001)),
@@ -47,14 +45,5 @@ static FULL: [(Ask, Said); 11] = [
 
 #[test]
 fn a_session_has_at_most_1000_files(rt: HostRuntime) -> Result<(), Fail> {
-    let alloc = rt.alloc();
-    let mut bench = bench_of(alloc)?;
-    assert_eq!(rt; bench.first_other(&OPEN)?, None);
-    for number in 1..1001 {
-        let path = format!(in alloc; "g/a/{number}/a-{number}.pom")?;
-        let is_staged = bench.is_staged(1, path.as_str(), number, b"")?;
-        assert!(rt; is_staged, "file {number}");
-    }
-    assert_eq!(rt; bench.first_other(&FULL)?, None);
-    Ok(())
+    follow(&rt, rt.alloc(), &[&FULL])
 }

@@ -1,9 +1,8 @@
 // Deployment sessions: files are staged, and deployed all at once or not at all.
-use core_worlds::bench::{ALL_KINDS, Ask, Bench};
+use crate::following::follow;
+use core_worlds::asks::{Ask, Moments, Setup};
 use core_worlds::said::{ABC, ABC_SHA1, NOTHING, Said};
 use mvn_digest::Digest;
-use outside_memory::ScriptClock;
-use std::alloc::Global;
 use std::test::Fail;
 
 const DIRECTORY: &str = "org/acme/lib/1.0";
@@ -18,12 +17,11 @@ const DOCUMENT: &str = "org/acme/lib/maven-metadata.xml";
 
 const SNAPSHOT: &str = "org/acme/lib/1.1-SNAPSHOT/lib-1.1-20240229.235959-1.jar";
 
-/// A core whose clock goes on by a second each time that it is read.
-pub fn bench_of(alloc: Global) -> Result<Bench, Fail> {
-    Bench::of(alloc, ALL_KINDS, ScriptClock::stepping(alloc, 1000, 1))
-}
+/// A clock that goes on by a second each time that it is read.
+pub const FROM_1000: Moments = Moments::Stepping(1000, 1);
 
-static DEPLOYED: [(Ask, Said); 19] = [
+static DEPLOYED: [(Ask, Said); 20] = [
+    (Ask::Start(Setup::AllKinds, FROM_1000), Said::Started),
     (Ask::Open("releases"), Said::Opened(1)),
     (Ask::Status, Said::Counts([0, 0, 0, 0, 1])),
     (Ask::MayStage(1, JAR), Said::Draft(1)),
@@ -52,11 +50,11 @@ static DEPLOYED: [(Ask, Said); 19] = [
 
 #[test]
 fn files_are_deployed_together(rt: HostRuntime) -> Result<(), Fail> {
-    assert_eq!(rt; bench_of(rt.alloc())?.first_other(&DEPLOYED)?, None);
-    Ok(())
+    follow(&rt, rt.alloc(), &[&DEPLOYED])
 }
 
-static OFFENDED: [(Ask, Said); 13] = [
+static OFFENDED: [(Ask, Said); 14] = [
+    (Ask::Start(Setup::AllKinds, FROM_1000), Said::Started),
     (Ask::MayPut("releases", JAR), Said::Draft(1)),
     (Ask::Put("releases", JAR, 1, b"abc"), Said::Created),
     (Ask::Open("releases"), Said::Opened(1)),
@@ -75,11 +73,11 @@ static OFFENDED: [(Ask, Said); 13] = [
 
 #[test]
 fn one_file_of_another_content_offends(rt: HostRuntime) -> Result<(), Fail> {
-    assert_eq!(rt; bench_of(rt.alloc())?.first_other(&OFFENDED)?, None);
-    Ok(())
+    follow(&rt, rt.alloc(), &[&OFFENDED])
 }
 
-static EQUAL: [(Ask, Said); 10] = [
+static EQUAL: [(Ask, Said); 11] = [
+    (Ask::Start(Setup::AllKinds, FROM_1000), Said::Started),
     (Ask::MayPut("releases", POM), Said::Draft(1)),
     (Ask::Put("releases", POM, 1, b""), Said::Created),
     (Ask::Open("releases"), Said::Opened(1)),
@@ -95,11 +93,11 @@ static EQUAL: [(Ask, Said); 10] = [
 
 #[test]
 fn an_equal_file_keeps_its_blob(rt: HostRuntime) -> Result<(), Fail> {
-    assert_eq!(rt; bench_of(rt.alloc())?.first_other(&EQUAL)?, None);
-    Ok(())
+    follow(&rt, rt.alloc(), &[&EQUAL])
 }
 
-static STAGED_TWICE: [(Ask, Said); 14] = [
+static STAGED_TWICE: [(Ask, Said); 15] = [
+    (Ask::Start(Setup::AllKinds, FROM_1000), Said::Started),
     (Ask::Open("releases"), Said::Opened(1)),
     (Ask::MayStage(1, JAR), Said::Draft(1)),
     (Ask::Stage(1, JAR, 1, b"abc"), Said::Staged),
@@ -119,8 +117,7 @@ static STAGED_TWICE: [(Ask, Said); 14] = [
 
 #[test]
 fn a_file_is_staged_once(rt: HostRuntime) -> Result<(), Fail> {
-    assert_eq!(rt; bench_of(rt.alloc())?.first_other(&STAGED_TWICE)?, None);
-    Ok(())
+    follow(&rt, rt.alloc(), &[&STAGED_TWICE])
 }
 
 // SHA-1 of no bytes.
@@ -129,7 +126,8 @@ const NOTHING_SHA1: Digest = Digest::Sha1(
 );
 
 // The repository's own jar has no bytes.
-static OF_SIDES: [(Ask, Said); 10] = [
+static OF_SIDES: [(Ask, Said); 11] = [
+    (Ask::Start(Setup::AllKinds, FROM_1000), Said::Started),
     (Ask::MayPut("releases", JAR), Said::Draft(1)),
     (Ask::Put("releases", JAR, 1, b""), Said::Created),
     (Ask::Open("releases"), Said::Opened(1)),
@@ -153,6 +151,5 @@ static OF_SIDES: [(Ask, Said); 10] = [
 
 #[test]
 fn a_side_file_is_judged_by_the_staged_file(rt: HostRuntime) -> Result<(), Fail> {
-    assert_eq!(rt; bench_of(rt.alloc())?.first_other(&OF_SIDES)?, None);
-    Ok(())
+    follow(&rt, rt.alloc(), &[&OF_SIDES])
 }

@@ -1,7 +1,8 @@
 // Worked cases of puts, looks, leases and drafts.
-use core_worlds::bench::{Ask, Bench};
+use crate::following::follow;
+use core_worlds::asks::{Ask, STEADY, Setup};
 use core_worlds::said::{ABC, NOTHING, Said};
-use outside::Clock;
+use core_worlds::tables::conditions;
 use std::test::Fail;
 
 const JAR: &str = "org/acme/lib/1.0/lib-1.0.jar";
@@ -11,7 +12,8 @@ const POM: &str = "org/acme/lib/1.0/lib-1.0.pom";
 const BUILD: &str = "org/acme/lib/1.1-SNAPSHOT/lib-1.1-20240102.030405-1.jar";
 
 // Commands and their replies, one after the other.
-static STEPS: [(Ask, Said); 29] = [
+static STEPS: [(Ask, Said); 32] = [
+    (Ask::Start(Setup::Mixed, STEADY), Said::Started),
     // a file is put once and stays
     (Ask::Look("releases", JAR), Said::Missed),
     (Ask::MayPut("releases", JAR), Said::Draft(1)),
@@ -44,6 +46,9 @@ static STEPS: [(Ask, Said); 29] = [
     (Ask::MayPut("snapshots", POM), Said::KindRefused),
     (Ask::MayPut("releases", BUILD), Said::KindRefused),
     (Ask::MayPut("releases", POM), Said::Draft(6)),
+    // each turn reads the clock once
+    (Ask::Stop, Said::Done),
+    (Ask::Ended, Said::Ended(29, 1_700_000_029)),
 ];
 
 // Commands, and whether each meets its condition.
@@ -67,29 +72,14 @@ static FIT: [(Ask, bool); 11] = [
     (Ask::Put("snapshots", BUILD, 1, b"abc"), true),
 ];
 
-// How many calls there were, and what the clock then tells.
-fn end_of(bench: Bench) -> (u64, u64) {
-    let calls = bench.core.calls();
-    let (_, mut clock) = bench.core.end();
-    (calls, clock.now())
-}
-
 #[test]
 fn commands_are_answered_as_written(rt: HostRuntime) -> Result<(), Fail> {
-    let mut bench = Bench::new(rt.alloc())?;
-    assert_eq!(rt; bench.first_other(&STEPS)?, None);
-    // each turn reads the clock once
-    assert_eq!(rt; end_of(bench), (29, 1_700_000_029));
-    Ok(())
+    follow(&rt, rt.alloc(), &[&STEPS])
 }
 
 #[test]
 fn conditions_are_as_written(rt: HostRuntime) -> Result<(), Fail> {
-    let mut bench = Bench::new(rt.alloc())?;
-    for (n, (ask, want)) in FIT.iter().enumerate() {
-        assert_eq!(rt; bench.fits(*ask)?, *want, "command {n}");
-    }
     // to be asked whether it fits is no call
-    assert_eq!(rt; end_of(bench), (0, 1_700_000_000));
+    assert_eq!(rt; conditions(rt.alloc(), &FIT)?, (None, (0, 1_700_000_000)));
     Ok(())
 }

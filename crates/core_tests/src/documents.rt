@@ -1,8 +1,7 @@
 // Documents of directories, computed from what was put.
-use core_worlds::bench::{Ask, Bench, MIXED, T};
+use crate::following::follow;
+use core_worlds::asks::{Ask, Moments, Setup, T};
 use core_worlds::said::Said;
-use outside_memory::ScriptClock;
-use std::alloc::Global;
 use std::test::Fail;
 
 const OF_SNAPSHOT: &str = "<?xml version=\"1.0\" encoding=\"UTF-8\"?>
@@ -46,10 +45,8 @@ const OF_ARTIFACT: &str = "<?xml version=\"1.0\" encoding=\"UTF-8\"?>
 </metadata>
 ";
 
-// The repositories, all at one moment, T.
-fn bench_at(alloc: Global) -> Result<Bench, Fail> {
-    Bench::of(alloc, MIXED, ScriptClock::stepping(alloc, T, 0))
-}
+// All at one moment.
+const AT_T: Moments = Moments::Stepping(T, 0);
 
 const DIRECTORY: &str = "org/acme/lib/1.1-SNAPSHOT/maven-metadata.xml";
 
@@ -61,7 +58,8 @@ const POM_1: &str = "org/acme/lib/1.1-SNAPSHOT/lib-1.1-20240229.235959-1.pom";
 
 const POM_2: &str = "org/acme/lib/1.1-SNAPSHOT/lib-1.1-20240301.080000-2.pom";
 
-static OF_BUILDS: [(Ask, Said); 12] = [
+static OF_BUILDS: [(Ask, Said); 13] = [
+    (Ask::Start(Setup::Mixed, AT_T), Said::Started),
     (Ask::Look("snapshots", DIRECTORY), Said::Missed),
     (Ask::MayPut("snapshots", JAR_1), Said::Draft(1)),
     (Ask::Put("snapshots", JAR_1, 1, b"abc"), Said::Created),
@@ -88,8 +86,7 @@ static OF_BUILDS: [(Ask, Said); 12] = [
 
 #[test]
 fn builds_make_documents(rt: HostRuntime) -> Result<(), Fail> {
-    assert_eq!(rt; bench_at(rt.alloc())?.first_other(&OF_BUILDS)?, None);
-    Ok(())
+    follow(&rt, rt.alloc(), &[&OF_BUILDS])
 }
 
 const OF_A: &str = "<?xml version=\"1.0\" encoding=\"UTF-8\"?>
@@ -141,7 +138,8 @@ const OF_A_B: &str = "<?xml version=\"1.0\" encoding=\"UTF-8\"?>
 ";
 
 // In byte order `-` and `.` come before `/`, and digits after it.
-static NEIGHBOURS: [(Ask, Said); 24] = [
+static NEIGHBOURS: [(Ask, Said); 25] = [
+    (Ask::Start(Setup::Mixed, AT_T), Said::Started),
     (Ask::MayPut("releases", "g/a-b/1/a-b-1.jar"), Said::Draft(1)),
     (
         Ask::Put("releases", "g/a-b/1/a-b-1.jar", 1, b"abc"),
@@ -209,8 +207,7 @@ static NEIGHBOURS: [(Ask, Said); 24] = [
 
 #[test]
 fn neighbours_stay_out(rt: HostRuntime) -> Result<(), Fail> {
-    assert_eq!(rt; bench_at(rt.alloc())?.first_other(&NEIGHBOURS)?, None);
-    Ok(())
+    follow(&rt, rt.alloc(), &[&NEIGHBOURS])
 }
 
 const LONG: &str = "org/acme/tools/deep/lib/1.0/lib-1.0.jar";
@@ -231,7 +228,8 @@ const OF_LONG: &str = "<?xml version=\"1.0\" encoding=\"UTF-8\"?>
 ";
 
 // The side texts are SHA-1 and MD5 of that text.
-static OF_LONG_GROUP: [(Ask, Said); 5] = [
+static OF_LONG_GROUP: [(Ask, Said); 6] = [
+    (Ask::Start(Setup::Mixed, AT_T), Said::Started),
     (Ask::MayPut("mixed", LONG), Said::Draft(1)),
     (Ask::Put("mixed", LONG, 1, b"abc"), Said::Created),
     (
@@ -250,6 +248,5 @@ static OF_LONG_GROUP: [(Ask, Said); 5] = [
 
 #[test]
 fn a_group_has_segments_of_any_number(rt: HostRuntime) -> Result<(), Fail> {
-    assert_eq!(rt; bench_at(rt.alloc())?.first_other(&OF_LONG_GROUP)?, None);
-    Ok(())
+    follow(&rt, rt.alloc(), &[&OF_LONG_GROUP])
 }

@@ -1,27 +1,19 @@
 // Records that fail: the command is answered so, nothing but the moment is changed, and the next call goes on.
+use crate::following::follow;
 use crate::purges::{DOCUMENT, FIRST, OF_BOTH, OF_SECOND, SECOND};
-use core_worlds::bench::{ALL_KINDS, Ask, Bench};
+use core_worlds::asks::{Ask, Moments, Setup};
 use core_worlds::said::{ABC, Said};
-use outside_memory::ScriptClock;
-use std::process::Abort;
 use std::test::Fail;
 
 const JAR: &str = "org/acme/lib/1.0/lib-1.0.jar";
 
-// The answers over records of which some commits fail, which are counted behind the load, and how many items are recorded in the end.
-fn follow(
-    rt: &impl Abort,
-    mut bench: Bench,
-    steps: &[(Ask, Said)],
-    recorded: usize,
-) -> Result<(), Fail> {
-    assert_eq!(rt; bench.first_other(steps)?, None);
-    let (records, _) = bench.core.end();
-    assert_eq!(rt; records.items().len(), recorded);
-    Ok(())
-}
-
-static OF_A_PUT: [(Ask, Said); 7] = [
+// Some commits fail, which are counted behind the load; in the end so many items are recorded.
+static OF_A_PUT: [(Ask, Said); 11] = [
+    (Ask::FailAt(&[1]), Said::Done),
+    (
+        Ask::Start(Setup::AllKinds, Moments::Stepping(1000, 1)),
+        Said::Started,
+    ),
     (Ask::MayPut("releases", JAR), Said::Draft(1)),
     (Ask::Put("releases", JAR, 1, b"abc"), Said::StoreFault),
     (Ask::Look("releases", JAR), Said::Missed),
@@ -30,18 +22,22 @@ static OF_A_PUT: [(Ask, Said); 7] = [
     (Ask::Put("releases", JAR, 1, b"abc"), Said::Created),
     (Ask::Look("releases", JAR), Said::File(1, 1, ABC)),
     (Ask::Status, Said::Counts([1, 0, 0, 0, 0])),
+    (Ask::Stop, Said::Done),
+    (Ask::Recorded, Said::Recorded(1)),
 ];
 
 #[test]
 fn a_put_that_is_not_recorded_makes_no_row(rt: HostRuntime) -> Result<(), Fail> {
-    let alloc = rt.alloc();
-    let failing = Vec::from_slice(alloc, &[1])?;
-    let clock = ScriptClock::stepping(alloc, 1000, 1);
-    let bench = Bench::over(alloc, ALL_KINDS, failing, clock)?;
-    follow(&rt, bench, &OF_A_PUT, 1)
+    follow(&rt, rt.alloc(), &[&OF_A_PUT])
 }
 
-static OF_A_PURGE: [(Ask, Said); 18] = [
+static OF_A_PURGE: [(Ask, Said); 22] = [
+    (Ask::FailAt(&[3, 5, 6]), Said::Done),
+    // moments that lie far apart, so that the grace period is soon over
+    (
+        Ask::Start(Setup::AllKinds, Moments::Stepping(1000, 100)),
+        Said::Started,
+    ),
     (Ask::MayPut("snapshots", FIRST), Said::Draft(1)),
     (Ask::Put("snapshots", FIRST, 1, b"abc"), Said::Created),
     (Ask::MayPut("snapshots", SECOND), Said::Draft(2)),
@@ -63,32 +59,32 @@ static OF_A_PURGE: [(Ask, Said); 18] = [
     (Ask::Collect, Said::Collected(1, &[1, 3])),
     (Ask::Status, Said::Counts([1, 0, 0, 0, 0])),
     (Ask::Look("snapshots", FIRST), Said::Missed),
+    (Ask::Stop, Said::Done),
+    (Ask::Recorded, Said::Recorded(4)),
 ];
 
 #[test]
 fn a_purge_that_is_not_recorded_takes_nothing_away(rt: HostRuntime) -> Result<(), Fail> {
-    let alloc = rt.alloc();
-    let failing = Vec::from_slice(alloc, &[3, 5, 6])?;
-    // moments that lie far apart, so that the grace period is soon over
-    let clock = ScriptClock::stepping(alloc, 1000, 100);
-    let bench = Bench::over(alloc, ALL_KINDS, failing, clock)?;
-    follow(&rt, bench, &OF_A_PURGE, 4)
+    follow(&rt, rt.alloc(), &[&OF_A_PURGE])
 }
 
-static OF_NOTHING: [(Ask, Said); 5] = [
+static OF_NOTHING: [(Ask, Said); 9] = [
+    (Ask::FailAt(&[1]), Said::Done),
+    (
+        Ask::Start(Setup::AllKinds, Moments::Stepping(1000, 1)),
+        Said::Started,
+    ),
     (Ask::MayPut("releases", JAR), Said::Draft(1)),
     (Ask::Drop(1), Said::Dropped),
     // no row has expired, and yet it is the first commit
     (Ask::Collect, Said::StoreFault),
     (Ask::Collect, Said::Collected(0, &[1])),
     (Ask::Collect, Said::Collected(0, &[])),
+    (Ask::Stop, Said::Done),
+    (Ask::Recorded, Said::Recorded(0)),
 ];
 
 #[test]
 fn garbage_is_given_out_behind_a_commit_alone(rt: HostRuntime) -> Result<(), Fail> {
-    let alloc = rt.alloc();
-    let failing = Vec::from_slice(alloc, &[1])?;
-    let clock = ScriptClock::stepping(alloc, 1000, 1);
-    let bench = Bench::over(alloc, ALL_KINDS, failing, clock)?;
-    follow(&rt, bench, &OF_NOTHING, 0)
+    follow(&rt, rt.alloc(), &[&OF_NOTHING])
 }

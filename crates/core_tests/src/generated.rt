@@ -2,9 +2,10 @@
 ghost use Rattle.std.specs.Prelude.{◌<◌};
 
 use crate::plain::{Plain, takes};
-use core_worlds::bench::{Ask, Bench};
+use core_worlds::asks::Ask;
 use core_worlds::said::Said;
-use std::alloc::Global;
+use core_worlds::tables::{Asker, first_answered_otherwise};
+use std::alloc::{AllocError, Global};
 use std::test::Fail;
 
 static REPOS: [&str; 3] = ["releases", "mixed", "snapshots"];
@@ -56,42 +57,20 @@ impl Numbers {
     }
 }
 
-/// Both machines, and the numbers that their commands are made of.
+/// The plain machine, the numbers that commands are made of, and how often it gave a file and how often it refused one.
 #[derive(Drop)]
-struct Pair {
-    bench: Bench,
+struct Generated {
     plain: Plain,
     numbers: Numbers,
+    counts: (u64, u64),
 }
 
-impl Pair {
-    fn new(alloc: Global) -> Result<Pair, Fail> {
-        Ok(Pair {
-            bench: Bench::new(alloc)?,
-            plain: Plain::new(alloc),
-            numbers: Numbers(1),
-        })
-    }
-
-    // What both answer to the next command, or none where they answer otherwise.
-    fn step(&mut self) -> Result<Option<Said>, Fail> {
+impl Asker for Generated {
+    fn next_ask(&mut self) -> Result<(Ask, Said), AllocError> {
         let ask = self.numbers.next_ask(&self.plain.drafts);
-        let plain = self.plain.turn(ask)?;
-        let is_same = self.bench.is_answered(ask, &plain)?;
-        Ok(is_same.then_some(plain))
-    }
-
-    // How often a file was given and how often a command was refused, or the first command that the plain machine
-    // answers otherwise.
-    fn compared(&mut self) -> Result<Result<(u64, u64), u64>, Fail> {
-        let mut counts = (0, 0);
-        for n in 0..4_000u64 {
-            match self.step()? {
-                Some(answer) => counts = counted(counts, answer),
-                None => return Ok(Err(n)),
-            }
-        }
-        Ok(Ok(counts))
+        let answer = self.plain.turn(ask)?;
+        self.counts = counted(self.counts, answer);
+        Ok((ask, answer))
     }
 }
 
@@ -104,14 +83,20 @@ fn counted((files, refused): (u64, u64), answer: Said) -> (u64, u64) {
     }
 }
 
-fn compared(alloc: Global) -> Result<Result<(u64, u64), u64>, Fail> {
-    let mut pair = Pair::new(alloc)?;
-    pair.compared()
+// The first command that the core answers otherwise, and the counts.
+fn compared(alloc: Global) -> Result<(Option<u64>, (u64, u64)), Fail> {
+    let mut generated = Generated {
+        plain: Plain::new(alloc),
+        numbers: Numbers(1),
+        counts: (0, 0),
+    };
+    let other = first_answered_otherwise(alloc, &mut generated, 4_000)?;
+    Ok((other, generated.counts))
 }
 
 #[test]
 fn the_core_answers_as_the_plain_machine(rt: HostRuntime) -> Result<(), Fail> {
-    let counts = compared(rt.alloc())?;
-    assert!(rt; matches!(counts, Ok((200.., 200..))), "{counts:?}");
+    let compared = compared(rt.alloc())?;
+    assert!(rt; matches!(compared, (None, (200.., 200..))), "{compared:?}");
     Ok(())
 }

@@ -1,6 +1,8 @@
 // Kinds of paths, and what each may be asked for; counts, and places that are sessions.
-use core_worlds::bench::{Ask, Bench};
+use crate::following::follow;
+use core_worlds::asks::{Ask, STEADY, Setup};
 use core_worlds::said::{ABC, Said};
+use core_worlds::tables::is_askable;
 use mvn_coords::{PathFault, kind_of};
 use mvn_digest::Digest;
 use std::test::Fail;
@@ -54,28 +56,19 @@ fn is_fault(path: &str, want: PathFault) -> bool {
     }
 }
 
-// Whether a path that names nothing is asked for nothing.
-fn is_refused(bench: &mut Bench, path: &'static str, fault: PathFault) -> Result<bool, Fail> {
-    if !is_fault(path, fault) {
-        return Ok(false);
-    }
-    let look = bench.fits(Ask::Look("mixed", path))?;
-    let may_put = bench.fits(Ask::MayPut("mixed", path))?;
-    let put = bench.fits(Ask::Put("mixed", path, 1, b"abc"))?;
-    let put_doc = bench.fits(Ask::PutDoc("mixed", path))?;
-    Ok(!look && !may_put && !put && !put_doc)
-}
-
 #[test]
 fn faulty_paths_are_asked_for_nothing(rt: HostRuntime) -> Result<(), Fail> {
-    let mut bench = Bench::new(rt.alloc())?;
     for (path, fault) in &FAULTS {
-        assert!(rt; is_refused(&mut bench, path, *fault)?, "{path}");
+        assert!(rt;
+            is_fault(path, *fault) && !is_askable(rt.alloc(), path)?,
+            "{path}"
+        );
     }
     Ok(())
 }
 
-static OF_FLAGS: [(Ask, Said); 9] = [
+static OF_FLAGS: [(Ask, Said); 10] = [
+    (Ask::Start(Setup::Mixed, STEADY), Said::Started),
     (Ask::MayPut("snapshots", BUILD), Said::Draft(1)),
     (Ask::Put("snapshots", BUILD, 1, b"abc"), Said::Created),
     (Ask::MayPut("releases", BUILD), Said::KindRefused),
@@ -90,11 +83,11 @@ static OF_FLAGS: [(Ask, Said); 9] = [
 
 #[test]
 fn flags_say_which_files_are_taken(rt: HostRuntime) -> Result<(), Fail> {
-    assert_eq!(rt; Bench::new(rt.alloc())?.first_other(&OF_FLAGS)?, None);
-    Ok(())
+    follow(&rt, rt.alloc(), &[&OF_FLAGS])
 }
 
-static OF_DOCUMENTS: [(Ask, Said); 5] = [
+static OF_DOCUMENTS: [(Ask, Said); 6] = [
+    (Ask::Start(Setup::Mixed, STEADY), Said::Started),
     (Ask::PutDoc("releases", DOCUMENT), Said::Noted),
     (Ask::Look("releases", DOCUMENT), Said::Missed),
     (Ask::PutDoc("releases", JAR), Said::Unfit),
@@ -104,11 +97,11 @@ static OF_DOCUMENTS: [(Ask, Said); 5] = [
 
 #[test]
 fn documents_are_noted_and_not_kept(rt: HostRuntime) -> Result<(), Fail> {
-    assert_eq!(rt; Bench::new(rt.alloc())?.first_other(&OF_DOCUMENTS)?, None);
-    Ok(())
+    follow(&rt, rt.alloc(), &[&OF_DOCUMENTS])
 }
 
-static OF_COUNTS: [(Ask, Said); 9] = [
+static OF_COUNTS: [(Ask, Said); 10] = [
+    (Ask::Start(Setup::Mixed, STEADY), Said::Started),
     (Ask::Status, Said::Counts([0, 0, 0, 0, 0])),
     (Ask::MayPut("releases", JAR), Said::Draft(1)),
     (Ask::Put("releases", JAR, 1, b"abc"), Said::Created),
@@ -122,11 +115,11 @@ static OF_COUNTS: [(Ask, Said); 9] = [
 
 #[test]
 fn files_are_counted(rt: HostRuntime) -> Result<(), Fail> {
-    assert_eq!(rt; Bench::new(rt.alloc())?.first_other(&OF_COUNTS)?, None);
-    Ok(())
+    follow(&rt, rt.alloc(), &[&OF_COUNTS])
 }
 
-static OF_SESSIONS: [(Ask, Said); 9] = [
+static OF_SESSIONS: [(Ask, Said); 10] = [
+    (Ask::Start(Setup::Mixed, STEADY), Said::Started),
     (Ask::MayStage(1, JAR), Said::NoSession),
     (Ask::StageSide(1, JAR_MD5, ABC_MD5), Said::NoSession),
     (Ask::StageSide(1, DOCUMENT_MD5, ABC_MD5), Said::NoSession),
@@ -141,6 +134,5 @@ static OF_SESSIONS: [(Ask, Said); 9] = [
 
 #[test]
 fn no_session_is_open(rt: HostRuntime) -> Result<(), Fail> {
-    assert_eq!(rt; Bench::new(rt.alloc())?.first_other(&OF_SESSIONS)?, None);
-    Ok(())
+    follow(&rt, rt.alloc(), &[&OF_SESSIONS])
 }

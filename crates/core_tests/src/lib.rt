@@ -9,6 +9,8 @@ mod documents;
 #[cfg(test)]
 mod failing;
 #[cfg(test)]
+mod following;
+#[cfg(test)]
 mod generated;
 #[cfg(test)]
 mod kinds;

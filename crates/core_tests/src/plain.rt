@@ -1,5 +1,5 @@
 // A plain, slow machine, written apart from the core: it keeps lists and looks through them for each command. It purges nothing.
-use core_worlds::bench::Ask;
+use core_worlds::asks::Ask;
 use core_worlds::said::{ABC, Content, NOTHING, Said};
 use std::alloc::{AllocError, Global};
 
@@ -88,9 +88,8 @@ impl Plain {
             | Ask::StageDoc(_, _) => { Ok(Said::NoSession) }
             // no build is so old, and nothing is unlisted
             Ask::Unlist(_) => Ok(Said::Unlisted(0)),
-            Ask::PutSide(_, _, _) | Ask::Collect | Ask::Open(_) | Ask::Stage(_, _, _, _) => {
-                Ok(Said::Unfit)
-            }
+            // the others are not generated
+            _ => Ok(Said::Unfit),
         }
     }
 

@@ -1,5 +1,6 @@
 // Side files: what a look gives of them, and digests that are sent.
-use core_worlds::bench::{Ask, Bench};
+use crate::following::follow;
+use core_worlds::asks::{Ask, STEADY, Setup};
 use core_worlds::said::{ABC, ABC_SHA1, Said};
 use mvn_coords::Side;
 use mvn_digest::{Digest, read_side};
@@ -73,7 +74,8 @@ fn texts_say_digests(rt: HostRuntime) {
     }
 }
 
-static LOOKS: [(Ask, Said); 13] = [
+static LOOKS: [(Ask, Said); 14] = [
+    (Ask::Start(Setup::Mixed, STEADY), Said::Started),
     (Ask::Look("releases", JAR_SHA1), Said::Missed),
     (Ask::MayPut("releases", JAR), Said::Draft(1)),
     (Ask::Put("releases", JAR, 1, b"abc"), Said::Created),
@@ -104,11 +106,11 @@ static LOOKS: [(Ask, Said); 13] = [
 
 #[test]
 fn side_files_say_the_digests(rt: HostRuntime) -> Result<(), Fail> {
-    assert_eq!(rt; Bench::new(rt.alloc())?.first_other(&LOOKS)?, None);
-    Ok(())
+    follow(&rt, rt.alloc(), &[&LOOKS])
 }
 
-static PUTS: [(Ask, Said); 13] = [
+static PUTS: [(Ask, Said); 14] = [
+    (Ask::Start(Setup::Mixed, STEADY), Said::Started),
     (Ask::PutSide("releases", JAR_SHA1, ABC_SHA1), Said::NotThere),
     (Ask::MayPut("releases", JAR), Said::Draft(1)),
     (Ask::Put("releases", JAR, 1, b"abc"), Said::Created),
@@ -137,11 +139,11 @@ static PUTS: [(Ask, Said); 13] = [
 
 #[test]
 fn what_is_said_is_compared(rt: HostRuntime) -> Result<(), Fail> {
-    assert_eq!(rt; Bench::new(rt.alloc())?.first_other(&PUTS)?, None);
-    Ok(())
+    follow(&rt, rt.alloc(), &[&PUTS])
 }
 
-static OF_DOCUMENTS: [(Ask, Said); 4] = [
+static OF_DOCUMENTS: [(Ask, Said); 5] = [
+    (Ask::Start(Setup::Mixed, STEADY), Said::Started),
     (
         Ask::PutSide(
             "releases",
@@ -174,6 +176,5 @@ static OF_DOCUMENTS: [(Ask, Said); 4] = [
 
 #[test]
 fn side_files_of_documents_are_agreed_to(rt: HostRuntime) -> Result<(), Fail> {
-    assert_eq!(rt; Bench::new(rt.alloc())?.first_other(&OF_DOCUMENTS)?, None);
-    Ok(())
+    follow(&rt, rt.alloc(), &[&OF_DOCUMENTS])
 }

@@ -1,7 +1,7 @@
 //! What the repository is to reply, as plain values, beside what it does.
 use mvn_digest::{Digest, Digests, Hashes};
 use outside_memory::MemHeld;
-use repo_core::Reply;
+use repo_core::{Damaged, Reply, StartFault};
 use repo_model::SessionResult;
 
 /// A content: its length, and its SHA-1 and MD5 in hexadecimal.
@@ -73,6 +73,18 @@ pub enum Said {
     StoreFault,
     // none: the command does not meet its condition
     Unfit,
+    // a start: a core runs, or the repository, path and recorded length of the first damaged file, and the length that was found
+    Started,
+    Damaged(&'static str, &'static str, u64, Option<u64>),
+    // the kept parcel's bytes
+    Bytes(&'static [u8]),
+    // how many calls there were, and what the clock then told
+    Ended(u64, u64),
+    Recorded(usize),
+    // the file of a repository and a path is gone
+    Removed(&'static str, &'static str),
+    // those that were removed, in this order, and those that are there
+    Blobs(&'static [u64], &'static [u64]),
 }
 
 fn is_content(length: u64, digests: &Digests, want: &Content) -> bool {
@@ -165,4 +177,26 @@ fn is_bytes(reply: &Reply<MemHeld>, want: &Said) -> bool {
 /// Whether this is the reply.
 pub fn is_said(reply: &Reply<MemHeld>, want: &Said) -> bool {
     is_word(reply, want) || is_number(reply, want) || is_bytes(reply, want)
+}
+
+fn is_damage(damaged: &Damaged, want: &Said) -> bool {
+    match want {
+        Said::Damaged(repo, path, recorded, found) => {
+            damaged.repo.as_str() == *repo
+                && damaged.path.as_str() == *path
+                && damaged.recorded.length == *recorded
+                && damaged.found.map(|print| print.length) == *found
+        }
+        _ => false,
+    }
+}
+
+/// Whether a start came to this.
+pub fn is_started(fault: &Option<StartFault>, want: &Said) -> bool {
+    match fault {
+        None => matches!(want, Said::Started),
+        Some(StartFault::Store) => matches!(want, Said::StoreFault),
+        Some(StartFault::Damaged(damaged)) => is_damage(damaged, want),
+        Some(_) => false,
+    }
 }
