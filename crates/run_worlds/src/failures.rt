@@ -79,7 +79,7 @@ fn alike(one: &[u8], other: &[u8]) -> usize {
         if a != b {
             return count;
         }
-        count += 1;
+        count = count.saturating_add(1);
     }
     count
 }
