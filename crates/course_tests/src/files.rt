@@ -138,6 +138,12 @@ fn what_is_there_is_answered(rt: HostRuntime) -> Result<(), Fail> {
         GOES_ON,
         b"HTTP/1.1 500 Internal Server Error\r\nContent-Type: text/plain\r\nContent-Length: 6\r\n\r\nspent\n",
     )?;
+    Ok(())
+}
+
+#[test]
+fn faults_are_answered(rt: HostRuntime) -> Result<(), Fail> {
+    let a = rt.alloc();
     says(
         &rt,
         a,
