@@ -10,8 +10,8 @@ pub trait Disk {
     // How many calls have failed. It never falls.
     ghost faults: { Self → ℕ };
 
-    // The calls made since the file was opened, where the disk tells them. What a read gives and what a crash may leave
-    // is read off it. No call changes whether a disk tells.
+    // The calls made since the file was opened, where the disk tells them, as it then does for good. What a read gives
+    // and what a crash may leave is read off it.
     ghost trace: { Self → Option Trace } = { λ _. None };
 
     /// How many bytes the file has.

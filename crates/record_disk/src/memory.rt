@@ -1,6 +1,6 @@
-ghost use Rattle.std.specs.Prelude.{◌≡◌, ◌⊎◌, ◌≤◌, ◌<◌, ◌+◌, ◌^◌, length, take, drop, Some, IfOk, IfSome, OnOk, OnErr, MatchResult};
+ghost use Rattle.std.specs.Prelude.{◌≡◌, ◌⊎◌, ◌≤◌, ◌<◌, ◌+◌, ◌^◌, length, take, drop, Some, IfOk, IfSome, IsErr, OnOk, OnErr, MatchResult};
 ghost use Rattle.outside.specs.Faults.{HasCause};
-ghost use Rattle.outside_memory.specs.Script.{script_of};
+ghost use Rattle.outside_memory.specs.Script.{script_of, script_passed, script_failed};
 ghost use Rattle.record_disk.specs.Disk.{Opened, After, Write, Cut, Sync, content, Told, MayHave, written};
 ghost use Rattle.record_disk.specs.Memory.{IsDue, FindsNoRoom};
 
@@ -118,6 +118,8 @@ impl Disk for MemDisk {
         ensures told { IfOk result (λ size. size ≡ length (content self.old.trace)) }
         ensures same { self.new.trace ≡ self.old.trace }
         ensures reason { OnErr result (IsDue self.old) }
+        ensures due { IsDue self.old → IsErr result }
+        ensures script { MatchResult result (λ _. self.new.script ≡ script_passed self.old.script) (λ _. self.new.script ≡ script_failed self.old.script) }
     {
         match self.script.next_call() {
             None => Ok(self.bytes.len() as u64),
@@ -131,6 +133,8 @@ impl Disk for MemDisk {
         ensures told { OnOk result (buffer.new ≡ take (length buffer.old) (drop at (content self.old.trace))) }
         ensures same { self.new.trace ≡ self.old.trace }
         ensures reason { OnErr result (IsDue self.old ⊎ (length (content self.old.trace) < at + length buffer.old)) }
+        ensures due { IsDue self.old → IsErr result }
+        ensures script { MatchResult result (λ _. self.new.script ≡ script_passed self.old.script) (λ _. self.new.script ≡ script_failed self.old.script) }
     {
         let due = self.script.next_call();
         let size = self.bytes.len() as u64;
@@ -149,6 +153,8 @@ impl Disk for MemDisk {
         ensures told { MayHave (Write at (length bytes.now)) self.old.trace self.new.trace }
         ensures done { OnOk result (content self.new.trace ≡ written (content self.old.trace) at bytes.now) }
         ensures reason { OnErr result (IsDue self.old ⊎ FindsNoRoom at (length bytes.now) self.old) }
+        ensures due { IsDue self.old → IsErr result }
+        ensures script { MatchResult result (λ _. self.new.script ≡ script_passed self.old.script) (λ _. self.new.script ≡ script_failed self.old.script) }
     {
         let due = self.script.next_call();
         let size = bytes.len();
@@ -191,6 +197,8 @@ impl Disk for MemDisk {
         ensures told { MayHave (Cut size) self.old.trace self.new.trace }
         ensures done { OnOk result (content self.new.trace ≡ take size (content self.old.trace)) }
         ensures reason { OnErr result (IsDue self.old ⊎ (self.old.calls_left ≡ 0)) }
+        ensures due { IsDue self.old → IsErr result }
+        ensures script { MatchResult result (λ _. self.new.script ≡ script_passed self.old.script) (λ _. self.new.script ≡ script_failed self.old.script) }
     {
         let due = self.script.next_call();
         if self.calls.len() == self.room.calls {
@@ -212,6 +220,8 @@ impl Disk for MemDisk {
         ensures told { MatchResult result (λ _. self.new.trace ≡ After Sync (content self.old.trace) self.old.trace)
             (λ _. self.new.trace ≡ self.old.trace) }
         ensures reason { OnErr result (IsDue self.old ⊎ (self.old.calls_left ≡ 0)) }
+        ensures due { IsDue self.old → IsErr result }
+        ensures script { MatchResult result (λ _. self.new.script ≡ script_passed self.old.script) (λ _. self.new.script ≡ script_failed self.old.script) }
     {
         let due = self.script.next_call();
         if due.is_some() || self.calls.len() == self.room.calls {

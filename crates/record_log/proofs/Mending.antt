@@ -1,12 +1,13 @@
 -- What a crash leaves while a file is made anew, or its gate is closed.
-use Rattle.std.proofs.Common.{◌≡◌, ℕ, ◌+◌, ◌≤◌, Bool, true, false, List, [], ◌∷◌, ◌++◌, length, take, drop, refl, sym, ◌∙◌, ap, subst, arith, length-append}
-use Rattle.std.specs.Prelude.{if◌then◌else◌, unwrap_or, Option, None, Some}
+use Rattle.std.proofs.Common.{◌≡◌, ℕ, ◌+◌, ◌≤◌, Bool, true, false, List, [], ◌∷◌, ◌++◌, length, take, drop, refl, sym, ◌∙◌, ap, subst, arith, length-append, length-take}
+use Rattle.std.specs.Prelude.{min, if◌then◌else◌, unwrap_or, Option, None, Some}
+use Rattle.std.specs.List.{flat_map}
 use Rattle.std.proofs.lemmas.List.{drop_more, drop_all, take_at}
 use Rattle.std.proofs.lemmas.Option.{get_or_from_slice_get}
-use Rattle.record_disk.specs.Disk.{Trace, content, written, Torn, AllImages, Here, Told, Keeps, IsDurable, Tears}
-use Rattle.record_log.specs.Frames.{Frames, New, Foreign, Framed, frames, payloads_of, gate_of, end_of, EndsAt, Holds, head_of}
+use Rattle.record_disk.specs.Disk.{Trace, content, written, Torn, AllImages, Throughout, Here, Told, Keeps, IsDurable, Tears}
+use Rattle.record_log.specs.Frames.{Frames, New, Foreign, Framed, frames, payloads_of, gate_of, end_of, EndsAt, Holds, IsLong, framed, magic, head_of}
 use Rattle.record_log.specs.Log.{at_rest, IsAtRest, HasFront, HasTail}
-use Rattle.record_disk.proofs.Moments.{joined, weaker}
+use Rattle.record_disk.proofs.Moments.{weaker}
 use Rattle.record_log.proofs.Reading.{frames_short}
 use Rattle.record_log.proofs.Parsing.{AreBytes}
 use Rattle.record_log.proofs.Parts.{parts, new_is_short}
@@ -26,6 +27,20 @@ renew_keeps s t tears few = record {
   where
     torn_few : (c from : List ℕ) → IsFew from → Torn 0 9 from c → IsFew c
     torn_few c from is torn = omega (arith, torn.no_longer, is)
+
+-- a write makes no image shorter
+pub renew_longer : (s t : Trace) → Tears 0 9 s t → (n : ℕ) → AllImages (IsLong n) s → Throughout (IsLong n) s t
+renew_longer s t tears n long = weaker _ (IsLong n) s t (λ c from. torn_long c from.0 (long from.0 from.1) from.2) tears.moments
+  where
+    torn_long : (c from : List ℕ) → IsLong n from → Torn 0 9 from c → IsLong n c
+    torn_long c from is torn = omega (arith, torn.no_shorter, is)
+
+-- the frames of payloads stand behind the magic
+head_long : (ps : List (List ℕ)) → IsLong 8 (head_of ps)
+head_long ps = omega (arith, length-append magic (flat_map framed ps))
+
+front_long : (ps : List (List ℕ)) (c : List ℕ) → take (length (head_of ps)) c ≡ head_of ps → IsLong 8 c
+front_long ps c front = omega (arith, ap length front, length-take (length (head_of ps)) c, head_long ps)
 
 -- a file of at most 9 bytes, with those of a new one written over them
 pub renew_rests : (s t : Trace) → IsDurable (written (content s) 0 (at_rest [])) t → IsFew (content s) → IsAtRest 8 [] t
@@ -77,6 +92,20 @@ module _ (bytes : List ℕ) (gate : ℕ) (are : AreBytes bytes) (is : gate_of (f
   pub close_none : (s : Trace) → IsDurable bytes s → (ps : List (List ℕ)) → Holds ps bytes → Keeps (Holds ps) s s
   close_none s durable ps holds = record { moments = Here (λ c image. subst (Holds ps) (sym (durable.only c image)) holds); image = durable.image }
 
+  bytes_long : IsLong 8 bytes
+  bytes_long =
+      let them = parts bytes gate are is in
+      omega (arith, ap length them.split, length-append (head_of them.payloads) (drop gate bytes), head_long them.payloads)
+
+  pub close_longer : (s t : Trace) → Undoing gate s t → IsDurable bytes s → Throughout (IsLong 8) s t
+  close_longer s t undoing durable =
+      let them = parts bytes gate are is in
+      let kept = undoing them.payloads None (hangs_now s durable them.payloads them.holds) in
+      weaker (HasFront them.payloads None) (IsLong 8) s t (λ c front. front_long them.payloads c front.front) kept.moments
+
+  pub close_long : (a : Option Trace) → Told a a (λ s t. IsDurable bytes s → Throughout (IsLong 8) s t)
+  close_long a = told_same a (λ s t. IsDurable bytes s → Throughout (IsLong 8) s t) (λ s durable. Here (λ c image. subst (IsLong 8) (sym (durable.only c image)) bytes_long))
+
   -- where nothing has to be done
   pub close_told : (a : Option Trace) → Told a a (λ s t. IsDurable bytes s → (ps : List (List ℕ)) → Holds ps bytes → Keeps (Holds ps) s t)
   close_told a = told_same a (λ s t. IsDurable bytes s → (ps : List (List ℕ)) → Holds ps bytes → Keeps (Holds ps) s t) close_none
@@ -97,6 +126,13 @@ pub fresh_rests : (bytes : List ℕ) → gate_of (frames bytes) ≡ None → (s 
 fresh_rests bytes none s t rests durable qs held =
     let few : IsFew bytes = is_few bytes qs held none in
     subst (λ rs. IsAtRest 8 rs t) (one_list bytes [] qs (few_holds bytes few) held) (rests (subst IsFew (sym durable.reads) few))
+
+-- a file keeps its length, up to that of the magic, at each moment
+pub fresh_longer : (bytes : List ℕ) (s t : Trace) → ((n : ℕ) → AllImages (IsLong n) s → Throughout (IsLong n) s t) → IsDurable bytes s → Throughout (IsLong (min 8 (length bytes))) s t
+fresh_longer bytes s t renewed durable = renewed (min 8 (length bytes)) (λ c image. subst (IsLong (min 8 (length bytes))) (sym (durable.only c image)) (omega arith))
+
+pub up_to_magic : (bytes : List ℕ) (s t : Trace) → (IsDurable bytes s → Throughout (IsLong 8) s t) → IsDurable bytes s → Throughout (IsLong (min 8 (length bytes))) s t
+up_to_magic bytes s t closed durable = weaker (IsLong 8) (IsLong (min 8 (length bytes))) s t (λ c long. omega (arith, long)) (closed durable)
 
 -- the gate stands behind the magic
 pub behind_magic : (read : Frames) → 8 ≤ end_of read

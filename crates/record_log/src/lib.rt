@@ -13,7 +13,7 @@ mod mend;
 mod walker;
 
 pub use faults::LogFault;
-pub use frames::{Frame, MAGIC, is_whole};
+pub use frames::{Frame, MAGIC};
 pub use laws::laws_of_logs;
 pub use log::Log;
 pub use walker::Frames;
