@@ -5,7 +5,7 @@ use Rattle.std.specs.Option.{option_map}
 use Rattle.std.specs.Result.{result_ok}
 use Rattle.record_disk.specs.Disk.{Trace, After, Sync, content, AllImages, Throughout, Here, Then, Told, Keeps, IsDurable}
 use Rattle.record_disk.proofs.Moments.{joined, weaker, at_last, told_map, told_then}
-use Rattle.record_log.specs.Frames.{Holds}
+use Rattle.record_log.specs.Frames.{Holds, frames, gate_of, end_of, EndsAt}
 use Rattle.record_log.specs.Log.{StandsFor, LogState, HasAcknowledged, MaySync}
 use Rattle.record_log.proofs.Calls.{told_same}
 use Rattle.repo_model.specs.Tables.{Tables}
@@ -14,7 +14,7 @@ use Rattle.row_tables.specs.declared.faults.LoadFault.TheVariants.{Failed, NoMem
 use Rattle.row_tables.specs.Records.{Expected, IsRefusal, LoadsUnlessFailed}
 use Rattle.record_journal.specs.Given.{Loads}
 use Rattle.record_journal.specs.Loading.{loading}
-use Rattle.record_journal.specs.Journal.{acknowledged, tables_by, tables_of, LoadsTo, MayLoad, Fits, IsStanding, IsReady, IsSteady, KeepsTables, Recovers}
+use Rattle.record_journal.specs.Journal.{acknowledged, tables_by, tables_of, LoadsTo, MayLoad, Fits, IsStanding, IsReady, IsSteady, KeepsTables, Recovers, IsStill}
 use Rattle.record_journal.proofs.Loads.{HeldBy, loads_held, held_by}
 use Rattle.record_journal.proofs.Standing.{may_load, standing_loads}
 
@@ -225,3 +225,33 @@ module _ (old mid new : LogState) (bytes : List ℕ) (t : Tables) (loads : loadi
 
   pub reload_recovers : Told old.trace mid.trace (λ s m. m ≡ After Sync (content s) s) → Told old.trace new.trace Recovers
   reload_recovers synced = mended_recovers bytes t loads old.trace mid.trace new.trace synced durable mending
+
+-- Where only a sync was made, and where what followed it left a file that ends as it should.
+pub still_sync : (a b : Option Trace) → Told a b MaySync → Told a b IsStill
+still_sync a b told = told_map a b MaySync IsStill (λ s t may gate is ends. may) told
+
+pub still_none : (old mid : LogState) → mid ≡ old → Told old.trace mid.trace MaySync
+still_none old mid same = subst (λ (v : LogState). Told old.trace v.trace MaySync) (sym same) (told_same old.trace MaySync (λ s. inl refl))
+
+-- the bytes of a file that is synced are those that it had
+pub had_bytes : (a b : Option Trace) (bytes : List ℕ) → Told a b (λ s t. t ≡ After Sync (content s) s) → IfSome b (IsDurable bytes) → IfSome a (λ s. content s ≡ bytes)
+had_bytes a b bytes synced durable = told_if a b (λ s t. t ≡ After Sync (content s) s) (IsDurable bytes) (λ s. content s ≡ bytes) (λ s t is at. sym (ap content is) ∙ at.reads) synced durable
+
+pub gate_had : (a : Option Trace) (bytes : List ℕ) (gate : ℕ) → gate ≡ end_of (frames bytes) → IfSome a (λ s. content s ≡ bytes) → IfSome a (λ s. gate ≡ end_of (frames (content s)))
+gate_had None bytes gate is had = tt
+gate_had (Some s) bytes gate is had = is ∙ ap (λ file. end_of (frames file)) (sym had)
+
+pub still_mended : (a b c : Option Trace) (bytes : List ℕ) (R : Trace → Trace → Type 0) → Told a b (λ s t. t ≡ After Sync (content s) s) → IfSome b (IsDurable bytes) → Told b c R
+    → ((gate : ℕ) → gate_of (frames bytes) ≡ Some gate → EndsAt gate bytes → c ≡ b) → Told a c IsStill
+still_mended None None None bytes R one durable two still = tt
+still_mended None None (Some u) bytes R one durable two still = two
+still_mended None (Some t) c bytes R one durable two still = absurd one
+still_mended (Some s) None c bytes R one durable two still = absurd one
+still_mended (Some s) (Some t) None bytes R one durable two still = two
+still_mended (Some s) (Some t) (Some u) bytes R one durable two still = λ gate is ends.
+    let had : content s ≡ bytes = sym (ap content one) ∙ durable.reads in
+    let same : Some u ≡ Some t = still gate (subst (λ file. gate_of (frames file) ≡ Some gate) had is) (subst (EndsAt gate) had ends) in
+    inr (trace_of u t same ∙ one)
+  where
+    trace_of : (x y : Trace) → Some x ≡ Some y → x ≡ y
+    trace_of x y is = cc

@@ -3,7 +3,8 @@ use Rattle.std.specs.Prelude.{◌≡◌, ◌⊎◌, ◌≤◌, ℕ, List, take, 
 use Rattle.std.specs.Option.{option_map}
 use Rattle.std.specs.Result.{result_ok}
 use Rattle.record_disk.specs.Disk.{Trace, After, Sync, content, AllImages, Throughout}
-use Rattle.record_log.specs.Log.{LogState, StandsFor}
+use Rattle.record_log.specs.Frames.{frames, gate_of, EndsAt}
+use Rattle.record_log.specs.Log.{LogState, StandsFor, MaySync}
 use Rattle.repo_model.specs.declared.item.Item.{Item}
 use Rattle.repo_model.specs.Tables.{Tables, applied}
 use Rattle.row_tables.specs.Applying.{with_items}
@@ -73,6 +74,10 @@ pub record KeepsTables (told : Option Tables) (before after : Option (List ℕ))
 -- Nothing was done; or the file was synced first, and where it then loads, each image does from then on, to the same tables.
 abbrev pub Recovers : Trace → Trace → Type 0
 Recovers old new = (new ≡ old) ⊎ ((t : Tables) → LoadsTo t (content old) → Throughout (LoadsTo t) (After Sync (content old) old) new)
+
+-- A file whose frames end with a closed gate is at most synced.
+abbrev pub IsStill : Trace → Trace → Type 0
+IsStill old new = (gate : ℕ) → gate_of (frames (content old)) ≡ Some gate → EndsAt gate (content old) → MaySync old new
 
 -- At each moment every image loads to the tables that are told, to these with the pending change, or to these with the one
 -- that is committed.

@@ -1,11 +1,12 @@
 //! How a change is committed.
-ghost use Rattle.std.specs.Prelude.{◌≡◌, ◌⊎◌, ◌<◌, ◌^◌, [], None, Some, Ok, length, IfOk, IsOk, OnOk, OnErr};
+ghost use Rattle.std.specs.Prelude.{◌≡◌, ◌⊎◌, ◌<◌, ◌+◌, ◌^◌, [], None, Some, Ok, length, IfOk, IsOk, IsErrOf, OnOk, OnErr};
 ghost use Rattle.std.specs.Option.{ForSome, option_map};
 ghost use Rattle.record_disk.specs.Disk.{Told};
 ghost use Rattle.repo_model.specs.Tables.{applied};
 ghost use Rattle.row_tables.specs.Applying.{with_items};
 ghost use Rattle.row_tables.specs.Items.{IsChange, change_bytes};
 ghost use Rattle.row_tables.specs.Records.{HasCommitCause};
+ghost use Rattle.row_tables.specs.declared.faults.CommitFault.TheVariants.{Failed as failed};
 ghost use Rattle.record_journal.specs.Journal.{tables_of, IsReady, Commits};
 
 use crate::undoing::take_back;
@@ -43,6 +44,8 @@ fn append_change<D: Disk>(
     ensures crash { Told log.old.trace log.new.trace (Commits (tables_of log.old) None change.now) }
     ensures undone { OnOk result (log.new.pending ≡ None) }
     ensures pending { OnErr result ((log.new.pending ≡ None) ⊎ (log.new.pending ≡ Some (change_bytes change.now))) }
+    ensures gate { OnOk result (log.new.gate ≡ log.old.gate + 5 + length (change_bytes change.now)) }
+    ensures stays { OnErr result (log.new.gate ≡ log.old.gate) }
 {
     let payload = match payload_of(alloc, change) {
         Ok(payload) => payload,
@@ -71,6 +74,9 @@ pub fn commit_change<D: Disk>(
     ensures undone { OnOk result (log.new.pending ≡ None) }
     ensures pending { OnErr result ((log.new.pending ≡ None) ⊎ (log.new.pending ≡ log.old.pending) ⊎ (log.new.pending ≡ Some (change_bytes change.now))) }
     ensures empty { change.now ≡ [] → log.old.pending ≡ None → IsOk result × (log.new ≡ log.old) }
+    ensures unframed { change.now ≡ [] → (log.new.gate ≡ log.old.gate) × OnErr result (IsErrOf result failed × (log.new.pending ≡ log.old.pending)) }
+    ensures framed { OnOk result ((change.now ≡ []) ⊎ (log.new.gate ≡ log.old.gate + 5 + length (change_bytes change.now))) }
+    ensures stays { OnErr result (log.new.gate ≡ log.old.gate) }
 {
     match take_back(log) {
         Ok(()) => {}

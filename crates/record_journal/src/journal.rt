@@ -1,12 +1,14 @@
-ghost use Rattle.std.specs.Prelude.{◌≡◌, ◌⊎◌, [], None, Some, Ok, IfOk, IfSome, IsOk, OnOk, OnErr, false, is_some};
+ghost use Rattle.std.specs.Prelude.{◌≡◌, ◌⊎◌, ◌+◌, [], None, Some, Ok, length, IfOk, IfSome, IsOk, IsErrOf, OnOk, OnErr, false, is_some};
 ghost use Rattle.std.specs.Option.{ForSome, option_map};
 ghost use Rattle.record_disk.specs.Disk.{After, Sync, content, Told};
+ghost use Rattle.record_log.specs.Frames.{frames, end_of};
 ghost use Rattle.repo_model.specs.Tables.{applied};
 ghost use Rattle.row_tables.specs.Applying.{with_items};
 ghost use Rattle.row_tables.specs.Items.{change_bytes};
 ghost use Rattle.row_tables.specs.Recorded.{IsBuiltUp};
 ghost use Rattle.row_tables.specs.Records.{HasLoadCause, HasCommitCause, IsRefusal, LoadsUnlessFailed};
-ghost use Rattle.record_journal.specs.Journal.{expected_of, tables_of, IsReady, KeepsTables, Recovers, Commits};
+ghost use Rattle.row_tables.specs.declared.faults.CommitFault.TheVariants.{Failed as failed};
+ghost use Rattle.record_journal.specs.Journal.{expected_of, tables_of, IsReady, KeepsTables, Recovers, Commits, IsStill};
 
 use crate::committing::commit_change;
 use crate::reloading::load_log;
@@ -85,6 +87,10 @@ impl<D: Disk> Records for Journal<D> {
         // A crash at each moment of the call leaves a file that loads to the same tables, or to these with the pending change.
         ensures crash { Told self.old.trace self.new.trace (KeepsTables (tables_of self.old) self.old.pending self.new.pending) }
         ensures first { self.old.pending ≡ None → Told self.old.trace self.new.trace Recovers }
+
+        // It adds no frame, and a file that ends as it should is synced alone.
+        ensures gate { OnOk result (self.old.pending ≡ None → IfSome self.old.trace (λ s. self.new.gate ≡ end_of (frames (content s)))) }
+        ensures still { self.old.pending ≡ None → Told self.old.trace self.new.trace IsStill }
     {
         load_log(alloc, &mut self.log)
     }
@@ -105,6 +111,13 @@ impl<D: Disk> Records for Journal<D> {
 
         // An empty change has no frame.
         ensures empty { change.now ≡ [] → self.old.pending ≡ None → IsOk result × (self.new ≡ self.old) }
+
+        // Nor has it one where a frame is pending: that one is taken off, or stays where the disk fails.
+        ensures unframed { change.now ≡ [] → (self.new.gate ≡ self.old.gate) × OnErr result (IsErrOf result failed × (self.new.pending ≡ self.old.pending)) }
+
+        // Any other has just one, of its own bytes.
+        ensures framed { OnOk result ((change.now ≡ []) ⊎ (self.new.gate ≡ self.old.gate + 5 + length (change_bytes change.now))) }
+        ensures stays { OnErr result (self.new.gate ≡ self.old.gate) }
     {
         commit_change(alloc, &mut self.log, change)
     }

@@ -1,10 +1,11 @@
 //! How a journal is loaded.
 ghost use Rattle.std.specs.Prelude.{◌≡◌, None, IfOk, IfSome, OnOk};
 ghost use Rattle.record_disk.specs.Disk.{After, Sync, content, Told, IsDurable};
-ghost use Rattle.record_log.specs.Log.{HasLogCause};
+ghost use Rattle.record_log.specs.Frames.{frames, end_of};
+ghost use Rattle.record_log.specs.Log.{HasLogCause, MaySync};
 ghost use Rattle.row_tables.specs.Recorded.{IsBuiltUp};
 ghost use Rattle.row_tables.specs.Records.{HasLoadCause, IsRefusal, LoadsUnlessFailed};
-ghost use Rattle.record_journal.specs.Journal.{acknowledged, expected_of, tables_of, IsReady, IsSteady, KeepsTables, Recovers};
+ghost use Rattle.record_journal.specs.Journal.{acknowledged, expected_of, tables_of, IsReady, IsSteady, KeepsTables, Recovers, IsStill};
 ghost use Rattle.record_journal.specs.Loading.{loading};
 
 use crate::loading::tables_in;
@@ -20,6 +21,7 @@ fn synced_bytes<D: Disk>(alloc: Global, log: &mut Log<D>) -> Result<Vec<u8>, Log
     ensures cause { HasLogCause log.old.faults log.new.faults result }
     ensures crash { Told log.old.trace log.new.trace (KeepsTables (tables_of log.old) log.old.pending log.new.pending) }
     ensures first { log.old.pending ≡ None → Told log.old.trace log.new.trace Recovers }
+    ensures moments { log.old.pending ≡ None → Told log.old.trace log.new.trace MaySync }
     ensures synced { OnOk result (log.old.pending ≡ None → Told log.old.trace log.new.trace (λ s t. t ≡ After Sync (content s) s)) }
     ensures steady { IsSteady log.new }
     ensures same { tables_of log.new ≡ tables_of log.old }
@@ -37,6 +39,8 @@ pub fn load_log<D: Disk>(alloc: Global, log: &mut Log<D>) -> Result<Tables, Load
     ensures cause { HasLoadCause log.old.faults log.new.faults result }
     ensures crash { Told log.old.trace log.new.trace (KeepsTables (tables_of log.old) log.old.pending log.new.pending) }
     ensures first { log.old.pending ≡ None → Told log.old.trace log.new.trace Recovers }
+    ensures gate { OnOk result (log.old.pending ≡ None → IfSome log.old.trace (λ s. log.new.gate ≡ end_of (frames (content s)))) }
+    ensures still { log.old.pending ≡ None → Told log.old.trace log.new.trace IsStill }
     ensures loads { IfSome (expected_of log.old) (λ expected. LoadsUnlessFailed expected result) }
     ensures left { IsRefusal result → Told log.old.trace log.new.trace (λ s t. t ≡ After Sync (content s) s) }
     ensures built { IfOk result IsBuiltUp }

@@ -20,6 +20,7 @@ pub fn take_back<D: Disk>(log: &mut Log<D>) -> Result<(), Failed>
     ensures ok { OnOk result (log.new.pending ≡ None) }
     ensures err { OnErr result (log.new.pending ≡ log.old.pending) }
     ensures none { log.old.pending ≡ None → IsOk result × (log.new ≡ log.old) }
+    ensures stays { log.new.gate ≡ log.old.gate }
 {
     log.undo()
 }

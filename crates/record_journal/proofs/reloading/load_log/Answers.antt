@@ -1,13 +1,13 @@
 use Rattle.std.proofs.Common.{◌≡◌, ◌≤◌, ℕ, List, sym, ◌∙◌, ap, subst, Ok, Err}
 use Rattle.std.proofs.lemmas.Result.{err_from_is_err_and}
-use Rattle.std.specs.Prelude.{IfSome}
+use Rattle.std.specs.Prelude.{IfSome, Some}
 use Rattle.record_disk.specs.Disk.{Told, IsDurable}
-use Rattle.record_log.specs.Frames.{frames, Holds}
-use Rattle.record_log.specs.Log.{HasAcknowledged}
+use Rattle.record_log.specs.Frames.{frames, gate_of, end_of, EndsAt, Holds}
+use Rattle.record_log.specs.Log.{HasAcknowledged, LogState}
 use Rattle.record_log.proofs.Mending.{behind_magic}
 use Rattle.record_journal.specs.Given.{Loads}
 use Rattle.record_journal.specs.Loading.{loading}
-use Rattle.record_journal.proofs.Reloaded.{Mending, loads_too, refused_left, reload_crash, reload_tables, reload_ready, reload_recovers}
+use Rattle.record_journal.proofs.Reloaded.{Mending, loads_too, refused_left, reload_crash, reload_tables, reload_ready, reload_recovers, still_sync, still_mended, had_bytes, gate_had}
 use Rattle.record_journal.proofs.reloading.load_log.Goals as goal
 
 pub returns-in_err-tables-clause-left : goal.returns-in_err-tables-clause-left
@@ -65,3 +65,22 @@ returns-clause-same g c =
     let loads : loading c.in-Ok.bytes.items ≡ Ok c.in_ok-tables.tables = ap loading (sym c.deref.ensures.value) ∙ c.in_ok-tables.ensures.loads in
     reload_tables c.args.log.now c.synced_bytes.new.log c.mend.new.self c.in-Ok.bytes.items c.in_ok-tables.tables loads c.in-Ok.ensures.undone c.mend.ensures.done c.in-Ok.ensures.durable
     (subst (λ l. Told c.synced_bytes.new.log.trace c.mend.new.self.trace (Mending l)) c.deref-2.ensures.value c.mend.ensures.moments) c.synced_bytes.ensures.same
+
+pub returns-in_err-tables-clause-still : goal.returns-in_err-tables-clause-still
+returns-in_err-tables-clause-still g c = λ none. still_sync _ _ (c.synced_bytes.ensures.moments none)
+
+pub returns-in-Ok-mend-clause-still : goal.returns-in-Ok-mend-clause-still
+returns-in-Ok-mend-clause-still g c = λ none.
+    still_mended _ _ _ c.in-Ok.bytes.items (Mending c.in-Ok.bytes.items) (c.in-Ok.ensures.synced none) c.in-Ok.ensures.durable
+    (subst (λ l. Told c.synced_bytes.new.log.trace c.mend.new.self.trace (Mending l)) c.deref-2.ensures.value c.mend.ensures.moments)
+    (subst (λ l. (gate : ℕ) → gate_of (frames l) ≡ Some gate → EndsAt gate l → c.mend.new.self.trace ≡ c.synced_bytes.new.log.trace) c.deref-2.ensures.value (λ gate is ends. ap (λ (v : LogState). v.trace) (c.mend.ensures.still gate is ends).1))
+
+pub returns-clause-still : goal.returns-clause-still
+returns-clause-still g c = λ none.
+    still_mended _ _ _ c.in-Ok.bytes.items (Mending c.in-Ok.bytes.items) (c.in-Ok.ensures.synced none) c.in-Ok.ensures.durable
+    (subst (λ l. Told c.synced_bytes.new.log.trace c.mend.new.self.trace (Mending l)) c.deref-2.ensures.value c.mend.ensures.moments)
+    (subst (λ l. (gate : ℕ) → gate_of (frames l) ≡ Some gate → EndsAt gate l → c.mend.new.self.trace ≡ c.synced_bytes.new.log.trace) c.deref-2.ensures.value (λ gate is ends. ap (λ (v : LogState). v.trace) (c.mend.ensures.still gate is ends).1))
+
+pub returns-in-Ok-mend-clause-gate : goal.returns-in-Ok-mend-clause-gate
+returns-in-Ok-mend-clause-gate g c = λ none.
+    gate_had _ c.in-Ok.bytes.items _ (subst (λ l. c.mend.new.self.gate ≡ end_of (frames l)) c.deref-2.ensures.value c.in-Ok-mend.ensures.gate) (had_bytes _ _ c.in-Ok.bytes.items (c.in-Ok.ensures.synced none) c.in-Ok.ensures.durable)
