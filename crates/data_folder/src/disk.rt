@@ -1,5 +1,7 @@
 //! The file with the records of a folder.
-ghost use Rattle.outside.specs.Faults.{Rose};
+ghost use Rattle.std.specs.Prelude.{◌<◌, ◌+◌, ◌^◌, ◌≡◌, length, IfOk, IsErr, OnOk};
+ghost use Rattle.outside.specs.Faults.{HasCause, Rose};
+ghost use Rattle.data_folder.specs.Faults.{IsRefused, faults_of};
 
 use outside::Failed;
 use record_disk::{Disk, FileDisk};
@@ -25,39 +27,55 @@ fn refuse(faults: &mut u64) -> Failed
 }
 
 impl<F: FileExt + OpenFile + Drop> Disk for FolderDisk<F> {
-    ghost use Rattle.data_folder.specs.Faults.{faults_of};
-
     ghost faults = { faults_of };
 
-    fn size(&mut self) -> Result<u64, Failed> {
+    fn size(&mut self) -> Result<u64, Failed>
+        ensures cause { HasCause (faults_of self.old) (faults_of self.new) result }
+        ensures within { IfOk result (λ size. size < 2 ^ 63) }
+        ensures refused { IsRefused self.old → IsErr result × IsRefused self.new }
+    {
         match self {
             FolderDisk::Open { disk, .. } => disk.size(),
             FolderDisk::Refused { faults } => Err(refuse(faults)),
         }
     }
 
-    fn read(&mut self, at: u64, buffer: &mut [u8]) -> Result<(), Failed> {
+    fn read(&mut self, at: u64, buffer: &mut [u8]) -> Result<(), Failed>
+        ensures cause { HasCause (faults_of self.old) (faults_of self.new) result }
+        ensures length { length buffer.new ≡ length buffer.old }
+        ensures refused { IsRefused self.old → IsErr result × IsRefused self.new }
+    {
         match self {
             FolderDisk::Open { disk, .. } => disk.read(at, buffer),
             FolderDisk::Refused { faults } => Err(refuse(faults)),
         }
     }
 
-    fn write_at(&mut self, at: u64, bytes: &[u8]) -> Result<(), Failed> {
+    fn write_at(&mut self, at: u64, bytes: &[u8]) -> Result<(), Failed>
+        ensures cause { HasCause (faults_of self.old) (faults_of self.new) result }
+        ensures within { OnOk result (at + length bytes.now < 2 ^ 63) }
+        ensures refused { IsRefused self.old → IsErr result × IsRefused self.new }
+    {
         match self {
             FolderDisk::Open { disk, .. } => disk.write_at(at, bytes),
             FolderDisk::Refused { faults } => Err(refuse(faults)),
         }
     }
 
-    fn cut(&mut self, size: u64) -> Result<(), Failed> {
+    fn cut(&mut self, size: u64) -> Result<(), Failed>
+        ensures cause { HasCause (faults_of self.old) (faults_of self.new) result }
+        ensures refused { IsRefused self.old → IsErr result × IsRefused self.new }
+    {
         match self {
             FolderDisk::Open { disk, .. } => disk.cut(size),
             FolderDisk::Refused { faults } => Err(refuse(faults)),
         }
     }
 
-    fn sync(&mut self) -> Result<(), Failed> {
+    fn sync(&mut self) -> Result<(), Failed>
+        ensures cause { HasCause (faults_of self.old) (faults_of self.new) result }
+        ensures refused { IsRefused self.old → IsErr result × IsRefused self.new }
+    {
         match self {
             FolderDisk::Open { disk, .. } => disk.sync(),
             FolderDisk::Refused { faults } => Err(refuse(faults)),

@@ -1,5 +1,5 @@
 //! The listener.
-ghost use Rattle.std.specs.Prelude.{◌≡◌, ◌+◌, None, min, IfOk, IsOk, IsSome, OnErr, OnSome};
+ghost use Rattle.std.specs.Prelude.{◌≡◌, ◌+◌, None, min, IfOk, IfSome, IsOk, IsSome, OnErr, OnSome};
 ghost use Rattle.outside.specs.Faults.{HasCause, last_count};
 
 use crate::links::TcpLink;
@@ -103,7 +103,9 @@ fn next_after(error: &io::Error) -> Next {
 fn accept<R: Net + Clock + Clone + Drop>(
     rt: &R,
     listener: &R::Listener,
-) -> Result<TcpLink<R::Stream, R>, Failed> {
+) -> Result<TcpLink<R::Stream, R>, Failed>
+    ensures { IfOk result (λ link. link ≡ record { reads = 0; writes = 0 }) }
+{
     for _ in 0..u64::MAX {
         match listener.accept() {
             Ok((stream, _)) => {
@@ -132,6 +134,7 @@ impl<R: Net + Clock + Clone + Drop> Port for TcpPort<R> {
         ensures cause { HasCause self.old self.new result }
         ensures once { OnErr result (self.new ≡ min (self.old + 1) last_count) }
         ensures some { IfOk result (λ link. IsSome link) }
+        ensures fresh { IfOk result (λ found. IfSome found (λ link. link ≡ record { reads = 0; writes = 0 })) }
     {
         let accepted = match &self.listener {
             Some(listener) => accept(&self.rt, listener),
