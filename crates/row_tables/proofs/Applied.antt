@@ -31,40 +31,6 @@ with_items-push : (t : Tables) (items : List Item) (item : Item) → with_items 
 with_items-push t [] item = refl
 with_items-push t (i ∷ items) item = with_items-push (item_on t i) items item
 
--- the tables after the items in front of a place; those from there on are still to come
-pub record SoFar (old now : Tables) (items : List Item) (place : ℕ) : Type 0 where
-  pub so_far : now ≡ with_items old (take place items)
-  pub rest : applied_from place now (drop place items) ≡ applied old items
-
-pub starts : (t : Tables) (items : List Item) → SoFar t t items 0
-starts t items = record { so_far = refl; rest = refl }
-
-module _ (old now : Tables) (items : List Item) (place : ℕ) (item : Item) (known : SoFar old now items place) (within : place < length items) (is : item ≡ get_or items place item) where
-  next : drop place items ≡ item ∷ drop (suc place) items
-  next = drop-cons items place item within ∙ ap (λ i. i ∷ drop (suc place) items) (sym is)
-
-  by_fit : applied_from place now (drop place items) ≡ cond (fits_on now item) (applied_from (place + 1) (item_on now item) (drop (suc place) items)) (Err place)
-  by_fit = ap (applied_from place now) next
-
-  pub goes_on : (after : Tables) → true ≡ fits_on now item → after ≡ item_on now item → SoFar old after items (place + 1)
-  goes_on after fits then_so =
-      let one : suc place ≡ place + 1 = sym (add-one place) in
-      record {
-        so_far = then_so ∙ ap (λ t. item_on t item) known.so_far ∙ sym (with_items-push old (take place items) item) ∙ ap (with_items old) (ap (λ i. take place items ++ i ∷ []) is ∙ sym (take-suc items place item within) ∙ ap (λ k. take k items) one);
-        rest = ap (λ t. applied_from (place + 1) t (drop (place + 1) items)) then_so ∙ ap (λ k. applied_from (place + 1) (item_on now item) (drop k items)) (sym one)
-            ∙ sym (ap (λ b. cond b (applied_from (place + 1) (item_on now item) (drop (suc place) items)) (Err place)) (sym fits)) ∙ sym by_fit ∙ known.rest;
-      }
-
-  pub misfits : (after : Tables) → false ≡ fits_on now item → after ≡ now → (applied old items ≡ Err place) × (after ≡ with_items old (take place items))
-  misfits after misfit same =
-      (sym known.rest ∙ by_fit ∙ ap (λ b. cond b (applied_from (place + 1) (item_on now item) (drop (suc place) items)) (Err place)) (sym misfit), same ∙ known.so_far)
-
-pub all_applied : (old now : Tables) (items : List Item) (place : ℕ) → SoFar old now items place → length items ≤ place → applied old items ≡ Ok now
-all_applied old now items place known past = sym known.rest ∙ ap (applied_from place now) (drop_past items place past)
-  where
-    drop_past : (xs : List Item) (k : ℕ) → length xs ≤ k → drop k xs ≡ []
-    drop_past xs k le = drop_all k xs le
-
 anywhere : (p q : ℕ) (t u : Tables) (items : List Item) → applied_from p t items ≡ Ok u → applied_from q t items ≡ Ok u
 anywhere p q t u [] is = is
 anywhere p q t u (item ∷ items) is = by (anywhere (p + 1) (q + 1) (item_on t item) u items) (fits_on t item) is
@@ -84,6 +50,47 @@ then_applied p t u v (item ∷ items) more is next = by (then_applied (p + 1) (i
         → cond b (applied_from (p + 1) (item_on t item) (items ++ more)) (Err p) ≡ Ok v
     by go true h = go h next
     by go false h = absurd cc
+
+-- the tables after the items in front of a place, which fit; those from there on are still to come
+pub record SoFar (old now : Tables) (items : List Item) (place : ℕ) : Type 0 where
+  pub so_far : now ≡ with_items old (take place items)
+  pub fit : applied old (take place items) ≡ Ok now
+  pub rest : applied_from place now (drop place items) ≡ applied old items
+
+pub starts : (t : Tables) (items : List Item) → SoFar t t items 0
+starts t items = record { so_far = refl; fit = refl; rest = refl }
+
+one_more : (now after : Tables) (item : Item) → true ≡ fits_on now item → after ≡ item_on now item → applied_from 0 now (item ∷ []) ≡ Ok after
+one_more now after item fits then_so = sym (ap (λ b. cond b (Ok (item_on now item)) (Err 0)) fits) ∙ ap Ok (sym then_so)
+
+module _ (old now : Tables) (items : List Item) (place : ℕ) (item : Item) (known : SoFar old now items place) (within : place < length items) (is : item ≡ get_or items place item) where
+  next : drop place items ≡ item ∷ drop (suc place) items
+  next = drop-cons items place item within ∙ ap (λ i. i ∷ drop (suc place) items) (sym is)
+
+  by_fit : applied_from place now (drop place items) ≡ cond (fits_on now item) (applied_from (place + 1) (item_on now item) (drop (suc place) items)) (Err place)
+  by_fit = ap (applied_from place now) next
+
+  pub goes_on : (after : Tables) → true ≡ fits_on now item → after ≡ item_on now item → SoFar old after items (place + 1)
+  goes_on after fits then_so =
+      let one : suc place ≡ place + 1 = sym (add-one place) in
+      let front : take place items ++ item ∷ [] ≡ take (place + 1) items =
+      ap (λ i. take place items ++ i ∷ []) is ∙ sym (take-suc items place item within) ∙ ap (λ k. take k items) one in
+      record {
+        so_far = then_so ∙ ap (λ t. item_on t item) known.so_far ∙ sym (with_items-push old (take place items) item) ∙ ap (with_items old) front;
+        fit = ap (applied old) (sym front) ∙ then_applied 0 old now after (take place items) (item ∷ []) known.fit (one_more now after item fits then_so);
+        rest = ap (λ t. applied_from (place + 1) t (drop (place + 1) items)) then_so ∙ ap (λ k. applied_from (place + 1) (item_on now item) (drop k items)) (sym one)
+            ∙ sym (ap (λ b. cond b (applied_from (place + 1) (item_on now item) (drop (suc place) items)) (Err place)) (sym fits)) ∙ sym by_fit ∙ known.rest;
+      }
+
+  pub misfits : (after : Tables) → false ≡ fits_on now item → after ≡ now → (applied old items ≡ Err place) × (after ≡ with_items old (take place items))
+  misfits after misfit same =
+      (sym known.rest ∙ by_fit ∙ ap (λ b. cond b (applied_from (place + 1) (item_on now item) (drop (suc place) items)) (Err place)) (sym misfit), same ∙ known.so_far)
+
+pub all_applied : (old now : Tables) (items : List Item) (place : ℕ) → SoFar old now items place → length items ≤ place → applied old items ≡ Ok now
+all_applied old now items place known past = sym known.rest ∙ ap (applied_from place now) (drop_past items place past)
+  where
+    drop_past : (xs : List Item) (k : ℕ) → length xs ≤ k → drop k xs ≡ []
+    drop_past xs k le = drop_all k xs le
 
 pub with_items-append : (t : Tables) (items more : List Item) → with_items t (items ++ more) ≡ with_items (with_items t items) more
 with_items-append t [] more = refl

@@ -17,11 +17,12 @@ pub record Tried (fits : Bool) (next old new : Tables) (made : Bool) : Type 0 wh
   pub fits_so : made ≡ fits
   pub then_so : new ≡ (if made then next else old)
 
--- the items were applied; or one of them misfits, or memory was wanting, and those before it were applied
+-- the items were applied; or one of them misfits, and those before it were applied; or memory was wanting, and some of the
+-- first ones, which fit, were applied
 abbrev pub Applies : Tables → List Item → Tables → Result (Unit {0}) ApplyFault → Type 0
 Applies old items new (Ok done) = applied old items ≡ Ok new
 Applies old items new (Err (Misfit n)) = (applied old items ≡ Err n) × (new ≡ with_items old (take n items))
-Applies old items new (Err NoMemory) = (n : ℕ) × (new ≡ with_items old (take n items))
+Applies old items new (Err NoMemory) = (n : ℕ) × (applied old (take n items) ≡ Ok new)
 
 -- each number of a blob that a row names is among these
 abbrev pub NamesAmong : BTreeSet ℕ → Tables → Type 0

@@ -132,7 +132,7 @@ impl Tables {
     }
 
     /// Applies the items of a change, in their order. At the first that does not fit it stops; those before it stay
-    /// applied, as they do where memory is wanting.
+    /// applied. Where memory is wanting some of the first ones, which fit, stay applied.
     pub fn apply(&mut self, alloc: Global, change: &Change) -> Result<(), ApplyFault>
         ensures { Applies self.old change.now self.new result }
     {
