@@ -5,29 +5,19 @@ ghost use Rattle.repo_model.specs.declared.item.Item.TheVariants.{SessionOpened,
 ghost use Rattle.repo_model.specs.Effect.{opens, sessions_after};
 ghost use Rattle.repo_model.specs.State.{is_open_at, change_first, number_end};
 ghost use Rattle.row_tables.specs.Commits.{tables_with};
-ghost use Rattle.row_tables.specs.Items.{IsChange};
 ghost use Rattle.row_tables.specs.Records.{HasCommitCause};
 ghost use Rattle.deploy_session.specs.Known.{is_drawn};
 ghost use Rattle.deploy_session.specs.Recording.{FitWhereTold};
 ghost use Rattle.deploy_session.specs.Shown.{shown_sessions};
 
 use crate::known::{self, Session};
+use hosted_repo::change_of;
 use outside::{Held, NoMemory};
 use repo_model::{Item, SessionResult};
 use row_tables::{Change, CommitFault, Records};
 use std::alloc::Global;
 use std::collections::BTreeMap;
 use texts::Text;
-
-// The change of one item.
-fn change_of(alloc: Global, item: Item) -> Result<Change, NoMemory>
-    requires { IsChange (item ∷ []) }
-    ensures { IfOk result (λ change. change ≡ item ∷ []) }
-{
-    let mut items = Vec::new(alloc);
-    items.push(item)?;
-    Ok(Change::of(items))
-}
 
 // The change that a session is which opens.
 fn opened_change(alloc: Global, number: u64) -> Result<Change, NoMemory>

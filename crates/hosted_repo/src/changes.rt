@@ -20,8 +20,8 @@ pub fn sizes(digests: Digests)
     ensures md5 { length digests.md5 ≡ 16 }
 {}
 
-// The change of one item.
-fn change_of(alloc: Global, item: Item) -> Result<Change, NoMemory>
+/// The change of one item.
+pub fn change_of(alloc: Global, item: Item) -> Result<Change, NoMemory>
     requires { IsChange (item ∷ []) }
     ensures { IfOk result (λ change. change ≡ item ∷ []) }
 {

@@ -12,7 +12,7 @@ ghost use Rattle.repo_model.specs.Paths.{takes_file, file_in, is_snapshot_path};
 ghost use Rattle.repo_model.specs.Purge.{due_rows, expired_of, fade_all, most_rows};
 ghost use Rattle.repo_model.specs.Reply.{created, is_free, relisted};
 ghost use Rattle.repo_model.specs.Shown.{shown_parcel, shown_print};
-ghost use Rattle.repo_model.specs.State.{change_where, is_row, number_end, row_at, new_hosted};
+ghost use Rattle.repo_model.specs.State.{change_where, is_repository, is_row, number_end, row_at, new_hosted};
 ghost use Rattle.repo_model.specs.Turn.{seen_at};
 ghost use Rattle.row_tables.specs.Commits.{tables_with};
 ghost use Rattle.row_tables.specs.Items.{is_file_path, is_id, is_item, is_number, item_bytes};
@@ -90,6 +90,13 @@ impl<H: Held> Hosted<H> {
         ensures { shown_rule result.now ≡ self.now.rule }
     {
         &self.rule
+    }
+
+    /// Whether this is its id.
+    pub fn has_id(&self, id: &str) -> bool
+        ensures { result ≡ is_repository id.now self.now }
+    {
+        self.rule.id.as_str() == id
     }
 
     /// Whether it takes what a path of this kind names: files of releases, of snapshots, or of both.

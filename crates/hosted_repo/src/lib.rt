@@ -21,6 +21,7 @@ mod seen;
 mod storing;
 mod walk;
 
+pub use changes::change_of;
 pub use hosted::Hosted;
 pub use kept::Kept;
 pub use put::Put;

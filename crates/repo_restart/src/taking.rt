@@ -34,7 +34,7 @@ fn phase_of(phase: RowPhase) -> Phase
 fn place_of<H: Held>(repos: &[Hosted<H>], id: &str) -> Option<usize>
     ensures { result ≡ position (is_repository id.now) repos.now }
 {
-    repos.iter().position(|repo| repo.rule().id.as_str() == id)
+    repos.iter().position(|repo| repo.has_id(id))
 }
 
 // The row of a hosted file comes back with its blob, to the repository of its id. Where there is none the blob is let go.

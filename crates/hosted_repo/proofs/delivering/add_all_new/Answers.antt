@@ -4,7 +4,7 @@ use Rattle.std.specs.Map.Iter.{deref_pair}
 use Rattle.repo_model.specs.Data as plain
 use Rattle.repo_model.specs.Shown.{shown_parcel}
 use Rattle.hosted_repo.specs.Deliveries.{shown_files, with_file}
-use Rattle.hosted_repo.proofs.DeliveryLemmas.{IsAdding, adding-first, adding-more}
+use Rattle.hosted_repo.proofs.UndoneLemmas.{IsAdding, adding-first, adding-more}
 use Rattle.hosted_repo.proofs.delivering.add_all_new.Goals as goal
 
 pub loop-path-init : goal.loop-path-init

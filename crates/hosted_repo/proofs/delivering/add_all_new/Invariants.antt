@@ -1,5 +1,5 @@
 use Rattle.hosted_repo.specs.Deliveries.{shown_files}
-use Rattle.hosted_repo.proofs.DeliveryLemmas.{IsAdding}
+use Rattle.hosted_repo.proofs.UndoneLemmas.{IsAdding}
 use Rattle.hosted_repo.proofs.delivering.add_all_new.Given as goal
 
 abbrev pub invariant-loop-path : goal.invariant-loop-path

@@ -5,7 +5,8 @@ use Rattle.repo_model.specs.declared.item.Item.{Item}
 use Rattle.repo_model.specs.Effect.{recorded}
 use Rattle.hosted_repo.specs.Deliveries.{left_by, session_with, shown_files, with_files, with_listed, without_puts}
 use Rattle.hosted_repo.specs.Recording.{FitWhereTold}
-use Rattle.hosted_repo.proofs.DeliveryLemmas.{apart-shown, delivered, effects_by, err-any, take-front, undone, without-all-free}
+use Rattle.hosted_repo.proofs.DeliveryLemmas.{apart-shown, delivered, effects_by, err-any, take-front}
+use Rattle.hosted_repo.proofs.UndoneLemmas.{undone, without-all-free}
 use Rattle.hosted_repo.proofs.delivering.deliver.Goals as goal
 
 pub add_and_commit-result-requires-clause-fits : goal.add_and_commit-result-requires-clause-fits

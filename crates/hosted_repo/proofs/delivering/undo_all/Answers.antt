@@ -1,7 +1,7 @@
 use Rattle.std.proofs.Common.{◌++◌, ◌∷◌, [], take, ap, ◌∙◌, sym}
 use Rattle.std.proofs.lemmas.List.{take_more}
 use Rattle.hosted_repo.specs.Deliveries.{without_put, without_puts}
-use Rattle.hosted_repo.proofs.DeliveryLemmas.{without_puts-append}
+use Rattle.hosted_repo.proofs.UndoneLemmas.{without_puts-append}
 use Rattle.hosted_repo.proofs.delivering.undo_all.Goals as goal
 
 pub loop-item-preserved : goal.loop-item-preserved
