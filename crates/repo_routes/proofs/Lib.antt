@@ -4,5 +4,6 @@ pub mod OnLiterals
 pub mod PathLemmas
 pub mod RouteLemmas
 pub mod RouterLemmas
+pub mod ParameterLemmas
 pub mod TableLemmas
 pub mod TargetLemmas

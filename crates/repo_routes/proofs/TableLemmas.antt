@@ -12,7 +12,8 @@ use Rattle.matchit.specs.Seek.{has_slash, own, seek}
 use Rattle.repo_routes.specs.declared.routes.Pattern.{Pattern}
 use Rattle.repo_routes.specs.declared.routes.Pattern.TheVariants as pattern
 use Rattle.repo_routes.specs.Routes.{Route, in_repository, sessions, in_session, commit, abort, status, clean, files_route, number_route, part_of, pattern_of, repository_route, rest_of, route_at, session_route, sessions_route}
-use Rattle.repo_routes.proofs.RouterLemmas.{along, catch-all, filled, front, front-first, is_word, parameter, seek-none, strip, with-slash, without-slash, word-first}
+use Rattle.repo_routes.proofs.RouterLemmas.{along, catch-all, filled, front, front-first, is_word, seek-none, strip, word-first}
+use Rattle.repo_routes.proofs.ParameterLemmas.{parameter, with-slash, without-slash}
 
 abbrev is_slash : ℕ → Bool
 is_slash b = b == 47

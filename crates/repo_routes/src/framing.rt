@@ -5,9 +5,9 @@ ghost use Rattle.repo_routes.specs.Framing as spec;
 use crate::refusal::Refusal;
 use http_wire::{BodyLength, Field, Request};
 
-/// Whether the method is HEAD.
+/// Whether the method is HEAD, whose answers have no body (RFC 9110, section 9.3.2).
 #[tactic(auto, unfolding(crate::specs::Framing::is_head))]
-pub(crate) fn is_head(head: &Request) -> bool
+pub fn is_head(head: &Request) -> bool
     ensures { result ≡ spec.is_head head.now }
 {
     head.method() == "HEAD"

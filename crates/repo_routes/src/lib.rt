@@ -17,6 +17,7 @@ mod refusal;
 mod routes;
 mod target;
 
+pub use framing::is_head;
 pub use intent::Intent;
 pub use judging::{Judged, Refused, hosted_ids, judge};
 pub use paths::{LONGEST_DOCUMENT, LONGEST_SIDE};

@@ -1,6 +1,7 @@
 use Rattle.std.proofs.Common.{refl}
 use Rattle.matchit.proofs.OnLiterals.{matchit_on_literals}
-use Rattle.repo_routes.proofs.RouterLemmas.{front, parameter}
+use Rattle.repo_routes.proofs.RouterLemmas.{front}
+use Rattle.repo_routes.proofs.ParameterLemmas.{parameter}
 use Rattle.repo_routes.proofs.TableLemmas.{table-routes}
 use Rattle.repo_routes.proofs.routes.add_routes.Goals as goal
 
