@@ -3,13 +3,12 @@ ghost use Rattle.std.specs.Prelude.{◌≡◌, ◌⊎◌, IfOk, Some, Ok};
 ghost use Rattle.http_wire.specs.Head.{Head};
 ghost use Rattle.repo_config.specs.Form.{IsSettings};
 ghost use Rattle.repo_model.specs.Shown.{shown_place};
-ghost use Rattle.repo_routes.specs.Framing.{is_head};
-ghost use Rattle.repo_routes.specs.Intent.{reads, puts_file, puts_side, puts_document};
+ghost use Rattle.repo_routes.specs.Intent.{puts_file};
 ghost use Rattle.repo_routes.specs.Judge.{IsJudged, judge};
 ghost use Rattle.repo_routes.specs.Shown.{shown_intent, shown_request};
 ghost use Rattle.repo_course.specs.declared.manner.Manner.{Manner as AnyManner};
-ghost use Rattle.repo_course.specs.Acts.{left_of, Starts};
-ghost use Rattle.repo_course.specs.Course.{course, course_for, course_of, refuses, refuses_head, starves, without_memory};
+ghost use Rattle.repo_course.specs.Acts.{after_body, left_of, Starts};
+ghost use Rattle.repo_course.specs.Course.{course, course_for, course_of, cut_off, invites, reads, refuses, refuses_head, starves, without_memory};
 ghost use Rattle.repo_course.specs.Meets.{Meets};
 
 use crate::act::{Act, After, Coming, Form, SmallBody};
@@ -21,7 +20,7 @@ use http_wire::{HeadFault, Request, WireFault};
 use outside::Held;
 use repo_config::Settings;
 use repo_model::{Command, Place};
-use repo_routes::{Intent, Judged, Refused, Routes, judge};
+use repo_routes::{Intent, Judged, Refused, Routes, is_head, judge};
 use std::alloc::{AllocError, Global};
 use texts::Text;
 
@@ -57,6 +56,19 @@ fn may_put<H: Held>(
     Ok(Act::Ask(may_put, after))
 }
 
+/// The first act of a PUT of a small body.
+fn read_small<H: Held>(place: Place, path: Text, form: Form, length: u64, expects: bool) -> Act<H>
+    ensures { (manner : AnyManner) → left_of manner result ≡ invites expects cut_off (reads length (after_body (shown_place place) path form manner)) }
+{
+    let body = SmallBody {
+        place,
+        path,
+        form,
+        length,
+    };
+    invite(expects, Coming::Small(body))
+}
+
 /// The first act of a request that is not refused.
 fn first_act<H: Held>(alloc: Global, intent: Intent, expects: bool) -> Result<Act<H>, AllocError>
     ensures { IfOk result (λ act. (manner : AnyManner) → left_of manner act ≡ course_for manner expects (shown_intent intent)) }
@@ -75,45 +87,19 @@ fn first_act<H: Held>(alloc: Global, intent: Intent, expects: bool) -> Result<Ac
             length,
         } => {
             let form = Form::Side(side);
-            Ok(invite(
-                expects,
-                Coming::Small(SmallBody {
-                    place,
-                    path,
-                    form,
-                    length,
-                }),
-            ))
+            Ok(read_small(place, path, form, length, expects))
         }
         Intent::PutDocument {
             place,
             path,
             length,
-        } => {
-            let form = Form::Document;
-            Ok(invite(
-                expects,
-                Coming::Small(SmallBody {
-                    place,
-                    path,
-                    form,
-                    length,
-                }),
-            ))
-        }
+        } => Ok(read_small(place, path, Form::Document, length, expects)),
         Intent::Status => Ok(Act::Ask(Command::Status, After::Status)),
         Intent::Clean(repos) => Ok(Act::Clean(repos)),
         Intent::Open(repo) => Ok(Act::Ask(Command::Open { repo }, After::Open)),
         Intent::Commit(session) => Ok(Act::Ask(Command::Commit { session }, After::Commit)),
         Intent::Abort(session) => Ok(Act::Ask(Command::Abort { session }, After::Abort)),
     }
-}
-
-/// Whether the request is a HEAD, whose answers have no body (RFC 9110, section 9.3.2).
-fn is_head(request: &Request) -> bool
-    ensures { result ≡ is_head request.now }
-{
-    request.method() == "HEAD"
 }
 
 /// The first act for a whole head: of its request's course, or its refusal.

@@ -19,9 +19,9 @@ use Rattle.repo_course.specs.Cleaning as cleaning
 use Rattle.run_lines.specs.Printing.{Output}
 use Rattle.store_check.specs.Checking.{Recorded, RefusesDamaged, RefusesStore}
 
--- The repository of these settings, which have their form, before its first call, over what is recorded and stored. A start commits
--- nothing, and removes of the store exactly what no row names. Where nothing is recorded or stored, it is the repository that was
--- never asked.
+-- The repository of these settings, which have their form, before its first call, over what is recorded and stored. A start leaves
+-- the records' tables as they are, and removes of the store exactly what no row names. Where nothing is recorded or stored, it is the
+-- repository that was never asked.
 pub record Begins (settings : Settings) (records : Recorded) (old new : cleaning.Store) (clock : Option Moments) (core : Whole) : Type 0 where
   pub form : IsSettings settings
   pub tables : Tables

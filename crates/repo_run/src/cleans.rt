@@ -1,6 +1,4 @@
 //! The command `clean`: the settings are read, and one pass goes over the repositories.
-ghost use Rattle.std.specs.Prelude.{◌≡◌, IfOk};
-ghost use Rattle.repo_course.specs.Answers.{cleaned_text};
 ghost use Rattle.repo_course.specs.Cleaning.{store};
 ghost use Rattle.run_lines.specs.Printing.{output};
 ghost use Rattle.run_lines.specs.Reading.{file};
@@ -11,30 +9,18 @@ use crate::begun::{begin, refuse_start};
 use crate::ran::Ended;
 use outside::{Blobs, Clock, Sink, Source};
 use repo_config::Settings;
-use repo_course::{CleanFault, Cleaned};
+use repo_course::{CleanFault, Cleaned, cleaned_text};
 use repo_server::clean_pass;
 use row_tables::Records;
 use run_lines::{DONE, NO_MEMORY, OUTPUT, fault, print, settings_of};
-use std::alloc::{AllocError, Global};
+use std::alloc::Global;
 use store_check::{AuditFault, refuse_store};
-
-/// How many files were unlisted, and how many blobs removed.
-fn cleaned_text(alloc: Global, cleaned: &Cleaned) -> Result<Vec<u8>, AllocError>
-    ensures { IfOk result (λ text. text.items ≡ cleaned_text cleaned.now.unlisted cleaned.now.removed) }
-{
-    let mut text = Vec::from_slice(alloc, b"unlisted ")?;
-    text.extend_from_slice(cleaned.unlisted.to_string(alloc)?.as_bytes())?;
-    text.extend_from_slice(b"\nremoved ")?;
-    text.extend_from_slice(cleaned.removed.to_string(alloc)?.as_bytes())?;
-    text.push(b'\n')?;
-    Ok(text)
-}
 
 /// Prints what a pass has done.
 fn tell_cleaned<O: Sink>(alloc: Global, out: &mut O, cleaned: &Cleaned) -> u8
     ensures { TellsPass (Ok cleaned.now) (output (O.taken out.old) (O.write_faults out.old)) (output (O.taken out.new) (O.write_faults out.new)) result }
 {
-    let Ok(text) = cleaned_text(alloc, cleaned) else {
+    let Ok(text) = cleaned_text(alloc, cleaned.unlisted, cleaned.removed) else {
         return fault(out, b"mvnrepod: memory\n", NO_MEMORY);
     };
     if print(out, text.as_slice()) {

@@ -1,4 +1,5 @@
-//! A run of the program `mvnrepod`: what its words ask for, what it serves, the line that it prints, and its status.
+//! A run of the program `mvnrepod` that never waits: what its words ask for, a replay, a check or a cleaning, the lines that it
+//! prints, and its status.
 #![tactic(auto)]
 
 mod actions;
