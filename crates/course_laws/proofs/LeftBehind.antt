@@ -11,8 +11,10 @@ use Rattle.repo_course.specs.Serving.{Follows, Opens, clean, torn, failed, refus
 use Rattle.course_laws.specs.Duties.{HoldsNothing, Keeps, MayAsk, Stand, stand_after, stand_cleaned, stand_continued, stand_read, stand_sent, stand_stored}
 use Rattle.course_laws.specs.LeftBehind.{IsDrawn, LeavesNothing, NumbersAreBelow}
 use Rattle.course_laws.proofs.Kept.{continued-holds, asking, cleaned-holds, opens-keeps, read-holds, sent-holds, shows_head, standing, stored-holds}
-use Rattle.course_laws.proofs.Passes.{entries-find, entries-hold, passes-ask}
-use Rattle.course_laws.proofs.Yards.{Holding, OwnDraft, OwnLease, step}
+use Rattle.course_laws.proofs.Passes.{entries-hold, passes-ask}
+use Rattle.course_laws.proofs.PassesPlayed.{entries-find}
+use Rattle.course_laws.proofs.Yards.{Holding, OwnDraft, OwnLease}
+use Rattle.course_laws.proofs.YardSteps.{step}
 
 stays : (y : Yard) → LeavesNothing y y
 stays y = record { drafts = refl; leases = refl; next_draft = omega arith; next_lease = omega arith }

@@ -4,7 +4,9 @@ pub mod Kept
 pub mod Bodies
 pub mod Endings
 pub mod Yards
+pub mod YardSteps
 pub mod Passes
+pub mod PassesPlayed
 pub mod LeftBehind
 pub mod Complete
 pub mod Counts
@@ -20,4 +22,5 @@ pub mod PutAndGet
 pub mod Caused
 pub mod Refusals
 pub mod Succeeding
+pub mod ServedActs
 pub mod Granted

@@ -5,10 +5,10 @@ use Rattle.std.proofs.lemmas.Option.{none-some}
 use Rattle.std.proofs.Math.Seq.{drop-append_seam}
 use Rattle.outside.specs.Blobs.{with_blob}
 use Rattle.http_wire.specs.Answer.{continue_bytes, shown}
-use Rattle.repo_model.specs.Command.{Command, done, put, stage}
+use Rattle.repo_model.specs.Command.{Command, put, stage}
 use Rattle.repo_model.specs.Data.{Blob}
 use Rattle.repo_model.specs.History.{Entry, Legal, after, due, wants_memory, failed, end as end_of}
-use Rattle.repo_model.specs.Reply.{Reply, file, no_memory, takes_memory}
+use Rattle.repo_model.specs.Reply.{Reply, no_memory, takes_memory}
 use Rattle.repo_model.specs.Settings.{Settings}
 use Rattle.repo_model.specs.State.{State}
 use Rattle.repo_course.specs.Answers.{file_answer}
@@ -27,7 +27,8 @@ use Rattle.course_laws.specs.AsPlayed.{RowsTold}
 use Rattle.course_laws.specs.Duties.{by_memory, Keeps, MayAsk, Stand, has_read, stand_after, stand_continued, stand_read, stand_sent, stand_stored, starving}
 use Rattle.course_laws.specs.Faultless.{body_of, due_entry, play, taken_body, wrote}
 use Rattle.course_laws.proofs.LeftBehind.{end_append, legal_cut}
-use Rattle.course_laws.proofs.Passes.{entries-clock, entries-told, no-store-faults, passes-ask, passes-hold, passes-played, passes-rose}
+use Rattle.course_laws.proofs.Passes.{entries-clock, entries-told, passes-ask}
+use Rattle.course_laws.proofs.PassesPlayed.{no-store-faults, passes-hold, passes-played, passes-rose}
 use Rattle.course_laws.proofs.Counts.{Calm, Grew, calm-first, calm-then, cleans-grew, follows-grew, reads-body-grew, sends-grew, takes-grew}
 use Rattle.course_laws.proofs.Early.{Outcome, Ready, ends-early, outcome-before, outcome-so, says-memory}
 use Rattle.course_laws.proofs.PlayedActs.{InHandTold, Plays, at, body-torn, body-whole, bytes-are, front-of, memory-play, risen, says-play, short-of, sink-play, source-play, stops-play, taken-torn, taken-whole, told-is, torn-play, untold, unwritten, wrote-play}

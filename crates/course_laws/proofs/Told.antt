@@ -1,6 +1,6 @@
 -- A turn keeps the bytes of each file's blob told, where those of the blob that it puts are, and the clock; and where nothing
 -- failed its entry is the one that is due.
-use Rattle.std.proofs.Common.{◌≡◌, ℕ, ◌≤◌, ◌==◌, Bool, true, false, List, [], ◌∷◌, ◌++◌, Option, Some, None, Result, Ok, Err, arith, refl, sym, subst, ◌∙◌, map}
+use Rattle.std.proofs.Common.{◌≡◌, ℕ, ◌≤◌, ◌==◌, Bool, true, false, List, [], ◌∷◌, Option, Some, None, Result, Ok, Err, arith, refl, sym, subst, ◌∙◌, map}
 use Rattle.std.specs.Prelude.{IsSome, MatchOption, if◌then◌else◌, count_by, filter, find, min, max, nat_le, bytes_eq}
 use Rattle.std.specs.List.{AllByRecursion, flat_map}
 use Rattle.std.specs.Option.{option_map, option_map_or}
@@ -22,7 +22,7 @@ use Rattle.repo_model.specs.Data.{Blob, Hosted, Phase, Row, Session, Staged, fad
 use Rattle.repo_model.specs.Effect.{Effect, creates, stages, delivers, discards, relists, fades, expires, draws, drops, lends, opens, ends, in_repo, rows_after, sessions_after, repo_of, with_effect, with_effects, with_row, with_staged, without_staged, list_again, fade, new_row, new_session}
 use Rattle.repo_model.specs.History.{Entry, Legal, MomentFits, after, effects_of, end, latest_moment, ticked}
 use Rattle.repo_model.specs.Paths.{takes}
-use Rattle.repo_model.specs.Reply.{Reply, agreed, differs, draft, ended, file, is_free, kind_refused, no_draft, no_session, noted, opened, same, session_full, sessions_full, spent, staged, taken}
+use Rattle.repo_model.specs.Reply.{Reply, agreed, differs, draft, file, is_free, kind_refused, no_draft, noted, opened, same, session_full, sessions_full, spent, staged, taken}
 use Rattle.repo_model.specs.Settings.{Rule, Settings}
 use Rattle.repo_model.specs.State.{State, change_first, change_where, hosted_of, is_among, is_open, is_open_at, is_repository, is_row, is_session, most_sessions, new_hosted, number_end, open_of, opening, row_at, rows_of, session_of}
 use Rattle.repo_model.specs.Turn.{Turn, abort_of, commit_by, commit_of, compared, document_text, draws_draft, draws_or_spent, has_room, in_repository, is_doc, is_file, is_text, judged, may_put_in, or_nothing, put_again, put_at, says, seen_at, shows, stage_at, stage_in, staged_at, turn, with_open}

@@ -3,7 +3,7 @@ use Rattle.std.proofs.Common.{◌≡◌, ◌⊎◌, inl, inr, ℕ, zero, suc, Bo
 use Rattle.std.proofs.lemmas.Option.{none-some}
 use Rattle.http_wire.specs.Answer.{continue_bytes}
 use Rattle.repo_model.specs.Command.{Command}
-use Rattle.repo_model.specs.Reply.{Reply, file, missed}
+use Rattle.repo_model.specs.Reply.{Reply, missed}
 use Rattle.repo_course.specs.Course.{Course, asks, continues, takes, reads, sends, cleans, says, stops}
 use Rattle.repo_course.specs.declared.manner.Manner.{Manner}
 use Rattle.repo_course.specs.declared.said.Said.{Said}
