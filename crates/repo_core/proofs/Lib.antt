@@ -2,6 +2,7 @@ mod AnswerLemmas
 mod BlobLemmas
 mod CountLemmas
 mod DeployTurns
+mod EndTurns
 mod DraftLemmas
 mod GarbageLemmas
 mod HostedLemmas

@@ -1,5 +1,5 @@
 //! The hosted repositories: which one is meant, which files it takes, and its rows.
-ghost use Rattle.std.specs.Prelude.{◌≡◌, ◌≢◌, ◌≤◌, ◌<◌, ◌^◌, [], if◌then◌else◌, length, find, is_some, count_by, sum_by, bytes_eq, slice_index_or, slice_set, IsTrue, IfOk, OnOk, OnErr};
+ghost use Rattle.std.specs.Prelude.{◌≡◌, ◌≢◌, ◌≤◌, ◌<◌, ◌^◌, [], if◌then◌else◌, length, find, count_by, sum_by, bytes_eq, slice_index_or, slice_set, IsTrue, IfOk, OnOk, OnErr};
 ghost use Rattle.std.specs.Option.{option_map};
 ghost use Rattle.std.specs.List.{list_any};
 ghost use Rattle.repo_model.specs.Command.{is_fit};
@@ -31,7 +31,7 @@ fn repo_at<'a, H: Held>(repos: &'a [Hosted<H>], id: &str) -> Option<&'a Hosted<H
     ensures rule { option_map (λ repo. repo.now.rule) result ≡ find (λ rule. bytes_eq rule.id id.now) (rules_of repos.now) }
     ensures repo { option_map (λ repo. repo.now) result ≡ find (is_repository id.now) repos.now }
 {
-    repos.iter().find(|repo| repo.rule().id.as_str() == id)
+    repos.iter().find(|repo| repo.has_id(id))
 }
 
 /// The place of the repository of an id, which is there.
@@ -44,18 +44,11 @@ pub fn place_of<H: Held>(repos: &[Hosted<H>], id: &str) -> usize
         → slice_set repos.now result repo ≡ with_rows id.now repo.rows repos.now }
 {
     for (place, repo) in repos.iter().enumerate() {
-        if repo.rule().id.as_str() == id {
+        if repo.has_id(id) {
             return place;
         }
     }
     unreachable!()
-}
-
-/// Whether a repository has the id.
-pub fn is_there<H: Held>(repos: &[Hosted<H>], id: &str) -> bool
-    ensures { result ≡ is_some (find (λ rule. bytes_eq rule.id id.now) (rules_of repos.now)) }
-{
-    repo_at(repos, id).is_some()
 }
 
 /// Whether the repository of an id is there and takes the file of the path.

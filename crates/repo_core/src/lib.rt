@@ -11,6 +11,7 @@ mod machine;
 mod purges;
 mod puts;
 mod repository;
+mod session_turns;
 mod starting;
 mod thing;
 mod turn;

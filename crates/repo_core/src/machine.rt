@@ -1,17 +1,14 @@
 //! The parts of the repository, and one turn of them.
 ghost use Rattle.std.specs.Prelude.{◌≡◌};
 
-use crate::deploys::{
-    commit, compare_staged, condemn_left, condemn_over, drawn, refusal_at, reply_of_abort,
-    reply_of_begin, reply_of_commit, reply_of_stage, settle_begun, settle_staged,
-};
+use crate::deploys::{reply_of_abort, reply_of_begin, reply_of_commit};
 use crate::hosted::{counts, put, takes, unlist};
 use crate::looks::look;
 use crate::purges::{Gone, condemn_all, drop_expired, expiring};
 use crate::puts::{compare_side, reply_of, settle};
 use crate::turn::next_moment;
 use blob_yard::{DrawFault, Yard};
-use deploy_session::{Abort, Begin, Commit, Sessions, Stage};
+use deploy_session::Sessions;
 use hosted_repo::{Hosted, Kept};
 use mvn_digest::Digest;
 use outside::{Clock, Held, Parcel};
@@ -34,10 +31,10 @@ pub struct Stock<H: Held> {
 #[derive(Drop)]
 pub struct Machine<C: Clock, H: Held> {
     settings: Settings,
-    repos: Vec<Hosted<H>>,
-    yard: Yard,
-    sessions: Sessions<H>,
-    last: u64,
+    pub(crate) repos: Vec<Hosted<H>>,
+    pub(crate) yard: Yard,
+    pub(crate) sessions: Sessions<H>,
+    pub(crate) last: u64,
     clock: C,
     calls: u64,
 }
@@ -78,8 +75,8 @@ impl<C: Clock, H: Held> Machine<C, H> {
     ghost use Rattle.std.specs.Prelude.{◌≡◌, ◌≤◌, ◌+◌, min, map, false, [], IsTrue, vec_capacity};
     ghost use Rattle.mvn_digest.specs.Sides.{bytes_in};
     ghost use Rattle.outside.specs.Faults.{last_count};
-    ghost use Rattle.repo_model.specs.Data.{repository, session};
-    ghost use Rattle.repo_model.specs.Command.{meets, look, may_put, put, put_side, put_doc, drop_draft, open_session, stage, commit, abort, unlist, collect, status};
+    ghost use Rattle.repo_model.specs.Data.{repository};
+    ghost use Rattle.repo_model.specs.Command.{meets, look, may_put, put, put_side, drop_draft, unlist, collect, status};
     ghost use Rattle.repo_model.specs.Effect.{recorded};
     ghost use Rattle.repo_model.specs.History.{Fits, after, effects_of, latest_moment};
     ghost use Rattle.repo_model.specs.Purge.{expire_all, most_rows};
@@ -89,8 +86,6 @@ impl<C: Clock, H: Held> Machine<C, H> {
     ghost use Rattle.row_tables.specs.Commits.{tables_with};
     ghost use Rattle.hosted_repo.specs.Expired.{blob_of};
     ghost use Rattle.hosted_repo.specs.Recording.{FitWhereTold, HasReplyCause};
-    ghost use Rattle.deploy_session.specs.Shown.{shown_abort, shown_begin, shown_commit, shown_stage};
-    ghost use Rattle.repo_model.specs.State.{is_among};
     ghost use Rattle.repo_core.specs.Deploys.{AreStagedInUse};
     ghost use Rattle.repo_core.specs.Hosted.{AreInUse, rules_of};
     ghost use Rattle.repo_core.specs.Purge.{shares};
@@ -232,98 +227,6 @@ impl<C: Clock, H: Held> Machine<C, H> {
             Command::Collect => self.collect(records),
             Command::Status => self.status(),
         }
-    }
-
-    fn may_stage(&mut self, number: u64, path: &str) -> Reply<H>
-        ensures { Turned self.old self.new (may_put (session number) path.now) (shown_reply result) }
-    {
-        match refusal_at(&self.sessions, &self.repos, number, path) {
-            Some(reply) => reply,
-            None => drawn(&mut self.yard),
-        }
-    }
-
-    fn stage_side(&mut self, number: u64, path: &str, said: Digest) -> Reply<H>
-        ensures { Turned self.old self.new (put_side (session number) path.now (bytes_in said)) (shown_reply result) }
-    {
-        compare_staged(&self.sessions, number, path, said)
-    }
-
-    fn note(&mut self, number: u64, path: &str) -> Reply<H>
-        ensures { Turned self.old self.new (put_doc (session number) path.now) (shown_reply result) }
-    {
-        let _ = path;
-        match self.sessions.opened(number) {
-            Some(_) => Reply::Noted,
-            None => Reply::NoSession,
-        }
-    }
-
-    // Opens a session.
-    fn open<K: Records>(&mut self, records: &mut K, repo: &str) -> Begin
-        requires ready { K.ready records.old }
-        requires items { FitWhereTold (K.tables records.old) (recorded (turn self.old.settings self.old.state self.old.state.last (open_session repo.now)).effects) }
-        ensures turn { Recorded self.old self.new (open_session repo.now) (shown_begin result) (K.tables records.old) (K.tables records.new) (K.faults records.old) (K.faults records.new) }
-        ensures ready { K.ready records.new }
-    {
-        let begun = self.sessions.begin(records, repo);
-        settle_begun(&mut self.yard, begun);
-        begun
-    }
-
-    fn stage(&mut self, number: u64, path: &str, draft: u64, parcel: Parcel<H>) -> Reply<H>
-        requires meets { IsTrue (meets self.old.settings (stage number path.now draft (shown_parcel parcel))) }
-        requires orderly { IsOrderly self.old }
-        ensures { Turned self.old self.new (stage number path.now draft (shown_parcel parcel)) (shown_reply result) }
-    {
-        if !self.yard.is_draft(draft) {
-            return Reply::NoDraft;
-        }
-        reply_of_stage(self.stage_draft(number, path, draft, parcel))
-    }
-
-    // Stages a blob that was stored under a draft.
-    fn stage_draft(&mut self, number: u64, path: &str, draft: u64, parcel: Parcel<H>) -> Stage
-        requires meets { IsTrue (meets self.old.settings (stage number path.now draft (shown_parcel parcel))) }
-        requires draft { IsTrue (is_among draft self.old.state.yard.drafts) }
-        requires orderly { IsOrderly self.old }
-        ensures { Turned self.old self.new (stage number path.now draft (shown_parcel parcel)) (shown_stage result) }
-    {
-        let did = self.sessions.stage(number, path, parcel);
-        settle_staged(&mut self.yard, draft, did);
-        did
-    }
-
-    // Deploys a session's files.
-    fn commit<K: Records>(&mut self, records: &mut K, number: u64) -> Commit
-        requires orderly { IsOrderly self.old }
-        requires ready { K.ready records.old }
-        requires items { FitWhereTold (K.tables records.old) (recorded (turn self.old.settings self.old.state self.old.state.last (commit number)).effects) }
-        ensures turn { Recorded self.old self.new (commit number) (shown_commit result) (K.tables records.old) (K.tables records.new) (K.faults records.old) (K.faults records.new) }
-        ensures ready { K.ready records.new }
-    {
-        let did = commit(
-            &mut self.repos,
-            &mut self.sessions,
-            records,
-            number,
-            self.last,
-        );
-        condemn_over(&mut self.yard, &did);
-        did
-    }
-
-    // Gives a session up.
-    fn abort<K: Records>(&mut self, records: &mut K, number: u64) -> Abort
-        requires orderly { IsOrderly self.old }
-        requires ready { K.ready records.old }
-        requires items { FitWhereTold (K.tables records.old) (recorded (turn self.old.settings self.old.state self.old.state.last (abort number)).effects) }
-        ensures turn { Recorded self.old self.new (abort number) (shown_abort result) (K.tables records.old) (K.tables records.new) (K.faults records.old) (K.faults records.new) }
-        ensures ready { K.ready records.new }
-    {
-        let did = self.sessions.abort(records, number);
-        condemn_left(&mut self.yard, &did);
-        did
     }
 
     fn look(&mut self, repo: &str, path: &str) -> Reply<H>

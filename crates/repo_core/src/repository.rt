@@ -9,8 +9,8 @@ use repo_model::{Command, Reply};
 use row_tables::Records;
 use std::marker::Model;
 
-/// The repository: hosted repositories with their rows, the blob numbers, the records, a clock, and how many calls there
-/// were.
+/// The repository: hosted repositories with their rows, the blob numbers, the sessions, the settings, the records, a clock, and
+/// how many calls there were.
 ///
 /// Its state is always sound: the repositories are those of the settings, their rows in byte order of path, each path once;
 /// each blob number stands in one place at most; what fades is a snapshot's. The tables that the records tell, where they do,
@@ -66,7 +66,7 @@ impl<K: Records, C: Clock, H: Held> Core<K, C, H> {
     /// leaves the state that the machine says; the tables, where told, are those with its items, and hold the new state.
     /// Every command but `Done` and `Drop` may want memory; where it is wanting, or where the records fail, nothing changes
     /// but the moment and the count of the records. That count has risen where `StoreFault` is answered, and is as it was where
-    /// anything else is. The row of a release is there afterwards with every field as before. A draft for a file is given only
+    /// anything else is. A release's row stands behind each call as it stood before. A draft for a file is given only
     /// where the repository takes the file. A `Collect` is always committed, an empty one too: where it gives blobs out to be
     /// removed, no change whose commit failed, and which may name one of them, is found any more.
     pub fn call(&mut self, command: Command<H>) -> Reply<H>

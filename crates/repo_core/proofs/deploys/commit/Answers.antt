@@ -16,7 +16,7 @@ use Rattle.repo_model.specs.Turn.{Turn, says}
 use Rattle.row_tables.specs.Commits.{tables_with}
 use Rattle.repo_core.specs.Deploys.{commit_in, hosted_after_all}
 use Rattle.repo_core.specs.Hosted.{rows_in}
-use Rattle.repo_core.proofs.DeployTurns.{commit-ending, commit-none, commit-same, how, idle-tables, placed}
+use Rattle.repo_core.proofs.EndTurns.{commit-ending, commit-none, commit-same, how, idle-tables, placed}
 use Rattle.repo_core.proofs.deploys.commit.Goals as goal
 
 pub returns-in_default-opened-clause-reply : goal.returns-in_default-opened-clause-reply

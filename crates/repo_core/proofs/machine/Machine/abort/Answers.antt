@@ -13,7 +13,8 @@ use Rattle.repo_core.specs.Deploys.{AreStagedInUse, hosted_after_all}
 use Rattle.repo_core.specs.Hosted.{AreInUse}
 use Rattle.repo_core.specs.Purge.{AreKeptOnce, condemned_by, kept_without}
 use Rattle.repo_core.specs.Whole.{Parts}
-use Rattle.repo_core.proofs.DeployTurns.{abort-gives, end-files, end-left, end-once, end-rows, end-yard, given-hosted, giving-going, known-if, next-if, recorded-by, recorded-given}
+use Rattle.repo_core.proofs.DeployTurns.{recorded-by, recorded-given}
+use Rattle.repo_core.proofs.EndTurns.{abort-gives, end-files, end-left, end-once, end-rows, end-yard, given-hosted, giving-going, known-if, next-if}
 use Rattle.repo_core.proofs.GarbageLemmas.{garbage_of}
 use Rattle.repo_core.proofs.NameLemmas.{named-apart}
 use Rattle.repo_core.proofs.machine.Machine.abort.Goals as goal

@@ -15,7 +15,8 @@ use Rattle.repo_core.specs.Deploys.{AreStagedInUse, commit_in, hosted_after_all}
 use Rattle.repo_core.specs.Hosted.{AreInUse, rules_of}
 use Rattle.repo_core.specs.Purge.{AreKeptOnce, condemned_by, kept_without}
 use Rattle.repo_core.specs.Whole.{Parts}
-use Rattle.repo_core.proofs.DeployTurns.{commit-given, commit-going, commit-rules, end-files, end-left, end-once, end-rows, end-yard, known-if, next-if, open-there, recorded-by, rules-if}
+use Rattle.repo_core.proofs.DeployTurns.{recorded-by}
+use Rattle.repo_core.proofs.EndTurns.{commit-given, commit-going, commit-rules, end-files, end-left, end-once, end-rows, end-yard, known-if, next-if, open-there, rules-if}
 use Rattle.repo_core.proofs.GarbageLemmas.{garbage_of}
 use Rattle.repo_core.proofs.NameLemmas.{named-apart}
 use Rattle.repo_core.proofs.machine.Machine.commit.Goals as goal

@@ -11,7 +11,8 @@ use Rattle.row_tables.specs.Items.{is_number}
 use Rattle.repo_core.specs.Deploys.{AreStagedInUse}
 use Rattle.repo_core.specs.Hosted.{AreInUse}
 use Rattle.repo_core.specs.Whole.{Parts}
-use Rattle.repo_core.proofs.DeployTurns.{files-staged, known-if, next-staged, rows-staged, session-staged, staged-given, staged-known, staged-named, turned-stage}
+use Rattle.repo_core.proofs.DeployTurns.{files-staged, next-staged, rows-staged, session-staged, staged-given, staged-known, staged-named, turned-stage}
+use Rattle.repo_core.proofs.EndTurns.{known-if}
 use Rattle.repo_core.proofs.ItemForms.{draft-number}
 use Rattle.repo_core.proofs.machine.Machine.stage_draft.Goals as goal
 
