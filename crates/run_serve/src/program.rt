@@ -28,8 +28,8 @@ use turn_lock::Thing;
 use turn_seats::Repository;
 
 /// Does what the words ask for: the words of a server as `serve` does, and all others as `run_once`, by the same words. There is at
-/// least one desk, and all come back. The statuses and the lines are those of the one or of the other; 8 comes with
-/// `mvnrepod: memory` where memory was wanting for reading the words.
+/// least one desk, and all come back; where the words are no server's, the cleaner's timer is not asked. The statuses and the
+/// lines are those of the one or of the other; 8 comes with `mvnrepod: memory` where memory was wanting for reading the words.
 pub fn run<
     P: Port + Drop + Send,
     B: Blobs + Drop + Send,
@@ -79,6 +79,7 @@ where
         (desk_state (P.left old.port) (P.given_back old.port) (P.faults old.port) (store (B.shelf old.blobs) (B.faults old.blobs)))
         (desk_state (P.left new.port) (P.given_back new.port) (P.faults new.port) (store (B.shelf new.blobs) (B.faults new.blobs)))
         result.status) desks.items result.desks.items) }
+    ensures pace { ByWords (asked (map string_bytes words.now)).command (Unit {0}) (result.cleaner.pace ≡ cleaner.pace) }
 {
     match wanted(alloc, words) {
         Ok(wanted) => match wanted.command {
