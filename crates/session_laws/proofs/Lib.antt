@@ -1,3 +1,5 @@
 pub mod Counting
+pub mod Ending
 pub mod Keeping
+pub mod Lasting
 pub mod Reached
