@@ -1,8 +1,10 @@
-pub mod Ones
-pub mod Files
-pub mod Texts
-pub mod Snapshots
-pub mod Artifacts
-pub mod Firsts
-pub mod Passes
 pub mod Answered
+pub mod Artifacts
+pub mod Files
+pub mod Firsts
+pub mod Kept
+pub mod Left
+pub mod Ones
+pub mod Passes
+pub mod Snapshots
+pub mod Texts

@@ -1,4 +1,6 @@
-pub mod Named
-pub mod Limits
-pub mod Cases
 pub mod Answered
+pub mod Cases
+pub mod Kept
+pub mod Left
+pub mod Limits
+pub mod Named

@@ -1,0 +1,244 @@
+-- What stands at the end of a history was given in it, and not given back since.
+use native.Mathlib.Omega.{arith}
+use Rattle.std.proofs.Common.{◌≡◌, ◌≢◌, ◌<◌, ◌⊎◌, inl, inr, ℕ, Bool, true, false, not, cond, ◌||◌, List, [], ◌∷◌, ◌++◌, length, refl, sym, ◌∙◌, ap, subst, eqb-true}
+use Rattle.std.specs.Prelude.{◌==◌, filter}
+use Rattle.std.specs.List.{AllByRecursion, list_any}
+use Rattle.std.proofs.lemmas.Bool.{false≢true, and_parts, or_right}
+use Rattle.std.proofs.lemmas.List.Folds.{list_any-append}
+use Rattle.repo_model.specs.declared.session.SessionResult.TheVariants.{Aborted, Done}
+use Rattle.repo_model.specs.Data.{Blob}
+use Rattle.repo_model.specs.Settings.{Settings}
+use Rattle.repo_model.specs.State.{Lease, State, is_among, rows_of}
+use Rattle.repo_model.specs.Effect.{Effect, draws, drops, creates, stages, lends, returns, with_effect, with_effects}
+use Rattle.repo_model.specs.Command.{Command, done, put, stage, drop_draft}
+use Rattle.repo_model.specs.Reply.{Reply, draft, file, no_draft, no_memory, store_fault, is_free}
+use Rattle.repo_model.specs.Purge.{expire_all}
+use Rattle.repo_model.specs.Turn.{Turn, turn, unlent}
+use Rattle.repo_model.specs.History.{Entry, Fits, ticked, after, Legal, end}
+use Rattle.repo_laws.specs.Laws.{count_of, leases_of}
+use Rattle.repo_laws.specs.Replies.{uses_draft, leaves_drafts, spends}
+use Rattle.repo_laws.proofs.Answered.{free-none, reply-determined, state-determined}
+use Rattle.repo_laws.proofs.Cases.{Case, does, lends_file, takes_back, gives_draft, makes_row, has_same, lists_again, has_other, gives_up, opens_one, stage_nowhere, stages_one, stage_full, stage_same, stage_other, deploys, aborts, unlists, collects, turn-case}
+use Rattle.repo_laws.proofs.Counts.{among-counts}
+use Rattle.repo_laws.proofs.Drafts.{drafts-put, drafts-staged, drafts-dropped}
+use Rattle.repo_laws.proofs.HoldingLists.{any-counts}
+use Rattle.repo_laws.proofs.Making.{Bulk, deploys-made, aborts-made, unlists-made, collects-made}
+use Rattle.repo_laws.proofs.Places.{is_draw}
+use Rattle.repo_laws.proofs.Readers.{none-lent}
+use Rattle.naming_laws.specs.Left.{IsDraftLeft, IsLeaseLeft}
+
+any-filter : {X : Type 0} (p q : X → Bool) (xs : List X) → list_any p (filter q xs) ≡ true → list_any p xs ≡ true
+any-filter p q [] any = any
+any-filter p q (x ∷ xs) any =
+    elim (q x) as (λ b. list_any p (cond b (x ∷ filter q xs) (filter q xs)) ≡ true → (p x || list_any p xs) ≡ true) [
+      | true ↦ λ is. elim (p x) as (λ b. (b || list_any p (filter q xs)) ≡ true → (b || list_any p xs) ≡ true) [ true ↦ λ _. refl | false ↦ λ later. any-filter p q xs later ] is
+      | false ↦ λ later. or_right (p x) (list_any p xs) (any-filter p q xs later)
+    ] any
+
+-- an effect that neither draws a draft nor lends a blob
+abbrev is_loan : Effect → Bool
+is_loan (lends blob) = true
+is_loan effect = false
+
+abbrev IsPlain : Effect → Type 0
+IsPlain e = (is_draw e ≡ false) × (is_loan e ≡ false)
+
+all-plain : Bulk IsPlain
+all-plain = record {
+  delivers_so = λ n repo path blob moment. (refl, refl);
+  discards_so = λ n path d. (refl, refl);
+  relists_so = λ repo path moment. (refl, refl);
+  fades_so = λ repo path moment. (refl, refl);
+  expires_so = λ repo path blob. (refl, refl);
+  ends_so = λ n result. (refl, refl);
+}
+
+module _ (settings : Settings) (s : State) (now : ℕ) where
+  abbrev Draws : Turn → Type 0
+  Draws u = u ≡ does (draft s.yard.next_draft) (draws ∷ [])
+
+  abbrev Lends : Turn → Type 0
+  Lends u = (blob : Blob) × (u ≡ does (file s.yard.next_lease blob) (lends blob.number ∷ []))
+
+  abbrev Shape : Turn → Type 0
+  Shape u = AllByRecursion IsPlain u.effects ⊎ (Draws u ⊎ Lends u)
+
+  case-shape : (c : Command) (u : Turn) → Case settings s now c u → Shape u
+  case-shape c u (lends_file repo path tried blob more is) = inr (inr (blob, refl))
+  case-shape c u (gives_draft place path more) = inr (inl refl)
+  case-shape c u (takes_back lease) = inl ((refl, refl), tt)
+  case-shape c u (makes_row repo path m blob among free) = inl ((refl, refl), tt)
+  case-shape c u (has_same repo path m blob among) = inl ((refl, refl), tt)
+  case-shape c u (lists_again repo path m blob among row since found phase_is) = inl ((refl, refl), ((refl, refl), tt))
+  case-shape c u (has_other repo path m blob kept among) = inl ((refl, refl), tt)
+  case-shape c u (gives_up m among) = inl ((refl, refl), tt)
+  case-shape c u (opens_one repo more few) = inl ((refl, refl), tt)
+  case-shape c u (stage_nowhere at path m blob among) = inl ((refl, refl), tt)
+  case-shape c u (stages_one at path m blob one among known free room) = inl ((refl, refl), tt)
+  case-shape c u (stage_full at path m blob among) = inl ((refl, refl), tt)
+  case-shape c u (stage_same at path m blob among) = inl ((refl, refl), tt)
+  case-shape c u (stage_other at path m blob kept among) = inl ((refl, refl), tt)
+  case-shape c u (deploys m one is going) = inl (deploys-made IsPlain all-plain one now (rows_of one.repo s) (Done (length one.staged)))
+  case-shape c u (aborts m one is going) = inl (aborts-made IsPlain all-plain one Aborted)
+  case-shape c u (unlists repo h is) = inl (unlists-made IsPlain all-plain h now)
+  case-shape c u collects = inl (collects-made IsPlain all-plain settings.grace now s.hosted (unlent (with_effects s (expire_all settings.grace now s.hosted)).yard) (refl, refl))
+  case-shape c u case = inl tt
+
+module _ (n : ℕ) where
+  abbrev HasDraft : State → Type 0
+  HasDraft s = is_among n s.yard.drafts ≡ true
+
+  abbrev HasLease : State → Type 0
+  HasLease s = list_any (λ (lease : Lease). lease.number == n) s.yard.leases ≡ true
+
+  -- back over an effect
+  draft-before : (s : State) (e : Effect) → is_draw e ≡ false → HasDraft (with_effect s e) → HasDraft s
+  draft-before s draws plain there = absurd (false≢true (sym plain))
+  draft-before s (drops m) plain there = any-filter (λ k. k == n) (λ k. not (k == m)) s.yard.drafts there
+  draft-before s (creates repo path blob moment) plain there = any-filter (λ k. k == n) (λ k. not (k == blob.number)) s.yard.drafts there
+  draft-before s (stages at path blob) plain there = any-filter (λ k. k == n) (λ k. not (k == blob.number)) s.yard.drafts there
+  draft-before s e plain there = there
+
+  lease-before : (s : State) (e : Effect) → is_loan e ≡ false → HasLease (with_effect s e) → HasLease s
+  lease-before s (lends blob) plain there = absurd (false≢true (sym plain))
+  lease-before s (returns lease) plain there = any-filter (λ (l : Lease). l.number == n) (λ (l : Lease). not (l.number == lease)) s.yard.leases there
+  lease-before s e plain there = there
+
+  drafts-before : (es : List Effect) (s : State) → AllByRecursion IsPlain es → HasDraft (with_effects s es) → HasDraft s
+  drafts-before [] s plain there = there
+  drafts-before (e ∷ es) s plain there = draft-before s e plain.0.0 (drafts-before es (with_effect s e) plain.1 there)
+
+  leases-before : (es : List Effect) (s : State) → AllByRecursion IsPlain es → HasLease (with_effects s es) → HasLease s
+  leases-before [] s plain there = there
+  leases-before (e ∷ es) s plain there = lease-before s e plain.0.1 (leases-before es (with_effect s e) plain.1 there)
+
+  -- one more
+  one-more : {X : Type 0} (p : X → Bool) (xs : List X) (x : X) → list_any p (xs ++ x ∷ []) ≡ true → (list_any p xs ≡ true) ⊎ (p x ≡ true)
+  one-more p xs x any = by (list_any p xs) (p x) refl refl (sym (list_any-append p xs (x ∷ [])) ∙ any) where
+    by : (a b : Bool) → list_any p xs ≡ a → p x ≡ b → (a || (b || false)) ≡ true → (list_any p xs ≡ true) ⊎ (p x ≡ true)
+    by true b is _ _ = inl is
+    by false true _ is _ = inr is
+    by false false _ _ none = absurd (false≢true none)
+
+  module _ (settings : Settings) (s : State) (now faults : ℕ) where
+    abbrev left : Turn → State
+    left u = with_effects (ticked s now faults) u.effects
+
+    shape-draft : (u : Turn) → Shape settings s now u → HasDraft (left u) → HasDraft s ⊎ (u.reply ≡ draft n)
+    shape-draft u (inl plain) there = inl (drafts-before u.effects (ticked s now faults) plain there)
+    shape-draft u (inr (inl is)) there = by (one-more (λ k. k == n) s.yard.drafts s.yard.next_draft (subst (λ (t : Turn). HasDraft (left t)) is there)) where
+      by : HasDraft s ⊎ ((s.yard.next_draft == n) ≡ true) → HasDraft s ⊎ (u.reply ≡ draft n)
+      by (inl old) = inl old
+      by (inr same) = inr (ap (λ (t : Turn). t.reply) is ∙ ap draft (eqb-true s.yard.next_draft n same))
+    shape-draft u (inr (inr (blob, is))) there = inl (subst (λ (t : Turn). HasDraft (left t)) is there)
+
+    shape-lease : (u : Turn) → Shape settings s now u → HasLease (left u) → HasLease s ⊎ ((blob : Blob) × (u.reply ≡ file n blob))
+    shape-lease u (inl plain) there = inl (leases-before u.effects (ticked s now faults) plain there)
+    shape-lease u (inr (inl is)) there = inl (subst (λ (t : Turn). HasLease (left t)) is there)
+    shape-lease u (inr (inr (blob, is))) there =
+        by (one-more (λ (l : Lease). l.number == n) s.yard.leases (record { number = s.yard.next_lease; blob = blob.number }) (subst (λ (t : Turn). HasLease (left t)) is there)) where
+          by : HasLease s ⊎ ((s.yard.next_lease == n) ≡ true) → HasLease s ⊎ ((other : Blob) × (u.reply ≡ file n other))
+          by (inl old) = inl old
+          by (inr same) = inr (blob, ap (λ (t : Turn). t.reply) is ∙ ap (λ k. file k blob) (eqb-true s.yard.next_lease n same))
+
+  bound-of : (r : Reply) → not (leaves_drafts r) ≡ true → is_free r ≡ false
+  bound-of no_draft is = refl
+  bound-of no_memory is = absurd (false≢true is)
+  bound-of store_fault is = absurd (false≢true is)
+  bound-of r is = refl
+
+  module _ (settings : Settings) (s : State) (e : Entry) (fits : Fits settings s e) where
+    abbrev u : Turn
+    u = turn settings s e.moment e.command
+
+    -- what is spent stands no longer
+    spent-none : spends n e ≡ true → HasDraft (after settings s e) → ⊥
+    spent-none spent there =
+        let (used, so) = and_parts (uses_draft n e.command) (not (leaves_drafts e.reply)) spent in
+        let some : 0 < count_of n (after settings s e).yard.drafts = among-counts n (after settings s e).yard.drafts there in
+        let none : count_of n (after settings s e).yard.drafts ≡ 0 = by e.command refl used (bound-of e.reply so) in
+        omega (arith, some, none) where
+          by : (c : Command) → e.command ≡ c → uses_draft n c ≡ true → is_free e.reply ≡ false → count_of n (after settings s e).yard.drafts ≡ 0
+          by (put repo path m blob) is same bound =
+              subst (λ k. count_of k (after settings s e).yard.drafts ≡ 0) (eqb-true m n same) (drafts-put settings s e repo path m blob fits is bound)
+          by (stage at path m blob) is same bound =
+              subst (λ k. count_of k (after settings s e).yard.drafts ≡ 0) (eqb-true m n same) (drafts-staged settings s e at path m blob fits is bound)
+          by (drop_draft m) is same bound = subst (λ k. count_of k (after settings s e).yard.drafts ≡ 0) (eqb-true m n same) (drafts-dropped settings s e m fits is)
+          by c is never bound = absurd (false≢true never)
+
+    entry-draft : HasDraft (after settings s e) → (HasDraft s × (spends n e ≡ false)) ⊎ (e.reply ≡ draft n)
+    entry-draft there =
+        elim (spends n e) as (λ b. spends n e ≡ b → (HasDraft s × (spends n e ≡ false)) ⊎ (e.reply ≡ draft n)) [
+          | true ↦ λ spent. absurd (spent-none spent there)
+          | false ↦ λ unspent. by_reply unspent (is_free e.reply) refl
+        ] refl where
+          by_shape : spends n e ≡ false → is_free e.reply ≡ false → HasDraft s ⊎ (u.reply ≡ draft n) → (HasDraft s × (spends n e ≡ false)) ⊎ (e.reply ≡ draft n)
+          by_shape unspent bound (inl old) = inl (old, unspent)
+          by_shape unspent bound (inr gives) = inr (reply-determined settings s e fits bound ∙ gives)
+
+          by_reply : spends n e ≡ false → (free : Bool) → is_free e.reply ≡ free → (HasDraft s × (spends n e ≡ false)) ⊎ (e.reply ≡ draft n)
+          by_reply unspent true free = inl (subst (λ es. HasDraft (with_effects (ticked s e.moment e.faults) es)) (free-none settings s e free) there, unspent)
+          by_reply unspent false bound =
+              by_shape unspent bound (shape-draft settings s e.moment e.faults u (case-shape settings s e.moment e.command u (turn-case settings s e.moment e.command))
+              (subst HasDraft (state-determined settings s e bound) there))
+
+    given-none : HasLease (after settings s e) → e.command ≢ done n
+    given-none there is =
+        let some : 0 < leases_of (after settings s e) n = any-counts (λ (l : Lease). l.number == n) (after settings s e).yard.leases there in
+        let none : leases_of (after settings s e) n ≡ 0 = none-lent settings s e n fits is in
+        omega (arith, some, none)
+
+    entry-lease : HasLease (after settings s e) → (HasLease s × (e.command ≢ done n)) ⊎ ((blob : Blob) × (e.reply ≡ file n blob))
+    entry-lease there = by_reply (is_free e.reply) refl where
+      by_shape : is_free e.reply ≡ false → HasLease s ⊎ ((blob : Blob) × (u.reply ≡ file n blob)) → (HasLease s × (e.command ≢ done n)) ⊎ ((blob : Blob) × (e.reply ≡ file n blob))
+      by_shape bound (inl old) = inl (old, given-none there)
+      by_shape bound (inr (blob, gives)) = inr (blob, reply-determined settings s e fits bound ∙ gives)
+
+      by_reply : (free : Bool) → is_free e.reply ≡ free → (HasLease s × (e.command ≢ done n)) ⊎ ((blob : Blob) × (e.reply ≡ file n blob))
+      by_reply true free = inl (subst (λ es. HasLease (with_effects (ticked s e.moment e.faults) es)) (free-none settings s e free) there, given-none there)
+      by_reply false bound =
+          by_shape bound (shape-lease settings s e.moment e.faults u (case-shape settings s e.moment e.command u (turn-case settings s e.moment e.command))
+          (subst HasLease (state-determined settings s e bound) there))
+
+  module _ (settings : Settings) where
+    left-draft : (entries : List Entry) (s : State) → Legal settings s entries → HasDraft (end settings s entries)
+        → (HasDraft s × AllByRecursion (λ (x : Entry). spends n x ≡ false) entries) ⊎ IsDraftLeft n entries
+    left-draft [] s legal there = inl (there, tt)
+    left-draft (e ∷ entries) s legal there = by (left-draft entries (after settings s e) legal.1 there) where
+      here : AllByRecursion (λ (x : Entry). spends n x ≡ false) entries → (HasDraft s × (spends n e ≡ false)) ⊎ (e.reply ≡ draft n)
+          → (HasDraft s × AllByRecursion (λ (x : Entry). spends n x ≡ false) (e ∷ entries)) ⊎ IsDraftLeft n (e ∷ entries)
+      here all (inl (old, unspent)) = inl (old, (unspent, all))
+      here all (inr gives) = inr ([], entries, e, refl, gives, all)
+
+      by : (HasDraft (after settings s e) × AllByRecursion (λ (x : Entry). spends n x ≡ false) entries) ⊎ IsDraftLeft n entries
+          → (HasDraft s × AllByRecursion (λ (x : Entry). spends n x ≡ false) (e ∷ entries)) ⊎ IsDraftLeft n (e ∷ entries)
+      by (inl (then_there, all)) = here all (entry-draft settings s e legal.0 then_there)
+      by (inr (before, rest, x, is, gives, all)) = inr (e ∷ before, rest, x, ap (λ es. e ∷ es) is, gives, all)
+
+    left-lease : (entries : List Entry) (s : State) → Legal settings s entries → HasLease (end settings s entries)
+        → (HasLease s × AllByRecursion (λ (x : Entry). x.command ≢ done n) entries) ⊎ IsLeaseLeft n entries
+    left-lease [] s legal there = inl (there, tt)
+    left-lease (e ∷ entries) s legal there = by (left-lease entries (after settings s e) legal.1 there) where
+      here : AllByRecursion (λ (x : Entry). x.command ≢ done n) entries → (HasLease s × (e.command ≢ done n)) ⊎ ((blob : Blob) × (e.reply ≡ file n blob))
+          → (HasLease s × AllByRecursion (λ (x : Entry). x.command ≢ done n) (e ∷ entries)) ⊎ IsLeaseLeft n (e ∷ entries)
+      here all (inl (old, other)) = inl (old, (other, all))
+      here all (inr (blob, gives)) = inr ([], entries, e, blob, refl, gives, all)
+
+      by : (HasLease (after settings s e) × AllByRecursion (λ (x : Entry). x.command ≢ done n) entries) ⊎ IsLeaseLeft n entries
+          → (HasLease s × AllByRecursion (λ (x : Entry). x.command ≢ done n) (e ∷ entries)) ⊎ IsLeaseLeft n (e ∷ entries)
+      by (inl (then_there, all)) = here all (entry-lease settings s e legal.0 then_there)
+      by (inr (before, rest, x, blob, is, gives, all)) = inr (e ∷ before, rest, x, blob, ap (λ es. e ∷ es) is, gives, all)
+
+pub draft-left : (settings : Settings) (start : State) (entries : List Entry) (n : ℕ) → Legal settings start entries → start.yard.drafts ≡ []
+    → is_among n (end settings start entries).yard.drafts ≡ true → IsDraftLeft n entries
+draft-left settings start entries n legal none there = by (left-draft n settings entries start legal there) where
+  by : ((is_among n start.yard.drafts ≡ true) × AllByRecursion (λ (x : Entry). spends n x ≡ false) entries) ⊎ IsDraftLeft n entries → IsDraftLeft n entries
+  by (inl (old, _)) = absurd (false≢true (sym (ap (is_among n) none) ∙ old))
+  by (inr left) = left
+
+pub lease-left : (settings : Settings) (start : State) (entries : List Entry) (n : ℕ) → Legal settings start entries → start.yard.leases ≡ []
+    → list_any (λ (lease : Lease). lease.number == n) (end settings start entries).yard.leases ≡ true → IsLeaseLeft n entries
+lease-left settings start entries n legal none there = by (left-lease n settings entries start legal there) where
+  by : ((list_any (λ (lease : Lease). lease.number == n) start.yard.leases ≡ true) × AllByRecursion (λ (x : Entry). x.command ≢ done n) entries) ⊎ IsLeaseLeft n entries → IsLeaseLeft n entries
+  by (inl (old, _)) = absurd (false≢true (sym (ap (list_any (λ (lease : Lease). lease.number == n)) none) ∙ old))
+  by (inr left) = left
