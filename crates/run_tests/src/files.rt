@@ -68,7 +68,7 @@ pub fn files() -> &'static [Exchange] {
     &FILES
 }
 
-static ENDS: [Exchange; 10] = [
+static ENDS: [Exchange; 13] = [
     Exchange {
         name: "a torn body is not stored",
         input: &[(1, PUT_TORN)],
@@ -123,6 +123,27 @@ static ENDS: [Exchange; 10] = [
         name: "a member that is not there is refused",
         settings: "grace_seconds = 60\n[[hosted]]\nid = \"releases\"\nreleases = true\nsnapshots = false\n[[hosted]]\nid = \"snapshots\"\nreleases = false\nsnapshots = true\nkeep_count = 1\nkeep_days = 0\n[[proxy]]\nid = \"central\"\nhost = \"repo.test\"\nport = 8080\nprefix = \"/m2\"\nupdate = \"daily\"\nnegative_seconds = 300\n[[group]]\nid = \"public\"\nmembers = [\"releases\", \"snapshots\", \"x\"]\n",
         line: "mvnrepod: settings NoMember x\n",
+        status: 3,
+        ..EXCHANGE
+    },
+    Exchange {
+        name: "a key that is missing is named",
+        settings: "[[hosted]]\nid = \"a\"\nreleases = true\n",
+        line: "mvnrepod: settings Missing snapshots\n",
+        status: 3,
+        ..EXCHANGE
+    },
+    Exchange {
+        name: "an id that stands twice is named",
+        settings: "[[hosted]]\nid = \"a\"\nreleases = true\nsnapshots = false\n[[group]]\nid = \"a\"\nmembers = [\"a\"]\n",
+        line: "mvnrepod: settings TwiceNamed a\n",
+        status: 3,
+        ..EXCHANGE
+    },
+    Exchange {
+        name: "a member that is a group is named",
+        settings: "[[hosted]]\nid = \"a\"\nreleases = true\nsnapshots = false\n[[group]]\nid = \"g\"\nmembers = [\"g\"]\n",
+        line: "mvnrepod: settings MemberIsGroup g\n",
         status: 3,
         ..EXCHANGE
     },

@@ -84,13 +84,39 @@ fn alike(one: &[u8], other: &[u8]) -> usize {
     count
 }
 
+/// How often a text stands in these bytes.
+fn times_in(bytes: &[u8], text: &[u8]) -> usize {
+    let mut count: usize = 0;
+    for at in 0..bytes.len() {
+        if bytes.get(at..).is_some_and(|it| it.starts_with(text)) {
+            count = count.saturating_add(1);
+        }
+    }
+    count
+}
+
+/// Whether there are as many answers as in the whole ones, no content of an exchange beginning so, or the connection is closed
+/// before.
+fn are_all(answers: &[u8], whole: &[u8]) -> bool {
+    times_in(answers, BEGINNING) == times_in(whole, BEGINNING) || times_in(answers, CLOSING) == 1
+}
+
+const BEGINNING: &[u8] = b"HTTP/1.1 ";
+
+const CLOSING: &[u8] = b"\r\nConnection: close\r\n";
+
 const STATUS_LINE: &[u8] = b"HTTP/1.1 503 Service Unavailable\r\n";
 
 /// The bytes that the status line of a `503` begins with as that of any other answer does.
 const VERSION: usize = 9;
 
-/// Whether answers go as the whole ones up to one that says that something failed, or how few blobs were removed.
+/// Whether answers go as the whole ones up to one that says that something failed, or how few blobs were removed, and each
+/// request behind it has its answer too.
 fn tell_a_fault(answers: &[u8], whole: &[u8]) -> bool {
+    are_all(answers, whole) && goes_up_to_a_fault(answers, whole)
+}
+
+fn goes_up_to_a_fault(answers: &[u8], whole: &[u8]) -> bool {
     let count = alike(answers, whole);
     let told = answers.get(count.saturating_sub(VERSION)..);
     told.is_some_and(|it| it.starts_with(STATUS_LINE))
@@ -99,14 +125,31 @@ fn tell_a_fault(answers: &[u8], whole: &[u8]) -> bool {
             .is_some_and(|it| it.ends_with(b"removed "))
 }
 
-/// Whether a run of which a call failed ends as it has to: the input, or the store at the start, is blamed, or an answer says so;
-/// and what was answered before is what the whole run answers.
-fn is_sound(over: &Over, exchange: &Exchange, whole: &[u8]) -> bool {
+/// Whether the run blames its input, having answered just this.
+fn blames_the_input(over: &Over, answers: &[u8]) -> bool {
+    over.status() == 6
+        && over.line() == b"mvnrepod: input\n".as_slice()
+        && over.answers() == answers
+}
+
+/// Whether the run ends before its connection is asked for, since the store failed, or goes as it has to up to the answer that
+/// says so.
+fn blames_the_store(over: &Over, exchange: &Exchange, whole: &[u8]) -> bool {
     match over.status() {
-        6 => over.line() == b"mvnrepod: input\n".as_slice() && whole.starts_with(over.answers()),
         4 => over.line() == b"mvnrepod: store\n".as_slice() && over.answers().is_empty(),
         0 => over.is_as_said(exchange, whole) || tell_a_fault(over.answers(), whole),
         _ => false,
+    }
+}
+
+/// Whether a run of which this call of the object failed ends as it has to.
+///
+/// An exchange that is run so comes in one read, so that its first read alone is before an answer.
+fn is_sound(over: &Over, exchange: &Exchange, object: Object, call: u64, whole: &[u8]) -> bool {
+    match object {
+        Object::Settings | Object::Port => blames_the_input(over, &[]),
+        Object::Reads => blames_the_input(over, if call == 0 { &[] } else { whole }),
+        Object::Blobs | Object::Records => blames_the_store(over, exchange, whole),
     }
 }
 
@@ -146,11 +189,11 @@ fn unsound_by(
     let whole: Vec<u8> = joined(alloc, exchange.answers)?;
     let name: &str = exchange.name;
     let of: &str = object.name();
-    for call in 1..MOST_CALLS {
+    for call in 0..MOST_CALLS {
         let Some(over) = failed_run(alloc, exchange, object, call, whole.as_slice())? else {
             return Ok(None);
         };
-        if !is_sound(&over, exchange, whole.as_slice()) {
+        if !is_sound(&over, exchange, object, call, whole.as_slice()) {
             let told: String = over.told(alloc)?;
             let told: String = format!(in alloc; "{name}, call {call} of {of} failing: {told}")?;
             return Ok(Some(told));
