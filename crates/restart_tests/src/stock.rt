@@ -64,9 +64,9 @@ pub fn store_of(
     Ok(store)
 }
 
-/// The settings of the repositories snapshots and releases.
-fn settings(alloc: Global) -> Result<Settings, Fail> {
-    match repo_config::read(alloc, SETTINGS.as_bytes()) {
+/// The settings that a text says. Where the text stood here, what is known of them would be computed.
+fn settings_of(alloc: Global, text: &str) -> Result<Settings, Fail> {
+    match repo_config::read(alloc, text.as_bytes()) {
         Ok(settings) => Ok(settings),
         Err(_) => Err("settings")?,
     }
@@ -88,7 +88,7 @@ pub fn started<B: Blobs>(
     journal: &mut Journal<MemDisk>,
     store: &mut B,
 ) -> Result<Result<Restored<B::Held>, RestoreFault>, Fail> {
-    let settings = settings(alloc)?;
+    let settings = settings_of(alloc, SETTINGS)?;
     let tables = loaded(alloc, journal)?;
     settings.form();
     built_tables_are_right();

@@ -8,6 +8,7 @@ use repo_routes::{Allow, Intent, Judged, Refusal, Refused, Routes, judge};
 use std::alloc::{AllocError, Global};
 use std::process::Abort;
 use std::test::Fail;
+use texts::Text;
 
 /// Two hosted repositories, a proxy and a group; files of at most 5,000 bytes.
 const SETTINGS: &str = "max_file = 5000
@@ -27,8 +28,9 @@ id = 'all'
 members = ['releases', 'central']
 ";
 
-fn settings(alloc: Global) -> Result<Settings, Fail> {
-    match repo_config::read(alloc, SETTINGS.as_bytes()) {
+/// The settings that a text says. Where the text stood here, what is known of them would be computed.
+fn settings_of(alloc: Global, text: &str) -> Result<Settings, Fail> {
+    match repo_config::read(alloc, text.as_bytes()) {
         Ok(settings) => Ok(settings),
         Err(_) => Err(Fail::from("settings")),
     }
@@ -49,17 +51,32 @@ fn place_words(alloc: Global, place: &Place) -> Result<String, AllocError> {
     }
 }
 
+/// A cleaning of these repositories.
+fn clean_words(alloc: Global, repos: &[Text]) -> Result<String, AllocError> {
+    let mut words = String::from_str(alloc, "Clean")?;
+    for repo in repos {
+        words.push_str(" ")?;
+        words.push_str(repo.as_str())?;
+    }
+    Ok(words)
+}
+
+/// A body of so many bytes that is put at a path.
+fn put_words(
+    alloc: Global,
+    what: &str,
+    place: &Place,
+    path: &Text,
+    length: u64,
+) -> Result<String, AllocError> {
+    let (place, path) = (place_words(alloc, place)?, path.as_str());
+    format!(in alloc; "{what} {place} {path} {length}")
+}
+
 fn intent_words(alloc: Global, intent: &Intent) -> Result<String, AllocError> {
     match intent {
         Intent::Status => String::from_str(alloc, "Status"),
-        Intent::Clean(repos) => {
-            let mut words = String::from_str(alloc, "Clean")?;
-            for repo in repos.as_slice() {
-                words.push_str(" ")?;
-                words.push_str(repo.as_str())?;
-            }
-            Ok(words)
-        }
+        Intent::Clean(repos) => clean_words(alloc, repos.as_slice()),
         Intent::Read { repo, path } => {
             let (repo, path) = (repo.as_str(), path.as_str());
             format!(in alloc; "Read {repo} {path}")
@@ -68,18 +85,12 @@ fn intent_words(alloc: Global, intent: &Intent) -> Result<String, AllocError> {
             place,
             path,
             length,
-        } => {
-            let (place, path) = (place_words(alloc, place)?, path.as_str());
-            format!(in alloc; "PutFile {place} {path} {length}")
-        }
+        } => put_words(alloc, "PutFile", place, path, *length),
         Intent::PutDocument {
             place,
             path,
             length,
-        } => {
-            let (place, path) = (place_words(alloc, place)?, path.as_str());
-            format!(in alloc; "PutDocument {place} {path} {length}")
-        }
+        } => put_words(alloc, "PutDocument", place, path, *length),
         Intent::PutSide {
             place,
             path,
@@ -150,7 +161,7 @@ fn words_of(alloc: Global, judged: &Result<Judged, Refused>) -> Result<String, A
 }
 
 fn answer(alloc: Global, bytes: &[u8]) -> Result<String, Fail> {
-    let settings = settings(alloc)?;
+    let settings = settings_of(alloc, SETTINGS)?;
     let routes = Routes::new(alloc)?;
     let script = FaultScript::failing_at(Vec::new(alloc));
     let mut source = MemSource::new(Vec::from_slice(alloc, bytes)?, 9000, script);

@@ -10,11 +10,16 @@ use std::alloc::{AllocError, Global};
 
 const SETTINGS: &str = "[[hosted]]\nid = \"releases\"\nreleases = true\nsnapshots = false\n";
 
-pub fn settings(alloc: Global) -> Result<Settings, AllocError> {
-    match read(alloc, SETTINGS.as_bytes()) {
+// The settings that a text says. Where the text stood here, what is known of them would be computed.
+fn settings_of(alloc: Global, text: &str) -> Result<Settings, AllocError> {
+    match read(alloc, text.as_bytes()) {
         Ok(settings) => Ok(settings),
         Err(_) => Err(AllocError),
     }
+}
+
+pub fn settings(alloc: Global) -> Result<Settings, AllocError> {
+    settings_of(alloc, SETTINGS)
 }
 
 /// A core of these settings, without files, before its first call.
