@@ -219,7 +219,7 @@ fn texts_may_be_odd(rt: HostRuntime) -> Result<(), Fail> {
     reads_as(&rt, rt.alloc(), ODD, want.as_str())
 }
 
-// Containers that come twice are read as one; of a single element the first counts, also where it does not fit.
+// A container may come again and goes on; of what a document has once the first is taken, even one that does not fit.
 static TWICE: [(&str, &str); 4] = [
     (
         "<groupId>a</groupId><groupId>b</groupId>",

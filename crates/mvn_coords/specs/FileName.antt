@@ -40,7 +40,7 @@ is_dot b = b == 46
 abbrev pub is_filled : List ℕ → Bool
 is_filled text = nat_lt 0 (length text)
 
--- `.extension`, or `-classifier.extension`, where the classifier ends at the first dot: classifier and extension
+-- `.extension`, or `-classifier.extension`, where the extension begins at the first dot: classifier and extension
 abbrev pub tail_by : Option (List ℕ) → Option (List ℕ) → Option (List ℕ × List ℕ)
 tail_by (Some extension) _ = if is_filled extension then Some ([], extension) else None
 tail_by None (Some rest) =

@@ -1,4 +1,4 @@
--- The document that an outline tells (Maven repository metadata 1.1.0): of a single element the first counts, and a value that does not fit is passed over.
+-- The document that an outline tells (Maven repository metadata 1.1.0). Where the format has an element once, its first one counts, and a value out of its form is none.
 use Rattle.std.specs.Prelude.{ℕ, Bool, not, ◌&&◌, ◌==◌, List, [], ◌∷◌, ◌++◌, take, drop, map, filter, find, fold, Option, Some, None, option_and_then, unwrap_or, if◌then◌else◌, codes, take_while}
 use Rattle.std.specs.Option.{option_map}
 use Rattle.mvn_coords.specs.Civil.{CivilTime, time_of}

@@ -41,10 +41,10 @@ fn doc_fault(fault: XmlFault) -> DocFault
     }
 }
 
-/// The document that a text is (Maven repository metadata 1.1.0, in a subset of XML 1.0). Elements are known by their way
-/// from the root `metadata`; others, and all attributes, are passed over. Of a single element the first counts, and a
-/// value that does not fit is passed over. `NoMemory` may come at any text. Time and memory are linear in the text, but
-/// for the order of what is listed.
+/// The document that a text is (Maven repository metadata 1.1.0, in a subset of XML 1.0). An element counts where the
+/// elements around it, from `metadata` on, are those of the format; all else is skipped, attributes too. Where the format
+/// has an element once, its first one counts, and a value out of its form is none. `NoMemory` may come at any text. Time
+/// and memory are linear in the text, but for the order of what is listed.
 pub fn read(alloc: Global, text: &[u8]) -> Result<Doc, DocFault>
     ensures document { IfOk result (λ d. reading text.now ≡ Ok d) }
     ensures fault { IfErr result (IsFaultOf (reading text.now)) }

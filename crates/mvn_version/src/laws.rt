@@ -1,4 +1,4 @@
-//! What holds of the order for all texts, and worked rows of it, as contracts of functions that do nothing.
+//! What holds of the order for all texts, and examples of it, as contracts of functions that do nothing.
 
 ghost use Rattle.std.specs.Prelude.{◌≡◌, ◌↔◌, ℕ, List, [], ◌∷◌, true, false, codes};
 ghost use Rattle.std.specs.List.{list_all};

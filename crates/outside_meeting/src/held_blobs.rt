@@ -35,9 +35,9 @@ impl Shared {
 /// One of several twins over one store of blobs in memory, which may each be used by a thread of its own. A blob that one of
 /// them stores is there for all.
 ///
-/// A stated number of twins meet: the first read of each of these waits until all of them read, and fails where they don't, after
-/// it has looked 4,000,000 times. So that these reads succeed shows that so many threads were at work at once. A call fails
-/// otherwise where the store's fails. Contracts see whether a twin is still to meet the others, and how many of its own calls have
+/// A stated number of twins meet: each of these waits at its first read for the first reads of the others, and that read fails
+/// where they don't come, after 4,000,000 looks. So reads that go through show that so many threads were at work at once. A
+/// call fails otherwise where the store's fails. Contracts see whether a twin is still to meet the others, and how many of its own calls have
 /// failed. It tells no blobs, since other threads change them; a blob in use tells its bytes.
 #[derive(Drop)]
 pub struct HeldBlobs {
