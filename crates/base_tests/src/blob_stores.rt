@@ -16,7 +16,8 @@ const NUMBERED: &str = "base_tests_numbered";
 
 const MISSING: &str = "base_tests_missing";
 
-fn digests_of(bytes: &[u8]) -> Digests
+/// The digests of a body.
+pub fn digests_of(bytes: &[u8]) -> Digests
     ensures { result ≡ digests_in bytes.now }
 {
     let mut hashes = Hashes::new();
@@ -82,7 +83,7 @@ fn empty_folder(rt: &HostRuntime) -> Result<(), Fail> {
 }
 
 fn folder_blobs(rt: &HostRuntime, folder: &str) -> Result<FolderBlobs<HostRuntime>, Fail> {
-    Ok(FolderBlobs::new(rt.clone()?, String::from_str(rt.alloc(), folder)?))
+    Ok(FolderBlobs::new(rt.clone()?, String::from_str(rt.alloc(), folder)?)?)
 }
 
 #[test]
@@ -145,8 +146,8 @@ fn a_missing_folder_fails(rt: HostRuntime) -> Result<(), Fail> {
     Ok(())
 }
 
-// The parcel of a body, stored under 1 where something else may be read.
-fn stored<B: Blobs>(blobs: &mut B, body: &[u8]) -> Result<Parcel<B::Held>, BlobFault> {
+/// The parcel of a body, stored under 1 where something else may be read.
+pub fn stored<B: Blobs>(blobs: &mut B, body: &[u8]) -> Result<Parcel<B::Held>, BlobFault> {
     let held = blobs.store(1, body)?;
     Ok(Parcel {
         blob: 1,

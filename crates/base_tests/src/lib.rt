@@ -19,6 +19,8 @@ mod plain_coords;
 #[cfg(test)]
 mod plain_versions;
 #[cfg(test)]
+mod readings;
+#[cfg(test)]
 mod sides;
 #[cfg(test)]
 mod std_forms;

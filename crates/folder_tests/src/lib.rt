@@ -7,3 +7,5 @@ mod noted;
 mod openings;
 #[cfg(test)]
 mod orders;
+#[cfg(test)]
+mod pieces;

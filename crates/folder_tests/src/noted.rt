@@ -2,8 +2,9 @@
 use data_folder::LockFile;
 use std::alloc::{AllocError, Allocator, Global};
 use std::cell::Cell;
+use std::fmt::Display;
 use std::fs::{self, File, Files, Metadata, OpenFile, OpenOptions};
-use std::io::{self, ErrorKind, Read, Seek, SeekFrom, Write};
+use std::io::{self, Eprint, ErrorKind, Read, Seek, SeekFrom, Write};
 use std::os::unix::fs::FileExt;
 use std::rc::Rc;
 
@@ -90,6 +91,19 @@ impl Alloc for Noted {
     }
 }
 
+/// Lines of standard error are noted, and not written.
+impl Eprint for Noted {
+    fn eprint<D: Display + Drop>(&self, value: D) -> io::Result<()> {
+        self.notes
+            .add(format!(in self.rt.alloc(); "say {value}")?.as_str())?;
+        Ok(())
+    }
+
+    fn eprintln<D: Display + Drop>(&self, value: D) -> io::Result<()> {
+        self.eprint(value)
+    }
+}
+
 /// What a file is opened for.
 fn purpose(how: &OpenOptions) -> &'static str {
     if how.asks_create_new() {
@@ -165,7 +179,7 @@ impl Files for Noted {
     }
 }
 
-/// An open file. Its reads are not noted.
+/// An open file. Its reads at places are not noted.
 #[derive(Drop)]
 pub struct NotedFile {
     file: File,
@@ -181,6 +195,7 @@ impl NotedFile {
 
 impl Read for NotedFile {
     fn read(&mut self, buf: &mut [u8]) -> io::Result<usize> {
+        self.note("read")?;
         self.file.read(buf)
     }
 }

@@ -1,6 +1,6 @@
 // The calls of a real file system, in their order: what is acknowledged was synced before, with its name.
 use crate::noted::{Noted, Notes};
-use data_folder::open_disk;
+use data_folder::{ReportingDisk, open_disk};
 use outside::{BlobFault, Blobs, Failed};
 use outside_system::FolderBlobs;
 use record_disk::Disk;
@@ -104,6 +104,28 @@ fn records_are_synced(rt: HostRuntime) -> Result<(), Fail> {
     Ok(())
 }
 
+// What is cut off is said before the cut, where there is something to cut.
+const REPORTED: &str = "write orders_tail/rows
+say mvnrepod: tail 3
+cut orders_tail/rows
+";
+
+#[test]
+fn a_tail_is_told_before_it_goes(rt: HostRuntime) -> Result<(), Fail> {
+    let _ = fs::remove_dir_all(&rt, "orders_tail");
+    let notes = Notes::new(rt.alloc())?;
+    let noted = Noted::new(&rt, &notes)?;
+    let mut disk = ReportingDisk::new(open_disk(&noted, "orders_tail")?, noted);
+    let _ = notes.take();
+    disk.write_at(0, b"abcd")?;
+    disk.cut(1)?;
+    disk.cut(1)?;
+    assert_eq!(rt; notes.take().as_str(), REPORTED);
+    drop(disk);
+    fs::remove_dir_all(&rt, "orders_tail")?;
+    Ok(())
+}
+
 // Of a store, a read, an adoption, a list and a removal.
 const BLOB_CALLS: &str = "overwrite orders_blobs/7.part
 write orders_blobs/7.part
@@ -114,18 +136,21 @@ open orders_blobs
 sync orders_blobs
 look at orders_blobs/7
 open orders_blobs/7
+read orders_blobs/7
+read orders_blobs/7
 look at orders_blobs/7
 list orders_blobs/
 look at orders_blobs/7
 remove orders_blobs/7
+remove orders_blobs/7.part
 ";
 
-// An empty folder, and its blobs.
-fn blobs_of(rt: &HostRuntime, notes: &Notes, folder: &str) -> Result<FolderBlobs<Noted>, Fail> {
+/// An empty folder, and its blobs.
+pub fn blobs_of(rt: &HostRuntime, notes: &Notes, folder: &str) -> Result<FolderBlobs<Noted>, Fail> {
     let _ = fs::remove_dir_all(rt, folder);
     fs::create_dir(rt, folder)?;
     let folder = String::from_str(rt.alloc(), folder)?;
-    Ok(FolderBlobs::new(Noted::new(rt, notes)?, folder))
+    Ok(FolderBlobs::new(Noted::new(rt, notes)?, folder)?)
 }
 
 fn calls_all<B: Blobs>(blobs: &mut B) -> Result<bool, BlobFault> {

@@ -3,4 +3,5 @@ pub mod Checks
 pub mod Faults
 pub mod Moments
 pub mod Parcel
+pub mod Readings
 pub mod Told

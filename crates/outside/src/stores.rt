@@ -1,8 +1,9 @@
-ghost use Rattle.std.specs.Prelude.{◌≡◌, ℕ, List, Option, Some, None, IfOk, IfSome, OnOk, OnErr};
-ghost use Rattle.outside.specs.Blobs.{HasBlobCause, IsAdopted, Shelf, bytes_at, numbers_of, untold, with_blob, without_blob};
-ghost use Rattle.outside.specs.Told.{IsWhereTold};
+ghost use Rattle.std.specs.Prelude.{◌≡◌, ◌<◌, ◌≤◌, ◌+◌, ◌^◌, ℕ, List, [], Option, Some, None, length, IfOk, IfSome, OnOk, OnErr};
+ghost use Rattle.outside.specs.Blobs.{HasBlobCause, IsAdopted, IsPart, Shelf, bytes_at, numbers_of, sealed, untold, with_blob, without_blob, without_bytes};
+ghost use Rattle.outside.specs.Faults.{HasCause};
+ghost use Rattle.outside.specs.Told.{IsWhereTold, behind};
 
-use crate::faults::{BlobFault, NoMemory};
+use crate::faults::{BlobFault, Failed, NoMemory};
 
 /// A stored blob in use: while it is held, its bytes can be read.
 pub trait Held: Drop {
@@ -14,12 +15,26 @@ pub trait Held: Drop {
         ensures { IfOk result (λ held. bytes held ≡ bytes self.now) };
 }
 
+/// A blob that is being written, under a number.
+///
+/// One that is let go leaves no blob; what it leaves goes by a `remove` of its number.
+pub trait Pen: Drop {
+    // The number of the blob.
+    ghost number: { Self → ℕ };
+
+    // The bytes so far.
+    ghost bytes: { Self → Option (List ℕ) } = { λ _. None };
+}
+
 /// A store of blobs, each under a number.
 ///
 /// A call that fails, or that memory is wanting for, leaves the blobs that the store tells as they were.
 pub trait Blobs {
     /// A stored blob in use.
     type Held: Held;
+
+    /// A blob that is being written.
+    type Pen: Pen;
 
     // How many calls have failed. It never falls.
     ghost faults: { Self → ℕ };
@@ -35,6 +50,43 @@ pub trait Blobs {
         ensures tells { IfOk result (λ held. IfSome (shelf self.old).blobs (λ _. Self.Held.bytes held ≡ Some bytes.now)) }
         ensures stored { OnOk result (shelf self.new ≡ with_blob blob bytes.now (shelf self.old)) }
         ensures kept { OnErr result (shelf self.new ≡ shelf self.old) };
+
+    /// Begins to write the blob of a number. Bytes that stood there are gone, and until the pen is sealed nothing stands there:
+    /// the number is neither listed nor adopted. A store that tells its blobs gives a pen that tells its bytes.
+    fn begin(&mut self, blob: u64) -> Result<Self::Pen, BlobFault>
+        ensures cause { HasBlobCause (faults self.old) (faults self.new) result }
+        ensures number { IfOk result (λ pen. Self.Pen.number pen ≡ blob) }
+        ensures told { IfOk result (λ pen. IsWhereTold (Self.Pen.bytes pen) []) }
+        ensures tells { IfOk result (λ pen. IfSome (shelf self.old).blobs (λ _. Self.Pen.bytes pen ≡ Some [])) }
+        ensures begun { OnOk result (shelf self.new ≡ without_bytes blob (shelf self.old)) }
+        ensures kept { OnErr result (shelf self.new ≡ shelf self.old) };
+
+    /// Writes bytes behind those of a pen. A blob has at most 2^63 - 1 bytes: an append that would pass this is `Failed`.
+    fn append(&mut self, pen: &mut Self::Pen, bytes: &[u8]) -> Result<(), BlobFault>
+        ensures cause { HasBlobCause (faults self.old) (faults self.new) result }
+        ensures number { Self.Pen.number pen.new ≡ Self.Pen.number pen.old }
+        ensures grown { OnOk result (Self.Pen.bytes pen.new ≡ behind (Self.Pen.bytes pen.old) bytes.now) }
+        ensures most { OnOk result (IfSome (Self.Pen.bytes pen.new) (λ them. length them < 2 ^ 63)) }
+        ensures same { OnErr result (Self.Pen.bytes pen.new ≡ Self.Pen.bytes pen.old) }
+        ensures kept { shelf self.new ≡ shelf self.old };
+
+    /// Ends the blob of a pen, which is stored from here on.
+    fn seal(&mut self, pen: Self::Pen) -> Result<Self::Held, BlobFault>
+        ensures cause { HasBlobCause (faults self.old) (faults self.new) result }
+        // What is held tells no bytes but those of the pen.
+        ensures told { IfOk result (λ held. IfSome (Self.Held.bytes held) (λ bytes. Self.Pen.bytes pen ≡ Some bytes)) }
+        ensures tells { IfOk result (λ held. IfSome (shelf self.old).blobs (λ _. Self.Held.bytes held ≡ Self.Pen.bytes pen)) }
+        ensures stored { OnOk result (shelf self.new ≡ sealed (Self.Pen.number pen) (Self.Pen.bytes pen) (shelf self.old)) }
+        ensures kept { OnErr result (shelf self.new ≡ shelf self.old) };
+
+    /// Reads some of a stored blob's bytes from the place `at` on into the front of `buffer`, and says how many. 0 for a buffer
+    /// that isn't empty is the end. No read gives a byte past 2^63 - 1.
+    fn read_at(&mut self, held: &Self::Held, at: u64, buffer: &mut [u8]) -> Result<usize, Failed>
+        ensures cause { HasCause (faults self.old) (faults self.new) result }
+        ensures count { IfOk result (λ n. n ≤ length buffer.new) }
+        ensures below { IfOk result (λ n. 0 < n → at + n < 2 ^ 63) }
+        ensures told { IfOk result (λ n. IfSome (Self.Held.bytes held.now) (λ bytes. IsPart bytes at n buffer.new)) }
+        ensures kept { shelf self.new ≡ shelf self.old };
 
     /// Reads all bytes of a stored blob.
     fn read(&mut self, held: &Self::Held) -> Result<Vec<u8>, BlobFault>

@@ -1,10 +1,11 @@
 //! Twins over one store of blobs in memory.
-ghost use Rattle.std.specs.Prelude.{◌≡◌, IfErr, IfOk, IsFalse, false, true};
-ghost use Rattle.outside.specs.Blobs.{HasBlobCause};
+ghost use Rattle.std.specs.Prelude.{◌≡◌, ◌<◌, ◌≤◌, ◌+◌, ◌^◌, [], ◌++◌, length, IfOk, IsFalse, OnErr, OnOk, false, true};
+ghost use Rattle.outside.specs.Blobs.{HasBlobCause, IsPart};
+ghost use Rattle.outside.specs.Faults.{HasCause};
 
 use crate::meeting::Meeting;
-use outside::{BlobFault, Blobs, NoMemory};
-use outside_memory::{MemBlobs, MemHeld};
+use outside::{BlobFault, Blobs, Failed, NoMemory};
+use outside_memory::{MemBlobs, MemHeld, MemPen};
 use std::alloc::Global;
 use std::marker::Model;
 use std::sync::{Arc, Mutex, MutexGuard};
@@ -19,16 +20,21 @@ struct Shared {
 
 impl Shared {
     // The store for one call. It fails where another thread had it at each of 2^64 - 1 tries, which no run makes.
-    fn taken(&self) -> Result<MutexGuard<'_, MemBlobs>, BlobFault>
-        ensures { IfErr result (λ fault. fault ≡ BlobFault.Failed) }
-    {
+    fn taken(&self) -> Result<MutexGuard<'_, MemBlobs>, Failed> {
         for _ in 0..u64::MAX {
             if let Some(store) = self.store.try_lock() {
                 return Ok(store);
             }
             yield_now();
         }
-        Err(BlobFault::Failed)
+        Err(Failed)
+    }
+
+    fn seal(&self, pen: MemPen) -> Result<MemHeld, BlobFault>
+        ensures { IfOk result (λ held. held ≡ pen.bytes) }
+    {
+        let mut store = self.taken()?;
+        store.seal(pen)
     }
 }
 
@@ -100,9 +106,21 @@ impl HeldBlobs {
         did
     }
 
+    // The same of a call that takes no memory.
+    fn counted_failure<T: Drop>(&mut self, did: Result<T, Failed>) -> Result<T, Failed>
+        ensures cause { HasCause self.old.faults self.new.faults result }
+        ensures same { result ≡ did }
+        ensures kept { self.new.is_to_meet ≡ self.old.is_to_meet }
+    {
+        if did.is_err() {
+            self.faults = self.faults.saturating_add(1);
+        }
+        did
+    }
+
     // Meets the others where that is still to be done.
-    fn meet(&mut self) -> Result<(), BlobFault>
-        ensures cause { HasBlobCause self.old.faults self.new.faults result }
+    fn meet(&mut self) -> Result<(), Failed>
+        ensures cause { HasCause self.old.faults self.new.faults result }
         ensures met { IsFalse self.new.is_to_meet }
     {
         if !self.is_to_meet {
@@ -112,12 +130,14 @@ impl HeldBlobs {
         if self.shared.meeting.attend() {
             return Ok(());
         }
-        self.counted(Err(BlobFault::Failed))
+        self.counted_failure(Err(Failed))
     }
 }
 
 impl Blobs for HeldBlobs {
     type Held = MemHeld;
+
+    type Pen = MemPen;
 
     ghost faults = { λ b. b.faults };
 
@@ -128,9 +148,59 @@ impl Blobs for HeldBlobs {
     {
         let stored = match self.shared.taken() {
             Ok(mut store) => store.store(blob, bytes),
-            Err(fault) => Err(fault),
+            Err(failed) => Err(failed.into()),
         };
         self.counted(stored)
+    }
+
+    fn begin(&mut self, blob: u64) -> Result<MemPen, BlobFault>
+        ensures cause { HasBlobCause self.old.faults self.new.faults result }
+        ensures pen { IfOk result (λ pen. pen ≡ record { number = blob; bytes = [] }) }
+        ensures kept { self.new.is_to_meet ≡ self.old.is_to_meet }
+    {
+        let begun = match self.shared.taken() {
+            Ok(mut store) => store.begin(blob),
+            Err(failed) => Err(failed.into()),
+        };
+        self.counted(begun)
+    }
+
+    fn append(&mut self, pen: &mut MemPen, bytes: &[u8]) -> Result<(), BlobFault>
+        ensures cause { HasBlobCause self.old.faults self.new.faults result }
+        ensures ok { OnOk result (pen.new ≡ record pen.old { bytes = pen.old.bytes ++ bytes.now }) }
+        ensures most { OnOk result (length pen.new.bytes < 2 ^ 63) }
+        ensures err { OnErr result (pen.new ≡ pen.old) }
+        ensures kept { self.new.is_to_meet ≡ self.old.is_to_meet }
+    {
+        let written = match self.shared.taken() {
+            Ok(mut store) => store.append(pen, bytes),
+            Err(failed) => Err(failed.into()),
+        };
+        self.counted(written)
+    }
+
+    fn seal(&mut self, pen: MemPen) -> Result<MemHeld, BlobFault>
+        ensures cause { HasBlobCause self.old.faults self.new.faults result }
+        ensures told { IfOk result (λ held. held ≡ pen.bytes) }
+        ensures kept { self.new.is_to_meet ≡ self.old.is_to_meet }
+    {
+        let sealed = self.shared.seal(pen);
+        self.counted(sealed)
+    }
+
+    fn read_at(&mut self, held: &MemHeld, at: u64, buffer: &mut [u8]) -> Result<usize, Failed>
+        ensures cause { HasCause self.old.faults self.new.faults result }
+        ensures count { IfOk result (λ n. n ≤ length buffer.new) }
+        ensures below { IfOk result (λ n. 0 < n → at + n < 2 ^ 63) }
+        ensures part { IfOk result (λ n. IsPart held.now at n buffer.new) }
+        ensures met { IsFalse self.new.is_to_meet }
+    {
+        self.meet()?;
+        let read = match self.shared.taken() {
+            Ok(mut store) => store.read_at(held, at, buffer),
+            Err(failed) => Err(failed),
+        };
+        self.counted_failure(read)
     }
 
     fn read(&mut self, held: &MemHeld) -> Result<Vec<u8>, BlobFault>
@@ -141,7 +211,7 @@ impl Blobs for HeldBlobs {
         self.meet()?;
         let bytes = match self.shared.taken() {
             Ok(mut store) => store.read(held),
-            Err(fault) => Err(fault),
+            Err(failed) => Err(failed.into()),
         };
         self.counted(bytes)
     }
@@ -152,7 +222,7 @@ impl Blobs for HeldBlobs {
     {
         let removed = match self.shared.taken() {
             Ok(mut store) => store.remove(blob),
-            Err(fault) => Err(fault),
+            Err(failed) => Err(failed.into()),
         };
         self.counted(removed)
     }
@@ -163,7 +233,7 @@ impl Blobs for HeldBlobs {
     {
         let adopted = match self.shared.taken() {
             Ok(mut store) => store.adopt(blob),
-            Err(fault) => Err(fault),
+            Err(failed) => Err(failed.into()),
         };
         self.counted(adopted)
     }
@@ -174,7 +244,7 @@ impl Blobs for HeldBlobs {
     {
         let listed = match self.shared.taken() {
             Ok(mut store) => store.list(),
-            Err(fault) => Err(fault),
+            Err(failed) => Err(failed.into()),
         };
         self.counted(listed)
     }

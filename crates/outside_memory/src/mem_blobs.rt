@@ -1,13 +1,14 @@
-ghost use Rattle.std.specs.Prelude.{◌≡◌, ◌↔◌, ◌++◌, ◌∷◌, [], OnOk, OnErr, IfOk, Contains, IsErrOf};
+ghost use Rattle.std.specs.Prelude.{◌≡◌, ◌↔◌, ◌<◌, ◌≤◌, ◌+◌, ◌^◌, ◌++◌, ◌∷◌, [], length, IsErr, OnOk, OnErr, IfOk, ◌⊎◌, Contains, IsErrOf};
 ghost use Rattle.std.specs.BTreeMap.{insert_entry, is_at};
 ghost use Rattle.std.specs.Map.{keys_of, remove_entry};
 ghost use Rattle.std.specs.Ordering.{nat_cmp};
-ghost use Rattle.outside.specs.Blobs.{HasBlobCause, bytes_at};
+ghost use Rattle.outside.specs.Blobs.{HasBlobCause, IsPart, bytes_at};
+ghost use Rattle.outside.specs.Faults.{HasCause};
 ghost use Rattle.outside_memory.specs.Memory.{shelf_of};
-ghost use Rattle.outside_memory.specs.Script.{script_after_blob_call};
+ghost use Rattle.outside_memory.specs.Script.{script_after_blob_call, script_failed, script_passed};
 
 use crate::fault_script::FaultScript;
-use outside::{BlobFault, Blobs, Held, NoMemory};
+use outside::{BlobFault, Blobs, Failed, Held, NoMemory, Pen};
 use std::alloc::Global;
 use std::collections::BTreeMap;
 use std::marker::Model;
@@ -38,6 +39,12 @@ impl MemHeld {
         })
     }
 
+    pub(crate) fn bytes(&self) -> &[u8]
+        ensures { result.now ≡ self.now }
+    {
+        self.bytes.as_slice()
+    }
+
     // A copy of its bytes.
     pub(crate) fn copied(&self, alloc: Global) -> Result<Vec<u8>, NoMemory>
         ensures { IfOk result (λ bytes. bytes.items ≡ self.now) }
@@ -56,6 +63,44 @@ impl Held for MemHeld {
             bytes: self.bytes.clone()?,
         })
     }
+}
+
+/// A blob that is being written in memory. Contracts see its number and its bytes.
+#[derive(Drop)]
+pub struct MemPen {
+    blob: u64,
+    bytes: Vec<u8>,
+}
+
+impl Model for MemPen {
+    ghost use Rattle.outside_memory.specs.Memory.{PenState};
+
+    ghost Value = { PenState };
+
+    ghost view = { λ p. record { number = p.blob; bytes = p.bytes.items } };
+}
+
+impl Pen for MemPen {
+    ghost use Rattle.std.specs.Prelude.{Some};
+
+    ghost number = { λ p. p.number };
+
+    ghost bytes = { λ p. Some p.bytes };
+}
+
+// Copies what stands in `bytes` from a place on into the front of a buffer, as far as it fits, and says how many bytes.
+pub(crate) fn copy_from(bytes: &[u8], at: u64, buffer: &mut [u8]) -> usize
+    ensures count { result ≤ length buffer.new }
+    ensures below { at + result ≤ length bytes.now ⊎ (result ≡ 0) }
+    ensures part { IsPart bytes.now at result buffer.new }
+{
+    if at >= bytes.len() as u64 {
+        return 0;
+    }
+    let rest = &bytes[at as usize..];
+    let count = buffer.len().min(rest.len());
+    buffer[..count].copy_from_slice(&rest[..count]);
+    count
 }
 
 /// A store of blobs in memory. A blob's bytes live as long as it stands there or is held.
@@ -104,6 +149,8 @@ impl MemBlobs {
 impl Blobs for MemBlobs {
     type Held = MemHeld;
 
+    type Pen = MemPen;
+
     ghost faults = { λ b. b.script.faults };
 
     ghost shelf = { shelf_of };
@@ -122,6 +169,66 @@ impl Blobs for MemBlobs {
         let kept = held.share()?;
         self.blobs.insert(blob, kept).map_err(NoMemory::from)?;
         Ok(held)
+    }
+
+    fn begin(&mut self, blob: u64) -> Result<MemPen, BlobFault>
+        ensures cause { HasBlobCause self.old.script.faults self.new.script.faults result }
+        ensures when { IsErrOf result BlobFault.Failed ↔ Contains self.old.script.failing self.old.script.calls }
+        ensures pen { IfOk result (λ pen. pen ≡ record { number = blob; bytes = [] }) }
+        ensures ok { OnOk result (self.new.blobs ≡ remove_entry (is_at (nat_cmp blob)) self.old.blobs) }
+        ensures err { OnErr result (self.new.blobs ≡ self.old.blobs) }
+        ensures removed { self.new.removed ≡ self.old.removed }
+        ensures script { self.new.script ≡ script_after_blob_call self.old.script result }
+    {
+        self.script.next_call()?;
+        self.blobs.remove(&blob);
+        Ok(MemPen {
+            blob,
+            bytes: Vec::new(*self.removed.allocator()),
+        })
+    }
+
+    fn append(&mut self, pen: &mut MemPen, bytes: &[u8]) -> Result<(), BlobFault>
+        ensures cause { HasBlobCause self.old.script.faults self.new.script.faults result }
+        ensures when { IsErrOf result BlobFault.Failed ↔ Contains self.old.script.failing self.old.script.calls }
+        ensures ok { OnOk result (pen.new ≡ record pen.old { bytes = pen.old.bytes ++ bytes.now }) }
+        ensures most { OnOk result (length pen.new.bytes < 2 ^ 63) }
+        ensures err { OnErr result (pen.new ≡ pen.old) }
+        ensures after { self.new ≡ record self.old { script = script_after_blob_call self.old.script result } }
+    {
+        self.script.next_call()?;
+        pen.bytes.extend_from_slice(bytes).map_err(NoMemory::from)?;
+        Ok(())
+    }
+
+    fn seal(&mut self, pen: MemPen) -> Result<MemHeld, BlobFault>
+        ensures cause { HasBlobCause self.old.script.faults self.new.script.faults result }
+        ensures when { IsErrOf result BlobFault.Failed ↔ Contains self.old.script.failing self.old.script.calls }
+        ensures told { IfOk result (λ held. held ≡ pen.bytes) }
+        ensures ok { OnOk result (self.new.blobs ≡ insert_entry nat_cmp self.old.blobs pen.number pen.bytes) }
+        ensures err { OnErr result (self.new.blobs ≡ self.old.blobs) }
+        ensures removed { self.new.removed ≡ self.old.removed }
+        ensures script { self.new.script ≡ script_after_blob_call self.old.script result }
+    {
+        let MemPen { blob, bytes } = pen;
+        self.script.next_call()?;
+        let held = MemHeld::of_bytes(*self.removed.allocator(), bytes.as_slice())?;
+        let kept = held.share()?;
+        self.blobs.insert(blob, kept).map_err(NoMemory::from)?;
+        Ok(held)
+    }
+
+    fn read_at(&mut self, held: &MemHeld, at: u64, buffer: &mut [u8]) -> Result<usize, Failed>
+        ensures cause { HasCause self.old.script.faults self.new.script.faults result }
+        ensures when { IsErr result ↔ Contains self.old.script.failing self.old.script.calls }
+        ensures count { IfOk result (λ n. n ≤ length buffer.new) }
+        ensures below { IfOk result (λ n. 0 < n → at + n < 2 ^ 63) }
+        ensures part { IfOk result (λ n. IsPart held.now at n buffer.new) }
+        ensures ok { OnOk result (self.new ≡ record self.old { script = script_passed self.old.script }) }
+        ensures err { OnErr result (self.new ≡ record self.old { script = script_failed self.old.script }) }
+    {
+        self.script.next_call()?;
+        Ok(copy_from(held.bytes(), at, buffer))
     }
 
     fn read(&mut self, held: &MemHeld) -> Result<Vec<u8>, BlobFault>

@@ -1,14 +1,15 @@
-ghost use Rattle.std.specs.Prelude.{◌≡◌, ◌↔◌, [], unwrap_or, OnOk, OnErr, IfOk, Contains, IsErrOf};
+ghost use Rattle.std.specs.Prelude.{◌≡◌, ◌↔◌, ◌<◌, ◌≤◌, ◌+◌, ◌^◌, [], length, unwrap_or, OnOk, OnErr, IfOk, Contains, IsErr, IsErrOf};
 ghost use Rattle.std.specs.BTreeMap.{insert_entry, is_at};
 ghost use Rattle.std.specs.Map.{keys_of, remove_entry};
 ghost use Rattle.std.specs.Option.{option_map};
 ghost use Rattle.std.specs.Ordering.{nat_cmp};
-ghost use Rattle.outside.specs.Blobs.{HasBlobCause, bytes_at};
-ghost use Rattle.outside_memory.specs.Script.{script_after_blob_call};
+ghost use Rattle.outside.specs.Blobs.{HasBlobCause, IsPart, bytes_at};
+ghost use Rattle.outside.specs.Faults.{HasCause};
+ghost use Rattle.outside_memory.specs.Script.{script_after_blob_call, script_failed, script_passed};
 
 use crate::fault_script::FaultScript;
-use crate::mem_blobs::MemHeld;
-use outside::{BlobFault, Blobs, Held, NoMemory};
+use crate::mem_blobs::{MemHeld, copy_from};
+use outside::{BlobFault, Blobs, Failed, Held, NoMemory, Pen};
 use std::alloc::Global;
 use std::collections::BTreeMap;
 use std::marker::Model;
@@ -33,6 +34,24 @@ impl Held for WrongHeld {
     {
         Ok(WrongHeld { blob: self.blob })
     }
+}
+
+/// A blob that is being written to `WrongBlobs`, which keep none of its bytes and tell none. Contracts see its number.
+#[derive(Drop)]
+pub struct WrongPen {
+    blob: u64,
+}
+
+impl Model for WrongPen {
+    ghost use Rattle.std.specs.Prelude.{ℕ};
+
+    ghost Value = { ℕ };
+
+    ghost view = { λ p. p.blob };
+}
+
+impl Pen for WrongPen {
+    ghost number = { λ p. p };
 }
 
 /// A store of blobs whose reads give other bytes than were stored: under each number those that it was told to give, and
@@ -86,6 +105,8 @@ impl WrongBlobs {
 impl Blobs for WrongBlobs {
     type Held = WrongHeld;
 
+    type Pen = WrongPen;
+
     ghost faults = { λ b. b.script.faults };
 
     fn store(&mut self, blob: u64, _bytes: &[u8]) -> Result<WrongHeld, BlobFault>
@@ -96,6 +117,52 @@ impl Blobs for WrongBlobs {
     {
         self.script.next_call()?;
         Ok(WrongHeld { blob })
+    }
+
+    fn begin(&mut self, blob: u64) -> Result<WrongPen, BlobFault>
+        ensures cause { HasBlobCause self.old.script.faults self.new.script.faults result }
+        ensures when { IsErrOf result BlobFault.Failed ↔ Contains self.old.script.failing self.old.script.calls }
+        ensures pen { IfOk result (λ pen. pen ≡ blob) }
+        ensures after { self.new ≡ record self.old { script = script_after_blob_call self.old.script result } }
+    {
+        self.script.next_call()?;
+        Ok(WrongPen { blob })
+    }
+
+    fn append(&mut self, pen: &mut WrongPen, _bytes: &[u8]) -> Result<(), BlobFault>
+        ensures cause { HasBlobCause self.old.script.faults self.new.script.faults result }
+        ensures when { IsErrOf result BlobFault.Failed ↔ Contains self.old.script.failing self.old.script.calls }
+        ensures pen { pen.new ≡ pen.old }
+        ensures after { self.new ≡ record self.old { script = script_after_blob_call self.old.script result } }
+    {
+        self.script.next_call()?;
+        Ok(())
+    }
+
+    fn seal(&mut self, pen: WrongPen) -> Result<WrongHeld, BlobFault>
+        ensures cause { HasBlobCause self.old.script.faults self.new.script.faults result }
+        ensures when { IsErrOf result BlobFault.Failed ↔ Contains self.old.script.failing self.old.script.calls }
+        ensures held { IfOk result (λ held. held ≡ pen) }
+        ensures after { self.new ≡ record self.old { script = script_after_blob_call self.old.script result } }
+    {
+        self.script.next_call()?;
+        Ok(WrongHeld { blob: pen.blob })
+    }
+
+    fn read_at(&mut self, held: &WrongHeld, at: u64, buffer: &mut [u8]) -> Result<usize, Failed>
+        ensures cause { HasCause self.old.script.faults self.new.script.faults result }
+        ensures count { IfOk result (λ n. n ≤ length buffer.new) }
+        ensures below { IfOk result (λ n. 0 < n → at + n < 2 ^ 63) }
+        ensures when { IsErr result ↔ Contains self.old.script.failing self.old.script.calls }
+        ensures given { IfOk result (λ n. IsPart (unwrap_or (bytes_at held.now self.old.given) []) at n buffer.new) }
+        ensures ok { OnOk result (self.new ≡ record self.old { script = script_passed self.old.script }) }
+        ensures err { OnErr result (self.new ≡ record self.old { script = script_failed self.old.script }) }
+    {
+        self.script.next_call()?;
+        match self.given.get(&held.blob) {
+            Some(given) => Ok(copy_from(given.bytes(), at, buffer)),
+            None => Ok(copy_from(&[], at, buffer)),
+        }
     }
 
     fn read(&mut self, held: &WrongHeld) -> Result<Vec<u8>, BlobFault>

@@ -1,139 +1,18 @@
 //! Blobs in a folder: one file for each, which has its number in decimal for its name.
-ghost use Rattle.std.specs.Prelude.{◌≡◌, ◌≢◌, ◌<◌, ◌^◌, ◌++◌, ℕ, codes, IfOk, IfSome, IsSorted, MatchOption, string_bytes};
-ghost use Rattle.std.specs.Fmt.{decimal};
+ghost use Rattle.std.specs.Prelude.{◌≡◌, ◌<◌, ◌≤◌, ◌+◌, ◌^◌, length, IfOk, IfSome, IsSorted};
 ghost use Rattle.std.specs.Ordering.{nat_cmp};
 ghost use Rattle.outside.specs.Blobs.{HasBlobCause};
+ghost use Rattle.outside.specs.Faults.{HasCause};
 
-use outside::{BlobFault, Blobs, Held, NoMemory};
-use std::alloc::{AllocError, Global};
+use crate::blob_files::{
+    begin_file, has_file, numbers_in, open_path, put_file, read_file, remove_files, seal_file,
+    write_path,
+};
+use crate::open_blobs::{FolderPen, MOST_BYTES, OpenBlob};
+use outside::{BlobFault, Blobs, Failed, Held, NoMemory};
 use std::fs::{self, Files, OpenFile};
-use std::io::{self, ErrorKind, Write};
+use std::io::{self, ErrorKind};
 use std::marker::Model;
-
-// The path of a number's file.
-fn path_of(alloc: Global, folder: &str, blob: u64) -> Result<String, AllocError>
-    ensures { IfOk result (λ path. string_bytes path ≡ folder.now ++ codes "/" ++ decimal blob) }
-{
-    format!(in alloc; "{folder}/{blob}")
-}
-
-// The number that a file's name writes as `path_of` does: in decimal, without leading zeros.
-fn number_of(alloc: Global, name: &str) -> Result<Option<u64>, AllocError>
-    ensures { IfOk result (λ number. MatchOption number
-        ((n : ℕ) → n < 2 ^ 64 → name.now ≢ decimal n) (λ n. name.now ≡ decimal n)) }
-{
-    let Ok(number) = name.parse::<u64>() else {
-        return Ok(None);
-    };
-    let text = format!(in alloc; "{number}")?;
-    if text.as_str() == name {
-        Ok(Some(number))
-    } else {
-        Ok(None)
-    }
-}
-
-// Makes a file of these bytes, and waits until the system keeps them.
-fn write_synced<R: Files>(rt: &R, path: &str, bytes: &[u8]) -> io::Result<()> {
-    let mut file = fs::create(rt, path)?;
-    file.write_all(bytes)?;
-    file.sync_all()
-}
-
-// Makes a file of these bytes under a name that is no number, and then gives it its path.
-fn place_file<R: Files>(rt: &R, part: &str, path: &str, bytes: &[u8]) -> io::Result<()> {
-    write_synced(rt, part, bytes)?;
-    fs::rename(rt, part, path)
-}
-
-// Puts a blob's file in place of the one that stood there. The bytes are kept before the name is, and the name before
-// it returns. A stop on the way leaves at most a file whose name is no number, or the whole new file. Behind a failure the
-// first of these is removed, where the system allows it, so that a full disk is not filled by what was refused.
-fn put_file<R: Files + AllocGlobal>(
-    rt: &R,
-    folder: &str,
-    blob: u64,
-    bytes: &[u8],
-) -> io::Result<()> {
-    let path = path_of(rt.alloc(), folder, blob)?;
-    let part = format!(in rt.alloc(); "{path}.part")?;
-    if let Err(error) = place_file(rt, part.as_str(), path.as_str(), bytes) {
-        let _ = fs::remove_file(rt, part.as_str());
-        return Err(error);
-    }
-    fs::open(rt, folder)?.sync_all()
-}
-
-// Reads a number's file. What is no file, as a pipe, is not opened, since that may wait for ever.
-fn read_file<R: Files + AllocGlobal>(rt: &R, folder: &str, blob: u64) -> io::Result<Vec<u8>> {
-    let path = path_of(rt.alloc(), folder, blob)?;
-    if !fs::metadata(rt, path.as_str())?.is_file() {
-        return Err(ErrorKind::InvalidInput.into());
-    }
-    fs::read(rt, path.as_str())
-}
-
-// Removes a blob's file, if there is one. That it is gone need not be kept: a start removes what no row names.
-fn remove_file<R: Files + AllocGlobal>(rt: &R, folder: &str, blob: u64) -> io::Result<()> {
-    let path = path_of(rt.alloc(), folder, blob)?;
-    match fs::remove_file(rt, path.as_str()) {
-        Err(error) if error.kind() == ErrorKind::NotFound => Ok(()),
-        removed => removed,
-    }
-}
-
-fn has_file<R: Files + AllocGlobal>(rt: &R, folder: &str, blob: u64) -> io::Result<bool> {
-    let path = path_of(rt.alloc(), folder, blob)?;
-    match fs::metadata(rt, path.as_str()) {
-        Ok(found) => Ok(found.is_file()),
-        Err(error) if error.kind() == ErrorKind::NotFound => Ok(false),
-        Err(error) => Err(error),
-    }
-}
-
-// Removes the file of a name that ends in `.part`, where the system allows it.
-fn clear_part<R: Files + AllocGlobal>(rt: &R, folder: &str, name: &str) -> io::Result<()> {
-    if name.ends_with(".part") {
-        let path = format!(in rt.alloc(); "{folder}/{name}")?;
-        let _ = fs::remove_file(rt, path.as_str());
-    }
-    Ok(())
-}
-
-/// Removes what stores that were stopped have left in the folder of blobs at this path, where the system allows it: the files
-/// whose names end in `.part`. Nobody may be storing there.
-pub fn clear_parts<R: Files + AllocGlobal + Clone + Drop>(rt: &R, folder: &str) -> io::Result<()> {
-    for entry in fs::read_dir(rt, folder)? {
-        match entry {
-            Ok(entry) => clear_part(rt, folder, entry.file_name())?,
-            Err(error) if error.kind() == ErrorKind::InvalidFilename => {}
-            Err(error) => return Err(error),
-        }
-    }
-    Ok(())
-}
-
-// The numbers that are names of files, in rising order. Files with other names are passed over, and folders.
-fn numbers_in<R: Files + AllocGlobal + Clone + Drop>(rt: &R, folder: &str) -> io::Result<Vec<u64>>
-    ensures { IfOk result (λ numbers. IsSorted nat_cmp numbers.items) }
-{
-    let mut numbers = Vec::new(rt.alloc());
-    for entry in fs::read_dir(rt, folder)? {
-        match entry {
-            Ok(entry) => {
-                if let Some(number) = number_of(rt.alloc(), entry.file_name())?
-                    && has_file(rt, folder, number)?
-                {
-                    numbers.push(number)?;
-                }
-            }
-            Err(error) if error.kind() == ErrorKind::InvalidFilename => {}
-            Err(error) => return Err(error),
-        }
-    }
-    numbers.sort_unstable();
-    Ok(numbers)
-}
 
 /// A blob of a folder in use. Contracts see its number; it tells no bytes.
 #[derive(Drop)]
@@ -157,16 +36,25 @@ impl Held for FolderHeld {
     }
 }
 
+// The longest that stands behind a folder in the path of a number's file: a slash and the digits of 2^64 - 1.
+const PATH_END: usize = 21;
+
 /// The blobs of a folder. Contracts see how many calls have failed; it tells no blobs.
 ///
-/// A call fails where the system refuses it; where the folder is missing, no number stands there and `store`, `read` and
-/// `list` fail. `store` answers Ok once the system keeps the bytes and their name, whatever stops afterwards. What a store
-/// that is stopped leaves is not listed, or it is the whole blob. What has a number for its name and is no file, as a folder
-/// or a pipe, is no blob: it is neither listed nor adopted nor opened, and where it is a folder `store` fails at its number.
+/// A call fails where the system refuses it; where the folder is missing, no number stands there and `store`, `begin`, `read`,
+/// `read_at` and `list` fail. `store` and `seal` answer Ok once the system keeps the bytes and their name, whatever stops
+/// afterwards. What a store or a pen that is stopped leaves is not listed, or it is the whole blob. What has a number for its
+/// name and is no file, as a folder or a pipe, is no blob: it is neither listed nor adopted nor opened, and where it is a folder
+/// `store` and `begin` fail at its number.
+///
+/// The file of the blob that `read_at` read last stays open, until its end was read, another is read or its number is begun,
+/// sealed, stored or removed.
 #[derive(Drop)]
 pub struct FolderBlobs<R: Files + AllocGlobal + Clone + Drop> {
     rt: R,
     folder: String,
+    path: String,
+    open: Option<OpenBlob<R::File>>,
     faults: u64,
 }
 
@@ -180,14 +68,17 @@ impl<R: Files + AllocGlobal + Clone + Drop> Model for FolderBlobs<R> {
 
 impl<R: Files + AllocGlobal + Clone + Drop> FolderBlobs<R> {
     /// The blobs of the folder at this path. Nothing is looked at yet.
-    pub fn new(rt: R, folder: String) -> FolderBlobs<R>
-        ensures { result ≡ 0 }
+    pub fn new(rt: R, folder: String) -> Result<FolderBlobs<R>, NoMemory>
+        ensures { IfOk result (λ blobs. blobs ≡ 0) }
     {
-        FolderBlobs {
+        let path = String::with_capacity(rt.alloc(), folder.len().saturating_add(PATH_END))?;
+        Ok(FolderBlobs {
             rt,
             folder,
+            path,
+            open: None,
             faults: 0,
-        }
+        })
     }
 
     /// How many calls have failed.
@@ -211,10 +102,77 @@ impl<R: Files + AllocGlobal + Clone + Drop> FolderBlobs<R> {
             }
         }
     }
+
+    // The file of a number is not kept open.
+    fn close(&mut self, blob: u64)
+        ensures { self.new ≡ self.old }
+    {
+        if let Some(open) = &self.open
+            && open.blob == blob
+        {
+            self.open = None;
+        }
+    }
+
+    // The file of a number, opened where it isn't open. It takes no memory.
+    fn opened(&mut self, blob: u64) -> Result<OpenBlob<R::File>, Failed>
+        ensures { self.new ≡ self.old }
+    {
+        if let Some(open) = self.open.take()
+            && open.blob == blob
+        {
+            return Ok(open);
+        }
+        let Ok(()) = write_path(&mut self.path, self.folder.as_str(), blob) else {
+            return Err(Failed);
+        };
+        match open_path(&self.rt, self.path.as_str()) {
+            Ok(file) => Ok(OpenBlob { blob, file, at: 0 }),
+            Err(_) => Err(Failed),
+        }
+    }
+
+    // Reads some bytes of a number's file. It is kept open until its end was read.
+    fn read_some(&mut self, blob: u64, at: u64, buffer: &mut [u8]) -> Result<usize, Failed>
+        requires { at < 2 ^ 63 }
+        ensures count { IfOk result (λ n. n ≤ length buffer.new) }
+        ensures kept { self.new ≡ self.old }
+    {
+        let mut open = self.opened(blob)?;
+        let count = open.read_at(at, buffer)?;
+        if count > 0 {
+            self.open = Some(open);
+        }
+        Ok(count)
+    }
+
+    // Reads no byte past the greatest length of a blob.
+    fn read_within(&mut self, blob: u64, at: u64, buffer: &mut [u8]) -> Result<usize, Failed>
+        ensures count { IfOk result (λ n. n ≤ length buffer.new) }
+        ensures below { IfOk result (λ n. 0 < n → at + n < 2 ^ 63) }
+        ensures kept { self.new ≡ self.old }
+    {
+        if at >= MOST_BYTES {
+            return Ok(0);
+        }
+        let most = (MOST_BYTES - at).min(buffer.len() as u64) as usize;
+        self.read_some(blob, at, &mut buffer[..most])
+    }
+
+    // Ends the file of a pen, and waits until the system keeps its name.
+    fn seal_pen(&mut self, mut pen: FolderPen<R::File>, blob: u64) -> io::Result<()>
+        ensures { self.new ≡ self.old }
+    {
+        seal_file(&self.rt, self.folder.as_str(), blob, pen.file()?)?;
+        pen.release();
+        fs::open(&self.rt, self.folder.as_str())?.sync_all()
+    }
 }
 
 impl<R: Files + AllocGlobal + Clone + Drop> Blobs for FolderBlobs<R> {
     type Held = FolderHeld;
+
+    type Pen = FolderPen<R::File>;
 
     ghost faults = { λ b. b };
 
@@ -222,9 +180,51 @@ impl<R: Files + AllocGlobal + Clone + Drop> Blobs for FolderBlobs<R> {
         ensures cause { HasBlobCause self.old self.new result }
         ensures held { IfOk result (λ held. held ≡ blob) }
     {
+        self.close(blob);
         let stored = put_file(&self.rt, self.folder.as_str(), blob, bytes);
         self.counted(stored)?;
         Ok(FolderHeld { blob })
+    }
+
+    fn begin(&mut self, blob: u64) -> Result<FolderPen<R::File>, BlobFault>
+        ensures cause { HasBlobCause self.old self.new result }
+        ensures pen { IfOk result (λ pen. pen ≡ blob) }
+    {
+        self.close(blob);
+        let begun = begin_file(&self.rt, self.folder.as_str(), blob);
+        let file = self.counted(begun)?;
+        Ok(FolderPen::new(blob, file))
+    }
+
+    fn append(&mut self, pen: &mut FolderPen<R::File>, bytes: &[u8]) -> Result<(), BlobFault>
+        ensures cause { HasBlobCause self.old self.new result }
+        ensures pen { pen.new ≡ pen.old }
+    {
+        let written = pen.append(bytes);
+        self.counted(written)
+    }
+
+    fn seal(&mut self, pen: FolderPen<R::File>) -> Result<FolderHeld, BlobFault>
+        ensures cause { HasBlobCause self.old self.new result }
+        ensures held { IfOk result (λ held. held ≡ pen) }
+    {
+        let blob = pen.blob();
+        self.close(blob);
+        let sealed = self.seal_pen(pen, blob);
+        self.counted(sealed)?;
+        Ok(FolderHeld { blob })
+    }
+
+    fn read_at(&mut self, held: &FolderHeld, at: u64, buffer: &mut [u8]) -> Result<usize, Failed>
+        ensures cause { HasCause self.old self.new result }
+        ensures count { IfOk result (λ n. n ≤ length buffer.new) }
+        ensures below { IfOk result (λ n. 0 < n → at + n < 2 ^ 63) }
+    {
+        let read = self.read_within(held.blob, at, buffer);
+        if read.is_err() {
+            self.faults = self.faults.saturating_add(1);
+        }
+        read
     }
 
     fn read(&mut self, held: &FolderHeld) -> Result<Vec<u8>, BlobFault>
@@ -237,7 +237,8 @@ impl<R: Files + AllocGlobal + Clone + Drop> Blobs for FolderBlobs<R> {
     fn remove(&mut self, blob: u64) -> Result<(), BlobFault>
         ensures { HasBlobCause self.old self.new result }
     {
-        let removed = remove_file(&self.rt, self.folder.as_str(), blob);
+        self.close(blob);
+        let removed = remove_files(&self.rt, self.folder.as_str(), blob);
         self.counted(removed)
     }
 
