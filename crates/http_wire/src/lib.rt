@@ -11,6 +11,7 @@ pub mod fields;
 mod laws;
 mod lines;
 mod parser;
+mod pieces;
 mod requests;
 mod search;
 mod wires;

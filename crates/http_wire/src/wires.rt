@@ -141,7 +141,7 @@ impl Wire {
     }
 
     /// The bytes that are held.
-    fn held(&self) -> &[u8]
+    pub(crate) fn held(&self) -> &[u8]
         ensures value { result.now ≡ self.now }
         ensures room { length self.now ≤ HEAD_BYTES }
     {
@@ -149,7 +149,7 @@ impl Wire {
     }
 
     /// Takes that many bytes off the front.
-    fn use_up(&mut self, count: usize)
+    pub(crate) fn use_up(&mut self, count: usize)
         requires { count ≤ length self.old }
         ensures { self.new ≡ drop count self.old }
     {

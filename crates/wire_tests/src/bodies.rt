@@ -48,12 +48,59 @@ fn comes_whole(alloc: Global, body: &[u8], most: usize) -> Result<bool, WireFaul
     Ok(given.as_slice() == body && next.as_slice() == NEXT)
 }
 
+// Takes a body of so many bytes piece by piece through a room.
+fn take_pieces(
+    wire: &mut Wire,
+    source: &mut MemSource,
+    room: &mut [u8],
+    body: &mut Vec<u8>,
+    count: u64,
+) -> Result<(), WireFault> {
+    let mut left = count;
+    for _ in 0..count {
+        let piece = wire.piece(source, left, room)?;
+        body.extend_from_slice(&room[..piece])?;
+        left -= piece as u64;
+        if left == 0 {
+            break;
+        }
+    }
+    Ok(())
+}
+
+// The same where both are taken piece by piece, through a room of 65,536 bytes.
+fn comes_in_pieces(alloc: Global, body: &[u8], most: usize) -> Result<bool, WireFault> {
+    let mut source = stream_of(alloc, body, most, u64::MAX)?;
+    let mut wire = Wire::new();
+    wire.next_request(alloc, &mut source)?;
+    let mut room = bytes_of(alloc, 65_536)?;
+    let mut given = Vec::new(alloc);
+    take_pieces(
+        &mut wire,
+        &mut source,
+        &mut room,
+        &mut given,
+        body.len() as u64,
+    )?;
+    let mut next = Vec::new(alloc);
+    take_pieces(
+        &mut wire,
+        &mut source,
+        &mut room,
+        &mut next,
+        NEXT.len() as u64,
+    )?;
+    Ok(given.as_slice() == body && next.as_slice() == NEXT)
+}
+
 // The first length and reads at which a body comes otherwise.
 fn first_wrong(alloc: Global) -> Result<Option<(usize, usize)>, WireFault> {
     for length in &LENGTHS {
         let body = bytes_of(alloc, *length)?;
         for most in &READS {
-            if !comes_whole(alloc, body.as_slice(), *most)? {
+            if !comes_whole(alloc, body.as_slice(), *most)?
+                || !comes_in_pieces(alloc, body.as_slice(), *most)?
+            {
                 return Ok(Some((*length, *most)));
             }
         }
@@ -108,5 +155,33 @@ fn a_source_may_fail_at_any_piece(rt: HostRuntime) -> Result<(), Fail> {
             None
         )
     );
+    Ok(())
+}
+
+// What one piece and the next give where this read fails, of a stream of ten bytes that come three at a time.
+fn two_pieces(
+    alloc: Global,
+    fails_at: u64,
+) -> Result<(Result<usize, WireFault>, Result<usize, WireFault>), AllocError> {
+    let mut source = source_of(alloc, b"0123456789", 3, fails_at)?;
+    let mut wire = Wire::new();
+    let mut room = [0; 8];
+    let first = wire.piece(&mut source, 16, &mut room);
+    let second = wire.piece(&mut source, 16, &mut room);
+    Ok((first, second))
+}
+
+// The input ends within a body, or fails: no byte is gone, and the next call goes on.
+#[test]
+fn a_piece_may_be_refused(rt: HostRuntime) -> Result<(), Fail> {
+    let fine = two_pieces(rt.alloc(), u64::MAX)?;
+    assert_eq!(rt; fine, (Ok(3), Ok(3)));
+    let failed = two_pieces(rt.alloc(), 0)?;
+    assert_eq!(rt; failed, (Err(WireFault::SourceFault), Ok(3)));
+    let mut source = source_of(rt.alloc(), b"", 3, u64::MAX)?;
+    let mut wire = Wire::new();
+    let torn = wire.piece(&mut source, 1, &mut [0; 8]);
+    let none = wire.piece(&mut source, 0, &mut [0; 8]);
+    assert_eq!(rt; (torn, none), (Err(WireFault::Torn), Ok(0)));
     Ok(())
 }
