@@ -120,19 +120,7 @@ put-keeps settings old e repo path n blob row fits asks is = by fits.reply where
 -- each file stays, where none is taken away
 may-now : (grace now : ℕ) (s : State) (e : Effect) → takes_away e ≡ false → May grace now s e → May now now s e
 may-now grace now s (expires repo path blob) stays may = absurd (false≢true (sym stays))
-may-now grace now s draws stays may = may
-may-now grace now s (drops n) stays may = may
-may-now grace now s (creates repo path blob at) stays may = may
-may-now grace now s (stages n path blob) stays may = may
-may-now grace now s (delivers n repo path blob at) stays may = may
-may-now grace now s (discards n path draft) stays may = may
-may-now grace now s (relists repo path at) stays may = may
-may-now grace now s (fades repo path at) stays may = may
-may-now grace now s (forgets blobs) stays may = may
-may-now grace now s (lends blob) stays may = may
-may-now grace now s (returns lease) stays may = may
-may-now grace now s (opens n repo) stays may = may
-may-now grace now s (ends n outcome) stays may = may
+may-now grace now s e stays may = may
 
 from-first : (phase : Phase) → LastsFrom 0 phase
 from-first listed = tt

@@ -5,6 +5,5 @@ pub mod Firsts
 pub mod Kept
 pub mod Left
 pub mod Ones
-pub mod Passes
 pub mod Snapshots
 pub mod Texts

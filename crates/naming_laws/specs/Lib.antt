@@ -2,5 +2,4 @@ pub mod Answered
 pub mod Cases
 pub mod Kept
 pub mod Left
-pub mod Limits
 pub mod Named

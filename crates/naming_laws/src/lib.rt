@@ -1,12 +1,11 @@
-//! Which files a document names, by what is written in it, how many rows one pass of the purge takes, which files stay as they are,
-//! and which drafts and leases are left at the end of a history.
+//! Which files a document names, by what is written in it, which files stay as they are, and which drafts and leases are left at the
+//! end of a history.
 //!
 //! No function here has code: its contract is the law.
 #![tactic(auto)]
 
 mod documents;
 mod ends;
-mod purges;
 mod puts;
 
 pub use documents::{
@@ -14,5 +13,4 @@ pub use documents::{
     worked_documents_name,
 };
 pub use ends::what_is_left_was_given;
-pub use purges::passes_keep_their_limit;
 pub use puts::{files_stay_until_collected, puts_again_keep_files};

@@ -13,10 +13,10 @@ use Rattle.repo_model.specs.Data.{Row, Hosted}
 use Rattle.repo_model.specs.State.{State, change_where, change_first, is_repository, is_row, row_at, rows_of}
 use Rattle.repo_model.specs.Effect.{Effect, draws, drops, creates, stages, delivers, discards, relists, fades, expires, forgets, lends, returns, opens, ends, with_row, new_row, list_again, fade, without_row, with_effect}
 use Rattle.repo_model.specs.May.{May}
-use Rattle.repo_laws.specs.Sound.{IsBelow, AreByPath, RowsApart}
+use Rattle.repo_laws.specs.Sound.{IsBelow, AreByPath}
 use Rattle.repo_laws.proofs.Lists.{all-then}
 use Rattle.repo_laws.proofs.Releases.{is_itself, other_path}
-use Rattle.repo_laws.proofs.Rows.{rows_in}
+use Rattle.repo_laws.proofs.Rows.{RowsApart, rows_in}
 
 -- a path that is below another is not that one
 below-other : (a b : List ℕ) → slice_cmp nat_cmp a b ≡ Less → bytes_eq b a ≡ false
@@ -118,15 +118,7 @@ rows-kept grace now s (delivers n repo path blob moment) may all = hosted-keeps 
 rows-kept grace now s (relists repo path moment) may all = hosted-keeps AreByPath repo (change_where (is_row path) (list_again moment)) s.hosted (change-by-path (is_row path) (list_again moment) (λ r. refl) (rows_of repo s)) all
 rows-kept grace now s (fades repo path moment) may all = hosted-keeps AreByPath repo (change_where (is_row path) (fade moment)) s.hosted (change-by-path (is_row path) (fade moment) (λ r. refl) (rows_of repo s)) all
 rows-kept grace now s (expires repo path blob) may all = hosted-keeps AreByPath repo (without_row path) s.hosted (filter-by-path (λ row. not (is_row path row)) (rows_of repo s)) all
-rows-kept grace now s draws may all = all
-rows-kept grace now s (drops n) may all = all
-rows-kept grace now s (stages n path blob) may all = all
-rows-kept grace now s (discards n path draft) may all = all
-rows-kept grace now s (forgets blobs) may all = all
-rows-kept grace now s (lends blob) may all = all
-rows-kept grace now s (returns lease) may all = all
-rows-kept grace now s (opens n repo) may all = all
-rows-kept grace now s (ends n result) may all = all
+rows-kept grace now s e may all = all
 
 -- the rows of each repository lie apart
 pub all-apart : (hosted : List Hosted) → AllByRecursion (λ (h : Hosted). AreByPath h.rows) hosted → AllByRecursion (λ (h : Hosted). RowsApart h.rows) hosted

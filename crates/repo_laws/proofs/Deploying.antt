@@ -21,7 +21,7 @@ use Rattle.repo_model.specs.Deploy.{Offence, offence, without_pom, least, pom_of
 use Rattle.repo_model.specs.Turn.{Turn, turn, commit_by}
 use Rattle.repo_model.specs.History.{Entry, IsReply, due, wants_memory, failed, Fits, effects_of, after, ticked}
 use Rattle.repo_laws.specs.Laws.{AnyByRecursion, AreApart}
-use Rattle.repo_laws.specs.Sound.{RowsApart, IsInOrder, Sound}
+use Rattle.repo_laws.specs.Sound.{IsInOrder, Sound}
 use Rattle.repo_laws.specs.Causes.{OffendsNot}
 use Rattle.repo_laws.specs.Deployed.{IsVisible, IsVisibleAs, HasItsPom}
 use Rattle.repo_laws.proofs.ByPath.{all-apart}
@@ -32,7 +32,7 @@ use Rattle.repo_laws.proofs.Lists.{all-then}
 use Rattle.repo_laws.proofs.Orderly.{found-has, there-as-set}
 use Rattle.repo_laws.proofs.Places.{rows-apart}
 use Rattle.repo_laws.proofs.Releases.{same_path, is_itself, other_path, with_row-elsewhere, change-elsewhere}
-use Rattle.repo_laws.proofs.Rows.{rows_in, rows-changed}
+use Rattle.repo_laws.proofs.Rows.{RowsApart, rows_in, rows-changed}
 use Rattle.repo_laws.proofs.Stands.{change-there}
 use Rattle.repo_laws.proofs.Turns.{open-too}
 

@@ -151,22 +151,13 @@ rows-then t (HostedPut repo path blob print accepted) id at fits =
 rows-then t (Faded repo path moment) id at fits = changed-then t.hosted repo path id at (fade moment) (λ r. refl)
 rows-then t (Relisted repo path accepted) id at fits = changed-then t.hosted repo path id at (list_again accepted) (λ r. refl)
 rows-then t (Removed repo path) id at fits = gone-then t.hosted repo path id at
-rows-then t (CachedFile repo path blob print accepted) id at fits = refl
-rows-then t (CachedDoc repo path checked document) id at fits = refl
-rows-then t (SessionOpened n) id at fits = refl
-rows-then t (SessionEnded n result) id at fits = refl
+rows-then t e id at fits = refl
 
 pub files-then : (t : Tables) (item : Item) (id at : List ℕ) → IsTrue (fits_on t item)
     → recorded_at id at (item_on t item).cached ≡ (if is_of_file id at item then file_then item (recorded_at id at t.cached) else recorded_at id at t.cached)
 files-then t (CachedFile repo path blob print accepted) id at fits =
     put-then t.cached repo path id at blob print accepted (and_parts (is_none (recorded_at repo path t.cached)) (not (names_blob blob t)) fits).0
-files-then t (HostedPut repo path blob print accepted) id at fits = refl
-files-then t (Faded repo path moment) id at fits = refl
-files-then t (Relisted repo path accepted) id at fits = refl
-files-then t (Removed repo path) id at fits = refl
-files-then t (CachedDoc repo path checked document) id at fits = refl
-files-then t (SessionOpened n) id at fits = refl
-files-then t (SessionEnded n result) id at fits = refl
+files-then t e id at fits = refl
 
 -- documents
 document-then : (new : RecordedDocument) (id at : List ℕ) (documents : List RecordedDocument)
@@ -205,13 +196,7 @@ document-then new id at (d ∷ documents) =
 pub documents-then : (t : Tables) (item : Item) (id at : List ℕ)
     → document_at id at (item_on t item).documents ≡ (if is_of_document id at item then document_then item (document_at id at t.documents) else document_at id at t.documents)
 documents-then t (CachedDoc repo path checked document) id at = document-then (record { repo = repo; path = path; checked = checked; document = document }) id at t.documents
-documents-then t (HostedPut repo path blob print accepted) id at = refl
-documents-then t (Faded repo path moment) id at = refl
-documents-then t (Relisted repo path accepted) id at = refl
-documents-then t (Removed repo path) id at = refl
-documents-then t (CachedFile repo path blob print accepted) id at = refl
-documents-then t (SessionOpened n) id at = refl
-documents-then t (SessionEnded n result) id at = refl
+documents-then t e id at = refl
 
 -- sessions
 pub sessions-then : (t : Tables) (item : Item) (n : ℕ) → IsTrue (fits_on t item)
@@ -238,9 +223,4 @@ sessions-then t (SessionEnded m result) n fits =
           (find-changed (is_session m) telling (λ x. refl) t.sessions)
       | false ↦ λ other. find-change-elsewhere (is_session n) (is_session m) telling (λ x is. ap (λ k. k == n) (eqb-true x.number m is) ∙ other) (λ x. refl) t.sessions
     ] refl
-sessions-then t (HostedPut repo path blob print accepted) n fits = refl
-sessions-then t (Faded repo path moment) n fits = refl
-sessions-then t (Relisted repo path accepted) n fits = refl
-sessions-then t (Removed repo path) n fits = refl
-sessions-then t (CachedFile repo path blob print accepted) n fits = refl
-sessions-then t (CachedDoc repo path checked document) n fits = refl
+sessions-then t e n fits = refl

@@ -96,15 +96,7 @@ module _ (grace now : ℕ) (s : State) where
   staged-kept (discards n path draft) may old = fewer n path old
   staged-kept (opens n repo) may old = all-push Rises s.sessions (new_session n repo) old (none-rise staged_cmp)
   staged-kept (ends n result) may old = all-change_first Rises (is_open_at n) (λ session. record session { ended = Some result }) (λ x rising. rising) s.sessions old
-  staged-kept draws may old = old
-  staged-kept (drops n) may old = old
-  staged-kept (creates repo path blob moment) may old = old
-  staged-kept (relists repo path moment) may old = old
-  staged-kept (fades repo path moment) may old = old
-  staged-kept (expires repo path blob) may old = old
-  staged-kept (forgets blobs) may old = old
-  staged-kept (lends blob) may old = old
-  staged-kept (returns lease) may old = old
+  staged-kept e may old = old
 
 module _ (settings : Settings) (apart : AreNamedApart settings.hosted) where
   staged-entry : (s : State) (e : Entry) → Fits settings s e → Sound settings s → StagedByPath s → StagedByPath (after settings s e)

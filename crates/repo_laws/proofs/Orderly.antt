@@ -15,9 +15,10 @@ use Rattle.repo_model.specs.Effect.{Effect, draws, drops, creates, stages, deliv
 use Rattle.repo_model.specs.May.{May}
 use Rattle.repo_model.specs.Command.{is_there}
 use Rattle.repo_laws.specs.Laws.{AreApart}
-use Rattle.repo_laws.specs.Sound.{RowsApart, IsInOrder, Sound}
+use Rattle.repo_laws.specs.Sound.{IsInOrder, Sound}
 use Rattle.repo_laws.proofs.ByPath.{rows-kept}
 use Rattle.repo_laws.proofs.Releases.{is_itself, other_path}
+use Rattle.repo_laws.proofs.Rows.{RowsApart}
 
 -- what passes no test before a filter, passes none after it
 none-filter : {X : Type 0} (p q : X → Bool) (xs : List X) → find p xs ≡ None → find p (filter q xs) ≡ None
@@ -143,15 +144,7 @@ module _ (settings : Settings) (grace now : ℕ) (s : State) where
   sessions-kept (opens n repo) rules may all = push-ordered (new_session n repo) s.sessions all (λ _. sym (there-as-set settings s repo rules) ∙ may.2, tt)
   sessions-kept (ends n outcome) rules may all =
       first-keeps (IsInOrder settings) (is_open_at n) (λ session. record session { ended = Some outcome }) s.sessions may.0 all may.1 (λ is. cc, (found-has (IsInOrder settings) (is_open_at n) s.sessions may.0 all may.1).1)
-  sessions-kept (creates repo path blob moment) rules may all = all
-  sessions-kept (relists repo path moment) rules may all = all
-  sessions-kept (fades repo path moment) rules may all = all
-  sessions-kept (expires repo path blob) rules may all = all
-  sessions-kept draws rules may all = all
-  sessions-kept (drops n) rules may all = all
-  sessions-kept (forgets blobs) rules may all = all
-  sessions-kept (lends blob) rules may all = all
-  sessions-kept (returns lease) rules may all = all
+  sessions-kept e rules may all = all
 
 abbrev Numbers : Yard → Type 0
 Numbers yard = (yard.next_draft ≤ number_end) × (yard.next_lease ≤ number_end) × (yard.next_session ≤ number_end)
@@ -160,17 +153,7 @@ numbers-kept : (grace now : ℕ) (s : State) (e : Effect) → May grace now s e 
 numbers-kept grace now s draws may old = (omega (arith, may), old.1, old.2)
 numbers-kept grace now s (lends blob) may old = (old.0, omega (arith, may.3), old.2)
 numbers-kept grace now s (opens n repo) may old = (old.0, old.1, omega (arith, may.1))
-numbers-kept grace now s (creates repo path blob moment) may old = old
-numbers-kept grace now s (relists repo path moment) may old = old
-numbers-kept grace now s (fades repo path moment) may old = old
-numbers-kept grace now s (expires repo path blob) may old = old
-numbers-kept grace now s (drops n) may old = old
-numbers-kept grace now s (stages n path blob) may old = old
-numbers-kept grace now s (delivers n repo path blob moment) may old = old
-numbers-kept grace now s (discards n path draft) may old = old
-numbers-kept grace now s (forgets blobs) may old = old
-numbers-kept grace now s (returns lease) may old = old
-numbers-kept grace now s (ends n outcome) may old = old
+numbers-kept grace now s e may old = old
 
 pub sound-kept : (settings : Settings) (grace now : ℕ) (s : State) (e : Effect) → May grace now s e → Sound settings s → Sound settings (with_effect s e)
 sound-kept settings grace now s e may old =

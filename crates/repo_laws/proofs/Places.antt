@@ -11,8 +11,8 @@ use Rattle.repo_model.specs.State.{State, Lease, change_where, is_repository, is
 use Rattle.repo_model.specs.Effect.{Effect, draws, drops, creates, stages, delivers, discards, relists, fades, expires, forgets, lends, returns, opens, ends, with_row, new_row, list_again, fade, with_staged, without_row, without_staged, new_session, with_effect}
 use Rattle.repo_model.specs.May.{May}
 use Rattle.repo_laws.specs.Laws.{places_of, rows_with, count_of}
-use Rattle.repo_laws.specs.Sound.{RowsApart, OnePlace}
-use Rattle.repo_laws.proofs.Rows.{rows_in}
+use Rattle.repo_laws.specs.Sound.{OnePlace}
+use Rattle.repo_laws.proofs.Rows.{RowsApart, rows_in}
 use Rattle.repo_laws.proofs.Counts.{one_if, count-cons, count-push, count-filter, found-goes, row-goes, count-with_number, given-up, count-with_row, count-with_staged, count-change_where, names, stages_it, rows-counted, rows-counted-back, staged-counted, row-counts}
 
 -- the effect draws the next number
@@ -81,19 +81,7 @@ module _ (grace now : ℕ) (s : State) (n : ℕ) where
 -- the next number grows where it is drawn
 pub next-counted : (s : State) (e : Effect) → (with_effect s e).yard.next_draft ≡ s.yard.next_draft + one_if (is_draw e)
 next-counted s draws = refl
-next-counted s (drops m) = omega arith
-next-counted s (creates repo path blob moment) = omega arith
-next-counted s (stages m path blob) = omega arith
-next-counted s (delivers m repo path blob moment) = omega arith
-next-counted s (discards m path draft) = omega arith
-next-counted s (relists repo path moment) = omega arith
-next-counted s (fades repo path moment) = omega arith
-next-counted s (expires repo path blob) = omega arith
-next-counted s (forgets blobs) = omega arith
-next-counted s (lends blob) = omega arith
-next-counted s (returns lease) = omega arith
-next-counted s (opens m repo) = omega arith
-next-counted s (ends m outcome) = omega arith
+next-counted s e = omega arith
 
 -- a number that was drawn is not drawn again
 pub never-again : (s : State) (e : Effect) (n : ℕ) → n < s.yard.next_draft → drawn_by e s n ≡ 0
@@ -188,13 +176,11 @@ module _ (s : State) where
 
 pub lent-kept : (grace now : ℕ) (s : State) (e : Effect) → AllByRecursion (λ (h : Hosted). RowsApart h.rows) s.hosted → May grace now s e
     → AllByRecursion (IsLent s) s.yard.leases → AllByRecursion (IsLent (with_effect s e)) (with_effect s e).yard.leases
-lent-kept grace now s draws apart may all = all
 lent-kept grace now s (drops m) apart may all =
     all-lent s (with_effect s (drops m)) (λ n. omega (arith, count-with_number n m s.yard.condemned)) s.yard.leases all
 lent-kept grace now s (creates repo path blob moment) apart may all =
     all-lent s (with_effect s (creates repo path blob moment))
     (λ n. omega (arith, rows-counted-back n repo (with_row (new_row path blob moment)) 0 s.hosted (omega (arith, count-with_row (names n) (new_row path blob moment) (rows_of repo s))))) s.yard.leases all
-lent-kept grace now s (stages m path blob) apart may all = all
 lent-kept grace now s (delivers m repo path blob moment) apart may all =
     all-lent s (with_effect s (delivers m repo path blob moment))
     (λ n. omega (arith, rows-counted-back n repo (with_row (new_row path blob moment)) 0 s.hosted (omega (arith, count-with_row (names n) (new_row path blob moment) (rows_of repo s))))) s.yard.leases all
@@ -218,8 +204,7 @@ lent-kept grace now s (lends blob) apart may all =
     let there : 0 < rows_with blob s.hosted = subst (λ (k : ℕ). 0 < rows_with k s.hosted) named (row-counts repo path s.hosted row found) in
     lent-push s s.yard.leases (record { number = s.yard.next_lease; blob = blob }) all (omega (arith, there))
 lent-kept grace now s (returns lease) apart may all = lent-filter s (λ l. not (l.number == lease)) s.yard.leases all
-lent-kept grace now s (opens m repo) apart may all = all
-lent-kept grace now s (ends m outcome) apart may all = all
+lent-kept grace now s e apart may all = all
 
 -- each effect keeps all of it
 pub one-place-kept : (grace now : ℕ) (s : State) (e : Effect) → AllByRecursion (λ (h : Hosted). RowsApart h.rows) s.hosted → May grace now s e

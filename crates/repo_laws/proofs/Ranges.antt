@@ -239,13 +239,7 @@ effect-right grace now s (fades repo path moment) may early placed up = ((omega 
 effect-right grace now s (expires repo path blob) may early placed up = ((tt, tt), tt)
 effect-right grace now s (opens n repo) may early placed up = ((may.1, tt), tt)
 effect-right grace now s (ends n result) may early placed up = ((tt, tt), tt)
-effect-right grace now s draws may early placed up = tt
-effect-right grace now s (drops n) may early placed up = tt
-effect-right grace now s (stages n path blob) may early placed up = tt
-effect-right grace now s (discards n path draft) may early placed up = tt
-effect-right grace now s (forgets blobs) may early placed up = tt
-effect-right grace now s (lends blob) may early placed up = tt
-effect-right grace now s (returns lease) may early placed up = tt
+effect-right grace now s e may early placed up = tt
 
 module _ (settings : Settings) (apart : AreNamedApart settings.hosted) where
   effects-right : (now : ℕ) (es : List Effect) (s : State) → AllMay settings.grace now s es → now ≤ latest_moment → Sound settings s → OnePlace s → AllByRecursion IsRight (recorded es)

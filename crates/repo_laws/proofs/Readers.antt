@@ -95,18 +95,7 @@ module _ (lease n : ℕ) where
       let at : x.number ≡ lease = eqb-true x.number lease (and_parts (x.number == lease) (x.blob == n) is).0 in
       ap not (ne_eqb x.number l (λ same. false≢true (sym quiet ∙ eq-eqb l lease (sym same ∙ at)))))
       s.yard.leases lent
-  lent-then s draws quiet lent = lent
-  lent-then s (drops m) quiet lent = lent
-  lent-then s (creates repo path blob moment) quiet lent = lent
-  lent-then s (stages m path blob) quiet lent = lent
-  lent-then s (delivers m repo path blob moment) quiet lent = lent
-  lent-then s (discards m path d) quiet lent = lent
-  lent-then s (relists repo path moment) quiet lent = lent
-  lent-then s (fades repo path moment) quiet lent = lent
-  lent-then s (expires repo path blob) quiet lent = lent
-  lent-then s (forgets blobs) quiet lent = lent
-  lent-then s (opens m repo) quiet lent = lent
-  lent-then s (ends m outcome) quiet lent = lent
+  lent-then s e quiet lent = lent
 
   lent-through : (es : List Effect) (s : State) → Quiet lease es → IsLentAs lease n s → IsLentAs lease n (with_effects s es)
   lent-through [] s quiet lent = lent

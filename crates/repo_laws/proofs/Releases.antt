@@ -111,12 +111,8 @@ created s at new blob moment repo path row none is =
 
 pub releases-kept : (grace now : ℕ) (s : State) (e : Effect) → FadingAreSnapshots s → May grace now s e
     → (repo path : List ℕ) (row : Row) → is_snapshot_path path ≡ false → row_at path (rows_of repo s) ≡ Some row → row_at path (rows_of repo (with_effect s e)) ≡ Some row
-releases-kept grace now s draws right may repo path row release is = is
-releases-kept grace now s (drops n) right may repo path row release is = is
 releases-kept grace now s (creates at new blob moment) right may repo path row release is = created s at new blob moment repo path row may.3 is
-releases-kept grace now s (stages n new blob) right may repo path row release is = is
 releases-kept grace now s (delivers n at new blob moment) right may repo path row release is = created s at new blob moment repo path row may.5 is
-releases-kept grace now s (discards n old draft) right may repo path row release is = is
 releases-kept grace now s (relists at old moment) right may repo path row release is =
     let (r, since, _, found, fades_since) = may in
     let this = fading_found old (rows_of at s) r (fading_rows at s.hosted right) found since fades_since in
@@ -134,11 +130,7 @@ releases-kept grace now s (expires at old blob) right may repo path row release 
     let snapshot : is_snapshot_path old ≡ true = ap is_snapshot_path (sym old_is) ∙ this in
     keeps-rows s at (without_row old) repo path row
     (λ _. without-elsewhere path old (apart old path snapshot release) (rows_of repo s)) is
-releases-kept grace now s (forgets blobs) right may repo path row release is = is
-releases-kept grace now s (lends blob) right may repo path row release is = is
-releases-kept grace now s (returns lease) right may repo path row release is = is
-releases-kept grace now s (opens n repo') right may repo path row release is = is
-releases-kept grace now s (ends n outcome) right may repo path row release is = is
+releases-kept grace now s e right may repo path row release is = is
 
 -- rows that fade rightly do so still
 listed-rightly : (path : List ℕ) (blob : Blob) (moment : ℕ) → FadesRightly (new_row path blob moment)
@@ -192,15 +184,7 @@ rightly-kept grace now s (fades at old moment) right may =
     hosted-rightly at (change_where (is_row old) (fade moment))
     (change-rightly old (fade moment) (λ r is r_right since e. ap is_snapshot_path (same_path r.path old is) ∙ may.1)) s.hosted right
 rightly-kept grace now s (expires at old blob) right may = hosted-rightly at (without_row old) (without-rightly old) s.hosted right
-rightly-kept grace now s draws right may = right
-rightly-kept grace now s (drops n) right may = right
-rightly-kept grace now s (stages n new blob) right may = right
-rightly-kept grace now s (discards n old draft) right may = right
-rightly-kept grace now s (forgets blobs) right may = right
-rightly-kept grace now s (lends blob) right may = right
-rightly-kept grace now s (returns lease) right may = right
-rightly-kept grace now s (opens n repo) right may = right
-rightly-kept grace now s (ends n outcome) right may = right
+rightly-kept grace now s e right may = right
 
 pub all-kept : (grace now : ℕ) (es : List Effect) (s : State) → FadingAreSnapshots s → AllMay grace now s es → KeepsReleases s (with_effects s es)
 all-kept grace now [] s right may repo path row release is = is

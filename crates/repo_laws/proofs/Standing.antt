@@ -18,9 +18,9 @@ use Rattle.repo_model.specs.Purge.{expire_all}
 use Rattle.repo_model.specs.Turn.{turn, unlent}
 use Rattle.repo_model.specs.History.{Entry, IsReply, due, wants_memory, failed, Fits, ticked, effects_of, after, Legal, end}
 use Rattle.repo_laws.specs.Laws.{count_of, rows_with, staged_with, places_of, AreApart}
-use Rattle.repo_laws.specs.Sound.{AreNamedApart, RowsApart, IsInOrder, Sound, OnePlace}
+use Rattle.repo_laws.specs.Sound.{AreNamedApart, IsInOrder, Sound, OnePlace}
 use Rattle.repo_laws.specs.Closed.{given_out, all_given_out}
-use Rattle.repo_laws.proofs.Rows.{rows_in}
+use Rattle.repo_laws.proofs.Rows.{RowsApart, rows_in}
 use Rattle.repo_laws.proofs.Counts.{one_if, count-cons, count-push, none-goes, row-goes, count-with_number, among-counts, count-with_row, count-with_staged, count-change_where, names, stages_it, rows_with-cons, staged_with-cons, rows-counted-back}
 use Rattle.repo_laws.proofs.Places.{rows-apart, one-place-kept}
 use Rattle.repo_laws.proofs.Lists.{all-then}

@@ -71,12 +71,4 @@ module _ (path : List ℕ) (blob : Blob) (t : ℕ) where
         same,
         lasts,
       ))
-  stands-kept grace now s draws repo early late may stands = stands
-  stands-kept grace now s (drops n) repo early late may stands = stands
-  stands-kept grace now s (stages n new kept) repo early late may stands = stands
-  stands-kept grace now s (discards n old draft) repo early late may stands = stands
-  stands-kept grace now s (forgets blobs) repo early late may stands = stands
-  stands-kept grace now s (lends lent) repo early late may stands = stands
-  stands-kept grace now s (returns lease) repo early late may stands = stands
-  stands-kept grace now s (opens n at) repo early late may stands = stands
-  stands-kept grace now s (ends n outcome) repo early late may stands = stands
+  stands-kept grace now s e repo early late may stands = stands

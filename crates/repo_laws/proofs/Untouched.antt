@@ -72,18 +72,7 @@ unborrowed grace now s (lends blob) n may nowhere none =
     any-push (λ l. l.blob == n) s.yard.leases (record { number = s.yard.next_lease; blob = blob }) none
     (ne_eqb blob n (λ same. let here : 0 < rows_with n s.hosted = subst (λ (k : ℕ). 0 < rows_with k s.hosted) same there in omega (arith, here, nowhere)))
 unborrowed grace now s (returns lease) n may nowhere none = any-filter (λ l. l.blob == n) (λ l. not (l.number == lease)) s.yard.leases none
-unborrowed grace now s draws n may nowhere none = none
-unborrowed grace now s (drops m) n may nowhere none = none
-unborrowed grace now s (creates repo path blob moment) n may nowhere none = none
-unborrowed grace now s (stages m path blob) n may nowhere none = none
-unborrowed grace now s (delivers m repo path blob moment) n may nowhere none = none
-unborrowed grace now s (discards m path draft) n may nowhere none = none
-unborrowed grace now s (relists repo path moment) n may nowhere none = none
-unborrowed grace now s (fades repo path moment) n may nowhere none = none
-unborrowed grace now s (expires repo path blob) n may nowhere none = none
-unborrowed grace now s (forgets blobs) n may nowhere none = none
-unborrowed grace now s (opens m repo) n may nowhere none = none
-unborrowed grace now s (ends m outcome) n may nowhere none = none
+unborrowed grace now s e n may nowhere none = none
 
 pub gone-kept : (grace now : ℕ) (s : State) (e : Effect) (n : ℕ) → May grace now s e → IsGone n s → IsGone n (with_effect s e)
 gone-kept grace now s e n may (drawn, nowhere, none) =

@@ -1,31 +1,47 @@
 -- Words of the laws on replies: refusals and what they give up, entries that spend a draft, replies that may change rows, entries that ask alike, and the moments of a history.
 use Rattle.std.specs.Prelude.{◌≡◌, ◌↔◌, ℕ, Bool, true, false, not, ◌&&◌, ◌==◌, List, [], ◌∷◌, map}
-use Rattle.repo_model.specs.declared.session.SessionResult.TheVariants.{Done}
+use Rattle.repo_model.specs.declared.session.SessionResult.TheVariants.{Aborted, Done}
 use Rattle.repo_model.specs.Paths.{takes}
 use Rattle.repo_model.specs.State.{State, hosted_of, open_of}
 use Rattle.repo_model.specs.Effect.{Effect, drops}
 use Rattle.repo_model.specs.Command.{Command, put, stage, drop_draft, is_fit}
-use Rattle.repo_model.specs.Reply.{Reply, missed, kind_refused, no_draft, taken, not_there, differs, no_session, sessions_full, session_full, offends, missing_pom, spent, no_memory, store_fault, relisted, created, ended, unlisted, collected, is_free}
+use Rattle.repo_model.specs.Reply.{Reply, file, text, doc, missed, given_back, kind_refused, draft, no_draft, taken, same, relisted, created, not_there, differs, agreed, noted, dropped, no_session, sessions_full, opened, session_full, staged, offends, missing_pom, ended, unlisted, collected, counts, spent, no_memory, store_fault, is_free}
 use Rattle.repo_model.specs.Turn.{has_room}
 use Rattle.repo_model.specs.History.{Entry}
 
 -- the replies that refuse a command
 abbrev pub is_refusal : Reply → Bool
+is_refusal (file lease blob) = false
+is_refusal (text bytes) = false
+is_refusal (doc bytes digests) = false
 is_refusal missed = true
+is_refusal given_back = false
 is_refusal kind_refused = true
+is_refusal (draft n) = false
 is_refusal no_draft = true
 is_refusal (taken kept sent) = true
+is_refusal same = false
+is_refusal relisted = false
+is_refusal created = false
 is_refusal not_there = true
 is_refusal (differs said kept) = true
+is_refusal agreed = false
+is_refusal noted = false
+is_refusal dropped = false
 is_refusal no_session = true
 is_refusal sessions_full = true
+is_refusal (opened n) = false
 is_refusal session_full = true
+is_refusal staged = false
 is_refusal (offends path kept sent) = true
 is_refusal (missing_pom directory) = true
+is_refusal (ended result) = false
+is_refusal (unlisted n) = false
+is_refusal (collected expired blobs) = false
+is_refusal (counts files faded cached documents sessions) = false
 is_refusal spent = true
 is_refusal no_memory = true
 is_refusal store_fault = true
-is_refusal reply = false
 
 -- what a refused command does: a blob that was sent for nothing is given up
 abbrev pub given_up : Command → Reply → List Effect
@@ -53,12 +69,38 @@ spends n e = uses_draft n e.command && not (leaves_drafts e.reply)
 
 -- the replies of turns that may change rows
 abbrev pub may_change_rows : Reply → Bool
+may_change_rows (file lease blob) = false
+may_change_rows (text bytes) = false
+may_change_rows (doc bytes digests) = false
+may_change_rows missed = false
+may_change_rows given_back = false
+may_change_rows kind_refused = false
+may_change_rows (draft n) = false
+may_change_rows no_draft = false
+may_change_rows (taken kept sent) = false
+may_change_rows same = false
 may_change_rows relisted = true
 may_change_rows created = true
+may_change_rows not_there = false
+may_change_rows (differs said kept) = false
+may_change_rows agreed = false
+may_change_rows noted = false
+may_change_rows dropped = false
+may_change_rows no_session = false
+may_change_rows sessions_full = false
+may_change_rows (opened n) = false
+may_change_rows session_full = false
+may_change_rows staged = false
+may_change_rows (offends path kept sent) = false
+may_change_rows (missing_pom directory) = false
+may_change_rows (ended Aborted) = false
 may_change_rows (ended (Done n)) = true
 may_change_rows (unlisted n) = true
 may_change_rows (collected expired blobs) = true
-may_change_rows reply = false
+may_change_rows (counts files faded cached documents sessions) = false
+may_change_rows spent = false
+may_change_rows no_memory = false
+may_change_rows store_fault = false
 
 -- a repository is there and takes the file of a path
 abbrev pub takes_at : List ℕ → List ℕ → State → Bool

@@ -26,11 +26,6 @@ abbrev pub AreByPath : List Row → Type 0
 AreByPath [] = Unit {0}
 AreByPath (row ∷ rows) = AllByRecursion (IsBelow row.path) rows × AreByPath rows
 
--- no later row has the path of an earlier one
-abbrev pub RowsApart : List Row → Type 0
-RowsApart [] = Unit {0}
-RowsApart (row ∷ rows) = (row_at row.path rows ≡ None) × RowsApart rows
-
 -- an open session's repository is there, and no path is staged twice
 abbrev pub IsInOrder : Settings → Session → Type 0
 IsInOrder settings one = (one.ended ≡ None → IsTrue (is_there one.repo settings)) × AreApart one.staged

@@ -78,11 +78,16 @@ is_parcel n blob = (blob.number == n) && nat_lt blob.print.length number_end
 -- the condition of a command
 abbrev pub meets : Settings → Command → Bool
 meets settings (look repo path tried) = is_there repo settings && names_something (kind path)
+meets settings (done lease) = true
 meets settings (may_put place path) = is_place place settings && is_file_path path
 meets settings (put repo path n blob) = is_fit (λ rule. takes rule path) (rule_of repo settings) && is_parcel n blob
 meets settings (put_side place path said) = is_place place settings && is_digest (kind path) said
 meets settings (put_doc place path) = is_place place settings && names_document (kind path)
+meets settings (drop_draft n) = true
 meets settings (open_session repo) = is_there repo settings
 meets settings (stage at path n blob) = is_file_path path && is_parcel n blob
+meets settings (commit n) = true
+meets settings (abort n) = true
 meets settings (unlist repo) = is_there repo settings
-meets settings command = true
+meets settings collect = true
+meets settings status = true

@@ -75,21 +75,37 @@ condemning n yard = record yard { condemned = with_number n yard.condemned }
 
 -- the rows of a repository after an effect there
 abbrev pub rows_after : Effect → List Row → List Row
+rows_after draws rows = rows
+rows_after (drops n) rows = rows
 rows_after (creates repo path blob moment) rows = with_row (new_row path blob moment) rows
+rows_after (stages n path blob) rows = rows
 rows_after (delivers n repo path blob moment) rows = with_row (new_row path blob moment) rows
+rows_after (discards n path draft) rows = rows
 rows_after (relists repo path moment) rows = change_where (is_row path) (list_again moment) rows
 rows_after (fades repo path moment) rows = change_where (is_row path) (fade moment) rows
 rows_after (expires repo path blob) rows = without_row path rows
-rows_after effect rows = rows
+rows_after (forgets blobs) rows = rows
+rows_after (lends blob) rows = rows
+rows_after (returns lease) rows = rows
+rows_after (opens n repo) rows = rows
+rows_after (ends n result) rows = rows
 
 -- the repository whose rows an effect changes
 abbrev pub repo_of : Effect → Option (List ℕ)
+repo_of draws = None
+repo_of (drops n) = None
 repo_of (creates repo path blob moment) = Some repo
+repo_of (stages n path blob) = None
 repo_of (delivers n repo path blob moment) = Some repo
+repo_of (discards n path draft) = None
 repo_of (relists repo path moment) = Some repo
 repo_of (fades repo path moment) = Some repo
 repo_of (expires repo path blob) = Some repo
-repo_of effect = None
+repo_of (forgets blobs) = None
+repo_of (lends blob) = None
+repo_of (returns lease) = None
+repo_of (opens n repo) = None
+repo_of (ends n result) = None
 
 abbrev pub in_repo : Option (List ℕ) → (List Row → List Row) → List Hosted → List Hosted
 in_repo None f hosted = hosted
@@ -99,27 +115,38 @@ abbrev pub hosted_after : Effect → List Hosted → List Hosted
 hosted_after effect hosted = in_repo (repo_of effect) (rows_after effect) hosted
 
 abbrev pub sessions_after : Effect → List Session → List Session
+sessions_after draws sessions = sessions
+sessions_after (drops n) sessions = sessions
+sessions_after (creates repo path blob moment) sessions = sessions
 sessions_after (stages n path blob) sessions =
     change_first (is_open_at n) (λ session. record session { staged = with_staged (record { path = path; blob = blob }) session.staged }) sessions
 sessions_after (delivers n repo path blob moment) sessions = change_first (is_open_at n) (without_staged path) sessions
 sessions_after (discards n path draft) sessions = change_first (is_open_at n) (without_staged path) sessions
+sessions_after (relists repo path moment) sessions = sessions
+sessions_after (fades repo path moment) sessions = sessions
+sessions_after (expires repo path blob) sessions = sessions
+sessions_after (forgets blobs) sessions = sessions
+sessions_after (lends blob) sessions = sessions
+sessions_after (returns lease) sessions = sessions
 sessions_after (opens n repo) sessions = sessions ++ new_session n repo ∷ []
 sessions_after (ends n result) sessions = change_first (is_open_at n) (λ session. record session { ended = Some result }) sessions
-sessions_after effect sessions = sessions
 
 abbrev pub yard_after : Effect → Yard → Yard
 yard_after draws yard = record yard { drafts = yard.drafts ++ yard.next_draft ∷ []; next_draft = yard.next_draft + 1 }
 yard_after (drops n) yard = condemning n (without_draft n yard)
 yard_after (creates repo path blob moment) yard = without_draft blob.number yard
 yard_after (stages n path blob) yard = without_draft blob.number yard
+yard_after (delivers n repo path blob moment) yard = yard
 yard_after (discards n path draft) yard = condemning draft yard
+yard_after (relists repo path moment) yard = yard
+yard_after (fades repo path moment) yard = yard
 yard_after (expires repo path blob) yard = condemning blob yard
 yard_after (forgets blobs) yard = record yard { condemned = filter (λ n. not (is_among n blobs)) yard.condemned }
 yard_after (lends blob) yard =
     record yard { leases = yard.leases ++ record { number = yard.next_lease; blob = blob } ∷ []; next_lease = yard.next_lease + 1 }
 yard_after (returns lease) yard = record yard { leases = filter (λ l. not (l.number == lease)) yard.leases }
 yard_after (opens n repo) yard = record yard { next_session = n + 1 }
-yard_after effect yard = yard
+yard_after (ends n result) yard = yard
 
 -- the state after one of them
 abbrev pub with_effect : State → Effect → State
@@ -135,14 +162,20 @@ with_effects s (e ∷ es) = with_effects (with_effect s e) es
 
 -- what the records are told of an effect
 abbrev pub items_of : Effect → List Item
+items_of draws = []
+items_of (drops n) = []
 items_of (creates repo path blob moment) = HostedPut repo path blob.number blob.print moment ∷ []
+items_of (stages n path blob) = []
 items_of (delivers n repo path blob moment) = HostedPut repo path blob.number blob.print moment ∷ []
+items_of (discards n path draft) = []
 items_of (relists repo path moment) = Relisted repo path moment ∷ []
 items_of (fades repo path moment) = Faded repo path moment ∷ []
 items_of (expires repo path blob) = Removed repo path ∷ []
+items_of (forgets blobs) = []
+items_of (lends blob) = []
+items_of (returns lease) = []
 items_of (opens n repo) = SessionOpened n ∷ []
 items_of (ends n result) = SessionEnded n result ∷ []
-items_of effect = []
 
 abbrev pub recorded : List Effect → List Item
 recorded effects = flat_map items_of effects

@@ -1,4 +1,5 @@
 //! What may be asked of the repository.
+use ids::Id;
 use mvn_digest::Digest;
 use outside::{Held, Parcel};
 use texts::Text;
@@ -71,7 +72,7 @@ pub enum Command<H: Held> {
     },
     /// Unlists the files of a repository that belong to builds which it no longer keeps, at most 1,000,000.
     Unlist {
-        repo: Text,
+        repo: Id,
     },
     /// Takes the files away that have been unlisted for longer than the grace period, at most 1,000,000, and asks for garbage
     /// to remove.

@@ -50,15 +50,7 @@ module _ (grace now : ℕ) (s : State) where
   few-open (discards n path draft) may few = omega (arith, few, first-counts is_open (is_open_at n) (without_staged path) (λ one. omega arith) s.sessions)
   few-open (opens n repo) may few = omega (arith, may.3, count-push is_open s.sessions (new_session n repo))
   few-open (ends n outcome) may few = omega (arith, few, first-counts is_open (is_open_at n) (λ one. record one { ended = Some outcome }) (λ one. omega arith) s.sessions)
-  few-open (creates repo path blob moment) may few = few
-  few-open (relists repo path moment) may few = few
-  few-open (fades repo path moment) may few = few
-  few-open (expires repo path blob) may few = few
-  few-open draws may few = few
-  few-open (drops n) may few = few
-  few-open (forgets blobs) may few = few
-  few-open (lends blob) may few = few
-  few-open (returns lease) may few = few
+  few-open e may few = few
 
   fewer-staged : (n : ℕ) (path : List ℕ) → AllByRecursion StagesFew s.sessions → AllByRecursion StagesFew (change_first (is_open_at n) (without_staged path) s.sessions)
   fewer-staged n path all =
@@ -74,15 +66,7 @@ module _ (grace now : ℕ) (s : State) where
   few-staged (discards n path draft) may all = fewer-staged n path all
   few-staged (opens n repo) may all = all-push StagesFew s.sessions (new_session n repo) all (omega arith)
   few-staged (ends n outcome) may all = all-change_first StagesFew (is_open_at n) (λ one. record one { ended = Some outcome }) (λ one few. few) s.sessions all
-  few-staged (creates repo path blob moment) may all = all
-  few-staged (relists repo path moment) may all = all
-  few-staged (fades repo path moment) may all = all
-  few-staged (expires repo path blob) may all = all
-  few-staged draws may all = all
-  few-staged (drops n) may all = all
-  few-staged (forgets blobs) may all = all
-  few-staged (lends blob) may all = all
-  few-staged (returns lease) may all = all
+  few-staged e may all = all
 
 pub effect-limits : (grace now : ℕ) (s : State) (e : Effect) → May grace now s e → KeepsLimits s → KeepsLimits (with_effect s e)
 effect-limits grace now s e may old = record {

@@ -68,15 +68,7 @@ module _ (n : ℕ) (r : SessionResult) where
   over-kept (discards m path draft) sessions old = first-over m (without_staged path) (λ x. refl) sessions old
   over-kept (opens m repo) sessions old = push-over (new_session m repo) sessions old
   over-kept (ends m result) sessions old = first-over m (λ session. record session { ended = Some result }) (λ x. refl) sessions old
-  over-kept draws sessions old = old
-  over-kept (drops draft) sessions old = old
-  over-kept (creates repo path blob moment) sessions old = old
-  over-kept (relists repo path moment) sessions old = old
-  over-kept (fades repo path moment) sessions old = old
-  over-kept (expires repo path blob) sessions old = old
-  over-kept (forgets blobs) sessions old = old
-  over-kept (lends blob) sessions old = old
-  over-kept (returns lease) sessions old = old
+  over-kept e sessions old = old
 
   effects-over : (es : List Effect) (s : State) → Over n r s.sessions → Over n r (with_effects s es).sessions
   effects-over [] s old = old
