@@ -4,7 +4,9 @@
 mod disk;
 mod lock;
 mod opening;
+mod reporting;
 
 pub use disk::FolderDisk;
 pub use lock::LockFile;
 pub use opening::{blobs_in, open_disk};
+pub use reporting::ReportingDisk;

@@ -129,5 +129,5 @@ pub fn blobs_in<R: Files + AllocGlobal + Clone + Drop>(
     ensures { IfOk result (λ blobs. blobs ≡ 0) }
 {
     let blobs = format!(in rt.alloc(); "{folder}/blobs")?;
-    Ok(FolderBlobs::new(rt.clone()?, blobs))
+    FolderBlobs::new(rt.clone()?, blobs)
 }

@@ -1,9 +1,9 @@
 -- What is left after a change is added behind the others.
 use Rattle.std.proofs.Common.{◌≡◌, ◌⊎◌, ◌≤◌, inl, inr, ℕ, List, [], ◌∷◌, ◌++◌, Ok, refl, sym, ◌∙◌, ap, subst, arith}
-use Rattle.std.specs.Prelude.{Option, Some, None, IfSome}
+use Rattle.std.specs.Prelude.{Option, Some, None, IfSome, OnErr, Result, Err}
 use Rattle.std.specs.Option.{ForSome, option_map}
 use Rattle.record_disk.specs.Disk.{Trace, AllImages, Throughout, Here, Told}
-use Rattle.record_disk.proofs.Moments.{joined, weaker, told_then}
+use Rattle.record_disk.proofs.Moments.{weaker}
 use Rattle.record_log.specs.Frames.{HoldsOneMore}
 use Rattle.record_log.specs.Log.{IsAtRest, StandsFor, LogState, HasAcknowledged}
 use Rattle.repo_model.specs.declared.item.Item.{Item}
@@ -11,9 +11,9 @@ use Rattle.repo_model.specs.Tables.{Tables, applied}
 use Rattle.row_tables.specs.Applying.{with_items}
 use Rattle.row_tables.specs.Items.{IsChange, change_bytes}
 use Rattle.record_journal.specs.Loading.{built_up}
-use Rattle.record_journal.specs.Journal.{tables_by, tables_of, LoadsTo, MayLoad, Fits, IsStanding, IsReady, KeepsTables, Commits}
+use Rattle.record_journal.specs.Journal.{tables_by, tables_of, LoadsTo, MayLoad, Fits, IsStanding, IsReady, KeepsTables, Adds, AddsNothing, Commits}
 use Rattle.record_journal.proofs.Loads.{loads_held, pushed, after_change, change_again}
-use Rattle.record_journal.proofs.Standing.{standing_tables, same_tables, standing_images, may_load}
+use Rattle.record_journal.proofs.Standing.{standing_tables, same_tables, standing_images}
 
 -- the change fits the tables that are told
 abbrev pub FitsTold : Option Tables → List Item → Type 0
@@ -33,15 +33,15 @@ module _ (items : List Item) (is : IsChange items) where
   builds_more : (ps : List (List ℕ)) (t : Tables) → built_up ps ≡ Ok t → applied t items ≡ Ok (with_items t items) → built_up (ps ++ payload ∷ []) ≡ Ok (with_items t items)
   builds_more ps t builds fits = pushed 0 _ t (with_items t items) ps payload builds (after_change t payload items (change_again items is) fits)
 
-  pub added_crash : (a b : Option Trace) (g : ℕ) → Told a b (Adding g) → IfSome a (IsStanding g None) → FitsTold (tables_by a g None) items → Told a b (Commits (tables_by a g None) None items)
+  pub added_crash : (a b : Option Trace) (g : ℕ) → Told a b (Adding g) → IfSome a (IsStanding g None) → FitsTold (tables_by a g None) items → Told a b (Adds (tables_by a g None) items)
   added_crash None None g told known fits = tt
   added_crash None (Some t) g told known fits = told
   added_crash (Some s) None g told known fits = told
   added_crash (Some s) (Some t) g told known fits = λ u same.
-      subst (λ v. Throughout (λ image. MayLoad v None image ⊎ LoadsTo (with_items v items) image) s t) (same_tables g None s known u same)
-      (weaker (HoldsOneMore known.payloads payload) (λ image. MayLoad known.tables None image ⊎ LoadsTo (with_items known.tables items) image) s t lift (told known.payloads known.stands))
+      subst (λ v. Throughout (λ image. LoadsTo v image ⊎ LoadsTo (with_items v items) image) s t) (same_tables g None s known u same)
+      (weaker (HoldsOneMore known.payloads payload) (λ image. LoadsTo known.tables image ⊎ LoadsTo (with_items known.tables items) image) s t lift (told known.payloads known.stands))
     where
-      lift : (image : List ℕ) → HoldsOneMore known.payloads payload image → MayLoad known.tables None image ⊎ LoadsTo (with_items known.tables items) image
+      lift : (image : List ℕ) → HoldsOneMore known.payloads payload image → LoadsTo known.tables image ⊎ LoadsTo (with_items known.tables items) image
       lift image (inl holds) = inl (loads_held image known.payloads holds ∙ known.builds)
       lift image (inr holds) = inr (loads_held image (known.payloads ++ payload ∷ []) holds ∙ builds_more known.payloads known.tables known.builds (fits_known g s known fits))
 
@@ -92,30 +92,49 @@ module _ (items : List Item) (is : IsChange items) where
       standing_tables h after t (failed_ready (Some s) (Some t) g h after some told known fits stays) ∙ sym (standing_tables g None s known)
 
 -- where nothing was done
-pub nothing_added : (a : Option Trace) (g : ℕ) (pending : Option (List ℕ)) (items : List Item) → IfSome a (IsStanding g pending) → Told a a (Commits (tables_by a g pending) pending items)
-nothing_added None g pending items known = tt
-nothing_added (Some s) g pending items known = λ u same. Here (λ image from. inl (subst (λ v. MayLoad v pending image) (same_tables g pending s known u same) (standing_images g pending s known image from)))
+pub nothing_added : (a : Option Trace) (g : ℕ) (items : List Item) → IfSome a (IsStanding g None) → Told a a (Adds (tables_by a g None) items)
+nothing_added None g items known = tt
+nothing_added (Some s) g items known = λ u same. Here (λ image from. inl (subst (λ v. LoadsTo v image) (same_tables g None s known u same) (standing_images g None s known image from)))
 
--- a failed frame was taken off
+-- all images before it, where the tables are told
+images_first : (g : ℕ) (before : Option (List ℕ)) (s : Trace) → IsStanding g before s → (u : Tables) → tables_by (Some s) g before ≡ Some u → AllImages (MayLoad u before) s
+images_first g before s known u same = subst (λ v. AllImages (MayLoad v before) s) (same_tables g before s known u same) (standing_images g before s known)
+
+-- a failed frame was taken off, or stays
 pub undone_first : (a b : Option Trace) (g : ℕ) (before after : Option (List ℕ)) (items : List Item) → IfSome a (IsStanding g before) → Told a b (KeepsTables (tables_by a g before) before after) → Told a b (Commits (tables_by a g before) before items)
 undone_first None None g before after items known told = tt
 undone_first None (Some t) g before after items known told = told
 undone_first (Some s) None g before after items known told = told
 undone_first (Some s) (Some t) g before after items known told = λ u same.
-    weaker (MayLoad u before) (λ image. MayLoad u before image ⊎ LoadsTo (with_items u items) image) s t (λ image may. inl may) (told.moments u same (subst (λ v. AllImages (MayLoad v before) s) (same_tables g before s known u same) (standing_images g before s known)))
+    record { undone = t; first = told.moments u same (images_first g before s known u same); later = inl refl }
 
--- and then a change added
-pub then_added : (a b c : Option Trace) (told mid : Option Tables) (before : Option (List ℕ)) (items : List Item) → mid ≡ told → Told a b (Commits told before items) → Told b c (Commits mid None items) → Told a c (Commits told before items)
-then_added a b c told mid before items same first second = told_then a b c (Commits told before items) (Commits mid None items) (Commits told before items) go first second
-  where
-    lift : (t : Tables) (image : List ℕ) → MayLoad t None image ⊎ LoadsTo (with_items t items) image → MayLoad t before image ⊎ LoadsTo (with_items t items) image
-    lift t image (inl loads) = inl (may_load t before image loads)
-    lift t image (inr loads) = inr loads
+-- so nothing is added
+pub nothing_first : (a b : Option Trace) (g : ℕ) (before after : Option (List ℕ)) → IfSome a (IsStanding g before) → Told a b (KeepsTables (tables_by a g before) before after) → Told a b (AddsNothing (tables_by a g before) before)
+nothing_first None None g before after known told = tt
+nothing_first None (Some t) g before after known told = told
+nothing_first (Some s) None g before after known told = told
+nothing_first (Some s) (Some t) g before after known told = λ u same. told.moments u same (images_first g before s known u same)
 
-    go : (s t u : Trace) → Commits told before items s t → Commits mid None items t u → Commits told before items s u
-    go s t u one two v is =
-        joined (λ image. MayLoad v before image ⊎ LoadsTo (with_items v items) image) s t u (one v is)
-        (weaker (λ image. MayLoad v None image ⊎ LoadsTo (with_items v items) image) (λ image. MayLoad v before image ⊎ LoadsTo (with_items v items) image) t u (lift v) (two v (same ∙ is)))
+-- where a commit fails behind that
+pub nothing_then : {T E : Type 0} (r : Result T E) (old mid new : LogState) (bytes : List ℕ) → Told old.trace mid.trace (AddsNothing (tables_of old) old.pending)
+    → OnErr r ((new.pending ≡ Some bytes) ⊎ (new ≡ mid)) → OnErr r ((new.pending ≡ Some bytes) ⊎ Told old.trace new.trace (AddsNothing (tables_of old) old.pending))
+nothing_then (Ok x) old mid new bytes first later = tt
+nothing_then (Err e) old mid new bytes first (inl pending) = inl pending
+nothing_then (Err e) old mid new bytes first (inr same) = inr (subst (λ (v : LogState). Told old.trace v.trace (AddsNothing (tables_of old) old.pending)) (sym same) first)
+
+-- it was taken off, and then a change added
+pub then_added : (a b c : Option Trace) (g : ℕ) (before after : Option (List ℕ)) (mid : Option Tables) (items : List Item) → IfSome a (IsStanding g before) → after ≡ None → mid ≡ tables_by a g before
+    → Told a b (KeepsTables (tables_by a g before) before after) → Told b c (Adds mid items) → Told a c (Commits (tables_by a g before) before items)
+then_added None None None g before after mid items known none same told added = tt
+then_added None None (Some v) g before after mid items known none same told added = added
+then_added None (Some t) c g before after mid items known none same told added = absurd told
+then_added (Some s) None c g before after mid items known none same told added = absurd told
+then_added (Some s) (Some t) None g before after mid items known none same told added = added
+then_added (Some s) (Some t) (Some v) g before after mid items known none same told added = λ u is. record {
+  undone = t;
+  first = told.moments u is (images_first g before s known u is);
+  later = inr (subst (λ o. AllImages (MayLoad u o) t) none (told.images u is (images_first g before s known u is)), added u (same ∙ is));
+}
 
 -- an append to a log that is ready
 module _ (items : List Item) (is : IsChange items) (old new : LogState) (bytes : List ℕ) (same : bytes ≡ change_bytes items) (undone : old.pending ≡ None)
@@ -132,8 +151,8 @@ module _ (items : List Item) (is : IsChange items) (old new : LogState) (bytes :
   tables_so : tables_by old.trace old.gate None ≡ tables_of old
   tables_so = ap (tables_by old.trace old.gate) (sym undone)
 
-  pub append_crash : Told old.trace new.trace (Commits (tables_of old) None items)
-  append_crash = subst (λ t. Told old.trace new.trace (Commits t None items)) tables_so (added_crash items is old.trace new.trace old.gate told_so ready_so fits_so)
+  pub append_crash : Told old.trace new.trace (Adds (tables_of old) items)
+  append_crash = subst (λ t. Told old.trace new.trace (Adds t items)) tables_so (added_crash items is old.trace new.trace old.gate told_so ready_so fits_so)
 
   more_so : ((ps : List (List ℕ)) → HasAcknowledged ps old → HasAcknowledged (ps ++ bytes ∷ []) new) → (ps : List (List ℕ)) → IfSome old.trace (λ s. StandsFor old.gate None ps s) → IfSome new.trace (λ t. StandsFor new.gate new.pending (ps ++ change_bytes items ∷ []) t)
   more_so stays ps holds = subst (λ l. HasAcknowledged (ps ++ l ∷ []) new) same (stays ps (subst (λ o. IfSome old.trace (λ s. StandsFor old.gate o ps s)) (sym undone) holds))
@@ -164,10 +183,11 @@ module _ (items : List Item) (is : IsChange items) (old new : LogState) (bytes :
   append_failed_tables some stays = failed_tables items is old.trace new.trace old.gate new.gate new.pending (some ∙ ap Some same) told_so ready_so fits_so (still_so stays) ∙ tables_so
 
 -- where memory was wanting
-pub none_crash : (old new : LogState) (items : List Item) → new ≡ old → old.pending ≡ None → IsReady old → Told old.trace new.trace (Commits (tables_of old) None items)
+pub none_crash : (old new : LogState) (items : List Item) → new ≡ old → old.pending ≡ None → IsReady old → Told old.trace new.trace (Adds (tables_of old) items)
 none_crash old new items same undone ready =
-    subst (λ (v : LogState). Told old.trace v.trace (Commits (tables_of old) None items)) (sym same)
-    (subst (λ o. Told old.trace old.trace (Commits (tables_of old) o items)) undone (nothing_added old.trace old.gate old.pending items ready.standing))
+    subst (λ (v : LogState). Told old.trace v.trace (Adds (tables_of old) items)) (sym same)
+    (subst (λ t. Told old.trace old.trace (Adds t items)) (ap (tables_by old.trace old.gate) (sym undone))
+    (nothing_added old.trace old.gate items (subst (λ o. IfSome old.trace (IsStanding old.gate o)) undone ready.standing)))
 
 pub none_ready : (old new : LogState) → new ≡ old → IsReady old → IsReady new
 none_ready old new same ready = subst IsReady (sym same) ready

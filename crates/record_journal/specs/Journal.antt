@@ -79,8 +79,23 @@ Recovers old new = (new ≡ old) ⊎ ((t : Tables) → LoadsTo t (content old) �
 abbrev pub IsStill : Trace → Trace → Type 0
 IsStill old new = (gate : ℕ) → gate_of (frames (content old)) ≡ Some gate → EndsAt gate (content old) → MaySync old new
 
--- At each moment every image loads to the tables that are told, to these with the pending change, or to these with the one
--- that is committed.
+-- At each moment every image loads to the tables that are told, or to these with the change that is added.
+abbrev pub Adds : Option Tables → List Item → Trace → Trace → Type 0
+Adds told items old new =
+    (t : Tables) → told ≡ Some t → Throughout (λ image. LoadsTo t image ⊎ LoadsTo (with_items t items) image) old new
+
+-- A commit over these tables in two phases. Until the pending change is undone every image loads to the tables, or to these with
+-- that change, and the commit may end so. Where it is undone every image loads to the tables alone, and from there on to these, or
+-- to these with the change that is committed.
+pub record CommitsTo (t : Tables) (pending : Option (List ℕ)) (items : List Item) (old new : Trace) : Type 0 where
+  pub undone : Trace
+  pub first : Throughout (MayLoad t pending) old undone
+  pub later : (new ≡ undone)
+      ⊎ (AllImages (LoadsTo t) undone × Throughout (λ image. LoadsTo t image ⊎ LoadsTo (with_items t items) image) undone new)
+
 abbrev pub Commits : Option Tables → Option (List ℕ) → List Item → Trace → Trace → Type 0
-Commits told pending items old new =
-    (t : Tables) → told ≡ Some t → Throughout (λ image. MayLoad t pending image ⊎ LoadsTo (with_items t items) image) old new
+Commits told pending items old new = (t : Tables) → told ≡ Some t → CommitsTo t pending items old new
+
+-- Nothing is added: at each moment every image loads to the tables that are told, or to these with the pending change.
+abbrev pub AddsNothing : Option Tables → Option (List ℕ) → Trace → Trace → Type 0
+AddsNothing told pending old new = (t : Tables) → told ≡ Some t → Throughout (MayLoad t pending) old new

@@ -7,7 +7,7 @@ ghost use Rattle.row_tables.specs.Applying.{with_items};
 ghost use Rattle.row_tables.specs.Items.{IsChange, change_bytes};
 ghost use Rattle.row_tables.specs.Records.{HasCommitCause};
 ghost use Rattle.row_tables.specs.declared.faults.CommitFault.TheVariants.{Failed as failed};
-ghost use Rattle.record_journal.specs.Journal.{tables_of, IsReady, Commits};
+ghost use Rattle.record_journal.specs.Journal.{tables_of, Adds, AddsNothing, IsReady, Commits};
 
 use crate::undoing::take_back;
 use record_disk::Disk;
@@ -41,9 +41,10 @@ fn append_change<D: Disk>(
     ensures ready { IsReady log.new }
     ensures ok { OnOk result (tables_of log.new ≡ option_map (λ t. with_items t change.now) (tables_of log.old)) }
     ensures err { OnErr result (tables_of log.new ≡ tables_of log.old) }
-    ensures crash { Told log.old.trace log.new.trace (Commits (tables_of log.old) None change.now) }
+    ensures crash { Told log.old.trace log.new.trace (Adds (tables_of log.old) change.now) }
     ensures undone { OnOk result (log.new.pending ≡ None) }
     ensures pending { OnErr result ((log.new.pending ≡ None) ⊎ (log.new.pending ≡ Some (change_bytes change.now))) }
+    ensures nothing { OnErr result ((log.new.pending ≡ Some (change_bytes change.now)) ⊎ (log.new ≡ log.old)) }
     ensures gate { OnOk result (log.new.gate ≡ log.old.gate + 5 + length (change_bytes change.now)) }
     ensures stays { OnErr result (log.new.gate ≡ log.old.gate) }
 {
@@ -73,6 +74,7 @@ pub fn commit_change<D: Disk>(
     ensures crash { Told log.old.trace log.new.trace (Commits (tables_of log.old) log.old.pending change.now) }
     ensures undone { OnOk result (log.new.pending ≡ None) }
     ensures pending { OnErr result ((log.new.pending ≡ None) ⊎ (log.new.pending ≡ log.old.pending) ⊎ (log.new.pending ≡ Some (change_bytes change.now))) }
+    ensures nothing { OnErr result ((log.new.pending ≡ Some (change_bytes change.now)) ⊎ Told log.old.trace log.new.trace (AddsNothing (tables_of log.old) log.old.pending)) }
     ensures empty { change.now ≡ [] → log.old.pending ≡ None → IsOk result × (log.new ≡ log.old) }
     ensures unframed { change.now ≡ [] → (log.new.gate ≡ log.old.gate) × OnErr result (IsErrOf result failed × (log.new.pending ≡ log.old.pending)) }
     ensures framed { OnOk result ((change.now ≡ []) ⊎ (log.new.gate ≡ log.old.gate + 5 + length (change_bytes change.now))) }

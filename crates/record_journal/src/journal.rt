@@ -8,7 +8,7 @@ ghost use Rattle.row_tables.specs.Items.{change_bytes};
 ghost use Rattle.row_tables.specs.Recorded.{IsBuiltUp};
 ghost use Rattle.row_tables.specs.Records.{HasLoadCause, HasCommitCause, IsRefusal, LoadsUnlessFailed};
 ghost use Rattle.row_tables.specs.declared.faults.CommitFault.TheVariants.{Failed as failed};
-ghost use Rattle.record_journal.specs.Journal.{expected_of, tables_of, IsReady, KeepsTables, Recovers, Commits, IsStill};
+ghost use Rattle.record_journal.specs.Journal.{expected_of, tables_of, IsReady, KeepsTables, Recovers, AddsNothing, Commits, IsStill};
 
 use crate::committing::commit_change;
 use crate::reloading::load_log;
@@ -104,10 +104,13 @@ impl<D: Disk> Records for Journal<D> {
         ensures settled { OnOk result (is_some self.new.pending ≡ false) }
         ensures ready { IsReady self.new }
 
-        // A crash at each moment of the call leaves a file that loads to the tables from before it, to these with the change,
-        // or to these with the change that was pending.
+        // A crash at a moment of the call leaves a file that loads to the tables from before it, or to these with the change that
+        // was pending, until that one is undone; from then on to the tables from before, or to these with the change.
         ensures crash { Told self.old.trace self.new.trace (Commits (tables_of self.old) self.old.pending change.now) }
         ensures pending { OnErr result ((self.new.pending ≡ None) ⊎ (self.new.pending ≡ self.old.pending) ⊎ (self.new.pending ≡ Some (change_bytes change.now))) }
+
+        // Where it fails, its change is pending, or no crash leaves a file with it.
+        ensures nothing { OnErr result ((self.new.pending ≡ Some (change_bytes change.now)) ⊎ Told self.old.trace self.new.trace (AddsNothing (tables_of self.old) self.old.pending)) }
 
         // An empty change has no frame.
         ensures empty { change.now ≡ [] → self.old.pending ≡ None → IsOk result × (self.new ≡ self.old) }

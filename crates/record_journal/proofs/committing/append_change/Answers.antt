@@ -1,4 +1,4 @@
-use Rattle.std.proofs.Common.{◌∙◌, ap, refl, Err, arith}
+use Rattle.std.proofs.Common.{inl, inr, Some, ◌∙◌, ap, refl, Err, arith}
 use Rattle.record_journal.proofs.Added.{append_crash, append_ready, append_tables, append_failed_ready, append_failed_tables, none_crash}
 use Rattle.record_journal.proofs.committing.append_change.Goals as goal
 
@@ -35,3 +35,9 @@ returns-in-Err-Failed-clause-crash g c =
 pub returns-in-Err-NoMemory-clause-crash : goal.returns-in-Err-NoMemory-clause-crash
 returns-in-Err-NoMemory-clause-crash g c =
     none_crash c.args.log.now c.append.new.self c.args.change.now (c.append.ensures.no_memory (c.in-Err-NoMemory.is ∙ ap Err c.in-Err-NoMemory.field-0-is)) c.requires.undone c.requires.ready
+
+pub returns-in-Err-Failed-clause-nothing : goal.returns-in-Err-Failed-clause-nothing
+returns-in-Err-Failed-clause-nothing g c = inl (c.append.ensures.failed (c.in-Err-Failed.is ∙ ap Err c.in-Err-Failed.field-0-is) ∙ ap Some c.in-Ok.ensures.bytes)
+
+pub returns-in-Err-NoMemory-clause-nothing : goal.returns-in-Err-NoMemory-clause-nothing
+returns-in-Err-NoMemory-clause-nothing g c = inr (c.append.ensures.no_memory (c.in-Err-NoMemory.is ∙ ap Err c.in-Err-NoMemory.field-0-is))
