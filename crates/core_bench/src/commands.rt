@@ -1,5 +1,6 @@
 use crate::rows::Rows;
 use crate::steps::Form;
+use ids::Id;
 use mvn_digest::Hashes;
 use outside::{Blobs, Parcel};
 use outside_memory::{FaultScript, MemBlobs, MemHeld};
@@ -104,7 +105,9 @@ impl Maker {
             Form::Done => Ok(Command::Done { lease: number }),
             Form::OpenSession => Ok(Command::Open { repo: self.repo()? }),
             Form::Commit => Ok(Command::Commit { session: 1 }),
-            Form::Unlist => Ok(Command::Unlist { repo: self.repo()? }),
+            Form::Unlist => Ok(Command::Unlist {
+                repo: Id::from_text(self.repo()?),
+            }),
             Form::Collect => Ok(Command::Collect),
             Form::Status => Ok(Command::Status),
         }

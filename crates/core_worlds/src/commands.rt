@@ -1,6 +1,7 @@
 // Commands of plain values.
 use crate::asks::Ask;
 use crate::faults::WorldFault;
+use ids::Id;
 use mvn_digest::{Digest, Hashes};
 use outside::{Blobs, Parcel};
 use outside_memory::{MemBlobs, MemHeld};
@@ -38,7 +39,7 @@ fn look(alloc: Global, repo: &str, path: &str) -> Result<MemCommand, WorldFault>
 }
 
 fn unlist(alloc: Global, repo: &str) -> Result<MemCommand, WorldFault> {
-    let repo = Text::new(alloc, repo)?;
+    let repo = Id::from_text(Text::new(alloc, repo)?);
     Ok(Command::Unlist { repo })
 }
 

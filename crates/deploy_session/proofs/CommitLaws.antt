@@ -21,11 +21,11 @@ use Rattle.repo_model.specs.Tables.{Tables}
 use Rattle.repo_model.specs.Turn.{Turn, commit_by, commit_of, with_open}
 use Rattle.row_tables.specs.Commits.{tables_with}
 use Rattle.row_tables.specs.Items.{is_item, is_number, item_bytes}
-use Rattle.hosted_repo.specs.Deliveries.{is_done, is_recordable, left_by, session_with, shown_put_all}
-use Rattle.hosted_repo.specs.Rows.{rows_after_all}
-use Rattle.hosted_repo.specs.declared.put_all.PutAll.{PutAll}
-use Rattle.hosted_repo.specs.declared.put_all.PutAll.TheVariants as did
-use Rattle.hosted_repo.proofs.DeliveryLemmas.{effects_by}
+use Rattle.hosted_delivery.specs.Deliveries.{is_done, is_recordable, left_by, session_with, shown_put_all}
+use Rattle.ordered_rows.specs.Rows.{rows_after_all}
+use Rattle.hosted_delivery.specs.declared.put_all.PutAll.{PutAll}
+use Rattle.hosted_delivery.specs.declared.put_all.PutAll.TheVariants as did
+use Rattle.hosted_delivery.proofs.DeliveryLemmas.{effects_by}
 use Rattle.deploy_session.specs.Known.{Known, commit_turn, garbage_by, has_recordable, next_after_all, sessions_after_all}
 use Rattle.deploy_session.proofs.SessionLaws.{after-append, aborted, given_up}
 

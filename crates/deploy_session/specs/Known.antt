@@ -8,7 +8,7 @@ use Rattle.repo_model.specs.Reply.{sessions_full, opened}
 use Rattle.repo_model.specs.Restart.{greatest_session, sessions_from}
 use Rattle.repo_model.specs.Tables.{Tables}
 use Rattle.repo_model.specs.Turn.{Turn, says, draws_or_spent, with_open, stage_in, abort_of, commit_of}
-pub use Rattle.hosted_repo.specs.Deliveries.{is_recordable}
+pub use Rattle.hosted_delivery.specs.Deliveries.{is_recordable}
 
 -- sessions in rising order of number, open or ended, and the number of the next one
 pub record Known : Type 0 where

@@ -8,7 +8,7 @@ use Rattle.repo_model.specs.declared.session.SessionResult.TheVariants as ends
 use Rattle.repo_model.specs.Reply.{Reply, no_session, sessions_full, spent, opened, session_full, taken, same, staged, offends, missing_pom, ended, no_memory, store_fault}
 use Rattle.repo_model.specs.Effect.{drops}
 use Rattle.repo_model.specs.Turn.{Turn}
-pub use Rattle.hosted_repo.specs.Deliveries.{shown_file, shown_files}
+pub use Rattle.hosted_delivery.specs.Deliveries.{shown_file, shown_files}
 use Rattle.deploy_session.specs.declared.answers.Abort.{Abort}
 use Rattle.deploy_session.specs.declared.answers.Abort.TheVariants as gave_up
 use Rattle.deploy_session.specs.declared.answers.Begin.{Begin}

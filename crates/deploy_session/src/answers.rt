@@ -2,7 +2,7 @@
 ghost use Rattle.std.specs.Prelude.{◌≡◌, [], false};
 ghost use Rattle.repo_model.specs.Reply.{ended};
 ghost use Rattle.deploy_session.specs.Recording.{failed_by};
-ghost use Rattle.hosted_repo.specs.Deliveries.{is_done, shown_put_all};
+ghost use Rattle.hosted_delivery.specs.Deliveries.{is_done, shown_put_all};
 ghost use Rattle.deploy_session.specs.Shown.{shown_begin, shown_abort, shown_commit, blobs_left, blobs_over};
 
 use hosted_repo::PutAll;

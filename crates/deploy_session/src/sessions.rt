@@ -11,7 +11,7 @@ ghost use Rattle.repo_model.specs.State.{is_open, is_open_at, is_session, number
 ghost use Rattle.row_tables.specs.Commits.{tables_with};
 ghost use Rattle.row_tables.specs.Items.{is_file_path, is_number};
 ghost use Rattle.row_tables.specs.Recorded.{IsBuiltUp};
-ghost use Rattle.hosted_repo.specs.Rows.{rows_after_all};
+ghost use Rattle.ordered_rows.specs.Rows.{rows_after_all};
 ghost use Rattle.deploy_session.specs.Known.{abort_turn, begin_turn, commit_turn, garbage_by, known_after, known_from, stage_turn};
 ghost use Rattle.deploy_session.specs.Recording.{FitWhereTold, HasReplyCause};
 ghost use Rattle.deploy_session.specs.Shown.{blobs_left, blobs_over, shown_abort, shown_begin, shown_commit, shown_files, shown_stage};

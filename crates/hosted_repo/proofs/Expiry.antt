@@ -6,9 +6,9 @@ use Rattle.std.proofs.lemmas.Slice.Eq.{bytes_eq-Decides}
 use Rattle.repo_model.specs.Data as plain
 use Rattle.repo_model.specs.Effect.{Effect, expires, without_row}
 use Rattle.repo_model.specs.Purge.{is_over}
-use Rattle.hosted_repo.specs.Rows.{is_before, goes, without_first, rows_after_all}
-use Rattle.hosted_repo.proofs.MapLemmas.{same_test}
-use Rattle.hosted_repo.proofs.RowLemmas.{AreAfter, AreRising}
+use Rattle.ordered_rows.specs.Rows.{is_before, goes, without_first, rows_after_all}
+use Rattle.ordered_rows.proofs.MapLemmas.{same_test}
+use Rattle.ordered_rows.proofs.Rising.{AreAfter, AreRising}
 
 abbrev gone : ℕ → ℕ → List ℕ → List plain.Row → List Effect
 gone grace now repo rows = map (λ row. expires repo row.path row.blob.number) (filter (λ row. is_over grace now row.phase) rows)

@@ -18,10 +18,12 @@ use Rattle.repo_model.specs.Purge.{due_rows, is_due_at, is_due_build, most_rows}
 use Rattle.repo_model.specs.Settings.{Rule}
 use Rattle.repo_model.specs.State.{change_where, is_row, row_at}
 use Rattle.repo_model.specs.Turn.{Seen, is_file, is_text, or_nothing, seen_at}
-use Rattle.hosted_repo.specs.Dues.{is_due_row}
+use Rattle.directory_rows.specs.Dues.{is_due_row}
 use Rattle.hosted_repo.specs.Releases.{AllFadeRightly, FadesRightly}
-use Rattle.hosted_repo.specs.Rows.{rows_after_all}
+use Rattle.ordered_rows.specs.Rows.{rows_after_all}
 use Rattle.hosted_repo.specs.Seens.{is_of_document}
+use Rattle.ordered_rows.proofs.EachRow.{each-changed}
+use Rattle.hosted_repo.proofs.ReleaseLemmas.{changed-elsewhere}
 
 abbrev blob_at : List ℕ → List plain.Row → Option plain.Blob
 blob_at path rows = option_map (λ (row : plain.Row). row.blob) (row_at path rows)
@@ -67,19 +69,6 @@ pub answered_alike : (repo : List ℕ) (now : ℕ) (due rows : List plain.Row) (
 answered_alike repo now due rows path k other = seen_same (rows_after_all (map (λ (row : plain.Row). fades repo row.path now) due) rows) rows (blob-rows repo now due rows) path k other
 
 -- ---- files of releases
-row-apart : (at path : List ℕ) (moment : ℕ) (rows : List plain.Row) → bytes_eq at path ≡ false → row_at path (change_where (is_row at) (fade moment) rows) ≡ row_at path rows
-row-apart at path moment [] apart = refl
-row-apart at path moment (row ∷ rows) apart =
-    elim (is_row at row)
-    as (λ b. is_row at row ≡ b → row_at path (cond b (fade moment row) row ∷ change_where (is_row at) (fade moment) rows) ≡ row_at path (row ∷ rows)) [
-      | true ↦ λ is.
-          let other : is_row path row ≡ false = ap (λ t. bytes_eq t path) ((bytes_eq-Decides row.path at).0 is) ∙ apart in
-          ap (λ t. cond t (Some (fade moment row)) (row_at path (change_where (is_row at) (fade moment) rows))) other
-          ∙ row-apart at path moment rows apart
-          ∙ sym (ap (λ t. cond t (Some row) (row_at path rows)) other)
-      | false ↦ λ is. ap (λ r. cond (is_row path row) (Some row) r) (row-apart at path moment rows apart)
-    ] refl
-
 abbrev AreSnapshots : List plain.Row → Type 0
 AreSnapshots rows = AllByRecursion (λ (row : plain.Row). is_snapshot_path row.path ≡ true) rows
 
@@ -109,7 +98,7 @@ kept_apart : (repo : List ℕ) (now : ℕ) (due rows : List plain.Row) (path : L
 kept_apart repo now [] rows path h other = refl
 kept_apart repo now (row ∷ due) rows path h other =
     kept_apart repo now due (rows_after (fades repo row.path now) rows) path h.1 other
-    ∙ row-apart row.path path now rows
+    ∙ changed-elsewhere path row.path (fade now) (λ r. refl) rows
     (false_from_ne_true (bytes_eq row.path path) (λ same. both_ways (is_snapshot_path path) other (ap is_snapshot_path (sym ((bytes_eq-Decides row.path path).0 same)) ∙ h.0)))
 
 pub releases_kept : (rule : Rule) (now : ℕ) (rows : List plain.Row) (path : List ℕ) → is_snapshot_path path ≡ false
@@ -119,14 +108,8 @@ releases_kept rule now rows path other =
 
 -- rows that fade at a snapshot's path
 rightly-one : (at : List ℕ) (now : ℕ) (rows : List plain.Row) → is_snapshot_path at ≡ true → AllFadeRightly rows → AllFadeRightly (change_where (is_row at) (fade now) rows)
-rightly-one at now [] snapshot all = tt
-rightly-one at now (row ∷ rows) snapshot all = (
-  elim (is_row at row) as (λ b. is_row at row ≡ b → FadesRightly (cond b (fade now row) row)) [
-    | true ↦ λ is since e. ap is_snapshot_path ((bytes_eq-Decides row.path at).0 is) ∙ snapshot
-    | false ↦ λ is. all.0
-  ] refl,
-  rightly-one at now rows snapshot all.1,
-)
+rightly-one at now rows snapshot all =
+    each-changed FadesRightly (is_row at) (fade now) (λ row is right since e. ap is_snapshot_path ((bytes_eq-Decides row.path at).0 is) ∙ snapshot) rows all
 
 rightly-some : (repo : List ℕ) (now : ℕ) (due rows : List plain.Row) → AreSnapshots due → AllFadeRightly rows
     → AllFadeRightly (rows_after_all (map (λ (row : plain.Row). fades repo row.path now) due) rows)

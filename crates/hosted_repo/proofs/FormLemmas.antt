@@ -19,13 +19,10 @@ use Rattle.repo_model.specs.Paths.{file_at}
 use Rattle.repo_model.specs.Purge.{due_rows, expired_of, fade_all, is_due_at, is_over, most_rows}
 use Rattle.repo_model.specs.State.{change_where, is_row, number_end}
 use Rattle.row_tables.specs.Items.{IsChange, is_file_path, is_count, is_id, is_item, is_moment, is_number, is_print}
-use Rattle.hosted_repo.specs.Deliveries.{is_recordable}
-use Rattle.hosted_repo.specs.Recording.{IsRemoved, IsShort}
-use Rattle.hosted_repo.specs.Rows.{AreFiles, rows_after_all, goes, without_first}
-use Rattle.hosted_repo.proofs.ChangeLemmas.{change-of, fade-short, relist-short, put-short, removed-short}
-
-abbrev IsFileRow : plain.Row → Type 0
-IsFileRow row = IsTrue (is_file_path row.path)
+use Rattle.ordered_rows.specs.Recording.{IsRemoved, IsShort}
+use Rattle.ordered_rows.specs.Rows.{AreFiles, IsFileRow, rows_after_all}
+use Rattle.ordered_rows.proofs.ChangeLemmas.{change-of, fade-short, moment-so, relist-short, put-short, removed-short}
+use Rattle.ordered_rows.proofs.EachRow.{each-changed}
 
 -- what holds of all holds of those that pass a test, and of the first ones
 all-filter : {X : Type 0} (P : X → Type 0) (test : X → Bool) (xs : List X) → AllByRecursion P xs → AllByRecursion P (filter test xs)
@@ -41,40 +38,11 @@ all-both : {X : Type 0} (P : X → Type 0) (xs ys : List X) → AllByRecursion P
 all-both P [] ys xs-all ys-all = ys-all
 all-both P (x ∷ xs) ys xs-all ys-all = (xs-all.0, all-both P xs ys xs-all.1 ys-all)
 
--- one more row, changed rows, and rows without some
-pub files-more : (row : plain.Row) (rows : List plain.Row) → IsFileRow row → AreFiles rows → AreFiles (with_row row rows)
-files-more row [] new old = (new, tt)
-files-more row (first ∷ rows) new old =
-    elim (slice_cmp nat_cmp row.path first.path) as (λ o. AreFiles (match_ordering o (row ∷ first ∷ rows) (row ∷ first ∷ rows) (first ∷ with_row row rows))) [
-      | Less ↦ (new, old)
-      | Equal ↦ (new, old)
-      | Greater ↦ (old.0, files-more row rows new old.1)
-    ]
-
-files-changed : (test : plain.Row → Bool) (f : plain.Row → plain.Row) → ((row : plain.Row) → (f row).path ≡ row.path) → (rows : List plain.Row) → AreFiles rows → AreFiles (change_where test f rows)
-files-changed test f same [] old = tt
-files-changed test f same (row ∷ rows) old =
-    (elim (test row) as (λ b. IsFileRow (cond b (f row) row)) [ true ↦ subst (λ p. IsTrue (is_file_path p)) (sym (same row)) old.0 | false ↦ old.0 ], files-changed test f same rows old.1)
-
-pub files-again : (path : List ℕ) (now : ℕ) (rows : List plain.Row) → AreFiles rows → AreFiles (change_where (is_row path) (list_again now) rows)
-files-again path now rows old = files-changed (is_row path) (list_again now) (λ row. refl) rows old
-
+-- rows that fade
 pub files-faded : (repo : List ℕ) (now : ℕ) (due rows : List plain.Row) → AreFiles rows → AreFiles (rows_after_all (map (λ (row : plain.Row). fades repo row.path now) due) rows)
 files-faded repo now [] rows old = old
 files-faded repo now (row ∷ due) rows old =
-    files-faded repo now due (change_where (is_row row.path) (fade now) rows) (files-changed (is_row row.path) (fade now) (λ r. refl) rows old)
-
-pub files-left : (n limit : ℕ) (rows : List plain.Row) → AreFiles rows → AreFiles (without_first n limit rows)
-files-left n limit [] old = tt
-files-left n limit (row ∷ rows) old =
-    elim (goes n limit row.phase) as (λ b. AreFiles (cond b (without_first (n - 1) limit rows) (row ∷ without_first n limit rows))) [
-      | true ↦ files-left (n - 1) limit rows old.1
-      | false ↦ (old.0, files-left n limit rows old.1)
-    ]
-
--- a moment of the form
-pub moment-so : (now : ℕ) → now ≤ latest_moment → is_moment now ≡ true
-moment-so now late = le-leb now 253402207200 late
+    files-faded repo now due (change_where (is_row row.path) (fade now) rows) (each-changed IsFileRow (is_row row.path) (fade now) (λ r is h. h) rows old)
 
 module _ (id : List ℕ) (named : is_id id ≡ true) where
   fading-short : (now : ℕ) → now ≤ latest_moment → (rows : List plain.Row) → AreFiles rows → AllByRecursion IsShort (recorded (map (λ (row : plain.Row). fades id row.path now) rows))
@@ -93,20 +61,6 @@ module _ (id : List ℕ) (named : is_id id ≡ true) where
 
   pub relists-change : (path : List ℕ) (now : ℕ) → is_file_path path ≡ true → now ≤ latest_moment → IsChange (Relisted id path now ∷ [])
   relists-change path now file late = change-of (Relisted id path now ∷ []) (relist-short id path named file now (moment-so now late), tt) (omega arith)
-
-  -- a staged file as it is recorded
-  pub staged-put : (file : plain.Staged) (now : ℕ) → is_recordable file ≡ true → length file.blob.print.digests.sha1 ≡ 20 → length file.blob.print.digests.md5 ≡ 16 → now ≤ latest_moment
-      → IsShort (HostedPut id file.path file.blob.number file.blob.print now)
-  staged-put file now formed sha1 md5 late =
-      let print = file.blob.print in
-      let a = and_parts (is_file_path file.path) (is_number file.blob.number && is_count print.length) formed in
-      let b = and_parts (is_number file.blob.number) (is_count print.length) a.1 in
-      let is : is_print print ≡ true = and_from _ _ b.1 (and_from _ _ (eq-eqb (length print.digests.sha1) 20 sha1) (eq-eqb (length print.digests.md5) 16 md5)) in
-      put-short id file.path named a.0 file.blob.number print now b.0 is sha1 md5 (moment-so now late)
-
-  pub staged-again : (file : plain.Staged) (now : ℕ) → is_recordable file ≡ true → now ≤ latest_moment → IsShort (Relisted id file.path now)
-  staged-again file now formed late =
-      relist-short id file.path named (and_parts (is_file_path file.path) (is_number file.blob.number && is_count file.blob.print.length) formed).0 now (moment-so now late)
 
   going-short : (rows : List plain.Row) → AreFiles rows → AllByRecursion IsShort (recorded (map (λ (row : plain.Row). expires id row.path row.blob.number) rows))
   going-short [] files = tt

@@ -13,37 +13,17 @@ use Rattle.repo_model.specs.Effect.{Effect, list_again, new_row, with_row}
 use Rattle.repo_model.specs.Paths.{is_snapshot_path}
 use Rattle.repo_model.specs.State.{change_where, is_row, row_at}
 use Rattle.hosted_repo.specs.Releases.{AllFadeRightly, FadesRightly, KeepsReleases}
-use Rattle.hosted_repo.specs.Rows.{goes, is_before, rows_after_all, without_first}
-use Rattle.hosted_repo.proofs.DeliveryLemmas.{effects_by}
+use Rattle.ordered_rows.specs.Rows.{goes, is_before, rows_after_all, without_first}
+use Rattle.ordered_rows.proofs.EachRow.{each-changed, each-with}
+use Rattle.hosted_delivery.proofs.DeliveryLemmas.{effects_by}
 use Rattle.hosted_repo.proofs.FormLemmas.{from-both}
 
 -- ---- what fades is a snapshot's
 pub new-rightly : (path : List ℕ) (blob : plain.Blob) (moment : ℕ) → FadesRightly (new_row path blob moment)
 new-rightly path blob moment since is = absurd (let e : plain.listed ≡ plain.fading since = is in cc)
 
-pub rightly-more : (new : plain.Row) (rows : List plain.Row) → FadesRightly new → AllFadeRightly rows → AllFadeRightly (with_row new rows)
-rightly-more new [] right all = (right, tt)
-rightly-more new (row ∷ rows) right all =
-    elim (slice_cmp nat_cmp new.path row.path) as (λ o. AllFadeRightly (match_ordering o (new ∷ row ∷ rows) (new ∷ row ∷ rows) (row ∷ with_row new rows))) [
-      | Less ↦ (right, all)
-      | Equal ↦ (right, all)
-      | Greater ↦ (all.0, rightly-more new rows right all.1)
-    ]
-
 pub rightly-again : (path : List ℕ) (now : ℕ) (rows : List plain.Row) → AllFadeRightly rows → AllFadeRightly (change_where (is_row path) (list_again now) rows)
-rightly-again path now [] all = tt
-rightly-again path now (row ∷ rows) all = (
-  elim (is_row path row) as (λ b. FadesRightly (cond b (list_again now row) row)) [ true ↦ new-rightly row.path row.blob now | false ↦ all.0 ],
-  rightly-again path now rows all.1,
-)
-
-pub rightly-left : (n limit : ℕ) (rows : List plain.Row) → AllFadeRightly rows → AllFadeRightly (without_first n limit rows)
-rightly-left n limit [] all = tt
-rightly-left n limit (row ∷ rows) all =
-    elim (goes n limit row.phase) as (λ b. AllFadeRightly (cond b (without_first (n - 1) limit rows) (row ∷ without_first n limit rows))) [
-      | true ↦ rightly-left (n - 1) limit rows all.1
-      | false ↦ (all.0, rightly-left n limit rows all.1)
-    ]
+rightly-again path now rows all = each-changed FadesRightly (is_row path) (list_again now) (λ row is right. new-rightly row.path row.blob now) rows all
 
 pub rightly-delivered : (s : Session) (now : ℕ) (others : List plain.Row) (files : List Staged) (rows : List plain.Row) → AllFadeRightly rows
     → AllFadeRightly (rows_after_all (effects_by s now others files) rows)
@@ -51,7 +31,7 @@ rightly-delivered s now others [] rows all = all
 rightly-delivered s now others (file ∷ files) rows all =
     let rest : List Effect = effects_by s now others files in
     elim (row_at file.path others) as (λ o. AllFadeRightly (rows_after_all (deliver_at s now file o ++ rest) rows)) [
-      | None ↦ rightly-delivered s now others files (with_row (new_row file.path file.blob now) rows) (rightly-more (new_row file.path file.blob now) rows (new-rightly file.path file.blob now) all)
+      | None ↦ rightly-delivered s now others files (with_row (new_row file.path file.blob now) rows) (each-with FadesRightly (new_row file.path file.blob now) rows (new-rightly file.path file.blob now) all)
       | Some row ↦ elim (row.phase) as (λ p. AllFadeRightly (rows_after_all (deliver_again s now file p ++ rest) rows)) [
         | plain.listed ↦ rightly-delivered s now others files rows all
         | plain.fading since ↦ rightly-delivered s now others files (change_where (is_row file.path) (list_again now) rows) (rightly-again file.path now rows all)
@@ -101,15 +81,16 @@ module _ (path : List ℕ) where
         | Greater ↦ ap (λ found. cond (is_row path row) (Some row) found) (new-elsewhere new rows other)
       ]
 
-  again-elsewhere : (at : List ℕ) (now : ℕ) (rows : List plain.Row) → bytes_eq at path ≡ false → row_at path (change_where (is_row at) (list_again now) rows) ≡ row_at path rows
-  again-elsewhere at now [] other = refl
-  again-elsewhere at now (row ∷ rows) other =
-      let rest = again-elsewhere at now rows other in
+  pub changed-elsewhere : (at : List ℕ) (f : plain.Row → plain.Row) → ((row : plain.Row) → (f row).path ≡ row.path) → (rows : List plain.Row) → bytes_eq at path ≡ false
+      → row_at path (change_where (is_row at) f rows) ≡ row_at path rows
+  changed-elsewhere at f same [] other = refl
+  changed-elsewhere at f same (row ∷ rows) other =
+      let rest = changed-elsewhere at f same rows other in
       elim (is_row at row)
-      as (λ b. is_row at row ≡ b → row_at path (cond b (list_again now row) row ∷ change_where (is_row at) (list_again now) rows) ≡ row_at path (row ∷ rows)) [
+      as (λ b. is_row at row ≡ b → row_at path (cond b (f row) row ∷ change_where (is_row at) f rows) ≡ row_at path (row ∷ rows)) [
         | true ↦ λ is.
             let apart : is_row path row ≡ false = ap (λ p. bytes_eq p path) ((bytes_eq-Decides row.path at).0 is) ∙ other in
-            ap (λ b. cond b (Some (list_again now row)) (row_at path (change_where (is_row at) (list_again now) rows))) apart
+            ap (λ b. cond b (Some (f row)) (row_at path (change_where (is_row at) f rows))) (ap (λ p. bytes_eq p path) (same row) ∙ apart)
             ∙ rest ∙ sym (ap (λ b. cond b (Some row) (row_at path rows)) apart)
         | false ↦ λ is. ap (λ found. cond (is_row path row) (Some row) found) rest
       ] refl
@@ -129,7 +110,7 @@ keeps-either r whole old new made is ok err keeps =
     (from-both r ok err (λ same. subst (KeepsReleases old) (sym same) keeps) (λ same. subst (KeepsReleases old) (sym same) (keeps-all old)))
 
 pub keeps-again : (at : List ℕ) (now : ℕ) (rows : List plain.Row) → is_snapshot_path at ≡ true → KeepsReleases rows (change_where (is_row at) (list_again now) rows)
-keeps-again at now rows snapshot path row release found = again-elsewhere path at now rows (snapshot-other at path snapshot release) ∙ found
+keeps-again at now rows snapshot path row release found = changed-elsewhere path at (list_again now) (λ r. refl) rows (snapshot-other at path snapshot release) ∙ found
 
 module _ (s : Session) (now : ℕ) (others : List plain.Row) (right : AllFadeRightly others) (path : List ℕ) (row : plain.Row) (release : is_snapshot_path path ≡ false) (there : row_at path others ≡ Some row) where
   kept-delivered : (files : List Staged) (rows : List plain.Row) → row_at path rows ≡ Some row → row_at path (rows_after_all (effects_by s now others files) rows) ≡ Some row
@@ -144,7 +125,7 @@ module _ (s : Session) (now : ℕ) (others : List plain.Row) (right : AllFadeRig
               | plain.listed ↦ λ _. kept-delivered files rows found
               | plain.fading since ↦ λ fades.
                   let snapshot = fading-at file.path others other since right is fades in
-                  kept-delivered files (change_where (is_row file.path) (list_again now) rows) (again-elsewhere path file.path now rows (snapshot-other file.path path snapshot release) ∙ found)
+                  kept-delivered files (change_where (is_row file.path) (list_again now) rows) (changed-elsewhere path file.path (list_again now) (λ r. refl) rows (snapshot-other file.path path snapshot release) ∙ found)
             ] refl
       ] refl
 

@@ -1,13 +1,6 @@
-pub mod Deliveries
-pub mod Documents
-pub mod Dues
 pub mod Expired
-pub mod Homes
+pub mod Fades
 pub mod Puts
-pub mod Recording
 pub mod Releases
 pub mod Restored
-pub mod Rows
-pub mod Rules
 pub mod Seens
-pub mod Walks

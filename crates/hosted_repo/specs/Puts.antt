@@ -1,17 +1,14 @@
 -- What a put did, as the machine's plain data.
-use Rattle.std.specs.Prelude.{◌≡◌, ℕ, List, if◌then◌else◌, Option, Some, None}
+use Rattle.std.specs.Prelude.{◌≡◌, ℕ, List}
 use Rattle.outside.specs.declared.parcels.Parcel.{Parcel}
 use Rattle.outside.specs.declared.stores.Held.{Ghosts}
-use Rattle.repo_model.specs.declared.print.Print.{Print}
-use Rattle.repo_model.specs.Data.{Blob, Row, Phase, listed, fading, Hosted, is_same_print}
+use Rattle.repo_model.specs.Data.{Blob, Hosted}
 use Rattle.repo_model.specs.Reply.{Reply, created, same, relisted, taken, no_memory, store_fault}
 use Rattle.repo_model.specs.Shown.{shown_print}
 use Rattle.repo_model.specs.State.{row_at}
 use Rattle.repo_model.specs.Turn.{Turn, put_at}
 use Rattle.hosted_repo.specs.declared.put.Put.{Put}
 use Rattle.hosted_repo.specs.declared.put.Put.TheVariants as did
-use Rattle.hosted_repo.specs.declared.put.Standing.{Standing}
-use Rattle.hosted_repo.specs.declared.put.Standing.TheVariants as stands
 
 -- the reply that says what a put did
 abbrev pub shown_put : {X : Type 0} {G : Ghosts X} → Put X G → Reply
@@ -34,12 +31,3 @@ GivesBack (did.Relisted back) parcel = back ≡ parcel
 GivesBack (did.Taken kept back) parcel = back ≡ parcel
 GivesBack (did.StoreFault back) parcel = back ≡ parcel
 GivesBack (did.NoMemory back) parcel = back ≡ parcel
-
-abbrev pub standing_by : Phase → Standing
-standing_by listed = stands.Same
-standing_by (fading since) = stands.Unlisted
-
--- what stands at a path, beside a content of a fingerprint
-abbrev pub standing : Print → Option Row → Standing
-standing sent None = stands.Free
-standing sent (Some row) = if is_same_print row.blob.print sent then standing_by row.phase else stands.Other row.blob.print

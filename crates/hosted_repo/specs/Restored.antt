@@ -1,8 +1,8 @@
 -- A row that is taken up as it was kept.
 use Rattle.std.specs.Prelude.{ℕ, List}
 use Rattle.repo_model.specs.Data as plain
-use Rattle.hosted_repo.specs.declared.row.Phase.{Phase}
-use Rattle.hosted_repo.specs.Rows.{shown_phase}
+use Rattle.ordered_rows.specs.declared.row.Phase.{Phase}
+use Rattle.ordered_rows.specs.Rows.{shown_phase}
 
 -- the row of a blob that was kept at a path
 abbrev pub kept_row : List ℕ → plain.Blob → ℕ → Phase → plain.Row

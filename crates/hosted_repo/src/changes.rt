@@ -1,24 +1,17 @@
 //! The changes that are recorded of a repository's rows, made of copies.
-ghost use Rattle.std.specs.Prelude.{◌≡◌, ◌∷◌, [], length, map, IfOk};
+ghost use Rattle.std.specs.Prelude.{◌≡◌, ◌∷◌, [], map, IfOk};
 ghost use Rattle.repo_model.specs.Effect.{recorded};
 ghost use Rattle.repo_model.specs.declared.item.Item.TheVariants.{HostedPut, Relisted};
 ghost use Rattle.row_tables.specs.Items.{IsChange};
-ghost use Rattle.hosted_repo.specs.Dues.{fade_at_paths};
+ghost use Rattle.hosted_repo.specs.Fades.{fade_at_paths};
 ghost use Rattle.hosted_repo.specs.Expired.{shown_expired};
 
-use crate::NoMemory;
 use crate::purge::Expired;
-use mvn_digest::Digests;
+use outside::NoMemory;
 use repo_model::{Item, Print};
 use row_tables::Change;
 use std::alloc::Global;
 use texts::Text;
-
-/// The digests of a content have 20 and 16 bytes.
-pub fn sizes(digests: Digests)
-    ensures sha1 { length digests.sha1 ≡ 20 }
-    ensures md5 { length digests.md5 ≡ 16 }
-{}
 
 /// The change of one item.
 pub fn change_of(alloc: Global, item: Item) -> Result<Change, NoMemory>

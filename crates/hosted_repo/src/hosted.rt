@@ -16,32 +16,28 @@ ghost use Rattle.repo_model.specs.State.{change_where, is_repository, is_row, nu
 ghost use Rattle.repo_model.specs.Turn.{seen_at};
 ghost use Rattle.row_tables.specs.Commits.{tables_with};
 ghost use Rattle.row_tables.specs.Items.{is_file_path, is_id, is_item, is_number, item_bytes};
-ghost use Rattle.hosted_repo.specs.Deliveries.{blobs_of, deliveries, delivery, is_done, is_recordable, left_by, shown_files, shown_put_all};
+ghost use Rattle.hosted_delivery.specs.Deliveries.{blobs_of, deliveries, delivery, is_done, is_recordable, left_by, shown_files, shown_put_all};
 ghost use Rattle.hosted_repo.specs.Expired.{blob_of};
-ghost use Rattle.hosted_repo.specs.Recording.{FitWhereTold, HasKeptCause, HasReplyCause, IsRemoved};
-ghost use Rattle.hosted_repo.specs.Rules.{shown_rule};
+ghost use Rattle.ordered_rows.specs.Recording.{FitWhereTold, HasReplyCause, IsRemoved};
+ghost use Rattle.row_tables.specs.Records.{HasCommitCause};
+ghost use Rattle.directory_rows.specs.Rules.{shown_rule};
 ghost use Rattle.hosted_repo.specs.Releases.{FadesRightly, KeepsReleases};
 ghost use Rattle.hosted_repo.specs.Restored.{kept_row};
-ghost use Rattle.hosted_repo.specs.Rows.{fades, shown_at, rows_after_all};
+ghost use Rattle.ordered_rows.specs.Rows.{fades, shown_at, rows_after_all};
 ghost use Rattle.hosted_repo.specs.Puts.{shown_put, put_turn, GivesBack};
 ghost use Rattle.hosted_repo.specs.Seens.{shown_seen, is_of_document};
 
-use crate::counted::CountedRows;
-use crate::delivering::deliver;
-use crate::judging::judge;
-use crate::kept::Kept;
-use crate::purge::MOST_ROWS;
-use crate::put::{Put, Returned, Standing};
-use crate::put_all::PutAll;
-use crate::row::{Phase, Row};
-use crate::rule::Rule;
+use crate::put::Put;
 use crate::seen::Seen;
-use crate::{NoMemory, changes, documents, looks, purge, rows, storing};
+use crate::{looks, purge, storing};
+use directory_rows::{MOST_ROWS, Rule, document_of, due_paths};
+use hosted_delivery::{PutAll, deliver, judge};
 use mvn_coords::{Dir, Kind};
 use mvn_metadata::Doc;
-use outside::{Held, Parcel};
+use ordered_rows::{CountedRows, Phase, Row, Standing, find, print_of, sizes, standing};
+use outside::{Held, NoMemory, Parcel};
 use repo_model::{Item, Numbers};
-use row_tables::{Change, Records};
+use row_tables::{Change, CommitFault, Records};
 use std::alloc::Global;
 use std::collections::BTreeMap;
 use std::marker::Model;
@@ -61,12 +57,12 @@ impl<H: Held> Model for Hosted<H> {
 
     ghost Value = { plain.Hosted };
 
-    ghost use Rattle.hosted_repo.specs.Rules.{shown_rule};
+    ghost use Rattle.directory_rows.specs.Rules.{shown_rule};
 
     ghost view = { λ h. record { rule = shown_rule h.rule; rows = h.rows } };
 
     ghost use Rattle.hosted_repo.specs.Releases.{AllFadeRightly};
-    ghost use Rattle.hosted_repo.specs.Rows.{AreFiles};
+    ghost use Rattle.ordered_rows.specs.Rows.{AreFiles};
     ghost use Rattle.row_tables.specs.Items.{is_id};
 
     ghost invariant = { λ h. record { named : IsTrue (is_id h.rule.id); files : AreFiles h.rows; fading : AllFadeRightly h.rows } };
@@ -118,7 +114,7 @@ impl<H: Held> Hosted<H> {
     pub fn row(&self, path: &str) -> Option<&Row<H>>
         ensures { option_map (λ row. shown_at path.now row.now) result ≡ row_at path.now self.now.rows }
     {
-        rows::find(self.rows.map(), path)
+        find(self.rows.map(), path)
     }
 
     /// Puts a stored blob at a path at a moment, in seconds since 1970 in UTC. A row of the same content stays its file and
@@ -148,7 +144,7 @@ impl<H: Held> Hosted<H> {
         ensures ready { K.ready records.new }
         ensures parcel { GivesBack result parcel }
     {
-        match rows::standing(self.rows.map(), path, rows::print_of(&parcel)) {
+        match standing(self.rows.map(), path, print_of(&parcel)) {
             Standing::Free => self.create(records, path, parcel, now),
             Standing::Other(kept) => Put::Taken { kept, sent: parcel },
             Standing::Same => Put::Same(parcel),
@@ -181,14 +177,12 @@ impl<H: Held> Hosted<H> {
         ensures ready { K.ready records.new }
         ensures parcel { GivesBack result parcel }
     {
-        changes::sizes(parcel.digests);
+        sizes(parcel.digests);
         let id = &self.rule.id;
-        match storing::create(self.alloc, &mut self.rows, records, id, path, parcel, now) {
+        match storing::create(self.alloc, &mut self.rows, records, id, path, &parcel, now) {
             Ok(()) => Put::Created,
-            Err(Returned { why, parcel }) => match why {
-                Kept::StoreFault => Put::StoreFault(parcel),
-                Kept::NoMemory => Put::NoMemory(parcel),
-            },
+            Err(CommitFault::Failed) => Put::StoreFault(parcel),
+            Err(CommitFault::NoMemory) => Put::NoMemory(parcel),
         }
     }
 
@@ -218,8 +212,8 @@ impl<H: Held> Hosted<H> {
         let id = &self.rule.id;
         match storing::relist(self.alloc, &mut self.rows, records, id, path, now) {
             Ok(()) => Put::Relisted(parcel),
-            Err(Kept::StoreFault) => Put::StoreFault(parcel),
-            Err(Kept::NoMemory) => Put::NoMemory(parcel),
+            Err(CommitFault::Failed) => Put::StoreFault(parcel),
+            Err(CommitFault::NoMemory) => Put::NoMemory(parcel),
         }
     }
 
@@ -262,8 +256,8 @@ impl<H: Held> Hosted<H> {
                 count: staged.len() as u64,
                 blobs: Numbers::from_vec(blobs),
             },
-            Err(Kept::StoreFault) => PutAll::StoreFault,
-            Err(Kept::NoMemory) => PutAll::NoMemory,
+            Err(CommitFault::Failed) => PutAll::StoreFault,
+            Err(CommitFault::NoMemory) => PutAll::NoMemory,
         }
     }
 
@@ -297,7 +291,7 @@ impl<H: Held> Hosted<H> {
     pub fn document(&self, dir: &Dir<'_>) -> Result<Option<Doc>, NoMemory>
         ensures { IfOk result (λ d. d ≡ document dir.now self.now.rows) }
     {
-        documents::document_of(self.alloc, &self.rows, dir)
+        document_of(self.alloc, &self.rows, dir)
     }
 
     /// How many rows it has, and how many of them are unlisted.
@@ -314,13 +308,13 @@ impl<H: Held> Hosted<H> {
     pub fn due_paths(&self, now: u64) -> Result<Vec<String>, NoMemory>
         ensures { IfOk result (λ paths. map string_bytes paths.items ≡ map (λ row. row.path) (due_rows self.now.rule now self.now.rows)) }
     {
-        purge::due_paths(self.alloc, &self.rows, &self.rule, now)
+        due_paths(self.alloc, &self.rows, &self.rule, now)
     }
 
     /// Unlists the rows that are to fade at a moment, in seconds since 1970 in UTC, those of `due_paths`, and gives how many.
     /// They are still answered, and named by no document. That they fade is recorded first; where that fails nothing is
     /// changed.
-    pub fn unlist<K: Records>(&mut self, records: &mut K, now: u64) -> Result<u64, Kept>
+    pub fn unlist<K: Records>(&mut self, records: &mut K, now: u64) -> Result<u64, CommitFault>
         requires moment { now ≤ latest_moment }
         requires ready { K.ready records.old }
         requires fits { FitWhereTold (K.tables records.old) (recorded (fade_all self.old now)) }
@@ -329,8 +323,8 @@ impl<H: Held> Hosted<H> {
         ensures tables { OnOk result (K.tables records.new ≡ tables_with (recorded (fade_all self.old now)) (K.tables records.old)) }
         ensures err { OnErr result (self.new ≡ self.old) }
         ensures untold { OnErr result (K.tables records.new ≡ K.tables records.old) }
-        ensures cause { HasKeptCause (K.faults records.old) (K.faults records.new) result }
-        ensures asked { result ≡ Err Kept.StoreFault → recorded (fade_all self.old now) ≢ [] }
+        ensures cause { HasCommitCause (K.faults records.old) (K.faults records.new) result }
+        ensures asked { result ≡ Err CommitFault.Failed → recorded (fade_all self.old now) ≢ [] }
         ensures ready { K.ready records.new }
 
         // Files of releases stay as they are, and all files and their side files are answered as before.

@@ -6,15 +6,13 @@ ghost use Rattle.mvn_digest.specs.Digests.{digests_of};
 ghost use Rattle.repo_model.specs.Turn.{seen_at, document_text};
 ghost use Rattle.hosted_repo.specs.Seens.{shown_seen, is_of_document};
 
-use crate::NoMemory;
-use crate::counted::CountedRows;
-use crate::documents::document_of;
-use crate::rows::find;
 use crate::seen::{DocText, Seen};
+use directory_rows::document_of;
 use mvn_coords::{Dir, Kind, Side, kind_of};
 use mvn_digest::{Digests, Hashes, side_text};
 use mvn_doc::write;
-use outside::Held;
+use ordered_rows::{CountedRows, find};
+use outside::{Held, NoMemory};
 use std::alloc::Global;
 
 fn digests_of(text: &[u8]) -> Digests

@@ -4,70 +4,28 @@ ghost use Rattle.repo_model.specs.Effect.{expires, recorded};
 ghost use Rattle.repo_model.specs.Purge.{due_rows, fade_all};
 ghost use Rattle.row_tables.specs.Commits.{tables_with};
 ghost use Rattle.row_tables.specs.Items.{IsChange};
-ghost use Rattle.hosted_repo.specs.Dues.{fade_at_paths};
+ghost use Rattle.hosted_repo.specs.Fades.{fade_at_paths};
 ghost use Rattle.hosted_repo.specs.Expired.{shown_expired};
-ghost use Rattle.hosted_repo.specs.Recording.{FitWhereTold, HasKeptCause};
-ghost use Rattle.hosted_repo.specs.Rows.{hosted_of, is_before, rows_after_all, shown_rows};
-ghost use Rattle.hosted_repo.specs.Rules.{shown_rule};
+ghost use Rattle.ordered_rows.specs.Recording.{FitWhereTold};
+ghost use Rattle.row_tables.specs.Records.{HasCommitCause};
+ghost use Rattle.hosted_repo.specs.Fades.{hosted_of};
+ghost use Rattle.ordered_rows.specs.Rows.{is_before, rows_after_all, shown_rows};
+ghost use Rattle.directory_rows.specs.Rules.{shown_rule};
 
-use crate::NoMemory;
 use crate::changes::{fade_change, removals};
-use crate::counted::CountedRows;
-use crate::dues::is_due;
-use crate::kept::Kept;
-use crate::row::Row;
-use crate::rows::is_before;
-use crate::rule::Rule;
-use outside::Held;
-use row_tables::{Change, Records};
+use directory_rows::{Rule, due_paths};
+use ordered_rows::{CountedRows, Row, is_before};
+use outside::{Held, NoMemory};
+use row_tables::{Change, CommitFault, Records};
 use std::alloc::Global;
 use std::collections::BTreeMap;
 use texts::Text;
-
-/// The most rows that one purge unlists or takes away.
-pub const MOST_ROWS: usize = 1_000_000;
 
 /// A row whose grace period is over: its path, and the number of its blob.
 #[derive(Drop)]
 pub struct Expired {
     pub path: String,
     pub blob: u64,
-}
-
-/// The paths of the rows that are to fade at a moment, at most 1,000,000, in byte order.
-pub fn due_paths<H: Held>(
-    alloc: Global,
-    rows: &CountedRows<H>,
-    rule: &Rule,
-    now: u64,
-) -> Result<Vec<String>, NoMemory>
-    ensures { IfOk result (λ paths. map string_bytes paths.items ≡ map (λ row. row.path) (due_rows (shown_rule rule.now) now rows.now)) }
-{
-    due_among(alloc, rows.map(), rule, now)
-}
-
-fn due_among<H: Held>(
-    alloc: Global,
-    rows: &BTreeMap<String, Row<H>>,
-    rule: &Rule,
-    now: u64,
-) -> Result<Vec<String>, NoMemory>
-    ensures { IfOk result (λ paths. map string_bytes paths.items ≡ map (λ row. row.path) (due_rows (shown_rule rule.now) now (shown_rows rows.now.entries))) }
-{
-    let mut known = Vec::new(alloc);
-    let mut paths = Vec::new(alloc);
-    for (path, row) in rows {
-        if paths.len() == MOST_ROWS {
-            return Ok(paths);
-        }
-        let text = path.as_str();
-        let due = is_due(alloc, rows, rule, now, &mut known, text, row)?;
-        if due {
-            let copy = String::from_str(alloc, text)?;
-            paths.push(copy)?;
-        }
-    }
-    Ok(paths)
 }
 
 /// Unlists the rows at some paths.
@@ -87,7 +45,7 @@ pub fn unlist_rows<H: Held, K: Records>(
     records: &mut K,
     rule: &Rule,
     now: u64,
-) -> Result<u64, Kept>
+) -> Result<u64, CommitFault>
     requires ready { K.ready records.old }
     requires change { IsChange (recorded (fade_all (hosted_of rule.now rows.old) now)) }
     requires fits { FitWhereTold (K.tables records.old) (recorded (fade_all (hosted_of rule.now rows.old) now)) }
@@ -98,8 +56,8 @@ pub fn unlist_rows<H: Held, K: Records>(
         ≡ tables_with (recorded (fade_all (hosted_of rule.now rows.old) now)) (K.tables records.old)) }
     ensures err { OnErr result (rows.new ≡ rows.old) }
     ensures untold { OnErr result (K.tables records.new ≡ K.tables records.old) }
-    ensures cause { HasKeptCause (K.faults records.old) (K.faults records.new) result }
-    ensures asked { result ≡ Err Kept.StoreFault → recorded (fade_all (hosted_of rule.now rows.old) now) ≢ [] }
+    ensures cause { HasCommitCause (K.faults records.old) (K.faults records.new) result }
+    ensures asked { result ≡ Err CommitFault.Failed → recorded (fade_all (hosted_of rule.now rows.old) now) ≢ [] }
     ensures ready { K.ready records.new }
 {
     let paths = due_paths(alloc, rows, rule, now)?;

@@ -1,5 +1,4 @@
 //! What putting a stored blob at a path comes to.
-use crate::kept::Kept;
 use outside::{Held, Parcel};
 use repo_model::Print;
 
@@ -18,24 +17,4 @@ pub enum Put<H: Held> {
     StoreFault(Parcel<H>),
     /// There was no memory left. Nothing is changed.
     NoMemory(Parcel<H>),
-}
-
-/// A parcel that comes back, and why.
-#[derive(Drop)]
-pub struct Returned<H: Held> {
-    pub why: Kept,
-    pub parcel: Parcel<H>,
-}
-
-/// What stands at a path, beside a content.
-#[derive(Clone, Copy, Debug)]
-pub enum Standing {
-    /// No row.
-    Free,
-    /// A row of another content, of this fingerprint.
-    Other(Print),
-    /// A visible row of the same content.
-    Same,
-    /// A row of the same content that is unlisted.
-    Unlisted,
 }

@@ -5,17 +5,17 @@ ghost use Rattle.row_tables.specs.Items.{is_file_path, is_id};
 ghost use Rattle.repo_model.specs.Data.{fading};
 ghost use Rattle.repo_model.specs.History.{latest_moment};
 ghost use Rattle.repo_model.specs.Paths.{is_snapshot_path};
-ghost use Rattle.hosted_repo.specs.Rows.{shown_phase};
+ghost use Rattle.ordered_rows.specs.Rows.{shown_phase};
 
 use crate::asks::{Ask, Said, are_blobs, are_paths, is_put, is_seen, remove_all};
 use crate::deliveries::{Staged, delivers};
 use crate::records::CountedRecords;
-use hosted_repo::{Hosted, Kept, Phase, Put, Rule};
+use hosted_repo::{Hosted, Phase, Put, Rule};
 use mvn_coords::{Kind, kind_of};
 use mvn_digest::Hashes;
 use outside::{Blobs, NoMemory, Parcel};
 use outside_memory::{FaultScript, MemBlobs, MemHeld};
-use row_tables::Change;
+use row_tables::{Change, CommitFault};
 use std::alloc::Global;
 use std::collections::BTreeMap;
 use std::process::Abort;
@@ -186,7 +186,7 @@ impl Bench {
         }
     }
 
-    fn unlist(&mut self, now: u64) -> Option<Result<u64, Kept>> {
+    fn unlist(&mut self, now: u64) -> Option<Result<u64, CommitFault>> {
         if !is_moment(now) {
             return None;
         }
@@ -196,7 +196,7 @@ impl Bench {
     fn unlists(&mut self, now: u64, want: &Said) -> bool {
         match (self.unlist(now), want) {
             (Some(Ok(count)), Said::Unlisted(number)) => count == *number,
-            (Some(Err(Kept::StoreFault)), Said::NotUnlisted) => true,
+            (Some(Err(CommitFault::Failed)), Said::NotUnlisted) => true,
             _ => false,
         }
     }

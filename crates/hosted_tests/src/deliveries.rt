@@ -1,7 +1,7 @@
 // Staged files that a repository takes all at once.
 ghost use Rattle.std.specs.Prelude.{◌≤◌, length, IsTrue};
 ghost use Rattle.std.specs.List.{list_all};
-ghost use Rattle.hosted_repo.specs.Deliveries.{is_recordable, shown_files};
+ghost use Rattle.hosted_delivery.specs.Deliveries.{is_recordable, shown_files};
 ghost use Rattle.repo_model.specs.Purge.{most_rows};
 ghost use Rattle.repo_model.specs.Shown.{shown_parcel};
 

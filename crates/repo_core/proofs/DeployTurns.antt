@@ -4,7 +4,7 @@ use Rattle.std.specs.Prelude.{◌==◌, IsTrue, count_by, nat_le, nat_lt}
 use Rattle.std.proofs.lemmas.Bool.{and_parts, false≢true}
 use Rattle.mvn_coords.specs.Kind.{kind}
 use Rattle.deploy_session.specs.Known.{Known, begin_turn, known_after, sessions_after_all}
-use Rattle.hosted_repo.specs.Recording.{HasReplyCause}
+use Rattle.ordered_rows.specs.Recording.{HasReplyCause}
 use Rattle.repo_model.specs.Command.{Command, is_file_path, is_parcel, may_put, meets, open_session, put_doc, put_side, stage}
 use Rattle.repo_model.specs.Data.{Blob, Hosted, Session, is_same_print, session}
 use Rattle.repo_model.specs.Effect.{draws, drops, opens, recorded, stages, with_effects, with_number, without_draft, yard_after}

@@ -11,7 +11,7 @@ use Rattle.repo_model.specs.Command.{put, meets, is_fit, is_parcel, rule_of}
 use Rattle.repo_model.specs.Reply.{Reply, no_draft, is_free}
 use Rattle.repo_model.specs.Turn.{Turn, turn, says, put_at}
 use Rattle.repo_core.specs.Hosted.{put_due, put_in, rows_in}
-use Rattle.hosted_repo.specs.Recording.{HasReplyCause}
+use Rattle.ordered_rows.specs.Recording.{HasReplyCause}
 use Rattle.repo_model.specs.Tables.{Tables}
 use Rattle.repo_model.specs.History.{commits}
 use Rattle.row_tables.specs.Commits.{tables_with}

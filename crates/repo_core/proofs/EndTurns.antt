@@ -11,7 +11,7 @@ use Rattle.deploy_session.specs.Known.{Known, abort_turn, commit_turn, garbage_b
 use Rattle.deploy_session.specs.Shown.{shown_commit}
 use Rattle.deploy_session.specs.declared.answers.Commit.{Commit}
 use Rattle.deploy_session.specs.declared.answers.Commit.TheVariants.{Aborted as GivenUp, Done as Deployed, MissingPom, NoMemory, NoSession, Offends, StoreFault}
-use Rattle.hosted_repo.specs.Rows.{rows_after_all}
+use Rattle.ordered_rows.specs.Rows.{rows_after_all}
 use Rattle.repo_model.specs.Command.{is_there}
 use Rattle.repo_model.specs.Data.{Hosted, Phase, Row, Session, Staged, fading, listed}
 use Rattle.repo_model.specs.Deploy.{Offence, deliver_again, deliver_all, deliver_at, discard_all, offence, without_pom}

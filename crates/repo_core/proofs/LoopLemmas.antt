@@ -7,8 +7,8 @@ use Rattle.std.specs.Prelude.{filter}
 use Rattle.std.specs.List.{AllByRecursion}
 use Rattle.std.proofs.lemmas.Grind.{flat_map-append}
 use Rattle.hosted_repo.specs.Expired.{blob_of}
-use Rattle.hosted_repo.specs.Recording.{IsRemoved}
-use Rattle.hosted_repo.specs.Rows.{rows_after_all}
+use Rattle.ordered_rows.specs.Recording.{IsRemoved}
+use Rattle.ordered_rows.specs.Rows.{rows_after_all}
 use Rattle.repo_model.specs.Data.{Row, Hosted}
 use Rattle.repo_model.specs.declared.item.Item.{Item}
 use Rattle.repo_model.specs.Effect.{Effect, condemning, expires, items_of, recorded, without_number}

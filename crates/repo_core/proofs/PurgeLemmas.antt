@@ -16,7 +16,7 @@ use Rattle.repo_laws.proofs.HoldingLists.{all-change_first, all-filter}
 use Rattle.repo_laws.proofs.Lists.{all-take}
 use Rattle.repo_laws.proofs.Making.{all-append}
 use Rattle.repo_laws.proofs.Releases.{is_itself, other_path}
-use Rattle.hosted_repo.specs.Rows.{rows_after_all}
+use Rattle.ordered_rows.specs.Rows.{rows_after_all}
 use Rattle.repo_core.specs.Deploys.{hosted_after_all}
 use Rattle.repo_core.specs.Hosted.{AreInUse}
 use Rattle.hosted_repo.specs.Expired.{blob_of}

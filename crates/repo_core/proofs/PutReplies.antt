@@ -9,7 +9,7 @@ use Rattle.repo_model.specs.State.{State, Yard, change_where, change_first, is_r
 use Rattle.repo_model.specs.Effect.{with_effects, yard_after, drops, with_row, new_row, list_again, without_draft}
 use Rattle.repo_model.specs.Reply.{Reply, no_memory, store_fault, taken, is_free}
 use Rattle.repo_model.specs.Turn.{Turn, put_again, put_at}
-use Rattle.hosted_repo.specs.Rows.{rows_after_all}
+use Rattle.ordered_rows.specs.Rows.{rows_after_all}
 use Rattle.hosted_repo.specs.Puts.{put_turn}
 use Rattle.repo_laws.proofs.Lists.{found-passes}
 use Rattle.repo_laws.proofs.Releases.{same_path}

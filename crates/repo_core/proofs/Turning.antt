@@ -2,7 +2,7 @@
 use native.Mathlib.Omega.{arith}
 use Rattle.std.proofs.Common.{◌≡◌, ℕ, ◌≤◌, min, max, Bool, true, false, cond, ◌&&◌, if◌then◌else◌, List, [], ◌∷◌, Option, Some, None, Result, Ok, inl, inr, refl, sym, ap, ◌∙◌, subst}
 use Rattle.std.specs.Prelude.{IfSome, MatchOption, IsTrue, ◌==◌, bytes_eq, count_by, find, length, not, sum_by}
-use Rattle.hosted_repo.specs.Rows.{fades}
+use Rattle.ordered_rows.specs.Rows.{fades}
 use Rattle.mvn_coords.specs.Kind.{kind}
 use Rattle.outside.specs.Moments.{Moments}
 use Rattle.mvn_coords.specs.declared.fault.PathFault.{PathFault}
@@ -25,7 +25,7 @@ use Rattle.repo_model.specs.Turn.{Seen, Turn, compared, draws_draft, in_reposito
 use Rattle.repo_model.specs.History as history
 use Rattle.repo_model.specs.History.{Entry, IsReply, MomentFits, commits, latest_moment, ticked, Fits, effects_of, after}
 use Rattle.outside.specs.Faults.{Rose}
-use Rattle.hosted_repo.specs.Recording.{FitWhereTold, HasReplyCause}
+use Rattle.ordered_rows.specs.Recording.{FitWhereTold, HasReplyCause}
 use Rattle.repo_config.specs.Form.{IsSettings}
 use Rattle.repo_laws.specs.Sound.{IsSound}
 use Rattle.repo_laws.proofs.Answered.{no-free}

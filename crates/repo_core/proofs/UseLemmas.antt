@@ -11,7 +11,7 @@ use Rattle.repo_model.specs.State.{change_where, is_among, is_repository, is_row
 use Rattle.repo_model.specs.Effect.{with_row, new_row, with_number, list_again, fade, fades}
 use Rattle.repo_model.specs.Purge.{due_rows}
 use Rattle.repo_model.specs.Turn.{unlist_of}
-use Rattle.hosted_repo.specs.Rows.{rows_after_all}
+use Rattle.ordered_rows.specs.Rows.{rows_after_all}
 use Rattle.repo_model.specs.Reply.{Reply, created, relisted}
 use Rattle.repo_core.specs.Hosted.{AreInUse, rows_in, with_rows, rows_put}
 use Rattle.repo_core.specs.Numbers.{kept_put}

@@ -4,7 +4,7 @@ use Rattle.repo_model.specs.Data.{Hosted}
 use Rattle.repo_model.specs.State.{Yard, is_among}
 use Rattle.repo_model.specs.Effect.{condemning, without_number}
 use Rattle.repo_model.specs.Purge.{expired_of}
-use Rattle.hosted_repo.specs.Rows.{rows_after_all}
+use Rattle.ordered_rows.specs.Rows.{rows_after_all}
 
 -- blobs become garbage, and are in use no longer
 abbrev pub condemned_by : List ℕ → Yard → Yard

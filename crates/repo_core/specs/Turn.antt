@@ -1,6 +1,6 @@
 -- What one turn answers and leaves, its moment being settled.
 use Rattle.std.specs.Prelude.{◌≡◌, ◌⊎◌, ℕ, ◌≤◌, Bool, false, IsTrue, if◌then◌else◌, List, [], Option}
-use Rattle.hosted_repo.specs.Recording.{FitWhereTold, HasReplyCause}
+use Rattle.ordered_rows.specs.Recording.{FitWhereTold, HasReplyCause}
 use Rattle.repo_model.specs.Settings.{Settings}
 use Rattle.repo_model.specs.State.{State}
 use Rattle.repo_model.specs.Tables.{Tables}

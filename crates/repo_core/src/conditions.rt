@@ -44,7 +44,8 @@ pub fn fits<H: Held>(settings: &Settings, command: &Command<H>) -> bool
             draft,
             parcel,
         } => { is_file_path(path.as_str()) && parcel.blob == *draft && parcel.length < NUMBER_END }
-        Command::Open { repo } | Command::Unlist { repo } => is_there(settings, repo.as_str()),
+        Command::Open { repo } => is_there(settings, repo.as_str()),
+        Command::Unlist { repo } => is_there(settings, repo.as_str()),
         Command::Commit { session: _ }
         | Command::Abort { session: _ }
         | Command::Done { lease: _ }

@@ -6,7 +6,7 @@ ghost use Rattle.mvn_coords.specs.Kind.{kind};
 ghost use Rattle.mvn_digest.specs.Sides.{bytes_in};
 ghost use Rattle.deploy_session.specs.Known.{garbage_by, known_after};
 ghost use Rattle.deploy_session.specs.Shown.{blobs_left, blobs_over, shown_abort, shown_begin, shown_commit, shown_stage};
-ghost use Rattle.hosted_repo.specs.Recording.{FitWhereTold, HasReplyCause};
+ghost use Rattle.ordered_rows.specs.Recording.{FitWhereTold, HasReplyCause};
 ghost use Rattle.repo_model.specs.Data as plain;
 ghost use Rattle.repo_model.specs.Effect.{recorded};
 ghost use Rattle.repo_model.specs.History.{latest_moment};

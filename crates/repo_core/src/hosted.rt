@@ -10,10 +10,11 @@ ghost use Rattle.repo_model.specs.Shown.{shown_parcel};
 ghost use Rattle.repo_model.specs.Reply.{unlisted};
 ghost use Rattle.repo_model.specs.Turn.{seen_at, unlist_of};
 ghost use Rattle.hosted_repo.specs.Puts.{shown_put};
-ghost use Rattle.hosted_repo.specs.Rows.{fades, rows_after_all, shown_at};
+ghost use Rattle.ordered_rows.specs.Rows.{fades, rows_after_all, shown_at};
 ghost use Rattle.hosted_repo.specs.Seens.{shown_seen};
 ghost use Rattle.mvn_coords.specs.Kind.{kind};
-ghost use Rattle.hosted_repo.specs.Recording.{FitWhereTold, HasKeptCause, HasReplyCause};
+ghost use Rattle.ordered_rows.specs.Recording.{FitWhereTold, HasReplyCause};
+ghost use Rattle.row_tables.specs.Records.{HasCommitCause};
 ghost use Rattle.repo_model.specs.Effect.{recorded};
 ghost use Rattle.repo_model.specs.Reply.{is_free};
 ghost use Rattle.row_tables.specs.Commits.{tables_with};
@@ -21,10 +22,10 @@ ghost use Rattle.row_tables.specs.Items.{is_file_path, is_number};
 ghost use Rattle.repo_core.specs.Hosted.{rules_of, rows_in, with_rows, put_due, put_in, rows_put};
 ghost use Rattle.repo_core.specs.Turn.{IsDueOrFree};
 
-use hosted_repo::{Hosted, Kept, Put, Row, Seen};
+use hosted_repo::{Hosted, Put, Row, Seen};
 use mvn_coords::kind_of;
 use outside::{Held, NoMemory, Parcel};
-use row_tables::Records;
+use row_tables::{CommitFault, Records};
 
 // The repository of an id.
 fn repo_at<'a, H: Held>(repos: &'a [Hosted<H>], id: &str) -> Option<&'a Hosted<H>>
@@ -119,7 +120,7 @@ pub fn unlist<H: Held, K: Records>(
     records: &mut K,
     id: &str,
     moment: u64,
-) -> Result<u64, Kept>
+) -> Result<u64, CommitFault>
     requires there { IsTrue (list_any (is_repository id.now) repos.old.items) }
     requires moment { moment ≤ latest_moment }
     requires ready { K.ready records.old }
@@ -131,8 +132,8 @@ pub fn unlist<H: Held, K: Records>(
         ≡ tables_with (recorded (unlist_of moment (find (is_repository id.now) repos.old.items)).effects) (K.tables records.old)) }
     ensures err { OnErr result (repos.new.items ≡ repos.old.items) }
     ensures untold { OnErr result (K.tables records.new ≡ K.tables records.old) }
-    ensures cause { HasKeptCause (K.faults records.old) (K.faults records.new) result }
-    ensures asked { result ≡ Err Kept.StoreFault → recorded (unlist_of moment (find (is_repository id.now) repos.old.items)).effects ≢ [] }
+    ensures cause { HasCommitCause (K.faults records.old) (K.faults records.new) result }
+    ensures asked { result ≡ Err CommitFault.Failed → recorded (unlist_of moment (find (is_repository id.now) repos.old.items)).effects ≢ [] }
     ensures ready { K.ready records.new }
 {
     let place = place_of(repos, id);

@@ -9,7 +9,7 @@ use crate::puts::{compare_side, reply_of, settle};
 use crate::turn::next_moment;
 use blob_yard::{DrawFault, Yard};
 use deploy_session::Sessions;
-use hosted_repo::{Hosted, Kept};
+use hosted_repo::Hosted;
 use mvn_digest::Digest;
 use outside::{Clock, Held, Parcel};
 use repo_config::Settings;
@@ -85,7 +85,7 @@ impl<C: Clock, H: Held> Machine<C, H> {
     ghost use Rattle.repo_model.specs.Turn.{turn};
     ghost use Rattle.row_tables.specs.Commits.{tables_with};
     ghost use Rattle.hosted_repo.specs.Expired.{blob_of};
-    ghost use Rattle.hosted_repo.specs.Recording.{FitWhereTold, HasReplyCause};
+    ghost use Rattle.ordered_rows.specs.Recording.{FitWhereTold, HasReplyCause};
     ghost use Rattle.repo_core.specs.Deploys.{AreStagedInUse};
     ghost use Rattle.repo_core.specs.Hosted.{AreInUse, rules_of};
     ghost use Rattle.repo_core.specs.Purge.{shares};
@@ -294,8 +294,8 @@ impl<C: Clock, H: Held> Machine<C, H> {
     {
         match unlist(&mut self.repos, records, repo, self.last) {
             Ok(count) => Reply::Unlisted(count),
-            Err(Kept::StoreFault) => Reply::StoreFault,
-            Err(Kept::NoMemory) => Reply::NoMemory,
+            Err(row_tables::CommitFault::Failed) => Reply::StoreFault,
+            Err(row_tables::CommitFault::NoMemory) => Reply::NoMemory,
         }
     }
 

@@ -37,7 +37,7 @@ impl<K: Records, C: Clock, H: Held> Model for Core<K, C, H> {
 impl<K: Records, C: Clock, H: Held> Core<K, C, H> {
     ghost use Rattle.std.specs.Prelude.{◌≡◌, ◌+◌, min, IsTrue};
     ghost use Rattle.std.specs.Option.{ForSome};
-    ghost use Rattle.hosted_repo.specs.Recording.{HasReplyCause};
+    ghost use Rattle.ordered_rows.specs.Recording.{HasReplyCause};
     ghost use Rattle.outside.specs.Faults.{last_count};
     ghost use Rattle.repo_model.specs.Asking.{IsAnswerTo};
     ghost use Rattle.repo_model.specs.Command.{meets};

@@ -19,7 +19,7 @@ impl<C: Clock, H: Held> Machine<C, H> {
     ghost use Rattle.repo_model.specs.Shown.{shown_parcel, shown_reply};
     ghost use Rattle.repo_model.specs.State.{is_among};
     ghost use Rattle.repo_model.specs.Turn.{turn};
-    ghost use Rattle.hosted_repo.specs.Recording.{FitWhereTold};
+    ghost use Rattle.ordered_rows.specs.Recording.{FitWhereTold};
     ghost use Rattle.deploy_session.specs.Shown.{shown_abort, shown_begin, shown_commit, shown_stage};
     ghost use Rattle.repo_core.specs.Turn.{Recorded, Turned};
     ghost use Rattle.repo_core.specs.Whole.{IsOrderly};

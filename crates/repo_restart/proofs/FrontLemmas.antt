@@ -15,7 +15,7 @@ use Rattle.repo_model.specs.Restart.{with_bytes, is_of, recorded_of, hosted_from
 use Rattle.repo_model.specs.Settings.{Rule}
 use Rattle.repo_model.specs.State.{is_repository, row_at}
 use Rattle.repo_model.specs.Tables.{RecordedRow}
-use Rattle.hosted_repo.proofs.LastRows.{AreBefore, none-there}
+use Rattle.ordered_rows.proofs.LastRows.{AreBefore, none-there}
 use Rattle.repo_laws.specs.Holds.{row_cmp}
 use Rattle.repo_restart.specs.Taking.{rows_in}
 

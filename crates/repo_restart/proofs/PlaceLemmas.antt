@@ -14,8 +14,8 @@ use Rattle.row_tables.specs.Stored.{shown_row}
 use Rattle.row_tables.specs.Stored as stored
 use Rattle.row_tables.specs.declared.files.FileRow.{FileRow}
 use Rattle.hosted_repo.specs.Restored.{kept_row}
-use Rattle.hosted_repo.specs.Rows as rows
-use Rattle.hosted_repo.specs.declared.row.Phase.{Phase}
+use Rattle.ordered_rows.specs.Rows as rows
+use Rattle.ordered_rows.specs.declared.row.Phase.{Phase}
 use Rattle.repo_restart.specs.Taking.{holding, rows_in}
 
 module _ {X : Type 0} (p : X → Bool) where

@@ -14,7 +14,7 @@ use Rattle.repo_model.specs.Restart.{with_bytes, is_of, recorded_of, hosted_from
 use Rattle.repo_model.specs.Settings.{Rule}
 use Rattle.repo_model.specs.State.{new_hosted}
 use Rattle.repo_model.specs.Tables.{RecordedRow}
-use Rattle.hosted_repo.proofs.LastRows.{last}
+use Rattle.ordered_rows.proofs.LastRows.{last}
 use Rattle.repo_laws.specs.Holds.{row_cmp}
 use Rattle.repo_laws.specs.Sound.{AreNamedApart}
 use Rattle.repo_restart.specs.Rows.{AreRestored}

@@ -2,7 +2,7 @@
 ghost use Rattle.std.specs.Prelude.{◌≡◌, IsTrue, IfOk, map};
 ghost use Rattle.std.specs.List.{AllByRecursion};
 ghost use Rattle.repo_model.specs.State.{new_hosted};
-ghost use Rattle.hosted_repo.specs.Rules.{shown_rule};
+ghost use Rattle.directory_rows.specs.Rules.{shown_rule};
 ghost use Rattle.row_tables.specs.Items.{is_id};
 
 use hosted_repo::{Hosted, Rule};

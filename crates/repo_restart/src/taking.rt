@@ -5,7 +5,7 @@ ghost use Rattle.repo_model.specs.History.{latest_moment};
 ghost use Rattle.repo_model.specs.Shown.{shown_print};
 ghost use Rattle.repo_model.specs.State.{is_repository, row_at};
 ghost use Rattle.hosted_repo.specs.Releases.{FadesRightly};
-ghost use Rattle.hosted_repo.specs.Rows as rows;
+ghost use Rattle.ordered_rows.specs.Rows as rows;
 ghost use Rattle.row_tables.specs.Items.{is_file_path};
 ghost use Rattle.row_tables.specs.Stored as stored;
 ghost use Rattle.blob_audit.specs.Damages.{AreDamaged};

@@ -5,7 +5,7 @@ ghost use Rattle.row_tables.specs.Items.{is_file_path, is_id};
 ghost use Rattle.repo_model.specs.Data as plain;
 ghost use Rattle.repo_model.specs.Paths.{is_snapshot_path};
 ghost use Rattle.repo_model.specs.State.{is_open_at};
-ghost use Rattle.hosted_repo.specs.Rows.{shown_phase};
+ghost use Rattle.ordered_rows.specs.Rows.{shown_phase};
 
 use crate::asks::{Ask, Said, is_aborted, is_begun, is_committed, is_number, is_row, is_staged};
 use crate::records::CountedRecords;

@@ -1,6 +1,6 @@
 use Rattle.std.proofs.Common.{◌≡◌, take}
 use Rattle.repo_model.specs.Effect.{recorded}
-use Rattle.hosted_repo.specs.Dues.{fade_at_paths}
+use Rattle.hosted_repo.specs.Fades.{fade_at_paths}
 use Rattle.hosted_repo.proofs.changes.fade_change.Given as goal
 
 -- the items of the paths so far

@@ -5,9 +5,10 @@ use Rattle.std.proofs.lemmas.Map.Iter.{iter_end, rest_so_far}
 use Rattle.repo_model.specs.Data as plain
 use Rattle.repo_model.specs.Effect.{Effect, expires}
 use Rattle.hosted_repo.specs.Expired.{shown_expired}
-use Rattle.hosted_repo.specs.Rows.{is_before, shown_at, shown_entry, shown_rows}
+use Rattle.ordered_rows.specs.Rows.{is_before, shown_at, shown_entry, shown_rows}
 use Rattle.hosted_repo.specs.declared.purge.Expired.{Expired}
-use Rattle.hosted_repo.proofs.DueLemmas.{found_full, found_more, shown_more}
+use Rattle.ordered_rows.proofs.Taken.{found_full, found_more}
+use Rattle.ordered_rows.proofs.MapLemmas.{shown_more}
 use Rattle.hosted_repo.proofs.purge.expired_rows.Goals as goal
 
 abbrev gone : List ℕ → plain.Row → Effect

@@ -2,7 +2,7 @@ use Rattle.std.proofs.Common.{◌≡◌, ℕ, List, map, filter, take}
 use Rattle.std.specs.Map.Iter.{deref_pair}
 use Rattle.repo_model.specs.Effect.{expires}
 use Rattle.hosted_repo.specs.Expired.{shown_expired}
-use Rattle.hosted_repo.specs.Rows.{is_before, shown_rows}
+use Rattle.ordered_rows.specs.Rows.{is_before, shown_rows}
 use Rattle.hosted_repo.proofs.purge.expired_rows.Given as goal
 
 -- the first of the rows so far

@@ -2,9 +2,9 @@ use Rattle.std.proofs.Common.{[], ◌∷◌, ◌++◌, take, string_bytes, sym, 
 use Rattle.std.proofs.lemmas.List.{map-append, take_more}
 use Rattle.repo_model.specs.Effect.{fade as faded, fades, rows_after}
 use Rattle.repo_model.specs.State.{change_where, is_row}
-use Rattle.hosted_repo.specs.Dues.{fade_at_paths}
-use Rattle.hosted_repo.specs.Rows.{rows_after_all}
-use Rattle.hosted_repo.proofs.DueLemmas.{after_more}
+use Rattle.hosted_repo.specs.Fades.{fade_at_paths}
+use Rattle.ordered_rows.specs.Rows.{rows_after_all}
+use Rattle.hosted_repo.proofs.FadeLemmas.{after_more}
 use Rattle.hosted_repo.proofs.purge.fade_all.Goals as goal
 
 pub loop-path-preserved : goal.loop-path-preserved

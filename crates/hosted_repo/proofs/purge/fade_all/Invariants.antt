@@ -1,6 +1,6 @@
 use Rattle.std.proofs.Common.{◌≡◌, ℕ, List, take}
-use Rattle.hosted_repo.specs.Dues.{fade_at_paths}
-use Rattle.hosted_repo.specs.Rows.{rows_after_all}
+use Rattle.hosted_repo.specs.Fades.{fade_at_paths}
+use Rattle.ordered_rows.specs.Rows.{rows_after_all}
 use Rattle.hosted_repo.proofs.purge.fade_all.Given as goal
 
 -- the rows once those at the paths so far have faded

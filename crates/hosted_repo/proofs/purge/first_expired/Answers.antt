@@ -2,7 +2,7 @@ use Rattle.std.proofs.Common.{◌≡◌, ℕ, zero, suc, List, [], map, take, re
 use Rattle.repo_model.specs.Data as plain
 use Rattle.repo_model.specs.Effect.{expires}
 use Rattle.hosted_repo.specs.Expired.{shown_expired}
-use Rattle.hosted_repo.proofs.CountLemmas.{none_before}
+use Rattle.ordered_rows.proofs.CountLemmas.{none_before}
 use Rattle.hosted_repo.proofs.purge.first_expired.Goals as goal
 
 take_none : {A : Type 0} (n : ℕ) → take {A = A} n [] ≡ []

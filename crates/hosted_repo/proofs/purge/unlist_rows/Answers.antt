@@ -7,11 +7,11 @@ use Rattle.repo_model.specs.Purge.{due_rows}
 use Rattle.repo_model.specs.Tables.{Tables}
 use Rattle.row_tables.specs.Commits.{tables_with}
 use Rattle.row_tables.specs.Items.{IsChange}
-use Rattle.hosted_repo.specs.Dues.{fade_at_paths}
-use Rattle.hosted_repo.specs.Recording.{FitWhereTold}
-use Rattle.hosted_repo.specs.Rows.{rows_after_all}
-use Rattle.hosted_repo.specs.Rules.{shown_rule}
-use Rattle.hosted_repo.proofs.DueLemmas.{faded}
+use Rattle.hosted_repo.specs.Fades.{fade_at_paths}
+use Rattle.ordered_rows.specs.Recording.{FitWhereTold}
+use Rattle.ordered_rows.specs.Rows.{rows_after_all}
+use Rattle.directory_rows.specs.Rules.{shown_rule}
+use Rattle.hosted_repo.proofs.FadeLemmas.{faded}
 use Rattle.hosted_repo.proofs.purge.unlist_rows.Goals as goal
 
 abbrev path_of : plain.Row → List ℕ

@@ -1,6 +1,6 @@
 use Rattle.std.specs.Prelude.{IsTrue}
 use Rattle.std.specs.List.{list_all}
-use Rattle.hosted_repo.specs.Deliveries.{is_recordable, shown_files}
+use Rattle.hosted_delivery.specs.Deliveries.{is_recordable, shown_files}
 use Rattle.hosted_tests.proofs.deliveries.are_fit.Given as goal
 
 -- where those that are left are fit, all are

@@ -4,8 +4,8 @@ use Rattle.std.specs.List.{AllByRecursion, flat_map}
 use Rattle.deploy_session.specs.Known.{Known, commit_turn, garbage_by, known_after}
 use Rattle.deploy_session.specs.Shown.{blobs_over, shown_commit, shown_files}
 use Rattle.deploy_session.specs.declared.answers.Commit.TheVariants.{StoreFault}
-use Rattle.hosted_repo.specs.Recording.{FitWhereTold}
-use Rattle.hosted_repo.specs.Rows.{rows_after_all}
+use Rattle.ordered_rows.specs.Recording.{FitWhereTold}
+use Rattle.ordered_rows.specs.Rows.{rows_after_all}
 use Rattle.repo_laws.proofs.Lists.{found-passes}
 use Rattle.repo_laws.proofs.Releases.{same_path}
 use Rattle.repo_model.specs.Data.{Hosted, Session}

@@ -1,7 +1,7 @@
 use Rattle.std.proofs.Common.{◌≡◌, get_or, length, sym, ap, arith}
 use Rattle.std.specs.Prelude.{count_by}
 use Rattle.std.proofs.lemmas.List.Sums.{sum_by_more_le_part}
-use Rattle.hosted_repo.specs.Rows.{fades}
+use Rattle.ordered_rows.specs.Rows.{fades}
 use Rattle.repo_model.specs.Data.{Hosted}
 use Rattle.repo_core.proofs.CountLemmas.{count-length}
 use Rattle.repo_core.proofs.hosted.counts.Goals as goal

@@ -1,6 +1,6 @@
 use Rattle.std.proofs.Common.{◌≡◌, take, length}
 use Rattle.std.specs.Prelude.{count_by, sum_by}
-use Rattle.hosted_repo.specs.Rows.{fades}
+use Rattle.ordered_rows.specs.Rows.{fades}
 use Rattle.repo_model.specs.Data.{Hosted}
 use Rattle.repo_core.proofs.hosted.counts.Given as goal
 

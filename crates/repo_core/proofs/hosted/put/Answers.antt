@@ -9,7 +9,7 @@ use Rattle.repo_model.specs.State.{is_repository, row_at}
 use Rattle.repo_model.specs.Shown.{shown_parcel}
 use Rattle.repo_model.specs.Turn.{Turn}
 use Rattle.hosted_repo.specs.Puts.{put_turn, shown_put}
-use Rattle.hosted_repo.specs.Recording.{FitWhereTold}
+use Rattle.ordered_rows.specs.Recording.{FitWhereTold}
 use Rattle.repo_core.specs.Hosted.{with_rows, rows_in, rows_put, put_due}
 use Rattle.repo_core.specs.Turn.{IsDueOrFree}
 use Rattle.repo_core.proofs.PutReplies.{put-bound, put-here, put-reply, rows-left}

@@ -6,7 +6,7 @@ use Rattle.repo_model.specs.Purge.{due_rows}
 use Rattle.repo_model.specs.Reply.{unlisted}
 use Rattle.repo_model.specs.State.{is_repository}
 use Rattle.repo_model.specs.Turn.{unlist_of}
-use Rattle.hosted_repo.specs.Recording.{FitWhereTold}
+use Rattle.ordered_rows.specs.Recording.{FitWhereTold}
 use Rattle.repo_core.specs.Hosted.{rows_in}
 use Rattle.repo_core.proofs.PurgeTurns.{ok-then, on-err-then, on-ok-then, told-by, unlisted-place, untouched-place}
 use Rattle.repo_core.proofs.hosted.unlist.Goals as goal

@@ -13,8 +13,8 @@ use Rattle.repo_model.specs.Reply.{is_free}
 use Rattle.repo_model.specs.State.{change_first, is_open_at, most_staged}
 use Rattle.repo_model.specs.Turn.{Turn, commit_by}
 use Rattle.row_tables.specs.Commits.{tables_with}
-use Rattle.hosted_repo.specs.Deliveries.{deliveries, is_done, session_with}
-use Rattle.hosted_repo.specs.Rows.{rows_after_all}
+use Rattle.hosted_delivery.specs.Deliveries.{deliveries, is_done, session_with}
+use Rattle.ordered_rows.specs.Rows.{rows_after_all}
 use Rattle.deploy_session.specs.Known.{Known, IsSound, commit_turn, garbage_by, known_after}
 use Rattle.deploy_session.specs.Recording.{FitWhereTold, HasReplyCause}
 use Rattle.deploy_session.specs.Shown.{shown_commit, shown_file, shown_session, shown_sessions}

@@ -4,11 +4,12 @@ use Rattle.repo_model.specs.declared.item.Item.TheVariants.{HostedPut}
 use Rattle.repo_model.specs.Effect.{new_row, with_row}
 use Rattle.repo_model.specs.Shown.{shown_parcel, shown_print}
 use Rattle.repo_model.specs.State.{row_at}
-use Rattle.hosted_repo.specs.Recording.{FitWhereTold}
-use Rattle.hosted_repo.specs.Releases.{AllFadeRightly}
-use Rattle.hosted_repo.specs.Rows.{AreFiles}
-use Rattle.hosted_repo.proofs.FormLemmas.{files-more, from-both, puts-change}
-use Rattle.hosted_repo.proofs.ReleaseLemmas.{keeps-either, keeps-new, new-rightly, rightly-more}
+use Rattle.ordered_rows.specs.Recording.{FitWhereTold}
+use Rattle.hosted_repo.specs.Releases.{AllFadeRightly, FadesRightly}
+use Rattle.ordered_rows.specs.Rows.{AreFiles, IsFileRow}
+use Rattle.hosted_repo.proofs.FormLemmas.{from-both, puts-change}
+use Rattle.hosted_repo.proofs.ReleaseLemmas.{keeps-either, keeps-new, new-rightly}
+use Rattle.ordered_rows.proofs.EachRow.{each-with}
 use Rattle.hosted_repo.proofs.hosted.Hosted.create.Goals as goal
 
 pub create-requires-clause-change : goal.create-requires-clause-change
@@ -27,10 +28,10 @@ invariant_of-self g c =
     record {
       named = c.self.invariant.named;
       files = from-both c.create.result c.create.ensures.ok c.create.ensures.err
-          (λ made. subst AreFiles (sym made) (files-more new old c.requires.path c.self.invariant.files))
+          (λ made. subst AreFiles (sym made) (each-with IsFileRow new old c.requires.path c.self.invariant.files))
           (λ same. subst AreFiles (sym same) c.self.invariant.files);
       fading = from-both c.create.result c.create.ensures.ok c.create.ensures.err
-          (λ made. subst AllFadeRightly (sym made) (rightly-more new old (new-rightly new.path new.blob new.accepted) c.self.invariant.fading))
+          (λ made. subst AllFadeRightly (sym made) (each-with FadesRightly new old (new-rightly new.path new.blob new.accepted) c.self.invariant.fading))
           (λ same. subst AllFadeRightly (sym same) c.self.invariant.fading);
     }
 

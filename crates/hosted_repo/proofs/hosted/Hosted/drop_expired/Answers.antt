@@ -3,13 +3,13 @@ use Rattle.repo_model.specs.Data as plain
 use Rattle.repo_model.specs.Purge.{expired_of}
 use Rattle.repo_model.specs.Settings.{Rule}
 use Rattle.repo_model.specs.State.{row_at}
-use Rattle.hosted_repo.specs.Releases.{AllFadeRightly}
-use Rattle.hosted_repo.specs.Rows.{AreFiles, rows_after_all, without_first}
-use Rattle.hosted_repo.specs.Rules.{shown_rule}
+use Rattle.hosted_repo.specs.Releases.{AllFadeRightly, FadesRightly}
+use Rattle.ordered_rows.specs.Rows.{AreFiles, IsFileRow, rows_after_all, without_first}
+use Rattle.directory_rows.specs.Rules.{shown_rule}
 use Rattle.hosted_repo.proofs.Expiry.{dropped}
-use Rattle.hosted_repo.proofs.FormLemmas.{files-left}
-use Rattle.hosted_repo.proofs.ReleaseLemmas.{left-releases, rightly-left}
-use Rattle.hosted_repo.proofs.RowLemmas.{AreRising, rising-shown}
+use Rattle.hosted_repo.proofs.ReleaseLemmas.{left-releases}
+use Rattle.ordered_rows.proofs.Rising.{AreRising, rising-shown}
+use Rattle.ordered_rows.proofs.EachRow.{each-left}
 use Rattle.hosted_repo.proofs.hosted.Hosted.drop_expired.Goals as goal
 
 abbrev whole : Rule → List plain.Row → plain.Hosted
@@ -18,8 +18,8 @@ whole rule rows = record { rule = rule; rows = rows }
 pub invariant_of-self : goal.invariant_of-self
 invariant_of-self g c = record {
   named = c.self.invariant.named;
-  files = subst AreFiles (sym c.drop_first.ensures) (files-left c.args.count c.saturating_sub.result c.self.inside.rows c.self.invariant.files);
-  fading = subst AllFadeRightly (sym c.drop_first.ensures) (rightly-left c.args.count c.saturating_sub.result c.self.inside.rows c.self.invariant.fading);
+  files = subst AreFiles (sym c.drop_first.ensures) (each-left IsFileRow c.args.count c.saturating_sub.result c.self.inside.rows c.self.invariant.files);
+  fading = subst AllFadeRightly (sym c.drop_first.ensures) (each-left FadesRightly c.args.count c.saturating_sub.result c.self.inside.rows c.self.invariant.fading);
 }
 
 pub returns-clause-rows : goal.returns-clause-rows

@@ -7,7 +7,8 @@ use Rattle.repo_model.specs.Effect.{Effect, expires, recorded}
 use Rattle.repo_model.specs.Purge.{expired_of, is_over, most_rows}
 use Rattle.row_tables.specs.Items.{IsChange}
 use Rattle.hosted_repo.specs.Expired.{blob_of, shown_expired}
-use Rattle.hosted_repo.specs.Rows.{hosted_of, is_before}
+use Rattle.hosted_repo.specs.Fades.{hosted_of}
+use Rattle.ordered_rows.specs.Rows.{is_before}
 use Rattle.hosted_repo.specs.declared.purge.Expired.{Expired}
 use Rattle.hosted_repo.proofs.Expiry.{over_so}
 use Rattle.hosted_repo.proofs.FormLemmas.{goes-change}

@@ -8,9 +8,9 @@ use Rattle.repo_model.specs.Reply.{taken}
 use Rattle.repo_model.specs.Shown.{shown_parcel}
 use Rattle.repo_model.specs.State.{row_at}
 use Rattle.repo_model.specs.Turn.{Turn, put_again, put_at}
-use Rattle.hosted_repo.specs.Puts.{standing, standing_by}
-use Rattle.hosted_repo.specs.Recording.{FitWhereTold}
-use Rattle.hosted_repo.specs.declared.put.Standing.TheVariants as stands
+use Rattle.ordered_rows.specs.Standings.{standing, standing_by}
+use Rattle.ordered_rows.specs.Recording.{FitWhereTold}
+use Rattle.ordered_rows.specs.declared.standings.Standing.TheVariants as stands
 use Rattle.hosted_repo.proofs.ReleaseLemmas.{fading-at}
 use Rattle.hosted_repo.proofs.hosted.Hosted.put.Goals as goal
 

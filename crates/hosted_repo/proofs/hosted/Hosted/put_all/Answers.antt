@@ -2,11 +2,11 @@ use Rattle.std.proofs.Common.{[], ◌≡◌, ◌∷◌, ◌++◌, None, sym, ap,
 use Rattle.repo_model.specs.Data as plain
 use Rattle.repo_model.specs.Deploy.{offence, without_pom}
 use Rattle.repo_model.specs.Effect.{recorded}
-use Rattle.hosted_repo.specs.Deliveries.{deliveries, session_with, shown_files}
-use Rattle.hosted_repo.specs.Recording.{FitWhereTold}
+use Rattle.hosted_delivery.specs.Deliveries.{deliveries, session_with, shown_files}
+use Rattle.ordered_rows.specs.Recording.{FitWhereTold}
 use Rattle.hosted_repo.specs.Releases.{AllFadeRightly}
-use Rattle.hosted_repo.specs.Rows.{AreFiles, rows_after_all}
-use Rattle.hosted_repo.proofs.DeliveryLemmas.{effects_by, files-delivered}
+use Rattle.ordered_rows.specs.Rows.{AreFiles, rows_after_all}
+use Rattle.hosted_delivery.proofs.DeliveryLemmas.{effects_by, files-delivered}
 use Rattle.hosted_repo.proofs.FormLemmas.{from-both}
 use Rattle.hosted_repo.proofs.ReleaseLemmas.{keeps-delivered, keeps-either, rightly-delivered}
 use Rattle.hosted_repo.proofs.hosted.Hosted.put_all.Goals as goal

@@ -3,11 +3,12 @@ use Rattle.repo_model.specs.Data as plain
 use Rattle.repo_model.specs.declared.item.Item.TheVariants.{Relisted}
 use Rattle.repo_model.specs.Effect.{list_again}
 use Rattle.repo_model.specs.State.{change_where, is_row}
-use Rattle.hosted_repo.specs.Recording.{FitWhereTold}
+use Rattle.ordered_rows.specs.Recording.{FitWhereTold}
 use Rattle.hosted_repo.specs.Releases.{AllFadeRightly}
-use Rattle.hosted_repo.specs.Rows.{AreFiles}
-use Rattle.hosted_repo.proofs.FormLemmas.{files-again, from-both, relists-change}
+use Rattle.ordered_rows.specs.Rows.{AreFiles, IsFileRow}
+use Rattle.hosted_repo.proofs.FormLemmas.{from-both, relists-change}
 use Rattle.hosted_repo.proofs.ReleaseLemmas.{keeps-again, keeps-either, rightly-again}
+use Rattle.ordered_rows.proofs.EachRow.{each-changed}
 use Rattle.hosted_repo.proofs.hosted.Hosted.relist.Goals as goal
 
 pub relist-requires-clause-change : goal.relist-requires-clause-change
@@ -23,7 +24,7 @@ invariant_of-self g c =
     record {
       named = c.self.invariant.named;
       files = from-both c.relist.result c.relist.ensures.ok c.relist.ensures.err
-          (λ made. subst AreFiles (sym made) (files-again c.args.path.now c.args.now old c.self.invariant.files)) (λ same. subst AreFiles (sym same) c.self.invariant.files);
+          (λ made. subst AreFiles (sym made) (each-changed IsFileRow (is_row c.args.path.now) (list_again c.args.now) (λ r is h. h) old c.self.invariant.files)) (λ same. subst AreFiles (sym same) c.self.invariant.files);
       fading = from-both c.relist.result c.relist.ensures.ok c.relist.ensures.err
           (λ made. subst AllFadeRightly (sym made) (rightly-again c.args.path.now c.args.now old c.self.invariant.fading)) (λ same. subst AllFadeRightly (sym same) c.self.invariant.fading);
     }

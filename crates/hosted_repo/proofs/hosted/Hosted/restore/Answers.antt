@@ -3,11 +3,12 @@ use Rattle.repo_model.specs.Data as plain
 use Rattle.repo_model.specs.Effect.{with_row}
 use Rattle.repo_model.specs.Shown.{shown_parcel}
 use Rattle.repo_model.specs.State.{row_at}
-use Rattle.hosted_repo.specs.Releases.{AllFadeRightly}
+use Rattle.hosted_repo.specs.Releases.{AllFadeRightly, FadesRightly}
 use Rattle.hosted_repo.specs.Restored.{kept_row}
-use Rattle.hosted_repo.specs.Rows.{AreFiles}
-use Rattle.hosted_repo.proofs.FormLemmas.{files-more, from-both}
-use Rattle.hosted_repo.proofs.ReleaseLemmas.{keeps-either, keeps-new, rightly-more}
+use Rattle.ordered_rows.specs.Rows.{AreFiles, IsFileRow}
+use Rattle.hosted_repo.proofs.FormLemmas.{from-both}
+use Rattle.hosted_repo.proofs.ReleaseLemmas.{keeps-either, keeps-new}
+use Rattle.ordered_rows.proofs.EachRow.{each-with}
 use Rattle.hosted_repo.proofs.hosted.Hosted.restore.Goals as goal
 
 pub invariant_of-self : goal.invariant_of-self
@@ -17,10 +18,10 @@ invariant_of-self g c =
     record {
       named = c.self.invariant.named;
       files = from-both c.add.result c.add.ensures.ok c.add.ensures.err
-          (λ made. subst AreFiles (sym made) (files-more kept old c.requires.path c.self.invariant.files))
+          (λ made. subst AreFiles (sym made) (each-with IsFileRow kept old c.requires.path c.self.invariant.files))
           (λ same. subst AreFiles (sym same) c.self.invariant.files);
       fading = from-both c.add.result c.add.ensures.ok c.add.ensures.err
-          (λ made. subst AllFadeRightly (sym made) (rightly-more kept old c.requires.fading c.self.invariant.fading))
+          (λ made. subst AllFadeRightly (sym made) (each-with FadesRightly kept old c.requires.fading c.self.invariant.fading))
           (λ same. subst AllFadeRightly (sym same) c.self.invariant.fading);
     }
 

@@ -7,9 +7,10 @@ use Rattle.repo_model.specs.Purge.{due_rows, fade_all}
 use Rattle.repo_model.specs.State.{row_at}
 use Rattle.repo_model.specs.Turn.{seen_at}
 use Rattle.row_tables.specs.Commits.{tables_with}
-use Rattle.hosted_repo.specs.Recording.{FitWhereTold}
+use Rattle.ordered_rows.specs.Recording.{FitWhereTold}
 use Rattle.hosted_repo.specs.Releases.{AllFadeRightly}
-use Rattle.hosted_repo.specs.Rows.{AreFiles, hosted_of, rows_after_all}
+use Rattle.ordered_rows.specs.Rows.{AreFiles, rows_after_all}
+use Rattle.hosted_repo.specs.Fades.{hosted_of}
 use Rattle.hosted_repo.proofs.FadeLaws.{answered_alike, releases_kept, rightly_faded}
 use Rattle.hosted_repo.proofs.FormLemmas.{fades-change, files-faded, from-both}
 use Rattle.hosted_repo.proofs.hosted.Hosted.unlist.Goals as goal

@@ -1,5 +1,5 @@
 use Rattle.std.proofs.Common.{◌≡◌, [], sym, ap, ◌∙◌, subst}
-use Rattle.hosted_repo.specs.Recording.{FitWhereTold}
+use Rattle.ordered_rows.specs.Recording.{FitWhereTold}
 use Rattle.mvn_digest.specs.Sides.{bytes_in}
 use Rattle.repo_model.specs.Command.{collect, look, may_put, put, put_doc, put_side, stage, unlist}
 use Rattle.repo_model.specs.Data.{repository, session}

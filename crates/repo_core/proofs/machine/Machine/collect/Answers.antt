@@ -1,5 +1,5 @@
 use Rattle.std.proofs.Common.{sym, ◌∙◌, subst}
-use Rattle.hosted_repo.specs.Recording.{FitWhereTold}
+use Rattle.ordered_rows.specs.Recording.{FitWhereTold}
 use Rattle.repo_model.specs.Shown.{shown_reply}
 use Rattle.repo_core.proofs.PurgeTurns.{change-at, collect-done, collect-items}
 use Rattle.repo_core.proofs.Turning.{settled-by}

@@ -4,7 +4,7 @@ use Rattle.std.specs.List.{AllByRecursion}
 use Rattle.blob_yard.specs.Numbers.{Numbers}
 use Rattle.deploy_session.specs.Known.{Known, known_after, sessions_after_all}
 use Rattle.deploy_session.specs.Shown.{shown_commit}
-use Rattle.hosted_repo.specs.Recording.{FitWhereTold}
+use Rattle.ordered_rows.specs.Recording.{FitWhereTold}
 use Rattle.repo_model.specs.Command.{commit}
 use Rattle.repo_model.specs.Effect.{recorded}
 use Rattle.repo_model.specs.May.{AllMay}

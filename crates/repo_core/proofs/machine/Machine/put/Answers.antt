@@ -2,7 +2,7 @@ use Rattle.std.proofs.Common.{◌≡◌, true, refl, sym, ap, ◌∙◌, subst}
 use Rattle.std.specs.Prelude.{IsTrue}
 use Rattle.blob_yard.specs.Numbers.{Numbers}
 use Rattle.hosted_repo.specs.Puts.{shown_put}
-use Rattle.hosted_repo.specs.Recording.{FitWhereTold}
+use Rattle.ordered_rows.specs.Recording.{FitWhereTold}
 use Rattle.repo_model.specs.Command.{meets, put, rule_of}
 use Rattle.repo_model.specs.Effect.{recorded}
 use Rattle.repo_model.specs.Paths.{takes}

@@ -1,6 +1,6 @@
 use Rattle.std.proofs.Common.{Err, sym, ap, ◌∙◌, subst}
 use Rattle.std.specs.Prelude.{IsTrue}
-use Rattle.hosted_repo.specs.Recording.{FitWhereTold}
+use Rattle.ordered_rows.specs.Recording.{FitWhereTold}
 use Rattle.repo_model.specs.Command.{meets, unlist}
 use Rattle.repo_model.specs.Effect.{recorded}
 use Rattle.repo_model.specs.State.{hosted_of}
@@ -11,7 +11,7 @@ use Rattle.repo_core.proofs.HostedLemmas.{rule-there, rules-kept}
 use Rattle.repo_core.proofs.PurgeTurns.{unlist-done, unlist-failed, unlist-without}
 use Rattle.repo_core.proofs.UseLemmas.{unlisted-used}
 use Rattle.repo_core.proofs.machine.Machine.unlist.Goals as goal
-use Rattle.repo_core.proofs.machine.Machine.unlist.Goals.{in-Ok, in-Err-StoreFault, in-Err-NoMemory}
+use Rattle.repo_core.proofs.machine.Machine.unlist.Goals.{in-Ok, in-Err-Failed, in-Err-NoMemory}
 
 pub unlist-requires-clause-there : goal.unlist-requires-clause-there
 unlist-requires-clause-there g c =
@@ -34,10 +34,10 @@ invariant_of-self g c =
         staged = c.self.invariant.staged;
         numbers = c.self.invariant.numbers;
       }
-      | in-Err-StoreFault w ↦ record {
+      | in-Err-Failed w ↦ record {
         moment = c.self.invariant.moment;
-        blobs = subst (AreInUse kept) (sym w.in-Err-StoreFault.ensures.err) c.self.invariant.blobs;
-        rules = ap rules_of w.in-Err-StoreFault.ensures.err ∙ c.self.invariant.rules;
+        blobs = subst (AreInUse kept) (sym w.in-Err-Failed.ensures.err) c.self.invariant.blobs;
+        rules = ap rules_of w.in-Err-Failed.ensures.err ∙ c.self.invariant.rules;
         staged = c.self.invariant.staged;
         numbers = c.self.invariant.numbers;
       }
@@ -61,10 +61,10 @@ returns-clause-turn g c =
       | in-Ok w ↦
           let did = w.in-Ok.ensures in
           rw (← c.self.view_is, w.result-is) (unlist-done _ c.args.repo.now hosted told told' before later w.in-Ok.count did.count did.rows did.tables did.cause)
-      | in-Err-StoreFault w ↦
-          let did = w.in-Err-StoreFault.ensures in
+      | in-Err-Failed w ↦
+          let did = w.in-Err-Failed.ensures in
           rw (← c.self.view_is, w.result-is)
-          (unlist-failed _ c.args.repo.now hosted told told' before later did.err did.untold (did.asked (ap Err w.in-Err-StoreFault.field-0-is)) (rw w.in-Err-StoreFault.field-0-is at did.cause))
+          (unlist-failed _ c.args.repo.now hosted told told' before later did.err did.untold (did.asked (ap Err w.in-Err-Failed.field-0-is)) (rw w.in-Err-Failed.field-0-is at did.cause))
       | in-Err-NoMemory w ↦
           let did = w.in-Err-NoMemory.ensures in
           rw (← c.self.view_is, w.result-is) (unlist-without _ c.args.repo.now hosted told told' before later did.err did.untold (rw w.in-Err-NoMemory.field-0-is at did.cause))

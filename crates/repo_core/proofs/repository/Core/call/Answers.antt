@@ -1,5 +1,5 @@
 use Rattle.std.proofs.Common.{◌≡◌, [], ◌∷◌, subst, sym}
-use Rattle.hosted_repo.specs.Recording.{HasReplyCause}
+use Rattle.ordered_rows.specs.Recording.{HasReplyCause}
 use Rattle.repo_model.specs.Effect.{recorded}
 use Rattle.repo_model.specs.History.{Entry, Fits, after, effects_of}
 use Rattle.repo_model.specs.Shown.{entry_of, shown_command, shown_reply}

@@ -1,0 +1,4 @@
+pub mod Documents
+pub mod Dues
+pub mod Rules
+pub mod Walks

@@ -1,0 +1,11 @@
+//! The rows of a directory: a walk over them, the document that they make, and which of them are to fade.
+#![tactic(auto)]
+
+mod documents;
+mod dues;
+mod rule;
+mod walk;
+
+pub use documents::document_of;
+pub use dues::{MOST_ROWS, due_paths};
+pub use rule::Rule;

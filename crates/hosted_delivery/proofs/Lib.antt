@@ -1,0 +1,4 @@
+pub mod StagedForms
+pub mod DeliveryLemmas
+pub mod UndoneLemmas
+pub mod JudgingLemmas

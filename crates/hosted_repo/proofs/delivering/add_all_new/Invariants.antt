@@ -1,6 +1,0 @@
-use Rattle.hosted_repo.specs.Deliveries.{shown_files}
-use Rattle.hosted_repo.proofs.UndoneLemmas.{IsAdding}
-use Rattle.hosted_repo.proofs.delivering.add_all_new.Given as goal
-
-abbrev pub invariant-loop-path : goal.invariant-loop-path
-invariant-loop-path g l = IsAdding l.now (shown_files l.fn.staged.entries) l.fn.rows (shown_files l.path-iterator) l.rows

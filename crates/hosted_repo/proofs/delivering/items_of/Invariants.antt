@@ -1,9 +1,0 @@
-use Rattle.hosted_repo.specs.Deliveries.{session_with, shown_files}
-use Rattle.hosted_repo.specs.Rows.{shown_rows}
-use Rattle.hosted_repo.proofs.DeliveryLemmas.{IsRecording}
-use Rattle.hosted_repo.proofs.delivering.items_of.Given as goal
-
-abbrev pub invariant-loop-path : goal.invariant-loop-path
-invariant-loop-path g l =
-    let files = shown_files l.fn.staged.entries in
-    IsRecording (session_with l.repo files) l.now (shown_rows l.rows.entries) files (shown_files l.path-iterator) l.items.items

@@ -1,6 +1,0 @@
-use Rattle.std.proofs.Common.{◌∙◌}
-use Rattle.hosted_repo.proofs.HomeLemmas.{contained}
-use Rattle.hosted_repo.proofs.homes.has_home.Goals as goal
-
-pub returns : goal.returns
-returns c = c.contains.ensures ∙ contained c.args.home.now c.args.homes.now.keys

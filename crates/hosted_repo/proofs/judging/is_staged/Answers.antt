@@ -1,6 +1,0 @@
-use Rattle.std.proofs.Common.{◌∙◌}
-use Rattle.hosted_repo.proofs.JudgingLemmas.{staged-there}
-use Rattle.hosted_repo.proofs.judging.is_staged.Goals as goal
-
-pub returns : goal.returns
-returns g c = c.contains_key.ensures ∙ staged-there c.args.path.now c.args.staged.now.entries

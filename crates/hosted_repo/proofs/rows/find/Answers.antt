@@ -1,7 +1,0 @@
-use Rattle.std.proofs.Common.{option_map, ap, ◌∙◌}
-use Rattle.hosted_repo.specs.Rows.{shown_at}
-use Rattle.hosted_repo.proofs.MapLemmas.{found, option_map-copied}
-use Rattle.hosted_repo.proofs.rows.find.Goals as goal
-
-pub returns : goal.returns
-returns g c = option_map-copied (shown_at c.args.path.now) c.get.result ∙ ap (option_map (shown_at c.args.path.now)) c.get.ensures.value ∙ found c.args.path.now c.args.rows.now.entries

@@ -1,0 +1,9 @@
+pub mod Rising
+pub mod EachRow
+pub mod MapLemmas
+pub mod Retained
+pub mod CountLemmas
+pub mod HomeLemmas
+pub mod LastRows
+pub mod Taken
+pub mod ChangeLemmas

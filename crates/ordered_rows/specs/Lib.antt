@@ -1,0 +1,4 @@
+pub mod Homes
+pub mod Recording
+pub mod Rows
+pub mod Standings
