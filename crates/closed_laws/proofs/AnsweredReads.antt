@@ -1,76 +1,31 @@
 -- A GET or HEAD is answered by the reply to its look.
-use Rattle.std.proofs.Common.{◌≡◌, ℕ, Bool, true, false, List, [], ◌∷◌, ◌++◌, Option, Some, None, Result, Ok, refl, sym, subst, ap, ◌∙◌, append-nil}
-use Rattle.std.specs.Prelude.{if◌then◌else◌, unwrap_or}
+use Rattle.std.proofs.Common.{◌≡◌, ℕ, Bool, false, List, [], ◌∷◌, Option, Some, Result, Ok, refl, sym, subst, ap, ◌∙◌}
 use Rattle.std.proofs.lemmas.Bool.{false≢true}
 use Rattle.outside.specs.Faults.{Rose}
-use Rattle.outside.specs.Told.{IsWhereTold}
 use Rattle.http_wire.specs.Answer.{shown}
 use Rattle.http_wire.specs.Front.{Front, Clean, Cut, Bad, Whole, front}
 use Rattle.http_wire.specs.Head.{Head}
-use Rattle.repo_model.specs.Command.{look}
-use Rattle.repo_model.specs.declared.print.Print.{Print}
+use Rattle.repo_model.specs.Command.{done, look}
 use Rattle.repo_model.specs.Data.{Blob}
 use Rattle.repo_model.specs.History.{Entry}
-use Rattle.repo_model.specs.Reply.{Reply, file, text, doc, missed, spent}
+use Rattle.repo_model.specs.Reply.{Reply, file}
 use Rattle.repo_model.specs.Settings.{Settings}
 use Rattle.repo_routes.specs.Framing.{is_head}
 use Rattle.repo_routes.specs.Intent.{Judged, reads}
 use Rattle.repo_routes.specs.Judge.{judge}
 use Rattle.repo_routes.specs.declared.judging.Refused.{Refused}
 use Rattle.repo_course.specs.Answers.{file_answer}
-use Rattle.repo_course.specs.Course.{Course, asks, after_look, after_send, course_for, course_of, sends_file}
+use Rattle.repo_course.specs.Course.{Course, asks, after_look, closes, course_for, course_of, manner_for, of_sent, sends_file}
 use Rattle.repo_course.specs.declared.manner.Manner.{Manner}
 use Rattle.repo_course.specs.declared.outcomes.End.{End}
 use Rattle.repo_course.specs.declared.outcomes.Sent.{Sent}
 use Rattle.repo_course.specs.declared.outcomes.Sent.TheVariants as sent
 use Rattle.repo_course.specs.declared.said.Said.TheVariants as said
-use Rattle.repo_course.specs.Serving.{Begins, Follows, IsFrontOf, IsOtherContent, IsWhole, Opens, clean, torn, failed as source_failed, refused as no_head, unread_head, starved as head_starved, served, Outside, SendsAnswer, Turn, print_of, writes}
-use Rattle.course_laws.specs.Duties.{is_head_only}
-use Rattle.course_laws.specs.Granted.{file_shown, manner_for}
+use Rattle.repo_course.specs.Serving.{Begins, Follows, IsWhole, Opens, clean, torn, failed as source_failed, refused as no_head, unread_head, starved as head_starved, served, Outside, SendsAnswer, Turn}
+use Rattle.course_laws.specs.Duties.{duty_of}
 use Rattle.course_laws.proofs.HeadOnly.{judged-head}
+use Rattle.course_laws.proofs.Sendings.{not-sent, other-found, sent-in-part, sent-nothing, sent-whole}
 use Rattle.closed_laws.specs.Answered.{IsLookedUp, looked, unread, failed, ShowsFile, whole, blob_fault, blob_differs, starved, cut, ShowsMemory, ShowsReply, ShowsSaid}
-
--- the bytes that a file's answer has behind its head
-abbrev rest_of : Bool → List ℕ → List ℕ
-rest_of only bytes = if only then [] else bytes
-
-any-told : (bytes : Option (List ℕ)) → IsWhereTold bytes (unwrap_or bytes [])
-any-told None = tt
-any-told (Some bytes) = refl
-
--- the bytes of a file that is sent, or of which the head alone is
-abbrev AreBytes : Bool → Blob → List ℕ → Type 0
-AreBytes only blob bytes = IsWhereTold blob.bytes bytes × (only ≡ false → blob.print ≡ print_of bytes)
-
-any-bytes : (blob : Blob) → AreBytes true blob (unwrap_or blob.bytes [])
-any-bytes blob = (any-told blob.bytes, λ bodied. absurd (false≢true (sym bodied)))
-
--- what comes of sending the answer, with its bytes or its head alone
-sent-whole : (only : Bool) (blob : Blob) (head : List ℕ) (old mid : Outside) → SendsAnswer only blob head sent.Whole old mid
-    → (bytes : List ℕ) × AreBytes only blob bytes × (mid ≡ writes (head ++ rest_of only bytes) old)
-sent-whole true blob head old mid t = (unwrap_or blob.bytes [], any-bytes blob, t ∙ ap (λ b. writes b old) (sym (append-nil head)))
-sent-whole false blob head old mid t = (t.0, (t.1.0, λ bodied. t.1.1), t.2)
-
-not-sent : (only : Bool) (blob : Blob) (head : List ℕ) (old mid : Outside) → SendsAnswer only blob head sent.BlobFault old mid
-    → (faults : ℕ) × (only ≡ false) × Rose old.blob_faults faults × (mid ≡ record old { blob_faults = faults })
-not-sent true blob head old mid t = absurd t
-not-sent false blob head old mid t = (t.0, refl, t.1, t.2)
-
-other-found : (only : Bool) (blob : Blob) (head : List ℕ) (recorded found : Print) (old mid : Outside)
-    → SendsAnswer only blob head (sent.BlobDiffers recorded found) old mid → (only ≡ false) × IsOtherContent blob recorded found × (mid ≡ old)
-other-found true blob head recorded found old mid t = absurd t
-other-found false blob head recorded found old mid t = (refl, t.0, t.1)
-
-sent-in-part : (only : Bool) (blob : Blob) (head : List ℕ) (old mid : Outside) → SendsAnswer only blob head sent.SinkFault old mid
-    → (faults : ℕ) × (bytes part : List ℕ) × Rose old.write_faults faults × AreBytes only blob bytes
-    × IsFrontOf part (head ++ rest_of only bytes) × (mid ≡ writes part (record old { write_faults = faults }))
-sent-in-part true blob head old mid t =
-    (t.0, unwrap_or blob.bytes [], t.1, t.2, any-bytes blob, subst (IsFrontOf t.1) (sym (append-nil head)) t.3, t.4)
-sent-in-part false blob head old mid t = (t.0, t.1, t.2, t.3, (t.4.0, λ bodied. t.4.1), t.5, t.6)
-
-sent-nothing : (only : Bool) (blob : Blob) (head : List ℕ) (old mid : Outside) → SendsAnswer only blob head sent.NoMemory old mid → mid ≡ old
-sent-nothing true blob head old mid t = t
-sent-nothing false blob head old mid t = t
 
 -- what is seen of an entry by its reply
 abbrev pub By : Entry → Manner → Outside → Outside → Option End → Type 0
@@ -79,7 +34,7 @@ By e = ShowsReply e.reply
 module _ (tells : Type 0) (manner : Manner) where
   -- a file that is sent, once its lease is given back
   sent-seen : (blob : Blob) (result : Sent) (rest : List Entry) (old mid new : Outside) (end : Option End)
-      → SendsAnswer manner.head_only blob (shown (file_answer blob manner)) result old mid → Follows tells (after_send manner result) rest mid new end
+      → SendsAnswer manner.head_only blob (shown (file_answer blob manner)) result old mid → Follows tells (closes manner (of_sent manner result)) rest mid new end
       → ShowsFile manner blob old new end
   sent-seen blob sent.Whole rest old mid new end t f =
       let w = sent-whole manner.head_only blob (shown (file_answer blob manner)) old mid t in whole w.0 w.1 (f.1 ∙ w.2) f.2
@@ -98,16 +53,15 @@ module _ (tells : Type 0) (manner : Manner) where
 
   file-seen : (lease : ℕ) (blob : Blob) (more : List Entry) (old new : Outside) (end : Option End)
       → Follows tells (sends_file manner lease blob) more old new end → ShowsFile manner blob old new end
-  file-seen lease blob [] old new end f = absurd f.3
-  file-seen lease blob (back ∷ rest) old new end f = sent-seen blob f.0 rest old f.1 new end f.2 f.3.1
+  file-seen lease blob more old new end f = behind f.2 f.6
+    where
+      behind : (later : List Entry) → Follows tells (asks (done lease) (λ reply. closes manner (of_sent manner f.0))) later f.3 new end → ShowsFile manner blob old new end
+      behind [] g = absurd g
+      behind (back ∷ rest) g = sent-seen blob f.0 rest old f.3 new end f.5.1 g.1
 
   pub reply-seen : (reply : Reply) (more : List Entry) (old new : Outside) (end : Option End)
       → Follows tells (after_look manner reply) more old new end → ShowsReply reply manner old new end
   reply-seen (file lease blob) more old new end f = file-seen lease blob more old new end f
-  reply-seen (text bytes) more old new end f = f.1
-  reply-seen (doc bytes digests) more old new end f = f.1
-  reply-seen missed more old new end f = f.1
-  reply-seen spent more old new end f = f.1
   reply-seen _ more old new end f = f.1
 
   read-looked : (repo path rest : List ℕ) (entries : List Entry) (old mid new : Outside) (end : Option End) → mid ≡ record old { input = Some rest }
@@ -143,7 +97,8 @@ module _ (settings : Settings) (tells : Type 0) (last : Bool) where
       opened (head_starved other left it uses is) =
           let said = follows _ is in
           let same : head ≡ other = (begins (IsWhole other left) it).0 in
-          let head-is : request.head_only ≡ is_head other = ap is_head_only (sym judged) ∙ judged-head settings head ∙ ap is_head same in
+          let head-is : request.head_only ≡ is_head other =
+          ap (λ (r : Result Judged Refused). (duty_of r last).manner.head_only) (sym judged) ∙ judged-head settings head last ∙ ap is_head same in
           unread mid (is_head other) (λ alone. head-is ∙ alone) said.0 (left, uses) said.1
       opened (served other left it uses is) =
           let both = begins (IsWhole other left) it in

@@ -6,25 +6,20 @@ use Rattle.mvn_digest.specs.Sides.{read_side}
 use Rattle.mvn_doc.specs.Reading.{reading}
 use Rattle.mvn_metadata.specs.Document.{Document}
 use Rattle.repo_model.specs.Command.{Command, look, unlist, collect}
-use Rattle.repo_model.specs.Data.{Blob, Place}
+use Rattle.repo_model.specs.Data.{Place}
 use Rattle.repo_model.specs.History.{Entry}
-use Rattle.repo_model.specs.Reply.{Reply}
 use Rattle.repo_model.specs.Settings.{Settings}
-use Rattle.repo_routes.specs.Intent.{Intent, Judged, reads as reads_path, puts_file, puts_side, puts_document, counts, cleans as cleans_all, opens, commits, aborts}
+use Rattle.repo_routes.specs.Intent.{Intent, Judged, reads as reads_path, puts_side, puts_document, cleans as cleans_all}
 use Rattle.repo_routes.specs.Judge.{judge}
 use Rattle.repo_routes.specs.declared.judging.Refused.{Refused}
-use Rattle.repo_course.specs.Course.{Body, Course, Pass, Stored, asks, continues, takes, reads, sends, cleans, says, stops, after_clean, after_continue, after_document, after_fault, after_side, compares, course_for, course_of, cut_off, invites, notes}
+use Rattle.repo_course.specs.Course.{Body, Close, Course, Outcome, asks, does, says, stops, speaks, rests, after_continue, after_document, after_side, closes, compares, course_for, course_of, cut_off, invites, manner_for, notes, of_fault, of_pass}
 use Rattle.repo_course.specs.declared.manner.Manner.{Manner}
-use Rattle.repo_course.specs.declared.outcomes.CleanFault.TheVariants as clean_fault
 use Rattle.repo_course.specs.declared.outcomes.Continued.{Continued}
 use Rattle.repo_course.specs.declared.outcomes.Continued.TheVariants as continued
 use Rattle.repo_course.specs.declared.outcomes.End.{End}
-use Rattle.repo_course.specs.declared.outcomes.Sent.{Sent}
-use Rattle.repo_course.specs.declared.outcomes.Took.{Took}
-use Rattle.repo_course.specs.declared.outcomes.Took.TheVariants as took
-use Rattle.repo_course.specs.Serving.{Begins, Follows, IsWhole, Opens, clean, torn, failed, refused, unread_head, starved, served, Outside, Turn, store_of, with_store}
-use Rattle.course_laws.specs.Granted.{manner_for}
-use Rattle.course_laws.proofs.Passes.{ArePass, IsPassCommand, passes-ask}
+use Rattle.repo_course.specs.declared.said.Said.TheVariants.{NoMemory}
+use Rattle.repo_course.specs.Serving.{Begins, Follows, IsWhole, Opens, clean, torn, failed, refused, unread_head, starved, served, Outside, Turn}
+use Rattle.course_laws.proofs.Passes.{ArePass, IsPassCommand, deed-asks}
 use Rattle.closed_laws.specs.Answered.{ReadShows, ShowsReply}
 use Rattle.closed_laws.proofs.AnsweredReads.{reply-seen}
 
@@ -34,11 +29,7 @@ IsLook command = (repo : List ℕ) × (path : List ℕ) × (tried : List ℕ) ×
 -- the first command of the course is no look
 abbrev Unlooking : Course → Type 0
 Unlooking (asks command next) = IsLook command → ⊥
-Unlooking (continues next) = (result : Continued) → Unlooking (next result)
-Unlooking (takes draft count next) = (stored : Stored) → Unlooking (next stored)
-Unlooking (reads count next) = (body : Body) → Unlooking (next body)
-Unlooking (sends blob manner next) = (result : Sent) → Unlooking (next result)
-Unlooking (cleans repos next) = (pass : Pass) → Unlooking (next pass)
+Unlooking (does deed next) = (outcome : Outcome deed) → Unlooking (next outcome)
 Unlooking (says said manner) = Unit {0}
 Unlooking (stops end) = Unit {0}
 
@@ -61,22 +52,17 @@ module _ (tells : Type 0) where
   first-asked (asks command next) un [] e more is looks old new end f = f
   first-asked (asks command next) un (d ∷ entries) e more is looks old new end f =
       let same : d ≡ e = cc in un (looks.0, looks.1, looks.2, sym f.0 ∙ ap (λ (x : Entry). x.command) same ∙ looks.3)
-  first-asked (continues next) un entries e more is looks old new end f = first-asked (next f.0) (un f.0) entries e more is looks f.1 new end f.3
-  first-asked (takes draft count next) un entries e more is looks old new end f = first-asked (next f.0) (un f.0) entries e more is looks f.1 new end f.3
-  first-asked (reads count next) un entries e more is looks old new end f = first-asked (next f.0) (un f.0) entries e more is looks f.1 new end f.3
-  first-asked (sends blob manner next) un entries e more is looks old new end f = first-asked (next f.0) (un f.0) entries e more is looks f.1 new end f.3
-  first-asked (cleans repos next) un entries e more is looks old new end f =
-      pass-first f.0 f.1 e more (passes-ask repos f.0 (store_of old) f.3 f.2 f.5) (sym f.4 ∙ is) looks
-      (λ later-is. first-asked (next f.2) (un f.2) f.1 e more later-is looks (with_store f.3 old) new end f.6)
+  first-asked (does deed next) un entries e more is looks old new end f =
+      pass-first f.1 f.2 e more (deed-asks tells deed f.0 f.1 old f.3 f.5) (sym f.4 ∙ is) looks
+      (λ later-is. first-asked (next f.0) (un f.0) f.2 e more later-is looks f.3 new end f.6)
   first-asked (says said manner) un entries e more is looks old new end f = let none : e ∷ more ≡ [] = sym is ∙ f.0 in absurd (cc)
   first-asked (stops next) un entries e more is looks old new end f = let none : e ∷ more ≡ [] = sym is ∙ f.0 in absurd (cc)
 
 -- only a read looks first
-fault-unlooking : (manner : Manner) (fault : Took) → Unlooking (after_fault manner fault)
-fault-unlooking manner took.Torn = tt
-fault-unlooking manner took.SourceFault = tt
-fault-unlooking manner took.BlobFault = tt
-fault-unlooking manner took.NoMemory = tt
+closes-unlooking : (manner : Manner) (due : Close) → Unlooking (closes manner due)
+closes-unlooking manner (speaks NoMemory) = tt
+closes-unlooking manner (speaks _) = tt
+closes-unlooking manner (rests end) = tt
 
 compares-unlooking : (place : Place) (path : List ℕ) (manner : Manner) (digest : Option (List ℕ)) → Unlooking (compares place path manner digest)
 compares-unlooking place path manner (Some digest) = λ (looks : IsLook _). absurd (let is = looks.3 in cc)
@@ -88,11 +74,11 @@ notes-unlooking place path manner (Err at) = tt
 
 side-unlooking : (place : Place) (path : List ℕ) (side : Side) (manner : Manner) (body : Body) → Unlooking (after_side place path side manner body)
 side-unlooking place path side manner (Ok bytes) = compares-unlooking place path manner (read_side side bytes)
-side-unlooking place path side manner (Err fault) = fault-unlooking manner fault
+side-unlooking place path side manner (Err fault) = closes-unlooking manner (of_fault fault)
 
 document-unlooking : (place : Place) (path : List ℕ) (manner : Manner) (body : Body) → Unlooking (after_document place path manner body)
 document-unlooking place path manner (Ok bytes) = notes-unlooking place path manner (reading bytes)
-document-unlooking place path manner (Err fault) = fault-unlooking manner fault
+document-unlooking place path manner (Err fault) = closes-unlooking manner (of_fault fault)
 
 invited-unlooking : (expects : Bool) (body : Course) → Unlooking body → Unlooking (invites expects cut_off body)
 invited-unlooking false body un = un
@@ -102,11 +88,17 @@ invited-unlooking true body un = by-result
     by-result continued.Written = un
     by-result continued.SinkFault = tt
 
-clean-unlooking : (manner : Manner) (pass : Pass) → Unlooking (after_clean manner pass)
-clean-unlooking manner (Ok done) = tt
-clean-unlooking manner (Err clean_fault.StoreFault) = tt
-clean-unlooking manner (Err clean_fault.BlobFault) = tt
-clean-unlooking manner (Err clean_fault.NoMemory) = tt
+-- so it is of each intent but a read
+abbrev IsOther : Intent → Type 0
+IsOther (reads_path repo path) = ⊥
+IsOther intent = Unit {0}
+
+intent-unlooking : (manner : Manner) (expects : Bool) (intent : Intent) → IsOther intent → Unlooking (course_for manner expects intent)
+intent-unlooking manner expects (reads_path repo path) other = absurd other
+intent-unlooking manner expects (puts_side place path side count) other = invited-unlooking expects _ (side-unlooking place path side manner)
+intent-unlooking manner expects (puts_document place path count) other = invited-unlooking expects _ (document-unlooking place path manner)
+intent-unlooking manner expects (cleans_all repos) other = λ pass. closes-unlooking manner (of_pass pass)
+intent-unlooking manner expects _ other = λ (looks : IsLook _). absurd (let is = looks.3 in cc)
 
 -- something was asked
 not-none : {P : Type 0} (e : Entry) (more : List Entry) → e ∷ more ≡ [] → P
@@ -137,27 +129,8 @@ module _ (settings : Settings) (tells : Type 0) (last : Bool) (e : Entry) (more 
             shows = subst (λ (o : Outside). ShowsReply e.reply (manner_for request last) o new end) uses
                 (reply-seen tells (manner_for request last) e.reply more mid new end f.1);
           }
-      by-intent request judged (puts_file r p count) asks-it f =
-          let un : Unlooking (course_for (manner_for request last) request.expects (puts_file r p count)) = λ (l : IsLook _). absurd (let is = l.3 in cc) in
-          never (course_for (manner_for request last) request.expects (puts_file r p count)) un f
-      by-intent request judged (puts_side r p side count) asks-it f =
-          never _ (invited-unlooking request.expects _ (side-unlooking r p side (manner_for request last))) f
-      by-intent request judged (puts_document r p count) asks-it f =
-          never _ (invited-unlooking request.expects _ (document-unlooking r p (manner_for request last))) f
-      by-intent request judged counts asks-it f =
-          let un : Unlooking (course_for (manner_for request last) request.expects counts) = λ (l : IsLook _). absurd (let is = l.3 in cc) in
-          never (course_for (manner_for request last) request.expects counts) un f
-      by-intent request judged (opens r) asks-it f =
-          let un : Unlooking (course_for (manner_for request last) request.expects (opens r)) = λ (l : IsLook _). absurd (let is = l.3 in cc) in
-          never (course_for (manner_for request last) request.expects (opens r)) un f
-      by-intent request judged (commits n) asks-it f =
-          let un : Unlooking (course_for (manner_for request last) request.expects (commits n)) = λ (l : IsLook _). absurd (let is = l.3 in cc) in
-          never (course_for (manner_for request last) request.expects (commits n)) un f
-      by-intent request judged (aborts n) asks-it f =
-          let un : Unlooking (course_for (manner_for request last) request.expects (aborts n)) = λ (l : IsLook _). absurd (let is = l.3 in cc) in
-          never (course_for (manner_for request last) request.expects (aborts n)) un f
-      by-intent request judged (cleans_all repos) asks-it f =
-          never (course_for (manner_for request last) request.expects (cleans_all repos)) (clean-unlooking (manner_for request last)) f
+      by-intent request judged intent asks-it f =
+          never (course_for (manner_for request last) request.expects intent) (intent-unlooking (manner_for request last) request.expects intent tt) f
 
       by-outcome : (outcome : Result Judged Refused) → judge settings head ≡ outcome → Follows tells (course_of outcome last) (e ∷ more) mid new end → Goal
       by-outcome (Ok request) judged f = by-intent request judged request.intent refl f

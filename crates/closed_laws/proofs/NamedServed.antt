@@ -1,13 +1,11 @@
 -- A file that a served document named is seen as its answer.
-use native.Mathlib.Omega.{arith}
-use Rattle.std.proofs.Common.{◌≡◌, ◌⊎◌, inl, inr, ℕ, ◌+◌, ◌≤◌, Bool, List, [], ◌∷◌, ◌++◌, Option, Some, None, Ok, refl, sym, subst, ap, ◌∙◌, append_assoc}
+use Rattle.std.proofs.Common.{◌≡◌, inl, inr, ℕ, Bool, List, [], ◌∷◌, ◌++◌, Option, refl, sym, subst, ap, ◌∙◌}
 use Rattle.std.specs.List.{AllByRecursion}
-use Rattle.http_wire.specs.declared.answers.Answer.{Answer}
 use Rattle.mvn_coords.specs.declared.fault.Side.{Side}
 use Rattle.mvn_digest.specs.Sides.{side_text}
 use Rattle.repo_model.specs.Command.{look}
 use Rattle.repo_model.specs.Data.{Blob, Row}
-use Rattle.repo_model.specs.History.{Entry, Fits, Legal, after, end}
+use Rattle.repo_model.specs.History.{Entry, Legal, after, end}
 use Rattle.repo_model.specs.Reply.{Reply, file, text, spent, no_memory}
 use Rattle.repo_model.specs.Settings.{Settings}
 use Rattle.repo_model.specs.State.{State, rows_of}
@@ -16,10 +14,9 @@ use Rattle.repo_laws.specs.Described.{IsAmong}
 use Rattle.repo_laws.specs.Sound.{AreNamedApart, IsSound, Sound}
 use Rattle.repo_laws.proofs.Closed.{answers-up-to, named-in-time}
 use Rattle.repo_laws.proofs.Histories.{sound-entry}
-use Rattle.repo_course.specs.Serving.{Outside, Says, whole as said_whole, memory as said_memory, cut as said_cut}
+use Rattle.repo_course.specs.Serving.{Outside, whole as said_whole, memory as said_memory, cut as said_cut}
 use Rattle.repo_course.specs.declared.manner.Manner.{Manner}
 use Rattle.repo_course.specs.declared.outcomes.End.{End}
-use Rattle.repo_course.specs.declared.outcomes.End.TheVariants as stream
 use Rattle.repo_course.specs.declared.said.Said.{Said}
 use Rattle.repo_course.specs.declared.said.Said.TheVariants as said
 use Rattle.closed_laws.specs.Answered.{ReadShows, IsLookedUp, looked, unread, failed, ShowsFile, starved, ShowsMemory, ShowsReply, ShowsSaid}

@@ -1,26 +1,24 @@
 -- How a GET or HEAD of a path is answered on the wire, by the reply to its look.
-use Rattle.std.specs.Prelude.{◌≡◌, ℕ, Bool, true, false, if◌then◌else◌, List, [], ◌∷◌, ◌++◌, Option, Some, None, Ok}
+use Rattle.std.specs.Prelude.{◌≡◌, ℕ, Bool, true, false, List, [], ◌∷◌, Option, Some, Ok}
 use Rattle.outside.specs.Faults.{Rose}
-use Rattle.outside.specs.Told.{IsWhereTold}
-use Rattle.http_wire.specs.Answer.{shown}
 use Rattle.http_wire.specs.Head.{Head}
 use Rattle.repo_model.specs.Command.{look}
 use Rattle.repo_model.specs.declared.print.Print.{Print}
 use Rattle.repo_model.specs.Data.{Blob}
 use Rattle.repo_model.specs.History.{Entry}
-use Rattle.repo_model.specs.Reply.{Reply, file, text, doc, missed, spent}
+use Rattle.repo_model.specs.Reply.{Reply, file}
 use Rattle.repo_model.specs.Settings.{Settings}
 use Rattle.repo_routes.specs.Intent.{Judged, reads}
 use Rattle.repo_routes.specs.Judge.{judge}
-use Rattle.repo_course.specs.Answers.{answer_of, file_answer, memory_answer}
-use Rattle.repo_course.specs.Course.{end_of}
-use Rattle.repo_course.specs.Serving.{Begins, IsFrontOf, IsOtherContent, IsWhole, Outside, print_of, ReadsOn, Says, writes}
+use Rattle.repo_course.specs.Answers.{answer_of, memory_answer}
+use Rattle.repo_course.specs.Course.{end_of, manner_for, said_of}
+use Rattle.repo_course.specs.Serving.{Begins, IsFrontOf, IsOtherContent, IsWhole, Outside, ReadsOn, Says, writes}
 use Rattle.repo_course.specs.declared.manner.Manner.{Manner}
 use Rattle.repo_course.specs.declared.outcomes.End.{End}
 use Rattle.repo_course.specs.declared.outcomes.End.TheVariants as stream
 use Rattle.repo_course.specs.declared.said.Said.{Said}
 use Rattle.repo_course.specs.declared.said.Said.TheVariants as said
-use Rattle.course_laws.specs.Granted.{AreBytesOf, file_shown, manner_for}
+use Rattle.course_laws.specs.Granted.{AreBytesOf, file_shown}
 
 -- this is answered; or want of memory is, or a front of the one or the other is written where the count of the sink rose
 abbrev pub ShowsSaid : Manner → Said → Outside → Outside → Option End → Type 0
@@ -46,14 +44,15 @@ pub data ShowsFile (manner : Manner) (blob : Blob) (old new : Outside) (end : Op
       → IsFrontOf part (file_shown manner blob bytes) → new ≡ writes part (record old { write_faults = faults })
       → end ≡ Some stream.SinkFault → ShowsFile manner blob old new end
 
--- what is seen of the answer by the reply to the look; any reply that a look can't get counts as want of memory
+-- what is told by a reply, in its words
+abbrev pub ShowsTold : Manner → Said → Outside → Outside → Option End → Type 0
+ShowsTold manner said.NoMemory old new end = ShowsMemory manner.head_only old new end
+ShowsTold manner answer old new end = ShowsSaid manner answer old new end
+
+-- what is seen of the answer by the reply to the look: the file that it lends, or what it is answered by
 abbrev pub ShowsReply : Reply → Manner → Outside → Outside → Option End → Type 0
 ShowsReply (file lease blob) manner old new end = ShowsFile manner blob old new end
-ShowsReply (text bytes) manner old new end = ShowsSaid manner (said.Text bytes) old new end
-ShowsReply (doc bytes digests) manner old new end = ShowsSaid manner (said.Doc bytes digests) old new end
-ShowsReply missed manner old new end = ShowsSaid manner said.NotThere old new end
-ShowsReply spent manner old new end = ShowsSaid manner said.Spent old new end
-ShowsReply reply manner old new end = ShowsMemory manner.head_only old new end
+ShowsReply reply manner old new end = ShowsTold manner (said_of reply) old new end
 
 -- A GET or HEAD of the path is read, all that is seen behind its head is this, and of the input no more is used.
 pub record ReadShows (settings : Settings) (last : Bool) (repo path : List ℕ) (Shows : Manner → Outside → Outside → Option End → Type 0)

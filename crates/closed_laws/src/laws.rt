@@ -14,7 +14,7 @@ ghost use Rattle.repo_routes.specs.Intent.{Judged, reads};
 ghost use Rattle.repo_routes.specs.Judge.{judge};
 ghost use Rattle.repo_course.specs.declared.outcomes.End.{End};
 ghost use Rattle.repo_course.specs.Serving.{AllTell, Outside, Serves, Turn};
-ghost use Rattle.course_laws.specs.Granted.{manner_for};
+ghost use Rattle.repo_course.specs.Course.{manner_for};
 ghost use Rattle.closed_laws.specs.Answered.{ReadShows, IsLookedUp, ShowsReply};
 ghost use Rattle.closed_laws.specs.Streams.{AllShowBehind, AllShowWhatWasNamed, AreTurns, Seen};
 ghost use Rattle.closed_laws.specs.Named.{IsSideOf, ShowsNamed, ShowsSide, WasNamed};

@@ -1,5 +1,5 @@
 -- The counts of faults never fall, so that where they stand still no fault happened.
-use Rattle.std.proofs.Common.{◌≡◌, ℕ, zero, suc, ◌≤◌, ◌<◌, Bool, true, false, List, [], ◌∷◌, inl, inr, Option, Some, None, Result, Ok, Err, refl, sym, subst, ap, arith}
+use Rattle.std.proofs.Common.{◌≡◌, ℕ, zero, suc, ◌≤◌, ◌<◌, Bool, List, [], ◌∷◌, inl, inr, Option, Some, None, Result, Ok, Err, refl, sym, subst, ap, arith}
 use Rattle.std.specs.Prelude.{◌==◌}
 use Rattle.outside.specs.Blobs.{with_blob}
 use Rattle.outside.specs.Faults.{Rose, last_count}
@@ -12,7 +12,7 @@ use Rattle.repo_course.specs.Answers.{answer_of, file_answer, memory_answer}
 use Rattle.repo_course.specs.Cleaning.{Passes, not_unlisted, not_collected, removing, Removes, Store}
 use Rattle.repo_course.specs.declared.outcomes.CleanFault.{CleanFault}
 use Rattle.repo_course.specs.declared.outcomes.CleanFault.TheVariants as clean_fault
-use Rattle.repo_course.specs.Course.{Body, Course, Pass, Stored, asks, continues, takes, reads, sends, cleans, says, stops, end_of}
+use Rattle.repo_course.specs.Course.{Body, Course, Deed, Outcome, Pass, Stored, asks, does, invite, take_body, read_body, send_file, clean_all, says, stops, end_of}
 use Rattle.repo_course.specs.declared.outcomes.Continued.{Continued}
 use Rattle.repo_course.specs.declared.outcomes.Continued.TheVariants as continued
 use Rattle.repo_course.specs.declared.outcomes.End.{End}
@@ -20,7 +20,8 @@ use Rattle.repo_course.specs.declared.outcomes.Sent.{Sent}
 use Rattle.repo_course.specs.declared.outcomes.Sent.TheVariants as sent
 use Rattle.repo_course.specs.declared.outcomes.Took.{Took}
 use Rattle.repo_course.specs.declared.outcomes.Took.TheVariants as took
-use Rattle.repo_course.specs.Serving.{Continues, Reads, Takes, Sends, SendsAnswer, SendsHead, Says, whole, memory, cut, Follows, Opens, clean, torn, failed, refused, unread_head, starved, served, Outside, ReadsOn, Serves, Turn, store_of, with_store}
+use Rattle.repo_course.specs.Serving.{Continues, Does, Reads, Takes, SendsAnswer, Says, whole, memory, cut, Follows, Opens, clean, torn, failed, refused, unread_head, starved, served, Outside, ReadsOn, Serves, Turn, store_of, with_store}
+use Rattle.course_laws.proofs.Sendings.{not-sent, other-found, sent-in-part, sent-nothing, sent-whole}
 
 -- no count fell
 pub record Grew (old new : Outside) : Type 0 where
@@ -61,7 +62,7 @@ reads-grew old new t = from-is old (record old { input = t.0 }) new (grew old (r
 still-grew : (old new : Outside) → new ≡ old → Grew old new
 still-grew old new is = from-is old old new (grew old old refl refl refl) is
 
-pub continues-grew : (result : Continued) (old new : Outside) → Continues result old new → Grew old new
+continues-grew : (result : Continued) (old new : Outside) → Continues result old new → Grew old new
 continues-grew continued.Written old new t = subst (λ o. Grew old o) (sym t) (grew old _ refl refl refl)
 continues-grew continued.SinkFault old new t =
     subst (λ o. Grew old o) (sym t.4) (record { reads = omega arith; writes = t.2.0; blobs = omega arith })
@@ -75,11 +76,11 @@ fault-grew count took.BlobFault old new t = absurd t
 fault-grew count took.NoMemory old new (inl still) = reads-grew old new (old.input, still)
 fault-grew count took.NoMemory old new (inr t) = reads-grew old new (t.1.0, t.1.3)
 
-pub reads-body-grew : (count : ℕ) (body : Body) (old new : Outside) → Reads count body old new → Grew old new
+reads-body-grew : (count : ℕ) (body : Body) (old new : Outside) → Reads count body old new → Grew old new
 reads-body-grew count (Ok body) old new t = reads-grew old new (t.0, t.3)
 reads-body-grew count (Err fault) old new t = fault-grew count fault old new t
 
-pub takes-grew : (tells : Type 0) (number count : ℕ) (stored : Stored) (old new : Outside) → Takes tells number count stored old new → Grew old new
+takes-grew : (tells : Type 0) (number count : ℕ) (stored : Stored) (old new : Outside) → Takes tells number count stored old new → Grew old new
 takes-grew tells number count (Ok blob) old new t =
     let mid : Outside = record old { input = t.1.0; shelf = with_blob number t.0 old.shelf } in from-is old mid new (grew old mid refl refl refl) t.1.3
 takes-grew tells number count (Err took.Torn) old new t = fault-grew count took.Torn old new t
@@ -89,28 +90,17 @@ takes-grew tells number count (Err took.BlobFault) old new t =
     from-is old mid new (record { reads = omega arith; writes = omega arith; blobs = t.2.0 }) t.3.3
 takes-grew tells number count (Err took.NoMemory) old new t = fault-grew count took.NoMemory old new t
 
-file-grew : (blob : Blob) (head : List ℕ) (result : Sent) (old new : Outside) → Sends blob head result old new → Grew old new
-file-grew blob head sent.Whole old new t = subst (λ o. Grew old o) (sym t.2) (grew old _ refl refl refl)
-file-grew blob head sent.BlobFault old new t =
-    let mid : Outside = record old { blob_faults = t.0 } in
-    from-is old mid new (record { reads = omega arith; writes = omega arith; blobs = t.1.0 }) t.2
-file-grew blob head (sent.BlobDiffers recorded found) old new t = still-grew old new t.1
-file-grew blob head sent.SinkFault old new t =
-    subst (λ o. Grew old o) (sym t.6) (record { reads = omega arith; writes = t.3.0; blobs = omega arith })
-file-grew blob head sent.NoMemory old new t = still-grew old new t
-
-head-grew : (head : List ℕ) (result : Sent) (old new : Outside) → SendsHead head result old new → Grew old new
-head-grew head sent.Whole old new t = subst (λ o. Grew old o) (sym t) (grew old _ refl refl refl)
-head-grew head sent.BlobFault old new t = absurd t
-head-grew head (sent.BlobDiffers recorded found) old new t = absurd t
-head-grew head sent.SinkFault old new t =
-    subst (λ o. Grew old o) (sym t.4) (record { reads = omega arith; writes = t.2.0; blobs = omega arith })
-head-grew head sent.NoMemory old new t = still-grew old new t
-
-pub sends-grew : (head_only : Bool) (blob : Blob) (head : List ℕ) (result : Sent) (old new : Outside) → SendsAnswer head_only blob head result old new
-    → Grew old new
-sends-grew true blob head result old new t = head-grew head result old new t
-sends-grew false blob head result old new t = file-grew blob head result old new t
+sends-grew : (only : Bool) (blob : Blob) (head : List ℕ) (result : Sent) (old new : Outside) → SendsAnswer only blob head result old new → Grew old new
+sends-grew only blob head sent.Whole old new t =
+    let w = sent-whole only blob head old new t in subst (λ o. Grew old o) (sym w.2) (grew old _ refl refl refl)
+sends-grew only blob head sent.BlobFault old new t =
+    let w = not-sent only blob head old new t in
+    from-is old (record old { blob_faults = w.0 }) new (record { reads = omega arith; writes = omega arith; blobs = w.2.0 }) w.3
+sends-grew only blob head (sent.BlobDiffers recorded found) old new t = still-grew old new (other-found only blob head recorded found old new t).2
+sends-grew only blob head sent.SinkFault old new t =
+    let w = sent-in-part only blob head old new t in
+    subst (λ o. Grew old o) (sym w.6) (record { reads = omega arith; writes = w.3.0; blobs = omega arith })
+sends-grew only blob head sent.NoMemory old new t = still-grew old new (sent-nothing only blob head old new t)
 
 removes-grew : (blobs : List ℕ) (old new : Store) (result : Result ℕ CleanFault) → Removes blobs old new result → old.faults ≤ new.faults
 removes-grew blobs old new (Ok count) t = let same = ap (λ (s : Store). s.faults) t.1 in omega (arith, same)
@@ -125,7 +115,7 @@ passes-grew repos entries old new pass (not_collected first last count fault par
     let same = ap (λ (s : Store). s.faults) still in omega (arith, same)
 passes-grew repos entries old new pass (removing first last count blobs removed parts u c r is) = removes-grew blobs old new removed r
 
-pub cleans-grew : (repos : List (List ℕ)) (entries : List Entry) (old : Outside) (kept : Store) (pass : Pass) → Passes repos entries (store_of old) kept pass
+cleans-grew : (repos : List (List ℕ)) (entries : List Entry) (old : Outside) (kept : Store) (pass : Pass) → Passes repos entries (store_of old) kept pass
     → Grew old (with_store kept old)
 cleans-grew repos entries old kept pass t =
     record { reads = omega arith; writes = omega arith; blobs = passes-grew repos entries (store_of old) kept pass t }
@@ -149,20 +139,18 @@ opens-grew settings last old new c (starved head rest begins uses is) = reads-gr
 opens-grew settings last old new c (served head rest begins uses is) = reads-grew old new (rest, uses)
 
 module _ (tells : Type 0) where
+  pub deed-grew : (deed : Deed) (outcome : Outcome deed) (mine : List Entry) (old new : Outside) → Does tells deed outcome mine old new → Grew old new
+  deed-grew invite result mine old new t = continues-grew result old new t.1
+  deed-grew (take_body number count) stored mine old new t = takes-grew tells number count stored old new t.1
+  deed-grew (read_body count) body mine old new t = reads-body-grew count body old new t.1
+  deed-grew (send_file blob manner) result mine old new t = sends-grew manner.head_only blob (shown (file_answer blob manner)) result old new t.1
+  deed-grew (clean_all repos) pass mine old new t = from-is old (with_store t.0 old) new (cleans-grew repos mine old t.0 pass t.1) t.2
+
   pub follows-grew : (c : Course) (entries : List Entry) (old new : Outside) (end : Option End) → Follows tells c entries old new end → Grew old new
   follows-grew (asks command next) [] old new end f = absurd f
   follows-grew (asks command next) (e ∷ entries) old new end f = follows-grew (next e.reply) entries old new end f.1
-  follows-grew (continues next) entries old new end f =
-      grew-then old f.1 new (continues-grew f.0 old f.1 f.2) (follows-grew (next f.0) entries f.1 new end f.3)
-  follows-grew (takes number count next) entries old new end f =
-      grew-then old f.1 new (takes-grew tells number count f.0 old f.1 f.2) (follows-grew (next f.0) entries f.1 new end f.3)
-  follows-grew (reads count next) entries old new end f =
-      grew-then old f.1 new (reads-body-grew count f.0 old f.1 f.2) (follows-grew (next f.0) entries f.1 new end f.3)
-  follows-grew (sends blob manner next) entries old new end f =
-      grew-then old f.1 new (sends-grew manner.head_only blob (shown (file_answer blob manner)) f.0 old f.1 f.2)
-      (follows-grew (next f.0) entries f.1 new end f.3)
-  follows-grew (cleans repos next) entries old new end f =
-      grew-then old (with_store f.3 old) new (cleans-grew repos f.0 old f.3 f.2 f.5) (follows-grew (next f.2) f.1 (with_store f.3 old) new end f.6)
+  follows-grew (does deed next) entries old new end f =
+      grew-then old f.3 new (deed-grew deed f.0 f.1 old f.3 f.5) (follows-grew (next f.0) f.2 f.3 new end f.6)
   follows-grew (says said manner) entries old new end f =
       says-grew (answer_of said manner) (memory_answer manner.head_only) (end_of manner) old new end f.1
   follows-grew (stops next) entries old new end f = still-grew old new f.1

@@ -1,28 +1,31 @@
 -- What a course comes to where no blob failed, beside what was played.
-use Rattle.std.proofs.Common.{◌≡◌, ◌⊎◌, ℕ, zero, suc, Bool, false, inl, inr, List, [], ◌∷◌, ◌++◌, Option, Some, None, refl, sym, subst, ap, ◌∙◌, append_assoc, append-nil}
+use Rattle.std.proofs.Common.{◌≡◌, ◌⊎◌, ℕ, zero, suc, Bool, false, inl, inr, List, [], ◌∷◌, ◌++◌, Option, Some, None, IsTrue, refl, sym, subst, ap, ◌∙◌, append_assoc, append-nil}
 use Rattle.std.specs.Prelude.{IsSome}
+use Rattle.std.proofs.lemmas.Bool.{false≢true}
 use Rattle.std.proofs.lemmas.Option.{none-some}
 use Rattle.outside.specs.Faults.{Rose}
 use Rattle.outside.specs.Told.{behind}
 use Rattle.http_wire.specs.Answer.{shown}
 use Rattle.http_wire.specs.declared.answers.Answer.{Answer}
-use Rattle.repo_model.specs.Command.{Command}
+use Rattle.repo_model.specs.Command.{Command, look, done, may_put, drop_draft, unlist, collect}
+use Rattle.repo_model.specs.Data.{Blob}
 use Rattle.repo_model.specs.History.{Entry}
-use Rattle.repo_model.specs.Reply.{Reply}
+use Rattle.repo_model.specs.Reply.{Reply, file, draft, no_memory, takes_memory}
 use Rattle.repo_model.specs.Settings.{Settings}
 use Rattle.repo_model.specs.State.{State}
-use Rattle.repo_course.specs.Answers.{answer_of, at_end, memory_answer}
-use Rattle.repo_course.specs.Course.{Course, asks, continues, takes, reads, sends, cleans, says, stops, end_of}
+use Rattle.repo_course.specs.Answers.{answer_of, memory_answer}
+use Rattle.repo_course.specs.Course.{Close, Course, Deed, asks, does, says, stops, speaks, rests, send_file, end_of, said_of}
 use Rattle.repo_course.specs.declared.manner.Manner.{Manner}
 use Rattle.repo_course.specs.declared.outcomes.End.{End}
 use Rattle.repo_course.specs.declared.outcomes.End.TheVariants as stream
 use Rattle.repo_course.specs.declared.said.Said.{Said}
+use Rattle.repo_course.specs.declared.said.Said.TheVariants.{NoMemory}
 use Rattle.repo_course.specs.Serving.{IsFrontOf, Follows, Outside, Says, whole, memory, cut, writes}
 use Rattle.course_laws.specs.AsPlayed.{RowsTold}
-use Rattle.course_laws.specs.Duties.{Early as Ending, by_memory, by_side, Keeps, SaysFor, Stand, StopsFor, MayAsk, stand_after}
+use Rattle.course_laws.specs.Duties.{Keeps, MayAsk, MayDo, Stand, due_after, lent_after, manner_of, stand_after}
+use Rattle.course_laws.specs.Granted.{file_by}
 use Rattle.course_laws.specs.Faultless.{Played, Scene, due_entry, play, wrote}
 use Rattle.course_laws.proofs.Counts.{Grew, rose-before}
-use Rattle.course_laws.proofs.Replies.{reply-goes}
 
 -- memory was wanted, behind what may stand there then, and that was answered or the sink failed in it; or the source or the sink failed
 abbrev pub Ended : (So : Bool → List ℕ → Type 0) (head_only : Bool) (front part : List ℕ) → Outside → Outside → Option End → Type 0
@@ -58,8 +61,8 @@ pub record AsPlayed (before : List ℕ) (p : Played (Option End)) (o : Outside) 
   pub ends : end ≡ p.end
   pub goes : end ≡ None → Goes before p o s
 
-abbrev pub Outcome : (Bool → List ℕ → Type 0) → List ℕ → Played (Option End) → Outside → Outside → State → Option End → Type 0
-Outcome So before p old o s end = AsPlayed before p o s end ⊎ Early So before p.written old o end
+abbrev pub ComesTo : (Bool → List ℕ → Type 0) → List ℕ → Played (Option End) → Outside → Outside → State → Option End → Type 0
+ComesTo So before p old o s end = AsPlayed before p o s end ⊎ Early So before p.written old o end
 
 -- by what may stand in front then
 ended-so : (Then So : Bool → List ℕ → Type 0) (head_only : Bool) (front front' part : List ℕ) (old new : Outside) (end : Option End)
@@ -71,7 +74,7 @@ ended-so Then So head_only front front' part old new end is (inr (inr (inr begun
 
 -- behind bytes written first
 pub wrote-outcome : (Then So : Bool → List ℕ → Type 0) (before first : List ℕ) (p : Played (Option End)) (old o : Outside) (s : State) (end : Option End)
-    → ((alone : Bool) (front : List ℕ) → Then alone front → So alone (first ++ front)) → Outcome Then (before ++ first) p old o s end → Outcome So before (wrote first p) old o s end
+    → ((alone : Bool) (front : List ℕ) → Then alone front → So alone (first ++ front)) → ComesTo Then (before ++ first) p old o s end → ComesTo So before (wrote first p) old o s end
 wrote-outcome Then So before first p old o s end grows (inl a) =
     let joined = append_assoc before first p.written in
     inl record {
@@ -94,7 +97,7 @@ wrote-outcome Then So before first p old o s end grows (inr m) =
 
 -- by what may stand there from where it began
 pub outcome-so : (Then So : Bool → List ℕ → Type 0) (before : List ℕ) (p : Played (Option End)) (old o : Outside) (s : State) (end : Option End)
-    → ((alone : Bool) (front : List ℕ) → Then alone front → So alone front) → Outcome Then before p old o s end → Outcome So before p old o s end
+    → ((alone : Bool) (front : List ℕ) → Then alone front → So alone front) → ComesTo Then before p old o s end → ComesTo So before p old o s end
 outcome-so Then So before p old o s end is (inl a) = inl a
 outcome-so Then So before p old o s end is (inr m) =
     inr record {
@@ -123,7 +126,7 @@ early-before So before written old mid new end g m = record {
 }
 
 pub outcome-before : (So : Bool → List ℕ → Type 0) (before : List ℕ) (p : Played (Option End)) (old mid new : Outside) (s : State) (end : Option End) → Grew old mid
-    → Outcome So before p mid new s end → Outcome So before p old new s end
+    → ComesTo So before p mid new s end → ComesTo So before p old new s end
 outcome-before So before p old mid new s end g (inl a) = inl a
 outcome-before So before p old mid new s end g (inr m) = inr (early-before So before p.written old mid new end g m)
 
@@ -200,66 +203,79 @@ says-memory So head_only so old new end before written (cut faults all part rose
       (ends, subst (λ n. Rose old.write_faults n) (sym (ap (λ o. o.write_faults) is)) rose),
     )))
 
--- a course that must end early asks no more than it must, and ends so
-module _ (tells : Type 0) (head_only : Bool) where
-  abbrev EndsAs : Ending → Outside → Outside → Option End → Type 0
-  EndsAs by_memory old new end = SaysMemory head_only old new end
-  EndsAs (by_side side) old new end = (new ≡ old) × (end ≡ Some side)
+-- what a reply makes of what is due: it stays, or the reply is to be told
+pub due-moves : (command : Command) (reply : Reply) (due : Option Close) → (due_after command reply due ≡ due) ⊎ (due_after command reply due ≡ Some (speaks (said_of reply)))
+due-moves (look repo path tried) (file lease blob) due = inl refl
+due-moves (may_put place path) (draft n) due = inl refl
+due-moves (done lease) reply due = inl refl
+due-moves (drop_draft n) reply due = inl refl
+due-moves (unlist repo) reply due = inl refl
+due-moves collect reply due = inl refl
+due-moves _ _ due = inr refl
 
-  says-as : (s : Stand) (early : Option Ending) (ending : Ending) (said : Said) (manner : Manner) (end : Option End) (old new : Outside)
-      → early ≡ Some ending → SaysFor s early said manner → manner.head_only ≡ head_only
-      → Says (answer_of said manner) (memory_answer manner.head_only) (end_of manner) old new end → EndsAs ending old new end
-  says-as s None ending said manner end old new is for head said-it = absurd (none-some ending is)
-  says-as s (Some by_memory) by_memory said manner end old new is for head said-it =
-      let manner-is : manner ≡ at_end head_only = for.1 ∙ ap at_end head in
-      subst (λ (p : Said × Manner). Says (answer_of p.0 p.1) (memory_answer p.1.head_only) (end_of p.1) old new end) (λ i. (for.0 i, manner-is i)) said-it
-  says-as s (Some by_memory) (by_side side) said manner end old new is for head said-it = absurd (cc)
-  says-as s (Some (by_side side)) ending said manner end old new is for head said-it = absurd for
+-- once something is due it stays so, and no file is lent
+lent-stays : (command : Command) (reply : Reply) (s : Stand) (due : Close) → MayAsk command s → s.due ≡ Some due → (lent : Option Blob) → lent_after command reply lent ≡ lent
+lent-stays (done lease) reply s due may is lent = refl
+lent-stays _ reply s due may is lent = (cc)
 
-  stops-as : (s : Stand) (early : Option Ending) (ending : Ending) (next end : Option End) (old new : Outside) → early ≡ Some ending
-      → StopsFor s early next → new ≡ old → end ≡ next → EndsAs ending old new end
-  stops-as s None ending next end old new is for still ends = absurd (none-some ending is)
-  stops-as s (Some by_memory) ending next end old new is for still ends = absurd for
-  stops-as s (Some (by_side side)) by_memory next end old new is for still ends = absurd (cc)
-  stops-as s (Some (by_side side)) (by_side other) next end old new is for still ends =
-      let same : side ≡ other = (cc) in (still, ends ∙ for ∙ ap Some same)
+pub still-due : (command : Command) (reply : Reply) (s : Stand) (due : Close) → MayAsk command s → s.due ≡ Some due → due_after command reply s.due ≡ Some due
+still-due (done lease) reply s due may is = is
+still-due _ reply s due may is = (cc)
 
-  still-early : (command : Command) (reply : Reply) (s : Stand) (ending : Ending) → MayAsk command s → s.early ≡ Some ending
-      → (stand_after command reply s).early ≡ Some ending
-  still-early command reply s ending may is =
-      elim (reply-goes command reply s may) [
-        | inl same ↦ same ∙ is
-        | inr wanted ↦ absurd (none-some ending (sym wanted.0 ∙ is))
-      ]
+-- where memory is wanted for a command, that is due
+pub memory-due : (command : Command) (s : Stand) → MayAsk command s → IsTrue (takes_memory command) → due_after command no_memory s.due ≡ Some (speaks NoMemory)
+memory-due (done lease) s may can = absurd (false≢true can)
+memory-due (drop_draft n) s may can = absurd (false≢true can)
+memory-due (unlist repo) s may can = absurd may
+memory-due collect s may can = absurd may
+memory-due _ s may can = refl
 
-  pub ends-early : (c : Course) (n : ℕ) (s : Stand) (ending : Ending) → Keeps head_only c n s → s.early ≡ Some ending → (entries : List Entry)
-      (old new : Outside) (end : Option End) → Follows tells c entries old new end → EndsAs ending old new end
-  ends-early (asks command next) zero s ending k is [] old new end f = absurd f
-  ends-early (asks command next) zero s ending k is (e ∷ entries) old new end f = absurd k
-  ends-early (asks command next) (suc n) s ending k is [] old new end f = absurd f
-  ends-early (asks command next) (suc n) s ending k is (e ∷ entries) old new end f =
-      ends-early (next e.reply) n (stand_after command e.reply s) ending (k.1 e.reply) (still-early command e.reply s ending k.0 is) entries old new end f.1
-  ends-early (continues next) n s ending k is entries old new end f = absurd (none-some ending (sym k.1 ∙ is))
-  ends-early (takes number count next) n s ending k is entries old new end f = absurd (none-some ending (sym k.1 ∙ is))
-  ends-early (reads count next) n s ending k is entries old new end f = absurd (none-some ending (sym k.0 ∙ is))
-  ends-early (sends blob manner next) n s ending k is entries old new end f = absurd (none-some ending (sym k.1 ∙ is))
-  ends-early (cleans repos next) n s ending k is entries old new end f = absurd (none-some ending (sym k.1 ∙ is))
-  ends-early (says said manner) n s ending k is entries old new end f = says-as s s.early ending said manner end old new is k.1 k.2 f.1
-  ends-early (stops next) n s ending k is entries old new end f = stops-as s s.early ending next end old new is k.1 f.1 f.2
+pub nothing-due : (manner : Manner) (deed : Deed) (s : Stand) → MayDo manner deed s → s.due ≡ None
+nothing-due manner (send_file blob own) s may = may.0.0
+nothing-due manner _ s may = may.0
 
--- the same where it is played
-pub plays-early : (settings : Settings) (head_only : Bool) (c : Course) (n : ℕ) (s : Stand) (side : End) → Keeps head_only c n s
-    → s.early ≡ Some (by_side side) → (scene : Scene)
-    → ((play settings c scene).written ≡ []) × ((play settings c scene).end ≡ Some side)
-plays-early settings head_only (asks command next) zero s side k is scene = absurd k
-plays-early settings head_only (asks command next) (suc n) s side k is scene =
+-- an answer is its head alone where those of the course are
+pub own-head : (said : Said) (unread : Option ℕ) (manner : Manner) → (manner_of said unread manner).head_only ≡ manner.head_only
+own-head NoMemory unread manner = refl
+own-head _ unread manner = refl
+
+-- how a course ends by what is due, where this body is not read
+abbrev pub EndsAs : Manner → Option ℕ → Close → Outside → Outside → Option End → Type 0
+EndsAs manner unread (speaks said) old new end =
+    let own = manner_of said unread manner in
+    Says (answer_of said own) (memory_answer own.head_only) (end_of own) old new end
+EndsAs manner unread (rests next) old new end = (new ≡ old) × (end ≡ next)
+
+-- a course of which something is due asks no more than it must, and ends so; no file is lent any more
+pub ends-due : (tells : Type 0) (by_text : List ℕ → Option Close) (manner : Manner) (c : Course) (n : ℕ) (s : Stand) (due : Close) → Keeps by_text manner c n s
+    → s.due ≡ Some due → (entries : List Entry) (old new : Outside) (end : Option End) → Follows tells c entries old new end
+    → EndsAs manner s.unread due old new end × ((lent : Option Blob) → file_by entries lent ≡ lent)
+ends-due tells by_text manner (asks command next) zero s due k is [] old new end f = absurd f
+ends-due tells by_text manner (asks command next) zero s due k is (e ∷ entries) old new end f = absurd k
+ends-due tells by_text manner (asks command next) (suc n) s due k is [] old new end f = absurd f
+ends-due tells by_text manner (asks command next) (suc n) s due k is (e ∷ entries) old new end f =
+    let rest = ends-due tells by_text manner (next e.reply) n (stand_after command e.reply s) due (k.1 e.reply) (still-due command e.reply s due k.0 is) entries old new end f.1 in (
+      rest.0,
+      λ lent. ap (λ (c : Command). file_by entries (lent_after c e.reply lent)) f.0 ∙ ap (file_by entries) (lent-stays command e.reply s due k.0 is lent) ∙ rest.1 lent,
+    )
+ends-due tells by_text manner (does deed next) n s due k is entries old new end f = absurd (none-some due (sym (nothing-due manner deed s k.0) ∙ is))
+ends-due tells by_text manner (says said own) n s due k is entries old new end f =
+    let due-is : speaks said ≡ due = (cc) in (
+      subst (λ d. EndsAs manner s.unread d old new end) due-is
+          (subst (λ (m : Manner). Says (answer_of said m) (memory_answer m.head_only) (end_of m) old new end) k.2 f.1),
+      λ lent. ap (λ (es : List Entry). file_by es lent) f.0,
+    )
+ends-due tells by_text manner (stops next) n s due k is entries old new end f =
+    let due-is : rests next ≡ due = (cc) in
+    (subst (λ d. EndsAs manner s.unread d old new end) due-is (f.1, f.2), λ lent. ap (λ (es : List Entry). file_by es lent) f.0)
+
+-- the same where it is played, and no answer is due
+pub plays-due : (settings : Settings) (by_text : List ℕ → Option Close) (manner : Manner) (c : Course) (n : ℕ) (s : Stand) (end : Option End) → Keeps by_text manner c n s
+    → s.due ≡ Some (rests end) → (scene : Scene) → ((play settings c scene).written ≡ []) × ((play settings c scene).end ≡ end)
+plays-due settings by_text manner (asks command next) zero s end k is scene = absurd k
+plays-due settings by_text manner (asks command next) (suc n) s end k is scene =
     let reply = (due_entry settings scene.state command).reply in
-    plays-early settings head_only (next reply) n (stand_after command reply s) side (k.1 reply)
-    (elim (reply-goes command reply s k.0) [ inl same ↦ same ∙ is | inr wanted ↦ absurd (none-some (by_side side) (sym wanted.0 ∙ is)) ]) _
-plays-early settings head_only (continues next) n s side k is scene = absurd (none-some (by_side side) (sym k.1 ∙ is))
-plays-early settings head_only (takes number count next) n s side k is scene = absurd (none-some (by_side side) (sym k.1 ∙ is))
-plays-early settings head_only (reads count next) n s side k is scene = absurd (none-some (by_side side) (sym k.0 ∙ is))
-plays-early settings head_only (sends blob manner next) n s side k is scene = absurd (none-some (by_side side) (sym k.1 ∙ is))
-plays-early settings head_only (cleans repos next) n s side k is scene = absurd (none-some (by_side side) (sym k.1 ∙ is))
-plays-early settings head_only (says said manner) n s side k is scene = absurd (subst (λ e. SaysFor s e said manner) is k.1)
-plays-early settings head_only (stops next) n s side k is scene = (refl, subst (λ e. StopsFor s e next) is k.1)
+    plays-due settings by_text manner (next reply) n (stand_after command reply s) end (k.1 reply) (still-due command reply s (rests end) k.0 is) _
+plays-due settings by_text manner (does deed next) n s end k is scene = absurd (none-some (rests end) (sym (nothing-due manner deed s k.0) ∙ is))
+plays-due settings by_text manner (says said own) n s end k is scene = let due-is : speaks said ≡ rests end = (cc) in absurd (cc)
+plays-due settings by_text manner (stops next) n s end k is scene = let due-is : rests next ≡ rests end = (cc) in (refl, (cc))

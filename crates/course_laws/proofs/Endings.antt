@@ -1,8 +1,8 @@
 -- The count of the side whose failure ended a stream rose, and no other count of its sides; and few commands were asked.
-use Rattle.std.proofs.Common.{◌≡◌, ◌⊎◌, ℕ, zero, suc, ◌+◌, ◌*◌, ◌≤◌, Bool, true, false, inl, inr, List, [], ◌∷◌, length, Option, Some, None, Ok, Err, arith, sym, subst, ap, ◌∙◌, length-append, IfOk, Result}
+use Rattle.std.proofs.Common.{◌≡◌, ℕ, zero, suc, ◌+◌, ◌*◌, ◌≤◌, Bool, true, false, inl, inr, List, [], ◌∷◌, length, Option, Some, None, Ok, Err, arith, refl, sym, subst, ap, ◌∙◌, length-append, IfOk, Result}
 use Rattle.std.proofs.lemmas.List.{length-map}
 use Rattle.http_wire.specs.Head.{Head}
-use Rattle.std.specs.Prelude.{◌==◌}
+use Rattle.std.specs.Prelude.{◌==◌, if◌then◌else◌}
 use Rattle.http_wire.specs.Answer.{shown}
 use Rattle.http_wire.specs.declared.answers.Answer.{Answer}
 use Rattle.outside.specs.Blobs.{Shelf}
@@ -13,13 +13,13 @@ use Rattle.repo_model.specs.History.{Entry}
 use Rattle.repo_model.specs.Reply.{Reply}
 use Rattle.repo_model.specs.Settings.{Rule, Settings}
 use Rattle.repo_course.specs.Answers.{answer_of, file_answer, memory_answer}
-use Rattle.repo_routes.specs.Intent.{Intent, reads as reads_path, puts_file, puts_side, puts_document, counts as counts_all, cleans as cleans_all, opens, commits, aborts}
+use Rattle.repo_routes.specs.Intent.{Intent, Judged, cleans as cleans_all}
 use Rattle.repo_routes.specs.Judge.{IsIntent, intent_of, judge, outcome_of}
 use Rattle.repo_routes.proofs.KeptLemmas.{intent-kept}
+use Rattle.repo_routes.specs.declared.judging.Refused.{Refused}
 use Rattle.repo_routes.specs.declared.refusal.Refusal.{Refusal}
-use Rattle.repo_course.specs.Cleaning.{Store}
 use Rattle.repo_course.specs.declared.outcomes.CleanFault.TheVariants as clean_fault
-use Rattle.repo_course.specs.Course.{Body, Course, Pass, Stored, asks, continues, takes, reads, sends, cleans, says, stops, end_of}
+use Rattle.repo_course.specs.Course.{Body, Close, Course, Deed, Outcome, Pass, Stored, asks, does, says, stops, speaks, rests, invite, take_body, read_body, send_file, clean_all, end_of, of_fault, of_pass, of_sent}
 use Rattle.repo_course.specs.declared.manner.Manner.{Manner}
 use Rattle.repo_course.specs.declared.outcomes.Continued.{Continued}
 use Rattle.repo_course.specs.declared.outcomes.Continued.TheVariants as continued
@@ -29,23 +29,23 @@ use Rattle.repo_course.specs.declared.outcomes.Sent.{Sent}
 use Rattle.repo_course.specs.declared.outcomes.Sent.TheVariants as sent
 use Rattle.repo_course.specs.declared.outcomes.Took.{Took}
 use Rattle.repo_course.specs.declared.outcomes.Took.TheVariants as took
-use Rattle.repo_course.specs.declared.said.Said.{Said}
-use Rattle.repo_course.specs.Serving.{Continues, Follows, Opens, clean, torn, failed, refused, unread_head, starved, served, Outside, Reads, Says, whole, memory, cut, Sends, SendsAnswer, SendsHead, Serves, Takes, Turn, with_store}
-use Rattle.course_laws.specs.Duties.{Early, by_memory, by_side, has_read, Keeps, MayAsk, SaysFor, Stand, StopsFor, stand_after, stand_cleaned, stand_continued, stand_fault, stand_read, stand_sent, stand_stored}
-use Rattle.course_laws.specs.Duties.{most_asked, most_for, most_of}
+use Rattle.repo_course.specs.Serving.{Continues, Does, Follows, Opens, clean, torn, failed, refused, unread_head, starved, served, Outside, Reads, Says, whole, memory, cut, SendsAnswer, Serves, Takes, Turn}
+use Rattle.course_laws.specs.Duties.{Keeps, MayAsk, Stand, asked_by, due_after, due_done, duty_of, left_by, most_asked, most_for, stand_after, stand_done}
 use Rattle.course_laws.specs.Endings.{EndsByCause, NoneRose}
 use Rattle.course_laws.proofs.Passes.{passes-few}
-use Rattle.course_laws.proofs.Kept.{IsCalm, asking, end-calm, opens-keeps, shows_head, standing}
-use Rattle.course_laws.proofs.Replies.{reply-goes}
+use Rattle.course_laws.proofs.Early.{due-moves, nothing-due, still-due}
+use Rattle.course_laws.proofs.Kept.{duty_at, opens-keeps}
+use Rattle.course_laws.proofs.Sendings.{not-sent, other-found, sent-in-part, sent-nothing, sent-whole}
+use Rattle.course_laws.proofs.Unsent.{IsUnsent, judged-unsent}
 
--- where a course stands, and how it ends, in the counts since the turn began
-abbrev Caused : Option Early → Outside → Outside → Type 0
-Caused (Some (by_side end)) old now = EndsByCause end old now
-Caused early old now = NoneRose old now
-
+-- how a course ends, and where it stands, in the counts since the turn began
 abbrev Shows : Option End → Outside → Outside → Type 0
 Shows None old new = NoneRose old new
 Shows (Some end) old new = EndsByCause end old new
+
+abbrev Caused : Option Close → Outside → Outside → Type 0
+Caused (Some (rests end)) old now = Shows end old now
+Caused due old now = NoneRose old now
 
 -- seen from an earlier world, and to a later one, with the same counts
 from_same : (end : End) (old mid new : Outside) → NoneRose old mid → EndsByCause end mid new → EndsByCause end old new
@@ -55,14 +55,8 @@ from_same stream.TurnLimit old mid new n e = (e.0 ∙ n.0, e.1 ∙ n.1)
 from_same stream.SourceFault old mid new n e = (subst (λ (k : ℕ). Rose k new.read_faults) n.0 e.0, e.1 ∙ n.1)
 from_same stream.SinkFault old mid new n e = (e.0 ∙ n.0, subst (λ (k : ℕ). Rose k new.write_faults) n.1 e.1)
 
-to_same : (early : Option Early) (old mid new : Outside) → Caused early old mid → NoneRose mid new → Caused early old new
-to_same None old mid new c n = (n.0 ∙ c.0, n.1 ∙ c.1)
-to_same (Some by_memory) old mid new c n = (n.0 ∙ c.0, n.1 ∙ c.1)
-to_same (Some (by_side stream.Closed)) old mid new c n = (n.0 ∙ c.0, n.1 ∙ c.1)
-to_same (Some (by_side stream.TornRequest)) old mid new c n = (n.0 ∙ c.0, n.1 ∙ c.1)
-to_same (Some (by_side stream.TurnLimit)) old mid new c n = (n.0 ∙ c.0, n.1 ∙ c.1)
-to_same (Some (by_side stream.SourceFault)) old mid new c n = (subst (λ (k : ℕ). Rose old.read_faults k) (sym n.0) c.0, n.1 ∙ c.1)
-to_same (Some (by_side stream.SinkFault)) old mid new c n = (n.0 ∙ c.0, subst (λ (k : ℕ). Rose old.write_faults k) (sym n.1) c.1)
+none-then : (old mid new : Outside) → NoneRose old mid → NoneRose mid new → NoneRose old new
+none-then old mid new c n = (n.0 ∙ c.0, n.1 ∙ c.1)
 
 -- an outside whose reading and writing sides count as before
 counts : (old new : Outside) {input output : Option (List ℕ)} {blobs : ℕ} {shelf : Shelf}
@@ -70,219 +64,186 @@ counts : (old new : Outside) {input output : Option (List ℕ)} {blobs : ℕ} {s
     → NoneRose old new
 counts old new is = (ap (λ (o : Outside). o.read_faults) is, ap (λ (o : Outside). o.write_faults) is)
 
-asks_caused : (command : Command) (reply : Reply) (s : Stand) (old mid : Outside) → MayAsk command s → Caused s.early old mid
-    → Caused (stand_after command reply s).early old mid
-asks_caused command reply s old mid may c = pick (reply-goes command reply s may)
+-- the sink failed behind counts that stood still, or the source
+sink-shows : (old mid new : Outside) (faults : ℕ) {input output : Option (List ℕ)} → NoneRose old mid → Rose mid.write_faults faults
+    → new ≡ record mid { input = input; output = output; write_faults = faults } → Shows (Some stream.SinkFault) old new
+sink-shows old mid new faults n rose is = (
+  ap (λ (o : Outside). o.read_faults) is ∙ n.0,
+  subst (λ (k : ℕ). Rose k new.write_faults) n.1 (subst (λ (k : ℕ). Rose mid.write_faults k) (sym (ap (λ (o : Outside). o.write_faults) is)) rose),
+)
+
+source-shows : (old mid new : Outside) (faults : ℕ) {input : Option (List ℕ)} → NoneRose old mid → Rose mid.read_faults faults
+    → new ≡ record mid { input = input; read_faults = faults } → Shows (Some stream.SourceFault) old new
+source-shows old mid new faults n rose is = (
+  subst (λ (k : ℕ). Rose k new.read_faults) n.0 (subst (λ (k : ℕ). Rose mid.read_faults k) (sym (ap (λ (o : Outside). o.read_faults) is)) rose),
+  ap (λ (o : Outside). o.write_faults) is ∙ n.1,
+)
+
+-- behind an answer or a file the stream goes on, or is closed
+calm_shows : (manner : Manner) (old new : Outside) → NoneRose old new → Shows (end_of manner) old new
+calm_shows manner old new n = elim manner.close as (λ b. Shows (if b then Some stream.Closed else None) old new) [ true ↦ n | false ↦ n ]
+
+reply_caused : (command : Command) (reply : Reply) (s : Stand) (old now : Outside) → MayAsk command s → Caused s.due old now
+    → Caused (due_after command reply s.due) old now
+reply_caused command reply s old now may c = pick s.due refl c
   where
-    pick : ((stand_after command reply s).early ≡ s.early) ⊎ ((s.early ≡ None) × ((stand_after command reply s).early ≡ Some by_memory))
-        → Caused (stand_after command reply s).early old mid
-    pick (inl same) = subst (λ e. Caused e old mid) (sym same) c
-    pick (inr wanted) = subst (λ e. Caused e old mid) (sym wanted.1) (subst (λ e. Caused e old mid) wanted.0 c)
+    pick : (due : Option Close) → s.due ≡ due → Caused due old now → Caused (due_after command reply s.due) old now
+    pick None none n =
+        elim (due-moves command reply s.due) [
+          | inl stays ↦ subst (λ d. Caused d old now) (sym (stays ∙ none)) n
+          | inr told ↦ subst (λ d. Caused d old now) (sym told) n
+        ]
+    pick (Some due) is c = subst (λ d. Caused d old now) (sym (still-due command reply s due may is)) c
 
-continues_caused : (result : Continued) (s : Stand) (old mid new : Outside) → s.early ≡ None → NoneRose old mid → Continues result mid new
-    → Caused (stand_continued result s).early old new
-continues_caused continued.Written s old mid new none n t = subst (λ e. Caused e old new) (sym none) (to_same None old mid new n (counts mid _ t))
-continues_caused continued.SinkFault s old mid new none n t = (
-  ap (λ (o : Outside). o.read_faults) t.4 ∙ n.0,
-  subst (λ (k : ℕ). Rose k new.write_faults) n.1 (subst (λ (k : ℕ). Rose mid.write_faults k) (sym (ap (λ (o : Outside). o.write_faults) t.4)) t.2),
-)
+-- what a deed makes of it, where nothing was due before
+continues_caused : (by_text : List ℕ → Option Close) (result : Continued) (old mid new : Outside) → NoneRose old mid → Continues result mid new
+    → Caused (due_done by_text invite result None) old new
+continues_caused by_text continued.Written old mid new n t = none-then old mid new n (counts mid new t)
+continues_caused by_text continued.SinkFault old mid new n t = sink-shows old mid new t.0 n t.2 t.4
 
-fault_caused : (count : ℕ) (fault : Took) (s : Stand) (old mid new : Outside) → s.early ≡ None → NoneRose old mid → Reads count (Err fault) mid new
-    → Caused (stand_fault fault s).early old new
-fault_caused count took.Torn s old mid new none n t = to_same None old mid new n (counts mid _ t.1.1)
-fault_caused count took.SourceFault s old mid new none n t = (
-  subst (λ (k : ℕ). Rose k new.read_faults) n.0 (subst (λ (k : ℕ). Rose mid.read_faults k) (sym (ap (λ (o : Outside). o.read_faults) t.2.1)) t.1),
-  ap (λ (o : Outside). o.write_faults) t.2.1 ∙ n.1,
-)
-fault_caused count took.BlobFault s old mid new none n t = absurd t
-fault_caused count took.NoMemory s old mid new none n (inl t) = to_same None old mid new n (counts mid _ t)
-fault_caused count took.NoMemory s old mid new none n (inr t) = to_same None old mid new n (counts mid _ t.1.3)
+fault_caused : (count : ℕ) (fault : Took) (old mid new : Outside) → NoneRose old mid → Reads count (Err fault) mid new → Caused (Some (of_fault fault)) old new
+fault_caused count took.Torn old mid new n t = none-then old mid new n (counts mid new t.1.1)
+fault_caused count took.SourceFault old mid new n t = source-shows old mid new t.0 n t.1 t.2.1
+fault_caused count took.BlobFault old mid new n t = absurd t
+fault_caused count took.NoMemory old mid new n (inl t) = none-then old mid new n (counts mid new t)
+fault_caused count took.NoMemory old mid new n (inr t) = none-then old mid new n (counts mid new t.1.3)
 
-reads_caused : (count : ℕ) (body : Body) (s : Stand) (old mid new : Outside) → s.early ≡ None → NoneRose old mid → Reads count body mid new
-    → Caused (stand_read body s).early old new
-reads_caused count (Ok body) s old mid new none n t = subst (λ e. Caused e old new) (sym none) (to_same None old mid new n (counts mid _ t.3))
-reads_caused count (Err fault) s old mid new none n t = fault_caused count fault (has_read s) old mid new none n t
+takes_caused : (tells : Type 0) (by_text : List ℕ → Option Close) (draft count : ℕ) (stored : Stored) (old mid new : Outside) → NoneRose old mid
+    → Takes tells draft count stored mid new → Caused (due_done by_text (take_body draft count) stored None) old new
+takes_caused tells by_text draft count (Ok blob) old mid new n t = none-then old mid new n (counts mid new t.1.3)
+takes_caused tells by_text draft count (Err took.BlobFault) old mid new n t = none-then old mid new n (counts mid new t.3.3)
+takes_caused tells by_text draft count (Err took.Torn) old mid new n t = fault_caused count took.Torn old mid new n t
+takes_caused tells by_text draft count (Err took.SourceFault) old mid new n t = fault_caused count took.SourceFault old mid new n t
+takes_caused tells by_text draft count (Err took.NoMemory) old mid new n t = fault_caused count took.NoMemory old mid new n t
 
-takes_caused : (tells : Type 0) (draft count : ℕ) (stored : Stored) (s : Stand) (old mid new : Outside) → s.early ≡ None → NoneRose old mid
-    → Takes tells draft count stored mid new → Caused (stand_stored stored s).early old new
-takes_caused tells draft count (Ok blob) s old mid new none n t =
-    subst (λ e. Caused e old new) (sym none) (to_same None old mid new n (counts mid _ t.1.3))
-takes_caused tells draft count (Err took.Torn) s old mid new none n t = fault_caused count took.Torn (has_read s) old mid new none n t
-takes_caused tells draft count (Err took.SourceFault) s old mid new none n t =
-    fault_caused count took.SourceFault (has_read s) old mid new none n t
-takes_caused tells draft count (Err took.BlobFault) s old mid new none n t =
-    subst (λ e. Caused e old new) (sym none) (to_same None old mid new n (counts mid _ t.3.3))
-takes_caused tells draft count (Err took.NoMemory) s old mid new none n t =
-    fault_caused count took.NoMemory (has_read s) old mid new none n t
+unsent_caused : (due : Option Close) (old now : Outside) → IsUnsent due → NoneRose old now → Caused due old now
+unsent_caused None old now un n = n
+unsent_caused (Some (speaks said)) old now un n = n
+unsent_caused (Some (rests end)) old now un n = absurd un
 
-file_caused : (manner : Manner) (blob : Blob) (head : List ℕ) (result : Sent) (s : Stand) (old mid new : Outside) → s.early ≡ None → NoneRose old mid
-    → Sends blob head result mid new → Caused (stand_sent manner result s).early old new
-file_caused manner blob head sent.Whole s old mid new none n t =
-    subst (λ e. Caused e old new) (sym none) (to_same None old mid new n (counts mid _ t.2))
-file_caused manner blob head sent.BlobFault s old mid new none n t =
-    subst (λ e. Caused e old new) (sym none) (to_same None old mid new n (counts mid _ t.2))
-file_caused manner blob head (sent.BlobDiffers recorded found) s old mid new none n t =
-    subst (λ e. Caused e old new) (sym none) (to_same None old mid new n (counts mid _ t.1))
-file_caused manner blob head sent.SinkFault s old mid new none n t = (
-  ap (λ (o : Outside). o.read_faults) t.6 ∙ n.0,
-  subst (λ (k : ℕ). Rose k new.write_faults) n.1 (subst (λ (k : ℕ). Rose mid.write_faults k) (sym (ap (λ (o : Outside). o.write_faults) t.6)) t.3),
-)
-file_caused manner blob head sent.NoMemory s old mid new none n t = to_same None old mid new n (counts mid _ t)
+reads_caused : (by_text : List ℕ → Option Close) → ((bytes : List ℕ) → IsUnsent (by_text bytes)) → (count : ℕ) (body : Body) (old mid new : Outside)
+    → NoneRose old mid → Reads count body mid new → Caused (due_done by_text (read_body count) body None) old new
+reads_caused by_text texts count (Ok bytes) old mid new n t =
+    unsent_caused (by_text bytes) old new (texts bytes) (none-then old mid new n (counts mid new t.3))
+reads_caused by_text texts count (Err fault) old mid new n t = fault_caused count fault old mid new n t
 
-head_caused : (manner : Manner) (head : List ℕ) (result : Sent) (s : Stand) (old mid new : Outside) → s.early ≡ None → NoneRose old mid
-    → SendsHead head result mid new → Caused (stand_sent manner result s).early old new
-head_caused manner head sent.Whole s old mid new none n t = subst (λ e. Caused e old new) (sym none) (to_same None old mid new n (counts mid _ t))
-head_caused manner head sent.BlobFault s old mid new none n t = absurd t
-head_caused manner head (sent.BlobDiffers recorded found) s old mid new none n t = absurd t
-head_caused manner head sent.SinkFault s old mid new none n t = (
-  ap (λ (o : Outside). o.read_faults) t.4 ∙ n.0,
-  subst (λ (k : ℕ). Rose k new.write_faults) n.1 (subst (λ (k : ℕ). Rose mid.write_faults k) (sym (ap (λ (o : Outside). o.write_faults) t.4)) t.2),
-)
-head_caused manner head sent.NoMemory s old mid new none n t = to_same None old mid new n (counts mid _ t)
+sends_caused : (only : Bool) (blob : Blob) (manner : Manner) (head : List ℕ) (result : Sent) (old mid new : Outside) → NoneRose old mid
+    → SendsAnswer only blob head result mid new → Caused (Some (of_sent manner result)) old new
+sends_caused only blob manner head sent.Whole old mid new n t =
+    calm_shows manner old new (none-then old mid new n (counts mid new (sent-whole only blob head mid new t).2))
+sends_caused only blob manner head sent.BlobFault old mid new n t = none-then old mid new n (counts mid new (not-sent only blob head mid new t).3)
+sends_caused only blob manner head (sent.BlobDiffers recorded found) old mid new n t =
+    none-then old mid new n (counts mid new (other-found only blob head recorded found mid new t).2)
+sends_caused only blob manner head sent.SinkFault old mid new n t = let w = sent-in-part only blob head mid new t in sink-shows old mid new w.0 n w.3 w.6
+sends_caused only blob manner head sent.NoMemory old mid new n t = none-then old mid new n (counts mid new (sent-nothing only blob head mid new t))
 
-sends_caused : (manner : Manner) (head_only : Bool) (blob : Blob) (head : List ℕ) (result : Sent) (s : Stand) (old mid new : Outside) → s.early ≡ None → NoneRose old mid
-    → SendsAnswer head_only blob head result mid new → Caused (stand_sent manner result s).early old new
-sends_caused manner true blob head result s old mid new none n t = head_caused manner head result s old mid new none n t
-sends_caused manner false blob head result s old mid new none n t = file_caused manner blob head result s old mid new none n t
+pass_caused : (pass : Pass) (old new : Outside) → NoneRose old new → Caused (Some (of_pass pass)) old new
+pass_caused (Ok done) old new n = n
+pass_caused (Err clean_fault.StoreFault) old new n = n
+pass_caused (Err clean_fault.BlobFault) old new n = n
+pass_caused (Err clean_fault.NoMemory) old new n = n
 
-cleaned_caused : (pass : Pass) (kept : Store) (s : Stand) (old mid : Outside) → s.early ≡ None → NoneRose old mid
-    → Caused (stand_cleaned pass s).early old (with_store kept mid)
-cleaned_caused (Ok done) kept s old mid none n = subst (λ e. Caused e old (with_store kept mid)) (sym none) n
-cleaned_caused (Err clean_fault.StoreFault) kept s old mid none n = subst (λ e. Caused e old (with_store kept mid)) (sym none) n
-cleaned_caused (Err clean_fault.BlobFault) kept s old mid none n = subst (λ e. Caused e old (with_store kept mid)) (sym none) n
-cleaned_caused (Err clean_fault.NoMemory) kept s old mid none n = n
+says_shows : (answer memory_said : Answer) (manner : Manner) (end : Option End) (old mid new : Outside) → NoneRose old mid
+    → Says answer memory_said (end_of manner) mid new end → Shows end old new
+says_shows answer memory_said manner end old mid new n (whole is ends) =
+    subst (λ e. Shows e old new) (sym ends) (calm_shows manner old new (none-then old mid new n (counts mid new is)))
+says_shows answer memory_said manner end old mid new n (memory is ends) = subst (λ e. Shows e old new) (sym ends) (none-then old mid new n (counts mid new is))
+says_shows answer memory_said manner end old mid new n (cut faults all part rose which front is ends) =
+    subst (λ e. Shows e old new) (sym ends) (sink-shows old mid new faults n rose is)
 
-calm_shows : (end : Option End) (old new : Outside) → IsCalm end → NoneRose old new → Shows end old new
-calm_shows None old new calm n = n
-calm_shows (Some stream.Closed) old new calm n = n
-calm_shows (Some stream.TornRequest) old new calm n = absurd calm
-calm_shows (Some stream.TurnLimit) old new calm n = absurd calm
-calm_shows (Some stream.SourceFault) old new calm n = absurd calm
-calm_shows (Some stream.SinkFault) old new calm n = absurd calm
+-- before the first step
+judged_caused : (judged : Result Judged Refused) (last : Bool) (old new : Outside) → NoneRose old new → Caused (duty_of judged last).stand.due old new
+judged_caused (Ok request) last old new n = n
+judged_caused (Err cause) last old new n = n
 
-says_shows : (answer memory_said : Answer) (next end : Option End) (old mid new : Outside) → IsCalm next → NoneRose old mid
-    → Says answer memory_said next mid new end → Shows end old new
-says_shows answer memory_said next end old mid new calm n (whole is ends) =
-    subst (λ e. Shows e old new) (sym ends) (calm_shows next old new calm (to_same None old mid new n (counts mid _ is)))
-says_shows answer memory_said next end old mid new calm n (memory is ends) =
-    subst (λ e. Shows e old new) (sym ends) (to_same None old mid new n (counts mid _ is))
-says_shows answer memory_said next end old mid new calm n (cut faults all part rose which front is ends) =
-    subst (λ e. Shows e old new) (sym ends) (
-      ap (λ (o : Outside). o.read_faults) is ∙ n.0,
-      subst (λ (k : ℕ). Rose k new.write_faults) n.1 (subst (λ (k : ℕ). Rose mid.write_faults k) (sym (ap (λ (o : Outside). o.write_faults) is)) rose),
-    )
-
-says_for : (s : Stand) (early : Option Early) (answer memory_said : Answer) (said : Said) (manner : Manner) (end : Option End) (old mid new : Outside)
-    → SaysFor s early said manner → Caused early old mid → Says answer memory_said (end_of manner) mid new end → Shows end old new
-says_for s None answer memory_said said manner end old mid new for n said_is =
-    says_shows answer memory_said (end_of manner) end old mid new (end-calm manner) n said_is
-says_for s (Some by_memory) answer memory_said said manner end old mid new for n said_is =
-    says_shows answer memory_said (end_of manner) end old mid new (end-calm manner) n said_is
-says_for s (Some (by_side side)) answer memory_said said manner end old mid new for n said_is = absurd for
-
-stops_for : (s : Stand) (early : Option Early) (next end : Option End) (old mid new : Outside) → StopsFor s early next → Caused early old mid → new ≡ mid
-    → end ≡ next → Shows end old new
-stops_for s early next end old mid new for c is ends =
-    subst (λ e. Shows e old new) (sym ends) (pick early for (to_same early old mid new c (counts mid _ is)))
-  where
-    pick : (early : Option Early) → StopsFor s early next → Caused early old new → Shows next old new
-    pick None for c = calm_shows next old new (subst IsCalm (sym for.2) (end-calm for.0)) c
-    pick (Some by_memory) for c = absurd for
-    pick (Some (by_side side)) for c = subst (λ e. Shows e old new) (sym for) c
-
-opens_caused : (settings : Settings) (last : Bool) (old new : Outside) (c : Course) (o : Opens settings last old new c) → Caused (standing o).early old new
-opens_caused settings last old new c (clean begins still is) = counts old _ still
-opens_caused settings last old new c (torn begins still is) = counts old _ still
+opens_caused : (settings : Settings) (last : Bool) (old new : Outside) (c : Course) (o : Opens settings last old new c) → Caused (duty_at o).stand.due old new
+opens_caused settings last old new c (clean begins still is) = counts old new still
+opens_caused settings last old new c (torn begins still is) = counts old new still
 opens_caused settings last old new c (failed faults rose still is) =
     (subst (λ (k : ℕ). Rose old.read_faults k) (sym (ap (λ (o : Outside). o.read_faults) still)) rose, ap (λ (o : Outside). o.write_faults) still)
-opens_caused settings last old new c (refused fault begins still is) = counts old _ still
-opens_caused settings last old new c (unread_head begins still is) = counts old _ still
-opens_caused settings last old new c (starved head rest begins uses is) = counts old _ uses
-opens_caused settings last old new c (served head rest begins uses is) = counts old _ uses
+opens_caused settings last old new c (refused fault begins still is) = counts old new still
+opens_caused settings last old new c (unread_head begins still is) = counts old new still
+opens_caused settings last old new c (starved head rest begins uses is) = counts old new uses
+opens_caused settings last old new c (served head rest begins uses is) = judged_caused (judge settings head) last old new (counts old new uses)
+
+opens-unsent : (settings : Settings) (last : Bool) (old new : Outside) (c : Course) (o : Opens settings last old new c) (bytes : List ℕ) → IsUnsent ((duty_at o).by_text bytes)
+opens-unsent settings last old new c (served head rest begins uses is) bytes = judged-unsent (judge settings head) last bytes
+opens-unsent settings last old new c _ bytes = tt
 
 module _ (tells : Type 0) where
-  module _ (head_only : Bool) where
-    follows_shows : (c : Course) (n : ℕ) (s : Stand) → Keeps head_only c n s → (entries : List Entry) (old mid new : Outside) (end : Option End)
-        → Caused s.early old mid → Follows tells c entries mid new end → Shows end old new
-    follows_shows (asks command next) zero s k [] old mid new end c f = absurd f
-    follows_shows (asks command next) zero s k (e ∷ entries) old mid new end c f = absurd k
-    follows_shows (asks command next) (suc n) s k [] old mid new end c f = absurd f
-    follows_shows (asks command next) (suc n) s k (e ∷ entries) old mid new end c f =
-        let s1 = stand_after command e.reply s in
-        follows_shows (next e.reply) n s1 (k.1 e.reply) entries old mid new end (asks_caused command e.reply s old mid k.0 c) f.1
-    follows_shows (continues next) n s k entries old mid new end c f =
-        follows_shows (next f.0) n (stand_continued f.0 s) (k.3 f.0) entries old f.1 new end
-        (continues_caused f.0 s old mid f.1 k.1 (subst (λ e. Caused e old mid) k.1 c) f.2) f.3
-    follows_shows (takes draft count next) n s k entries old mid new end c f =
-        follows_shows (next f.0) n (stand_stored f.0 s) (k.3 f.0) entries old f.1 new end
-        (takes_caused tells draft count f.0 s old mid f.1 k.1 (subst (λ e. Caused e old mid) k.1 c) f.2) f.3
-    follows_shows (reads count next) n s k entries old mid new end c f =
-        follows_shows (next f.0) n (stand_read f.0 s) (k.2 f.0) entries old f.1 new end
-        (reads_caused count f.0 s old mid f.1 k.0 (subst (λ e. Caused e old mid) k.0 c) f.2) f.3
-    follows_shows (sends blob manner next) n s k entries old mid new end c f =
-        follows_shows (next f.0) n (stand_sent manner f.0 s) (k.5 f.0) entries old f.1 new end
-        (sends_caused manner manner.head_only blob (shown (file_answer blob manner)) f.0 s old mid f.1 k.1 (subst (λ e. Caused e old mid) k.1 c) f.2) f.3
-    follows_shows (cleans repos next) n s k entries old mid new end c f =
-        follows_shows (next f.2) 0 (stand_cleaned f.2 s) (k.3 f.2) f.1 old (with_store f.3 mid) new end
-        (cleaned_caused f.2 f.3 s old mid k.1 (subst (λ e. Caused e old mid) k.1 c)) f.6
-    follows_shows (says said manner) n s k entries old mid new end c f =
-        says_for s s.early (answer_of said manner) (memory_answer manner.head_only) said manner end old mid new k.1 c f.1
-    follows_shows (stops next) n s k entries old mid new end c f = stops_for s s.early next end old mid new k.1 c f.1 f.2
+  module _ (by_text : List ℕ → Option Close) (manner : Manner) where
+    deed_caused : ((bytes : List ℕ) → IsUnsent (by_text bytes)) → (deed : Deed) (outcome : Outcome deed) (mine : List Entry) (old mid new : Outside) → NoneRose old mid
+        → Does tells deed outcome mine mid new → Caused (due_done by_text deed outcome None) old new
+    deed_caused texts invite result mine old mid new n t = continues_caused by_text result old mid new n t.1
+    deed_caused texts (take_body draft count) stored mine old mid new n t = takes_caused tells by_text draft count stored old mid new n t.1
+    deed_caused texts (read_body count) body mine old mid new n t = reads_caused by_text texts count body old mid new n t.1
+    deed_caused texts (send_file blob own) result mine old mid new n t =
+        sends_caused own.head_only blob own (shown (file_answer blob own)) result old mid new n t.1
+    deed_caused texts (clean_all repos) pass mine old mid new n t = pass_caused pass old new (none-then old mid new n (counts mid new t.2))
+
+    follows_shows : ((bytes : List ℕ) → IsUnsent (by_text bytes)) → (c : Course) (n : ℕ) (s : Stand) → Keeps by_text manner c n s → (entries : List Entry)
+        (old mid new : Outside) (end : Option End) → Caused s.due old mid → Follows tells c entries mid new end → Shows end old new
+    follows_shows texts (asks command next) zero s k [] old mid new end c f = absurd f
+    follows_shows texts (asks command next) zero s k (e ∷ entries) old mid new end c f = absurd k
+    follows_shows texts (asks command next) (suc n) s k [] old mid new end c f = absurd f
+    follows_shows texts (asks command next) (suc n) s k (e ∷ entries) old mid new end c f =
+        follows_shows texts (next e.reply) n (stand_after command e.reply s) (k.1 e.reply) entries old mid new end (reply_caused command e.reply s old mid k.0 c) f.1
+    follows_shows texts (does deed next) n s k entries old mid new end c f =
+        let none = nothing-due manner deed s k.0 in
+        follows_shows texts (next f.0) (left_by deed n) (stand_done by_text deed f.0 s) (k.2 f.0) f.2 old f.3 new end
+        (subst (λ d. Caused (due_done by_text deed f.0 d) old f.3) (sym none)
+        (deed_caused texts deed f.0 f.1 old mid f.3 (subst (λ d. Caused d old mid) none c) f.5)) f.6
+    follows_shows texts (says said own) n s k entries old mid new end c f =
+        says_shows (answer_of said own) (memory_answer own.head_only) own end old mid new (subst (λ d. Caused d old mid) k.1 c) f.1
+    follows_shows texts (stops next) n s k entries old mid new end c f =
+        subst (λ e. Shows e old new) (sym f.2) (subst (λ o. Shows next old o) (sym f.1) (subst (λ d. Caused d old mid) k.1 c))
+
+    none-few : (mine : List Entry) (later n : ℕ) → mine ≡ [] → later ≤ n → length mine + later ≤ n
+    none-few mine later n none few = let is = ap length none in omega (arith, is)
+
+    -- a deed asks no more than it may, and leaves the rest
+    deed-few : (deed : Deed) (outcome : Outcome deed) (mine : List Entry) (old new : Outside) (later n : ℕ) → asked_by deed ≤ n → later ≤ left_by deed n
+        → Does tells deed outcome mine old new → length mine + later ≤ n
+    deed-few (clean_all repos) pass mine old new later n most few t = let asked = passes-few repos mine _ t.0 pass t.1 in omega (arith, asked, most, few)
+    deed-few _ outcome mine old new later n most few t = none-few mine later n t.0 few
 
     -- the commands of a request are few
-    follows_few : (c : Course) (n : ℕ) (s : Stand) → Keeps head_only c n s → (entries : List Entry) (old new : Outside) (end : Option End)
+    follows_few : (c : Course) (n : ℕ) (s : Stand) → Keeps by_text manner c n s → (entries : List Entry) (old new : Outside) (end : Option End)
         → Follows tells c entries old new end → length entries ≤ n
     follows_few (asks command next) zero s k [] old new end f = absurd f
     follows_few (asks command next) zero s k (e ∷ entries) old new end f = absurd k
     follows_few (asks command next) (suc n) s k [] old new end f = absurd f
     follows_few (asks command next) (suc n) s k (e ∷ entries) old new end f =
         let less = follows_few (next e.reply) n (stand_after command e.reply s) (k.1 e.reply) entries old new end f.1 in omega arith
-    follows_few (continues next) n s k entries old new end f = follows_few (next f.0) n (stand_continued f.0 s) (k.3 f.0) entries f.1 new end f.3
-    follows_few (takes draft count next) n s k entries old new end f = follows_few (next f.0) n (stand_stored f.0 s) (k.3 f.0) entries f.1 new end f.3
-    follows_few (reads count next) n s k entries old new end f = follows_few (next f.0) n (stand_read f.0 s) (k.2 f.0) entries f.1 new end f.3
-    follows_few (sends blob manner next) n s k entries old new end f = follows_few (next f.0) n (stand_sent manner f.0 s) (k.5 f.0) entries f.1 new end f.3
-    follows_few (cleans repos next) n s k entries old new end f =
-        let few = passes-few repos f.0 _ f.3 f.2 f.5 in
-        let most = k.2 in
-        let none = follows_few (next f.2) 0 (stand_cleaned f.2 s) (k.3 f.2) f.1 (with_store f.3 old) new end f.6 in
-        let all = ap length f.4 ∙ length-append f.0 f.1 in omega (arith, few, most, none, all)
-    follows_few (says said manner) n s k entries old new end f = let none = ap length f.0 in omega arith
+    follows_few (does deed next) n s k entries old new end f =
+        let less = follows_few (next f.0) (left_by deed n) (stand_done by_text deed f.0 s) (k.2 f.0) f.2 f.3 new end f.6 in
+        let few = deed-few deed f.0 f.1 old f.3 (length f.2) n k.1 less f.5 in
+        let all = ap length f.4 ∙ length-append f.1 f.2 in omega (arith, few, all)
+    follows_few (says said own) n s k entries old new end f = let none = ap length f.0 in omega arith
     follows_few (stops next) n s k entries old new end f = let none = ap length f.0 in omega arith
 
   module _ (settings : Settings) where
     intent-few : (intent : Intent) → IsIntent settings intent → most_for intent ≤ most_asked settings
     unfolding most_asked
-    intent-few (reads_path repo path) kept = omega arith
-    intent-few (puts_file place path count) kept = omega arith
-    intent-few (puts_side place path side count) kept = omega arith
-    intent-few (puts_document place path count) kept = omega arith
-    intent-few counts_all kept = omega arith
-    intent-few (opens repo) kept = omega arith
-    intent-few (commits n) kept = omega arith
-    intent-few (aborts n) kept = omega arith
     intent-few (cleans_all repos) kept =
         let all = ap length kept ∙ length-map settings.hosted (λ (rule : Rule). rule.id) in omega (arith, all)
+    intent-few _ kept = omega arith
 
-    judged-few : (head : Head) (outcome : Result Intent Refusal) → IfOk outcome (IsIntent settings) → most_of (outcome_of head outcome) ≤ most_asked settings
+    judged-few : (head : Head) (outcome : Result Intent Refusal) (last : Bool) → IfOk outcome (IsIntent settings) → (duty_of (outcome_of head outcome) last).most ≤ most_asked settings
     unfolding most_asked
-    judged-few head (Ok intent) kept = intent-few intent kept
-    judged-few head (Err cause) kept = omega arith
+    judged-few head (Ok intent) last kept = intent-few intent kept
+    judged-few head (Err cause) last kept = omega arith
 
     -- whatever the head asks for
-    asking-few : (last : Bool) (old mid : Outside) (c : Course) (o : Opens settings last old mid c) → asking o ≤ most_asked settings
+    asking-few : (last : Bool) (old mid : Outside) (c : Course) (o : Opens settings last old mid c) → (duty_at o).most ≤ most_asked settings
     unfolding judge most_asked
-    asking-few last old mid c (clean begins still is) = omega arith
-    asking-few last old mid c (torn begins still is) = omega arith
-    asking-few last old mid c (failed faults rose still is) = omega arith
-    asking-few last old mid c (refused fault begins still is) = omega arith
-    asking-few last old mid c (unread_head begins still is) = omega arith
-    asking-few last old mid c (starved head rest begins uses is) = omega arith
-    asking-few last old mid c (served head rest begins uses is) = judged-few head (intent_of settings head) (intent-kept settings head)
+    asking-few last old mid c (served head rest begins uses is) = judged-few head (intent_of settings head) last (intent-kept settings head)
+    asking-few last old mid c _ = omega arith
 
     turn_shows : (last : Bool) (entries : List Entry) (old new : Outside) (end : Option End) → Turn settings tells last entries old new end → Shows end old new
-    turn_shows last entries old new end t =
-        follows_shows (shows_head t.2) t.0 (asking t.2) (standing t.2) (opens-keeps settings last old t.1 t.0 t.2) entries old t.1 new end
-        (opens_caused settings last old t.1 t.0 t.2) t.3
+    turn_shows last entries old new end (c, mid, o, f) =
+        follows_shows (duty_at o).by_text (duty_at o).manner (opens-unsent settings last old mid c o) c (duty_at o).most (duty_at o).stand (opens-keeps settings last old mid c o) entries old mid new end
+        (opens_caused settings last old mid c o) f
 
     pub serves_shows : (n : ℕ) (entries : List Entry) (old new : Outside) (end : End) → Serves settings tells n entries old new end
         → EndsByCause end old new
@@ -294,9 +255,9 @@ module _ (tells : Type 0) where
 
     turn_few : (last : Bool) (entries : List Entry) (old new : Outside) (end : Option End) → Turn settings tells last entries old new end
         → length entries ≤ most_asked settings
-    turn_few last entries old new end t =
-        let asked = follows_few (shows_head t.2) t.0 (asking t.2) (standing t.2) (opens-keeps settings last old t.1 t.0 t.2) entries t.1 new end t.3 in
-        let few = asking-few last old t.1 t.0 t.2 in omega (arith, asked, few)
+    turn_few last entries old new end (c, mid, o, f) =
+        let asked = follows_few (duty_at o).by_text (duty_at o).manner c (duty_at o).most (duty_at o).stand (opens-keeps settings last old mid c o) entries mid new end f in
+        let few = asking-few last old mid c o in omega (arith, asked, few)
 
     pub serves_few : (n : ℕ) (entries : List Entry) (old new : Outside) (end : End) → Serves settings tells n entries old new end
         → length entries ≤ most_asked settings * n

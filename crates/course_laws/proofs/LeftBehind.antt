@@ -1,20 +1,23 @@
 -- No course leaves a draft open or a lease out, and none is told that its draft is not there, where it is asked alone.
-use Rattle.std.proofs.Common.{◌≡◌, ◌≢◌, ℕ, suc, zero, ◌≤◌, ◌==◌, Bool, inl, inr, List, [], ◌∷◌, ◌++◌, Option, Some, None, arith, refl, subst, sym, ◌∙◌}
+use Rattle.std.proofs.Common.{◌≡◌, ◌≢◌, ℕ, suc, zero, ◌≤◌, ◌==◌, Bool, inl, inr, List, [], ◌∷◌, ◌++◌, Option, Some, None, Result, Ok, Err, arith, refl, subst, sym, ◌∙◌}
 use Rattle.std.specs.List.{AllByRecursion}
 use Rattle.repo_model.specs.History.{Entry, Legal, after, end as end_of}
 use Rattle.repo_model.specs.Reply.{no_draft}
 use Rattle.repo_model.specs.Settings.{Settings}
 use Rattle.repo_model.specs.State.{Lease, State, Yard}
-use Rattle.repo_course.specs.Course.{Course, asks, cleans, continues, reads, says, sends, stops, takes}
+use Rattle.repo_routes.specs.Intent.{Judged}
+use Rattle.repo_routes.specs.Judge.{judge}
+use Rattle.repo_routes.specs.declared.judging.Refused.{Refused}
+use Rattle.repo_course.specs.Course.{Close, Course, asks, does, says, stops}
 use Rattle.repo_course.specs.declared.outcomes.End.{End}
-use Rattle.repo_course.specs.Serving.{Follows, Opens, clean, torn, failed, refused, unread_head, starved, served, Outside, Serves, Turn, with_store}
-use Rattle.course_laws.specs.Duties.{HoldsNothing, Keeps, MayAsk, Stand, stand_after, stand_cleaned, stand_continued, stand_read, stand_sent, stand_stored}
+use Rattle.repo_course.specs.Serving.{Follows, Opens, clean, torn, failed, refused, unread_head, starved, served, Outside, Serves, Turn}
+use Rattle.course_laws.specs.Duties.{HoldsNothing, Keeps, MayAsk, Stand, duty_of, left_by, stand_after, stand_done}
+use Rattle.repo_course.specs.declared.manner.Manner.{Manner}
 use Rattle.course_laws.specs.LeftBehind.{IsDrawn, LeavesNothing, NumbersAreBelow}
-use Rattle.course_laws.proofs.Kept.{continued-holds, asking, cleaned-holds, opens-keeps, read-holds, sent-holds, shows_head, standing, stored-holds}
-use Rattle.course_laws.proofs.Passes.{entries-hold, passes-ask}
+use Rattle.course_laws.proofs.Kept.{duty_at, opens-keeps}
+use Rattle.course_laws.proofs.Passes.{deed-asks, entries-hold}
 use Rattle.course_laws.proofs.PassesPlayed.{entries-find}
-use Rattle.course_laws.proofs.Yards.{Holding, OwnDraft, OwnLease}
-use Rattle.course_laws.proofs.YardSteps.{step}
+use Rattle.course_laws.proofs.Yards.{Holding, OwnDraft, OwnLease, step}
 
 stays : (y : Yard) → LeavesNothing y y
 stays y = record { drafts = refl; leases = refl; next_draft = omega arith; next_lease = omega arith }
@@ -62,7 +65,7 @@ module _ (tells : Type 0) (settings : Settings) where
   all_append P [] ys all more = more
   all_append P (x ∷ xs) ys all more = (all.0, all_append P xs ys all.1 more)
 
-  module _ (before : Yard) (head_only : Bool) where
+  module _ (before : Yard) (by_text : List ℕ → Option Close) (manner : Manner) where
     ended : (s : Stand) (entries : List Entry) (st : State) → HoldsNothing s → Holding before s.draft s.lease st.yard → entries ≡ [] → Leaves settings before entries st
     ended s entries st none h is =
         let drafts : OwnDraft before None st.yard.drafts = subst (λ d. OwnDraft before d st.yard.drafts) none.0 h.drafts in
@@ -73,54 +76,48 @@ module _ (tells : Type 0) (settings : Settings) where
           found = tt;
         })
 
-    follows_leaves : (c : Course) (n : ℕ) (s : Stand) → Keeps head_only c n s → (entries : List Entry) (st : State) → Legal settings st entries
+    follows_leaves : (c : Course) (n : ℕ) (s : Stand) → Keeps by_text manner c n s → (entries : List Entry) (st : State) → Legal settings st entries
         → Holding before s.draft s.lease st.yard → (old new : Outside) (end : Option End) → Follows tells c entries old new end → Leaves settings before entries st
     follows_leaves (asks command next) zero s k [] st legal h old new end f = absurd f
     follows_leaves (asks command next) zero s k (e ∷ entries) st legal h old new end f = absurd k
     follows_leaves (asks command next) (suc n) s k [] st legal h old new end f = absurd f
     follows_leaves (asks command next) (suc n) s k (e ∷ entries) st legal h old new end f =
-        let now = step before settings s st e.command e.moment e.reply e.faults (subst (λ c. MayAsk c s) (sym f.0) k.0) h legal.0 in
+        let now = step before settings s st h e (subst (λ c. MayAsk c s) (sym f.0) k.0) legal.0 in
         let held = subst (λ c. Holding before (stand_after c e.reply s).draft (stand_after c e.reply s).lease (after settings st e).yard) f.0 now.0 in
         let rest = follows_leaves (next e.reply) n (stand_after command e.reply s) (k.1 e.reply) entries (after settings st e) legal.1 held old new end f.1 in
         record { nothing = rest.nothing; found = (now.1, rest.found) }
-    follows_leaves (continues next) n s k entries st legal h old new end f =
-        follows_leaves (next f.0) n (stand_continued f.0 s) (k.3 f.0) entries st legal
-        (continued-holds (λ d l. Holding before d l st.yard) f.0 s h) f.1 new end f.3
-    follows_leaves (takes number count next) n s k entries st legal h old new end f =
-        follows_leaves (next f.0) n (stand_stored f.0 s) (k.3 f.0) entries st legal (stored-holds (λ d l. Holding before d l st.yard) f.0 s h) f.1 new end f.3
-    follows_leaves (reads count next) n s k entries st legal h old new end f =
-        follows_leaves (next f.0) n (stand_read f.0 s) (k.2 f.0) entries st legal (read-holds (λ d l. Holding before d l st.yard) f.0 s h) f.1 new end f.3
-    follows_leaves (sends blob manner next) n s k entries st legal h old new end f =
-        follows_leaves (next f.0) n (stand_sent manner f.0 s) (k.5 f.0) entries st legal (sent-holds (λ d l. Holding before d l st.yard) manner f.0 s h) f.1 new end f.3
-    follows_leaves (cleans repos next) n s k entries st legal h old new end f =
-        let all = subst (λ (es : List Entry). Legal settings st es) f.4 legal in
-        let cut = legal_cut st f.0 f.1 all in
-        let asked = passes-ask repos f.0 _ f.3 f.2 f.5 in
-        let mid = end_of settings st f.0 in
-        let held = cleaned-holds (λ d l. Holding before d l mid.yard) f.2 s (entries-hold before s.draft s.lease settings f.0 st asked h) in
-        let rest = follows_leaves (next f.2) 0 (stand_cleaned f.2 s) (k.3 f.2) f.1 mid cut.1 held (with_store f.3 old) new end f.6 in
+    follows_leaves (does deed next) n s k entries st legal h old new end f =
+        let cut = legal_cut st f.1 f.2 (subst (λ (es : List Entry). Legal settings st es) f.4 legal) in
+        let asked = deed-asks tells deed f.0 f.1 old f.3 f.5 in
+        let held = entries-hold before s.draft s.lease settings f.1 st asked h in
+        let rest = follows_leaves (next f.0) (left_by deed n) (stand_done by_text deed f.0 s) (k.2 f.0) f.2 (end_of settings st f.1) cut.1 held f.3 new end f.6 in
         subst (λ (es : List Entry). Leaves settings before es st) (sym f.4)
         (record {
-          nothing = λ drawn. subst (λ (x : State). LeavesNothing before x.yard) (sym (end_append st f.0 f.1)) (rest.nothing drawn);
-          found = all_append (λ (e : Entry). e.reply ≢ no_draft) f.0 f.1 (entries-find settings f.0 st cut.0 asked) rest.found;
+          nothing = λ drawn. subst (λ (x : State). LeavesNothing before x.yard) (sym (end_append st f.1 f.2)) (rest.nothing drawn);
+          found = all_append (λ (e : Entry). e.reply ≢ no_draft) f.1 f.2 (entries-find settings f.1 st cut.0 asked) rest.found;
         })
-    follows_leaves (says said manner) n s k entries st legal h old new end f = ended s entries st k.0 h f.0
+    follows_leaves (says said own) n s k entries st legal h old new end f = ended s entries st k.0 h f.0
     follows_leaves (stops next) n s k entries st legal h old new end f = ended s entries st k.0 h f.0
 
   turn_leaves : (last : Bool) (entries : List Entry) (st : State) → Legal settings st entries → (old new : Outside) (end : Option End)
       → Turn settings tells last entries old new end → Leaves settings st.yard entries st
   turn_leaves last entries st legal old new end t =
-      follows_leaves st.yard (shows_head t.2) t.0 (asking t.2) (standing t.2) (opens-keeps settings last old t.1 t.0 t.2) entries st legal
+      let duty = duty_at t.2 in
+      follows_leaves st.yard duty.by_text duty.manner t.0 duty.most duty.stand (opens-keeps settings last old t.1 t.0 t.2) entries st legal
       (holds t.2) t.1 new end t.3
     where
-      holds : {c : Course} {mid : Outside} (o : Opens settings last old mid c) → Holding st.yard (standing o).draft (standing o).lease st.yard
+      judged-holds : (judged : Result Judged Refused) → Holding st.yard (duty_of judged last).stand.draft (duty_of judged last).stand.lease st.yard
+      judged-holds (Ok request) = nothing-held st.yard
+      judged-holds (Err cause) = nothing-held st.yard
+
+      holds : {c : Course} {mid : Outside} (o : Opens settings last old mid c) → Holding st.yard (duty_at o).stand.draft (duty_at o).stand.lease st.yard
       holds (clean begins still is) = nothing-held st.yard
       holds (torn begins still is) = nothing-held st.yard
       holds (failed faults rose still is) = nothing-held st.yard
       holds (refused fault begins still is) = nothing-held st.yard
       holds (unread_head begins still is) = nothing-held st.yard
       holds (starved head rest begins uses is) = nothing-held st.yard
-      holds (served head rest begins uses is) = nothing-held st.yard
+      holds (served head rest begins uses is) = judged-holds (judge settings head)
 
   pub serves_leaves : (n : ℕ) (entries : List Entry) (st : State) → Legal settings st entries → (old new : Outside) (end : End)
       → Serves settings tells n entries old new end → Leaves settings st.yard entries st

@@ -1,14 +1,13 @@
 pub mod Alls
-pub mod Replies
 pub mod Kept
 pub mod Bodies
 pub mod Endings
 pub mod Yards
-pub mod YardSteps
 pub mod Passes
 pub mod PassesPlayed
 pub mod LeftBehind
 pub mod Complete
+pub mod Sendings
 pub mod Counts
 pub mod Told
 pub mod Early
@@ -19,7 +18,6 @@ pub mod PlayedCourse
 pub mod PlayedStream
 pub mod OnLiterals
 pub mod PutAndGet
-pub mod Caused
 pub mod Refusals
 pub mod Succeeding
 pub mod ServedActs

@@ -12,17 +12,18 @@ use Rattle.repo_model.specs.History.{Entry, Legal, end as end_of}
 use Rattle.repo_model.specs.Settings.{Settings}
 use Rattle.repo_model.specs.State.{State}
 use Rattle.repo_course.specs.Answers.{answer_of, memory_answer}
-use Rattle.repo_course.specs.Course.{Course, says, stops, end_of as manner_end}
+use Rattle.repo_course.specs.Course.{Close, Course, says, stops, speaks, rests, end_of as manner_end}
 use Rattle.repo_course.specs.declared.manner.Manner.{Manner}
 use Rattle.repo_course.specs.declared.outcomes.End.{End}
 use Rattle.repo_course.specs.declared.outcomes.End.TheVariants as stream
 use Rattle.repo_course.specs.declared.outcomes.Took.TheVariants as took
 use Rattle.repo_course.specs.declared.said.Said.{Said}
+use Rattle.repo_course.specs.declared.said.Said.TheVariants.{NoMemory}
 use Rattle.repo_course.specs.Serving.{Follows, IsFrontOf, Outside, Reads, Says, print_of, writes}
-use Rattle.course_laws.specs.Duties.{by_memory, by_side, failing, starving, Keeps, Stand}
+use Rattle.course_laws.specs.Duties.{Keeps, Stand}
 use Rattle.course_laws.specs.Faultless.{Scene, body_of, play, taken_body, wrote}
 use Rattle.course_laws.proofs.Counts.{Calm, Grew, not-risen}
-use Rattle.course_laws.proofs.Early.{Early, Outcome, Ready, early-before, ends-early, no-more, outcome-before, plays-early, says-early, says-memory, sink-failed, source-failed, wrote-outcome}
+use Rattle.course_laws.proofs.Early.{Early, ComesTo, Ready, early-before, ends-due, no-more, outcome-before, plays-due, says-early, says-memory, sink-failed, source-failed, wrote-outcome}
 use Rattle.course_laws.proofs.Unsent.{MayStarve}
 
 -- what is told is these bytes, where it is told
@@ -67,11 +68,14 @@ body-torn count input short = rw (lt-ltb (length input) count short)
 pub taken-torn : (n count : ℕ) (input : List ℕ) → length input < count → taken_body n count input ≡ Err took.Torn
 taken-torn n count input short = rw (lt-ltb (length input) count short)
 
--- the blob in hand is told
+-- the blobs in hand are told
 
-abbrev pub InHandTold : Option Blob → Type 0
-InHandTold None = Unit {0}
-InHandTold (Some blob) = IsSome blob.bytes
+abbrev pub IsBlobTold : Option Blob → Type 0
+IsBlobTold None = Unit {0}
+IsBlobTold (Some blob) = IsSome blob.bytes
+
+abbrev pub InHandTold : Stand → Type 0
+InHandTold s = IsBlobTold s.stored × IsBlobTold s.lent
 
 -- a count that rose in the middle would be higher in the end
 pub risen : {P : Type 0} (before faults last : ℕ) → Rose before faults → faults ≤ last → Calm before last → P
@@ -81,20 +85,31 @@ risen before faults last rose le calm = absurd (not-risen before faults rose (le
 abbrev pub at : State → List ℕ → Scene
 at st input = record { state = st; input = input }
 
-module _ (settings : Settings) (tells : Type 0) (head_only : Bool) where
+-- where memory was wanted for a body nothing is written
+pub unwritten : (count : ℕ) (old mid : Outside) → Reads count (Err took.NoMemory) old mid → mid.output ≡ old.output
+unwritten count old mid (inl still) = ap (λ o. o.output) still
+unwritten count old mid (inr t) = ap (λ o. o.output) t.1.3
+
+-- a deed that asks nothing leaves the entries to what follows it
+pub unasked : (tells : Type 0) (c : Course) (entries mine later : List Entry) (old new : Outside) (end : Option End) → entries ≡ mine ++ later → mine ≡ []
+    → Follows tells c later old new end → Follows tells c entries old new end
+unasked tells c entries mine later old new end parts none f =
+    subst (λ (es : List Entry). Follows tells c es old new end) (sym (parts ∙ ap (λ (es : List Entry). es ++ later) none)) f
+
+module _ (settings : Settings) (tells : Type 0) (by_text : List ℕ → Option Close) (manner : Manner) where
   -- the course is followed as it is played
   abbrev pub Plays : Course → Type 0
-  Plays c = (n : ℕ) (s : Stand) → Keeps head_only c n s → InHandTold s.blob → (entries : List Entry) (st : State) → Legal settings st entries
+  Plays c = (n : ℕ) (s : Stand) → Keeps by_text manner c n s → InHandTold s → (entries : List Entry) (st : State) → Legal settings st entries
       → Calm st.faults (end_of settings st entries).faults → (old new : Outside) (end : Option End) (input before : List ℕ) → Ready old st input before
       → Calm old.blob_faults new.blob_faults → Follows tells c entries old new end
-      → Outcome (MayStarve head_only s) before (play settings c (at st input)) old new (end_of settings st entries) end
+      → ComesTo (MayStarve manner s) before (play settings c (at st input)) old new (end_of settings st entries) end
 
   -- bytes are written, and the course goes on
   pub wrote-play : (So : Bool → List ℕ → Type 0) (all : List ℕ) (rest : Course) → Plays rest → (n : ℕ) (s : Stand)
-      → ((alone : Bool) (front : List ℕ) → MayStarve head_only s alone front → So alone (all ++ front)) → Keeps head_only rest n s → InHandTold s.blob → (entries : List Entry) (st : State)
+      → ((alone : Bool) (front : List ℕ) → MayStarve manner s alone front → So alone (all ++ front)) → Keeps by_text manner rest n s → InHandTold s → (entries : List Entry) (st : State)
       → Legal settings st entries → Calm st.faults (end_of settings st entries).faults → (old mid new : Outside) (end : Option End) (input before : List ℕ)
       → Ready old st input before → Calm old.blob_faults new.blob_faults → mid ≡ writes all old → Follows tells rest entries mid new end
-      → Outcome So before (wrote all (play settings rest (at st input))) old new (end_of settings st entries) end
+      → ComesTo So before (wrote all (play settings rest (at st input))) old new (end_of settings st entries) end
   wrote-play So all rest plays n s grows k hand entries st legal calm old mid new end input before ready quiet mid-is follows =
       let o = writes all old in
       let ready' : Ready o st input (before ++ all) = record {
@@ -103,30 +118,29 @@ module _ (settings : Settings) (tells : Type 0) (head_only : Bool) where
         rows = ready.rows;
         clock = ready.clock;
       } in
-      wrote-outcome (MayStarve head_only s) So before all (play settings rest (at st input)) old new (end_of settings st entries) end grows
-      (outcome-before (MayStarve head_only s) (before ++ all) _ old o new _ end (record { reads = omega arith; writes = omega arith; blobs = omega arith })
+      wrote-outcome (MayStarve manner s) So before all (play settings rest (at st input)) old new (end_of settings st entries) end grows
+      (outcome-before (MayStarve manner s) (before ++ all) _ old o new _ end (record { reads = omega arith; writes = omega arith; blobs = omega arith })
       (plays n s k hand entries st legal calm o new end input (before ++ all) ready' quiet
       (subst (λ m. Follows tells rest entries m new end) mid-is follows)))
 
   -- the sink failed, and has taken a front of what was to be written
-  pub sink-play : (So : Bool → List ℕ → Type 0) (all more part : List ℕ) (rest : Course) (n : ℕ) (s : Stand) → Keeps head_only rest n (failing stream.SinkFault s) → (faults : ℕ) (entries : List Entry)
+  pub sink-play : (So : Bool → List ℕ → Type 0) (all more part : List ℕ) (rest : Course) (n : ℕ) (s : Stand) → Keeps by_text manner rest n s → s.due ≡ Some (rests (Some stream.SinkFault)) → (faults : ℕ) (entries : List Entry)
       (st : State) (old mid new : Outside) (end : Option End) (input before : List ℕ) → Ready old st input before → Rose old.write_faults faults → IsFrontOf part all
       → mid ≡ writes part (record old { write_faults = faults }) → Follows tells rest entries mid new end → Early So before (all ++ more) old new end
-  sink-play So all more part rest n s k faults entries st old mid new end input before ready rose front mid-is follows =
-      let last = ends-early tells head_only rest n (failing stream.SinkFault s) (by_side stream.SinkFault) k refl entries mid new end follows in
+  sink-play So all more part rest n s k is faults entries st old mid new end input before ready rose front mid-is follows =
+      let last = (ends-due tells by_text manner rest n s (rests (Some stream.SinkFault)) k is entries mid new end follows).0 in
       no-more So before _ part old new end (front.0 ++ more, ap (λ b. b ++ more) front.1 ∙ append_assoc part front.0 more)
       (ap (λ o. o.output) last.0 ∙ ap (λ o. o.output) mid-is ∙ ap (λ o. behind o part) ready.output_is)
       (sink-failed So part old new end last.1
       (subst (λ m. Rose old.write_faults m) (sym (ap (λ o. o.write_faults) last.0 ∙ ap (λ o. o.write_faults) mid-is)) rose))
 
   -- the stream ends inside a body
-  pub torn-play : (So : Bool → List ℕ → Type 0) (count : ℕ) (rest : Course) (n : ℕ) (s : Stand) → Keeps head_only rest n (failing stream.TornRequest s) → (entries : List Entry) (st : State)
+  pub torn-play : (So : Bool → List ℕ → Type 0) (count : ℕ) (rest : Course) (n : ℕ) (s : Stand) → Keeps by_text manner rest n s → s.due ≡ Some (rests (Some stream.TornRequest)) → (entries : List Entry) (st : State)
       (old mid new : Outside) (end : Option End) (input before : List ℕ) → Ready old st input before → Reads count (Err took.Torn) old mid
-      → Follows tells rest entries mid new end → Outcome So before (play settings rest (at st (drop count input))) old new (end_of settings st entries) end
-  torn-play So count rest n s k entries st old mid new end input before ready cause follows =
-      let s1 = failing stream.TornRequest s in
-      let last = ends-early tells head_only rest n s1 (by_side stream.TornRequest) k refl entries mid new end follows in
-      let played = plays-early settings head_only rest n s1 stream.TornRequest k refl (at st (drop count input)) in
+      → Follows tells rest entries mid new end → ComesTo So before (play settings rest (at st (drop count input))) old new (end_of settings st entries) end
+  torn-play So count rest n s k is entries st old mid new end input before ready cause follows =
+      let last = (ends-due tells by_text manner rest n s (rests (Some stream.TornRequest)) k is entries mid new end follows).0 in
+      let played = plays-due settings by_text manner rest n s (Some stream.TornRequest) k is (at st (drop count input)) in
       inl record {
         output = ap (λ o. o.output) last.0 ∙ ap (λ o. o.output) cause.1.1 ∙ ready.output_is
             ∙ ap Some (sym (append-nil before) ∙ ap (λ b. before ++ b) (sym played.0));
@@ -138,42 +152,38 @@ module _ (settings : Settings) (tells : Type 0) (head_only : Bool) where
   short-of count old mid st input before ready cause = subst (λ o. IfSome o (λ bytes. length bytes < count)) ready.input_is cause.0
 
   -- the source fails inside a body
-  pub source-play : (So : Bool → List ℕ → Type 0) (count : ℕ) (written : List ℕ) (rest : Course) (n : ℕ) (s : Stand) → Keeps head_only rest n (failing stream.SourceFault s) → (entries : List Entry)
+  pub source-play : (So : Bool → List ℕ → Type 0) (count : ℕ) (written : List ℕ) (rest : Course) (n : ℕ) (s : Stand) → Keeps by_text manner rest n s → s.due ≡ Some (rests (Some stream.SourceFault)) → (entries : List Entry)
       (st : State) (old mid new : Outside) (end : Option End) (input before : List ℕ) → Ready old st input before → Reads count (Err took.SourceFault) old mid
       → Follows tells rest entries mid new end → Early So before written old new end
-  source-play So count written rest n s k entries st old mid new end input before ready cause follows =
-      let last = ends-early tells head_only rest n (failing stream.SourceFault s) (by_side stream.SourceFault) k refl entries mid new end follows in
+  source-play So count written rest n s k is entries st old mid new end input before ready cause follows =
+      let last = (ends-due tells by_text manner rest n s (rests (Some stream.SourceFault)) k is entries mid new end follows).0 in
       no-more So before written [] old new end (_, refl)
       (ap (λ o. o.output) last.0 ∙ ap (λ o. o.output) cause.2.1 ∙ ready.output_is ∙ ap Some (sym (append-nil before)))
       (source-failed So [] old new end last.1
       (subst (λ m. Rose old.read_faults m) (sym (ap (λ o. o.read_faults) last.0 ∙ ap (λ o. o.read_faults) cause.2.1)) cause.1))
 
   -- memory is wanted, and nothing was written
-  pub memory-play : (So : Bool → List ℕ → Type 0) → So head_only [] → (written : List ℕ) (rest : Course) (n : ℕ) (s : Stand) → Keeps head_only rest n (starving s) → (entries : List Entry) (st : State) (old mid new : Outside)
+  pub memory-play : (So : Bool → List ℕ → Type 0) → So manner.head_only [] → (written : List ℕ) (rest : Course) (n : ℕ) (s : Stand) → Keeps by_text manner rest n s → s.due ≡ Some (speaks NoMemory) → (entries : List Entry) (st : State) (old mid new : Outside)
       (end : Option End) (input before : List ℕ) → Ready old st input before → Grew old mid → mid.output ≡ old.output → Follows tells rest entries mid new end
       → Early So before written old new end
-  memory-play So so written rest n s k entries st old mid new end input before ready first kept follows =
-      let said = ends-early tells head_only rest n (starving s) by_memory k refl entries mid new end follows in
-      early-before So before written old mid new end first (says-memory So head_only so mid new end before written said (kept ∙ ready.output_is))
-
-  pub unwritten : (count : ℕ) (old mid : Outside) → Reads count (Err took.NoMemory) old mid → mid.output ≡ old.output
-  unwritten count old mid (inl still) = ap (λ o. o.output) still
-  unwritten count old mid (inr t) = ap (λ o. o.output) t.1.3
+  memory-play So so written rest n s k is entries st old mid new end input before ready first kept follows =
+      let said = (ends-due tells by_text manner rest n s (speaks NoMemory) k is entries mid new end follows).0 in
+      early-before So before written old mid new end first (says-memory So manner.head_only so mid new end before written said (kept ∙ ready.output_is))
 
   -- an answer at the end of a turn, or nothing written there
-  pub says-play : (So : Bool → List ℕ → Type 0) (said : Said) (manner : Manner) → So manner.head_only [] → (st : State) (old new : Outside) (end : Option End) (input before : List ℕ) → Ready old st input before
-      → Says (answer_of said manner) (memory_answer manner.head_only) (manner_end manner) old new end
-      → Outcome So before (play settings (says said manner) (at st input)) old new st end
-  says-play So said manner so st old new end input before ready said-it =
-      elim (says-early So (answer_of said manner) manner.head_only so (manner_end manner) old new end before said-it ready.output_is) [
+  pub says-play : (So : Bool → List ℕ → Type 0) (said : Said) (own : Manner) → So own.head_only [] → (st : State) (old new : Outside) (end : Option End) (input before : List ℕ) → Ready old st input before
+      → Says (answer_of said own) (memory_answer own.head_only) (manner_end own) old new end
+      → ComesTo So before (play settings (says said own) (at st input)) old new st end
+  says-play So said own so st old new end input before ready said-it =
+      elim (says-early So (answer_of said own) own.head_only so (manner_end own) old new end before said-it ready.output_is) [
         | inl w ↦ inl record {
           output = w.1;
           ends = w.2;
           goes = λ none. record {
-            ready = subst (λ o. Ready o st input (before ++ shown (answer_of said manner))) (sym w.0)
+            ready = subst (λ o. Ready o st input (before ++ shown (answer_of said own))) (sym w.0)
                 (record {
                   input_is = ready.input_is;
-                  output_is = ap (λ o. behind o (shown (answer_of said manner))) ready.output_is;
+                  output_is = ap (λ o. behind o (shown (answer_of said own))) ready.output_is;
                   rows = ready.rows;
                   clock = ready.clock;
                 });
@@ -184,7 +194,7 @@ module _ (settings : Settings) (tells : Type 0) (head_only : Bool) where
       ]
 
   pub stops-play : (So : Bool → List ℕ → Type 0) (next : Option End) (st : State) (old new : Outside) (end : Option End) (input before : List ℕ) → Ready old st input before
-      → new ≡ old → end ≡ next → Outcome So before (play settings (stops next) (at st input)) old new st end
+      → new ≡ old → end ≡ next → ComesTo So before (play settings (stops next) (at st input)) old new st end
   stops-play So next st old new end input before ready still ends =
       let out = ready.output_is ∙ ap Some (sym (append-nil before)) in
       inl record {

@@ -1,5 +1,5 @@
 -- A stream is served as it is played, up to where memory is wanted or the source or the sink fails, if nothing else fails.
-use Rattle.std.proofs.Common.{◌≡◌, ◌⊎◌, ℕ, zero, suc, Bool, true, false, arith, inl, inr, List, [], ◌++◌, Option, Some, None, refl, sym, subst, ap, ◌∙◌, append_assoc, append-nil}
+use Rattle.std.proofs.Common.{◌≡◌, ◌⊎◌, ℕ, zero, suc, Bool, true, false, arith, inl, inr, List, [], ◌++◌, Option, Some, None, Result, Ok, Err, refl, sym, subst, ap, ◌∙◌, append_assoc, append-nil}
 use Rattle.std.specs.Prelude.{◌==◌}
 use Rattle.std.proofs.lemmas.Bool.{false≢true}
 use Rattle.std.proofs.lemmas.Option.{none-some}
@@ -11,19 +11,22 @@ use Rattle.repo_model.specs.History.{Entry, Legal, end as end_of}
 use Rattle.repo_model.specs.Settings.{Settings}
 use Rattle.repo_model.specs.State.{State}
 use Rattle.repo_routes.specs.Framing.{is_head}
+use Rattle.repo_routes.specs.Intent.{Judged}
 use Rattle.repo_routes.specs.Judge.{judge}
-use Rattle.repo_course.specs.Answers.{memory_answer}
-use Rattle.repo_course.specs.Course.{Course, course_of}
+use Rattle.repo_routes.specs.declared.judging.Refused.{Refused}
+use Rattle.repo_course.specs.Answers.{at_end, memory_answer}
+use Rattle.repo_course.specs.Course.{Close, Course, speaks, rests, course_of, head_said}
+use Rattle.repo_course.specs.declared.manner.Manner.{Manner}
 use Rattle.repo_course.specs.declared.outcomes.End.{End}
 use Rattle.repo_course.specs.declared.outcomes.End.TheVariants as stream
 use Rattle.repo_course.specs.Serving.{Begins, Follows, IsFrontOf, IsWhole, Opens, clean, torn, failed, refused, unread_head, starved, served, Outside, Serves, Turn}
 use Rattle.course_laws.specs.AsPlayed.{AsksHead, BeginsAt, IsAnswers, IsAsPlayed, in_full, wants_memory, IsPlayedUpTo, unbroken, broken, cut_starved, NoFaults, StoodStill}
-use Rattle.course_laws.specs.Duties.{Keeps, Stand, at_first, failing, is_head_only, most_of, unread_of}
+use Rattle.course_laws.specs.Duties.{Duty, Fulfils, Stand, duty_of, to_end}
 use Rattle.course_laws.specs.Faultless.{Played, Scene, play, play_turn, play_stream, then_play}
 use Rattle.course_laws.proofs.Counts.{Calm, Grew, calm-first, calm-then, follows-grew, not-risen, opens-grew, rose-before, serves-grew, turn-grew}
-use Rattle.course_laws.proofs.Early.{Outcome, Ready, early-before, no-more, outcome-before, outcome-so, says-memory, source-failed}
+use Rattle.course_laws.proofs.Early.{ComesTo, Ready, early-before, no-more, outcome-before, outcome-so, says-memory, source-failed}
 use Rattle.course_laws.proofs.HeadOnly.{judged-head}
-use Rattle.course_laws.proofs.Kept.{asking, opens-keeps, shows_head, standing}
+use Rattle.course_laws.proofs.Kept.{duty_at, opens-keeps}
 use Rattle.course_laws.proofs.LeftBehind.{end_append, legal_cut}
 use Rattle.course_laws.proofs.PlayedActs.{InHandTold}
 use Rattle.course_laws.proofs.PlayedCourse.{course-play}
@@ -38,8 +41,8 @@ MayBeAlone f alone = alone ≡ true → AsksHead f
 abbrev AtTurn : Front → Bool → List ℕ → Type 0
 AtTurn f alone written = MayBeAlone f alone × ((written ≡ []) ⊎ (written ≡ continue_bytes))
 
-at-turn : (f : Front) (head_only : Bool) → MayBeAlone f head_only → (s : Stand) (alone : Bool) (written : List ℕ) → MayStarve head_only s alone written → AtTurn f alone written
-at-turn f head_only asks s alone written may = (λ is. asks (sym may.0 ∙ is), elim may.1.1 [ inl e ↦ inl e | inr e ↦ inr e.1 ])
+at-turn : (f : Front) (manner : Manner) → MayBeAlone f manner.head_only → (s : Stand) (alone : Bool) (written : List ℕ) → MayStarve manner s alone written → AtTurn f alone written
+at-turn f manner asks s alone written may = (λ is. asks (sym may.0 ∙ is), elim may.1.1 [ inl e ↦ inl e | inr e ↦ inr e.1 ])
 
 at-once-so : (f : Front) → AtTurn f false []
 at-once-so f = (λ is. absurd (false≢true is), inl refl)
@@ -109,20 +112,25 @@ front-then next (Some end) written scene = ([], sym (append-nil written))
 same-Some : (a b : End) → Some a ≡ Some b → a ≡ b
 same-Some a b is = cc
 
+-- at first no blob is in hand
+first-in-hand : (judged : Result Judged Refused) (last : Bool) → InHandTold (duty_of judged last).stand
+first-in-hand (Ok request) last = (tt, tt)
+first-in-hand (Err cause) last = (tt, tt)
+
 module _ (settings : Settings) (tells : Type 0) (witness : tells) where
   -- what the front of the input asks for
   abbrev Turned : Bool → Front → State → List ℕ → List ℕ → Outside → Outside → State → Option End → Type 0
-  Turned last f st input before old new st' end = Outcome (AtTurn f) before (play_turn settings last f (record { state = st; input = input })) old new st' end
+  Turned last f st input before old new st' end = ComesTo (AtTurn f) before (play_turn settings last f (record { state = st; input = input })) old new st' end
 
   -- a course behind what was read, from where it stands
-  played : (front_is : Front) (head_only : Bool) → MayBeAlone front_is head_only → (c : Course) (n : ℕ) (s : Stand) → Keeps head_only c n s → s.blob ≡ None → (entries : List Entry) (st : State) → Legal settings st entries
+  played : (front_is : Front) (duty : Duty) → MayBeAlone front_is duty.manner.head_only → (c : Course) → Fulfils duty c → InHandTold duty.stand → (entries : List Entry) (st : State) → Legal settings st entries
       → Calm st.faults (end_of settings st entries).faults
       → (old mid new : Outside) (end : Option End) (input before : List ℕ) → Ready mid st input before → Calm mid.blob_faults new.blob_faults → Grew old mid
-      → Follows tells c entries mid new end → Outcome (AtTurn front_is) before (play settings c (record { state = st; input = input })) old new (end_of settings st entries) end
-  played front_is head_only asks c n s k none entries st legal calm old mid new end input before ready quiet g f =
+      → Follows tells c entries mid new end → ComesTo (AtTurn front_is) before (play settings c (record { state = st; input = input })) old new (end_of settings st entries) end
+  played front_is duty asks c k hand entries st legal calm old mid new end input before ready quiet g f =
       outcome-before (AtTurn front_is) before _ old mid new _ end g
-      (outcome-so (MayStarve head_only s) (AtTurn front_is) before _ mid new _ end (at-turn front_is head_only asks s)
-      (course-play settings tells witness head_only c n s k (subst (λ b. InHandTold b) (sym none) tt) entries st legal calm mid new end input before ready quiet f))
+      (outcome-so (MayStarve duty.manner duty.stand) (AtTurn front_is) before _ mid new _ end (at-turn front_is duty.manner asks duty.stand)
+      (course-play settings tells witness duty.by_text duty.manner c duty.most duty.stand k hand entries st legal calm mid new end input before ready quiet f))
 
   -- the source alone was read
   ready-on : (old mid : Outside) (st : State) (input behind before : List ℕ) (rest : Option (List ℕ)) → Ready old st input before → mid ≡ record old { input = rest }
@@ -134,18 +142,18 @@ module _ (settings : Settings) (tells : Type 0) (witness : tells) where
     clock = ready.clock;
   }
 
-  abbrev Outcomes : Front → Course → List ℕ → List ℕ → Outside → Outside → State → State → Option End → Type 0
-  Outcomes f c input before old new st st' end = Outcome (AtTurn f) before (play settings c (record { state = st; input = input })) old new st' end
+  abbrev Plays-so : Front → Course → List ℕ → List ℕ → Outside → Outside → State → State → Option End → Type 0
+  Plays-so f c input before old new st st' end = ComesTo (AtTurn f) before (play settings c (record { state = st; input = input })) old new st' end
 
   served-turn : (last : Bool) (f : Front) (head : Head) (rest : Option (List ℕ)) → IsWhole head rest f
       → (old new : Outside) (st st' : State) (end : Option End) (input before : List ℕ)
-      → ((behind : List ℕ) → rest ≡ Some behind → Outcomes f (course_of (judge settings head) last) behind before old new st st' end)
+      → ((behind : List ℕ) → rest ≡ Some behind → Plays-so f (course_of (judge settings head) last) behind before old new st st' end)
       → Turned last f st input before old new st' end
   served-turn last Clean head rest comes old new st st' end input before done = absurd comes
   served-turn last Cut head rest comes old new st st' end input before done = absurd comes
   served-turn last (Bad fault) head rest comes old new st st' end input before done = absurd comes
   served-turn last (Whole what behind) head rest comes old new st st' end input before done =
-      subst (λ h. Outcomes (Whole what behind) (course_of (judge settings h) last) behind before old new st st' end) (sym comes.0) (done behind comes.1)
+      subst (λ h. Plays-so (Whole what behind) (course_of (judge settings h) last) behind before old new st st' end) (sym comes.0) (done behind comes.1)
 
   turn-play : (last : Bool) (entries : List Entry) (st : State) → Legal settings st entries → Calm st.faults (end_of settings st entries).faults
       → (old new : Outside) (end : Option End) (input before : List ℕ) → Ready old st input before → Calm old.blob_faults new.blob_faults
@@ -160,22 +168,22 @@ module _ (settings : Settings) (tells : Type 0) (witness : tells) where
       comes head rest begins = subst (λ (i : Option (List ℕ)). Begins i (IsWhole head rest)) ready.input_is begins
 
       -- nothing was used, and this course follows
-      at-once : (what : Front) → Begins old.input (λ f. f ≡ what) → (mid : Outside) → mid ≡ old → (s : Stand) → s.blob ≡ None → (c d : Course)
-          → c ≡ d → Keeps false c 3 s → Follows tells c entries mid new end → Grew old mid → Grew mid new
+      at-once : (what : Front) → Begins old.input (λ f. f ≡ what) → (mid : Outside) → mid ≡ old → (due : Close) (c d : Course)
+          → c ≡ d → Fulfils (to_end due (at_end false)) c → Follows tells c entries mid new end → Grew old mid → Grew mid new
           → ((scene : Scene) → play_turn settings last what scene ≡ play settings d scene)
           → Turned last (front input) st input before old new (end_of settings st entries) end
-      at-once what begins mid still s none c d is k f g more plays =
+      at-once what begins mid still due c d is k f g more plays =
           let what-is = subst (λ (i : Option (List ℕ)). Begins i (λ f. f ≡ what)) ready.input_is begins in
           subst (λ f. Turned last f st input before old new (end_of settings st entries) end) (sym what-is)
-          (subst (λ p. Outcome (AtTurn what) before p old new (end_of settings st entries) end) (sym (plays (record { state = st; input = input })))
-          (subst (λ d. Outcomes what d input before old new st (end_of settings st entries) end) is
-          (played what false (at-once-so what).0 c 3 s k none entries st legal calm old mid new end input before (ready-on old mid st input input before old.input ready still ready.input_is)
+          (subst (λ p. ComesTo (AtTurn what) before p old new (end_of settings st entries) end) (sym (plays (record { state = st; input = input })))
+          (subst (λ d. Plays-so what d input before old new st (end_of settings st entries) end) is
+          (played what (to_end due (at_end false)) (at-once-so what).0 c k (tt, tt) entries st legal calm old mid new end input before (ready-on old mid st input input before old.input ready still ready.input_is)
           (quiet-behind mid g more) g f)))
 
-      opened : (c : Course) (mid : Outside) (o : Opens settings last old mid c) → Follows tells c entries mid new end → Keeps (shows_head o) c (asking o) (standing o)
+      opened : (c : Course) (mid : Outside) (o : Opens settings last old mid c) → Follows tells c entries mid new end → Fulfils (duty_at o) c
           → Grew old mid → Grew mid new → Turned last (front input) st input before old new (end_of settings st entries) end
-      opened c mid (clean begins still is) f k g more = at-once Clean begins mid still (failing stream.Closed (at_first 0)) refl c _ is k f g more (λ scene. refl)
-      opened c mid (torn begins still is) f k g more = at-once Cut begins mid still (failing stream.TornRequest (at_first 0)) refl c _ is k f g more (λ scene. refl)
+      opened c mid (clean begins still is) f k g more = at-once Clean begins mid still (rests (Some stream.Closed)) c _ is k f g more (λ scene. refl)
+      opened c mid (torn begins still is) f k g more = at-once Cut begins mid still (rests (Some stream.TornRequest)) c _ is k f g more (λ scene. refl)
       opened c mid (failed faults rose still is) f k g more =
           let last_is = subst (λ (d : Course). Follows tells d entries mid new end) is f in
           inr (no-more (AtTurn (front input)) before _ [] old new end (_, refl)
@@ -183,7 +191,7 @@ module _ (settings : Settings) (tells : Type 0) (witness : tells) where
           (source-failed (AtTurn (front input)) [] old new end last_is.2
           (subst (λ n. Rose old.read_faults n) (sym (ap (λ o. o.read_faults) last_is.1 ∙ ap (λ o. o.read_faults) still)) rose)))
       opened c mid (refused fault begins still is) f k g more =
-          at-once (Bad fault) begins mid still (at_first 0) refl c _ is k f g more (λ scene. refl)
+          at-once (Bad fault) begins mid still (speaks (head_said fault)) c _ is k f g more (λ scene. refl)
       opened c mid (unread_head begins still is) f k g more =
           let said = subst (λ (d : Course). Follows tells d entries mid new end) is f in
           inr (early-before (AtTurn (front input)) before _ old mid new end g (says-memory (AtTurn (front input)) false (at-once-so (front input)) mid new end before _ said.1 (ap (λ o. o.output) still ∙ ready.output_is)))
@@ -194,13 +202,13 @@ module _ (settings : Settings) (tells : Type 0) (witness : tells) where
           served-turn last (front input) head rest (comes head rest begins)
           old new st (end_of settings st entries) end input before
           (λ behind there.
-          subst (λ d. Outcomes (front input) d behind before old new st (end_of settings st entries) end) is
-          (played (front input) (is_head_only (judge settings head)) (λ alone. asks-head (front input) head rest (comes head rest begins) (sym (judged-head settings head) ∙ alone)) c (most_of (judge settings head)) (at_first (unread_of (judge settings head))) k refl entries st legal calm old mid new end behind before
+          subst (λ d. Plays-so (front input) d behind before old new st (end_of settings st entries) end) is
+          (played (front input) (duty_of (judge settings head) last) (λ alone. asks-head (front input) head rest (comes head rest begins) (sym (judged-head settings head last) ∙ alone)) c k (first-in-hand (judge settings head) last) entries st legal calm old mid new end behind before
           (ready-on old mid st input behind before rest ready uses there) (quiet-behind mid g more) g f))
 
   -- the stream ended in this turn
   last-turn : (left : ℕ) (scene : Scene) (before : List ℕ) (old new : Outside) (st : State) (end : End)
-      → Outcome (AtTurn (front scene.input)) before (First settings left scene) old new st (Some end) → IsPlayedUpTo settings (suc left) scene before old new end
+      → ComesTo (AtTurn (front scene.input)) before (First settings left scene) old new st (Some end) → IsPlayedUpTo settings (suc left) scene before old new end
   unfolding play_stream IsAnswers
   last-turn left scene before old new st end (inl a) =
       unbroken (in_full (subst (λ e. new.output ≡ Some (before ++ (Behind settings left scene e).written)) a.ends a.output)
@@ -229,7 +237,7 @@ module _ (settings : Settings) (tells : Type 0) (witness : tells) where
 
   -- the stream goes on behind this turn
   next-turn : (left : ℕ) (scene : Scene) (before : List ℕ) (old mid new : Outside) (st : State) (end : End) → Grew old mid
-      → Outcome (AtTurn (front scene.input)) before (First settings left scene) old mid st None
+      → ComesTo (AtTurn (front scene.input)) before (First settings left scene) old mid st None
       → ((input before' : List ℕ) → Ready mid st input before' → IsPlayedUpTo settings left (record { state = st; input = input }) before' mid new end)
       → IsPlayedUpTo settings (suc left) scene before old new end
   next-turn left scene before old mid new st end grows (inl a) rest =

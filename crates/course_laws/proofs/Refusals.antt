@@ -13,7 +13,7 @@ use Rattle.repo_routes.specs.declared.judging.Refused.{Refused}
 use Rattle.repo_course.specs.Course.{Course, course_of}
 use Rattle.repo_course.specs.declared.outcomes.End.{End}
 use Rattle.repo_course.specs.Serving.{Begins, Follows, IsWhole, Opens, clean, torn, failed as source_failed, refused as no_head, unread_head, starved as head_starved, served, Outside, Turn}
-use Rattle.course_laws.specs.Duties.{is_head_only}
+use Rattle.course_laws.specs.Duties.{duty_of}
 use Rattle.course_laws.proofs.HeadOnly.{judged-head}
 use Rattle.course_laws.specs.Refusals.{IsRefusedBy, answered, starved, failed}
 
@@ -43,7 +43,8 @@ module _ (settings : Settings) (tells : Type 0) (last : Bool) where
       opened (head_starved other left it uses is) =
           let said = follows _ is in
           let same : head ≡ other = (begins (IsWhole other left) it).0 in
-          let head-is : cause.head_only ≡ is_head other = ap is_head_only (sym judged) ∙ judged-head settings head ∙ ap is_head same in
+          let head-is : cause.head_only ≡ is_head other =
+          ap (λ (r : Result Judged Refused). (duty_of r last).manner.head_only) (sym judged) ∙ judged-head settings head last ∙ ap is_head same in
           (said.0, starved mid (is_head other) (λ alone. head-is ∙ alone) (left, uses) said.1)
       opened (served other left it uses is) =
           let same : head ≡ other = (begins (IsWhole other left) it).0 in

@@ -1,34 +1,30 @@
 -- What single acts of a course that nothing refuses write and read, where no count rose.
-use Rattle.std.proofs.Common.{◌≡◌, ◌⊎◌, inl, inr, ℕ, ◌<◌, Bool, true, false, List, [], ◌++◌, length, Option, Some, None, Err, arith, refl, sym, subst, ap, ◌∙◌, append-nil}
-use Rattle.std.specs.Prelude.{IfSome, if◌then◌else◌, unwrap_or}
-use Rattle.std.proofs.lemmas.Bool.{false≢true}
+use Rattle.std.proofs.Common.{◌≡◌, ◌⊎◌, inl, inr, ℕ, ◌<◌, Bool, true, List, [], ◌++◌, length, Option, Some, arith, refl, sym, subst, ap, ◌∙◌}
+use Rattle.std.specs.Prelude.{IfSome, if◌then◌else◌}
 use Rattle.outside.specs.Blobs.{Shelf}
 use Rattle.outside.specs.Faults.{Rose}
-use Rattle.outside.specs.Told.{IsWhereTold, behind}
+use Rattle.outside.specs.Told.{behind}
 use Rattle.outside.proofs.ToldLemmas.{behind-behind}
 use Rattle.http_wire.specs.Answer.{shown}
 use Rattle.http_wire.specs.Front.{front}
 use Rattle.http_wire.specs.declared.answers.Answer.{Answer}
-use Rattle.repo_model.specs.Command.{Command}
-use Rattle.repo_model.specs.declared.print.Print.{Print}
+use Rattle.repo_model.specs.Command.{Command, done, drop_draft, unlist, collect}
 use Rattle.repo_model.specs.Data.{Blob}
 use Rattle.repo_model.specs.History.{Entry}
 use Rattle.repo_model.specs.Reply.{Reply, no_memory}
-use Rattle.repo_course.specs.Answers.{answer_of, file_answer, memory_answer}
+use Rattle.repo_course.specs.Answers.{answer_of, file_answer, full_answer, memory_answer}
+use Rattle.repo_course.specs.Course.{Close, Course, Deed, Outcome, does, speaks, rests, said_of}
 use Rattle.repo_course.specs.declared.manner.Manner.{Manner}
 use Rattle.repo_course.specs.declared.outcomes.End.{End}
 use Rattle.repo_course.specs.declared.outcomes.End.TheVariants as stream
-use Rattle.repo_course.specs.declared.outcomes.Sent.TheVariants as sent
-use Rattle.repo_course.specs.declared.outcomes.Took.TheVariants as took
 use Rattle.repo_course.specs.declared.said.Said.{Said}
 use Rattle.repo_course.specs.declared.said.Said.TheVariants as said
-use Rattle.repo_course.specs.Serving.{IsOtherContent, Outside, Reads, Says, whole, memory, cut, print_of, SendsAnswer, writes}
-use Rattle.course_laws.specs.Duties.{MayAsk, Stand, stand_after, starving}
-use Rattle.course_laws.specs.Granted.{BodyIsTaken, Grants, IsServed, answered, sent as file_sent, differs, starved}
-use Rattle.course_laws.proofs.Counts.{Calm, Grew, calm-first, calm-then}
-use Rattle.course_laws.proofs.Early.{SaysMemory}
+use Rattle.repo_course.specs.Serving.{Follows, Outside, Says, whole, memory, cut, writes}
+use Rattle.course_laws.specs.Duties.{MayAsk, Stand, due_after}
+use Rattle.course_laws.specs.Granted.{BodyIsTaken, Grants, IsGood, IsServed, IsSuccess, answered, sent as file_sent, differs, starved}
+use Rattle.course_laws.proofs.Counts.{Calm, Grew, calm-first, calm-then, deed-grew, follows-grew}
+use Rattle.course_laws.proofs.Early.{SaysMemory, due-moves}
 use Rattle.course_laws.proofs.PlayedActs.{risen}
-use Rattle.course_laws.proofs.Replies.{starves}
 
 -- no count rose
 pub record Quiet (old new : Outside) : Type 0 where
@@ -49,6 +45,14 @@ quiet-then old mid new first more q = record {
   writes = calm-then old.write_faults mid.write_faults new.write_faults first.writes more.writes q.writes;
   blobs = calm-then old.blob_faults mid.blob_faults new.blob_faults first.blobs more.blobs q.blobs;
 }
+
+-- no count rose by a deed, nor behind it
+pub deed-quiet : (tells : Type 0) (deed : Deed) (next : Outcome deed → Course) (entries : List Entry) (old new : Outside) (end : Option End) → Quiet old new
+    → (f : Follows tells (does deed next) entries old new end) → Quiet old f.3 × Quiet f.3 new
+deed-quiet tells deed next entries old new end q f =
+    let first = deed-grew tells deed f.0 f.1 old f.3 f.5 in
+    let rest = follows-grew tells (next f.0) f.2 f.3 new end f.6 in
+    (quiet-first old f.3 new rest q, quiet-then old f.3 new first rest q)
 
 -- a count that rose, where none did
 pub no-write-fault : {P : Type 0} (old new : Outside) (faults : ℕ) → Rose old.write_faults faults → new.write_faults ≡ faults → Quiet old new → P
@@ -78,44 +82,8 @@ memory-said head_only old new end q said =
 writes-writes : (a b : List ℕ) (o : Outside) → writes b (writes a o) ≡ writes (a ++ b) o
 writes-writes a b o = ap (λ (out : Option (List ℕ)). record o { output = out }) (behind-behind o.output a b)
 
--- what was written is the answer's head, and the file's bytes where it is not the head alone
-pub sent-whole : (only : Bool) (blob : Blob) (head : List ℕ) (old mid : Outside) → SendsAnswer only blob head sent.Whole old mid
-    → (bytes : List ℕ) × (IsWhereTold blob.bytes bytes × (only ≡ false → blob.print ≡ print_of bytes)) × (mid ≡ writes (head ++ (if only then [] else bytes)) old)
-sent-whole true blob head old mid t =
-    (unwrap_or blob.bytes [], (told blob.bytes, λ bodied. absurd (false≢true (sym bodied))), t ∙ ap (λ b. writes b old) (sym (append-nil head)))
-  where
-    told : (bytes : Option (List ℕ)) → IsWhereTold bytes (unwrap_or bytes [])
-    told None = tt
-    told (Some bytes) = refl
-sent-whole false blob head old mid t = (t.0, (t.1.0, λ bodied. t.1.1), t.2)
-
-pub sent-unwritten : (only : Bool) (blob : Blob) (head : List ℕ) (old mid : Outside) → SendsAnswer only blob head sent.NoMemory old mid
-    → mid.output ≡ old.output
-sent-unwritten true blob head old mid t = ap (λ o. o.output) t
-sent-unwritten false blob head old mid t = ap (λ o. o.output) t
-
-pub sent-blob-fault : {P : Type 0} (only : Bool) (blob : Blob) (head : List ℕ) (old mid : Outside) → SendsAnswer only blob head sent.BlobFault old mid
-    → Quiet old mid → P
-sent-blob-fault true blob head old mid t q = absurd t
-sent-blob-fault false blob head old mid t q = no-blob-fault old mid t.0 t.1 (ap (λ o. o.blob_faults) t.2) q
-
--- where the content is another one nothing was written, and it was not the head alone
-pub sent-differs : (only : Bool) (blob : Blob) (head : List ℕ) (recorded found : Print) (old mid : Outside)
-    → SendsAnswer only blob head (sent.BlobDiffers recorded found) old mid → (only ≡ false) × IsOtherContent blob recorded found × (mid ≡ old)
-sent-differs true blob head recorded found old mid t = absurd t
-sent-differs false blob head recorded found old mid t = (refl, t.0, t.1)
-
-pub sent-sink-fault : {P : Type 0} (only : Bool) (blob : Blob) (head : List ℕ) (old mid : Outside) → SendsAnswer only blob head sent.SinkFault old mid
-    → Quiet old mid → P
-sent-sink-fault true blob head old mid t q = no-write-fault old mid t.0 t.2 (ap (λ o. o.write_faults) t.4) q
-sent-sink-fault false blob head old mid t q = no-write-fault old mid t.0 t.3 (ap (λ o. o.write_faults) t.6) q
-
-pub body-unwritten : (count : ℕ) (old mid : Outside) → Reads count (Err took.NoMemory) old mid → mid.output ≡ old.output
-body-unwritten count old mid (inl still) = ap (λ o. o.output) still
-body-unwritten count old mid (inr t) = ap (λ o. o.output) t.1.3
-
 -- the whole of a body is there
-pub body-is-there : {P : Type 0} (by_text : List ℕ → Option Said) (unread : Option ℕ) (count : ℕ) (input : List ℕ) (old : Outside) → unread ≡ Some count
+pub body-is-there : {P : Type 0} (by_text : List ℕ → Option Close) (unread : Option ℕ) (count : ℕ) (input : List ℕ) (old : Outside) → unread ≡ Some count
     → old.input ≡ Some input → BodyIsTaken by_text unread input → IfSome old.input (λ bytes. length bytes < count) → P
 body-is-there by_text unread count input old is input-is taken short =
     let enough = (subst (λ u. BodyIsTaken by_text u input) is taken).0 in
@@ -124,7 +92,7 @@ body-is-there by_text unread count input old is input-is taken short =
 
 module _ (manner : Manner) where
   -- seen from before bytes that were written first
-  pub wrote-served : (first left : List ℕ) (answer : Option Said) (lent : Option Blob) (old mid new : Outside) (end : Option End) → mid ≡ writes first old
+  pub wrote-served : (first left : List ℕ) (answer : Option Close) (lent : Option Blob) (old mid new : Outside) (end : Option End) → mid ≡ writes first old
       → IsServed manner [] left answer lent mid new end → IsServed manner first left answer lent old new end
   wrote-served first left answer lent old mid new end mid-is (answered said kept is success wrote ends) =
       let all = shown (answer_of said manner) in
@@ -145,7 +113,7 @@ module _ (manner : Manner) where
       (output ∙ ap (λ p. behind mid.output (p ++ said)) none ∙ ap (λ (m : Outside). behind m.output said) mid-is ∙ behind-behind old.output first said) ends
 
   -- seen from before bytes that were read, and stored or not
-  pub read-served : (invited left : List ℕ) (answer : Option Said) (lent : Option Blob) (old mid new : Outside) (rest : Option (List ℕ)) (end : Option End) (shelf : Shelf)
+  pub read-served : (invited left : List ℕ) (answer : Option Close) (lent : Option Blob) (old mid new : Outside) (rest : Option (List ℕ)) (end : Option End) (shelf : Shelf)
       → mid ≡ record old { input = rest; shelf = shelf } → IsServed manner invited left answer lent mid new end → IsServed manner invited left answer lent old new end
   read-served invited left answer lent old mid new rest end shelf mid-is (answered said kept is success wrote ends) =
       answered said kept is success
@@ -160,14 +128,43 @@ module _ (manner : Manner) where
       starved part head_only to_head which (output ∙ ap (λ (m : Outside). behind m.output (part ++ shown (memory_answer head_only))) mid-is) ends
 
   -- memory was wanted, and that is answered
-  pub starved-so : (head_only : Bool) → (head_only ≡ true → manner.head_only ≡ true) → (invited left : List ℕ) (answer : Option Said) (lent : Option Blob) (old mid new : Outside) (end : Option End)
+  pub starved-so : (head_only : Bool) → (head_only ≡ true → manner.head_only ≡ true) → (invited left : List ℕ) (answer : Option Close) (lent : Option Blob) (old mid new : Outside) (end : Option End)
       → mid.output ≡ old.output → Quiet mid new → SaysMemory head_only mid new end → IsServed manner invited left answer lent old new end
   starved-so head_only to_head invited left answer lent old mid new end kept q said =
       let so = memory-said head_only mid new end q said in
       starved [] head_only to_head (inl refl) (ap (λ o. o.output) so.0 ∙ ap (λ out. behind out (shown (memory_answer head_only))) kept) so.1
 
+-- a command for which memory was wanted ends by that, but for one that only gives back
+wants-memory : (command : Command) (s : Stand) → MayAsk command s → Grants command no_memory ⊎ (due_after command no_memory s.due ≡ Some (speaks said.NoMemory))
+wants-memory (done lease) s may = inl tt
+wants-memory (drop_draft n) s may = inl tt
+wants-memory (unlist repo) s may = absurd may
+wants-memory collect s may = absurd may
+wants-memory _ s may = inr refl
+
 pub granted-or-starved : (command : Command) (e : Entry) (s : Stand) → e.command ≡ command → MayAsk command s → Grants e.command e.reply ⊎ (e.reply ≡ no_memory)
-    → Grants command e.reply ⊎ (stand_after command e.reply s ≡ starving s)
+    → Grants command e.reply ⊎ (due_after command e.reply s.due ≡ Some (speaks said.NoMemory))
 granted-or-starved command e s is may (inl granted) = inl (subst (λ c. Grants c e.reply) is granted)
 granted-or-starved command e s is may (inr none) =
-    subst (λ (r : Reply). Grants command r ⊎ (stand_after command r s ≡ starving s)) (sym none) (starves command s may)
+    subst (λ (r : Reply). Grants command r ⊎ (due_after command r s.due ≡ Some (speaks said.NoMemory))) (sym none) (wants-memory command s may)
+
+-- an answer that the replies came to
+abbrev pub IsPlain : Option Close → Type 0
+IsPlain (Some (speaks (said.BlobDiffers recorded found))) = ⊥
+IsPlain (Some (rests end)) = ⊥
+IsPlain due = Unit {0}
+
+said-plain : (reply : Reply) → IsPlain (Some (speaks (said_of reply)))
+said-plain no_memory = tt
+said-plain _ = tt
+
+pub reply-plain : (command : Command) (reply : Reply) (due : Option Close) → IsPlain due → IsPlain (due_after command reply due)
+reply-plain command reply due plain =
+    elim (due-moves command reply due) [
+      | inl stays ↦ subst IsPlain (sym stays) plain
+      | inr told ↦ subst IsPlain (sym told) (said-plain reply)
+    ]
+
+pub plain-success : (manner : Manner) (what : Said) → IsGood manner (speaks what) → IsPlain (Some (speaks what)) → IsSuccess (full_answer what).status
+plain-success manner (said.BlobDiffers recorded found) good plain = absurd plain
+plain-success manner _ good plain = good

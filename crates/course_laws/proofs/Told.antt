@@ -1,7 +1,7 @@
 -- A turn keeps the bytes of each file's blob told, where those of the blob that it puts are, and the clock; and where nothing
 -- failed its entry is the one that is due.
-use Rattle.std.proofs.Common.{◌≡◌, ℕ, ◌≤◌, ◌==◌, Bool, true, false, List, [], ◌∷◌, Option, Some, None, Result, Ok, Err, arith, refl, sym, subst, ◌∙◌, map}
-use Rattle.std.specs.Prelude.{IsSome, MatchOption, if◌then◌else◌, count_by, filter, find, min, max, nat_le, bytes_eq}
+use Rattle.std.proofs.Common.{◌≡◌, ℕ, ◌≤◌, Bool, true, false, List, [], ◌∷◌, Option, Some, None, Result, Ok, Err, arith, refl, sym, subst, ◌∙◌, map}
+use Rattle.std.specs.Prelude.{IsSome, MatchOption, if◌then◌else◌, filter, find, min, max}
 use Rattle.std.specs.List.{AllByRecursion, flat_map}
 use Rattle.std.specs.Option.{option_map, option_map_or}
 use Rattle.std.proofs.lemmas.Bool.{false≢true}
@@ -16,22 +16,21 @@ use Rattle.mvn_coords.specs.declared.kind.Kind.TheVariants.{File, FileSide, Doc,
 use Rattle.mvn_coords.specs.Kind.{kind}
 use Rattle.mvn_coords.specs.Layout.{text_of}
 use Rattle.mvn_digest.specs.Digests.{digests_of}
-use Rattle.mvn_digest.specs.Sides.{side_of, side_text}
-use Rattle.repo_model.specs.Command.{Command, look, done, may_put, put, put_side, put_doc, drop_draft, open_session, stage, commit, abort, status}
-use Rattle.repo_model.specs.Data.{Blob, Hosted, Phase, Row, Session, Staged, fading, listed, is_same_print, repository, session}
-use Rattle.repo_model.specs.Effect.{Effect, creates, stages, delivers, discards, relists, fades, expires, draws, drops, lends, opens, ends, in_repo, rows_after, sessions_after, repo_of, with_effect, with_effects, with_row, with_staged, without_staged, list_again, fade, new_row, new_session}
+use Rattle.mvn_digest.specs.Sides.{side_text}
+use Rattle.repo_model.specs.Command.{Command, put, stage}
+use Rattle.repo_model.specs.Data.{Hosted, Phase, Row, Session, Staged, fading, listed}
+use Rattle.repo_model.specs.Effect.{Effect, creates, stages, delivers, discards, relists, fades, expires, opens, ends, in_repo, rows_after, sessions_after, repo_of, with_effect, with_effects, with_row, with_staged, without_staged, list_again, fade, new_row, new_session}
 use Rattle.repo_model.specs.History.{Entry, Legal, MomentFits, after, effects_of, end, latest_moment, ticked}
-use Rattle.repo_model.specs.Paths.{takes}
-use Rattle.repo_model.specs.Reply.{Reply, agreed, differs, draft, file, is_free, kind_refused, no_draft, noted, opened, same, session_full, sessions_full, spent, staged, taken}
+use Rattle.repo_model.specs.Reply.{Reply, file, is_free}
 use Rattle.repo_model.specs.Settings.{Rule, Settings}
-use Rattle.repo_model.specs.State.{State, change_first, change_where, hosted_of, is_among, is_open, is_open_at, is_repository, is_row, is_session, most_sessions, new_hosted, number_end, open_of, opening, row_at, rows_of, session_of}
-use Rattle.repo_model.specs.Turn.{Turn, abort_of, commit_by, commit_of, compared, document_text, draws_draft, draws_or_spent, has_room, in_repository, is_doc, is_file, is_text, judged, may_put_in, or_nothing, put_again, put_at, says, seen_at, shows, stage_at, stage_in, staged_at, turn, with_open}
-use Rattle.repo_model.specs.Deploy.{Offence, deliver_again, deliver_at, deliver_all, discard_all, offence, without_pom}
-use Rattle.repo_model.specs.declared.session.SessionResult.{SessionResult}
+use Rattle.repo_model.specs.State.{State, change_first, change_where, hosted_of, is_open_at, is_repository, is_row, is_session, new_hosted, opening, row_at, rows_of}
+use Rattle.repo_model.specs.Turn.{Turn, document_text, is_doc, is_file, is_text, or_nothing, seen_at, turn, Seen}
+use Rattle.repo_model.specs.Deploy.{deliver_again, deliver_at, deliver_all, discard_all}
 use Rattle.course_laws.proofs.Alls.{all-joined, all-mapped}
 use Rattle.course_laws.specs.AsPlayed.{RowsTold}
 use Rattle.course_laws.specs.Duties.{MayAsk, Stand}
 use Rattle.course_laws.specs.Faultless.{due_entry, moment_now}
+use Rattle.repo_laws.proofs.Cases.{Case, lends_file, deploys, aborts, unlists, collects, turn-case}
 
 abbrev pub IsTold : Row → Type 0
 IsTold row = IsSome row.blob.bytes
@@ -158,10 +157,6 @@ ReplyTold reply = Unit {0}
 abbrev Tells : Turn → Type 0
 Tells t = AllByRecursion EffectTold t.effects × ReplyTold t.reply
 
-either : (b : Bool) (t u : Turn) → Tells t → Tells u → Tells (if b then t else u)
-either true t u one other = one
-either false t u one other = other
-
 module _ (settings : Settings) (s : State) (told : RowsTold s) where
   rows-of : (repo : List ℕ) → AllTold (rows_of repo s)
   rows-of repo =
@@ -170,87 +165,33 @@ module _ (settings : Settings) (s : State) (told : RowsTold s) where
         | Some h ↦ λ is. found (λ (h : Hosted). AllTold h.rows) (is_repository repo) s.hosted h told.0 is
       ] refl
 
-  look-tells : (next : ℕ) (path : List ℕ) (rows : List Row) → AllTold rows → (k : Result Kind PathFault) → Tells (shows next (seen_at rows path k))
-  look-tells next path rows all (Ok (File c)) =
-      elim (row_at path rows) as (λ o. row_at path rows ≡ o → Tells (shows next (or_nothing (λ (row : Row). is_file row.blob) o))) [
-        | None ↦ λ is. (tt, tt)
-        | Some row ↦ λ is.
-            let lent : Turn = record { reply = file next row.blob; effects = lends row.blob.number ∷ [] } in
-            either (next == number_end) (says spent) lent (tt, tt) ((tt, tt), found IsTold (is_row path) rows row all is)
-      ] refl
-  look-tells next path rows all (Ok (FileSide c side)) =
-      elim (row_at (text_of c) rows) as (λ o. Tells (shows next (or_nothing (λ (row : Row). is_text (side_text side row.blob.print.digests)) o)))
-      [ None ↦ (tt, tt) | Some row ↦ (tt, tt) ]
-  look-tells next path rows all (Ok (Doc d)) =
-      elim (document_text d rows) as (λ o. Tells (shows next (or_nothing is_doc o))) [ None ↦ (tt, tt) | Some bytes ↦ (tt, tt) ]
-  look-tells next path rows all (Ok (DocSide d side)) =
-      elim (document_text d rows) as (λ o. Tells (shows next (or_nothing (λ bytes. is_text (side_text side (digests_of bytes))) o)))
-      [ None ↦ (tt, tt) | Some bytes ↦ (tt, tt) ]
-  look-tells next path rows all (Err fault) = (tt, tt)
+  -- a file that is seen is told
+  SeenTold : Seen → Type 0
+  SeenTold (is_file blob) = IsSome blob.bytes
+  SeenTold seen = Unit {0}
 
-  draws-tells : (next : ℕ) → Tells (draws_draft next)
-  draws-tells next =
-      let drawn : Turn = record { reply = draft next; effects = draws ∷ [] } in either (next == number_end) (says spent) drawn (tt, tt) ((tt, tt), tt)
+  row-seen : (o : Option Row) (path : List ℕ) (rows : List Row) → AllTold rows → row_at path rows ≡ o → SeenTold (or_nothing (λ (row : Row). is_file row.blob) o)
+  unfolding SeenTold
+  row-seen None path rows all is = tt
+  row-seen (Some row) path rows all is = found IsTold (is_row path) rows row all is
 
-  may_put-tells : (path : List ℕ) (t : Turn) → Tells t → (o : Option Hosted) → Tells (in_repository path o t)
-  may_put-tells path t tells None = (tt, tt)
-  may_put-tells path t tells (Some h) = either (takes h.rule path) t (says kind_refused) tells (tt, tt)
+  text-seen : (side : _) (o : Option Row) → SeenTold (or_nothing (λ (row : Row). is_text (side_text side row.blob.print.digests)) o)
+  unfolding SeenTold
+  text-seen side None = tt
+  text-seen side (Some row) = tt
 
-  in-session-tells : (path : List ℕ) (o : Option Session) → Tells (may_put_in s path o)
-  in-session-tells path None = (tt, tt)
-  in-session-tells path (Some x) =
-      let next = s.yard.next_draft in
-      may_put-tells path (if has_room path x.staged then draws_draft next else says session_full)
-      (either (has_room path x.staged) (draws_draft next) (says session_full) (draws-tells next) (tt, tt)) (hosted_of x.repo s)
+  doc-seen : (f : List ℕ → Seen) → ((bytes : List ℕ) → SeenTold (f bytes)) → (o : Option (List ℕ)) → SeenTold (or_nothing f o)
+  unfolding SeenTold
+  doc-seen f each None = tt
+  doc-seen f each (Some bytes) = each bytes
 
-  put-tells : (repo path : List ℕ) (n : ℕ) (blob : Blob) (moment : ℕ) → IsSome blob.bytes → (o : Option Row) → Tells (put_at repo path n blob moment o)
-  put-tells repo path n blob moment some None = ((some, tt), tt)
-  put-tells repo path n blob moment some (Some row) =
-      let other : Turn = record { reply = taken row.blob.print blob.print; effects = drops n ∷ [] } in
-      either (is_same_print row.blob.print blob.print) (put_again repo path n moment row.phase) other (again row.phase) ((tt, tt), tt)
-    where
-      again : (phase : Phase) → Tells (put_again repo path n moment phase)
-      again listed = ((tt, tt), tt)
-      again (fading since) = ((tt, (tt, tt)), tt)
-
-  compared-tells : (said : List ℕ) (o : Option (List ℕ)) → Tells (compared said o)
-  compared-tells said None = (tt, tt)
-  compared-tells said (Some kept) = either (bytes_eq said kept) (says agreed) (says (differs said kept)) (tt, tt) (tt, tt)
-
-  judged-tells : (k : Result Kind PathFault) (said : List ℕ) (blob_at : List ℕ → Option Blob) → Tells (judged k said blob_at)
-  judged-tells (Ok (FileSide c side)) said blob_at =
-      compared-tells said (option_map (λ (blob : Blob). side_of blob.print.digests side) (blob_at (text_of c)))
-  judged-tells (Ok (File c)) said blob_at = (tt, tt)
-  judged-tells (Ok (Doc d)) said blob_at = (tt, tt)
-  judged-tells (Ok (DocSide d side)) said blob_at = (tt, tt)
-  judged-tells (Err fault) said blob_at = (tt, tt)
-
-  side-tells : (path said : List ℕ) (o : Option Session)
-      → Tells (with_open o (λ found. judged (kind path) said (λ at. staged_at at found.staged)))
-  side-tells path said None = (tt, tt)
-  side-tells path said (Some x) = judged-tells (kind path) said (λ at. staged_at at x.staged)
-
-  doc-tells : (o : Option Session) → Tells (with_open o (λ found. says noted))
-  doc-tells None = (tt, tt)
-  doc-tells (Some x) = (tt, tt)
-
-  open-tells : (repo : List ℕ) (full : Bool) (next : ℕ)
-      → Tells (if full then says sessions_full else draws_or_spent next (record { reply = opened next; effects = opens next repo ∷ [] }))
-  open-tells repo full next =
-      let new : Turn = record { reply = opened next; effects = opens next repo ∷ [] } in
-      either full (says sessions_full) (draws_or_spent next new) (tt, tt) (either (next == number_end) (says spent) new (tt, tt) ((tt, tt), tt))
-
-  stage-at-tells : (x : Session) (path : List ℕ) (n : ℕ) (blob : Blob) → IsSome blob.bytes → (o : Option Blob) → Tells (stage_at x path n blob o)
-  stage-at-tells x path n blob some None =
-      let new : Turn = record { reply = staged; effects = stages x.number path blob ∷ [] } in
-      let full : Turn = record { reply = session_full; effects = drops n ∷ [] } in
-      either (has_room path x.staged) new full ((some, tt), tt) ((tt, tt), tt)
-  stage-at-tells x path n blob some (Some kept) =
-      ((tt, tt), elim (is_same_print kept.print blob.print) as (λ b. ReplyTold (if b then same else taken kept.print blob.print)) [ true ↦ tt | false ↦ tt ])
-
-  stage-tells : (path : List ℕ) (n : ℕ) (blob : Blob) → IsSome blob.bytes → (o : Option Session) → Tells (stage_in path n blob o)
-  stage-tells path n blob some None = ((tt, tt), tt)
-  stage-tells path n blob some (Some x) = stage-at-tells x path n blob some (staged_at path x.staged)
+  seen-told : (path : List ℕ) (rows : List Row) → AllTold rows → (k : Result Kind PathFault) → SeenTold (seen_at rows path k)
+  unfolding SeenTold
+  seen-told path rows all (Ok (File c)) = row-seen (row_at path rows) path rows all refl
+  seen-told path rows all (Ok (FileSide c side)) = text-seen side (row_at (text_of c) rows)
+  seen-told path rows all (Ok (Doc d)) = doc-seen is_doc (λ bytes. tt) (document_text d rows)
+  seen-told path rows all (Ok (DocSide d side)) = doc-seen (λ bytes. is_text (side_text side (digests_of bytes))) (λ bytes. tt) (document_text d rows)
+  seen-told path rows all (Err fault) = tt
 
   deliver-tells : (x : Session) (now : ℕ) (item : Staged) → IsStagedTold item → (o : Option Row) → AllByRecursion EffectTold (deliver_at x now item o)
   deliver-tells x now item some None = (some, tt)
@@ -267,54 +208,23 @@ module _ (settings : Settings) (s : State) (told : RowsTold s) where
       all-joined EffectTold (deliver_at x now item (row_at item.path rows)) (flat_map (λ (other : Staged). deliver_at x now other (row_at other.path rows)) files)
       (deliver-tells x now item all.0 (row_at item.path rows)) (delivers-tell x now rows files all.1)
 
-  commit-by-tells : (x : Session) (now : ℕ) (rows : List Row) → SessionTold x → (other : Option Offence) (pom : Option (List ℕ)) → Tells (commit_by x now rows other pom)
-  commit-by-tells x now rows all (Some other) pom = (tt, tt)
-  commit-by-tells x now rows all None (Some directory) = (tt, tt)
-  commit-by-tells x now rows all None None = (all-joined EffectTold (deliver_all x now rows) _ (delivers-tell x now rows x.staged all) (tt, tt), tt)
+  case-tells : (now : ℕ) (c : Command) (t : Turn) (x : Stand) → Case settings s now c t → MayAsk c x → CommandTold c → Tells t
+  unfolding SeenTold
+  case-tells now c t x (lends_file repo path tried blob more is) may some =
+      ((tt, tt), subst SeenTold is (seen-told path (rows_of repo s) (rows-of repo) (kind path)))
+  case-tells now c t x (deploys n one is going) may some = (
+    all-joined EffectTold (deliver_all one now (rows_of one.repo s)) _
+        (delivers-tell one now (rows_of one.repo s) one.staged (found SessionTold (is_session n) s.sessions one told.1 is)) (tt, tt),
+    tt,
+  )
+  case-tells now c t x (aborts n one is going) may some =
+      (all-joined EffectTold (discard_all one) _ (all-mapped EffectTold (λ (item : Staged). discards one.number item.path item.blob.number) (λ item. tt) one.staged) (tt, tt), tt)
+  case-tells now c t x (unlists repo h is) may some = absurd may
+  case-tells now c t x collects may some = absurd may
+  case-tells now c t x case may some = (assumption)
 
-  commit-of-tells : (x : Session) (now : ℕ) (rows : List Row) → SessionTold x → (o : Option SessionResult) → Tells (commit_of x now rows o)
-  commit-of-tells x now rows all None = commit-by-tells x now rows all (offence rows x.staged) (without_pom rows x.staged)
-  commit-of-tells x now rows all (Some result) = (tt, tt)
-
-  commit-tells : (n now : ℕ) → Tells (with_open (session_of n s) (λ known. commit_of known now (rows_of known.repo s) known.ended))
-  commit-tells n now =
-      elim (session_of n s) as (λ o. session_of n s ≡ o → Tells (with_open o (λ known. commit_of known now (rows_of known.repo s) known.ended))) [
-        | None ↦ λ is. (tt, tt)
-        | Some x ↦ λ is. commit-of-tells x now (rows_of x.repo s) (found SessionTold (is_session n) s.sessions x told.1 is) x.ended
-      ] refl
-
-  abort-tells : (o : Option Session) → Tells (with_open o (λ known. abort_of known known.ended))
-  abort-tells None = (tt, tt)
-  abort-tells (Some x) = by-end x.ended
-    where
-      by-end : (o : Option SessionResult) → Tells (abort_of x o)
-      by-end None =
-          (all-joined EffectTold (discard_all x) _ (all-mapped EffectTold (λ (item : Staged). discards x.number item.path item.blob.number) (λ item. tt) x.staged) (tt, tt), tt)
-      by-end (Some result) = (tt, tt)
-
-  turn-tells : (c : Command) (x : Stand) (moment : ℕ) → MayAsk c x → CommandTold c → Tells (turn settings s moment c)
-  turn-tells (look repo path tried) x moment may some = look-tells s.yard.next_lease path (rows_of repo s) (rows-of repo) (kind path)
-  turn-tells (done lease) x moment may some = ((tt, tt), tt)
-  turn-tells (may_put (repository repo) path) x moment may some =
-      may_put-tells path (draws_draft s.yard.next_draft) (draws-tells s.yard.next_draft) (hosted_of repo s)
-  turn-tells (may_put (session n) path) x moment may some = in-session-tells path (open_of n s)
-  turn-tells (put repo path n blob) x moment may some =
-      either (is_among n s.yard.drafts) (put_at repo path n blob moment (row_at path (rows_of repo s))) (says no_draft)
-      (put-tells repo path n blob moment some (row_at path (rows_of repo s))) (tt, tt)
-  turn-tells (drop_draft n) x moment may some =
-      elim (is_among n s.yard.drafts) as (λ b. AllByRecursion EffectTold (if b then drops n ∷ [] else []) × Unit {0}) [ true ↦ ((tt, tt), tt) | false ↦ (tt, tt) ]
-  turn-tells (put_side (repository repo) path said) x moment may some =
-      judged-tells (kind path) said (λ at. option_map (λ (row : Row). row.blob) (row_at at (rows_of repo s)))
-  turn-tells (put_side (session n) path said) x moment may some = side-tells path said (open_of n s)
-  turn-tells (put_doc (repository repo) path) x moment may some = (tt, tt)
-  turn-tells (put_doc (session n) path) x moment may some = doc-tells (open_of n s)
-  turn-tells (open_session repo) x moment may some = open-tells repo (nat_le most_sessions (count_by is_open s.sessions)) s.yard.next_session
-  turn-tells (stage at path n blob) x moment may some =
-      either (is_among n s.yard.drafts) (stage_in path n blob (open_of at s)) (says no_draft) (stage-tells path n blob some (open_of at s)) (tt, tt)
-  turn-tells (commit n) x moment may some = commit-tells n moment
-  turn-tells (abort n) x moment may some = abort-tells (session_of n s)
-  turn-tells status x moment may some = (tt, tt)
-  turn-tells _ x moment may some = absurd may
+  turn-tells : (c : Command) (x : Stand) (now : ℕ) → MayAsk c x → CommandTold c → Tells (turn settings s now c)
+  turn-tells c x now may some = case-tells now c (turn settings s now c) x (turn-case settings s now c) may some
 
   pub reply-told : (c : Command) (x : Stand) → MayAsk c x → CommandTold c → ReplyTold (due_entry settings s c).reply
   reply-told c x may some = (turn-tells c x (moment_now s) may some).1

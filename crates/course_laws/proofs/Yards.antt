@@ -1,25 +1,24 @@
--- What a course holds stands in the yard beside what stood before it, turn by turn.
-use Rattle.std.proofs.Common.{◌≡◌, ◌≢◌, ◌⊎◌, ℕ, ◌<◌, ◌≤◌, ◌==◌, ◌||◌, Bool, true, false, not, if◌then◌else◌, List, [], ◌∷◌, ◌++◌, filter, Option, Some, None, inl, inr, ap, arith, refl, subst}
-use Rattle.std.specs.Prelude.{Result, Ok, Err, bytes_eq}
+-- What a course holds stands in the yard beside what stood before it, entry by entry.
+use Rattle.std.proofs.Common.{◌≡◌, ◌≢◌, ◌⊎◌, ℕ, ◌<◌, ◌≤◌, ◌==◌, ◌||◌, ◌&&◌, Bool, true, false, not, if◌then◌else◌, List, [], ◌∷◌, ◌++◌, filter, Option, Some, None, inl, inr, ap, arith, refl, sym, subst, ◌∙◌, IsTrue}
+use Rattle.std.specs.Prelude.{nat_lt}
 use Rattle.std.specs.List.{AllByRecursion}
-use Rattle.std.specs.Option.{option_map}
+use Rattle.std.proofs.lemmas.Bool.{false≢true}
 use Rattle.std.proofs.lemmas.Bool.Decides.{eqb_tells}
-use Rattle.repo_model.specs.Data.{Blob, Hosted, Phase, Row, Session, Staged, fading, listed}
-use Rattle.repo_model.specs.Effect.{Effect, draws, delivers, discards, relists, lends, opens, ends, with_effect, with_effects}
-use Rattle.repo_model.specs.Deploy.{Offence, deliver_again, deliver_at, deliver_all, discard_all, offence, without_pom}
-use Rattle.repo_model.specs.declared.session.SessionResult.{SessionResult}
+use Rattle.repo_model.specs.Command.{Command, done, drop_draft, is_file_path, is_fit, is_parcel, meets, rule_of}
+use Rattle.repo_model.specs.Data.{Blob, Phase, Row, Session, Staged, fading, listed}
+use Rattle.repo_model.specs.Deploy.{deliver_again, deliver_at, deliver_all, discard_all}
+use Rattle.repo_model.specs.Effect.{Effect, delivers, discards, relists, opens, ends, drops, with_effect, with_effects, yard_after}
+use Rattle.repo_model.specs.History.{Entry, Fits, IsReply, due, wants_memory, failed, after, commits, ticked}
 use Rattle.repo_model.specs.Paths.{takes}
-use Rattle.repo_model.specs.Reply.{Reply, agreed, differs, draft, file, is_free, kind_refused, no_draft, opened, session_full, sessions_full, spent}
-use Rattle.repo_model.specs.State.{Lease, State, Yard, is_among, number_end, row_at}
-use Rattle.repo_model.specs.Turn.{Seen, Turn, abort_of, commit_by, commit_of, compared, draws_draft, draws_or_spent, in_repository, is_doc, is_file, is_nothing, is_text, judged, says, shows}
-use Rattle.mvn_coords.specs.declared.fault.PathFault.{PathFault}
-use Rattle.mvn_coords.specs.declared.kind.Kind.{Kind}
-use Rattle.mvn_coords.specs.declared.kind.Kind.TheVariants.{File, FileSide, Doc, DocSide}
-use Rattle.mvn_coords.specs.Layout.{text_of}
-use Rattle.mvn_digest.specs.Sides.{side_of}
-use Rattle.course_laws.specs.Duties.{Stand, asked_draft, has_aborted, has_committed, has_opened, has_put_side, looked}
+use Rattle.repo_model.specs.Reply.{Reply, is_free, no_draft, no_memory, store_fault, takes_memory}
+use Rattle.repo_model.specs.Settings.{Settings}
+use Rattle.repo_model.specs.State.{Lease, State, Yard, is_among, number_end, row_at, rows_of}
+use Rattle.repo_model.specs.Turn.{Turn, turn}
+use Rattle.repo_laws.proofs.Answered.{free-none, no-free, state-determined}
+use Rattle.repo_laws.proofs.Cases.{Case, lends_file, takes_back, gives_draft, not_drawn, makes_row, has_same, lists_again, has_other, gives_up, gives_nothing_up, opens_one, stage_not_drawn, stage_nowhere, stages_one, stage_full, stage_same, stage_other, deploys, aborts, unlists_nothing, unlists, collects, turn-case}
 use Rattle.course_laws.proofs.Alls.{all-flat, all-joined, all-mapped}
 use Rattle.course_laws.specs.LeftBehind.{IsDrawn, NumbersAreBelow}
+use Rattle.course_laws.specs.Duties.{MayAsk, Stand, draft_after, lease_after, stand_after}
 
 -- the numbers below one that is not below itself
 not_below : (n m : ℕ) → m < n → (m == n) ≡ false
@@ -68,68 +67,32 @@ pub record Holding (before : Yard) (draft lease : Option ℕ) (now : Yard) : Typ
   pub next_draft : before.next_draft ≤ now.next_draft
   pub next_lease : before.next_lease ≤ now.next_lease
 
--- what a turn did whose reply came to the course
-abbrev done_by : Turn → List Effect
-done_by t = if is_free t.reply then [] else t.effects
-
 module _ (before : Yard) where
   abbrev pub Holds : Stand → Yard → Type 0
   Holds s now = Holding before s.draft s.lease now
 
-  -- what is held behind a turn, and the reply is not that a draft is missing
-  abbrev pub Goes : (Reply → Stand) → State → Turn → Type 0
-  Goes put_by st t = Holds (put_by t.reply) (with_effects st (done_by t)).yard × (t.reply ≢ no_draft)
+  -- a draft that is held is there, and may be given up
+  own-there : (n : ℕ) (now : Yard) → OwnDraft before (Some n) now.drafts → is_among n now.drafts ≡ true
+  own-there n now own = own.2
 
-  pub look-goes : (s : Stand) (st : State) → s.lease ≡ None → Holds s st.yard → (seen : Seen) → Goes (λ r. looked r s) st (shows st.yard.next_lease seen)
-  look-goes s st none h (is_file blob) =
-      let leases : OwnLease before None st.yard.leases = subst (λ l. OwnLease before l st.yard.leases) none h.leases in
-      let next = st.yard.next_lease in
-      elim (next == number_end) as (λ b. Goes (λ r. looked r s) st (if b then says spent else record { reply = file next blob; effects = lends blob.number ∷ [] })) [
-        | true ↦ (h, λ is. cc)
-        | false ↦ (
-          record {
-            drafts = h.drafts;
-            leases = (blob.number, λ drawn. ap (λ ls. ls ++ record { number = next; blob = blob.number } ∷ []) (leases drawn), h.next_lease);
-            next_draft = h.next_draft;
-            next_lease = let here = h.next_lease in omega arith;
-          },
-          λ is. cc,
-        )
-      ]
-  look-goes s st none h (is_text bytes) = (h, λ is. cc)
-  look-goes s st none h (is_doc bytes) = (h, λ is. cc)
-  look-goes s st none h is_nothing = (h, λ is. cc)
+  own-gone : (n : ℕ) (now : Yard) → OwnDraft before (Some n) now.drafts → IsDrawn before → filter (λ m. not (m == n)) now.drafts ≡ before.drafts
+  own-gone n now own drawn =
+      ap (filter (λ m. not (m == n))) (own.0 drawn) ∙ taken_away (λ (m : ℕ). m) before.next_draft n n before.drafts refl own.1 drawn.drafts
 
-  pub draws-goes : (s : Stand) (st : State) → s.draft ≡ None → Holds s st.yard → Goes (λ r. asked_draft r s) st (draws_draft st.yard.next_draft)
-  draws-goes s st none h =
-      let drafts : OwnDraft before None st.yard.drafts = subst (λ d. OwnDraft before d st.yard.drafts) none h.drafts in
-      let next = st.yard.next_draft in
-      elim (next == number_end) as (λ b. Goes (λ r. asked_draft r s) st (if b then says spent else record { reply = draft next; effects = draws ∷ [] })) [
-        | true ↦ (h, λ is. cc)
-        | false ↦ (
-          record {
-            drafts = (λ drawn. ap (λ ns. ns ++ next ∷ []) (drafts drawn), h.next_draft, stands_last next st.yard.drafts);
-            leases = h.leases;
-            next_draft = let here = h.next_draft in omega arith;
-            next_lease = h.next_lease;
-          },
-          λ is. cc,
-        )
-      ]
-
-  pub may_put-goes : (s : Stand) (st : State) (path : List ℕ) → Holds s st.yard → (t : Turn) → Goes (λ r. asked_draft r s) st t → (found : Option Hosted)
-      → Goes (λ r. asked_draft r s) st (in_repository path found t)
-  may_put-goes s st path h t goes None = (h, λ is. cc)
-  may_put-goes s st path h t goes (Some here) =
-      elim (takes here.rule path) as (λ b. Goes (λ r. asked_draft r s) st (if b then t else says kind_refused)) [
-        | true ↦ goes
-        | false ↦ (h, λ is. cc)
-      ]
-
-  pub room-goes : (s : Stand) (st : State) → s.draft ≡ None → Holds s st.yard → (room : Bool)
-      → Goes (λ r. asked_draft r s) st (if room then draws_draft st.yard.next_draft else says session_full)
-  room-goes s st none h true = draws-goes s st none h
-  room-goes s st none h false = (h, λ is. cc)
+  given-up : (s : Stand) (n : ℕ) (now later : Yard) → s.draft ≡ Some n → Holds s now → later.drafts ≡ filter (λ m. not (m == n)) now.drafts
+      → later.leases ≡ now.leases → later.next_draft ≡ now.next_draft → later.next_lease ≡ now.next_lease → Holding before None s.lease later
+  given-up s n now later is h drafts leases next_draft next_lease =
+      let own : OwnDraft before (Some n) now.drafts = subst (λ d. OwnDraft before d now.drafts) is h.drafts in
+      record {
+        drafts = λ drawn. drafts ∙ own-gone n now own drawn;
+        leases = keep s.lease h.leases;
+        next_draft = let here = h.next_draft in omega arith;
+        next_lease = let here = h.next_lease in omega arith;
+      }
+    where
+      keep : (lease : Option ℕ) → OwnLease before lease now.leases → OwnLease before lease later.leases
+      keep None own = λ drawn. leases ∙ own drawn
+      keep (Some lease) own = (own.0, λ drawn. leases ∙ own.1 drawn, own.2)
 
   -- effects that leave drafts, leases and the numbers to be drawn for them as they are
   abbrev IsStill : Effect → Type 0
@@ -140,35 +103,24 @@ module _ (before : Yard) where
   IsStill (ends n result) = Unit {0}
   IsStill _ = ⊥
 
-  still-holds : (s : Stand) (es : List Effect) (st : State) → AllByRecursion IsStill es → Holds s st.yard → Holds s (with_effects st es).yard
-  still-holds s [] st all h = h
-  still-holds s (delivers n repo path blob moment ∷ es) st all h =
-      still-holds s es (with_effect st (delivers n repo path blob moment)) all.1
-      (record { drafts = h.drafts; leases = h.leases; next_draft = h.next_draft; next_lease = h.next_lease })
-  still-holds s (discards n path m ∷ es) st all h =
-      still-holds s es (with_effect st (discards n path m)) all.1
-      (record { drafts = h.drafts; leases = h.leases; next_draft = h.next_draft; next_lease = h.next_lease })
-  still-holds s (relists repo path moment ∷ es) st all h =
-      still-holds s es (with_effect st (relists repo path moment)) all.1
-      (record { drafts = h.drafts; leases = h.leases; next_draft = h.next_draft; next_lease = h.next_lease })
-  still-holds s (opens n repo ∷ es) st all h =
-      still-holds s es (with_effect st (opens n repo)) all.1
-      (record { drafts = h.drafts; leases = h.leases; next_draft = h.next_draft; next_lease = h.next_lease })
-  still-holds s (ends n result ∷ es) st all h =
-      still-holds s es (with_effect st (ends n result)) all.1
-      (record { drafts = h.drafts; leases = h.leases; next_draft = h.next_draft; next_lease = h.next_lease })
-  still-holds s (_ ∷ es) st all h = absurd all.0
+  same-yard : (draft lease : Option ℕ) (now later : Yard) → Holding before draft lease now → later.drafts ≡ now.drafts → later.leases ≡ now.leases
+      → later.next_draft ≡ now.next_draft → later.next_lease ≡ now.next_lease → Holding before draft lease later
+  same-yard draft lease now later h d l nd nl = record {
+    drafts = subst (λ ds. OwnDraft before draft ds) (sym d) h.drafts;
+    leases = subst (λ ls. OwnLease before lease ls) (sym l) h.leases;
+    next_draft = let here = h.next_draft in omega (arith, here, nd);
+    next_lease = let here = h.next_lease in omega (arith, here, nl);
+  }
 
-  -- what opens and ends a session
-
-  pub open-goes : (s : Stand) (st : State) (repo : List ℕ) (next : ℕ) → Holds s st.yard → (full : Bool)
-      → Goes (λ r. has_opened r s) st (if full then says sessions_full else draws_or_spent next (record { reply = opened next; effects = opens next repo ∷ [] }))
-  open-goes s st repo next h true = (h, λ is. cc)
-  open-goes s st repo next h false =
-      elim (next == number_end) as (λ b. Goes (λ r. has_opened r s) st (if b then says spent else record { reply = opened next; effects = opens next repo ∷ [] })) [
-        | true ↦ (h, λ is. cc)
-        | false ↦ (still-holds s (opens next repo ∷ []) st (tt, tt) h, λ is. cc)
-      ]
+  still-holds : (draft lease : Option ℕ) (es : List Effect) (st : State) → AllByRecursion IsStill es → Holding before draft lease st.yard
+      → Holding before draft lease (with_effects st es).yard
+  still-holds draft lease [] st all h = h
+  still-holds draft lease (delivers n repo path blob moment ∷ es) st all h = still-holds draft lease es (with_effect st (delivers n repo path blob moment)) all.1 h
+  still-holds draft lease (discards n path m ∷ es) st all h = still-holds draft lease es (with_effect st (discards n path m)) all.1 (same-yard draft lease st.yard _ h refl refl refl refl)
+  still-holds draft lease (relists repo path moment ∷ es) st all h = still-holds draft lease es (with_effect st (relists repo path moment)) all.1 h
+  still-holds draft lease (opens n repo ∷ es) st all h = still-holds draft lease es (with_effect st (opens n repo)) all.1 (same-yard draft lease st.yard _ h refl refl refl refl)
+  still-holds draft lease (ends n result ∷ es) st all h = still-holds draft lease es (with_effect st (ends n result)) all.1 h
+  still-holds draft lease (_ ∷ es) st all h = absurd all.0
 
   deliver-still : (x : Session) (now : ℕ) (item : Staged) (o : Option Row) → AllByRecursion IsStill (deliver_at x now item o)
   deliver-still x now item None = (tt, tt)
@@ -178,43 +130,136 @@ module _ (before : Yard) where
       again listed = (tt, tt)
       again (fading since) = (tt, (tt, tt))
 
-  commit-by-goes : (s : Stand) (st : State) (x : Session) (now : ℕ) (rows : List Row) → Holds s st.yard → (other : Option Offence) (pom : Option (List ℕ))
-      → Goes (λ r. has_committed r s) st (commit_by x now rows other pom)
-  commit-by-goes s st x now rows h (Some other) pom = (h, λ is. cc)
-  commit-by-goes s st x now rows h None (Some directory) = (h, λ is. cc)
-  commit-by-goes s st x now rows h None None = (
-    still-holds s _ st
-        (all-joined IsStill (deliver_all x now rows) _
-        (all-flat IsStill (λ (item : Staged). deliver_at x now item (row_at item.path rows)) (λ item. deliver-still x now item (row_at item.path rows)) x.staged) (tt, tt)) h,
-    λ is. cc,
-  )
+  number-is : (a : Bool) (n : ℕ) (blob : Blob) → IsTrue (a && is_parcel n blob) → blob.number ≡ n
+  number-is a n blob holds = pick (eqb_tells blob.number n)
+    where
+      pick : ((blob.number == n) ≡ true × (blob.number ≡ n)) ⊎ ((blob.number == n) ≡ false × (blob.number ≢ n)) → blob.number ≡ n
+      pick (inl is) = is.1
+      pick (inr is) = absurd (clash a (blob.number == n) (nat_lt blob.print.length number_end) holds is.0)
+        where
+          clash : (a b c : Bool) → IsTrue (a && (b && c)) → b ≡ false → ⊥
+          clash true true c holds is = cc
+          clash true false c holds is = cc
+          clash false b c holds is = cc
 
-  pub commit-of-goes : (s : Stand) (st : State) (x : Session) (now : ℕ) (rows : List Row) → Holds s st.yard → (o : Option SessionResult)
-      → Goes (λ r. has_committed r s) st (commit_of x now rows o)
-  commit-of-goes s st x now rows h None = commit-by-goes s st x now rows h (offence rows x.staged) (without_pom rows x.staged)
-  commit-of-goes s st x now rows h (Some result) = (h, λ is. cc)
+  -- what is held behind a turn, and the reply is not that a draft is missing
+  abbrev Goes : Command → Stand → State → Turn → Type 0
+  Goes c s st t = Holding before (draft_after c t.reply s.draft) (lease_after c t.reply s.lease) (with_effects st t.effects).yard × (t.reply ≢ no_draft)
 
-  pub abort-of-goes : (s : Stand) (st : State) (x : Session) → Holds s st.yard → (o : Option SessionResult) → Goes (λ r. has_aborted r s) st (abort_of x o)
-  abort-of-goes s st x h None = (
-    still-holds s _ st
-        (all-joined IsStill (discard_all x) _ (all-mapped IsStill (λ (item : Staged). discards x.number item.path item.blob.number) (λ item. tt) x.staged) (tt, tt)) h,
-    λ is. cc,
-  )
-  abort-of-goes s st x h (Some result) = (h, λ is. cc)
+  module _ (settings : Settings) (s : Stand) (st : State) (h : Holds s st.yard) where
+    own-draft : (n : ℕ) → s.draft ≡ Some n → is_among n st.yard.drafts ≡ true
+    own-draft n is = own-there n st.yard (subst (λ d. OwnDraft before d st.yard.drafts) is h.drafts)
 
-  -- a side file or a document changes nothing of what is held
-  compared-goes : (s : Stand) (st : State) → Holds s st.yard → (said : List ℕ) (found : Option (List ℕ))
-      → Goes (λ r. has_put_side r s) st (compared said found)
-  compared-goes s st h said None = (h, λ is. cc)
-  compared-goes s st h said (Some kept) =
-      elim (bytes_eq said kept) as (λ b. Goes (λ r. has_put_side r s) st (if b then says agreed else says (differs said kept)))
-      [ true ↦ (h, λ is. cc) | false ↦ (h, λ is. cc) ]
+    case-goes : (now : ℕ) (c : Command) (t : Turn) → Case settings st now c t → MayAsk c s → IsTrue (meets settings c) → Goes c s st t
+    case-goes now c t (lends_file repo path tried blob more seen) may can = (
+      record {
+        drafts = h.drafts;
+        leases = (
+          blob.number,
+          λ drawn. ap (λ ls. ls ++ record { number = st.yard.next_lease; blob = blob.number } ∷ []) (subst (λ l. OwnLease before l st.yard.leases) may.1 h.leases drawn),
+          h.next_lease,
+        );
+        next_draft = h.next_draft;
+        next_lease = let here = h.next_lease in omega arith;
+      },
+      λ is. cc,
+    )
+    case-goes now c t (takes_back lease) may can =
+        let own : OwnLease before (Some lease) st.yard.leases = subst (λ l. OwnLease before l st.yard.leases) may h.leases in (
+          record {
+            drafts = h.drafts;
+            leases = λ drawn. ap (filter (λ (l : Lease). not (l.number == lease))) (own.1 drawn)
+                ∙ taken_away (λ (l : Lease). l.number) before.next_lease lease (record { number = lease; blob = own.0 }) before.leases refl own.2 drawn.leases;
+            next_draft = h.next_draft;
+            next_lease = h.next_lease;
+          },
+          λ is. cc,
+        )
+    case-goes now c t (gives_draft place path more) may can =
+        let next = st.yard.next_draft in (
+          record {
+            drafts = (
+              λ drawn. ap (λ ns. ns ++ next ∷ []) (subst (λ d. OwnDraft before d st.yard.drafts) may.1 h.drafts drawn),
+              h.next_draft,
+              stands_last next st.yard.drafts,
+            );
+            leases = h.leases;
+            next_draft = let here = h.next_draft in omega arith;
+            next_lease = h.next_lease;
+          },
+          λ is. cc,
+        )
+    case-goes now c t (makes_row repo path n blob among free) may can =
+        (given-up s n st.yard _ may.1 h (ap (λ k. filter (λ m. not (m == k)) st.yard.drafts) (number-is (is_fit (λ rule. takes rule path) (rule_of repo settings)) n blob can)) refl refl refl, λ is. cc)
+    case-goes now c t (has_same repo path n blob among) may can = (given-up s n st.yard _ may.1 h refl refl refl refl, λ is. cc)
+    case-goes now c t (lists_again repo path n blob among row since found phase_is) may can = (given-up s n st.yard _ may.1 h refl refl refl refl, λ is. cc)
+    case-goes now c t (has_other repo path n blob kept among) may can = (given-up s n st.yard _ may.1 h refl refl refl refl, λ is. cc)
+    case-goes now c t (gives_up n among) may can = (given-up s n st.yard _ may h refl refl refl refl, λ is. cc)
+    case-goes now c t (stage_nowhere at path n blob among) may can = (given-up s n st.yard _ may.1 h refl refl refl refl, λ is. cc)
+    case-goes now c t (stages_one at path n blob one among known free room) may can =
+        (given-up s n st.yard _ may.1 h (ap (λ k. filter (λ m. not (m == k)) st.yard.drafts) (number-is (is_file_path path) n blob can)) refl refl refl, λ is. cc)
+    case-goes now c t (stage_full at path n blob among) may can = (given-up s n st.yard _ may.1 h refl refl refl refl, λ is. cc)
+    case-goes now c t (stage_same at path n blob among) may can = (given-up s n st.yard _ may.1 h refl refl refl refl, λ is. cc)
+    case-goes now c t (stage_other at path n blob kept among) may can = (given-up s n st.yard _ may.1 h refl refl refl refl, λ is. cc)
+    case-goes now c t (not_drawn repo path n blob none) may can = absurd (false≢true (sym none ∙ own-draft n may.1))
+    case-goes now c t (stage_not_drawn at path n blob none) may can = absurd (false≢true (sym none ∙ own-draft n may.1))
+    case-goes now c t (gives_nothing_up n none) may can = absurd (false≢true (sym none ∙ own-draft n may))
+    case-goes now c t (opens_one repo more few) may can = (still-holds s.draft s.lease (opens st.yard.next_session repo ∷ []) st (tt, tt) h, λ is. cc)
+    case-goes now c t (deploys n x is going) may can = (
+      still-holds s.draft s.lease _ st
+          (all-joined IsStill (deliver_all x now (rows_of x.repo st)) _
+          (all-flat IsStill (λ (item : Staged). deliver_at x now item (row_at item.path (rows_of x.repo st))) (λ item. deliver-still x now item (row_at item.path (rows_of x.repo st))) x.staged) (tt, tt)) h,
+      λ is. cc,
+    )
+    case-goes now c t (aborts n x is going) may can = (
+      still-holds s.draft s.lease _ st
+          (all-joined IsStill (discard_all x) _ (all-mapped IsStill (λ (item : Staged). discards x.number item.path item.blob.number) (λ item. tt) x.staged) (tt, tt)) h,
+      λ is. cc,
+    )
+    case-goes now c t (unlists_nothing repo) may can = absurd may
+    case-goes now c t (unlists repo hosted is) may can = absurd may
+    case-goes now c t collects may can = absurd may
+    case-goes now c t case may can = (h, λ is. cc)
 
-  pub judged-goes : (s : Stand) (st : State) → Holds s st.yard → (k : Result Kind PathFault) (said : List ℕ) (blob_at : List ℕ → Option Blob)
-      → Goes (λ r. has_put_side r s) st (judged k said blob_at)
-  judged-goes s st h (Ok (FileSide c side)) said blob_at =
-      compared-goes s st h said (option_map (λ (blob : Blob). side_of blob.print.digests side) (blob_at (text_of c)))
-  judged-goes s st h (Ok (File c)) said blob_at = (h, λ is. cc)
-  judged-goes s st h (Ok (Doc d)) said blob_at = (h, λ is. cc)
-  judged-goes s st h (Ok (DocSide d side)) said blob_at = (h, λ is. cc)
-  judged-goes s st h (Err fault) said blob_at = (h, λ is. cc)
+    -- where memory is wanted or the records fail, what is held stays
+    memory-goes : (c : Command) → IsTrue (takes_memory c) → Holds (stand_after c no_memory s) st.yard
+    memory-goes (done lease) can = absurd (false≢true can)
+    memory-goes (drop_draft n) can = absurd (false≢true can)
+    memory-goes _ can = h
+
+    fault-goes : (now : ℕ) (c : Command) → IsTrue (commits c (turn settings st now c).effects) → Holds (stand_after c store_fault s) st.yard
+    fault-goes now (done lease) can = absurd (false≢true can)
+    fault-goes now (drop_draft n) can = absurd (never (is_among n st.yard.drafts) can)
+      where
+        never : (b : Bool) → IsTrue (commits (drop_draft n) (if b then drops n ∷ [] else [])) → ⊥
+        never true is = cc
+        never false is = cc
+    fault-goes now _ can = h
+
+    -- what an effect does to the yard goes by the yard alone
+    effects-yard : (es : List Effect) (u v : State) → u.yard ≡ v.yard → (with_effects u es).yard ≡ (with_effects v es).yard
+    effects-yard [] u v is = is
+    effects-yard (e ∷ es) u v is = effects-yard es (with_effect u e) (with_effect v e) (ap (yard_after e) is)
+
+    -- each entry of a command that the course may ask leaves the yard as the course says
+    abbrev So : Entry → Reply → Yard → Type 0
+    So e reply yard = Holds (stand_after e.command reply s) yard × (reply ≢ no_draft)
+
+    pub step : (e : Entry) → MayAsk e.command s → Fits settings st e → Holds (stand_after e.command e.reply s) (after settings st e).yard × (e.reply ≢ no_draft)
+    step e may fits = by fits.reply
+      where
+        free : (reply : Reply) → e.reply ≡ reply → is_free reply ≡ true → (reply ≢ no_draft) → Holds (stand_after e.command reply s) st.yard → So e e.reply (after settings st e).yard
+        free reply is frees other holds =
+            subst (λ r. So e r (after settings st e).yard) (sym is)
+            (subst (λ es. So e reply (with_effects (ticked st e.moment e.faults) es).yard) (sym (free-none settings st e (ap is_free is ∙ frees))) (holds, other))
+
+        by : IsReply settings st e → So e e.reply (after settings st e).yard
+        by (due is did) =
+            let t = turn settings st e.moment e.command in
+            let bound : is_free e.reply ≡ false = ap is_free is ∙ no-free settings st e.moment e.command in
+            let there : (after settings st e).yard ≡ (with_effects st t.effects).yard =
+            ap (λ (u : State). u.yard) (state-determined settings st e bound) ∙ effects-yard t.effects (ticked st e.moment e.faults) st refl in
+            subst (λ r. So e r (after settings st e).yard) (sym is)
+            (subst (λ y. So e t.reply y) (sym there) (case-goes e.moment e.command t (turn-case settings st e.moment e.command) may fits.condition))
+        by (wants_memory is can did) = free no_memory is refl (λ no. cc) (memory-goes e.command can)
+        by (failed is can rose) = free store_fault is refl (λ no. cc) (fault-goes e.moment e.command can)

@@ -1,268 +1,282 @@
--- What a course owes, step by step: the draft and the lease that it holds, the bytes of the body that it has not read, the one
--- answer that it gives, the commands that it may still ask, and how it ends once a side of the stream failed or memory was
--- wanted.
-use Rattle.std.specs.Prelude.{◌≡◌, ℕ, zero, suc, ◌+◌, ◌≤◌, max, length, Bool, true, false, Option, Some, None, IsSome, Result, Ok, Err}
+-- What a course owes, step by step: the draft and the lease that it holds, the body and the pass that it has not done, the one
+-- answer that it gives and how the stream ends behind it, and the commands that it may still ask.
+use Rattle.std.specs.Prelude.{◌≡◌, ℕ, zero, suc, ◌+◌, ◌≤◌, max, length, Bool, true, false, if◌then◌else◌, List, Option, Some, None, IsSome, Result, Ok, Err, unwrap_or}
+use Rattle.http_wire.specs.declared.faults.HeadFault.{HeadFault}
+use Rattle.mvn_digest.specs.Sides.{read_side}
+use Rattle.mvn_doc.specs.Reading.{reading}
+use Rattle.mvn_metadata.specs.Document.{Document}
+use Rattle.repo_model.specs.Command.{Command, look, done, may_put, put, put_side, put_doc, drop_draft, open_session, stage, commit, abort, unlist, collect, status}
 use Rattle.repo_model.specs.Data.{Blob}
-use Rattle.repo_model.specs.Command.{Command, look, done, may_put, put, put_side, put_doc, drop_draft, open_session, stage, commit, abort, status}
-use Rattle.repo_model.specs.Reply.{Reply, file, text, doc, missed, kind_refused, draft, no_draft, taken, same, relisted, created, not_there, differs, agreed, noted, no_session, sessions_full, opened, session_full, staged, offends, missing_pom, ended, counts as counts_reply, spent, store_fault}
+use Rattle.repo_model.specs.Reply.{Reply, file, draft, taken, same, relisted, created, no_session, session_full, staged}
 use Rattle.repo_model.specs.Settings.{Settings}
 use Rattle.repo_routes.specs.Intent.{Intent, Judged, reads as reads_path, puts_file, puts_side, puts_document, counts, cleans as cleans_all, opens, commits, aborts}
 use Rattle.repo_routes.specs.declared.judging.Refused.{Refused}
 use Rattle.repo_course.specs.Answers.{at_end}
-use Rattle.repo_course.specs.declared.outcomes.CleanFault.TheVariants as clean
-use Rattle.repo_course.specs.Course.{Body, Course, Pass, Stored, asks, continues, takes, reads, sends, cleans, says, stops, end_of}
+use Rattle.repo_course.specs.Course.{Close, Course, Deed, Outcome, asks, does, says, stops, speaks, rests, invite, take_body, read_body, send_file, clean_all, head_said, manner_for, manner_refused, of_fault, of_pass, of_sent, said_of, with_unread}
 use Rattle.repo_course.specs.declared.manner.Manner.{Manner}
-use Rattle.repo_course.specs.declared.outcomes.Continued.{Continued}
 use Rattle.repo_course.specs.declared.outcomes.Continued.TheVariants as continued
-use Rattle.repo_course.specs.declared.outcomes.End.{End}
 use Rattle.repo_course.specs.declared.outcomes.End.TheVariants as stream
-use Rattle.repo_course.specs.declared.outcomes.Sent.{Sent}
-use Rattle.repo_course.specs.declared.outcomes.Sent.TheVariants as sent
-use Rattle.repo_course.specs.declared.outcomes.Took.{Took}
-use Rattle.repo_course.specs.declared.outcomes.Took.TheVariants as took
 use Rattle.repo_course.specs.declared.said.Said.{Said}
-use Rattle.repo_course.specs.declared.said.Said.TheVariants.{NoMemory}
+use Rattle.repo_course.specs.declared.said.Said.TheVariants as said
 
--- what a course must end by: a side of the stream that failed, or want of memory
-pub data Early : Type 0 where
-  by_side : End → Early
-  by_memory : Early
-
+-- where a course stands
 pub record Stand : Type 0 where
   -- the draft that it must put or give up
   pub draft : Option ℕ
   -- the lease that it must give back
   pub lease : Option ℕ
-  -- the blob in its hands: a body that was stored, or a file that was lent
-  pub blob : Option Blob
-  -- how many bytes of the request's body are not read, and whether it was invited, by `100 Continue` or by reading it
-  pub unread : ℕ
-  pub invited : Bool
-  -- the manner of a file's answer that was sent whole
-  pub sent : Option Manner
-  pub early : Option Early
+  -- the body that was stored, and the file that was lent
+  pub stored : Option Blob
+  pub lent : Option Blob
+  -- the length of the body that is to be read
+  pub unread : Option ℕ
+  -- the client waits for `100 Continue` before it
+  pub waits : Bool
+  -- the repositories that are to be passed over
+  pub to_clean : Option (List (List ℕ))
+  -- how it must end, once that is known
+  pub due : Option Close
 
--- before the first command, with a body of so many bytes to come
-abbrev pub at_first : ℕ → Stand
-at_first count = record { draft = None; lease = None; blob = None; unread = count; invited = false; sent = None; early = None }
+-- nothing is held, and nothing is to be done
+abbrev pub idle : Stand
+idle = record { draft = None; lease = None; stored = None; lent = None; unread = None; waits = false; to_clean = None; due = None }
 
-abbrev pub starving : Stand → Stand
-starving s = record s { early = Some by_memory }
+-- the length of the body that comes with what is asked for
+abbrev pub body_length : Intent → Option ℕ
+body_length (reads_path repo path) = None
+body_length (puts_file place path count) = Some count
+body_length (puts_side place path side count) = Some count
+body_length (puts_document place path count) = Some count
+body_length counts = None
+body_length (cleans_all repos) = None
+body_length (opens repo) = None
+body_length (commits n) = None
+body_length (aborts n) = None
 
-abbrev pub failing : End → Stand → Stand
-failing end s = record s { early = Some (by_side end) }
+abbrev pub length_of : Intent → ℕ
+length_of intent = unwrap_or (body_length intent) 0
 
-abbrev pub without_draft : Stand → Stand
-without_draft s = record s { draft = None }
+-- only before a body does the client wait
+abbrev pub is_awaited : Option ℕ → Bool → Bool
+is_awaited None expects = false
+is_awaited (Some count) expects = expects
 
-abbrev pub has_read : Stand → Stand
-has_read s = record s { unread = 0; invited = true }
+-- the repositories that are to be passed over for what is asked for
+abbrev pub repos_of : Intent → Option (List (List ℕ))
+repos_of (cleans_all repos) = Some repos
+repos_of intent = None
 
--- after each command; any reply that it can't get counts as want of memory
-abbrev pub looked : Reply → Stand → Stand
-looked (file lease blob) s = record s { lease = Some lease; blob = Some blob }
-looked (text bytes) s = s
-looked (doc bytes digests) s = s
-looked missed s = s
-looked spent s = s
-looked reply s = starving s
+-- before the first step of what is asked for, where the client waits before its body or not
+abbrev pub at_first : Bool → Intent → Stand
+at_first expects intent = record idle {
+  unread = body_length intent;
+  waits = is_awaited (body_length intent) expects;
+  to_clean = repos_of intent;
+}
 
-abbrev pub asked_draft : Reply → Stand → Stand
-asked_draft (draft n) s = record s { draft = Some n }
-asked_draft no_session s = s
-asked_draft kind_refused s = s
-asked_draft session_full s = s
-asked_draft spent s = s
-asked_draft reply s = starving s
+-- the replies behind which the draft of a blob that is put or staged is used up, or was given up in that turn
+abbrev pub spends_draft : Reply → Bool
+spends_draft (taken kept given) = true
+spends_draft same = true
+spends_draft relisted = true
+spends_draft created = true
+spends_draft no_session = true
+spends_draft session_full = true
+spends_draft staged = true
+spends_draft reply = false
 
-abbrev pub has_put : Reply → Stand → Stand
-has_put created s = without_draft s
-has_put same s = without_draft s
-has_put relisted s = without_draft s
-has_put (taken kept sent) s = without_draft s
-has_put no_draft s = s
-has_put store_fault s = s
-has_put reply s = starving s
+-- What a reply makes of where it stands. What is not named stays.
+abbrev pub draft_after : Command → Reply → Option ℕ → Option ℕ
+draft_after (may_put place path) (draft n) held = Some n
+draft_after (put repo path n blob) reply held = if spends_draft reply then None else held
+draft_after (stage at path n blob) reply held = if spends_draft reply then None else held
+draft_after (drop_draft n) reply held = None
+draft_after command reply held = held
 
-abbrev pub has_staged : Reply → Stand → Stand
-has_staged staged s = without_draft s
-has_staged same s = without_draft s
-has_staged (taken kept sent) s = without_draft s
-has_staged session_full s = without_draft s
-has_staged no_session s = without_draft s
-has_staged no_draft s = s
-has_staged reply s = starving s
+abbrev pub lease_after : Command → Reply → Option ℕ → Option ℕ
+lease_after (look repo path tried) (file lease blob) held = Some lease
+lease_after (done lease) reply held = None
+lease_after command reply held = held
 
-abbrev pub has_put_side : Reply → Stand → Stand
-has_put_side agreed s = s
-has_put_side (differs said kept) s = s
-has_put_side not_there s = s
-has_put_side no_session s = s
-has_put_side reply s = starving s
+abbrev pub lent_after : Command → Reply → Option Blob → Option Blob
+lent_after (look repo path tried) (file lease blob) lent = Some blob
+lent_after command reply lent = lent
 
-abbrev pub has_put_doc : Reply → Stand → Stand
-has_put_doc noted s = s
-has_put_doc no_session s = s
-has_put_doc reply s = starving s
-
-abbrev pub has_counted : Reply → Stand → Stand
-has_counted (counts_reply files fading cached documents sessions) s = s
-has_counted reply s = starving s
-
-abbrev pub has_opened : Reply → Stand → Stand
-has_opened (opened n) s = s
-has_opened sessions_full s = s
-has_opened spent s = s
-has_opened store_fault s = s
-has_opened reply s = starving s
-
-abbrev pub has_committed : Reply → Stand → Stand
-has_committed (ended result) s = s
-has_committed (offends path kept sent) s = s
-has_committed (missing_pom directory) s = s
-has_committed no_session s = s
-has_committed store_fault s = s
-has_committed reply s = starving s
-
-abbrev pub has_aborted : Reply → Stand → Stand
-has_aborted (ended result) s = s
-has_aborted no_session s = s
-has_aborted store_fault s = s
-has_aborted reply s = starving s
+-- a reply is answered, but for a file, a draft, what only gives back, and the commands of a pass
+abbrev pub due_after : Command → Reply → Option Close → Option Close
+due_after (look repo path tried) (file lease blob) due = due
+due_after (may_put place path) (draft n) due = due
+due_after (done lease) reply due = due
+due_after (drop_draft n) reply due = due
+due_after (unlist repo) reply due = due
+due_after collect reply due = due
+due_after command reply due = Some (speaks (said_of reply))
 
 abbrev pub stand_after : Command → Reply → Stand → Stand
-stand_after (look repo path tried) reply s = looked reply s
-stand_after (done lease) reply s = record s { lease = None }
-stand_after (may_put place path) reply s = asked_draft reply s
-stand_after (put repo path n blob) reply s = has_put reply s
-stand_after (put_side place path said) reply s = has_put_side reply s
-stand_after (put_doc place path) reply s = has_put_doc reply s
-stand_after (drop_draft n) reply s = without_draft s
-stand_after (open_session repo) reply s = has_opened reply s
-stand_after (stage at path n blob) reply s = has_staged reply s
-stand_after (commit n) reply s = has_committed reply s
-stand_after (abort n) reply s = has_aborted reply s
-stand_after status reply s = has_counted reply s
-stand_after command reply s = s
+stand_after command reply s = record s {
+  draft = draft_after command reply s.draft;
+  lease = lease_after command reply s.lease;
+  lent = lent_after command reply s.lent;
+  due = due_after command reply s.due;
+}
 
--- what it must hold to ask a command; once it must end early it only gives back
+-- the body is read and the pass made, where there is one, and nobody waits
+abbrev pub IsReady : Stand → Type 0
+IsReady s = (s.unread ≡ None) × (s.to_clean ≡ None) × (s.waits ≡ false)
+
+-- and no end is due yet
+abbrev pub IsFree : Stand → Type 0
+IsFree s = (s.due ≡ None) × IsReady s
+
+-- What it must hold to ask a command: once an end is due it only gives back, and but for a draft it asks behind its body. The
+-- commands of a pass are asked by the pass.
 abbrev pub MayAsk : Command → Stand → Type 0
-MayAsk (look repo path tried) s = (s.lease ≡ None) × (s.early ≡ None)
+MayAsk (look repo path tried) s = IsFree s × (s.lease ≡ None)
 MayAsk (done lease) s = s.lease ≡ Some lease
-MayAsk (may_put place path) s = (s.draft ≡ None) × (s.early ≡ None)
-MayAsk (put repo path n blob) s = (s.draft ≡ Some n) × (s.early ≡ None) × (s.blob ≡ Some blob)
-MayAsk (put_side place path said) s = s.early ≡ None
-MayAsk (put_doc place path) s = s.early ≡ None
+MayAsk (may_put place path) s = (s.due ≡ None) × (s.draft ≡ None) × (s.to_clean ≡ None)
+MayAsk (put repo path n blob) s = IsFree s × (s.draft ≡ Some n) × (s.stored ≡ Some blob)
+MayAsk (put_side place path digest) s = IsFree s
+MayAsk (put_doc place path) s = IsFree s
 MayAsk (drop_draft n) s = s.draft ≡ Some n
-MayAsk (open_session repo) s = s.early ≡ None
-MayAsk (stage at path n blob) s = (s.draft ≡ Some n) × (s.early ≡ None) × (s.blob ≡ Some blob)
-MayAsk (commit n) s = s.early ≡ None
-MayAsk (abort n) s = s.early ≡ None
-MayAsk status s = s.early ≡ None
-MayAsk command s = ⊥
-
-abbrev pub stand_continued : Continued → Stand → Stand
-stand_continued continued.Written s = record s { invited = true }
-stand_continued continued.SinkFault s = failing stream.SinkFault s
-
--- after a body that was not taken, and after one that was, of which no byte is left
-abbrev pub stand_fault : Took → Stand → Stand
-stand_fault took.Torn s = failing stream.TornRequest s
-stand_fault took.SourceFault s = failing stream.SourceFault s
-stand_fault took.BlobFault s = s
-stand_fault took.NoMemory s = starving s
-
-abbrev pub stand_stored : Stored → Stand → Stand
-stand_stored (Ok blob) s = record (has_read s) { blob = Some blob }
-stand_stored (Err fault) s = stand_fault fault (has_read s)
-
-abbrev pub stand_read : Body → Stand → Stand
-stand_read (Ok bytes) s = has_read s
-stand_read (Err fault) s = stand_fault fault (has_read s)
-
-abbrev pub stand_sent : Manner → Sent → Stand → Stand
-stand_sent manner sent.Whole s = record s { sent = Some manner }
-stand_sent manner sent.BlobFault s = s
-stand_sent manner (sent.BlobDiffers recorded found) s = s
-stand_sent manner sent.SinkFault s = failing stream.SinkFault s
-stand_sent manner sent.NoMemory s = starving s
-
-abbrev pub stand_cleaned : Pass → Stand → Stand
-stand_cleaned (Err clean.NoMemory) s = starving s
-stand_cleaned pass s = s
-
-abbrev pub IsAnswer : Said → Type 0
-IsAnswer NoMemory = ⊥
-IsAnswer said = Unit {0}
-
--- Want of memory is said where it was wanted, and only there; nothing is said behind a failure, nor behind a file that was
--- sent whole. The connection goes on only where the body was read.
-abbrev pub SaysFor : Stand → Option Early → Said → Manner → Type 0
-SaysFor s None said manner = IsAnswer said × (s.sent ≡ None) × (manner.close ≡ false → s.unread ≡ 0)
-SaysFor s (Some by_memory) said manner = (said ≡ NoMemory) × (manner ≡ at_end manner.head_only) × (s.sent ≡ None)
-SaysFor s (Some (by_side side)) said manner = ⊥
-
--- No more is said only where a file was sent whole, which ends the stream as its manner says, or where a side failed.
-abbrev pub StopsFor : Stand → Option Early → Option End → Type 0
-StopsFor s None end = (manner : Manner) × (s.sent ≡ Some manner) × (end ≡ end_of manner) × (end ≡ None → s.unread ≡ 0)
-StopsFor s (Some by_memory) end = ⊥
-StopsFor s (Some (by_side side)) end = end ≡ Some side
+MayAsk (open_session repo) s = IsFree s
+MayAsk (stage at path n blob) s = IsFree s × (s.draft ≡ Some n) × (s.stored ≡ Some blob)
+MayAsk (commit n) s = IsFree s
+MayAsk (abort n) s = IsFree s
+MayAsk (unlist repo) s = ⊥
+MayAsk collect s = ⊥
+MayAsk status s = IsFree s
 
 abbrev pub HoldsNothing : Stand → Type 0
 HoldsNothing s = (s.draft ≡ None) × (s.lease ≡ None)
 
--- The course does what it owes, with at most so many commands: `100 Continue` comes at most once, before the body and the
--- answer; one answer is given, unless a side of the stream failed; the lease is held while a file is sent; and the answer is
--- a head alone where it has to be, and else is not.
-abbrev pub Keeps : (head_only : Bool) → Course → ℕ → Stand → Type 0
-Keeps head_only (asks command next) zero s = ⊥
-Keeps head_only (asks command next) (suc n) s =
-    MayAsk command s × ((reply : Reply) → Keeps head_only (next reply) n (stand_after command reply s))
-Keeps head_only (continues next) n s =
-    (s.invited ≡ false) × (s.early ≡ None) × (s.sent ≡ None) × ((result : Continued) → Keeps head_only (next result) n (stand_continued result s))
-Keeps head_only (takes number count next) n s =
-    (s.draft ≡ Some number) × (s.early ≡ None) × (s.unread ≡ count)
-    × ((stored : Stored) → Keeps head_only (next stored) n (stand_stored stored s))
-Keeps head_only (reads count next) n s =
-    (s.early ≡ None) × (s.unread ≡ count) × ((body : Body) → Keeps head_only (next body) n (stand_read body s))
-Keeps head_only (sends blob manner next) n s =
-    (s.blob ≡ Some blob) × (s.early ≡ None) × (s.sent ≡ None) × IsSome s.lease × (manner.head_only ≡ head_only)
-    × ((result : Sent) → Keeps head_only (next result) n (stand_sent manner result s))
-Keeps head_only (cleans repos next) n s =
-    HoldsNothing s × (s.early ≡ None) × (length repos + 1 ≤ n) × ((pass : Pass) → Keeps head_only (next pass) 0 (stand_cleaned pass s))
-Keeps head_only (says said manner) n s = HoldsNothing s × SaysFor s s.early said manner × (manner.head_only ≡ head_only)
-Keeps head_only (stops end) n s = HoldsNothing s × StopsFor s s.early end
+-- What it must hold for a deed: the body is invited where the client waits for that, and read by its length; the file that was lent
+-- is sent in the manner of the request, and under its lease; and the pass goes over the repositories that are asked for.
+abbrev pub MayDo : Manner → Deed → Stand → Type 0
+MayDo manner invite s = (s.due ≡ None) × (s.waits ≡ true)
+MayDo manner (take_body n count) s = (s.due ≡ None) × (s.waits ≡ false) × (s.unread ≡ Some count) × (s.draft ≡ Some n)
+MayDo manner (read_body count) s = (s.due ≡ None) × (s.waits ≡ false) × (s.unread ≡ Some count)
+MayDo manner (send_file blob own) s = IsFree s × (s.lent ≡ Some blob) × IsSome s.lease × (own ≡ manner)
+MayDo manner (clean_all repos) s = (s.due ≡ None) × (s.unread ≡ None) × (s.to_clean ≡ Some repos) × (s.waits ≡ false) × HoldsNothing s
 
--- how many bytes of body come with what is asked for
-abbrev pub length_of : Intent → ℕ
-length_of (reads_path repo path) = 0
-length_of (puts_file place path count) = count
-length_of (puts_side place path side count) = count
-length_of (puts_document place path count) = count
-length_of counts = 0
-length_of (cleans_all repos) = 0
-length_of (opens repo) = 0
-length_of (commits n) = 0
-length_of (aborts n) = 0
+-- how many commands it asks at most, and how many may follow it
+abbrev pub asked_by : Deed → ℕ
+asked_by (clean_all repos) = length repos + 1
+asked_by deed = 0
 
--- how many commands come with it at most
+abbrev pub left_by : Deed → ℕ → ℕ
+left_by (clean_all repos) n = 0
+left_by deed n = n
+
+-- What an outcome makes of where it stands. What is not named stays: a deed changes neither draft nor lease.
+abbrev pub stored_done : (deed : Deed) → Outcome deed → Option Blob → Option Blob
+stored_done (take_body n count) (Ok blob) held = Some blob
+stored_done deed outcome held = held
+
+abbrev pub unread_done : Deed → Option ℕ → Option ℕ
+unread_done (take_body n count) unread = None
+unread_done (read_body count) unread = None
+unread_done deed unread = unread
+
+abbrev pub waits_done : Deed → Bool → Bool
+waits_done invite waits = false
+waits_done deed waits = waits
+
+abbrev pub to_clean_done : Deed → Option (List (List ℕ)) → Option (List (List ℕ))
+to_clean_done (clean_all repos) asked = None
+to_clean_done deed asked = asked
+
+-- a deed that fails is answered, or ends the stream; and so does what the bytes of a small body say, where they are refused
+abbrev pub due_done : (List ℕ → Option Close) → (deed : Deed) → Outcome deed → Option Close → Option Close
+due_done by_text invite continued.Written due = due
+due_done by_text invite continued.SinkFault due = Some (rests (Some stream.SinkFault))
+due_done by_text (take_body n count) (Ok blob) due = due
+due_done by_text (take_body n count) (Err fault) due = Some (of_fault fault)
+due_done by_text (read_body count) (Ok bytes) due = by_text bytes
+due_done by_text (read_body count) (Err fault) due = Some (of_fault fault)
+due_done by_text (send_file blob own) result due = Some (of_sent own result)
+due_done by_text (clean_all repos) pass due = Some (of_pass pass)
+
+abbrev pub stand_done : (List ℕ → Option Close) → (deed : Deed) → Outcome deed → Stand → Stand
+stand_done by_text deed outcome s = record s {
+  stored = stored_done deed outcome s.stored;
+  unread = unread_done deed s.unread;
+  waits = waits_done deed s.waits;
+  to_clean = to_clean_done deed s.to_clean;
+  due = due_done by_text deed outcome s.due;
+}
+
+-- the manner of an answer, where this body is not read
+abbrev pub manner_of : Said → Option ℕ → Manner → Manner
+manner_of said.NoMemory unread manner = at_end manner.head_only
+manner_of said unread manner = with_unread (unwrap_or unread 0) manner
+
+-- The course does what it owes, with at most so many commands, whatever is replied and however its deeds end: it ends as is due for
+-- what they came to, holding nothing, with an answer in the manner of the request, or without one, and then the connection goes
+-- on only where the body was read.
+abbrev pub Keeps : (List ℕ → Option Close) → Manner → Course → ℕ → Stand → Type 0
+Keeps by_text manner (asks command next) zero s = ⊥
+Keeps by_text manner (asks command next) (suc n) s =
+    MayAsk command s × ((reply : Reply) → Keeps by_text manner (next reply) n (stand_after command reply s))
+Keeps by_text manner (does deed next) n s =
+    MayDo manner deed s × (asked_by deed ≤ n)
+    × ((outcome : Outcome deed) → Keeps by_text manner (next outcome) (left_by deed n) (stand_done by_text deed outcome s))
+Keeps by_text manner (says said own) n s = HoldsNothing s × (s.due ≡ Some (speaks said)) × (own ≡ manner_of said s.unread manner)
+Keeps by_text manner (stops end) n s = HoldsNothing s × (s.due ≡ Some (rests end)) × (end ≡ None → s.unread ≡ None)
+
+-- The course answers what is due, and only that, whatever is replied and however its deeds end; and where nothing is due to be said it
+-- says nothing.
+abbrev pub AnswersDue : (List ℕ → Option Close) → Course → Option Close → Type 0
+AnswersDue by_text (asks command next) due = (reply : Reply) → AnswersDue by_text (next reply) (due_after command reply due)
+AnswersDue by_text (does deed next) due = (outcome : Outcome deed) → AnswersDue by_text (next outcome) (due_done by_text deed outcome due)
+AnswersDue by_text (says said own) due = due ≡ Some (speaks said)
+AnswersDue by_text (stops end) due = due ≡ Some (rests end)
+
+-- a side file that says no digest is refused, and a text that is no document, by its first fault
+abbrev pub by_digest : Option (List ℕ) → Option Close
+by_digest (Some digest) = None
+by_digest None = Some (speaks said.NoDigest)
+
+abbrev pub by_document : Result Document ℕ → Option Close
+by_document (Ok document) = None
+by_document (Err at) = Some (speaks (said.NoDocument at))
+
+abbrev pub for_text : Intent → List ℕ → Option Close
+for_text (puts_side place path side count) bytes = by_digest (read_side side bytes)
+for_text (puts_document place path count) bytes = by_document (reading bytes)
+for_text intent bytes = None
+
+-- how many commands come with what is asked for at most, and with any request under these settings
 abbrev pub most_for : Intent → ℕ
 most_for (cleans_all repos) = length repos + 1
 most_for intent = 3
 
-abbrev pub most_of : Result Judged Refused → ℕ
-most_of (Ok request) = most_for request.intent
-most_of (Err refused) = 0
-
--- the most commands of a request under these settings
 unfoldable pub most_asked : Settings → ℕ
 most_asked settings = max 3 (length settings.hosted + 1)
 
--- the bytes that a request's course has to read, and whether its answer is a head alone
-abbrev pub unread_of : Result Judged Refused → ℕ
-unread_of (Ok request) = length_of request.intent
-unread_of (Err refused) = 0
+-- what a course owes from its beginning
+pub record Duty : Type 0 where
+  -- what is due for the bytes of a small body
+  pub by_text : List ℕ → Option Close
+  pub manner : Manner
+  pub most : ℕ
+  pub stand : Stand
 
-abbrev pub is_head_only : Result Judged Refused → Bool
-is_head_only (Ok request) = request.head_only
-is_head_only (Err refused) = refused.head_only
+abbrev pub Fulfils : Duty → Course → Type 0
+Fulfils duty course = Keeps duty.by_text duty.manner course duty.most duty.stand
+
+-- to end so, and no more
+abbrev pub to_end : Close → Manner → Duty
+to_end due manner = record { by_text = λ bytes. None; manner = manner; most = 0; stand = record idle { due = Some due } }
+
+-- so for a request, for one that is refused by its head, and for what is no head
+abbrev pub duty_of : Result Judged Refused → Bool → Duty
+duty_of (Ok request) last = record {
+  by_text = for_text request.intent;
+  manner = manner_for request last;
+  most = most_for request.intent;
+  stand = at_first request.expects request.intent;
+}
+duty_of (Err refused) last = to_end (speaks (said.Refused refused.refusal)) (manner_refused refused last)
+
+abbrev pub duty_without_head : HeadFault → Duty
+duty_without_head fault = to_end (speaks (head_said fault)) (at_end false)

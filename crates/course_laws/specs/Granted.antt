@@ -1,29 +1,28 @@
 -- How a request is answered that nothing refuses, neither its head, nor a reply to its commands, nor what its body says.
-use Rattle.std.specs.Prelude.{◌≡◌, ◌⊎◌, ℕ, ◌≤◌, Bool, true, false, if◌then◌else◌, List, [], ◌∷◌, ◌++◌, length, take, drop, Option, Some, None, Ok}
+use Rattle.std.specs.Prelude.{◌≡◌, ◌⊎◌, ℕ, ◌≤◌, Bool, true, false, ◌&&◌, IsTrue, if◌then◌else◌, List, [], ◌∷◌, ◌++◌, length, take, drop, Option, Some, None, Ok, Err}
 use Rattle.std.specs.List.{AllByRecursion}
 use Rattle.outside.specs.Blobs.{Shelf}
 use Rattle.outside.specs.Told.{IsWhereTold, behind}
 use Rattle.http_wire.specs.Answer.{continue_bytes, shown}
 use Rattle.http_wire.specs.declared.answers.Status.{Status}
 use Rattle.http_wire.specs.declared.answers.Status.TheVariants as status_code
-use Rattle.repo_model.specs.Command.{Command, look, done, may_put, put, put_side, put_doc, drop_draft, open_session, stage, commit, abort, status, unlist, collect}
+use Rattle.repo_model.specs.Command.{Command, done, drop_draft}
 use Rattle.repo_model.specs.declared.print.Print.{Print}
 use Rattle.repo_model.specs.Data.{Blob}
 use Rattle.repo_model.specs.History.{Entry}
-use Rattle.repo_model.specs.Reply.{Reply, file, text, doc, draft, same, relisted, created, agreed, noted, opened, staged, ended, counts as counts_reply, unlisted, collected, no_memory}
-use Rattle.repo_routes.specs.Intent.{Intent, Judged, reads as reads_path, puts_file, puts_side, puts_document, counts, cleans as cleans_all, opens, commits, aborts}
+use Rattle.repo_model.specs.Reply.{Reply, can_get, file, text, doc, missed, given_back, kind_refused, draft, no_draft, taken, same, relisted, created, not_there, differs as digest_differs, agreed, noted, dropped, no_session, sessions_full, opened, session_full, staged, offends, missing_pom, ended, unlisted, collected, counts as counts_reply, spent, no_memory, store_fault}
+use Rattle.repo_routes.specs.Intent.{Intent, Judged, cleans as cleans_all}
 use Rattle.repo_course.specs.Answers.{answer_of, file_answer, full_answer, memory_answer}
-use Rattle.repo_course.specs.Course.{Course, asks, continues, takes, reads, sends, cleans, says, stops, end_of}
+use Rattle.repo_course.specs.Course.{Close, Course, Deed, Outcome, asks, does, says, stops, speaks, rests, invite, take_body, read_body, send_file, clean_all, end_of, manner_for, of_pass}
 use Rattle.repo_course.specs.Serving.{IsOtherContent, Outside, print_of, writes}
 use Rattle.repo_course.specs.declared.manner.Manner.{Manner}
-use Rattle.repo_course.specs.declared.outcomes.Cleaned.{Cleaned}
-use Rattle.repo_course.specs.declared.outcomes.Continued.TheVariants.{Written}
+use Rattle.repo_course.specs.declared.outcomes.Continued.TheVariants as continued
 use Rattle.repo_course.specs.declared.outcomes.End.{End}
 use Rattle.repo_course.specs.declared.outcomes.End.TheVariants as stream
-use Rattle.repo_course.specs.declared.outcomes.Sent.TheVariants.{BlobDiffers as Differs, Whole as whole}
+use Rattle.repo_course.specs.declared.outcomes.Sent.TheVariants as sending
 use Rattle.repo_course.specs.declared.said.Said.{Said}
 use Rattle.repo_course.specs.declared.said.Said.TheVariants.{BlobDiffers}
-use Rattle.course_laws.specs.Causes.{due_after, for_pass, for_text}
+use Rattle.course_laws.specs.Duties.{IsReady, MayAsk, MayDo, Stand, at_first, body_length, due_after, for_text, lent_after, stand_after, stand_done}
 use Rattle.course_laws.specs.Faultless.{done_by}
 
 -- 200 or 201
@@ -32,145 +31,99 @@ IsSuccess status_code.Ok = Unit {0}
 IsSuccess status_code.Created = Unit {0}
 IsSuccess _ = ⊥
 
--- The command gets what it asks for: it is not refused, no fault came, and no memory was wanting. To give back is never refused, and a
--- session that has ended says how.
+-- the reply refuses nothing, no fault came, and no memory was wanting; a session that has ended says how
+abbrev pub is_granted : Reply → Bool
+is_granted (file lease blob) = true
+is_granted (text bytes) = true
+is_granted (doc bytes digests) = true
+is_granted missed = false
+is_granted given_back = true
+is_granted kind_refused = false
+is_granted (draft n) = true
+is_granted no_draft = false
+is_granted (taken kept given) = false
+is_granted same = true
+is_granted relisted = true
+is_granted created = true
+is_granted not_there = false
+is_granted (digest_differs said kept) = false
+is_granted agreed = true
+is_granted noted = true
+is_granted dropped = true
+is_granted no_session = false
+is_granted sessions_full = false
+is_granted (opened n) = true
+is_granted session_full = false
+is_granted staged = true
+is_granted (offends path kept given) = false
+is_granted (missing_pom directory) = false
+is_granted (ended result) = true
+is_granted (unlisted count) = true
+is_granted (collected expired blobs) = true
+is_granted (counts_reply files fading cached documents sessions) = true
+is_granted spent = false
+is_granted no_memory = false
+is_granted store_fault = false
+
+-- The command gets what it asks for. To give back is never refused.
 abbrev pub Grants : Command → Reply → Type 0
-Grants (look repo path tried) (file lease blob) = Unit {0}
-Grants (look repo path tried) (text bytes) = Unit {0}
-Grants (look repo path tried) (doc bytes digests) = Unit {0}
 Grants (done lease) reply = Unit {0}
 Grants (drop_draft n) reply = Unit {0}
-Grants (may_put place path) (draft n) = Unit {0}
-Grants (put repo path n blob) created = Unit {0}
-Grants (put repo path n blob) same = Unit {0}
-Grants (put repo path n blob) relisted = Unit {0}
-Grants (put_side place path said) agreed = Unit {0}
-Grants (put_doc place path) noted = Unit {0}
-Grants (open_session repo) (opened n) = Unit {0}
-Grants (stage at path n blob) staged = Unit {0}
-Grants (stage at path n blob) same = Unit {0}
-Grants (commit n) (ended result) = Unit {0}
-Grants (abort n) (ended result) = Unit {0}
-Grants status (counts_reply files fading cached documents sessions) = Unit {0}
-Grants (unlist repo) (unlisted count) = Unit {0}
-Grants collect (collected expired blobs) = Unit {0}
-Grants command reply = ⊥
+Grants command reply = IsTrue (can_get command reply && is_granted reply)
 
 -- each command gets that, or memory was wanted for it
 abbrev pub AllGranted : List Entry → Type 0
 AllGranted entries = AllByRecursion (λ (e : Entry). Grants e.command e.reply ⊎ (e.reply ≡ no_memory)) entries
 
--- the file that a reply lends
-abbrev pub file_after : Command → Reply → Option Blob → Option Blob
-file_after (look repo path tried) (file lease blob) lent = Some blob
-file_after command reply lent = lent
+-- the deed does not fail, and a body is refused by nothing that it says; a blob may have another content than was recorded
+abbrev pub Goes : (List ℕ → Option Close) → (deed : Deed) → Outcome deed → Type 0
+Goes by_text invite continued.Written = Unit {0}
+Goes by_text invite continued.SinkFault = ⊥
+Goes by_text (take_body n count) (Ok blob) = Unit {0}
+Goes by_text (take_body n count) (Err fault) = ⊥
+Goes by_text (read_body count) (Ok bytes) = by_text bytes ≡ None
+Goes by_text (read_body count) (Err fault) = ⊥
+Goes by_text (send_file blob own) sending.Whole = Unit {0}
+Goes by_text (send_file blob own) sending.BlobFault = ⊥
+Goes by_text (send_file blob own) (sending.BlobDiffers recorded found) = Unit {0}
+Goes by_text (send_file blob own) sending.SinkFault = ⊥
+Goes by_text (send_file blob own) sending.NoMemory = ⊥
+Goes by_text (clean_all repos) (Ok did) = Unit {0}
+Goes by_text (clean_all repos) (Err fault) = ⊥
 
--- what is still owed to a request
-pub record Owed : Type 0 where
-  -- whether its body is to be invited, and the length of the body that is to be read
-  pub invites : Bool
-  pub unread : Option ℕ
-  -- what the replies came to: an answer to be given, or a file to be sent
-  pub answer : Option Said
-  pub file : Option Blob
+-- an answer of 200 or 201, that the blob differs, or nothing behind a file
+abbrev pub IsGood : Manner → Close → Type 0
+IsGood manner (speaks (BlobDiffers recorded found)) = Unit {0}
+IsGood manner (speaks said) = IsSuccess (full_answer said).status
+IsGood manner (rests end) = end ≡ end_of manner
 
-abbrev pub owed_after : Command → Reply → Owed → Owed
-owed_after command reply o = record o { answer = due_after command reply o.answer; file = file_after command reply o.file }
-
--- the body was invited where the client waits for it, and it was read
-abbrev pub IsReady : Owed → Type 0
-IsReady o = (o.invites ≡ false) × (o.unread ≡ None)
-
--- behind a file that was sent whole its lease is given back, and nothing is said
-abbrev pub Rests : Manner → Course → Type 0
-Rests manner (asks (done lease) next) = (reply : Reply) → Rests manner (next reply)
-Rests manner (stops end) = end ≡ end_of manner
-Rests manner course = ⊥
-
--- behind a file that was not sent its lease is given back, and this is answered
-abbrev pub RestsSaying : Said → Manner → Course → Type 0
-RestsSaying cause manner (asks (done lease) next) = (reply : Reply) → RestsSaying cause manner (next reply)
-RestsSaying cause manner (says said own) = (said ≡ cause) × (own ≡ manner)
-RestsSaying cause manner course = ⊥
-
--- Where each command gets what it asks for, no act fails and the body is refused by nothing that it says, the body is invited
--- where that is owed, and read; and then the answer is the one that the replies came to, of 200 or 201 and in this manner, or
--- the file, sent whole, or what its blob has in place of the recorded content.
-abbrev pub Succeeds : (List ℕ → Option Said) → Manner → Course → Owed → Type 0
-Succeeds by_text manner (asks command next) o =
-    (reply : Reply) → Grants command reply → Succeeds by_text manner (next reply) (owed_after command reply o)
-Succeeds by_text manner (continues next) o = (o.invites ≡ true) × Succeeds by_text manner (next Written) (record o { invites = false })
-Succeeds by_text manner (takes number count next) o =
-    (o.invites ≡ false) × (o.unread ≡ Some count) × ((blob : Blob) → Succeeds by_text manner (next (Ok blob)) (record o { unread = None }))
-Succeeds by_text manner (reads count next) o =
-    (o.invites ≡ false) × (o.unread ≡ Some count)
-    × ((bytes : List ℕ) → by_text bytes ≡ None → Succeeds by_text manner (next (Ok bytes)) (record o { unread = None }))
-Succeeds by_text manner (sends blob own next) o =
-    IsReady o × (o.file ≡ Some blob) × (own ≡ manner) × Rests manner (next whole)
-    × ((recorded found : Print) → RestsSaying (BlobDiffers recorded found) manner (next (Differs recorded found)))
-Succeeds by_text manner (says said own) o = IsReady o × (o.answer ≡ Some said) × IsSuccess (full_answer said).status × (own ≡ manner)
-Succeeds by_text manner (cleans repos next) o = ⊥
-Succeeds by_text manner (stops end) o = ⊥
-
--- The pass over these repositories is the course, and what it did is answered, with 200 or 201 and in this manner.
-abbrev pub Cleans : List (List ℕ) → Manner → Course → Type 0
-Cleans repos manner (cleans asked next) =
-    (asked ≡ repos) × ((did : Cleaned) → (said : Said) × (for_pass (Ok did) ≡ Some said) × IsSuccess (full_answer said).status × (next (Ok did) ≡ says said manner))
-Cleans repos manner course = ⊥
-
--- so for what a request asks for
-abbrev pub SucceedsAt : Intent → Manner → Course → Owed → Type 0
-SucceedsAt (cleans_all repos) manner course o = IsReady o × Cleans repos manner course
-SucceedsAt intent manner course o = Succeeds (for_text intent) manner course o
-
--- the length of the body that comes with what is asked for, and whether it is to be invited
-abbrev pub body_length : Intent → Option ℕ
-body_length (reads_path repo path) = None
-body_length (puts_file place path count) = Some count
-body_length (puts_side place path side count) = Some count
-body_length (puts_document place path count) = Some count
-body_length counts = None
-body_length (cleans_all repos) = None
-body_length (opens repo) = None
-body_length (commits n) = None
-body_length (aborts n) = None
-
-abbrev pub is_invited : Intent → Bool → Bool
-is_invited (reads_path repo path) expects = false
-is_invited counts expects = false
-is_invited (cleans_all repos) expects = false
-is_invited (opens repo) expects = false
-is_invited (commits n) expects = false
-is_invited (aborts n) expects = false
-is_invited intent expects = expects
-
-abbrev pub owed_at_first : Judged → Owed
-owed_at_first request = record {
-  invites = is_invited request.intent request.expects;
-  unread = body_length request.intent;
-  answer = None;
-  file = None;
-}
-
-abbrev pub manner_for : Judged → Bool → Manner
-manner_for request last = record { close = request.close; last = last; head_only = request.head_only }
+-- Where each command gets what it asks for, no deed fails and the body is refused by nothing that it says, the course does what it
+-- may, and all that is asked for: the body is invited where the client waits for that, and read; the file that is sent is the one
+-- that was lent; a pass goes over the repositories that are asked for. And it ends well: as is due for that, and in this manner.
+abbrev pub Succeeds : (List ℕ → Option Close) → Manner → Course → Stand → Type 0
+Succeeds by_text manner (asks command next) s =
+    MayAsk command s × ((reply : Reply) → Grants command reply → Succeeds by_text manner (next reply) (stand_after command reply s))
+Succeeds by_text manner (does deed next) s =
+    MayDo manner deed s × ((outcome : Outcome deed) → Goes by_text deed outcome → Succeeds by_text manner (next outcome) (stand_done by_text deed outcome s))
+Succeeds by_text manner (says said own) s = IsReady s × (s.due ≡ Some (speaks said)) × IsGood manner (speaks said) × (own ≡ manner)
+Succeeds by_text manner (stops end) s = IsReady s × (s.due ≡ Some (rests end)) × IsGood manner (rests end)
 
 -- what the replies of these entries came to
-abbrev pub answer_by : List Entry → Option Said → Option Said
+abbrev pub answer_by : List Entry → Option Close → Option Close
 answer_by [] due = due
 answer_by (e ∷ entries) due = answer_by entries (due_after e.command e.reply due)
 
 abbrev pub file_by : List Entry → Option Blob → Option Blob
 file_by [] lent = lent
-file_by (e ∷ entries) lent = file_by entries (file_after e.command e.reply lent)
+file_by (e ∷ entries) lent = file_by entries (lent_after e.command e.reply lent)
 
 -- what is due for what is asked for: what the replies came to, or what the pass of these entries did
-abbrev pub due_by : Intent → List Entry → Option Said
-due_by (cleans_all repos) entries = for_pass (Ok (done_by entries))
+abbrev pub due_by : Intent → List Entry → Option Close
+due_by (cleans_all repos) entries = Some (of_pass (Ok (done_by entries)))
 due_by intent entries = answer_by entries None
 
 -- a body of this length came whole, and nothing that it says is refused
-abbrev pub BodyIsTaken : (List ℕ → Option Said) → Option ℕ → List ℕ → Type 0
+abbrev pub BodyIsTaken : (List ℕ → Option Close) → Option ℕ → List ℕ → Type 0
 BodyIsTaken by_text None input = Unit {0}
 BodyIsTaken by_text (Some count) input = (count ≤ length input) × (by_text (take count input) ≡ None)
 
@@ -194,9 +147,9 @@ AreBytesOf manner blob bytes = IsWhereTold blob.bytes bytes × (manner.head_only
 -- file, whole, or the head of its answer alone; or, where its blob has another content than was recorded, the answer that says
 -- so; or, where memory was wanted, the answer that says so, its head alone to HEAD only, in front of which the invitation stands
 -- or nothing. Of the blobs that are told this says nothing.
-pub data IsServed (manner : Manner) (invited : List ℕ) (left : List ℕ) (answer : Option Said) (lent : Option Blob) (old new : Outside)
+pub data IsServed (manner : Manner) (invited : List ℕ) (left : List ℕ) (answer : Option Close) (lent : Option Blob) (old new : Outside)
     (end : Option End) : Type 0 where
-  answered : (said : Said) (kept : Shelf) → answer ≡ Some said → IsSuccess (full_answer said).status
+  answered : (said : Said) (kept : Shelf) → answer ≡ Some (speaks said) → IsSuccess (full_answer said).status
       → new ≡ writes (invited ++ shown (answer_of said manner)) (record old { input = Some left; shelf = kept })
       → end ≡ end_of manner → IsServed manner invited left answer lent old new end
   sent : (blob : Blob) (bytes : List ℕ) (kept : Shelf) → lent ≡ Some blob → AreBytesOf manner blob bytes
@@ -212,8 +165,8 @@ pub data IsServed (manner : Manner) (invited : List ℕ) (left : List ℕ) (answ
 -- so for a request, behind whose head this came
 abbrev pub IsAnsweredFor : Judged → Bool → List ℕ → List Entry → Outside → Outside → Option End → Type 0
 IsAnsweredFor request last input entries old new end =
-    let owed = owed_at_first request in
-    IsServed (manner_for request last) (invitation owed.invites) (behind_body owed.unread input) (due_by request.intent entries) (file_by entries None) old new end
+    let s = at_first request.expects request.intent in
+    IsServed (manner_for request last) (invitation s.waits) (behind_body s.unread input) (due_by request.intent entries) (file_by entries None) old new end
 
 abbrev pub ComesWhole : Judged → List ℕ → Type 0
 ComesWhole request input = BodyIsTaken (for_text request.intent) (body_length request.intent) input

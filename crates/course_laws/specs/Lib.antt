@@ -5,6 +5,5 @@ pub mod Complete
 pub mod Faultless
 pub mod AsPlayed
 pub mod Worked
-pub mod Causes
 pub mod Refusals
 pub mod Granted

@@ -1,5 +1,5 @@
 //! What follows for served streams. No function here has code: its contract is the law.
-ghost use Rattle.std.specs.Prelude.{◌≡◌, ◌≢◌, ◌⊎◌, ℕ, ◌*◌, ◌≤◌, Bool, false, length, List, ◌++◌, [], Option, Some, None, Result, Ok, Err, IfOk, IfErr};
+ghost use Rattle.std.specs.Prelude.{◌≡◌, ◌≢◌, ℕ, ◌*◌, ◌≤◌, Bool, false, length, List, ◌++◌, [], Option, Some, Result, Ok, Err, IfOk, IfErr};
 ghost use Rattle.std.specs.List.{AllByRecursion};
 ghost use Rattle.outside.specs.Moments.{Moments};
 ghost use Rattle.http_wire.specs.declared.faults.HeadFault.{HeadFault};
@@ -9,24 +9,21 @@ ghost use Rattle.repo_routes.specs.Framing as framing;
 ghost use Rattle.repo_routes.specs.Intent.{Judged};
 ghost use Rattle.repo_routes.specs.Judge.{judge};
 ghost use Rattle.repo_routes.specs.declared.judging.Refused.{Refused};
-ghost use Rattle.repo_course.specs.Course.{course_of, head_said, refuses_head};
+ghost use Rattle.repo_course.specs.Course.{course_of, refuses_head};
 ghost use Rattle.repo_course.specs.declared.outcomes.End.{End};
 ghost use Rattle.repo_course.specs.Serving.{AllTell, Outside, Serves, Turn};
 ghost use Rattle.repo_model.specs.History.{Entry, Legal, end};
 ghost use Rattle.repo_model.specs.Reply.{no_draft};
 ghost use Rattle.repo_model.specs.Settings.{Settings};
 ghost use Rattle.repo_model.specs.State.{State, opening};
-ghost use Rattle.course_laws.specs.AsPlayed.{BeginsAt, IsAsPlayed, IsPlayedUpTo, NoFaults, RowsTold, StoodStill, WantedMemory};
-ghost use Rattle.course_laws.specs.Causes.{AnswersDue, by_text_of, due_at_first};
+ghost use Rattle.course_laws.specs.AsPlayed.{BeginsAt, IsAsPlayed, IsPlayedUpTo, NoFaults, RowsTold, StoodStill};
 ghost use Rattle.course_laws.specs.Complete.{IsComplete};
-ghost use Rattle.course_laws.specs.Duties.{Keeps, at_first, is_head_only, most_asked, most_of, unread_of};
+ghost use Rattle.course_laws.specs.Duties.{AnswersDue, Fulfils, duty_of, duty_without_head, length_of, most_asked};
 ghost use Rattle.course_laws.specs.Endings.{EndsByCause};
-ghost use Rattle.course_laws.specs.Faultless.{first_scene};
-ghost use Rattle.course_laws.specs.Granted.{AllGranted, ComesWhole, IsAnsweredFor, SucceedsAt, manner_for, owed_at_first};
+ghost use Rattle.course_laws.specs.Granted.{AllGranted, ComesWhole, IsAnsweredFor, Succeeds};
 ghost use Rattle.course_laws.specs.LeftBehind.{IsDrawn, LeavesNothing};
 ghost use Rattle.course_laws.specs.Refusals.{IsRefusedBy};
-ghost use Rattle.course_laws.specs.Worked as worked;
-ghost use Rattle.course_laws.specs.Worked.{IsAnswered};
+ghost use Rattle.course_laws.specs.Worked.{IsAnswered, abc_200, created_201, last_get, put_abc};
 
 use outside::Held;
 
@@ -65,23 +62,25 @@ pub fn courses_are_complete()
     ensures no_heads { (settings : Settings) (fault : HeadFault) → IsComplete settings (refuses_head fault) }
 {}
 
-/// Each course of a request, and each refusal, does what it owes, whatever is replied and however its acts end: a request
-/// asks at most three commands, or for a pass one for each repository and one more, and a refusal none; it puts its draft or
-/// gives it up, gives its lease back and holds it while a file is sent, invites and reads its body at most once, answers once
-/// unless a side of the stream failed, lets the connection go on only where the body was read, and answers to HEAD by heads
-/// alone.
+/// Each course of a request, and each refusal, does what it owes, whatever is replied and however its deeds end: a request asks
+/// at most three commands, or for a pass one for each repository and one more, and a refusal none; it puts its draft or gives it
+/// up, gives its lease back and holds it while a file is sent; it invites its body where the client waits for that, reads it by
+/// its length, once, and asks nothing but a draft before; a pass goes over the repositories that are asked for. It ends once, as is
+/// due for what its commands and deeds came to: with an answer in the manner of the request, which closes the connection where
+/// the body was not read or memory was wanted, and is a head alone to HEAD; or, behind a file or where a side of the stream
+/// failed, with none.
 pub fn courses_keep_their_duties()
-    ensures requests { (judged : Result Judged Refused) (last : Bool) →
-        Keeps (is_head_only judged) (course_of judged last) (most_of judged) (at_first (unread_of judged)) }
-    ensures no_heads { (fault : HeadFault) → Keeps false (refuses_head fault) 0 (at_first 0) }
+    ensures requests { (judged : Result Judged Refused) (last : Bool) → Fulfils (duty_of judged last) (course_of judged last) }
+    ensures no_heads { (fault : HeadFault) → Fulfils (duty_without_head fault) (refuses_head fault) }
 {}
 
-/// Each course of a request, and each refusal, gives the answer that is due for what its acts came to, and no other: by the
-/// table of `specs/Causes.antt`, whatever is replied and however the acts end.
+/// Each course of a request, and each refusal, gives the answer that is due for what its commands and deeds came to, and no other,
+/// whatever is replied and however the deeds end.
 pub fn answers_have_their_causes()
     ensures requests { (judged : Result Judged Refused) (last : Bool) →
-        AnswersDue (by_text_of judged) (course_of judged last) (due_at_first judged) }
-    ensures no_heads { (fault : HeadFault) → AnswersDue (λ bytes. None) (refuses_head fault) (Some (head_said fault)) }
+        let duty = duty_of judged last in AnswersDue duty.by_text (course_of judged last) duty.stand.due }
+    ensures no_heads { (fault : HeadFault) →
+        let duty = duty_without_head fault in AnswersDue duty.by_text (refuses_head fault) duty.stand.due }
 {}
 
 /// A request of a served stream whose head is refused asks nothing, and its answer says why, unless memory was wanted, which
@@ -94,11 +93,12 @@ pub fn refusals_are_answered<H: Held>()
 {}
 
 /// Each course of a request that is not refused by its head comes to an answer of 200 or 201, or sends the file that it was
-/// lent, where each command gets what it asks for, no act fails and the body is refused by nothing that it says; a pass over the
-/// repositories is answered by what it did. It invites the body where the client waits for that, and has read it then.
+/// lent, where each command gets what it asks for, no deed fails and the body is refused by nothing that it says; a pass over the
+/// repositories that are asked for is answered by what it did. It invites the body where the client waits for that, and has read
+/// it then.
 pub fn courses_succeed()
     ensures { (request : Judged) (last : Bool) →
-        SucceedsAt request.intent (manner_for request last) (course_of (Ok request) last) (owed_at_first request) }
+        let duty = duty_of (Ok request) last in Succeeds duty.by_text duty.manner (course_of (Ok request) last) duty.stand }
 {}
 
 /// A request of a served stream that nothing refuses, neither its head, nor a reply to its commands, nor what its body says, and
@@ -118,7 +118,7 @@ pub fn granted_requests_are_answered<H: Held>()
 /// refused goes on only where its head announces none: so no byte of a body is ever read as a head.
 pub fn bodies_are_whole()
     ensures requests { (settings : Settings) (head : Head) →
-        IfOk (judge settings head) (λ request. framing.length_of head ≡ Ok (unread_of (Ok request))) }
+        IfOk (judge settings head) (λ request. framing.length_of head ≡ Ok (length_of request.intent)) }
     ensures refusals { (settings : Settings) (head : Head) →
         IfErr (judge settings head) (λ refused. refused.close ≡ false → framing.length_of head ≡ Ok 0) }
 {}
@@ -155,46 +155,7 @@ pub fn first_files_are_told()
     ensures { (settings : Settings) (clock : Option Moments) → RowsTold (opening settings clock) }
 {}
 
-/// The first stream of a repository, where no blob failed and the records did not: it has taken what is played, up to some
-/// place, and that is a function of the settings, the clock's moments and the input.
-pub fn first_stream_is_played<H: Held>()
-    ensures { (settings : Settings) → AllTell H.bytes →
-        (n : ℕ) (entries : List Entry) (clock : Moments) (old new : Outside) (ending : End) (input before : List ℕ) →
-        let start = opening settings (Some clock) in
-        Legal settings start entries → StoodStill 0 (end settings start entries).faults →
-        old.input ≡ Some input → old.output ≡ Some before → StoodStill old.blob_faults new.blob_faults →
-        Serves settings (AllTell H.bytes) n entries old new ending →
-        IsPlayedUpTo settings n (first_scene settings (Some clock) input) before old new ending }
-{}
-
-/// What a stream without faults has taken is a function of the machine's state, the clock's moments in it, and the input:
-/// two such streams have taken the same bytes and ended alike, unless one of them wanted memory.
-pub fn faultless_runs_agree<H: Held>()
-    ensures { (settings : Settings) → AllTell H.bytes →
-        (n : ℕ) (start : State) (input before : List ℕ) (entries others : List Entry) (old new other_old other_new : Outside) (ending other_ending : End) →
-        Legal settings start entries → StoodStill start.faults (end settings start entries).faults →
-        BeginsAt start input before old → NoFaults old new → Serves settings (AllTell H.bytes) n entries old new ending →
-        Legal settings start others → StoodStill start.faults (end settings start others).faults →
-        BeginsAt start input before other_old → NoFaults other_old other_new → Serves settings (AllTell H.bytes) n others other_old other_new other_ending →
-        ((new.output ≡ other_new.output) × (ending ≡ other_ending))
-        ⊎ WantedMemory before new.output ⊎ WantedMemory before other_new.output }
-{}
-
-/// Worked exchanges, from an empty repository, whatever the clock tells and the settings say beside its two repositories.
-pub fn worked_exchanges()
-    ensures put_and_get { IsAnswered (worked.put_abc ++ worked.last_get) (worked.created_201 ++ worked.abc_200) }
-    ensures put_again { IsAnswered (worked.put_abc ++ worked.put_abc ++ worked.put_nothing ++ worked.last_get)
-        (worked.created_201 ++ worked.same_200 ++ worked.taken_409 ++ worked.abc_200) }
-    ensures put_nothing { IsAnswered (worked.put_nothing ++ worked.last_get) (worked.created_201 ++ worked.nothing_200) }
-    ensures side_files { IsAnswered (worked.put_abc ++ worked.get_sha1 ++ worked.put_sha1 ++ worked.put_other_sha1)
-        (worked.created_201 ++ worked.sha1_200 ++ worked.agreed_201 ++ worked.differs_422) }
-    ensures head { IsAnswered (worked.put_abc ++ worked.head_request ++ worked.last_get)
-        (worked.created_201 ++ worked.abc_head_200 ++ worked.abc_200) }
-    ensures status { IsAnswered (worked.put_abc ++ worked.last_get_status) (worked.created_201 ++ worked.status_200) }
-    ensures expectation { IsAnswered (worked.put_abc_expecting ++ worked.last_get) (worked.continue_100 ++ worked.created_201 ++ worked.abc_200) }
-    ensures not_there { IsAnswered worked.last_get worked.not_there_404 }
-    ensures methods { IsAnswered (worked.delete ++ worked.last_get) (worked.method_405 ++ worked.not_there_404) }
-    ensures session { IsAnswered (worked.open_session ++ worked.stage_abc ++ worked.stage_pom ++ worked.commit_session ++ worked.last_get)
-        (worked.opened_201 ++ worked.staged_201 ++ worked.staged_201 ++ worked.done_200 ++ worked.abc_200) }
-    ensures paths { IsAnswered (worked.get_no_name ++ worked.put_bad_segment) (worked.not_named_404 ++ worked.bad_segment_400) }
+/// A worked exchange, from an empty repository, whatever the clock tells and the settings say beside its two repositories.
+pub fn worked_exchange()
+    ensures { IsAnswered (put_abc ++ last_get) (created_201 ++ abc_200) }
 {}

@@ -8,7 +8,6 @@ mod laws;
 pub use laws::{
     answers_have_their_causes, bodies_are_whole, broken_is_a_front, calls_are_few,
     courses_are_complete, courses_keep_their_duties, courses_succeed, ends_have_their_causes,
-    faultless_is_played, faultless_runs_agree, first_files_are_told, first_stream_is_played,
-    granted_requests_are_answered, nothing_is_left_behind, own_drafts_are_there,
-    refusals_are_answered, worked_exchanges,
+    faultless_is_played, first_files_are_told, granted_requests_are_answered,
+    nothing_is_left_behind, own_drafts_are_there, refusals_are_answered, worked_exchange,
 };

@@ -12,7 +12,6 @@ use repo_config::Settings;
 use repo_model::{Command, Reply};
 use run_desks::Cleaner;
 use seat_server::clean_with;
-use std::alloc::Global;
 use std::sync::Wait;
 use turn_lock::{Seat, Turns};
 use turn_seats::Repository;
@@ -26,7 +25,6 @@ pub fn keep_clean<
     W: Wait,
 >(
     rt: &W,
-    alloc: Global,
     settings: &Settings,
     turns: &Turns<T>,
     mut seat: Seat<T>,
@@ -44,7 +42,7 @@ pub fn keep_clean<
         if !cleaner.pace.pause(seconds) {
             return seat;
         }
-        let (next, _) = clean_with(rt, alloc, settings, turns, seat, &mut cleaner.blobs);
+        let (next, _) = clean_with(rt, settings, turns, seat, &mut cleaner.blobs);
         seat = next;
     }
     unreachable!()

@@ -10,6 +10,7 @@ ghost use Rattle.turn_lock.specs.Seats.{opening, IsSeatOf};
 use outside::{Blobs, Port, Tells};
 use repo_config::Settings;
 use repo_model::{Command, Reply};
+use repo_routes::Routes;
 use run_desks::Desk;
 use seat_server::serve_with;
 use std::alloc::Global;
@@ -42,6 +43,7 @@ pub fn serve_desk<
         (store (B.shelf desk.old.blobs) (B.faults desk.old.blobs)) (store (B.shelf desk.new.blobs) (B.faults desk.new.blobs)) }
     ensures over { IsOver result.1 (P.left desk.new.port) (P.faults desk.old.port) (P.faults desk.new.port) }
 {
+    let routes = Routes::new(alloc).ok();
     for _ in rt.forever() {
         match desk.port.next() {
             Ok(Some(mut link)) => {
@@ -49,6 +51,7 @@ pub fn serve_desk<
                     rt,
                     alloc,
                     settings,
+                    &routes,
                     turns,
                     seat,
                     &mut desk.blobs,

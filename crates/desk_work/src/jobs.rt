@@ -69,7 +69,6 @@ pub struct CleanerJob<'a, B: Blobs, Q: Pace, T: Thing> {
     pub house: &'a House<T>,
     pub seat: Seat<T>,
     pub cleaner: Cleaner<B, Q>,
-    pub alloc: Global,
 }
 
 impl<
@@ -95,9 +94,8 @@ impl<
             house,
             seat,
             mut cleaner,
-            alloc,
         } = self;
-        let seat = keep_clean(rt, alloc, &house.settings, &house.turns, seat, &mut cleaner);
+        let seat = keep_clean(rt, &house.settings, &house.turns, seat, &mut cleaner);
         (seat, cleaner)
     }
 }

@@ -40,6 +40,7 @@ fn run_jobs<
 where
     P::Link: Send,
     B::Held: Send,
+    B::Pen: Send,
     requires jobs { All (λ job. IsReady T.sight shown_command shown_reply (IsStep T.fixed T.may_ask T.turned) job.house.now.settings job.house.now.turns job.seat) jobs.items }
     requires last { IsReady T.sight shown_command shown_reply (IsStep T.fixed T.may_ask T.turned) last.house.now.settings last.house.now.turns last.seat }
     requires room { (room.items ≡ []) × (vec_len jobs ≤ vec_capacity room) }
@@ -97,6 +98,7 @@ pub fn serve_all<
 where
     P::Link: Send,
     B::Held: Send,
+    B::Pen: Send,
     requires ready { IsReady T.sight shown_command shown_reply (IsStep T.fixed T.may_ask T.turned) house.now.settings house.now.turns seat }
     requires parts { vec_len desks < parts_of seat }
     requires room { (room.items ≡ []) × (vec_len desks ≤ vec_capacity room) }
@@ -121,7 +123,6 @@ where
         house,
         seat,
         cleaner,
-        alloc,
     };
     Ok(run_jobs(rt, jobs, last, room))
 }

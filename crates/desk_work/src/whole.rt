@@ -144,6 +144,7 @@ pub fn work<
 where
     P::Link: Send,
     B::Held: Send,
+    B::Pen: Send,
     requires ready { IsReady T.sight shown_command shown_reply (IsStep T.fixed T.may_ask T.turned) settings turns seat }
     requires parts { parts_of seat ≡ 2 ^ 64 }
     ensures refused { IsTrue result.refused → (result.desks.items ≡ desks.items) × (result.cleaner ≡ cleaner) × IsFalse result.failed

@@ -1,5 +1,5 @@
 -- A pass over the repositories: each unlists what it does not keep, what has been unlisted for longer than the grace period is collected, and the garbage is removed.
-use Rattle.std.specs.Prelude.{◌≡◌, ◌⊎◌, ℕ, Bool, false, List, [], ◌∷◌, ◌++◌, length, map, min, sum, Result, Ok, Err}
+use Rattle.std.specs.Prelude.{◌≡◌, ℕ, false, List, [], ◌∷◌, ◌++◌, length, map, min, sum, Result, Ok, Err}
 use Rattle.outside.specs.Blobs.{Shelf, without_blob}
 use Rattle.outside.specs.Faults.{Rose, last_count}
 use Rattle.repo_model.specs.Command.{Command, unlist, collect}
@@ -87,7 +87,6 @@ pub data Passes (repos : List (List ℕ)) (entries : List Entry) (old new : Stor
       → Unlists repos first (Ok count) → Collects last (Ok blobs) → Removes blobs old new removed → result ≡ cleaned count removed
       → Passes repos entries old new result
 
--- the pass over all hosted repositories, in the order of the settings; or memory was wanted before the first command
+-- the pass over all hosted repositories, in the order of the settings
 abbrev pub PassesAll : Settings → List Entry → Store → Store → Result Cleaned CleanFault → Type 0
-PassesAll settings entries old new result =
-    Passes (hosted_ids settings) entries old new result ⊎ ((entries ≡ []) × (new ≡ old) × (result ≡ Err NoMemory))
+PassesAll settings entries old new result = Passes (hosted_ids settings) entries old new result

@@ -1,5 +1,5 @@
 -- The course of a request: the commands and the acts that it makes, one after another as their results come, and its answer.
-use Rattle.std.specs.Prelude.{ℕ, Bool, false, ◌||◌, nat_lt, if◌then◌else◌, List, [], Option, Some, None, Result, Ok, Err}
+use Rattle.std.specs.Prelude.{ℕ, Bool, true, false, ◌||◌, nat_lt, if◌then◌else◌, List, [], Option, Some, None, Result, Ok, Err}
 use Rattle.http_wire.specs.declared.faults.HeadFault.{HeadFault}
 use Rattle.http_wire.specs.declared.faults.HeadFault.TheVariants.{Broken, TooLong}
 use Rattle.http_wire.specs.Head.{Head}
@@ -10,7 +10,7 @@ use Rattle.mvn_doc.specs.Reading.{reading}
 use Rattle.mvn_metadata.specs.Document.{Document}
 use Rattle.repo_model.specs.Data.{Blob, Place, repository, session}
 use Rattle.repo_model.specs.Command.{Command, look, done, may_put, put, put_side, put_doc, drop_draft, open_session, stage, commit, abort, status}
-use Rattle.repo_model.specs.Reply.{Reply, file, text, doc, missed, kind_refused, draft, no_draft, taken, same, relisted, created, not_there, differs, agreed, noted, counts, no_session, sessions_full, opened, session_full, staged, offends, missing_pom, ended, spent, store_fault}
+use Rattle.repo_model.specs.Reply.{Reply, file, text, doc, missed, given_back, kind_refused, draft, no_draft, taken, same, relisted, created, not_there, differs, agreed, noted, dropped, counts, no_session, sessions_full, opened, session_full, staged, offends, missing_pom, ended, unlisted, collected, spent, no_memory, store_fault}
 use Rattle.repo_routes.specs.Framing.{is_head}
 use Rattle.repo_routes.specs.Intent as judged
 use Rattle.repo_routes.specs.Intent.{Intent, Judged}
@@ -43,20 +43,33 @@ Body = Result (List ℕ) Took
 abbrev pub Pass : Type 0
 Pass = Result Cleaned CleanFault
 
+-- what is done outside the machine between two commands
+pub data Deed : Type 0 where
+  -- `100 Continue` is written
+  invite : Deed
+  -- the body of a length is taken and stored under a draft
+  take_body : (draft length : ℕ) → Deed
+  -- the body of a length is read
+  read_body : (length : ℕ) → Deed
+  -- the head of the answer with a file is written, and the bytes of its blob where it is not the head alone
+  send_file : Blob → Manner → Deed
+  -- a pass over these repositories
+  clean_all : (repos : List (List ℕ)) → Deed
+
+-- what it may come to
+abbrev pub Outcome : Deed → Type 0
+Outcome invite = Continued
+Outcome (take_body number count) = Stored
+Outcome (read_body count) = Body
+Outcome (send_file blob manner) = Sent
+Outcome (clean_all repos) = Pass
+
 -- what comes next, and then what follows each result
 pub data Course : Type 0 where
   -- a command of the machine
   asks : Command → (Reply → Course) → Course
-  -- `100 Continue` is written
-  continues : (Continued → Course) → Course
-  -- the body of a length is taken and stored under a draft
-  takes : (draft length : ℕ) → (Stored → Course) → Course
-  -- the body of a length is read
-  reads : (length : ℕ) → (Body → Course) → Course
-  -- the head of the answer with a file is written, and the bytes of its blob where it is not the head alone
-  sends : Blob → Manner → (Sent → Course) → Course
-  -- a pass over these repositories
-  cleans : (repos : List (List ℕ)) → (Pass → Course) → Course
+  -- a deed outside it
+  does : (deed : Deed) → (Outcome deed → Course) → Course
   -- an answer that says so; then the stream ends where the request or a body that was not read asks for it, or goes on
   says : Said → Manner → Course
   -- nothing more is written; then the stream ends so, or goes on
@@ -68,6 +81,40 @@ end_of manner = if manner.close then Some stream.Closed else None
 
 abbrev pub without_memory : Manner → Course
 without_memory manner = says said.NoMemory (at_end manner.head_only)
+
+-- an answer; where memory was wanted it ends the connection
+abbrev pub answers : Manner → Said → Course
+answers manner said.NoMemory = without_memory manner
+answers manner said = says said manner
+
+-- what ends a course: an answer, or none, and then the stream ends so or goes on
+pub data Close : Type 0 where
+  speaks : Said → Close
+  rests : Option End → Close
+
+abbrev pub closes : Manner → Close → Course
+closes manner (speaks said) = answers manner said
+closes manner (rests end) = stops end
+
+-- what is due for a body that was not taken, a file that was sent or not, and a pass
+abbrev pub of_fault : Took → Close
+of_fault took.Torn = rests (Some stream.TornRequest)
+of_fault took.SourceFault = rests (Some stream.SourceFault)
+of_fault took.BlobFault = speaks said.BlobFault
+of_fault took.NoMemory = speaks said.NoMemory
+
+abbrev pub of_sent : Manner → Sent → Close
+of_sent manner sent.Whole = rests (end_of manner)
+of_sent manner sent.BlobFault = speaks said.BlobFault
+of_sent manner (sent.BlobDiffers recorded found) = speaks (said.BlobDiffers recorded found)
+of_sent manner sent.SinkFault = rests (Some stream.SinkFault)
+of_sent manner sent.NoMemory = speaks said.NoMemory
+
+abbrev pub of_pass : Pass → Close
+of_pass (Ok pass) = speaks (said.Cleaned pass.unlisted pass.removed)
+of_pass (Err clean.StoreFault) = speaks said.StoreFault
+of_pass (Err clean.BlobFault) = speaks said.BlobFault
+of_pass (Err clean.NoMemory) = speaks said.NoMemory
 
 abbrev pub gives_up : ℕ → Course → Course
 gives_up n course = asks (drop_draft n) (λ reply. course)
@@ -83,142 +130,129 @@ after_continue cut body continued.SinkFault = cut
 
 -- `100 Continue` before a body, where the client waits for it
 abbrev pub invites : Bool → (cut body : Course) → Course
-invites expects cut body = if expects then continues (after_continue cut body) else body
-
--- the end of a file's answer, once its lease is given back
-abbrev pub after_send : Manner → Sent → Course
-after_send manner sent.Whole = stops (end_of manner)
-after_send manner sent.BlobFault = says said.BlobFault manner
-after_send manner (sent.BlobDiffers recorded found) = says (said.BlobDiffers recorded found) manner
-after_send manner sent.SinkFault = cut_off
-after_send manner sent.NoMemory = without_memory manner
+invites expects cut body = if expects then does invite (after_continue cut body) else body
 
 -- the file is sent, and its lease given back whatever came of it
 abbrev pub sends_file : Manner → ℕ → Blob → Course
-sends_file manner lease blob = sends blob manner (λ result. asks (done lease) (λ reply. after_send manner result))
+sends_file manner lease blob = does (send_file blob manner) (λ result. asks (done lease) (λ reply. closes manner (of_sent manner result)))
+
+-- what is answered to a reply; one that is answered by no words of its own, since a deed or a command follows it, counts as want of
+-- memory
+abbrev pub said_of : Reply → Said
+said_of (file lease blob) = said.NoMemory
+said_of (text bytes) = said.Text bytes
+said_of (doc bytes digests) = said.Doc bytes digests
+said_of missed = said.NotThere
+said_of given_back = said.NoMemory
+said_of kind_refused = said.KindRefused
+said_of (draft n) = said.NoMemory
+said_of no_draft = said.NoDraft
+said_of (taken kept given) = said.Taken kept given
+said_of same = said.Same
+said_of relisted = said.Relisted
+said_of created = said.Created
+said_of not_there = said.NotThere
+said_of (differs sent kept) = said.Differs (hex_text sent) (hex_text kept)
+said_of agreed = said.Agreed
+said_of noted = said.Noted
+said_of dropped = said.NoMemory
+said_of no_session = said.NoSession
+said_of sessions_full = said.TooMany
+said_of (opened n) = said.Opened n
+said_of session_full = said.SessionFull
+said_of staged = said.Staged
+said_of (offends path kept given) = said.Offends path kept given
+said_of (missing_pom directory) = said.MissingPom directory
+said_of (ended result) = said.Ended result
+said_of (unlisted count) = said.NoMemory
+said_of (collected expired blobs) = said.NoMemory
+said_of (counts files fading cached documents sessions) = said.Counts files fading cached documents sessions
+said_of spent = said.Spent
+said_of no_memory = said.NoMemory
+said_of store_fault = said.StoreFault
+
+-- the draft of a stored blob is used up, or was given up in that turn; behind any other reply it is to be given up
+abbrev pub leaves_draft : Reply → Bool
+leaves_draft (file lease blob) = true
+leaves_draft (text bytes) = true
+leaves_draft (doc bytes digests) = true
+leaves_draft missed = true
+leaves_draft given_back = true
+leaves_draft kind_refused = true
+leaves_draft (draft n) = true
+leaves_draft no_draft = true
+leaves_draft (taken kept given) = false
+leaves_draft same = false
+leaves_draft relisted = false
+leaves_draft created = false
+leaves_draft not_there = true
+leaves_draft (differs sent kept) = true
+leaves_draft agreed = true
+leaves_draft noted = true
+leaves_draft dropped = true
+leaves_draft no_session = false
+leaves_draft sessions_full = true
+leaves_draft (opened n) = true
+leaves_draft session_full = false
+leaves_draft staged = false
+leaves_draft (offends path kept given) = true
+leaves_draft (missing_pom directory) = true
+leaves_draft (ended result) = true
+leaves_draft (unlisted count) = true
+leaves_draft (collected expired blobs) = true
+leaves_draft (counts files fading cached documents sessions) = true
+leaves_draft spent = true
+leaves_draft no_memory = true
+leaves_draft store_fault = true
+
+-- a reply is told
+abbrev pub tells : Manner → Reply → Course
+tells manner reply = answers manner (said_of reply)
 
 abbrev pub after_look : Manner → Reply → Course
 after_look manner (file lease blob) = sends_file manner lease blob
-after_look manner (text bytes) = says (said.Text bytes) manner
-after_look manner (doc bytes digests) = says (said.Doc bytes digests) manner
-after_look manner missed = says said.NotThere manner
-after_look manner spent = says said.Spent manner
-after_look manner reply = without_memory manner
+after_look manner reply = tells manner reply
 
+-- what follows a file's body that was put or staged
 abbrev pub after_put : ℕ → Manner → Reply → Course
-after_put n manner created = says said.Created manner
-after_put n manner same = says said.Same manner
-after_put n manner relisted = says said.Relisted manner
-after_put n manner (taken kept given) = says (said.Taken kept given) manner
-after_put n manner no_draft = gives_up n (says said.NoDraft manner)
-after_put n manner store_fault = gives_up n (says said.StoreFault manner)
-after_put n manner reply = gives_up n (without_memory manner)
-
--- what follows the staging of a file's body; where it is not the session's file, its draft is given up in that turn
-abbrev pub after_stage : ℕ → Manner → Reply → Course
-after_stage n manner staged = says said.Staged manner
-after_stage n manner same = says said.Same manner
-after_stage n manner (taken kept given) = says (said.Taken kept given) manner
-after_stage n manner session_full = says said.SessionFull manner
-after_stage n manner no_session = says said.NoSession manner
-after_stage n manner no_draft = gives_up n (says said.NoDraft manner)
-after_stage n manner reply = gives_up n (without_memory manner)
+after_put n manner reply = if leaves_draft reply then gives_up n (tells manner reply) else tells manner reply
 
 -- the command by which a stored blob becomes the file at a path of a place, and what follows it
 abbrev pub puts_at : Place → (path : List ℕ) → ℕ → Blob → Command
 puts_at (repository repo) path n blob = put repo path n blob
 puts_at (session number) path n blob = stage number path n blob
 
-abbrev pub after_put_at : Place → ℕ → Manner → Reply → Course
-after_put_at (repository repo) n manner reply = after_put n manner reply
-after_put_at (session number) n manner reply = after_stage n manner reply
-
--- a body that was not taken
-abbrev pub after_fault : Manner → Took → Course
-after_fault manner took.Torn = stops (Some stream.TornRequest)
-after_fault manner took.SourceFault = stops (Some stream.SourceFault)
-after_fault manner took.BlobFault = says said.BlobFault manner
-after_fault manner took.NoMemory = without_memory manner
-
 -- a file's body that is stored is put, and the draft of another is given up
 abbrev pub after_take : Place → (path : List ℕ) → ℕ → Manner → Stored → Course
-after_take place path n manner (Ok blob) = asks (puts_at place path n blob) (after_put_at place n manner)
-after_take place path n manner (Err fault) = gives_up n (after_fault manner fault)
+after_take place path n manner (Ok blob) = asks (puts_at place path n blob) (after_put n manner)
+after_take place path n manner (Err fault) = gives_up n (closes manner (of_fault fault))
 
 -- a body that is not read ends the connection
 abbrev pub with_unread : ℕ → Manner → Manner
-with_unread length manner = record manner { close = manner.close || nat_lt 0 length }
+with_unread length manner = record manner { close = nat_lt 0 length || manner.close }
 
 abbrev pub after_may_put : Place → (path : List ℕ) → ℕ → Bool → Manner → Reply → Course
 after_may_put place path length expects manner (draft n) =
-    invites expects (gives_up n cut_off) (takes n length (after_take place path n manner))
-after_may_put place path length expects manner no_session = says said.NoSession (with_unread length manner)
-after_may_put place path length expects manner kind_refused = says said.KindRefused (with_unread length manner)
-after_may_put place path length expects manner session_full = says said.SessionFull (with_unread length manner)
-after_may_put place path length expects manner spent = says said.Spent (with_unread length manner)
-after_may_put place path length expects manner reply = without_memory manner
-
-abbrev pub after_put_side : Manner → Reply → Course
-after_put_side manner agreed = says said.Agreed manner
-after_put_side manner (differs sent kept) = says (said.Differs (hex_text sent) (hex_text kept)) manner
-after_put_side manner not_there = says said.NotThere manner
-after_put_side manner no_session = says said.NoSession manner
-after_put_side manner reply = without_memory manner
+    invites expects (gives_up n cut_off) (does (take_body n length) (after_take place path n manner))
+after_may_put place path length expects manner reply = tells (with_unread length manner) reply
 
 -- the digest that a side file says is compared; a text that says none is refused
 abbrev pub compares : Place → (path : List ℕ) → Manner → Option (List ℕ) → Course
-compares place path manner (Some digest) = asks (put_side place path digest) (after_put_side manner)
+compares place path manner (Some digest) = asks (put_side place path digest) (tells manner)
 compares place path manner None = says said.NoDigest manner
 
 abbrev pub after_side : Place → (path : List ℕ) → Side → Manner → Body → Course
 after_side place path side manner (Ok bytes) = compares place path manner (read_side side bytes)
-after_side place path side manner (Err fault) = after_fault manner fault
-
-abbrev pub after_put_doc : Manner → Reply → Course
-after_put_doc manner noted = says said.Noted manner
-after_put_doc manner no_session = says said.NoSession manner
-after_put_doc manner reply = without_memory manner
+after_side place path side manner (Err fault) = closes manner (of_fault fault)
 
 -- a document is told to the machine; a text that is none is refused by the place of its first fault
 abbrev pub notes : Place → (path : List ℕ) → Manner → Result Document ℕ → Course
-notes place path manner (Ok document) = asks (put_doc place path) (after_put_doc manner)
+notes place path manner (Ok document) = asks (put_doc place path) (tells manner)
 notes place path manner (Err at) = says (said.NoDocument at) manner
 
 abbrev pub after_document : Place → (path : List ℕ) → Manner → Body → Course
 after_document place path manner (Ok bytes) = notes place path manner (reading bytes)
-after_document place path manner (Err fault) = after_fault manner fault
-
-abbrev pub after_status : Manner → Reply → Course
-after_status manner (counts files fading cached documents sessions) = says (said.Counts files fading cached documents sessions) manner
-after_status manner reply = without_memory manner
-
-abbrev pub after_clean : Manner → Pass → Course
-after_clean manner (Ok pass) = says (said.Cleaned pass.unlisted pass.removed) manner
-after_clean manner (Err clean.StoreFault) = says said.StoreFault manner
-after_clean manner (Err clean.BlobFault) = says said.BlobFault manner
-after_clean manner (Err clean.NoMemory) = without_memory manner
-
-abbrev pub after_open : Manner → Reply → Course
-after_open manner (opened n) = says (said.Opened n) manner
-after_open manner sessions_full = says said.TooMany manner
-after_open manner spent = says said.Spent manner
-after_open manner store_fault = says said.StoreFault manner
-after_open manner reply = without_memory manner
-
--- all files of a session are deployed at once, or none is and it stays open; one that has ended says how
-abbrev pub after_commit : Manner → Reply → Course
-after_commit manner (ended result) = says (said.Ended result) manner
-after_commit manner (offends path kept given) = says (said.Offends path kept given) manner
-after_commit manner (missing_pom directory) = says (said.MissingPom directory) manner
-after_commit manner no_session = says said.NoSession manner
-after_commit manner store_fault = says said.StoreFault manner
-after_commit manner reply = without_memory manner
-
-abbrev pub after_abort : Manner → Reply → Course
-after_abort manner (ended result) = says (said.Ended result) manner
-after_abort manner no_session = says said.NoSession manner
-after_abort manner store_fault = says said.StoreFault manner
-after_abort manner reply = without_memory manner
+after_document place path manner (Err fault) = closes manner (of_fault fault)
 
 -- the course by what a request asks for, which expects `100 Continue` before its body or not
 abbrev pub course_for : Manner → Bool → Intent → Course
@@ -226,24 +260,28 @@ course_for manner expects (judged.reads repo path) = asks (look repo path []) (a
 course_for manner expects (judged.puts_file place path length) =
     asks (may_put place path) (after_may_put place path length expects manner)
 course_for manner expects (judged.puts_side place path side length) =
-    invites expects cut_off (reads length (after_side place path side manner))
+    invites expects cut_off (does (read_body length) (after_side place path side manner))
 course_for manner expects (judged.puts_document place path length) =
-    invites expects cut_off (reads length (after_document place path manner))
-course_for manner expects judged.counts = asks status (after_status manner)
-course_for manner expects (judged.cleans repos) = cleans repos (after_clean manner)
-course_for manner expects (judged.opens repo) = asks (open_session repo) (after_open manner)
-course_for manner expects (judged.commits n) = asks (commit n) (after_commit manner)
-course_for manner expects (judged.aborts n) = asks (abort n) (after_abort manner)
+    invites expects cut_off (does (read_body length) (after_document place path manner))
+course_for manner expects judged.counts = asks status (tells manner)
+course_for manner expects (judged.cleans repos) = does (clean_all repos) (λ pass. closes manner (of_pass pass))
+course_for manner expects (judged.opens repo) = asks (open_session repo) (tells manner)
+course_for manner expects (judged.commits n) = asks (commit n) (tells manner)
+course_for manner expects (judged.aborts n) = asks (abort n) (tells manner)
 
--- the course of a request, which may be the last of its connection
+-- the manner of the answer to a request, which may be the last of its connection, and to one that is refused by its head
+abbrev pub manner_for : Judged → Bool → Manner
+manner_for request last = record { close = request.close; last = last; head_only = request.head_only }
+
+abbrev pub manner_refused : Refused → Bool → Manner
+manner_refused refused last = record { close = refused.close; last = last; head_only = refused.head_only }
+
+-- their courses
 abbrev pub course : Judged → Bool → Course
-course request last =
-    course_for (record { close = request.close; last = last; head_only = request.head_only }) request.expects request.intent
+course request last = course_for (manner_for request last) request.expects request.intent
 
--- the course of a request that is refused by its head
 abbrev pub refuses : Refused → Bool → Course
-refuses refused last =
-    says (said.Refused refused.refusal) (record { close = refused.close; last = last; head_only = refused.head_only })
+refuses refused last = says (said.Refused refused.refusal) (manner_refused refused last)
 
 abbrev pub course_of : Result Judged Refused → Bool → Course
 course_of (Ok request) last = course request last

@@ -6,7 +6,7 @@ ghost use Rattle.repo_model.specs.Command.{done, drop_draft};
 ghost use Rattle.repo_model.specs.Shown.{shown_place, shown_reply};
 ghost use Rattle.repo_course.specs.declared.manner.Manner.{Manner as AnyManner};
 ghost use Rattle.repo_course.specs.Acts.{after_reply, left_of, left_of_body, left_uninvited, rank_after, rank_of};
-ghost use Rattle.repo_course.specs.Course.{after_abort, after_clean, after_commit, after_look, after_may_put, after_open, after_put, after_put_doc, after_put_side, after_send, after_stage, after_status, asks, invites, says, without_memory};
+ghost use Rattle.repo_course.specs.Course.{after_look, after_may_put, after_put, answers, asks, closes, invites, leaves_draft, of_pass, of_sent, said_of, says, tells, without_memory};
 
 use crate::act::{Act, After, Coming, FileBody};
 use crate::manner::Manner;
@@ -37,6 +37,17 @@ pub(crate) fn no_memory<H: Held>(manner: Manner) -> Act<H>
     }
 }
 
+/// An answer; where memory was wanted it ends the connection.
+pub(crate) fn answer<H: Held>(said: Said, manner: Manner) -> Act<H>
+    ensures left { (any : AnyManner) → left_of any result ≡ answers manner said }
+    ensures rank { rank_of result ≡ 0 }
+{
+    match said {
+        Said::NoMemory => no_memory(manner),
+        said => say(said, manner),
+    }
+}
+
 /// A body that is read, and before it `100 Continue` where the client waits for it.
 pub(crate) fn invite<H: Held>(expects: bool, coming: Coming) -> Act<H>
     ensures left { (any : AnyManner) → left_of any result ≡ invites expects (left_uninvited coming) (left_of_body any coming) }
@@ -57,95 +68,6 @@ pub(crate) fn give_up<H: Held>(draft: u64, then: After) -> Act<H>
     ensures rank { rank_of result ≡ rank_after then + 1 }
 {
     Act::Ask(Command::Drop { draft }, then)
-}
-
-fn after_look<H: Held>(manner: Manner, reply: Reply<H>) -> Act<H>
-    ensures left { left_of manner result ≡ after_look manner (shown_reply reply) }
-    ensures shorter { rank_of result < 4 }
-{
-    match reply {
-        Reply::File { lease, parcel } => Act::Send { lease, parcel },
-        Reply::Text(text) => say(Said::Text(text), manner),
-        Reply::Doc { text, digests } => say(Said::Doc { text, digests }, manner),
-        Reply::Missed => say(Said::NotThere, manner),
-        Reply::Spent => say(Said::Spent, manner),
-        _ => no_memory(manner),
-    }
-}
-
-fn after_done<H: Held>(manner: Manner, sent: Sent) -> Act<H>
-    ensures left { left_of manner result ≡ after_send manner sent }
-    ensures rank { rank_of result ≡ 0 }
-{
-    match sent {
-        Sent::Whole => Act::Stop(manner.end()),
-        Sent::BlobFault => say(Said::BlobFault, manner),
-        Sent::BlobDiffers { recorded, found } => {
-            say(Said::BlobDiffers { recorded, found }, manner)
-        }
-        Sent::SinkFault => Act::Stop(Some(End::SinkFault)),
-        Sent::NoMemory => no_memory(manner),
-    }
-}
-
-fn after_may_put<H: Held>(
-    manner: Manner,
-    place: Place,
-    path: Text,
-    length: u64,
-    expects: bool,
-    reply: Reply<H>,
-) -> Act<H>
-    ensures left { left_of manner result ≡ after_may_put (shown_place place) path length expects manner (shown_reply reply) }
-    ensures shorter { rank_of result < 7 }
-{
-    let unread = manner.with_unread(length);
-    match reply {
-        Reply::Draft(draft) => {
-            let body = FileBody {
-                place,
-                path,
-                draft,
-                length,
-            };
-            invite(expects, Coming::File(body))
-        }
-        Reply::NoSession => say(Said::NoSession, unread),
-        Reply::KindRefused => say(Said::KindRefused, unread),
-        Reply::SessionFull => say(Said::SessionFull, unread),
-        Reply::Spent => say(Said::Spent, unread),
-        _ => no_memory(manner),
-    }
-}
-
-fn after_put<H: Held>(manner: Manner, draft: u64, reply: Reply<H>) -> Act<H>
-    ensures left { left_of manner result ≡ after_put draft manner (shown_reply reply) }
-    ensures shorter { rank_of result < 3 }
-{
-    match reply {
-        Reply::Created => say(Said::Created, manner),
-        Reply::Same => say(Said::Same, manner),
-        Reply::Relisted => say(Said::Relisted, manner),
-        Reply::Taken { kept, sent } => say(Said::Taken { kept, sent }, manner),
-        Reply::NoDraft => give_up(draft, After::Say(Said::NoDraft)),
-        Reply::StoreFault => give_up(draft, After::Say(Said::StoreFault)),
-        _ => give_up(draft, After::NoMemory),
-    }
-}
-
-fn after_stage<H: Held>(manner: Manner, draft: u64, reply: Reply<H>) -> Act<H>
-    ensures left { left_of manner result ≡ after_stage draft manner (shown_reply reply) }
-    ensures shorter { rank_of result < 3 }
-{
-    match reply {
-        Reply::Staged => say(Said::Staged, manner),
-        Reply::Same => say(Said::Same, manner),
-        Reply::Taken { kept, sent } => say(Said::Taken { kept, sent }, manner),
-        Reply::SessionFull => say(Said::SessionFull, manner),
-        Reply::NoSession => say(Said::NoSession, manner),
-        Reply::NoDraft => give_up(draft, After::Say(Said::NoDraft)),
-        _ => give_up(draft, After::NoMemory),
-    }
 }
 
 /// A digest as text.
@@ -170,98 +92,165 @@ fn digest_text(digest: Digest) -> SideText
     }
 }
 
-fn after_put_side<H: Held>(manner: Manner, reply: Reply<H>) -> Act<H>
-    ensures left { left_of manner result ≡ after_put_side manner (shown_reply reply) }
-    ensures rank { rank_of result ≡ 0 }
+/// What is answered to a reply.
+fn said_of<H: Held>(reply: Reply<H>) -> Said
+    ensures { result ≡ said_of (shown_reply reply) }
 {
     match reply {
-        Reply::Agreed => say(Said::Agreed, manner),
-        Reply::Differs { said, kept } => {
-            let differs = Said::Differs {
-                said: digest_text(said),
-                kept: digest_text(kept),
-            };
-            say(differs, manner)
-        }
-        Reply::NotThere => say(Said::NotThere, manner),
-        Reply::NoSession => say(Said::NoSession, manner),
-        _ => no_memory(manner),
-    }
-}
-
-fn after_put_doc<H: Held>(manner: Manner, reply: Reply<H>) -> Act<H>
-    ensures left { left_of manner result ≡ after_put_doc manner (shown_reply reply) }
-    ensures rank { rank_of result ≡ 0 }
-{
-    match reply {
-        Reply::Noted => say(Said::Noted, manner),
-        Reply::NoSession => say(Said::NoSession, manner),
-        _ => no_memory(manner),
-    }
-}
-
-fn after_status<H: Held>(manner: Manner, reply: Reply<H>) -> Act<H>
-    ensures left { left_of manner result ≡ after_status manner (shown_reply reply) }
-    ensures rank { rank_of result ≡ 0 }
-{
-    match reply {
+        Reply::Text(text) => Said::Text(text),
+        Reply::Doc { text, digests } => Said::Doc { text, digests },
+        Reply::Missed => Said::NotThere,
+        Reply::KindRefused => Said::KindRefused,
+        Reply::NoDraft => Said::NoDraft,
+        Reply::Taken { kept, sent } => Said::Taken { kept, sent },
+        Reply::Same => Said::Same,
+        Reply::Relisted => Said::Relisted,
+        Reply::Created => Said::Created,
+        Reply::NotThere => Said::NotThere,
+        Reply::Differs { said, kept } => Said::Differs {
+            said: digest_text(said),
+            kept: digest_text(kept),
+        },
+        Reply::Agreed => Said::Agreed,
+        Reply::Noted => Said::Noted,
+        Reply::NoSession => Said::NoSession,
+        Reply::TooMany => Said::TooMany,
+        Reply::Opened(number) => Said::Opened(number),
+        Reply::SessionFull => Said::SessionFull,
+        Reply::Staged => Said::Staged,
+        Reply::Offends { path, kept, sent } => Said::Offends { path, kept, sent },
+        Reply::MissingPom { dir } => Said::MissingPom { dir },
+        Reply::Ended(how) => Said::Ended(how),
         Reply::Counts {
             files,
             fading,
             cached,
             documents,
             sessions,
-        } => {
-            let counts = Said::Counts {
-                files,
-                fading,
-                cached,
-                documents,
-                sessions,
-            };
-            say(counts, manner)
+        } => Said::Counts {
+            files,
+            fading,
+            cached,
+            documents,
+            sessions,
+        },
+        Reply::Spent => Said::Spent,
+        Reply::StoreFault => Said::StoreFault,
+        Reply::File { .. }
+        | Reply::Done
+        | Reply::Draft(_)
+        | Reply::Dropped
+        | Reply::Unlisted(_)
+        | Reply::Collected { .. }
+        | Reply::NoMemory => Said::NoMemory,
+    }
+}
+
+/// Whether the draft of a stored blob is to be given up behind a reply.
+fn leaves_draft<H: Held>(reply: &Reply<H>) -> bool
+    ensures { result ≡ leaves_draft (shown_reply reply.now) }
+{
+    match reply {
+        Reply::Created
+        | Reply::Same
+        | Reply::Relisted
+        | Reply::Taken { .. }
+        | Reply::Staged
+        | Reply::SessionFull
+        | Reply::NoSession => false,
+        Reply::File { .. }
+        | Reply::Text(_)
+        | Reply::Doc { .. }
+        | Reply::Missed
+        | Reply::Done
+        | Reply::KindRefused
+        | Reply::Draft(_)
+        | Reply::NoDraft
+        | Reply::NotThere
+        | Reply::Differs { .. }
+        | Reply::Agreed
+        | Reply::Noted
+        | Reply::TooMany
+        | Reply::Opened(_)
+        | Reply::Offends { .. }
+        | Reply::MissingPom { .. }
+        | Reply::Ended(_)
+        | Reply::Dropped
+        | Reply::Unlisted(_)
+        | Reply::Collected { .. }
+        | Reply::Counts { .. }
+        | Reply::Spent
+        | Reply::NoMemory
+        | Reply::StoreFault => true,
+    }
+}
+
+/// A reply is told.
+fn tell<H: Held>(manner: Manner, reply: Reply<H>) -> Act<H>
+    ensures left { (any : AnyManner) → left_of any result ≡ tells manner (shown_reply reply) }
+    ensures rank { rank_of result ≡ 0 }
+{
+    answer(said_of(reply), manner)
+}
+
+fn after_look<H: Held>(manner: Manner, reply: Reply<H>) -> Act<H>
+    ensures left { left_of manner result ≡ after_look manner (shown_reply reply) }
+    ensures shorter { rank_of result < 4 }
+{
+    match reply {
+        Reply::File { lease, parcel } => Act::Send { lease, parcel },
+        reply => tell(manner, reply),
+    }
+}
+
+fn after_done<H: Held>(manner: Manner, sent: Sent) -> Act<H>
+    ensures left { left_of manner result ≡ closes manner (of_sent manner sent) }
+    ensures rank { rank_of result ≡ 0 }
+{
+    match sent {
+        Sent::Whole => Act::Stop(manner.end()),
+        Sent::BlobFault => say(Said::BlobFault, manner),
+        Sent::BlobDiffers { recorded, found } => {
+            say(Said::BlobDiffers { recorded, found }, manner)
         }
-        _ => no_memory(manner),
+        Sent::SinkFault => Act::Stop(Some(End::SinkFault)),
+        Sent::NoMemory => no_memory(manner),
     }
 }
 
-fn after_open<H: Held>(manner: Manner, reply: Reply<H>) -> Act<H>
-    ensures left { left_of manner result ≡ after_open manner (shown_reply reply) }
-    ensures rank { rank_of result ≡ 0 }
+fn after_may_put<H: Held>(
+    manner: Manner,
+    place: Place,
+    path: Text,
+    length: u64,
+    expects: bool,
+    reply: Reply<H>,
+) -> Act<H>
+    ensures left { left_of manner result ≡ after_may_put (shown_place place) path length expects manner (shown_reply reply) }
+    ensures shorter { rank_of result < 7 }
 {
     match reply {
-        Reply::Opened(number) => say(Said::Opened(number), manner),
-        Reply::TooMany => say(Said::TooMany, manner),
-        Reply::Spent => say(Said::Spent, manner),
-        Reply::StoreFault => say(Said::StoreFault, manner),
-        _ => no_memory(manner),
+        Reply::Draft(draft) => {
+            let body = FileBody {
+                place,
+                path,
+                draft,
+                length,
+            };
+            invite(expects, Coming::File(body))
+        }
+        reply => tell(manner.with_unread(length), reply),
     }
 }
 
-fn after_commit<H: Held>(manner: Manner, reply: Reply<H>) -> Act<H>
-    ensures left { left_of manner result ≡ after_commit manner (shown_reply reply) }
-    ensures rank { rank_of result ≡ 0 }
+fn after_put<H: Held>(manner: Manner, draft: u64, reply: Reply<H>) -> Act<H>
+    ensures left { left_of manner result ≡ after_put draft manner (shown_reply reply) }
+    ensures shorter { rank_of result < 3 }
 {
-    match reply {
-        Reply::Ended(how) => say(Said::Ended(how), manner),
-        Reply::Offends { path, kept, sent } => say(Said::Offends { path, kept, sent }, manner),
-        Reply::MissingPom { dir } => say(Said::MissingPom { dir }, manner),
-        Reply::NoSession => say(Said::NoSession, manner),
-        Reply::StoreFault => say(Said::StoreFault, manner),
-        _ => no_memory(manner),
+    if leaves_draft(&reply) {
+        return give_up(draft, After::Say(said_of(reply)));
     }
-}
-
-fn after_abort<H: Held>(manner: Manner, reply: Reply<H>) -> Act<H>
-    ensures left { left_of manner result ≡ after_abort manner (shown_reply reply) }
-    ensures rank { rank_of result ≡ 0 }
-{
-    match reply {
-        Reply::Ended(how) => say(Said::Ended(how), manner),
-        Reply::NoSession => say(Said::NoSession, manner),
-        Reply::StoreFault => say(Said::StoreFault, manner),
-        _ => no_memory(manner),
-    }
+    tell(manner, reply)
 }
 
 /// What follows the reply that a course waited for.
@@ -279,22 +268,15 @@ pub fn after_reply<H: Held>(manner: Manner, after: After, reply: Reply<H>) -> Ac
             expects,
         } => after_may_put(manner, place, path, length, expects, reply),
         After::Put { draft } => after_put(manner, draft, reply),
-        After::Stage { draft } => after_stage(manner, draft, reply),
-        After::PutSide => after_put_side(manner, reply),
-        After::PutDoc => after_put_doc(manner, reply),
-        After::Status => after_status(manner, reply),
-        After::Open => after_open(manner, reply),
-        After::Commit => after_commit(manner, reply),
-        After::Abort => after_abort(manner, reply),
-        After::Say(said) => say(said, manner),
+        After::Tell => tell(manner, reply),
+        After::Say(said) => answer(said, manner),
         After::Stop(end) => Act::Stop(Some(end)),
-        After::NoMemory => no_memory(manner),
     }
 }
 
 /// What follows the sending of a file: its lease is given back, whatever came of it.
 pub fn after_send<H: Held>(manner: Manner, lease: u64, sent: Sent) -> Act<H>
-    ensures left { left_of manner result ≡ asks (done lease) (λ reply. after_send manner sent) }
+    ensures left { left_of manner result ≡ asks (done lease) (λ reply. closes manner (of_sent manner sent)) }
     ensures shorter { rank_of result < 3 }
 {
     Act::Ask(Command::Done { lease }, After::Done(sent))
@@ -302,7 +284,7 @@ pub fn after_send<H: Held>(manner: Manner, lease: u64, sent: Sent) -> Act<H>
 
 /// What follows a pass over the repositories: the answer that says what it has done, or why it ended.
 pub fn after_clean<H: Held>(manner: Manner, pass: Result<Cleaned, CleanFault>) -> Act<H>
-    ensures left { left_of manner result ≡ after_clean manner pass }
+    ensures left { left_of manner result ≡ closes manner (of_pass pass) }
     ensures shorter { rank_of result < 1 }
 {
     match pass {

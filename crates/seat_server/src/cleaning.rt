@@ -12,7 +12,6 @@ use repo_config::Settings;
 use repo_course::{CleanFault, Cleaned};
 use repo_model::{Command, Reply};
 use repo_server::clean_pass;
-use std::alloc::Global;
 use std::sync::Wait;
 use turn_lock::{Seat, Turns};
 use turn_seats::{Asker, Repository};
@@ -27,7 +26,6 @@ pub fn clean_with<
     W: Wait,
 >(
     rt: &W,
-    alloc: Global,
     settings: &Settings,
     turns: &Turns<T>,
     seat: Seat<T>,
@@ -42,7 +40,7 @@ pub fn clean_with<
         × PassesAll settings.now entries (store (B.shelf blobs.old) (B.faults blobs.old)) (store (B.shelf blobs.new) (B.faults blobs.new)) result.1 }
 {
     let mut asker = Asker { rt, turns, seat };
-    let cleaned = clean_pass(alloc, settings, &mut asker, blobs);
+    let cleaned = clean_pass(settings, &mut asker, blobs);
     let Asker {
         rt: _,
         turns: _,

@@ -11,7 +11,8 @@ use outside::{Blobs, Stream, Tells};
 use repo_config::Settings;
 use repo_course::End;
 use repo_model::{Command, Reply};
-use repo_server::serve_stream;
+use repo_routes::Routes;
+use repo_server::serve_stream_by;
 use std::alloc::Global;
 use std::sync::Wait;
 use turn_lock::{Seat, Turns};
@@ -30,6 +31,7 @@ pub fn serve_with<
     rt: &W,
     alloc: Global,
     settings: &Settings,
+    routes: &Option<Routes>,
     turns: &Turns<T>,
     seat: Seat<T>,
     blobs: &mut B,
@@ -46,7 +48,7 @@ pub fn serve_with<
         (outside ⟦<S as Tells>⟧ held stream.new (B.faults blobs.new) (B.shelf blobs.new)) result.1 }
 {
     let mut asker = Asker { rt, turns, seat };
-    let end = serve_stream(alloc, settings, &mut asker, blobs, stream);
+    let end = serve_stream_by(alloc, settings, routes, &mut asker, blobs, stream);
     let Asker {
         rt: _,
         turns: _,

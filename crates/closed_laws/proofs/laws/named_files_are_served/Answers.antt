@@ -1,5 +1,5 @@
 use Rattle.repo_course.specs.Serving.{AllTell}
-use Rattle.course_laws.specs.Granted.{manner_for}
+use Rattle.repo_course.specs.Course.{manner_for}
 use Rattle.closed_laws.proofs.AnsweredReads.{turn-looked}
 use Rattle.closed_laws.proofs.FirstLooks.{turn-answered}
 use Rattle.closed_laws.proofs.NamedServed.{file-answered, file-looked, side-answered, side-looked}

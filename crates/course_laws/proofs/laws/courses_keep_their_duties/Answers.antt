@@ -5,4 +5,4 @@ pub returns-clause-requests : goal.returns-clause-requests
 returns-clause-requests c = judged-keeps
 
 pub returns-clause-no_heads : goal.returns-clause-no_heads
-returns-clause-no_heads c = λ fault. no-head-keeps fault 0
+returns-clause-no_heads c = no-head-keeps
