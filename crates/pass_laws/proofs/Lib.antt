@@ -1,0 +1,2 @@
+mod FirstAsked
+mod Wanting

@@ -1,0 +1,8 @@
+//! What each pass over the repositories asks at least, and why one wants memory.
+//!
+//! No function here has code: its contract is the law.
+#![tactic(auto)]
+
+mod laws;
+
+pub use laws::{passes_ask, passes_want_memory_by_cause};
