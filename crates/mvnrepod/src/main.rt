@@ -1,8 +1,8 @@
 //! `mvnrepod`: a Maven repository manager.
 #![tactic(auto)]
 
-use repo_run::{NO_MEMORY, wanted};
-use run_system::status_for;
+use repo_run::{INPUT, NO_MEMORY, wanted};
+use run_system::{status_for, take_places};
 use std::process::ExitCode;
 use std::{env, io};
 
@@ -16,6 +16,9 @@ fn words_of(rt: &HostRuntime) -> io::Result<Vec<String>> {
 }
 
 fn main(rt: HostRuntime) -> ExitCode {
+    let Ok(_places) = take_places(&rt) else {
+        return ExitCode::from(INPUT);
+    };
     let Ok(words) = words_of(&rt) else {
         return ExitCode::from(NO_MEMORY);
     };

@@ -4,10 +4,16 @@
 #![tactic(auto)]
 
 mod closing;
+mod crowd;
+mod door;
+mod effort;
+mod front;
+mod heads;
+mod hearing;
+mod limits;
 mod links;
-mod parts;
 mod ports;
-mod stages;
+mod room;
 
 pub use links::TcpLink;
 pub use ports::TcpPort;

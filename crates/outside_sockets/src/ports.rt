@@ -2,35 +2,42 @@
 ghost use Rattle.std.specs.Prelude.{◌≡◌, ◌+◌, None, min, IfOk, IfSome, IsOk, IsSome, OnErr, OnSome};
 ghost use Rattle.outside.specs.Faults.{HasCause, last_count};
 
-use crate::links::TcpLink;
+use crate::door::{Door, Told, now};
+use crate::hearing::Hall;
+use crate::limits::{NO_ROOM, milliseconds};
+use crate::links::{Rest, TcpLink, set_up};
 use outside::{Failed, Port};
 use outside_pace::Running;
-use std::io::{self, ErrorKind};
+use std::alloc::Global;
+use std::io::{self, Eprint, ErrorKind};
 use std::marker::Model;
 use std::net::{Ipv4Addr, Net, OpenListener, SocketAddr, SocketAddrV4};
+use std::sync::{Arc, Wait};
 use std::thread;
-use std::time::{Clock, Duration};
-
-// How long to wait where the system has no room for a connection more, in milliseconds.
-const PAUSE: u64 = 100;
+use std::time::Clock;
 
 // The system's numbers for: too many open files, of the process and of all; no buffer space; no memory.
-const NO_ROOM: [i32; 4] = [24, 23, 105, 12];
+const ROOM_ERRORS: [i32; 4] = [24, 23, 105, 12];
 
-/// A listener on a port of 127.0.0.1. Contracts see how many calls have failed; it tells no connections.
+// How many connections are accepted at once.
+const ARRIVALS: u32 = 64;
+
+/// A desk's part of a listener on a port of 127.0.0.1. Contracts see how many calls have failed; it tells no connections.
 ///
-/// Where the port could not be taken, as one that is in use, each `next` fails. Else `next` waits for a connection, also where
-/// one was given up before it was accepted, and where the system has no room for another one now; any other error is a failure.
-/// The first failure tells those who watch the program's ports that this one has ended.
+/// `next` gives a connection of which a whole head has come, and `back` gives it to the doorman (`Door`), who keeps it where it
+/// goes on. A desk that waits in `next` is the doorman meanwhile. Where the port could not be taken, as one that is in use,
+/// a line of standard error says so at once and each `next` fails; and where the listener fails, each desk's does. The first
+/// failure tells those who watch the program's ports that this one has ended. A line says where the server listens when the
+/// first desk asks for its first connection.
 #[derive(Drop)]
-pub struct TcpPort<R: Net + Clock + Clone + Drop> {
-    rt: R,
-    listener: Option<R::Listener>,
+pub struct TcpPort<R: Net + Clock + Eprint + Clone + Drop, W: Wait + Drop> {
+    hall: Hall<R, W>,
+    door: Option<Arc<Door<R>, Global>>,
     running: Option<Running>,
     faults: u64,
 }
 
-impl<R: Net + Clock + Clone + Drop> Model for TcpPort<R> {
+impl<R: Net + Clock + Eprint + Clone + Drop, W: Wait + Drop> Model for TcpPort<R, W> {
     ghost use Rattle.std.specs.Prelude.{ℕ};
 
     ghost Value = { ℕ };
@@ -38,50 +45,83 @@ impl<R: Net + Clock + Clone + Drop> Model for TcpPort<R> {
     ghost view = { λ p. p.faults };
 }
 
-impl<R: Net + Clock + Clone + Drop> TcpPort<R> {
-    /// Takes a port of 127.0.0.1; 0 stands for one that is free. `running` counts it among the program's ports.
-    pub fn bind(rt: R, port: u16, running: Running) -> TcpPort<R>
+fn door_at<R: Net>(rt: &R, alloc: Global, port: u16) -> io::Result<Arc<Door<R>, Global>> {
+    let address = SocketAddr::V4(SocketAddrV4::new(Ipv4Addr::LOCALHOST, port));
+    let door = Door::new(rt, alloc, rt.bind(address)?)?;
+    Arc::new(alloc, door).map_err(|_| io::Error::from(ErrorKind::OutOfMemory))
+}
+
+// The number of a listener's port.
+fn number_of(listener: &impl OpenListener) -> Option<u16> {
+    let address = listener.local_addr().ok()?;
+    Some(address.port())
+}
+
+impl<R: Net + Clock + Eprint + Clone + Drop, W: Wait + Drop> TcpPort<R, W> {
+    // A desk's part of it.
+    fn at(
+        rt: R,
+        waits: W,
+        alloc: Global,
+        door: Option<Arc<Door<R>, Global>>,
+        running: Running,
+    ) -> TcpPort<R, W>
         ensures { result ≡ 0 }
     {
-        let address = SocketAddr::V4(SocketAddrV4::new(Ipv4Addr::LOCALHOST, port));
-        let listener = rt.bind(address).ok();
+        if let Some(door) = &door {
+            door.crowd.add_desk();
+        }
         TcpPort {
-            rt,
-            listener,
+            hall: Hall {
+                rt,
+                waits,
+                alloc,
+                spare: None,
+            },
+            door,
             running: Some(running),
             faults: 0,
         }
     }
 
-    /// The same listener for one worker more, which takes its own connections from it.
-    pub fn twin(&self, rt: R, running: Running) -> TcpPort<R>
+    /// Takes a port of 127.0.0.1; 0 stands for one that is free. `running` counts it among the program's ports.
+    pub fn bind(rt: R, waits: W, alloc: Global, port: u16, running: Running) -> TcpPort<R, W>
         ensures { result ≡ 0 }
     {
-        let listener = match &self.listener {
-            Some(listener) => listener.try_clone().ok(),
+        let door = match door_at(&rt, alloc, port) {
+            Ok(door) => Some(door),
+            Err(error) => {
+                let _ = eprintln!(rt; "mvnrepod: cannot listen on 127.0.0.1:{port}: {error}");
+                None
+            }
+        };
+        TcpPort::at(rt, waits, alloc, door, running)
+    }
+
+    /// The same listener for one worker more.
+    pub fn twin(&self, rt: R, waits: W, running: Running) -> TcpPort<R, W>
+        ensures { result ≡ 0 }
+    {
+        let door = match &self.door {
+            Some(door) => Arc::try_clone(door).ok(),
             None => None,
         };
-        TcpPort {
-            rt,
-            listener,
-            running: Some(running),
-            faults: 0,
-        }
+        TcpPort::at(rt, waits, self.hall.alloc, door, running)
     }
 
     /// The number of the port, where it was taken.
     pub fn number(&self) -> Option<u16> {
-        let listener = self.listener.as_ref()?;
-        let address = listener.local_addr().ok()?;
-        Some(address.port())
+        number_of(&self.door.as_ref()?.listener)
     }
 }
 
 // What to do where a connection could not be accepted.
 enum Next {
+    /// None waits.
+    Enough,
     /// Accept another one.
     Again,
-    /// The same, when a moment has passed.
+    /// The same, when there is room.
     Later,
     /// Give up.
     Never,
@@ -89,41 +129,84 @@ enum Next {
 
 fn next_after(error: &io::Error) -> Next {
     match error.kind() {
+        ErrorKind::WouldBlock => Next::Enough,
         ErrorKind::ConnectionAborted | ErrorKind::ConnectionReset | ErrorKind::Interrupted => {
             Next::Again
         }
         _ => match error.raw_os_error() {
-            Some(number) if NO_ROOM.contains(&number) => Next::Later,
+            Some(number) if ROOM_ERRORS.contains(&number) => Next::Later,
             _ => Next::Never,
         },
     }
 }
 
-// The next connection of a listener.
-fn accept<R: Net + Clock + Clone + Drop>(
-    rt: &R,
-    listener: &R::Listener,
-) -> Result<TcpLink<R::Stream, R>, Failed>
-    ensures { IfOk result (λ link. link ≡ record { reads = 0; writes = 0 }) }
-{
-    for _ in 0..u64::MAX {
-        match listener.accept() {
+// Takes in the connections that wait at the listener.
+fn let_in<R: Net + Clock, W: Wait>(rt: &R, waits: &W, door: &Door<R>) -> Result<(), Failed> {
+    for _ in 0..ARRIVALS {
+        match door.listener.accept() {
             Ok((stream, _)) => {
-                if let Ok(link) = TcpLink::new(stream, rt.clone().map_err(|_| Failed)?) {
-                    return Ok(link);
+                if let Ok(patience) = set_up(&stream) {
+                    door.let_in(waits, now(rt), stream, patience);
                 }
             }
             Err(error) => match next_after(&error) {
+                Next::Enough => break,
                 Next::Again => {}
-                Next::Later => thread::sleep(rt, Duration::from_millis(PAUSE)),
+                Next::Later => {
+                    if !door.make_room(waits) {
+                        thread::sleep(rt, milliseconds(NO_ROOM));
+                        break;
+                    }
+                }
                 Next::Never => return Err(Failed),
             },
+        }
+    }
+    if door.open() { Ok(()) } else { Err(Failed) }
+}
+
+// Says where the server listens.
+fn announce<R: Net + Eprint>(rt: &R, door: &Door<R>) {
+    if let Some(number) = number_of(&door.listener) {
+        let _ = eprintln!(rt; "mvnrepod: listening on 127.0.0.1:{number}");
+    }
+}
+
+// The next connection of which a whole head has come.
+fn found<R: Net + Clock + Eprint + Clone + Drop, W: Wait + Drop>(
+    hall: &mut Hall<R, W>,
+    door: &Door<R>,
+) -> Result<TcpLink<R::Stream, R>, Failed>
+    ensures { IfOk result (λ link. link ≡ record { reads = 0; writes = 0 }) }
+{
+    if door.is_first() {
+        announce(&hall.rt, door);
+    }
+    for _ in 0..u64::MAX {
+        if door.is_over() {
+            break;
+        }
+        let told = door.wait();
+        if door.is_over() {
+            break;
+        }
+        door.patrol(&hall.waits, now(&hall.rt));
+        match told {
+            Told::Nothing => {}
+            Told::Arrivals => let_in(&hall.rt, &hall.waits, door)?,
+            Told::Bytes(key) => {
+                if let Some(kept) = door.take(&hall.waits, key) {
+                    if let Some(link) = hall.listen(door, kept)? {
+                        return Ok(link);
+                    }
+                }
+            }
         }
     }
     Err(Failed)
 }
 
-impl<R: Net + Clock + Clone + Drop> Port for TcpPort<R> {
+impl<R: Net + Clock + Eprint + Clone + Drop, W: Wait + Drop> Port for TcpPort<R, W> {
     type Link = TcpLink<R::Stream, R>;
 
     ghost faults = { λ p. p };
@@ -136,13 +219,16 @@ impl<R: Net + Clock + Clone + Drop> Port for TcpPort<R> {
         ensures some { IfOk result (λ link. IsSome link) }
         ensures fresh { IfOk result (λ found. IfSome found (λ link. link ≡ record { reads = 0; writes = 0 })) }
     {
-        let accepted = match &self.listener {
-            Some(listener) => accept(&self.rt, listener),
+        let next = match &self.door {
+            Some(door) => found(&mut self.hall, door),
             None => Err(Failed),
         };
-        match accepted {
+        match next {
             Ok(link) => Ok(Some(link)),
             Err(Failed) => {
+                if let Some(door) = &self.door {
+                    door.end();
+                }
                 if let Some(running) = self.running.take() {
                     running.end_one();
                 }
@@ -155,6 +241,28 @@ impl<R: Net + Clock + Clone + Drop> Port for TcpPort<R> {
     fn back(&mut self, link: TcpLink<R::Stream, R>)
         ensures { self.new ≡ self.old }
     {
-        link.close();
+        let Some(door) = &self.door else {
+            return;
+        };
+        let now = now(&self.hall.rt);
+        match link.finish() {
+            Rest::Kept(stream, waits, front) => {
+                let held = if front.is_empty() {
+                    self.hall.take_back(front);
+                    None
+                } else {
+                    Some(front)
+                };
+                door.keep_on(&self.hall.waits, now, stream, waits, held);
+            }
+            Rest::Closing(stream, front) => {
+                self.hall.take_back(front);
+                door.close(&self.hall.waits, now, stream);
+            }
+            Rest::Over(front) => {
+                self.hall.take_back(front);
+                door.crowd.end_link();
+            }
+        }
     }
 }

@@ -3,9 +3,11 @@
 
 mod folder;
 mod memory;
+mod places;
 mod server;
 mod status;
 mod stock;
 
+pub use places::{Places, take_places};
 pub use server::{FolderCleaner, Server, TcpDesk, server_of};
 pub use status::status_for;

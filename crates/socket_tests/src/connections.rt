@@ -5,294 +5,263 @@ use outside_pace::Running;
 use outside_sockets::{TcpLink, TcpPort};
 use std::io::{Read, Write};
 use std::net::{Ipv4Addr, Net, SocketAddr, SocketAddrV4, TcpStream};
+use std::sync::Wait;
 use std::test::Fail;
-use std::thread;
+use std::thread::{self, Threads};
 use std::time::{Duration, Instant};
 
-const HEAD: &[u8] = b"PUT /x HTTP/1.1\r\nHost: h\r\n\r\n";
+const GET: &[u8] = b"GET /x HTTP/1.1\r\nHost: h\r\n\r\n";
+
+const OTHER: &[u8] = b"GET /y HTTP/1.1\r\nHost: h\r\n\r\n";
 
 const HEAD_OF_A_BODY: &[u8] = b"PUT /x HTTP/1.1\r\nContent-Length: 3\r\n\r\n";
 
-const TOO_LARGE: &[u8] = b"HTTP/1.1 413 \r\n\r\n";
+const ANSWER: &[u8] = b"HTTP/1.1 200 OK\r\n\r\n";
 
-type HostPort = TcpPort<HostRuntime>;
+const INTERIM: &[u8] = b"HTTP/1.1 100 Continue\r\n\r\n";
+
+type HostPort<W> = TcpPort<HostRuntime, W>;
 
 type HostLink = TcpLink<TcpStream, HostRuntime>;
 
-fn bind(rt: &HostRuntime) -> Result<HostPort, Fail> {
-    Ok(TcpPort::bind(rt.clone()?, 0, Running::new(rt.alloc(), 1)?))
+fn bind<W: Wait + Drop>(rt: &HostRuntime, waits: W) -> Result<HostPort<W>, Fail> {
+    let running = Running::new(rt.alloc(), 1)?;
+    Ok(TcpPort::bind(rt.clone()?, waits, rt.alloc(), 0, running))
 }
 
-// A client of a listener.
-fn client(rt: &HostRuntime, port: &HostPort) -> Result<TcpStream, Fail> {
+// A client of a listener that has sent these bytes.
+fn client<W: Wait + Drop>(
+    rt: &HostRuntime,
+    port: &HostPort<W>,
+    sent: &[u8],
+) -> Result<TcpStream, Fail> {
     let number = port.number().ok_or("no port")?;
     let address = SocketAddr::V4(SocketAddrV4::new(Ipv4Addr::LOCALHOST, number));
-    Ok(rt.connect(address)?)
+    let mut peer = rt.connect(address)?;
+    peer.write_all(sent)?;
+    Ok(peer)
 }
 
 // The next connection of a listener.
-fn link_of(port: &mut HostPort) -> Result<HostLink, Fail> {
+fn link_of<W: Wait + Drop>(port: &mut HostPort<W>) -> Result<HostLink, Fail> {
     let link = port.next().map_err(|_| "no connection")?;
     Ok(link.ok_or("no connection")?)
 }
 
-// A listener, a client of it, and its connection to this client.
-#[derive(Drop)]
-struct Pair {
-    port: HostPort,
-    peer: TcpStream,
-    link: HostLink,
-}
-
-impl Pair {
-    // The client has sent these bytes before it is listened to.
-    fn new(rt: &HostRuntime, sent: &[u8]) -> Result<Pair, Fail> {
-        let mut port = bind(rt)?;
-        let mut peer = client(rt, &port)?;
-        peer.write_all(sent)?;
-        let link = link_of(&mut port)?;
-        Ok(Pair { port, peer, link })
-    }
-
-    // Gives the connection back; the client.
-    fn back(self) -> TcpStream {
-        let Pair {
-            mut port,
-            peer,
-            link,
-        } = self;
-        port.back(link);
-        peer
-    }
-}
-
-// What a client or a connection does. What waits does so for at least so many milliseconds, and for less than the second
-// number.
-#[derive(Clone, Copy)]
-enum Step {
-    // the client sends these bytes
-    Sends(&'static [u8]),
-    // so many bytes of a read are these
-    Reads(&'static [u8]),
-    // a read gives so many bytes
-    Waits(usize, u128, u128),
-    // a read fails
-    Fails(u128, u128),
-    // bytes are written
-    Writes(&'static [u8]),
-    // the client receives them
-    Receives(&'static [u8]),
-}
-
-fn reads(link: &mut HostLink, want: &[u8]) -> bool {
+// Whether a read gives these bytes.
+fn gives(link: &mut HostLink, want: &[u8]) -> bool {
     let mut buffer = [0; 64];
-    let front = &mut buffer[..want.len().min(64)];
-    match link.read(front) {
-        Ok(count) => count == want.len() && *front == *want,
+    match link.read(&mut buffer) {
+        Ok(count) => count == want.len() && buffer.starts_with(want),
         Err(_) => false,
     }
 }
 
-// How many bytes come next, none where the read fails, and how many milliseconds that took.
-fn timed_read(rt: &HostRuntime, link: &mut HostLink) -> Result<(Option<usize>, u128), Fail> {
-    let begin = Instant::now(rt)?;
-    let count = link.read(&mut [0; 64]).ok();
-    Ok((count, begin.elapsed(rt)?.as_millis()))
+// Whether a request comes, and its answer is taken.
+fn answers(link: &mut HostLink, request: &[u8]) -> bool {
+    gives(link, request) && write_all(link, ANSWER).is_ok()
 }
 
-fn waits(
-    rt: &HostRuntime,
-    link: &mut HostLink,
-    count: Option<usize>,
-    least: u128,
-    less: u128,
-) -> Result<bool, Fail> {
-    let (found, waited) = timed_read(rt, link)?;
-    Ok(found == count && waited >= least && waited < less)
-}
-
+// Whether a client has this answer.
 fn receives(peer: &mut TcpStream, want: &[u8]) -> bool {
     let mut buffer = [0; 64];
     let front = &mut buffer[..want.len().min(64)];
     peer.read_exact(front).is_ok() && *front == *want
 }
 
-// Whether that is done so.
-fn is_done(rt: &HostRuntime, pair: &mut Pair, step: Step) -> Result<bool, Fail> {
-    match step {
-        Step::Sends(bytes) => Ok(pair.peer.write_all(bytes).is_ok()),
-        Step::Reads(want) => Ok(reads(&mut pair.link, want)),
-        Step::Waits(count, least, less) => waits(rt, &mut pair.link, Some(count), least, less),
-        Step::Fails(least, less) => waits(rt, &mut pair.link, None, least, less),
-        Step::Writes(bytes) => Ok(write_all(&mut pair.link, bytes).is_ok()),
-        Step::Receives(want) => Ok(receives(&mut pair.peer, want)),
-    }
+// Whether the connection is at its end within a while.
+fn is_ended(peer: &mut TcpStream) -> Result<bool, Fail> {
+    peer.set_read_timeout(Some(Duration::from_millis(300)))?;
+    Ok(matches!(peer.read(&mut [0; 1]), Ok(0)))
 }
 
-// The first of these steps that is not done so.
-fn first_other(rt: &HostRuntime, pair: &mut Pair, steps: &[Step]) -> Result<Option<usize>, Fail> {
-    for (n, step) in steps.iter().enumerate() {
-        if !is_done(rt, pair, *step)? {
-            return Ok(Some(n));
+// A client that pauses has its connection as before: a run of one request, which ends soon, and another one.
+fn is_kept_over_a_pause<W: Wait + Drop>(rt: &HostRuntime, waits: W) -> Result<bool, Fail> {
+    let mut port = bind(rt, waits)?;
+    let mut peer = client(rt, &port, GET)?;
+    let mut link = link_of(&mut port)?;
+    let first = answers(&mut link, GET) && receives(&mut peer, ANSWER);
+    let begin = Instant::now(rt)?;
+    let ended = gives(&mut link, b"") && gives(&mut link, b"");
+    let waited = begin.elapsed(rt)?.as_millis();
+    port.back(link);
+    thread::sleep(rt, Duration::from_millis(1_500));
+    peer.write_all(OTHER)?;
+    let mut link = link_of(&mut port)?;
+    let second = answers(&mut link, OTHER) && receives(&mut peer, ANSWER);
+    port.back(link);
+    Ok(first && ended && waited < 300 && second)
+}
+
+#[test]
+fn a_connection_outlives_a_pause(rt: HostRuntime) -> Result<(), Fail> {
+    assert!(rt; is_kept_over_a_pause(&rt, rt.clone()?)?);
+    Ok(())
+}
+
+// How many of these requests a run has until it ends.
+fn run_of<W: Wait + Drop>(port: &mut HostPort<W>, request: &[u8]) -> Result<usize, Fail> {
+    let mut link = link_of(port)?;
+    let mut count = 0usize;
+    for _ in 0..64 {
+        if !answers(&mut link, request) {
+            break;
         }
+        count = count.saturating_add(1);
     }
-    Ok(None)
+    port.back(link);
+    Ok(count)
 }
 
-// The same of a new client that has sent these bytes, whose connection is given back behind them.
-fn first_other_of(rt: &HostRuntime, sent: &[u8], steps: &[Step]) -> Result<Option<usize>, Fail> {
-    let mut pair = Pair::new(rt, sent)?;
-    let other = first_other(rt, &mut pair, steps)?;
-    let _peer = pair.back();
-    Ok(other)
+// The runs of a client that sends 40 requests at once, beside another one.
+fn runs<W: Wait + Drop>(rt: &HostRuntime, waits: W) -> Result<Vec<usize>, Fail> {
+    let mut port = bind(rt, waits)?;
+    let mut many = Vec::new(rt.alloc());
+    for _ in 0..40 {
+        many.extend_from_slice(GET)?;
+    }
+    let _first = client(rt, &port, many.as_slice())?;
+    let mut found = Vec::new(rt.alloc());
+    found.push(run_of(&mut port, GET)?)?;
+    let _second = client(rt, &port, OTHER)?;
+    found.push(run_of(&mut port, GET)?)?;
+    found.push(run_of(&mut port, GET)?)?;
+    found.push(run_of(&mut port, OTHER)?)?;
+    found.push(run_of(&mut port, GET)?)?;
+    Ok(found)
 }
 
-static BOTH_WAYS: [Step; 3] = [
-    Step::Reads(HEAD),
-    Step::Writes(b"HTTP/1.1 200 OK\r\n\r\n"),
-    Step::Receives(b"HTTP/1.1 200 OK\r\n\r\n"),
-];
-
+// A run has 16 requests where no desk waits, and one once another connection was accepted. Each has its turn, and no byte is
+// lost.
 #[test]
-fn bytes_go_both_ways(rt: HostRuntime) -> Result<(), Fail> {
-    assert_eq!(rt; first_other_of(&rt, HEAD, &BOTH_WAYS)?, None);
+fn a_run_ends_where_another_waits(rt: HostRuntime) -> Result<(), Fail> {
+    let found = runs(&rt, rt.clone()?)?;
+    assert_eq!(rt; found.as_slice(), [16, 16, 1, 1, 1].as_slice());
     Ok(())
 }
 
-static BEHIND_AN_ANSWER: [Step; 5] = [
-    Step::Reads(HEAD),
-    Step::Writes(b"HTTP/1.1 404 Not Found\r\n\r\n"),
-    Step::Waits(0, 400, 4_000),
-    Step::Sends(HEAD),
-    Step::Waits(0, 0, 400),
-];
-
-// Silence behind an answer is the end, and stays it.
-#[test]
-fn silence_after_an_answer_is_the_end(rt: HostRuntime) -> Result<(), Fail> {
-    assert_eq!(rt; first_other_of(&rt, HEAD, &BEHIND_AN_ANSWER)?, None);
-    Ok(())
+// Whether a client with half a head holds no desk: another one is served meanwhile, and it is closed behind the time of a head.
+fn half_a_head_holds_no_desk<W: Wait + Drop>(
+    threads: &impl Threads,
+    rt: &HostRuntime,
+    waits: W,
+) -> Result<bool, Fail> {
+    let mut port = bind(rt, waits)?;
+    let mut slow = client(rt, &port, b"GET / HTTP/1.1\r\nHost: ")?;
+    let mut silent = client(rt, &port, b"")?;
+    let mut peer = client(rt, &port, GET)?;
+    let begin = Instant::now(rt)?;
+    let mut link = link_of(&mut port)?;
+    let first = answers(&mut link, GET) && begin.elapsed(rt)?.as_millis() < 5_000;
+    let paused = gives(&mut link, b"");
+    port.back(link);
+    let before = is_ended(&mut slow)? || is_ended(&mut silent)?;
+    let own = rt.clone()?;
+    let sender = thread::spawn(threads, move || {
+        thread::sleep(&own, Duration::from_millis(12_000));
+        let sent = peer.write_all(OTHER).is_ok();
+        (sent, peer)
+    })?;
+    let mut link = link_of(&mut port)?;
+    let second = answers(&mut link, OTHER);
+    port.back(link);
+    let (sent, _peer) = sender.join(threads);
+    let served = first && paused && second && sent;
+    Ok(served && !before && is_ended(&mut slow)? && is_ended(&mut silent)?)
 }
 
-// A connection that never says anything ends.
-#[test]
-fn silence_from_the_first_is_the_end(rt: HostRuntime) -> Result<(), Fail> {
-    let steps = [Step::Waits(0, 4_000, 20_000)];
-    assert_eq!(rt; first_other_of(&rt, b"", &steps)?, None);
-    Ok(())
-}
-
-static OF_A_HEAD: [Step; 2] = [
-    Step::Reads(b"GET / HTTP/1.1\r\nHost: "),
-    Step::Fails(8_000, 25_000),
-];
-
-// The bytes of a head have ten seconds in all; then a read fails.
 #[test]
 fn a_head_has_its_time(rt: HostRuntime) -> Result<(), Fail> {
-    let sent = b"GET / HTTP/1.1\r\nHost: ";
-    assert_eq!(rt; first_other_of(&rt, sent, &OF_A_HEAD)?, None);
+    assert!(rt; half_a_head_holds_no_desk(&rt, &rt, rt.clone()?)?);
     Ok(())
 }
 
-static BEHIND_AN_INTERIM_ANSWER: [Step; 2] = [
-    Step::Reads(HEAD_OF_A_BODY),
-    Step::Writes(b"HTTP/1.1 100 Continue\r\n\r\n"),
-];
+// Whether a body is waited for behind an interim answer.
+fn is_waited_for<W: Wait + Drop>(
+    threads: &impl Threads,
+    rt: &HostRuntime,
+    waits: W,
+) -> Result<bool, Fail> {
+    let mut port = bind(rt, waits)?;
+    let mut peer = client(rt, &port, HEAD_OF_A_BODY)?;
+    let mut link = link_of(&mut port)?;
+    let asked = gives(&mut link, HEAD_OF_A_BODY) && write_all(&mut link, INTERIM).is_ok();
+    let own = rt.clone()?;
+    let sender = thread::spawn(threads, move || {
+        thread::sleep(&own, Duration::from_millis(1_200));
+        let sent = peer.write_all(b"abc").is_ok();
+        (sent, peer)
+    })?;
+    let given = gives(&mut link, b"abc");
+    let (sent, _peer) = sender.join(threads);
+    Ok(sent && asked && given)
+}
 
-// Behind an interim answer the body is waited for.
 #[test]
 fn a_body_may_come_late(rt: HostRuntime) -> Result<(), Fail> {
-    let mut pair = Pair::new(&rt, HEAD_OF_A_BODY)?;
-    assert_eq!(rt;
-        first_other(&rt, &mut pair, &BEHIND_AN_INTERIM_ANSWER)?,
-        None
-    );
-    let Pair {
-        mut peer,
-        mut link,
-        ..
-    } = pair;
-    let own = rt.clone()?;
-    let sender = thread::spawn(&rt, move || {
-        thread::sleep(&own, Duration::from_millis(1_200));
-        peer.write_all(b"abc").is_ok()
-    })?;
-    let (count, waited) = timed_read(&rt, &mut link)?;
-    assert!(rt; sender.join(&rt));
-    assert!(rt; count == Some(3) && waited >= 600, "{waited}");
+    assert!(rt; is_waited_for(&rt, &rt, rt.clone()?)?);
     Ok(())
 }
 
-static OF_A_REFUSAL: [Step; 2] = [Step::Reads(HEAD), Step::Writes(TOO_LARGE)];
-
-// A client whose request is refused, of whose body these bytes came, and how many milliseconds it took to give the connection
-// back.
-fn refused(rt: &HostRuntime, body: &[u8]) -> Result<(TcpStream, u128), Fail> {
-    let mut pair = Pair::new(rt, HEAD)?;
-    pair.peer.write_all(body)?;
-    if first_other(rt, &mut pair, &OF_A_REFUSAL)?.is_some() {
-        Err("not refused")?
-    }
+// Whether the answer of a refused request reaches its client, of whose body these bytes came, and no desk waits for that.
+fn refusal_arrives<W: Wait + Drop>(rt: &HostRuntime, waits: W, body: &[u8]) -> Result<bool, Fail> {
+    let mut port = bind(rt, waits)?;
+    let mut peer = client(rt, &port, HEAD_OF_A_BODY)?;
+    let mut link = link_of(&mut port)?;
+    peer.write_all(body)?;
+    let refused = answers(&mut link, HEAD_OF_A_BODY);
     let begin = Instant::now(rt)?;
-    let peer = pair.back();
-    Ok((peer, begin.elapsed(rt)?.as_millis()))
-}
-
-// An answer reaches a client whose body was not read.
-#[test]
-fn a_refusal_reaches_a_client_that_sends(rt: HostRuntime) -> Result<(), Fail> {
-    let (mut peer, _) = refused(&rt, &[b'x'; 60_000])?;
+    port.back(link);
+    let waited = begin.elapsed(rt)?.as_millis();
     let mut answer = Vec::new(rt.alloc());
     peer.read_to_end(&mut answer)?;
-    assert_eq!(rt; answer.as_slice(), TOO_LARGE);
-    Ok(())
+    Ok(refused && waited < 1_000 && answer.as_slice() == ANSWER)
 }
 
-// A client that neither sends nor ends its side is listened to for two seconds.
 #[test]
-fn a_client_that_stays_is_left(rt: HostRuntime) -> Result<(), Fail> {
-    let (_peer, waited) = refused(&rt, b"")?;
-    assert!(rt; waited >= 1_500 && waited < 8_000, "{waited}");
+fn a_refusal_reaches_its_client(rt: HostRuntime) -> Result<(), Fail> {
+    assert!(rt; refusal_arrives(&rt, rt.clone()?, b"")?);
+    assert!(rt; refusal_arrives(&rt, rt.clone()?, &[b'x'; 60_000])?);
     Ok(())
-}
-
-// A second listener of the number of this one.
-fn second(rt: &HostRuntime, port: &HostPort, running: &Running) -> Result<HostPort, Fail> {
-    let number = port.number().ok_or("no port")?;
-    Ok(TcpPort::bind(rt.clone()?, number, running.share()?))
 }
 
 // Whether a listener has no number and gives no connection.
-fn has_failed(port: &mut HostPort) -> bool {
+fn has_failed<W: Wait + Drop>(port: &mut HostPort<W>) -> bool {
     port.number().is_none() && port.next().is_err()
 }
 
 // A port that is in use fails at each connection.
 #[test]
 fn a_port_in_use_fails(rt: HostRuntime) -> Result<(), Fail> {
-    let port = bind(&rt)?;
+    let port = bind(&rt, rt.clone()?)?;
+    let number = port.number().ok_or("no port")?;
     let running = Running::new(rt.alloc(), 1)?;
-    let mut second = second(&rt, &port, &running)?;
+    let mut second = TcpPort::bind(
+        rt.clone()?,
+        rt.clone()?,
+        rt.alloc(),
+        number,
+        running.share()?,
+    );
     assert!(rt; running.is_any());
     assert!(rt; has_failed(&mut second) && !running.is_any());
     assert!(rt; has_failed(&mut second));
     Ok(())
 }
 
-fn twin(rt: &HostRuntime, port: &HostPort) -> Result<HostPort, Fail> {
-    Ok(port.twin(rt.clone()?, Running::new(rt.alloc(), 1)?))
-}
-
-// Each twin takes connections of the one listener.
-#[test]
-fn twins_share_a_listener(rt: HostRuntime) -> Result<(), Fail> {
-    let mut port = bind(&rt)?;
-    let mut twin = twin(&rt, &port)?;
-    assert_eq!(rt; twin.number(), port.number());
-    let _first = client(&rt, &port)?;
-    let _second = client(&rt, &port)?;
+// Whether each of two desks of one listener has a connection.
+fn both_serve<W: Wait + Drop>(rt: &HostRuntime, waits: W, others: W) -> Result<bool, Fail> {
+    let mut port = bind(rt, waits)?;
+    let mut twin = port.twin(rt.clone()?, others, Running::new(rt.alloc(), 1)?);
+    let _first = client(rt, &port, GET)?;
+    let _second = client(rt, &port, OTHER)?;
     let _one = link_of(&mut port)?;
     let _other = link_of(&mut twin)?;
+    Ok(twin.number() == port.number())
+}
+
+#[test]
+fn twins_share_a_listener(rt: HostRuntime) -> Result<(), Fail> {
+    assert!(rt; both_serve(&rt, rt.clone()?, rt.clone()?)?);
     Ok(())
 }

@@ -4,9 +4,9 @@
 #[cfg(test)]
 mod accepting;
 #[cfg(test)]
-mod closing;
-#[cfg(test)]
 mod connections;
+#[cfg(test)]
+mod stand_in;
 #[cfg(test)]
 mod timers;
 #[cfg(test)]

@@ -1,120 +1,33 @@
 //! How long the calls of a connection may wait, seen from a stand-in for the system's connection.
 
-use outside::{Failed, Source, write_all};
-use outside_sockets::TcpLink;
-use std::cell::Cell;
-use std::io::{self, ErrorKind, Read, Write};
-use std::net::OpenStream;
+use crate::stand_in::{Link, Script, Trial, fails, gives, gives_in_parts, takes};
+use outside::Port;
+use std::io::{self, Read, Write};
+use std::net::{Ipv4Addr, Net, SocketAddr, SocketAddrV4, TcpStream};
+use std::sync::Wait;
 use std::test::Fail;
+use std::thread::{self, Threads};
 use std::time::Duration;
 
 const HEAD: &[u8] = b"PUT /x HTTP/1.1\r\nContent-Length: 3\r\nExpect: 100-continue\r\n\r\n";
 
 const GET: &[u8] = b"GET /x HTTP/1.1\r\n\r\n";
 
-// A request and then one whose body has 12 bytes, but for the last of them. One field's name begins as another's, and one
-// field's value is as another field.
-const ALL_BUT_ONE: &[u8] =
-    b"GET / HTTP/1.1\r\n\r\n\r\nPUT /x HTTP/1.1\r\nContent: 1\r\nX: Content-Length: 2\r\nCONTENT-length:0012 \r\n\r\n\r\n\r\nGET / H";
+// A request, then one whose body has 12 bytes, and a third. One field's name begins as another's, one field's value
+// is as another field, and a line of the second head is a CR and a letter.
+const MANY: &[u8] =
+    b"GET / HTTP/1.1\r\n\r\n\r\nPUT /x HTTP/1.1\r\nContent: 1\r\n\rX\r\nX: Content-Length: 2\r\nCONTENT-length:0012 \r\n\r\n\r\n\r\nGET / HTGET / HTTP/1.1\r\n\r\n";
 
-// The body of `HEAD` and another head, and a request and then all of another head but its last byte.
-const FRONT_AND_HEAD: &[u8] = b"abcPUT /y HTTP/1.1\r\nContent-Length: 1\r\n\r\n";
+const FIRST: &[u8] = b"GET / HTTP/1.1\r\n\r\n";
 
-const ALL_BUT_A_LINE_END: &[u8] =
-    b"GET / HTTP/1.1\r\n\r\nPUT / HTTP/1.1\r\nContent-Length: 3\r\n\r";
+const SECOND: &[u8] =
+    b"\r\nPUT /x HTTP/1.1\r\nContent: 1\r\n\rX\r\nX: Content-Length: 2\r\nCONTENT-length:0012 \r\n\r\n\r\n\r\nGET / HT";
+
+const THIRD: &[u8] = b"GET / HTTP/1.1\r\n\r\n";
 
 const INTERIM: &[u8] = b"HTTP/1.1 100 Continue\r\n\r\n";
 
 const ANSWER: &[u8] = b"HTTP/1.1 201 Created\r\n\r\n";
-
-/// What was asked of the system: that writes go out at once, and how long a read and a write may wait, in milliseconds.
-#[derive(Drop)]
-struct Asked {
-    at_once: Cell<bool>,
-    read: Cell<u128>,
-    write: Cell<u128>,
-}
-
-impl Asked {
-    fn nothing() -> Asked {
-        Asked {
-            at_once: Cell::new(false),
-            read: Cell::new(0),
-            write: Cell::new(0),
-        }
-    }
-}
-
-/// A connection whose reads give these pieces, and behind them nothing in time. It may take writes, or none in time.
-#[derive(Drop)]
-struct StandIn<'a> {
-    asked: &'a Asked,
-    pieces: &'a [&'static [u8]],
-    given: usize,
-    takes: bool,
-}
-
-fn milliseconds(longest: Option<Duration>) -> u128 {
-    match longest {
-        Some(time) => time.as_millis(),
-        None => 0,
-    }
-}
-
-impl<'a> OpenStream for StandIn<'a> {
-    fn set_nodelay(&self, nodelay: bool) -> io::Result<()> {
-        self.asked.at_once.set(nodelay);
-        Ok(())
-    }
-
-    fn set_read_timeout(&self, longest: Option<Duration>) -> io::Result<()> {
-        self.asked.read.set(milliseconds(longest));
-        Ok(())
-    }
-
-    fn set_write_timeout(&self, longest: Option<Duration>) -> io::Result<()> {
-        self.asked.write.set(milliseconds(longest));
-        Ok(())
-    }
-}
-
-impl<'a> Read for StandIn<'a> {
-    fn read(&mut self, buffer: &mut [u8]) -> io::Result<usize> {
-        let Some(piece) = self.pieces.get(self.given) else {
-            return Err(io::Error::from(ErrorKind::WouldBlock));
-        };
-        self.given = self.given.saturating_add(1);
-        let count = piece.len().min(buffer.len());
-        buffer[..count].copy_from_slice(&piece[..count]);
-        Ok(count)
-    }
-}
-
-impl<'a> Write for StandIn<'a> {
-    fn write(&mut self, piece: &[u8]) -> io::Result<usize> {
-        if self.takes {
-            Ok(piece.len())
-        } else {
-            Err(io::Error::from(ErrorKind::WouldBlock))
-        }
-    }
-
-    fn flush(&mut self) -> io::Result<()> {
-        Ok(())
-    }
-}
-
-// A connection that gives these pieces and takes all writes.
-fn stand_in<'a>(asked: &'a Asked, pieces: &'a [&'static [u8]]) -> StandIn<'a> {
-    StandIn {
-        asked,
-        pieces,
-        given: 0,
-        takes: true,
-    }
-}
-
-type Link<'a> = TcpLink<StandIn<'a>, HostRuntime>;
 
 /// A call of a connection and what it gives, with the milliseconds that the system was told it may take.
 #[derive(Clone, Copy)]
@@ -125,186 +38,231 @@ enum Step {
     Ends(u128),
     // a read fails
     Fails(u128),
-    // a read fails, and may take more than the first and no more than the second
-    FailsWithin(u128, u128),
     // bytes are written
     Writes(&'static [u8]),
 }
 
-// Whether a read gives these bytes.
-fn gives(link: &mut Link<'_>, want: &[u8]) -> bool {
-    let mut buffer = [0; 128];
-    match link.read(&mut buffer) {
-        Ok(count) => count == want.len() && buffer.starts_with(want),
-        Err(_) => false,
-    }
-}
-
-fn fails(link: &mut Link<'_>) -> bool {
-    link.read(&mut [0; 128]).is_err()
-}
-
 // Whether a call gives what it should.
-fn is_done(asked: &Asked, link: &mut Link<'_>, step: Step) -> bool {
+fn is_done(script: &Script, link: &mut Link, step: Step) -> bool {
     match step {
-        Step::Gives(want, longest) => gives(link, want) && asked.read.get() == longest,
-        Step::Ends(longest) => gives(link, b"") && asked.read.get() == longest,
-        Step::Fails(longest) => fails(link) && asked.read.get() == longest,
-        Step::FailsWithin(more, longest) => {
-            fails(link) && asked.read.get() > more && asked.read.get() <= longest
-        }
-        Step::Writes(bytes) => write_all(link, bytes).is_ok(),
+        Step::Gives(want, longest) => gives(link, want) && script.read.get() == longest,
+        Step::Ends(longest) => gives(link, b"") && script.read.get() == longest,
+        Step::Fails(longest) => fails(link) && script.read.get() == longest,
+        Step::Writes(bytes) => takes(link, bytes),
     }
 }
 
 // The first of these calls, of a connection that gives these pieces, that gives something else.
-fn first_other(
-    rt: HostRuntime,
-    pieces: &[&'static [u8]],
+fn first_other<W: Wait + Drop>(
+    rt: &HostRuntime,
+    waits: W,
+    pieces: &[&[u8]],
     steps: &[Step],
-) -> io::Result<Option<usize>> {
-    let asked = Asked::nothing();
-    let mut link = TcpLink::new(stand_in(&asked, pieces), rt)?;
+) -> Result<Option<usize>, Fail> {
+    let script = Script::of(rt.alloc(), &[], pieces)?;
+    let mut trial = Trial::new(rt, waits, &script)?;
+    let mut link = trial.link()?;
     for (n, step) in steps.iter().enumerate() {
-        if !is_done(&asked, &mut link, *step) {
+        if !is_done(&script, &mut link, *step) {
             return Ok(Some(n));
         }
     }
     Ok(None)
 }
 
-static OF_EACH_CALL: [Step; 6] = [
-    Step::Gives(HEAD, 5_000),
+static OF_EACH_CALL: [Step; 7] = [
+    Step::Gives(HEAD, 10),
     Step::Writes(INTERIM),
-    Step::Gives(b"abc", 30_000),
+    Step::Gives(b"abc", 1_000),
     Step::Writes(ANSWER),
-    Step::Gives(b"GET / HTTP/1.1\r\n", 500),
-    Step::FailsWithin(5_000, 10_000),
+    Step::Gives(GET, 10),
+    Step::Writes(ANSWER),
+    Step::Ends(10),
 ];
 
 #[test]
 fn each_call_has_its_time(rt: HostRuntime) -> Result<(), Fail> {
-    let pieces = [HEAD, b"abc", b"GET / HTTP/1.1\r\n"];
-    assert_eq!(rt; first_other(rt.clone()?, &pieces, &OF_EACH_CALL)?, None);
-    Ok(())
-}
-
-#[test]
-fn writes_go_out_at_once(rt: HostRuntime) -> Result<(), Fail> {
-    let asked = Asked::nothing();
-    let _link = TcpLink::new(stand_in(&asked, &[]), rt.clone()?)?;
-    assert!(rt; asked.at_once.get());
-    assert_eq!(rt; asked.write.get(), 30_000);
-    Ok(())
-}
-
-static OF_A_MISSING_BODY: [Step; 7] = [
-    Step::Gives(HEAD, 5_000),
-    Step::Gives(FRONT_AND_HEAD, 30_000),
-    Step::Fails(30_000),
-    Step::Writes(ANSWER),
-    Step::Writes(b"HTTP/1.1 100 Co"),
-    Step::Writes(b"ntinue\r\n\r\n"),
-    Step::Fails(30_000),
-];
-
-// A body that doesn't come is a fault, also behind an interim answer to a head that came together with an earlier request,
-// and behind one that is written in two parts.
-#[test]
-fn a_body_that_does_not_come_is_a_fault(rt: HostRuntime) -> Result<(), Fail> {
-    let pieces = [HEAD, FRONT_AND_HEAD];
+    let pieces = [HEAD, b"abc", GET];
     assert_eq!(rt;
-        first_other(rt.clone()?, &pieces, &OF_A_MISSING_BODY)?,
+        first_other(&rt, rt.clone()?, &pieces, &OF_EACH_CALL)?,
         None
     );
     Ok(())
 }
 
-// Whether the rest of the body of these bytes, which are cut here, is waited for as any body.
-fn rest_is_waited_for(rt: HostRuntime, cut: usize) -> io::Result<bool> {
-    let asked = Asked::nothing();
-    let (front, rest) = ALL_BUT_ONE.split_at(cut.min(ALL_BUT_ONE.len()));
-    let pieces = [front, rest, b"T", b"P"];
-    let mut link = TcpLink::new(stand_in(&asked, &pieces), rt)?;
-    Ok(
-        gives(&mut link, front)
-            && gives(&mut link, rest)
-            && is_done(&asked, &mut link, Step::Writes(ANSWER))
-            && is_done(&asked, &mut link, Step::Gives(b"T", 30_000))
-            && is_done(&asked, &mut link, Step::Writes(ANSWER))
-            && is_done(&asked, &mut link, Step::Gives(b"P", 500)),
-    )
+static OF_A_MISSING_BODY: [Step; 3] = [
+    Step::Gives(HEAD, 10),
+    Step::Writes(INTERIM),
+    Step::Fails(1_000),
+];
+
+// A body that doesn't come is a fault.
+#[test]
+fn a_body_that_does_not_come_is_a_fault(rt: HostRuntime) -> Result<(), Fail> {
+    let steps = &OF_A_MISSING_BODY;
+    assert_eq!(rt; first_other(&rt, rt.clone()?, &[HEAD], steps)?, None);
+    Ok(())
 }
 
-// The rest of a body whose first bytes came together with an earlier request is waited for, wherever the bytes before it were
-// cut.
+static OF_A_PART: [Step; 3] = [Step::Gives(GET, 10), Step::Writes(ANSWER), Step::Ends(10)];
+
+// The front of a head behind an answer is not given, and stays for the next run.
 #[test]
-fn the_rest_of_a_body_is_waited_for(rt: HostRuntime) -> Result<(), Fail> {
-    for cut in 1..ALL_BUT_ONE.len() {
-        assert!(rt; rest_is_waited_for(rt.clone()?, cut)?, "{cut}");
+fn a_part_of_a_head_is_left(rt: HostRuntime) -> Result<(), Fail> {
+    let pieces = [GET, b"GET / HT"];
+    assert_eq!(rt; first_other(&rt, rt.clone()?, &pieces, &OF_A_PART)?, None);
+    Ok(())
+}
+
+// Whether each of these requests is given alone, and is answered.
+fn are_given(link: &mut Link, requests: &[&[u8]]) -> bool {
+    for request in requests {
+        if !gives_in_parts(link, request) || !takes(link, ANSWER) {
+            return false;
+        }
+    }
+    true
+}
+
+// Whether each request of these bytes is given alone, which come in two pieces.
+fn are_told_apart<W: Wait + Drop>(rt: &HostRuntime, waits: W, cut: usize) -> Result<bool, Fail> {
+    let (front, rest) = MANY.split_at(cut.min(MANY.len()));
+    let pieces = [front, rest];
+    let script = Script::of(rt.alloc(), &[], &pieces)?;
+    let mut trial = Trial::new(rt, waits, &script)?;
+    let mut link = trial.link()?;
+    Ok(are_given(&mut link, &[FIRST, SECOND, THIRD]) && gives(&mut link, b""))
+}
+
+// Wherever what a client sends is cut, a read gives bytes of one request.
+#[test]
+fn requests_are_told_apart(rt: HostRuntime) -> Result<(), Fail> {
+    for cut in 1..MANY.len() {
+        assert!(rt; are_told_apart(&rt, rt.clone()?, cut)?, "{cut}");
     }
     Ok(())
 }
 
-static OF_A_HEAD_APART: [Step; 4] = [
-    Step::Gives(ALL_BUT_A_LINE_END, 5_000),
-    Step::Writes(ANSWER),
-    Step::Gives(b"\n", 500),
-    Step::Fails(30_000),
-];
-
-// A head whose end comes behind an earlier answer has its body behind that.
-#[test]
-fn a_head_that_came_apart_has_a_body(rt: HostRuntime) -> Result<(), Fail> {
-    let pieces = [ALL_BUT_A_LINE_END, b"\n"];
-    assert_eq!(rt; first_other(rt.clone()?, &pieces, &OF_A_HEAD_APART)?, None);
-    Ok(())
-}
-
 static OF_A_FILE: [Step; 7] = [
-    Step::Gives(GET, 5_000),
+    Step::Gives(GET, 10),
     Step::Writes(ANSWER),
     Step::Writes(INTERIM),
-    Step::Gives(GET, 500),
+    Step::Gives(GET, 10),
     Step::Writes(ANSWER),
     Step::Writes(INTERIM),
-    Step::Ends(500),
+    Step::Ends(10),
 ];
 
-// Bytes of a file are no answer, whatever they look like.
+// Bytes of a file are no answer, whatever they look like; and the end, once it was given, stays.
 #[test]
 fn a_file_may_look_like_an_answer(rt: HostRuntime) -> Result<(), Fail> {
-    assert_eq!(rt; first_other(rt.clone()?, &[GET, GET], &OF_A_FILE)?, None);
+    let pieces = [GET, GET];
+    assert_eq!(rt; first_other(&rt, rt.clone()?, &pieces, &OF_A_FILE)?, None);
     Ok(())
 }
 
-static OF_SILENCE: [Step; 6] = [
-    Step::Gives(GET, 5_000),
-    Step::Writes(ANSWER),
-    Step::Writes(b"the rest of it"),
-    Step::Ends(500),
-    Step::Writes(INTERIM),
-    Step::Ends(500),
-];
+// What the system was told of a connection behind a number of requests.
+fn told<W: Wait + Drop>(rt: &HostRuntime, waits: W) -> Result<bool, Fail> {
+    let script = Script::of(rt.alloc(), &[], &[GET, GET, GET])?;
+    let mut trial = Trial::new(rt, waits, &script)?;
+    let mut link = trial.link()?;
+    let given = are_given(&mut link, &[GET, GET, GET]);
+    let waits = script.read.get() == 10 && script.write.get() == 1_000;
+    Ok(given && waits && script.at_once.get() && script.told.get() == 1 && script.lines.get() == 1)
+}
 
-// Where nothing comes behind an answer, or at all, that is the end, and stays it.
+// Writes go out at once, the system is told once how long calls may wait, and one line says where the port listens.
 #[test]
-fn silence_between_requests_is_the_end(rt: HostRuntime) -> Result<(), Fail> {
-    assert_eq!(rt; first_other(rt.clone()?, &[GET], &OF_SILENCE)?, None);
-    assert_eq!(rt; first_other(rt.clone()?, &[], &[Step::Ends(5_000)])?, None);
+fn the_system_is_told_once(rt: HostRuntime) -> Result<(), Fail> {
+    assert!(rt; told(&rt, rt.clone()?)?);
     Ok(())
 }
 
+// Whether a call of a connection fails whose peer moves a byte, or takes nothing, in each step of the clock.
+fn is_given_up<W: Wait + Drop>(
+    rt: &HostRuntime,
+    waits: W,
+    step: u64,
+    takes_bytes: bool,
+) -> Result<bool, Fail> {
+    let script = Script::of(rt.alloc(), &[], &[HEAD, b"a", b"b", b"c"])?;
+    let mut trial = Trial::new(rt, waits, &script)?;
+    let mut link = trial.link()?;
+    if !gives(&mut link, HEAD) {
+        Err("no head")?
+    }
+    script.step.set(step);
+    script.takes.set(takes_bytes);
+    if takes_bytes {
+        return Ok(!gives(&mut link, b"a") || !gives(&mut link, b"b"));
+    }
+    Ok(!takes(&mut link, ANSWER))
+}
+
+// A byte in each 6 seconds is too little behind the first 10, and a byte in each 4 seconds is not yet. A write that moves nothing
+// fails.
 #[test]
-fn a_write_that_is_not_taken_is_a_fault(rt: HostRuntime) -> Result<(), Fail> {
-    let asked = Asked::nothing();
-    let full = StandIn {
-        asked: &asked,
-        pieces: &[],
-        given: 0,
-        takes: false,
-    };
-    let mut link = TcpLink::new(full, rt.clone()?)?;
-    assert_eq!(rt; write_all(&mut link, ANSWER), Err(Failed));
+fn a_slow_peer_is_given_up(rt: HostRuntime) -> Result<(), Fail> {
+    assert!(rt; is_given_up(&rt, rt.clone()?, 6_000, true)?);
+    assert!(rt; !is_given_up(&rt, rt.clone()?, 4_000, true)?);
+    assert!(rt; is_given_up(&rt, rt.clone()?, 1_000, false)?);
+    Ok(())
+}
+
+// Whether a connection is kept behind its run: whose request has an answer, or none.
+fn is_kept<W: Wait + Drop>(rt: &HostRuntime, waits: W, answers: bool) -> Result<bool, Fail> {
+    let script = Script::of(rt.alloc(), &[], &[GET])?;
+    let mut trial = Trial::new(rt, waits, &script)?;
+    let mut link = trial.link()?;
+    let given = gives(&mut link, GET) && (!answers || takes(&mut link, ANSWER));
+    let ended = gives(&mut link, b"");
+    trial.port.back(link);
+    let mut peer = trial.peer;
+    peer.set_read_timeout(Some(Duration::from_millis(300)))?;
+    let closed = matches!(peer.read(&mut [0; 1]), Ok(0));
+    Ok(given && ended && !closed)
+}
+
+// A connection whose request was not answered does not go on: what would come next might be the rest of that request.
+#[test]
+fn an_unanswered_one_is_closed(rt: HostRuntime) -> Result<(), Fail> {
+    assert!(rt; is_kept(&rt, rt.clone()?, true)?);
+    assert!(rt; !is_kept(&rt, rt.clone()?, false)?);
+    Ok(())
+}
+
+// How many bytes are dropped of a client that sends on and on behind a refusal. Behind them another one is listened to.
+fn dropped<W: Wait + Drop>(
+    threads: &impl Threads,
+    rt: &HostRuntime,
+    waits: W,
+) -> Result<usize, Fail> {
+    let script = Script::of(rt.alloc(), &[], &[HEAD])?;
+    let mut trial = Trial::new(rt, waits, &script)?;
+    let mut link = trial.link()?;
+    if !gives(&mut link, HEAD) || !takes(&mut link, ANSWER) {
+        Err("not refused")?
+    }
+    script.goes_on.set(true);
+    trial.port.back(link);
+    let number = trial.port.number().ok_or("no port")?;
+    let address = SocketAddr::V4(SocketAddrV4::new(Ipv4Addr::LOCALHOST, number));
+    let own = rt.clone()?;
+    let later = thread::spawn(threads, move || {
+        thread::sleep(&own, Duration::from_millis(1_200));
+        let mut other = own.connect(address)?;
+        other.write_all(b"x")?;
+        Ok::<TcpStream, io::Error>(other)
+    })?;
+    let _link = trial.link()?;
+    let _other = later.join(threads)?;
+    Ok(script.more.get())
+}
+
+// Up to 16 MiB are dropped, however small the pieces are that come.
+#[test]
+fn what_a_client_still_sends_is_dropped(rt: HostRuntime) -> Result<(), Fail> {
+    let found = dropped(&rt, &rt, rt.clone()?)?;
+    assert!(rt; found >= 16_777_216 && found < 16_900_000, "{found}");
     Ok(())
 }

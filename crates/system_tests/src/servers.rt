@@ -5,6 +5,7 @@ use row_tables::Records;
 use run_desks::{Cleaner, Desk};
 use run_system::{Server, server_of};
 use std::fs;
+use std::sync::Wait;
 use std::test::Fail;
 
 // Whether a store lists the contents of the folder.
@@ -12,11 +13,15 @@ fn lists_all<B: Blobs>(blobs: &mut B) -> Result<bool, Fail> {
     Ok(blobs.list()?.as_slice() == [1, 2, 7].as_slice())
 }
 
-fn server_over(rt: &HostRuntime, folder: &str) -> Result<Server, Fail> {
+fn server_over<'a, R: Wait>(
+    threads: &'a R,
+    rt: &HostRuntime,
+    folder: &str,
+) -> Result<Server<&'a R>, Fail> {
     let mut words = words_over(rt, "serve", folder)?;
     words.push(String::from_str(rt.alloc(), "47631")?)?;
     let wanted = wanted_by(rt, words.as_slice())?;
-    Ok(server_of(rt, &wanted)?)
+    Ok(server_of(threads, rt, &wanted)?)
 }
 
 // Its clock is the system's, and its desks, its cleaner and its records are over the folder of its words.
@@ -29,7 +34,7 @@ fn a_server_is_over_its_folder(rt: HostRuntime) -> Result<(), Fail> {
         cleaner,
         mut records,
         mut clock,
-    } = server_over(&rt, folder)?;
+    } = server_over(&rt, &rt, folder)?;
     assert_eq!(rt; desks.len(), 4);
     for desk in desks {
         let Desk { port: _, mut blobs } = desk;
