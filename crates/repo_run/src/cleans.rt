@@ -68,7 +68,7 @@ fn clean_by<B: Blobs, K: Records, C: Clock, O: Sink>(
             };
         }
     };
-    let pass = clean_pass(alloc, settings, &mut core, blobs);
+    let pass = clean_pass(settings, &mut core, blobs);
     let status = tell_pass(alloc, out, &pass);
     let (records, clock) = core.end();
     Ended {

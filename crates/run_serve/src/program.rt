@@ -53,6 +53,7 @@ pub fn run<
 where
     P::Link: Send,
     B::Held: Send,
+    B::Pen: Send,
     requires desks { 0 < vec_len desks }
     ensures status { MatchRun (asked (map string_bytes words.now)).command result.status }
     ensures run { ByWords (asked (map string_bytes words.now)).command

@@ -46,6 +46,7 @@ fn serve_core<
 where
     P::Link: Send,
     B::Held: Send,
+    B::Pen: Send,
     requires settings { core.settings ≡ settings }
     ensures serves { ServesWith ⟦<P::Link as Tells>⟧ (record {
       left = P.left;
@@ -115,6 +116,7 @@ fn serve_by<
 where
     P::Link: Send,
     B::Held: Send,
+    B::Pen: Send,
     requires desks { 0 < vec_len desks }
     ensures serves { ServesBy ⟦<P::Link as Tells>⟧ (record {
       left = P.left;
@@ -184,6 +186,7 @@ pub fn serve<
 where
     P::Link: Send,
     B::Held: Send,
+    B::Pen: Send,
     requires desks { 0 < vec_len desks }
     ensures serves { Serves ⟦<P::Link as Tells>⟧ (record {
       left = P.left;

@@ -40,7 +40,7 @@ use turn_seats::Repository;
 /// file's bytes and both checksums, whole, or an alternative with its cause; so for its side files. What the history recorded is
 /// what the records tell in the end, where they tell.
 pub fn servers_serve_named_files<P: Port, B: Blobs, K: Records, C: Clock>()
-    ensures { (settings : Settings) (records records' : Recorded) (clock clock' : Option Moments) (desks back : List (Desk P B P.Link B.Held)) (old new : Broom) (out out' : Output) (status : ℕ) →
+    ensures { (settings : Settings) (records records' : Recorded) (clock clock' : Option Moments) (desks back : List (Desk P B P.Link B.Held B.Pen)) (old new : Broom) (out out' : Output) (status : ℕ) →
         ServesBy ⟦<P::Link as Tells>⟧ (record {
           left = P.left;
           given_back = P.given_back;
@@ -74,7 +74,7 @@ pub fn replays_serve_named_files<H: Held>()
 /// over which the next one begins, each next run begins no earlier than the one before it ended, and what was being committed at a
 /// stop counts as an entry of its run, or as none.
 pub fn later_runs_serve_named_files<P: Port, B: Blobs>()
-    ensures desks { (settings : Settings) (tables : Tables) (earlier : Run) (between : List Run) (later : Run) (desks back : List (Desk P B P.Link B.Held)) →
+    ensures desks { (settings : Settings) (tables : Tables) (earlier : Run) (between : List Run) (later : Run) (desks back : List (Desk P B P.Link B.Held B.Pen)) →
         AreNamedApart settings.hosted → IsSound settings earlier.start → InOrder tables → Holds tables earlier.start → Legal settings earlier.start earlier.entries →
         Follow settings (with_items tables (told settings earlier.start earlier.entries)) (end settings earlier.start earlier.entries).last (between ++ later ∷ []) →
         DesksShow ⟦<P::Link as Tells>⟧ (record {
@@ -103,7 +103,7 @@ pub fn later_runs_serve_named_files<P: Port, B: Blobs>()
 /// the end of the other.
 pub fn restarted_servers_serve_named_files<P: Port, B: Blobs, K: Records, C: Clock>()
     ensures { (settings : Settings) (tables : Tables) (records records' later_records later_records' : Recorded) (clock clock' later_clock later_clock' : Option Moments)
-        (desks back later_desks later_back : List (Desk P B P.Link B.Held)) (old new later_old later_new : Broom) (out out' later_out later_out' : Output) (status later_status : ℕ) →
+        (desks back later_desks later_back : List (Desk P B P.Link B.Held B.Pen)) (old new later_old later_new : Broom) (out out' later_out later_out' : Output) (status later_status : ℕ) →
         records.tables ≡ Some tables → later_records.tables ≡ records'.tables →
         ServesBy ⟦<P::Link as Tells>⟧ (record {
           left = P.left;

@@ -48,6 +48,7 @@ fn run_plainly<
 where
     P::Link: Send,
     B::Held: Send,
+    B::Pen: Send,
     requires { 0 < vec_len desks }
 {
     run(
