@@ -117,6 +117,32 @@ fn a_last_piece_is_withheld(rt: HostRuntime) -> Result<(), Fail> {
     Ok(())
 }
 
+// Bytes with two more behind them.
+fn grown(alloc: Global, bytes: &[u8]) -> Result<Vec<u8>, AllocError> {
+    let mut longer = Vec::from_slice(alloc, bytes)?;
+    longer.extend_from_slice(b"bc")?;
+    Ok(longer)
+}
+
+// The recorded bytes stand in front of the blob, or the blob is their front.
+#[test]
+fn another_length_is_found(rt: HostRuntime) -> Result<(), Fail> {
+    let piece = bytes_of(rt.alloc(), 65_535, b"b")?;
+    let longer = bytes_of(rt.alloc(), 65_536, b"b")?;
+    for (body, given) in [
+        (b"a".as_slice(), 0),
+        (piece.as_slice(), 0),
+        (longer.as_slice(), 65_536),
+    ] {
+        let found = grown(rt.alloc(), body)?;
+        let came = finds(rt.alloc(), body, found.as_slice())?;
+        assert!(rt; came == (given, other(found.as_slice())));
+        let shorter = finds(rt.alloc(), found.as_slice(), body)?;
+        assert!(rt; shorter == (given, other(body)));
+    }
+    Ok(())
+}
+
 #[test]
 fn what_was_recorded_is_given(rt: HostRuntime) -> Result<(), Fail> {
     let longer = bytes_of(rt.alloc(), 65_536, b"b")?;

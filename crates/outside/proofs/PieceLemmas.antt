@@ -1,5 +1,5 @@
 -- What stands in a buffer after several reads of a blob.
-use Rattle.std.proofs.Common.{◌≡◌, ℕ, ◌+◌, ◌-◌, ◌<◌, ◌≤◌, List, ◌++◌, length, take, drop, min, Option, Some, None, Result, Ok, Err, refl, ap, sym, ◌∙◌, arith, length-append, length-drop, inl, inr, eq-or-lt_of_le}
+use Rattle.std.proofs.Common.{◌≡◌, ℕ, Bool, true, false, ◌+◌, ◌<◌, ◌≤◌, List, ◌++◌, length, take, drop, min, Option, Some, None, Result, Ok, Err, refl, ap, sym, ◌∙◌, arith, length-append, length-drop, inl, inr, eq-or-lt_of_le}
 use Rattle.std.specs.Prelude.{IfOk, IfSome, ◌⊎◌}
 use Rattle.std.proofs.Math.Seq.{take-add}
 use Rattle.std.proofs.lemmas.List.{drop-drop, length-take, take-append-drop, take-append-le, take_all, take_at}
@@ -64,22 +64,25 @@ pub room_told : {E : Type 0} (told : Option (List ℕ)) (at most : ℕ) (result 
 room_told told at most (Err e) buffer rest len n_in is = tt
 room_told told at most (Ok n) buffer rest len n_in is = filled_room told at n most buffer rest n_in len is
 
--- where nothing is left although bytes were wanted, all of a blob was read
-all_read : (b message ahead : List ℕ) (m at : ℕ) → at ≡ length message → 0 < m → ahead ≡ take m (drop at b) → length ahead ≡ 0
-    → length (message ++ ahead) ≡ length message → take (length (message ++ ahead)) b ≡ message ++ ahead → message ++ ahead ≡ b
-all_read b message ahead m at place some is none even front =
-    let short : min m (length (drop at b)) ≡ 0 = sym (length-take m (drop at b)) ∙ ap length (sym is) ∙ none in
-    let end : length b ≤ at = omega (arith, short, some, length-drop at b) in
-    sym front ∙ take_all (length (message ++ ahead)) b (omega (arith, end, place, even))
+-- where a read gives less than was wanted, all of a blob was read
+all_read : (b message ahead : List ℕ) (m at : ℕ) → at ≡ length message → length ahead < m → ahead ≡ take m (drop at b)
+    → take (length (message ++ ahead)) b ≡ message ++ ahead → message ++ ahead ≡ b
+all_read b message ahead m at place less is front =
+    let short : min m (length (drop at b)) ≡ length ahead = sym (length-take m (drop at b)) ∙ ap length (sym is) in
+    let end : length b ≤ length (message ++ ahead) = omega (arith, short, less, place, length-drop at b, length-append message ahead) in
+    sym front ∙ take_all (length (message ++ ahead)) b end
 
--- where a look ahead reads nothing, all that is recorded was read, or all of the blob
-pub read_up : (told : Option (List ℕ)) (message ahead : List ℕ) (m at recorded : ℕ) → at ≡ length message → at ≤ recorded
-    → (0 < recorded - at → 0 < m) → IfSome told (λ b. ahead ≡ take m (drop at b)) → length (message ++ ahead) ≡ length message
-    → IfSome told (λ b. take (length (message ++ ahead)) b ≡ message ++ ahead → (length (message ++ ahead) ≡ recorded) ⊎ (message ++ ahead ≡ b))
-read_up None message ahead m at recorded place within wanted is even = tt
-read_up (Some b) message ahead m at recorded place within wanted is even = λ front. by_end front (eq-or-lt_of_le within)
-  where
-    by_end : take (length (message ++ ahead)) b ≡ message ++ ahead → (at ≡ recorded) ⊎ (at < recorded) → (length (message ++ ahead) ≡ recorded) ⊎ (message ++ ahead ≡ b)
-    by_end front (inl same) = inl (even ∙ sym place ∙ same)
-    by_end front (inr less) = inr (all_read b message ahead m at place (wanted (omega (arith, less))) is
-        (omega (arith, even, length-append message ahead)) even front)
+-- what was read so far, and more behind it, which is all where it is less than was wanted
+pub unread_further : (told : Option (List ℕ)) (message ahead : List ℕ) (m at : ℕ) (before now : Bool) → at ≡ length message
+    → IfSome told (λ b. ahead ≡ take m (drop at b)) → (now ≡ true → length ahead < m)
+    → IfSome told (λ b. (take (length message) b ≡ message) × (before ≡ true → message ≡ b))
+    → IfSome told (λ b. (take (length (message ++ ahead)) b ≡ message ++ ahead) × (now ≡ true → message ++ ahead ≡ b))
+unread_further None message ahead m at before now place more less unread = tt
+unread_further (Some b) message ahead m at before now place more less unread =
+    let front = unread_on (Some b) message ahead m at place more unread.0 in
+    (front, λ is. all_read b message ahead m at place (less is) more front)
+
+-- a blob that has all of its recorded bytes is not short of them
+pub not_short : (is_short : Bool) (at recorded : ℕ) → (is_short ≡ true → at < recorded) → at ≡ recorded → is_short ≡ false
+not_short true at recorded short all = absurd (omega (arith, short refl, all))
+not_short false at recorded short all = refl

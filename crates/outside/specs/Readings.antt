@@ -7,7 +7,8 @@ use Rattle.outside.specs.declared.readings.Step.{Step}
 use Rattle.outside.specs.declared.readings.Step.TheVariants.{Piece, End, Differs}
 
 -- a blob's recorded length and digests, its bytes that were read so far, how many of them were given, the last piece, whether
--- all was read and found equal, whether it differs or more was read than is recorded, and whether its digests were taken
+-- all was read and found equal, whether a read found the blob's end within the recorded length, whether it differs or more was
+-- read than is recorded, and whether its digests were taken
 pub record ReadingState : Type 0 where
   pub recorded : ℕ
   pub digests : Digests
@@ -15,6 +16,7 @@ pub record ReadingState : Type 0 where
   pub given : ℕ
   pub piece : List ℕ
   pub is_whole : Bool
+  pub is_short : Bool
   pub is_spent : Bool
   pub is_over : Bool
 
@@ -27,26 +29,29 @@ reading_of recorded digests = record {
   given = 0;
   piece = [];
   is_whole = false;
+  is_short = false;
   is_spent = false;
   is_over = false;
 }
 
 -- what holds of a reading's parts at any time
-pub record IsReading (recorded : ℕ) (digests : Digests) (message : List ℕ) (given at : ℕ) (hashes ahead : List ℕ) (is_whole is_spent is_over : Bool) : Type 0 where
+pub record IsReading (recorded : ℕ) (digests : Digests) (message : List ℕ) (given at : ℕ) (hashes ahead : List ℕ) (is_whole is_short is_spent is_over : Bool) : Type 0 where
   pub below : at < 9223372036854775808
   pub place : at ≡ length message
   pub taken : given ≤ length message
   pub within : is_spent ≡ false → at ≤ recorded
   pub rest : is_spent ≡ false → drop given message ≡ ahead
   pub few : length ahead ≤ 65536
+  pub short : is_short ≡ true → at < recorded
+  pub full : is_spent ≡ false → is_short ≡ false → given < at → at < recorded → length ahead ≡ 65536
   pub hashed : is_over ≡ false → hashes ≡ message
   pub open_until : is_spent ≡ false → is_over ≡ is_whole
   pub equal : is_whole ≡ true → IsPrintOf message recorded digests
   pub ended : is_whole ≡ true → given ≡ length message
 
--- the bytes read so far are the first of the blob's, where it tells them
+-- the bytes read so far are the first of the blob's, where it tells them, and all of them where its end was found
 abbrev pub IsUnread : Option (List ℕ) → ReadingState → Type 0
-IsUnread told r = IfSome told (λ bytes. take (length r.message) bytes ≡ r.message)
+IsUnread told r = IfSome told (λ bytes. (take (length r.message) bytes ≡ r.message) × (r.is_short ≡ true → r.message ≡ bytes))
 
 -- all was read and given, and found to have the recorded length and digests
 pub record IsWhole (r : ReadingState) : Type 0 where
@@ -61,9 +66,9 @@ pub record GoesOn (told : Option (List ℕ)) (old new : ReadingState) : Type 0 w
   pub message : (more : List ℕ) × (new.message ≡ old.message ++ more)
   pub told_as : IsUnread told old → IsUnread told new
 
--- all that is recorded was read, or all that the blob has
-abbrev pub IsReadUp : Option (List ℕ) → ReadingState → Type 0
-IsReadUp told r = IfSome told (λ bytes. IsUnread (Some bytes) r → (length r.message ≡ r.recorded) ⊎ (r.message ≡ bytes))
+-- all that is recorded was read, or the blob's end was found before
+abbrev pub IsReadUp : ReadingState → Type 0
+IsReadUp r = (length r.message ≡ r.recorded) ⊎ (r.is_short ≡ true)
 
 -- all that the blob has was read
 abbrev pub IsAll : Option (List ℕ) → ReadingState → Type 0
@@ -88,8 +93,10 @@ pub record Passes (old new : ReadingState) : Type 0 where
   pub given : new.given ≡ old.given + length new.piece
   pub piece : new.piece ≡ take (length new.piece) (drop old.given new.message)
   pub small : length new.piece ≤ 65536
+  pub full : old.is_short ≡ false → old.given < length old.message → length old.message < old.recorded → length new.piece ≡ 65536
   pub within : length new.message ≤ new.recorded
   pub is_whole : new.is_whole ≡ old.is_whole
+  pub is_short : new.is_short ≡ old.is_short
   pub is_spent : new.is_spent ≡ false
   pub is_over : new.is_over ≡ old.is_over
 
@@ -103,14 +110,15 @@ pub record Advances (told : Option (List ℕ)) (old new : ReadingState) (is_end 
   pub is_spent : new.is_spent ≡ false
   pub is_over : new.is_over ≡ old.is_over
   pub within : length new.message ≤ new.recorded
-  pub end : is_end ≡ true → (new.given ≡ length new.message) × IsReadUp told new
-  pub later : is_end ≡ false → (0 < length new.piece) × (new.given < length new.message)
+  pub end : is_end ≡ true → (new.given ≡ length new.message) × IsReadUp new
+  pub later : is_end ≡ false → (length new.piece ≡ 65536) × (new.given < length new.message)
 
 -- The next bytes are given as a piece, behind which a later byte within the recorded length was read or the whole was found
--- equal.
+-- equal: just 65,536 bytes where more are to come.
 pub record GivesPiece (old new : ReadingState) : Type 0 where
   pub some : 0 < length new.piece
   pub small : length new.piece ≤ 65536
+  pub full : new.given < new.recorded → length new.piece ≡ 65536
   pub given : new.given ≡ old.given + length new.piece
   pub piece : new.piece ≡ take (length new.piece) (drop old.given new.message)
   pub looked : (new.given < length new.message × (length new.message ≤ new.recorded)) ⊎ IsWhole new
@@ -122,7 +130,7 @@ pub record GivesPiece (old new : ReadingState) : Type 0 where
 -- recorded ones.
 abbrev pub Gives : ReadingState → ReadingState → Step → Type 0
 Gives old new Piece = GivesPiece old new
-Gives old new End = (old.given ≡ new.recorded) × IsWhole new
+Gives old new End = (old.given ≡ new.recorded) × IsWhole new × (new.is_spent ≡ false)
 Gives old new (Differs found digests) = IsPrintOf new.message found digests × ¬ ((found ≡ new.recorded) × (digests ≡ new.digests))
 
 -- where a blob tells its bytes, these were all read before it is found whole, by a last piece or an end, or to differ

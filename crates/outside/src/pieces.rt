@@ -56,7 +56,14 @@ fn read_front<B: Blobs>(
     read_full_at(blobs, held, at, &mut room[..most])
 }
 
-// At most so many bytes as its room has, which are 1 to 65,536.
+// So many zeros.
+fn zeros(alloc: Global, count: usize) -> Result<Vec<u8>, NoMemory>
+    ensures { IfOk result (λ room. length room.items ≡ count) }
+{
+    Ok(vec![in alloc; 0; count]?)
+}
+
+// At most 65,536 bytes, in a room of so many.
 #[derive(Drop)]
 pub struct Piece {
     room: Vec<u8>,
@@ -64,23 +71,21 @@ pub struct Piece {
 }
 
 impl Model for Piece {
-    ghost use Rattle.std.specs.Prelude.{List, ℕ, ◌<◌, ◌≤◌, length, take};
+    ghost use Rattle.std.specs.Prelude.{◌≡◌, List, ℕ, ◌≤◌, length, take};
 
     ghost Value = { List ℕ };
 
     ghost view = { λ p. take p.count p.room.items };
 
-    ghost invariant = { λ p. (0 < length p.room.items) × (length p.room.items ≤ 65536) × (p.count ≤ length p.room.items) };
+    ghost invariant = { λ p. (length p.room.items ≡ 65536) × (p.count ≤ length p.room.items) };
 }
 
 impl Piece {
-    // The room is for a body of so many bytes: no piece of it has more.
-    pub fn new(alloc: Global, length: u64) -> Result<Piece, NoMemory>
+    pub fn new(alloc: Global) -> Result<Piece, NoMemory>
         ensures { IfOk result (λ piece. piece ≡ []) }
     {
-        let size = (PIECE_BYTES as u64).min(length).max(1) as usize;
         Ok(Piece {
-            room: vec![in alloc; 0; size]?,
+            room: zeros(alloc, PIECE_BYTES)?,
             count: 0,
         })
     }
@@ -104,7 +109,7 @@ impl Piece {
         self.count = 0;
     }
 
-    // Reads as many bytes of a blob from a place on as fit and are wanted.
+    // Reads as many bytes of a blob from a place on as fit and are wanted, or as there are.
     pub fn fill<B: Blobs>(
         &mut self,
         blobs: &mut B,
@@ -116,13 +121,12 @@ impl Piece {
         ensures cause { HasCause (B.faults blobs.old) (B.faults blobs.new) result }
         ensures count { OnOk result (length self.new ≤ min 65536 wanted) }
         ensures below { OnOk result (at + length self.new < 2 ^ 63) }
-        ensures told { OnOk result ((most : ℕ) × (0 < wanted → 0 < most)
-            × IfSome (B.Held.bytes held.now) (λ bytes. self.new ≡ take most (drop at bytes))) }
+        ensures told { OnOk result (IfSome (B.Held.bytes held.now) (λ bytes. self.new ≡ take (min 65536 wanted) (drop at bytes))) }
         ensures failed { OnErr result (self.new ≡ []) }
         ensures kept { B.shelf blobs.new ≡ B.shelf blobs.old }
     {
         self.count = 0;
-        let most = (self.room.len() as u64).min(wanted) as usize;
+        let most = (PIECE_BYTES as u64).min(wanted) as usize;
         let count = read_front(blobs, held, at, &mut self.room, most)?;
         self.count = count;
         Ok(())

@@ -46,7 +46,8 @@ pub enum Step {
 
 /// A blob that is read piece by piece, each of 1 to 65,536 bytes. It gives a piece only once a later byte within the recorded
 /// length was read, or the whole was found to have the recorded length and digests: of a blob that differs, the last piece of
-/// the recorded length is never given. A longer blob is read on to its end.
+/// the recorded length is never given. Each piece but the recorded length's last has 65,536 bytes. A longer blob is read on to
+/// its end.
 ///
 /// Contracts see what was recorded, the bytes read so far, how many of them were given, and the piece.
 #[derive(Drop)]
@@ -60,6 +61,7 @@ pub struct Reading {
     piece: Piece,
     ahead: Piece,
     is_whole: bool,
+    is_short: bool,
     is_spent: bool,
     is_over: bool,
 }
@@ -76,16 +78,17 @@ impl Model for Reading {
       given = r.given;
       piece = r.piece;
       is_whole = r.is_whole;
+      is_short = r.is_short;
       is_spent = r.is_spent;
       is_over = r.is_over;
     } };
 
-    ghost invariant = { λ r. IsReading r.length r.digests r.message.numbers r.given r.at r.hashes r.ahead r.is_whole r.is_spent r.is_over };
+    ghost invariant = { λ r. IsReading r.length r.digests r.message.numbers r.given r.at r.hashes r.ahead r.is_whole r.is_short r.is_spent r.is_over };
 }
 
 impl Reading {
     /// A reading from the first byte on of a blob with this length in bytes and these digests. It takes all the room that the
-    /// reading wants, twice its length and at most 128 KiB.
+    /// reading wants, 128 KiB.
     pub fn new(alloc: Global, length: u64, digests: Digests) -> Result<Reading, NoMemory>
         ensures { IfOk result (λ reading. reading ≡ reading_of length digests) }
     {
@@ -96,9 +99,10 @@ impl Reading {
             given: 0,
             hashes: Hashes::new(),
             message: Tag::empty(),
-            piece: Piece::new(alloc, length)?,
-            ahead: Piece::new(alloc, length)?,
+            piece: Piece::new(alloc)?,
+            ahead: Piece::new(alloc)?,
             is_whole: false,
+            is_short: false,
             is_spent: false,
             is_over: false,
         })
@@ -121,19 +125,25 @@ impl Reading {
         self.given = self.at;
     }
 
-    // Reads ahead, within the recorded length, where nothing is ahead.
+    // Reads ahead, within the recorded length, where nothing is ahead. A read that gives less than was wanted found the blob's
+    // end, behind which none is made.
     fn look_ahead<B: Blobs>(&mut self, blobs: &mut B, held: &B::Held) -> Result<(), Failed>
         requires live { self.old.is_spent ≡ false }
         requires half { self.old.is_over ≡ false }
         requires none { self.old.given ≡ length self.old.message }
         ensures cause { HasCause (B.faults blobs.old) (B.faults blobs.new) result }
         ensures looks { LooksAhead (B.Held.bytes held.now) self.old self.new }
-        ensures up { OnOk result (self.new.given ≡ length self.new.message → IsReadUp (B.Held.bytes held.now) self.new) }
+        ensures up { OnOk result (self.new.given ≡ length self.new.message → IsReadUp self.new) }
+        ensures ended { IsReadUp self.old → self.new.given ≡ length self.new.message }
         ensures kept { B.shelf blobs.new ≡ B.shelf blobs.old }
     {
-        self.ahead
-            .fill(blobs, held, self.at, self.length - self.at)?;
+        if self.is_short {
+            return Ok(());
+        }
+        let left = self.length - self.at;
+        self.ahead.fill(blobs, held, self.at, left)?;
         let bytes = self.ahead.bytes();
+        self.is_short = (bytes.len() as u64) < left.min(PIECE_BYTES as u64);
         self.hashes.update(bytes);
         self.message = joined(&self.message, bytes);
         self.at += bytes.len() as u64;
@@ -144,6 +154,7 @@ impl Reading {
     fn read_on<B: Blobs>(&mut self, blobs: &mut B, held: &B::Held) -> Result<(), Failed>
         requires half { self.old.is_over ≡ false }
         requires not_whole { self.old.is_whole ≡ false }
+        requires not_short { self.old.is_short ≡ false }
         ensures cause { HasCause (B.faults blobs.old) (B.faults blobs.new) result }
         ensures goes { GoesOn (B.Held.bytes held.now) self.old self.new }
         ensures told { OnOk result (IsAll (B.Held.bytes held.now) self.new) }
@@ -170,7 +181,8 @@ impl Reading {
         requires half { self.old.is_over ≡ false }
         requires given { IsGivenOrLong self.old }
         ensures recorded { (self.new.recorded ≡ self.old.recorded) × (self.new.digests ≡ self.old.digests) }
-        ensures same { (self.new.given ≡ self.old.given) × (self.new.piece ≡ self.old.piece) × (self.new.message ≡ self.old.message) }
+        ensures same { (self.new.given ≡ self.old.given) × (self.new.piece ≡ self.old.piece) × (self.new.message ≡ self.old.message)
+            × (self.new.is_short ≡ self.old.is_short) }
         ensures equal { result ≡ None → (self.new.is_spent ≡ false) × IsWhole self.new }
         ensures other { IfSome result (λ found. IsPrintOf self.new.message found.length found.digests
             × ¬ ((found.length ≡ self.new.recorded) × (found.digests ≡ self.new.digests))) }
@@ -210,16 +222,13 @@ impl Reading {
     fn advance_by<B: Blobs>(&mut self, blobs: &mut B, held: &B::Held) -> Result<bool, Failed>
         requires live { self.old.is_spent ≡ false }
         requires half { self.old.is_over ≡ false }
-        requires up { self.old.given ≡ length self.old.message → IsReadUp (B.Held.bytes held.now) self.old }
+        requires up { self.old.given ≡ length self.old.message → IsReadUp self.old }
         ensures cause { HasCause (B.faults blobs.old) (B.faults blobs.new) result }
         ensures goes { GoesOn (B.Held.bytes held.now) self.old self.new }
         ensures advances { IfOk result (λ is_end. Advances (B.Held.bytes held.now) self.old self.new is_end) }
         ensures kept { B.shelf blobs.new ≡ B.shelf blobs.old }
     {
         self.pass();
-        if self.piece.is_empty() {
-            return Ok(true);
-        }
         self.look_ahead(blobs, held)?;
         Ok(self.given == self.at)
     }
@@ -229,7 +238,7 @@ impl Reading {
         requires half { self.old.is_over ≡ false }
         requires not_whole { self.old.is_whole ≡ false }
         requires all { self.old.given ≡ length self.old.message }
-        requires up { IsReadUp (B.Held.bytes held.now) self.old }
+        requires up { IsReadUp self.old }
         ensures cause { HasCause (B.faults blobs.old) (B.faults blobs.new) result }
         ensures goes { GoesOn (B.Held.bytes held.now) self.old self.new }
         ensures told { OnOk result (IsAll (B.Held.bytes held.now) self.new) }
@@ -250,7 +259,7 @@ impl Reading {
         requires half { self.old.is_over ≡ false }
         requires not_whole { self.old.is_whole ≡ false }
         requires all { self.old.given ≡ length self.old.message }
-        requires up { IsReadUp (B.Held.bytes held.now) self.old }
+        requires up { IsReadUp self.old }
         ensures cause { HasCause (B.faults blobs.old) (B.faults blobs.new) result }
         ensures goes { GoesOn (B.Held.bytes held.now) self.old self.new }
         ensures same { (self.new.given ≡ self.old.given) × (self.new.piece ≡ self.old.piece) }

@@ -7,6 +7,7 @@ invariant-loop-self g l = record {
   spent : l.self-inside.is_spent ≡ true;
   half : l.self-inside.is_over ≡ false;
   not_whole : l.self-inside.is_whole ≡ false;
+  not_short : l.self-inside.is_short ≡ false;
   below : l.self-inside.at < 2 ^ 63;
   place : l.self-inside.at ≡ length l.self-inside.message.numbers;
   taken : l.self-inside.given ≤ length l.self-inside.message.numbers;
@@ -18,6 +19,7 @@ invariant-loop-self g l = record {
     given = l.self-inside.given;
     piece = l.self-inside.piece;
     is_whole = l.self-inside.is_whole;
+    is_short = l.self-inside.is_short;
     is_spent = l.self-inside.is_spent;
     is_over = l.self-inside.is_over;
   });
