@@ -1,3 +1,4 @@
+pub mod Rules
 pub mod Visits
 pub mod Passages
 pub mod Working

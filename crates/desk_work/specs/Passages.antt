@@ -8,10 +8,11 @@ use Rattle.repo_model.specs.Settings.{Settings}
 use Rattle.repo_course.specs.declared.outcomes.CleanFault.{CleanFault}
 use Rattle.repo_course.specs.declared.outcomes.Cleaned.{Cleaned}
 use Rattle.repo_course.specs.Cleaning.{PassesAll, Store}
+use Rattle.run_desks.specs.Seen.{Broom}
 use Rattle.turn_lock.specs.declared.turns.Turns.{Turns}
 use Rattle.turn_lock.specs.declared.seat.SeatToken.{SeatToken as Seat}
-use Rattle.turn_seats.specs.Seated.{Sight}
 use Rattle.seat_server.specs.Gained.{Gained}
+use Rattle.desk_work.specs.Rules.{Rules}
 
 -- one pass: its entries, what came of it, and the blobs behind it
 pub record Passage : Type 0 where
@@ -42,9 +43,8 @@ abbrev pub IsPaced : ℕ → ℕ → Option Pauses → Option Pauses → Type 0
 IsPaced seconds n old new = (last : Option Pauses) × AnswersTrue seconds n old last × Answers false last × (new ≡ option_map (paused seconds) last)
 
 -- After each pause that answered true, one pass was made, up to the first that answered false; and the seat gained just the entries of the passes
-pub record KeptClean {T C R : Type 0} (settings : Settings) (sight : Sight T C R) (steps : T → C → R → T → Type 0) (turns : Turns T C R) (old new : Seat C R T)
-    (pauses pauses' : Option Pauses) (before after : Store) : Type 0 where
+pub record KeptClean {T C R : Type 0} (rules : Rules T C R) (settings : Settings) (turns : Turns T C R) (old new : Seat C R T) (before after : Broom) : Type 0 where
   pub passages : List Passage
-  pub passes : PassesThrough settings before passages after
-  pub gained : Gained sight steps turns old (entries_in passages) new
-  pub paced : IsPaced settings.clean (length passages) pauses pauses'
+  pub passes : PassesThrough settings before.blobs passages after.blobs
+  pub gained : Gained rules.sight rules.steps turns old (entries_in passages) new
+  pub paced : IsPaced settings.clean (length passages) before.pauses after.pauses

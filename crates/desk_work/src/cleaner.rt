@@ -1,8 +1,9 @@
 //! The cleaner makes a pass over the repositories from time to time, with a seat of its own.
 ghost use Rattle.std.specs.Prelude.{◌≡◌};
 ghost use Rattle.desk_work.specs.Passages.{KeptClean};
-ghost use Rattle.repo_course.specs.Cleaning.{store};
+ghost use Rattle.desk_work.specs.Rules.{rules};
 ghost use Rattle.repo_model.specs.Shown.{shown_command, shown_reply};
+ghost use Rattle.run_desks.specs.Seen.{broom};
 ghost use Rattle.turn_lock.specs.History.{IsStep};
 ghost use Rattle.turn_lock.specs.Seats.{opening, IsSeatOf};
 
@@ -13,7 +14,7 @@ use repo_model::{Command, Reply};
 use run_desks::Cleaner;
 use seat_server::clean_with;
 use std::sync::Wait;
-use turn_lock::{Seat, Turns};
+use turn_lock::{Seat, Thing, Turns};
 use turn_seats::Repository;
 
 /// Pauses for the settings' seconds between two cleanings, and makes one pass over the repositories after each pause that
@@ -34,8 +35,8 @@ pub fn keep_clean<
     requires answered { (reply : _) → T.sight.answered reply ≡ shown_reply reply }
     requires seat { IsSeatOf (IsStep T.fixed T.may_ask T.turned) turns.now seat }
     requires settings { T.sight.settings (opening turns.now) ≡ settings.now }
-    ensures { KeptClean settings.now T.sight (IsStep T.fixed T.may_ask T.turned) turns.now seat result (Q.pauses cleaner.old.pace) (Q.pauses cleaner.new.pace)
-        (store (B.shelf cleaner.old.blobs) (B.faults cleaner.old.blobs)) (store (B.shelf cleaner.new.blobs) (B.faults cleaner.new.blobs)) }
+    ensures { KeptClean (rules ⟦<T as Thing>⟧ T.sight) settings.now turns.now seat result
+        (broom ⟦<B as Blobs>⟧ ⟦<Q as Pace>⟧ cleaner.old) (broom ⟦<B as Blobs>⟧ ⟦<Q as Pace>⟧ cleaner.new) }
 {
     let seconds = settings.clean_seconds();
     for _ in rt.forever() {

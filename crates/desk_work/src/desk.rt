@@ -1,13 +1,13 @@
 //! A desk serves the connections of its port with a seat of its own.
 ghost use Rattle.std.specs.Prelude.{◌≡◌};
+ghost use Rattle.desk_work.specs.Rules.{rules};
 ghost use Rattle.desk_work.specs.Visits.{Attended, IsOver};
-ghost use Rattle.repo_course.specs.Cleaning.{store};
-ghost use Rattle.repo_course.specs.Serving.{AllTell};
 ghost use Rattle.repo_model.specs.Shown.{shown_command, shown_reply};
+ghost use Rattle.run_desks.specs.Seen.{looks};
 ghost use Rattle.turn_lock.specs.History.{IsStep};
 ghost use Rattle.turn_lock.specs.Seats.{opening, IsSeatOf};
 
-use outside::{Blobs, Port, Tells};
+use outside::{Blobs, Held, Port, Tells};
 use repo_config::Settings;
 use repo_model::{Command, Reply};
 use repo_routes::Routes;
@@ -15,7 +15,7 @@ use run_desks::Desk;
 use seat_server::serve_with;
 use std::alloc::Global;
 use std::sync::Wait;
-use turn_lock::{Seat, Turns};
+use turn_lock::{Seat, Thing, Turns};
 use turn_seats::Repository;
 
 /// Serves the connections of a desk's port, one after another, each as a stream, until none is left or the port fails. Each is
@@ -38,9 +38,8 @@ pub fn serve_desk<
     requires answered { (reply : _) → T.sight.answered reply ≡ shown_reply reply }
     requires seat { IsSeatOf (IsStep T.fixed T.may_ask T.turned) turns.now seat }
     requires settings { T.sight.settings (opening turns.now) ≡ settings.now }
-    ensures attended { Attended ⟦<P::Link as Tells>⟧ settings.now (AllTell B.Held.bytes) P.left P.given_back T.sight (IsStep T.fixed T.may_ask T.turned)
-        turns.now seat result.0 desk.old.port desk.new.port
-        (store (B.shelf desk.old.blobs) (B.faults desk.old.blobs)) (store (B.shelf desk.new.blobs) (B.faults desk.new.blobs)) }
+    ensures attended { Attended (looks ⟦<P as Port>⟧ ⟦<P::Link as Tells>⟧ ⟦<B as Blobs>⟧ ⟦<B::Held as Held>⟧) (rules ⟦<T as Thing>⟧ T.sight)
+        settings.now turns.now seat result.0 desk.old desk.new }
     ensures over { IsOver result.1 (P.left desk.new.port) (P.faults desk.old.port) (P.faults desk.new.port) }
 {
     let routes = Routes::new(alloc).ok();

@@ -1,7 +1,7 @@
 //! Desks and the cleaner as jobs, each with its seat.
 use crate::cleaner::keep_clean;
 use crate::desk::serve_desk;
-use outside::{Blobs, Port, Tells};
+use outside::{Blobs, Held, Port, Tells};
 use outside_pace::Pace;
 use repo_config::Settings;
 use repo_model::{Command, Reply};
@@ -33,23 +33,17 @@ impl<
     B: Blobs + Drop,
     T: Repository<Call = Command<B::Held>, Reply = Reply<B::Held>>,
 > Job for DeskJob<'_, P, B, T> {
-    ghost use Rattle.desk_work.specs.Working.{IsReady, Serves};
-    ghost use Rattle.repo_course.specs.Cleaning.{store};
-    ghost use Rattle.repo_course.specs.Serving.{AllTell};
+    ghost use Rattle.desk_work.specs.Rules.{rules};
+    ghost use Rattle.desk_work.specs.Working.{DeskServes, IsReady};
     ghost use Rattle.repo_model.specs.Shown.{shown_command, shown_reply};
-    ghost use Rattle.turn_lock.specs.History.{IsStep};
+    ghost use Rattle.run_desks.specs.Seen.{looks};
 
     type Out = (Seat<T>, (Desk<P, B>, bool));
 
-    ghost ready = { λ job. IsReady T.sight shown_command shown_reply (IsStep T.fixed T.may_ask T.turned) job.house.now.settings job.house.now.turns job.seat };
+    ghost ready = { λ job. IsReady (rules ⟦<T as Thing>⟧ T.sight) shown_command shown_reply job.house.now.settings job.house.now.turns job.seat };
 
-    ghost gives = { λ job out. Serves ⟦<P::Link as Tells>⟧ (record {
-      left = P.left;
-      given_back = P.given_back;
-      faults = P.faults;
-      port = λ desk. desk.port;
-      blobs = λ desk. store (B.shelf desk.blobs) (B.faults desk.blobs);
-    }) job.house.now.settings (AllTell B.Held.bytes) T.sight (IsStep T.fixed T.may_ask T.turned) job.house.now.turns job.seat job.desk out };
+    ghost gives = { λ job out. DeskServes (looks ⟦<P as Port>⟧ ⟦<P::Link as Tells>⟧ ⟦<B as Blobs>⟧ ⟦<B::Held as Held>⟧) (rules ⟦<T as Thing>⟧ T.sight)
+        job.house.now.settings job.house.now.turns job.seat job.desk out };
 
     fn run<R: Wait>(self, rt: &R) -> (Seat<T>, (Desk<P, B>, bool)) {
         let DeskJob {
@@ -77,17 +71,17 @@ impl<
     T: Repository<Call = Command<B::Held>, Reply = Reply<B::Held>>,
 > Job for CleanerJob<'_, B, Q, T> {
     ghost use Rattle.desk_work.specs.Passages.{KeptClean};
+    ghost use Rattle.desk_work.specs.Rules.{rules};
     ghost use Rattle.desk_work.specs.Working.{IsReady};
-    ghost use Rattle.repo_course.specs.Cleaning.{store};
     ghost use Rattle.repo_model.specs.Shown.{shown_command, shown_reply};
-    ghost use Rattle.turn_lock.specs.History.{IsStep};
+    ghost use Rattle.run_desks.specs.Seen.{broom};
 
     type Out = (Seat<T>, Cleaner<B, Q>);
 
-    ghost ready = { λ job. IsReady T.sight shown_command shown_reply (IsStep T.fixed T.may_ask T.turned) job.house.now.settings job.house.now.turns job.seat };
+    ghost ready = { λ job. IsReady (rules ⟦<T as Thing>⟧ T.sight) shown_command shown_reply job.house.now.settings job.house.now.turns job.seat };
 
-    ghost gives = { λ job out. KeptClean job.house.now.settings T.sight (IsStep T.fixed T.may_ask T.turned) job.house.now.turns job.seat out.0 (Q.pauses job.cleaner.pace) (Q.pauses out.1.pace)
-        (store (B.shelf job.cleaner.blobs) (B.faults job.cleaner.blobs)) (store (B.shelf out.1.blobs) (B.faults out.1.blobs)) };
+    ghost gives = { λ job out. KeptClean (rules ⟦<T as Thing>⟧ T.sight) job.house.now.settings job.house.now.turns job.seat out.0
+        (broom ⟦<B as Blobs>⟧ ⟦<Q as Pace>⟧ job.cleaner) (broom ⟦<B as Blobs>⟧ ⟦<Q as Pace>⟧ out.1) };
 
     fn run<R: Wait>(self, rt: &R) -> (Seat<T>, Cleaner<B, Q>) {
         let CleanerJob {

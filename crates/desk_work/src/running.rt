@@ -2,16 +2,15 @@
 ghost use Rattle.std.specs.Prelude.{◌≡◌, ◌+◌, ◌<◌, ◌≤◌, [], All, IfOk, IfErr, map, vec_len, vec_capacity};
 ghost use Rattle.std.specs.List.{AllZip, list_any};
 ghost use Rattle.desk_work.specs.Passages.{KeptClean};
-ghost use Rattle.desk_work.specs.Working.{CleanedBeside, DeskDone, IsReady, Serves};
-ghost use Rattle.repo_course.specs.Cleaning.{store};
-ghost use Rattle.repo_course.specs.Serving.{AllTell};
+ghost use Rattle.desk_work.specs.Rules.{rules};
+ghost use Rattle.desk_work.specs.Working.{CleanedBeside, DeskDone, DeskServes, IsReady};
 ghost use Rattle.repo_model.specs.Shown.{shown_command, shown_reply};
-ghost use Rattle.turn_lock.specs.History.{IsStep};
+ghost use Rattle.run_desks.specs.Seen.{broom, looks};
 ghost use Rattle.turn_lock.specs.Seats.{parts_of};
 
 use crate::jobs::{CleanerJob, DeskJob, House};
 use crate::seating::seated;
-use outside::{Blobs, Port, Tells};
+use outside::{Blobs, Held, Port, Tells};
 use outside_pace::Pace;
 use repo_model::{Command, Reply};
 use run_desks::{Cleaner, Desk};
@@ -19,7 +18,7 @@ use std::alloc::Global;
 use std::sync::Wait;
 use std::thread::Threads;
 use thread_jobs::run_beside;
-use turn_lock::Seat;
+use turn_lock::{Seat, Thing};
 use turn_seats::Repository;
 
 // Runs all desks at once, each in a thread of its own where one can be made and the last in this one, and the cleaner beside
@@ -41,18 +40,13 @@ where
     P::Link: Send,
     B::Held: Send,
     B::Pen: Send,
-    requires jobs { All (λ job. IsReady T.sight shown_command shown_reply (IsStep T.fixed T.may_ask T.turned) job.house.now.settings job.house.now.turns job.seat) jobs.items }
-    requires last { IsReady T.sight shown_command shown_reply (IsStep T.fixed T.may_ask T.turned) last.house.now.settings last.house.now.turns last.seat }
+    requires jobs { All (λ job. IsReady (rules ⟦<T as Thing>⟧ T.sight) shown_command shown_reply job.house.now.settings job.house.now.turns job.seat) jobs.items }
+    requires last { IsReady (rules ⟦<T as Thing>⟧ T.sight) shown_command shown_reply last.house.now.settings last.house.now.turns last.seat }
     requires room { (room.items ≡ []) × (vec_len jobs ≤ vec_capacity room) }
-    ensures served { AllZip (λ job out. Serves ⟦<P::Link as Tells>⟧ (record {
-      left = P.left;
-      given_back = P.given_back;
-      faults = P.faults;
-      port = λ desk. desk.port;
-      blobs = λ desk. store (B.shelf desk.blobs) (B.faults desk.blobs);
-    }) job.house.now.settings (AllTell B.Held.bytes) T.sight (IsStep T.fixed T.may_ask T.turned) job.house.now.turns job.seat job.desk out) jobs.entry.items result.0.items }
-    ensures cleaned { KeptClean last.entry.house.now.settings T.sight (IsStep T.fixed T.may_ask T.turned) last.entry.house.now.turns last.entry.seat result.1.0 (Q.pauses last.entry.cleaner.pace) (Q.pauses result.1.1.pace)
-        (store (B.shelf last.entry.cleaner.blobs) (B.faults last.entry.cleaner.blobs)) (store (B.shelf result.1.1.blobs) (B.faults result.1.1.blobs)) }
+    ensures served { AllZip (λ job out. DeskServes (looks ⟦<P as Port>⟧ ⟦<P::Link as Tells>⟧ ⟦<B as Blobs>⟧ ⟦<B::Held as Held>⟧) (rules ⟦<T as Thing>⟧ T.sight)
+        job.house.now.settings job.house.now.turns job.seat job.desk out) jobs.entry.items result.0.items }
+    ensures cleaned { KeptClean (rules ⟦<T as Thing>⟧ T.sight) last.entry.house.now.settings last.entry.house.now.turns last.entry.seat result.1.0
+        (broom ⟦<B as Blobs>⟧ ⟦<Q as Pace>⟧ last.entry.cleaner) (broom ⟦<B as Blobs>⟧ ⟦<Q as Pace>⟧ result.1.1) }
     ensures len { vec_len result.0 ≡ vec_len jobs.entry }
 {
     run_beside(rt, last, jobs, room)
@@ -99,18 +93,13 @@ where
     P::Link: Send,
     B::Held: Send,
     B::Pen: Send,
-    requires ready { IsReady T.sight shown_command shown_reply (IsStep T.fixed T.may_ask T.turned) house.now.settings house.now.turns seat }
+    requires ready { IsReady (rules ⟦<T as Thing>⟧ T.sight) shown_command shown_reply house.now.settings house.now.turns seat }
     requires parts { vec_len desks < parts_of seat }
     requires room { (room.items ≡ []) × (vec_len desks ≤ vec_capacity room) }
-    ensures done { IfOk result (λ r. AllZip (DeskDone ⟦<P::Link as Tells>⟧ (record {
-      left = P.left;
-      given_back = P.given_back;
-      faults = P.faults;
-      port = λ desk. desk.port;
-      blobs = λ desk. store (B.shelf desk.blobs) (B.faults desk.blobs);
-    }) house.now.settings (AllTell B.Held.bytes) T.sight (IsStep T.fixed T.may_ask T.turned) house.now.turns seat) desks.items r.0.items) }
-    ensures cleaned { IfOk result (λ r. CleanedBeside house.now.settings T.sight (IsStep T.fixed T.may_ask T.turned) house.now.turns seat r.1.0 (Q.pauses cleaner.pace) (Q.pauses r.1.1.pace)
-        (store (B.shelf cleaner.blobs) (B.faults cleaner.blobs)) (store (B.shelf r.1.1.blobs) (B.faults r.1.1.blobs))) }
+    ensures done { IfOk result (λ r. AllZip (DeskDone (looks ⟦<P as Port>⟧ ⟦<P::Link as Tells>⟧ ⟦<B as Blobs>⟧ ⟦<B::Held as Held>⟧) (rules ⟦<T as Thing>⟧ T.sight)
+        house.now.settings house.now.turns seat) desks.items r.0.items) }
+    ensures cleaned { IfOk result (λ r. CleanedBeside (rules ⟦<T as Thing>⟧ T.sight) house.now.settings house.now.turns seat r.1.0
+        (broom ⟦<B as Blobs>⟧ ⟦<Q as Pace>⟧ cleaner) (broom ⟦<B as Blobs>⟧ ⟦<Q as Pace>⟧ r.1.1)) }
     ensures parts { IfOk result (λ r. parts_of r.1.0 + vec_len r.0 ≡ parts_of seat) }
     ensures len { IfOk result (λ r. vec_len r.0 ≡ vec_len desks) }
     ensures refused { IfErr result (λ r. (r.0 ≡ seat) × (r.1.items ≡ desks.items) × (r.2 ≡ cleaner)) }

@@ -1,17 +1,17 @@
 //! Work as a whole: from the desks to the end of the history.
 ghost use Rattle.std.specs.Prelude.{◌≡◌, ◌+◌, ◌^◌, ◌≤◌, [], false, All, IfOk, IsTrue, IsFalse, map, sum_by, vec_len, vec_capacity};
 ghost use Rattle.std.specs.List.{list_any};
+ghost use Rattle.desk_work.specs.Rules.{rules};
 ghost use Rattle.desk_work.specs.Working.{IsReady, Works};
-ghost use Rattle.repo_course.specs.Cleaning.{store};
-ghost use Rattle.repo_course.specs.Serving.{AllTell};
 ghost use Rattle.repo_model.specs.Shown.{shown_command, shown_reply};
+ghost use Rattle.run_desks.specs.Seen.{floor, looks};
 ghost use Rattle.turn_lock.specs.History.{IsStep};
 ghost use Rattle.turn_lock.specs.Seats.{parts_of, Closes, IsSeatOf};
 ghost use Rattle.turn_seats.specs.Ending.{Ended};
 
 use crate::jobs::House;
 use crate::running::{parted, serve_all};
-use outside::{Blobs, Port, Tells};
+use outside::{Blobs, Held, Port, Tells};
 use outside_pace::Pace;
 use repo_config::Settings;
 use repo_model::{Command, Reply};
@@ -145,19 +145,13 @@ where
     P::Link: Send,
     B::Held: Send,
     B::Pen: Send,
-    requires ready { IsReady T.sight shown_command shown_reply (IsStep T.fixed T.may_ask T.turned) settings turns seat }
+    requires ready { IsReady (rules ⟦<T as Thing>⟧ T.sight) shown_command shown_reply settings turns seat }
     requires parts { parts_of seat ≡ 2 ^ 64 }
     ensures refused { IsTrue result.refused → (result.desks.items ≡ desks.items) × (result.cleaner ≡ cleaner) × IsFalse result.failed
         × Closes (IsStep T.fixed T.may_ask T.turned) turns seat result.repository result.calls }
-    ensures works { IsFalse result.refused → Works ⟦<P::Link as Tells>⟧ (record {
-      left = P.left;
-      given_back = P.given_back;
-      faults = P.faults;
-      port = λ desk. desk.port;
-      blobs = λ desk. store (B.shelf desk.blobs) (B.faults desk.blobs);
-    }) settings (AllTell B.Held.bytes) T.sight (IsStep T.fixed T.may_ask T.turned) turns seat desks.items (Q.pauses cleaner.pace) (Q.pauses result.cleaner.pace)
-        (store (B.shelf cleaner.blobs) (B.faults cleaner.blobs)) (store (B.shelf result.cleaner.blobs) (B.faults result.cleaner.blobs))
-        result.repository result.calls result.desks.items result.failed }
+    ensures works { IsFalse result.refused → Works (looks ⟦<P as Port>⟧ ⟦<P::Link as Tells>⟧ ⟦<B as Blobs>⟧ ⟦<B::Held as Held>⟧) (rules ⟦<T as Thing>⟧ T.sight) settings turns seat
+        (floor ⟦<B as Blobs>⟧ ⟦<Q as Pace>⟧ desks.items cleaner) (floor ⟦<B as Blobs>⟧ ⟦<Q as Pace>⟧ result.desks.items result.cleaner)
+        result.repository result.calls result.failed }
 {
     // The history that all make is one of the repository.
     what_is_seen_is_a_history::<T>();

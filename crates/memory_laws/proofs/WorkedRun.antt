@@ -1,6 +1,7 @@
 -- A run whose words ask for a replay, and which ended with 0, over nothing: what its one connection has taken.
 use Rattle.std.proofs.Common.{◌≡◌, ◌⊎◌, ◌∙◌, ℕ, List, [], ◌∷◌, ◌++◌, Option, Some, None, Ok, Err, inl, inr, sym, ap, subst, arith, map, length}
 use Rattle.std.specs.List.{AllByRecursion}
+use Rattle.outside.specs.declared.tells.Tells.{Ghosts as Telling}
 use Rattle.outside.specs.Moments.{Moments}
 use Rattle.outside.specs.Told.{behind, in_front, IsAtEnd}
 use Rattle.course_laws.specs.AsPlayed.{NoFaults, StoodStill, WantedMemory}
@@ -8,29 +9,27 @@ use Rattle.course_laws.specs.Worked.{abc_200, created_201, last_get, put_abc, wo
 use Rattle.repo_config.specs.Source.{IsReadFrom}
 use Rattle.repo_core.specs.declared.faults.StartFault.{StartFault}
 use Rattle.repo_core.specs.declared.faults.StartFault.TheVariants as start
-use Rattle.repo_course.specs.Cleaning.{Store}
 use Rattle.repo_course.specs.declared.outcomes.End.{End}
 use Rattle.repo_course.specs.declared.outcomes.End.TheVariants.{Closed}
 use Rattle.repo_model.specs.Settings.{Settings}
 use Rattle.repo_model.specs.Tables.{no_tables}
 use Rattle.run_lines.specs.Printing.{Output}
 use Rattle.run_lines.specs.Reading.{File, Reads}
-use Rattle.store_check.specs.Checking.{Recorded}
+use Rattle.run_desks.specs.Seen.{Floor, Kit, Looks}
 use Rattle.repo_run.specs.declared.actions.Action.{Action}
 use Rattle.repo_run.specs.declared.actions.Action.TheVariants.{Replay}
 use Rattle.repo_run.specs.Begun.{IsFresh, RefusesStart}
-use Rattle.repo_run.specs.Replay.{AllTold, IsReplayed, ServesWith, accepted, counts, none_left, not_started, one_served, port_failed, refused}
-use Rattle.repo_run.specs.Running.{Runs}
+use Rattle.repo_run.specs.Replay.{AllTold, IsReplayed, Replays, ReplaysBy, accepted, counts, none_left, not_started, one_served, port_failed, refused}
+use Rattle.repo_run.specs.Running.{Acts, Runs, at_desk}
 use Rattle.repo_run.specs.Status.{HasStatus, done, memory_wanted, out_failed, sink_failed, source_failed}
-use Rattle.repo_run.specs.Surroundings.{Beside, Connection, DeskState, FirstOnly, outside_at}
+use Rattle.repo_run.specs.Surroundings.{Connection, DeskState, FirstOnly, Served, View, connection, desk_state, outside_of, placed, served}
 
 -- the law on the worked replay
 abbrev pub WorkedReplay : Type 0 → Type 0
-WorkedReplay tells = (settings : Settings) (records records' : Recorded) (clock clock' : Option Moments) (moments : Moments) (old new : Connection)
-    (blobs blobs' : Store) (ending : End) (calls : ℕ) → IsReplayed tells (worked_settings settings) records records' clock clock' old new blobs blobs' ending calls
-    → IsFresh records records' blobs → AllTold tells clock old moments (put_abc ++ last_get) []
-    → NoFaults (outside_at old.left old blobs) (outside_at new.left new blobs')
-    → ((new.taken ≡ Some (created_201 ++ abc_200)) × (ending ≡ Closed)) ⊎ WantedMemory [] new.taken
+WorkedReplay tells = (settings : Settings) (old new : View Served) (moments : Moments) (ending : End) (calls : ℕ) → IsReplayed tells (worked_settings settings) old new ending calls
+    → IsFresh old.records new.records old.place.kit.blobs → AllTold tells old.clock old.place.connection moments (put_abc ++ last_get) []
+    → NoFaults (outside_of old.place) (outside_of new.place)
+    → ((new.place.connection.taken ≡ Some (created_201 ++ abc_200)) × (ending ≡ Closed)) ⊎ WantedMemory [] new.place.connection.taken
 
 -- a connection that has taken the worked answers, or the last that it took says that memory was wanted
 abbrev pub HasTaken : Connection → Type 0
@@ -74,106 +73,114 @@ sides-still old new out out' status zero (out_failed _ _ _ seven) = absurd (omeg
 sides-still old new out out' status zero (memory_wanted _ _ eight) = absurd (omega (arith, zero, eight))
 
 -- a desk over nothing with one connection, which gives the worked requests
-pub record IsWorked {X : Type 0} (connection_of : X → Connection) (link : X) (desk : DeskState X) : Type 0 where
+pub record IsWorked {X : Type 0} (links : Telling X) (link : X) (desk : DeskState X) : Type 0 where
   pub left : desk.left ≡ Some (link ∷ [])
   pub given_back : desk.given_back ≡ Some []
-  pub no_blobs : desk.blobs.shelf.blobs ≡ Some []
-  pub unfailed : desk.blobs.faults ≡ 0
-  pub input : (connection_of link).left ≡ Some (put_abc ++ last_get)
-  pub none_taken : (connection_of link).taken ≡ Some []
-  pub reads : (connection_of link).read_faults ≡ 0
-  pub writes : (connection_of link).write_faults ≡ 0
+  pub no_blobs : desk.kit.blobs.shelf.blobs ≡ Some []
+  pub unfailed : desk.kit.blobs.faults ≡ 0
+  pub input : links.left link ≡ Some (put_abc ++ last_get)
+  pub none_taken : links.taken link ≡ Some []
+  pub reads : links.read_faults link ≡ 0
+  pub writes : links.write_faults link ≡ 0
 
 -- one came back, which has taken the worked answers if the blobs did not fail
-abbrev pub CameBack : {X : Type 0} → (X → Connection) → DeskState X → Type 0
-CameBack {X} connection_of desk' = (link' : X) × (desk'.given_back ≡ Some (link' ∷ [])) × (desk'.blobs.faults ≡ 0 → HasTaken (connection_of link'))
+abbrev pub CameBack : {X : Type 0} → Telling X → DeskState X → Type 0
+CameBack {X} links desk' = (link' : X) × (desk'.given_back ≡ Some (link' ∷ [])) × (desk'.kit.blobs.faults ≡ 0 → HasTaken (connection links link'))
 
-module _ {X : Type 0} (tells : Type 0) (connection_of : X → Connection) (link : X) (moments : Moments) (old new : Beside) (desk desk' : DeskState X) (status : ℕ)
-    (worked : WorkedReplay tells) (told : tells) (is_worked : IsWorked connection_of link desk)
+module _ {X : Type 0} (tells : Type 0) (links : Telling X) (link : X) (moments : Moments) (old new : View (DeskState X)) (status : ℕ)
+    (worked : WorkedReplay tells) (told : tells) (is_worked : IsWorked links link old.place)
     (tables : old.records.tables ≡ Some no_tables) (unfailed : old.records.faults ≡ 0) (stood : new.records.faults ≡ 0)
     (clock : old.clock ≡ Some moments) (zero : status ≡ 0) where
-  module _ (t : Settings) (first link' : X) (left : Option (List X)) (blobs : Store) (ending : End) (calls : ℕ)
-      (comes : desk.left ≡ in_front (first ∷ []) left)
-      (after : desk' ≡ record desk { left = left; given_back = behind desk.given_back (link' ∷ []); blobs = blobs })
-      (replayed : IsReplayed tells (worked_settings t) old.records new.records old.clock new.clock (connection_of first) (connection_of link') desk.blobs blobs ending calls)
-      (has : HasStatus (counts (connection_of first) old.out) (counts (connection_of link') new.out) status) where
+  module _ (t : Settings) (first link' : X) (left : Option (List X)) (kit : Kit) (ending : End) (calls : ℕ)
+      (comes : old.place.left ≡ in_front (first ∷ []) left)
+      (after : new.place ≡ record old.place { left = left; given_back = behind old.place.given_back (link' ∷ []); kit = kit })
+      (replayed : IsReplayed tells (worked_settings t) (placed (served (connection links first) old.place.kit) old) (placed (served (connection links link') kit) new) ending calls)
+      (has : HasStatus (counts (connection links first) old.out) (counts (connection links link') new.out) status) where
     came : first ≡ link
     came = one-left link first left (sym is_worked.left ∙ comes)
 
-    back : desk'.given_back ≡ Some (link' ∷ [])
+    back : new.place.given_back ≡ Some (link' ∷ [])
     back = ap (λ d. d.given_back) after ∙ ap (λ g. behind g (link' ∷ [])) is_worked.given_back
 
-    fresh : IsFresh old.records new.records desk.blobs
+    fresh : IsFresh old.records new.records old.place.kit.blobs
     fresh = record { no_tables = tables; unfailed = unfailed; stood = stood; no_blobs = is_worked.no_blobs }
 
-    all_told : AllTold tells old.clock (connection_of first) moments (put_abc ++ last_get) []
+    all_told : AllTold tells old.clock (connection links first) moments (put_abc ++ last_get) []
     all_told = record {
       blobs_tell = told;
       clock_is = clock;
-      left_is = ap (λ l. (connection_of l).left) came ∙ is_worked.input;
-      taken_is = ap (λ l. (connection_of l).taken) came ∙ is_worked.none_taken;
+      left_is = ap (λ l. links.left l) came ∙ is_worked.input;
+      taken_is = ap (λ l. links.taken l) came ∙ is_worked.none_taken;
     }
 
-    calm : desk'.blobs.faults ≡ 0 → NoFaults (outside_at (connection_of first).left (connection_of first) desk.blobs) (outside_at (connection_of link').left (connection_of link') blobs)
+    calm : new.place.kit.blobs.faults ≡ 0 → NoFaults (outside_of (served (connection links first) old.place.kit)) (outside_of (served (connection links link') kit))
     calm none_failed =
-        let sides = sides-still (connection_of first) (connection_of link') old.out new.out status zero has in
+        let sides = sides-still (connection links first) (connection links link') old.out new.out status zero has in
         record {
-          reads = still (connection_of first).read_faults (connection_of link').read_faults (ap (λ l. (connection_of l).read_faults) came ∙ is_worked.reads) sides.0;
-          writes = still (connection_of first).write_faults (connection_of link').write_faults (ap (λ l. (connection_of l).write_faults) came ∙ is_worked.writes) sides.1;
-          blobs = still desk.blobs.faults blobs.faults is_worked.unfailed (sym (ap (λ d. d.blobs.faults) after) ∙ none_failed ∙ sym is_worked.unfailed);
+          reads = still (links.read_faults first) (links.read_faults link') (ap (λ l. links.read_faults l) came ∙ is_worked.reads) sides.0;
+          writes = still (links.write_faults first) (links.write_faults link') (ap (λ l. links.write_faults l) came ∙ is_worked.writes) sides.1;
+          blobs = still old.place.kit.blobs.faults kit.blobs.faults is_worked.unfailed (sym (ap (λ d. d.kit.blobs.faults) after) ∙ none_failed ∙ sym is_worked.unfailed);
         }
 
-    by-one : CameBack connection_of desk'
+    by-one : CameBack links new.place
     by-one = (
       link',
       back,
-      λ none_failed. taken-so (connection_of link') ending
-          (worked t old.records new.records old.clock new.clock moments (connection_of first) (connection_of link') desk.blobs blobs ending calls replayed fresh all_told
-          (calm none_failed)),
+      λ none_failed. taken-so (connection links link') ending
+          (worked t (placed (served (connection links first) old.place.kit) old) (placed (served (connection links link') kit) new) moments ending calls replayed fresh all_told (calm none_failed)),
     )
 
-  by-settings : (settings t : Settings) → settings ≡ worked_settings t
-      → ServesWith tells settings connection_of old.records new.records old.clock new.clock desk desk' old.out new.out status → CameBack connection_of desk'
+  by-settings : (settings t : Settings) → settings ≡ worked_settings t → Replays tells links settings old new status → CameBack links new.place
   by-settings settings t is (not_started fault blobs _ _ _ refuses) = absurd (unopened fault old.out new.out status zero refuses)
   by-settings settings t is (port_failed _ _ _ _ _ _ _ _ _ six) = absurd (omega (arith, zero, six))
   by-settings settings t is (none_left _ _ _ at_end _ _ _ _) = absurd (let none : (link ∷ []) ≡ [] = subst (λ told. IsAtEnd told) is_worked.left at_end in cc)
-  by-settings settings t is (one_served first link' left blobs ending calls comes after replayed _ has) =
-      by-one t first link' left blobs ending calls comes after
-      (subst (λ s. IsReplayed tells s old.records new.records old.clock new.clock (connection_of first) (connection_of link') desk.blobs blobs ending calls) is replayed) has
+  by-settings settings t is (one_served first link' left kit ending calls comes after replayed _ has) =
+      by-one t first link' left kit ending calls comes after
+      (subst (λ s. IsReplayed tells s (placed (served (connection links first) old.place.kit) old) (placed (served (connection links link') kit) new) ending calls) is replayed) has
 
-  worked-run : ((s : Settings) → IsReadFrom old.source.left (Ok s) → (t : Settings) × (s ≡ worked_settings t))
-      → Runs Replay tells connection_of old new desk desk' status → CameBack connection_of desk'
-  worked-run says (refused reads _ _ _, same) = absurd (unread old.source new.source old.out new.out status zero reads)
-  worked-run says (accepted settings reads serves, same) =
+  worked-run : ((s : Settings) → IsReadFrom old.source.left (Ok s) → (t : Settings) × (s ≡ worked_settings t)) → ReplaysBy tells links old new status → CameBack links new.place
+  worked-run says (refused reads _ _ _) = absurd (unread old.source new.source old.out new.out status zero reads)
+  worked-run says (accepted settings reads serves) =
       let named = says settings reads.1 in by-settings settings named.0 named.1 serves
 
 -- the same of desks, which tell what they have given back
-module _ {X D : Type 0} (tells : Type 0) (connection_of : X → Connection) (state : D → DeskState X) (given : D → List X) (faults : D → ℕ) (taken : X → List ℕ)
-    (given_are : (d : D) → (state d).given_back ≡ Some (given d)) (faults_are : (d : D) → (state d).blobs.faults ≡ faults d)
-    (taken_are : (x : X) → (connection_of x).taken ≡ Some (taken x)) where
-  abbrev pub Answered : X → Type 0
+module _ {L P D : Type 0} (looks : Looks L P D) (given : D → List L) (faults : D → ℕ) (taken : L → List ℕ)
+    (given_are : (d : D) → looks.given_back (looks.port d) ≡ Some (given d)) (faults_are : (d : D) → (looks.kit d).blobs.faults ≡ faults d)
+    (taken_are : (x : L) → looks.link.taken x ≡ Some (taken x)) where
+  abbrev pub Answered : L → Type 0
   Answered back = (taken back ≡ created_201 ++ abc_200) ⊎ WantedMemory [] (Some (taken back))
 
-  answered : (back : X) → HasTaken (connection_of back) → Answered back
+  answered : (back : L) → HasTaken (connection looks.link back) → Answered back
   answered came (inl is) = let both : Some (taken came) ≡ Some (created_201 ++ abc_200) = sym (taken_are came) ∙ is in inl cc
   answered came (inr wanted) = inr (subst (λ o. WantedMemory [] o) (taken_are came) wanted)
 
-  one-came : (d : D) → CameBack connection_of (state d)
+  one-came : (d : D) → CameBack looks.link (desk_state looks d)
       → (length (given d) ≡ 1) × (faults d ≡ 0 → AllByRecursion Answered (given d))
   one-came d (came, is, so) =
       let both : Some (given d) ≡ Some (came ∷ []) = sym (given_are d) ∙ is in
       let one : given d ≡ came ∷ [] = cc in
       (ap (λ l. length l) one, λ none. subst (λ l. AllByRecursion Answered l) (sym one) (answered came (so (faults_are d ∙ none)), tt))
 
-  pub desks-came : (link : X) (moments : Moments) (old new : Beside) (status : ℕ) → WorkedReplay tells → tells
+  list-came : (link : L) (moments : Moments) (old new : View (Floor (List D))) (status : ℕ) → WorkedReplay looks.tells → looks.tells
       → old.records.tables ≡ Some no_tables → old.records.faults ≡ 0 → new.records.faults ≡ 0 → old.clock ≡ Some moments → status ≡ 0
       → ((s : Settings) → IsReadFrom old.source.left (Ok s) → (t : Settings) × (s ≡ worked_settings t))
-      → (desk : D) → IsWorked connection_of link (state desk) → (command : Action) → command ≡ Replay → (news : List D)
-      → FirstOnly (λ o n. Runs command tells connection_of old new (state o) (state n) status) (desk ∷ []) news
+      → (desk : D) → IsWorked looks.link link (desk_state looks desk) → (command : Action) → command ≡ Replay
+      → (news : List D) → FirstOnly (λ one other. Acts looks command (at_desk one old) (at_desk other new) status) (desk ∷ []) news
       → (map (λ d. length (given d)) news ≡ 1 ∷ []) × AllByRecursion (λ d. faults d ≡ 0 → AllByRecursion Answered (given d)) news
-  desks-came link moments old new status worked told tables unfailed stood clock zero says desk is_worked command is [] only = absurd only
-  desks-came link moments old new status worked told tables unfailed stood clock zero says desk is_worked command is (d ∷ news) (runs, none) =
-      let came = one-came d (worked-run tells connection_of link moments old new (state desk) (state d) status worked told is_worked tables unfailed stood clock zero says
-      (subst (λ (a : Action). Runs a tells connection_of old new (state desk) (state d) status) is runs)) in
+  list-came link moments old new status worked told tables unfailed stood clock zero says desk is_worked command is [] only = absurd only
+  list-came link moments old new status worked told tables unfailed stood clock zero says desk is_worked command is (d ∷ news) (runs, none) =
+      let replays = subst (λ (a : Action). Acts looks a (at_desk desk old) (at_desk d new) status) is runs in
+      let came = one-came d (worked-run looks.tells looks.link link moments (placed (desk_state looks desk) old) (placed (desk_state looks d) new) status worked told is_worked
+      tables unfailed stood clock zero says replays.0) in
       let nil : news ≡ [] = none in
       rw nil (ap (λ n. n ∷ []) came.0, (came.1, tt))
+
+  pub desks-came : (link : L) (moments : Moments) (old new : View (Floor (List D))) (status : ℕ) → WorkedReplay looks.tells → looks.tells
+      → old.records.tables ≡ Some no_tables → old.records.faults ≡ 0 → new.records.faults ≡ 0 → old.clock ≡ Some moments → status ≡ 0
+      → ((s : Settings) → IsReadFrom old.source.left (Ok s) → (t : Settings) × (s ≡ worked_settings t))
+      → (desk : D) → IsWorked looks.link link (desk_state looks desk) → (command : Action) → command ≡ Replay → old.place.desks ≡ desk ∷ []
+      → Runs looks command old new status
+      → (map (λ d. length (given d)) new.place.desks ≡ 1 ∷ []) × AllByRecursion (λ d. faults d ≡ 0 → AllByRecursion Answered (given d)) new.place.desks
+  desks-came link moments old new status worked told tables unfailed stood clock zero says desk is_worked command is one runs =
+      list-came link moments old new status worked told tables unfailed stood clock zero says desk is_worked command is new.place.desks
+      (subst (λ (ds : List D). FirstOnly (λ first other. Acts looks command (at_desk first old) (at_desk other new) status) ds new.place.desks) one runs)

@@ -5,3 +5,4 @@ pub mod Alone
 pub mod Drawn
 pub mod Fresh
 pub mod Starved
+pub mod Reading

@@ -16,7 +16,7 @@ use Rattle.repo_model.specs.Settings.{GroupRule, ProxyRule, Rule, Settings}
 use Rattle.repo_model.specs.State.{State, opening}
 use Rattle.repo_course.specs.declared.outcomes.End.{End}
 use Rattle.repo_course.specs.declared.outcomes.End.TheVariants.{Closed, TornRequest, TurnLimit, SourceFault, SinkFault}
-use Rattle.repo_course.specs.Serving.{Serves}
+use Rattle.repo_course.specs.Serving.{Outside, Serves}
 use Rattle.course_laws.specs.AsPlayed.{StoodStill}
 use Rattle.course_laws.specs.Endings.{EndsByCause}
 use Rattle.course_laws.specs.LeftBehind.{IsDrawn}
@@ -28,12 +28,14 @@ use Rattle.repo_run.proofs.Alone.{core_alone, core_counted}
 use Rattle.repo_run.specs.FirstConnection.{Makes, ServesFirst, port_failed, none_left, one_served}
 use Rattle.store_check.specs.Checking.{Recorded}
 use Rattle.repo_run.specs.Begun.{Begins, HoldsRecords, IsFresh, LeavesRecords}
-use Rattle.repo_run.specs.Replay.{AllTold, Finishes, IsReplayed, Reports, ReportsFirst, ServesWith, counts}
+use Rattle.repo_run.specs.Replay.{Finishes, IsReplayed, Replays, Reports, ReportsFirst, counts}
 use Rattle.repo_run.proofs.Fresh.{fresh-state, fresh-store}
 use Rattle.repo_run.specs.Replay as replay
 use Rattle.repo_run.specs.Status.{Counts, HasStatus, done, source_failed, sink_failed, out_failed, memory_wanted}
 use Rattle.run_lines.specs.Printing.{Output}
-use Rattle.repo_run.specs.Surroundings.{Connection, DeskState, outside_at}
+use Rattle.outside.specs.declared.tells.Tells.{Ghosts as Telling}
+use Rattle.run_desks.specs.Seen.{Kit, with_blobs}
+use Rattle.repo_run.specs.Surroundings.{Connection, DeskState, Served, View, connection, outside_at, outside_of, outside_with, placed, served, with_store}
 
 same-counts : (old new : Connection) (out out' : Output) → new.read_faults ≡ old.read_faults → new.write_faults ≡ old.write_faults
     → out'.faults ≡ out.faults → counts new out' ≡ counts old out
@@ -49,7 +51,7 @@ finished calls ending old new out out' status r w (inl a) = done (same-counts ol
 finished calls ending old new out out' status r w (inr (inl a)) = out_failed r w a.0.2 a.1
 finished calls ending old new out out' status r w (inr (inr a)) = memory_wanted r w a.1
 
-pub has-status : (calls : ℕ) (ending : End) (old new : Connection) (out out' : Output) (status : ℕ) (input input' : Option (List ℕ)) (blobs blobs' : Store)
+pub has-status : (calls : ℕ) (ending : End) (old new : Connection) (out out' : Output) (status : ℕ) (input input' : Option (List ℕ)) (blobs blobs' : Kit)
     → EndsByCause ending (outside_at input old blobs) (outside_at input' new blobs') → Reports ending calls out out' status
     → HasStatus (counts old out) (counts new out') status
 has-status calls SourceFault old new out out' status input input' blobs blobs' ends told = source_failed ends.0 ends.1 told.1
@@ -84,15 +86,20 @@ pub nothing_held : (told : Option (List ℕ)) → in_front [] told ≡ told
 nothing_held None = refl
 nothing_held (Some bytes) = refl
 
-module _ (tells : Type 0) (settings : Settings) (form : IsSettings settings) (records records' : Recorded) where
-  pub is-replayed : (clock clock' : Option Moments) (old new : Connection) (blobs cleared blobs' : Store) (begun core : Whole) (held : List ℕ) (ending : End) (entries : List Entry)
-      → Begins settings records blobs cleared clock begun → Makes begun entries core
-      → Serves settings tells 1000 entries (outside_at (in_front [] old.left) old cleared) (outside_at (in_front held new.left) new blobs') ending
-      → clock' ≡ core.state.clock → HoldsRecords core records' → IsReplayed tells settings records records' clock clock' old new blobs blobs' ending core.calls
-  is-replayed clock clock' old new blobs cleared blobs' begun core held ending entries begins made first clock-is holds =
-      let before = outside_at old.left old cleared in
-      let after = outside_at (in_front held new.left) new blobs' in
-      let served = subst (λ (input : Option (List ℕ)). Serves settings tells 1000 entries (outside_at input old cleared) after ending) (nothing_held old.left) first in
+module _ (tells : Type 0) (settings : Settings) (form : IsSettings settings) where
+  pub is-replayed : (old new : View Served) (cleared : Store) (begun core : Whole) (held : List ℕ) (ending : End) (entries : List Entry)
+      → Begins settings old.records old.place.kit.blobs cleared old.clock begun → Makes begun entries core
+      → Serves settings tells 1000 entries (outside_with [] (with_store cleared old.place)) (outside_with held new.place) ending
+      → new.clock ≡ core.state.clock → HoldsRecords core new.records → IsReplayed tells settings old new ending core.calls
+  is-replayed old new cleared begun core held ending entries begins made first clock-is holds =
+      let records = old.records in
+      let records' = new.records in
+      let kit = old.place.kit in
+      let link = old.place.connection in
+      let before = outside_of (with_store cleared old.place) in
+      let after = outside_with held new.place in
+      let over : Store → Outside = λ (b : Store). outside_of (with_store b old.place) in
+      let served = subst (λ (input : Option (List ℕ)). Serves settings tells 1000 entries (outside_at input link (with_blobs cleared kit)) after ending) (nothing_held link.left) first in
       let alone = core_alone entries begun core made in
       let legal : Legal settings begun.state entries = subst (λ (s : Settings). Legal s begun.state entries) begins.settings_are alone.legal in
       let ends : core.state ≡ end settings begun.state entries = alone.ends ∙ ap (λ (s : Settings). end s begun.state entries) begins.settings_are in
@@ -124,57 +131,57 @@ module _ (tells : Type 0) (settings : Settings) (form : IsSettings settings) (re
         ends = serves_shows tells settings 1000 entries before after ending served;
         played = λ fresh moments input taken told calm.
             let start = opening settings (Some moments) in
-            let first = fresh-state settings records records' blobs cleared clock begun fresh begins ∙ ap (opening settings) told.clock_is in
-            let stood = calm-records begun core moments entries first ends holds fresh in
+            let first = fresh-state settings records records' kit.blobs cleared old.clock begun fresh begins ∙ ap (opening settings) told.clock_is in
+            let stood = calm-records records records' begun core moments entries first ends holds fresh in
             stream-upto settings tells told.blobs_tell 1000 entries start (subst (λ (s : State). Legal settings s entries) first legal) stood
-            (outside_at old.left old blobs) after ending input taken
+            (outside_of old.place) after ending input taken
             (record { input_is = told.left_is; output_is = told.taken_is; rows = opening-told settings (Some moments); clock = refl }) calm
-            (subst (λ (b : Store). Serves settings tells 1000 entries (outside_at old.left old b) after ending) (fresh-store settings records records' blobs cleared clock begun fresh begins) served);
+            (subst (λ (b : Store). Serves settings tells 1000 entries (over b) after ending) (fresh-store settings records records' kit.blobs cleared old.clock begun fresh begins) served);
         faultless = λ fresh moments input taken told calm.
             let start = opening settings (Some moments) in
-            let first = fresh-state settings records records' blobs cleared clock begun fresh begins ∙ ap (opening settings) told.clock_is in
-            let stood = calm-records begun core moments entries first ends holds fresh in
+            let first = fresh-state settings records records' kit.blobs cleared old.clock begun fresh begins ∙ ap (opening settings) told.clock_is in
+            let stood = calm-records records records' begun core moments entries first ends holds fresh in
             as-played settings tells told.blobs_tell 1000 entries start (subst (λ (s : State). Legal settings s entries) first legal) stood
-            (outside_at old.left old blobs) after ending input taken
+            (outside_of old.place) after ending input taken
             (record { input_is = told.left_is; output_is = told.taken_is; rows = opening-told settings (Some moments); clock = refl }) calm
-            (subst (λ (b : Store). Serves settings tells 1000 entries (outside_at old.left old b) after ending) (fresh-store settings records records' blobs cleared clock begun fresh begins) served);
+            (subst (λ (b : Store). Serves settings tells 1000 entries (over b) after ending) (fresh-store settings records records' kit.blobs cleared old.clock begun fresh begins) served);
       }
     where
       -- the records of the opening state have not failed in the end
-      calm-records : (begun core : Whole) (moments : Moments) (entries : List Entry) → begun.state ≡ opening settings (Some moments)
+      calm-records : (records records' : Recorded) (begun core : Whole) (moments : Moments) (entries : List Entry) → begun.state ≡ opening settings (Some moments)
           → core.state ≡ end settings begun.state entries → HoldsRecords core records' → {blobs : Store} → IsFresh records records' blobs
           → StoodStill 0 (end settings (opening settings (Some moments)) entries).faults
-      calm-records begun core moments entries first ends holds fresh =
+      calm-records records records' begun core moments entries first ends holds fresh =
           let last : core.state ≡ end settings (opening settings (Some moments)) entries = ends ∙ ap (λ (s : State). end settings s entries) first in
           let none : (end settings (opening settings (Some moments)) entries).faults ≡ 0 = sym (ap (λ (s : State). s.faults) last) ∙ sym holds.1 ∙ fresh.stood in
           (none, omega (arith, none))
 
-  module _ {X : Type 0} (connection_of : X → Connection) (clock clock' : Option Moments) (old new : DeskState X) (out out' : Output) (status : ℕ) where
+  module _ {X : Type 0} (links : Telling X) (old new : View (DeskState X)) (status : ℕ) where
     abbrev Replayed : Type 0
-    Replayed = ServesWith tells settings connection_of records records' clock clock' old new out out' status
+    Replayed = Replays tells links settings old new status
 
     -- a repository that was not asked has its records as they were, and its clock
-    unasked : (cleared : Store) (core core' : Whole) → Begins settings records old.blobs cleared clock core → core' ≡ core → clock' ≡ core'.state.clock
-        → HoldsRecords core' records' → LeavesRecords records records' × (clock' ≡ clock)
+    unasked : (cleared : Store) (core core' : Whole) → Begins settings old.records old.place.kit.blobs cleared old.clock core → core' ≡ core → new.clock ≡ core'.state.clock
+        → HoldsRecords core' new.records → LeavesRecords old.records new.records × (new.clock ≡ old.clock)
     unasked cleared core core' begins same clock-is holds =
         let first = ap (λ (w : Whole). w.state) same ∙ begins.starts.state in
         ((holds.0 ∙ ap (λ (w : Whole). w.tables) same ∙ begins.tables_are, holds.1 ∙ ap (λ (s : State). s.faults) first), clock-is ∙ ap (λ (s : State). s.clock) first)
 
     -- what was served, with the line that tells it
-    pub replays : (cleared : Store) (core core' : Whole) (ended : Option End) → Begins settings records old.blobs cleared clock core
-        → ServesFirst tells settings connection_of (record old { blobs = cleared }) new core core' ended
-        → clock' ≡ core'.state.clock → HoldsRecords core' records' → ReportsFirst ended core'.calls out out' status → Replayed
+    pub replays : (cleared : Store) (core core' : Whole) (ended : Option End) → Begins settings old.records old.place.kit.blobs cleared old.clock core
+        → ServesFirst tells links settings (record old.place { kit = with_blobs cleared old.place.kit }) new.place core core' ended
+        → new.clock ≡ core'.state.clock → HoldsRecords core' new.records → ReportsFirst ended core'.calls old.out new.out status → Replayed
     replays cleared core core' ended begins (port_failed faults rose desk same ends) clock-is holds told =
-        let last = subst (λ (e : Option End). ReportsFirst e core'.calls out out' status) ends told in
+        let last = subst (λ (e : Option End). ReportsFirst e core'.calls old.out new.out status) ends told in
         let left = unasked cleared core core' begins same clock-is holds in
         replay.port_failed core cleared faults begins rose desk left.0 left.1 last.0 last.1
     replays cleared core core' ended begins (none_left at-end desk same ends) clock-is holds told =
-        let last = subst (λ (e : Option End). ReportsFirst e core'.calls out out' status) ends told in
+        let last = subst (λ (e : Option End). ReportsFirst e core'.calls old.out new.out status) ends told in
         let left = unasked cleared core core' begins same clock-is holds in
         replay.none_left core cleared begins at-end desk left.0 left.1
-        (subst (λ (n : ℕ). Reports Closed n out out' status) (ap (λ (w : Whole). w.calls) same ∙ begins.calls_are) last)
-    replays cleared core core' ended begins (one_served link link' left held blobs ending entries took desk makes served ends) clock-is holds told =
-        let last = subst (λ (e : Option End). ReportsFirst e core'.calls out out' status) ends told in
-        let all = is-replayed clock clock' (connection_of link) (connection_of link') old.blobs cleared blobs core core' held ending entries begins makes served clock-is holds in
-        replay.one_served link link' left blobs ending core'.calls took desk all last
-        (has-status core'.calls ending (connection_of link) (connection_of link') out out' status _ _ all.cleared blobs all.ends last)
+        (subst (λ (n : ℕ). Reports Closed n old.out new.out status) (ap (λ (w : Whole). w.calls) same ∙ begins.calls_are) last)
+    replays cleared core core' ended begins (one_served link link' left held kit ending entries took desk makes serves ends) clock-is holds told =
+        let last = subst (λ (e : Option End). ReportsFirst e core'.calls old.out new.out status) ends told in
+        let all = is-replayed (placed (served (connection links link) old.place.kit) old) (placed (served (connection links link') kit) new) cleared core core' held ending entries begins makes serves clock-is holds in
+        replay.one_served link link' left kit ending core'.calls took desk all last
+        (has-status core'.calls ending (connection links link) (connection links link') old.out new.out status _ _ (with_blobs all.cleared old.place.kit) kit all.ends last)

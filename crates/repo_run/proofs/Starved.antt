@@ -11,8 +11,9 @@ use Rattle.repo_run.specs.declared.actions.Action.{Action}
 use Rattle.repo_run.specs.declared.actions.Action.TheVariants.{Replay, Check, Clean, Serve, Nothing}
 use Rattle.repo_run.specs.Clean as clean
 use Rattle.repo_run.specs.Replay.{refused}
-use Rattle.repo_run.specs.Running.{Runs}
-use Rattle.repo_run.specs.Surroundings.{Beside, Connection, DeskState}
+use Rattle.repo_run.specs.Running.{Acts}
+use Rattle.repo_run.specs.Surroundings.{View}
+use Rattle.run_desks.specs.Seen.{Floor, Looks}
 
 -- want of memory says nothing of a source
 unread : (told : Option (List ℕ)) → IsReadFrom told (Err (Refused NoMemory))
@@ -23,13 +24,11 @@ unread (Some text) = tt
 pub unread-source : (source : File) (out out' : Output) (status : ℕ) → Prints memory_line out out' → status ≡ 8 → Reads source source out out' (Err status)
 unread-source source out out' status prints is = inr (NoMemory, refl, unread source.left, inr (prints, is))
 
-pub starved-run : {X : Type 0} (tells : Type 0) (connection_of : X → Connection) (command : Action) (old : Beside) (desk : DeskState X)
-    (out' : Output) (status : ℕ) → Prints memory_line old.out out' → status ≡ 8 → Runs command tells connection_of old (record old { out = out' }) desk desk status
-starved-run tells connection_of Replay old desk out' status prints is =
-    (refused (unread-source old.source old.out out' status prints is) refl (refl, refl) refl, refl)
-starved-run tells connection_of Check old desk out' status prints is =
-    (checking.refused (unread-source old.source old.out out' status prints is) refl refl, refl, refl, refl, refl)
-starved-run tells connection_of Clean old desk out' status prints is =
-    (clean.refused (unread-source old.source old.out out' status prints is) refl (refl, refl) refl, refl)
-starved-run tells connection_of Serve old desk out' status prints is = (inr (prints, is), refl, refl, (refl, refl), refl, refl)
-starved-run tells connection_of Nothing old desk out' status prints is = (inr (prints, is), refl, refl, (refl, refl), refl, refl)
+pub starved-run : {L P D : Type 0} (looks : Looks L P D) (command : Action) (old : View (Floor D)) (out' : Output) (status : ℕ)
+    → Prints memory_line old.out out' → status ≡ 8 → Acts looks command old (record old { out = out' }) status
+starved-run looks Replay old out' status prints is = (refused (unread-source old.source old.out out' status prints is) refl (refl, refl) refl, refl)
+starved-run looks Check old out' status prints is =
+    ((checking.refused (unread-source old.source old.out out' status prints is) refl refl, refl, refl, refl), refl)
+starved-run looks Clean old out' status prints is = (clean.refused (unread-source old.source old.out out' status prints is) refl (refl, refl) refl, refl, refl)
+starved-run looks Serve old out' status prints is = (inr (prints, is), refl, refl, (refl, refl), refl)
+starved-run looks Nothing old out' status prints is = (inr (prints, is), refl, refl, (refl, refl), refl)

@@ -1,5 +1,6 @@
 -- The first connection of a desk: it is taken from the port, served by a repository, and given back.
 use Rattle.std.specs.Prelude.{◌≡◌, ℕ, List, [], ◌∷◌, Option, Some, None}
+use Rattle.outside.specs.declared.tells.Tells.{Ghosts as Telling}
 use Rattle.outside.specs.Faults.{Rose}
 use Rattle.outside.specs.Told.{behind, in_front, IsAtEnd}
 use Rattle.repo_core.specs.Whole.{Whole}
@@ -7,23 +8,23 @@ use Rattle.repo_core.specs.CoreTurn.{CoreTurn}
 use Rattle.repo_model.specs.History.{Entry}
 use Rattle.repo_model.specs.Settings.{Settings}
 use Rattle.repo_course.specs.Asking.{LeadsTo}
-use Rattle.repo_course.specs.Cleaning.{Store}
 use Rattle.repo_course.specs.declared.outcomes.End.{End}
 use Rattle.repo_course.specs.declared.outcomes.End.TheVariants.{Closed}
 use Rattle.repo_course.specs.Serving.{Serves}
-use Rattle.repo_run.specs.Surroundings.{Connection, DeskState, outside_at}
+use Rattle.run_desks.specs.Seen.{Kit}
+use Rattle.repo_run.specs.Surroundings.{DeskState, connection, outside_at}
 
 -- the entries are the turns of the core, one after another
 abbrev pub Makes : Whole → List Entry → Whole → Type 0
 Makes old entries new = LeadsTo (λ (before : Whole) entry after. CoreTurn before.settings before entry after) old entries new
 
 -- What comes of it: the port fails, none is left, or one is served, of which the repository was in this state and is in that.
-pub data ServesFirst {X : Type 0} (tells : Type 0) (settings : Settings) (connection_of : X → Connection) (old new : DeskState X) (core core' : Whole) (result : Option End) : Type 0 where
+pub data ServesFirst {X : Type 0} (tells : Type 0) (links : Telling X) (settings : Settings) (old new : DeskState X) (core core' : Whole) (result : Option End) : Type 0 where
   port_failed : (faults : ℕ) → Rose old.port_faults faults → new ≡ record old { port_faults = faults } → core' ≡ core → result ≡ None
-      → ServesFirst tells settings connection_of old new core core' result
-  none_left : IsAtEnd old.left → new ≡ old → core' ≡ core → result ≡ Some Closed → ServesFirst tells settings connection_of old new core core' result
-  one_served : (link link' : X) (left : Option (List X)) (held : List ℕ) (blobs : Store) (ending : End) (entries : List Entry) → old.left ≡ in_front (link ∷ []) left
-      → new ≡ record old { left = left; given_back = behind old.given_back (link' ∷ []); blobs = blobs }
+      → ServesFirst tells links settings old new core core' result
+  none_left : IsAtEnd old.left → new ≡ old → core' ≡ core → result ≡ Some Closed → ServesFirst tells links settings old new core core' result
+  one_served : (link link' : X) (left : Option (List X)) (held : List ℕ) (kit : Kit) (ending : End) (entries : List Entry) → old.left ≡ in_front (link ∷ []) left
+      → new ≡ record old { left = left; given_back = behind old.given_back (link' ∷ []); kit = kit }
       → Makes core entries core' → Serves settings tells 1000 entries
-      (outside_at (in_front [] (connection_of link).left) (connection_of link) old.blobs) (outside_at (in_front held (connection_of link').left) (connection_of link') blobs) ending
-      → result ≡ Some ending → ServesFirst tells settings connection_of old new core core' result
+      (outside_at (in_front [] (links.left link)) (connection links link) old.kit) (outside_at (in_front held (links.left link')) (connection links link') kit) ending
+      → result ≡ Some ending → ServesFirst tells links settings old new core core' result

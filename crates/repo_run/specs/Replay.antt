@@ -1,6 +1,7 @@
 -- A replay: settings are read, a repository of these is opened over what is recorded and stored, and the first connection of a desk is served by it and given back.
 use Rattle.std.specs.List.{AllByRecursion}
 use Rattle.std.specs.Prelude.{◌≡◌, ◌≢◌, ◌⊎◌, ℕ, List, [], ◌∷◌, length, Option, Some, None, Ok, Err}
+use Rattle.outside.specs.declared.tells.Tells.{Ghosts as Telling}
 use Rattle.outside.specs.Faults.{Rose}
 use Rattle.outside.specs.Moments.{Moments}
 use Rattle.outside.specs.Told.{behind, in_front, IsAtEnd}
@@ -9,6 +10,7 @@ use Rattle.repo_model.specs.History.{Entry, Legal, end}
 use Rattle.repo_core.specs.Whole.{Whole}
 use Rattle.repo_core.specs.declared.faults.StartFault.{StartFault}
 use Rattle.repo_course.specs.Cleaning.{Store}
+use Rattle.run_desks.specs.Seen.{Kit, with_blobs}
 use Rattle.repo_course.specs.declared.outcomes.End.{End}
 use Rattle.repo_course.specs.declared.outcomes.End.TheVariants.{Closed, SourceFault, SinkFault}
 use Rattle.repo_course.specs.Serving.{Serves}
@@ -19,12 +21,11 @@ use Rattle.repo_model.specs.Settings.{Settings}
 use Rattle.repo_run.specs.FirstConnection.{Makes}
 use Rattle.run_lines.specs.Lines.{input_line, memory_line}
 use Rattle.run_lines.specs.Printing.{Output, Prints, PrintsPart, PrintsWhole}
-use Rattle.run_lines.specs.Reading.{File, Reads}
-use Rattle.store_check.specs.Checking.{Recorded}
+use Rattle.run_lines.specs.Reading.{Reads}
 use Rattle.repo_run.specs.Begun.{Begins, HoldsRecords, IsFresh, LeavesRecords, RefusesStart, StartFails}
 use Rattle.repo_run.specs.Lines.{ending_line}
 use Rattle.repo_run.specs.Status.{HasStatus, Counts}
-use Rattle.repo_run.specs.Surroundings.{Connection, DeskState, outside_at}
+use Rattle.repo_run.specs.Surroundings.{Connection, DeskState, Served, View, connection, outside_of, outside_with, placed, served, with_store}
 
 -- all is told: the blobs' bytes, the clock's moments, the bytes that the connection gives, and those that it has taken
 pub record AllTold (tells : Type 0) (clock : Option Moments) (old : Connection) (moments : Moments) (input before : List ℕ) : Type 0 where
@@ -35,33 +36,33 @@ pub record AllTold (tells : Type 0) (clock : Option Moments) (old : Connection) 
 
 -- A connection is served by a repository that begins over what is recorded and stored. Its calls, each once, in order and no
 -- other, are a legal history, as long as `calls`; what they change of rows is recorded with them.
-pub record IsReplayed (tells : Type 0) (settings : Settings) (records records' : Recorded) (clock clock' : Option Moments) (old new : Connection) (blobs blobs' : Store) (ending : End) (calls : ℕ) : Type 0 where
+pub record IsReplayed (tells : Type 0) (settings : Settings) (old new : View Served) (ending : End) (calls : ℕ) : Type 0 where
   pub entries : List Entry
   -- the repository at first and in the end, the store as its start leaves it, and the bytes that were read ahead and not used
   pub begun : Whole
   pub core : Whole
   pub cleared : Store
   pub held : List ℕ
-  pub begins : Begins settings records blobs cleared clock begun
-  pub serves : Serves settings tells 1000 entries (outside_at old.left old cleared) (outside_at (in_front held new.left) new blobs') ending
+  pub begins : Begins settings old.records old.place.kit.blobs cleared old.clock begun
+  pub serves : Serves settings tells 1000 entries (outside_of (with_store cleared old.place)) (outside_with held new.place) ending
   pub made : Makes begun entries core
   pub legal : Legal settings begun.state entries
   pub state : core.state ≡ end settings begun.state entries
-  pub clock_is : clock' ≡ core.state.clock
-  pub holds : HoldsRecords core records'
+  pub clock_is : new.clock ≡ core.state.clock
+  pub holds : HoldsRecords core new.records
   pub counted : calls ≡ length entries
   -- no draft and no lease stands in the end, and no call was told that its draft is not there
   pub nothing_left : (core.state.yard.drafts ≡ []) × (core.state.yard.leases ≡ [])
   pub drafts_found : AllByRecursion (λ (e : Entry). e.reply ≢ no_draft) entries
-  pub ends : EndsByCause ending (outside_at old.left old cleared) (outside_at (in_front held new.left) new blobs')
+  pub ends : EndsByCause ending (outside_of (with_store cleared old.place)) (outside_with held new.place)
   -- Over nothing, where no blob failed, what was taken is what is answered if nothing fails, up to some place
-  pub played : IsFresh records records' blobs → (moments : Moments) (input before : List ℕ) → AllTold tells clock old moments input before
-      → StoodStill blobs.faults blobs'.faults
-      → IsPlayedUpTo settings 1000 (first_scene settings (Some moments) input) before (outside_at old.left old blobs) (outside_at (in_front held new.left) new blobs') ending
+  pub played : IsFresh old.records new.records old.place.kit.blobs → (moments : Moments) (input before : List ℕ) → AllTold tells old.clock old.place.connection moments input before
+      → StoodStill old.place.kit.blobs.faults new.place.kit.blobs.faults
+      → IsPlayedUpTo settings 1000 (first_scene settings (Some moments) input) before (outside_of old.place) (outside_with held new.place) ending
   -- and all of it where nothing failed
-  pub faultless : IsFresh records records' blobs → (moments : Moments) (input before : List ℕ) → AllTold tells clock old moments input before
-      → NoFaults (outside_at old.left old blobs) (outside_at (in_front held new.left) new blobs')
-      → IsAsPlayed settings 1000 (first_scene settings (Some moments) input) before new.taken ending
+  pub faultless : IsFresh old.records new.records old.place.kit.blobs → (moments : Moments) (input before : List ℕ) → AllTold tells old.clock old.place.connection moments input before
+      → NoFaults (outside_of old.place) (outside_with held new.place)
+      → IsAsPlayed settings 1000 (first_scene settings (Some moments) input) before new.place.connection.taken ending
 
 -- a stream is over: its line, or the part of it that was printed, or that there was no memory for it
 abbrev pub Finishes : ℕ → End → Output → Output → ℕ → Type 0
@@ -84,28 +85,26 @@ ReportsFirst None calls old new status = Prints input_line old new × (status �
 abbrev pub counts : Connection → Output → Counts
 counts c out = record { source = c.read_faults; sink = c.write_faults; out = out.faults }
 
--- A repository of these settings serves a desk, and a line tells it. `connection_of` is what a connection tells of itself; the
--- store is the desk's, once the repository has started.
-pub data ServesWith {X : Type 0} (tells : Type 0) (settings : Settings) (connection_of : X → Connection) (records records' : Recorded) (clock clock' : Option Moments) (old new : DeskState X) (out out' : Output) (status : ℕ) : Type 0 where
-  not_started : (fault : StartFault) (blobs : Store) → StartFails records records' old.blobs blobs fault → new ≡ record old { blobs = blobs } → clock' ≡ clock
-      → RefusesStart fault out out' status → ServesWith tells settings connection_of records records' clock clock' old new out out' status
-  port_failed : (begun : Whole) (blobs : Store) (faults : ℕ) → Begins settings records old.blobs blobs clock begun → Rose old.port_faults faults
-      → new ≡ record old { port_faults = faults; blobs = blobs } → LeavesRecords records records' → clock' ≡ clock
-      → Prints input_line out out' → status ≡ 6 → ServesWith tells settings connection_of records records' clock clock' old new out out' status
-  none_left : (begun : Whole) (blobs : Store) → Begins settings records old.blobs blobs clock begun → IsAtEnd old.left
-      → new ≡ record old { blobs = blobs } → LeavesRecords records records' → clock' ≡ clock → Reports Closed 0 out out' status
-      → ServesWith tells settings connection_of records records' clock clock' old new out out' status
+-- A repository of these settings serves a desk, and a line tells it. The store is the desk's, once the repository has started.
+pub data Replays {X : Type 0} (tells : Type 0) (links : Telling X) (settings : Settings) (old new : View (DeskState X)) (status : ℕ) : Type 0 where
+  not_started : (fault : StartFault) (blobs : Store) → StartFails old.records new.records old.place.kit.blobs blobs fault
+      → new.place ≡ record old.place { kit = with_blobs blobs old.place.kit } → new.clock ≡ old.clock → RefusesStart fault old.out new.out status
+      → Replays tells links settings old new status
+  port_failed : (begun : Whole) (blobs : Store) (faults : ℕ) → Begins settings old.records old.place.kit.blobs blobs old.clock begun → Rose old.place.port_faults faults
+      → new.place ≡ record old.place { port_faults = faults; kit = with_blobs blobs old.place.kit } → LeavesRecords old.records new.records → new.clock ≡ old.clock
+      → Prints input_line old.out new.out → status ≡ 6 → Replays tells links settings old new status
+  none_left : (begun : Whole) (blobs : Store) → Begins settings old.records old.place.kit.blobs blobs old.clock begun → IsAtEnd old.place.left
+      → new.place ≡ record old.place { kit = with_blobs blobs old.place.kit } → LeavesRecords old.records new.records → new.clock ≡ old.clock
+      → Reports Closed 0 old.out new.out status → Replays tells links settings old new status
   -- the first connection was served, and given back in this state
-  one_served : (link link' : X) (left : Option (List X)) (blobs : Store) (ending : End) (calls : ℕ) → old.left ≡ in_front (link ∷ []) left
-      → new ≡ record old { left = left; given_back = behind old.given_back (link' ∷ []); blobs = blobs }
-      → IsReplayed tells settings records records' clock clock' (connection_of link) (connection_of link') old.blobs blobs ending calls
-      → Reports ending calls out out' status → HasStatus (counts (connection_of link) out) (counts (connection_of link') out') status
-      → ServesWith tells settings connection_of records records' clock clock' old new out out' status
+  one_served : (link link' : X) (left : Option (List X)) (kit : Kit) (ending : End) (calls : ℕ) → old.place.left ≡ in_front (link ∷ []) left
+      → new.place ≡ record old.place { left = left; given_back = behind old.place.given_back (link' ∷ []); kit = kit }
+      → IsReplayed tells settings (placed (served (connection links link) old.place.kit) old) (placed (served (connection links link') kit) new) ending calls
+      → Reports ending calls old.out new.out status → HasStatus (counts (connection links link) old.out) (counts (connection links link') new.out) status
+      → Replays tells links settings old new status
 
 -- A replay, by what comes of reading its settings: there are none, or they are served by.
-pub data Replays {X : Type 0} (tells : Type 0) (connection_of : X → Connection) (source source' : File) (records records' : Recorded) (clock clock' : Option Moments) (old new : DeskState X) (out out' : Output) (status : ℕ) : Type 0 where
-  refused : Reads source source' out out' (Err status) → new ≡ old → LeavesRecords records records' → clock' ≡ clock
-      → Replays tells connection_of source source' records records' clock clock' old new out out' status
-  accepted : (settings : Settings) → Reads source source' out out (Ok settings)
-      → ServesWith tells settings connection_of records records' clock clock' old new out out' status
-      → Replays tells connection_of source source' records records' clock clock' old new out out' status
+pub data ReplaysBy {X : Type 0} (tells : Type 0) (links : Telling X) (old new : View (DeskState X)) (status : ℕ) : Type 0 where
+  refused : Reads old.source new.source old.out new.out (Err status) → new.place ≡ old.place → LeavesRecords old.records new.records → new.clock ≡ old.clock
+      → ReplaysBy tells links old new status
+  accepted : (settings : Settings) → Reads old.source new.source old.out old.out (Ok settings) → Replays tells links settings old new status → ReplaysBy tells links old new status

@@ -1,11 +1,10 @@
 //! The repository of a run, opened over what is recorded and stored.
 ghost use Rattle.std.specs.Prelude.{◌≡◌, IfErr, IfOk};
-ghost use Rattle.repo_course.specs.Cleaning.{store};
-ghost use Rattle.run_lines.specs.Printing.{output};
-ghost use Rattle.store_check.specs.Checking.{recorded};
+ghost use Rattle.run_desks.specs.Seen.{store_seen};
 ghost use Rattle.repo_run.specs.Begun.{Begins, RefusesStart, StartFails};
+ghost use Rattle.repo_run.specs.Surroundings.{output_seen, records_seen};
 
-use outside::{Blobs, Clock, Sink};
+use outside::{Blobs, Clock, Sink, Tells};
 use repo_config::Settings;
 use repo_core::{Core, StartFault, start};
 use row_tables::Records;
@@ -20,11 +19,10 @@ pub fn begin<K: Records, B: Blobs, C: Clock>(
     blobs: &mut B,
     clock: C,
 ) -> Result<Core<K, C, B::Held>, (StartFault, K, C)>
-    ensures ok { IfOk result (λ core. Begins settings.now (recorded (K.tables records) (K.loading records) (K.faults records))
-        (store (B.shelf blobs.old) (B.faults blobs.old)) (store (B.shelf blobs.new) (B.faults blobs.new)) (C.moments clock) core) }
-    ensures err { IfErr result (λ error. StartFails (recorded (K.tables records) (K.loading records) (K.faults records))
-        (recorded (K.tables error.1) (K.loading error.1) (K.faults error.1))
-        (store (B.shelf blobs.old) (B.faults blobs.old)) (store (B.shelf blobs.new) (B.faults blobs.new)) error.0) }
+    ensures ok { IfOk result (λ core. Begins settings.now (records_seen ⟦<K as Records>⟧ records)
+        (store_seen ⟦<B as Blobs>⟧ blobs.old) (store_seen ⟦<B as Blobs>⟧ blobs.new) (C.moments clock) core) }
+    ensures err { IfErr result (λ error. StartFails (records_seen ⟦<K as Records>⟧ records) (records_seen ⟦<K as Records>⟧ error.1)
+        (store_seen ⟦<B as Blobs>⟧ blobs.old) (store_seen ⟦<B as Blobs>⟧ blobs.new) error.0) }
     ensures clock { IfErr result (λ error. error.2 ≡ clock) }
 {
     // Their ids differ, and have their form.
@@ -41,7 +39,7 @@ pub fn begin<K: Records, B: Blobs, C: Clock>(
 
 /// Prints why a repository was not opened, as far as that can be printed, and gives the status that tells it.
 pub fn refuse_start<O: Sink>(alloc: Global, out: &mut O, refusal: &StartFault) -> u8
-    ensures { RefusesStart refusal.now (output (O.taken out.old) (O.write_faults out.old)) (output (O.taken out.new) (O.write_faults out.new)) result }
+    ensures { RefusesStart refusal.now (output_seen ⟦<O as Tells>⟧ out.old) (output_seen ⟦<O as Tells>⟧ out.new) result }
 {
     match refusal {
         StartFault::NoMemory => refuse_store(alloc, out, AuditFault::NoMemory),

@@ -1,13 +1,12 @@
 //! The command `clean`: the settings are read, and one pass goes over the repositories.
-ghost use Rattle.repo_course.specs.Cleaning.{store};
-ghost use Rattle.run_lines.specs.Printing.{output};
-ghost use Rattle.run_lines.specs.Reading.{file};
-ghost use Rattle.store_check.specs.Checking.{recorded};
+ghost use Rattle.run_desks.specs.Seen.{store_seen};
+ghost use Rattle.run_lines.specs.Reading.{File};
 ghost use Rattle.repo_run.specs.Clean.{Cleans, CleansBy, TellsPass};
+ghost use Rattle.repo_run.specs.Surroundings.{output_seen, source_seen, view_of};
 
 use crate::begun::{begin, refuse_start};
 use crate::ran::Ended;
-use outside::{Blobs, Clock, Sink, Source};
+use outside::{Blobs, Clock, Sink, Source, Tells};
 use repo_config::Settings;
 use repo_course::{CleanFault, Cleaned, cleaned_text};
 use repo_server::clean_pass;
@@ -18,7 +17,7 @@ use store_check::{AuditFault, refuse_store};
 
 /// Prints what a pass has done.
 fn tell_cleaned<O: Sink>(alloc: Global, out: &mut O, cleaned: &Cleaned) -> u8
-    ensures { TellsPass (Ok cleaned.now) (output (O.taken out.old) (O.write_faults out.old)) (output (O.taken out.new) (O.write_faults out.new)) result }
+    ensures { TellsPass (Ok cleaned.now) (output_seen ⟦<O as Tells>⟧ out.old) (output_seen ⟦<O as Tells>⟧ out.new) result }
 {
     let Ok(text) = cleaned_text(alloc, cleaned.unlisted, cleaned.removed) else {
         return fault(out, b"mvnrepod: memory\n", NO_MEMORY);
@@ -32,7 +31,7 @@ fn tell_cleaned<O: Sink>(alloc: Global, out: &mut O, cleaned: &Cleaned) -> u8
 
 /// Prints what a pass has done, or why it was not made to its end.
 fn tell_pass<O: Sink>(alloc: Global, out: &mut O, pass: &Result<Cleaned, CleanFault>) -> u8
-    ensures { TellsPass pass.now (output (O.taken out.old) (O.write_faults out.old)) (output (O.taken out.new) (O.write_faults out.new)) result }
+    ensures { TellsPass pass.now (output_seen ⟦<O as Tells>⟧ out.old) (output_seen ⟦<O as Tells>⟧ out.new) result }
 {
     match pass {
         Ok(cleaned) => tell_cleaned(alloc, out, cleaned),
@@ -51,11 +50,10 @@ fn clean_by<B: Blobs, K: Records, C: Clock, O: Sink>(
     clock: C,
     out: &mut O,
 ) -> Ended<K, C>
-    ensures { Cleans settings.now
-        (recorded (K.tables records) (K.loading records) (K.faults records)) (recorded (K.tables result.records) (K.loading result.records) (K.faults result.records))
-        (C.moments clock) (C.moments result.clock)
-        (store (B.shelf blobs.old) (B.faults blobs.old)) (store (B.shelf blobs.new) (B.faults blobs.new))
-        (output (O.taken out.old) (O.write_faults out.old)) (output (O.taken out.new) (O.write_faults out.new)) result.status }
+    ensures { (source source' : File) → Cleans settings.now
+        (view_of ⟦<K as Records>⟧ ⟦<C as Clock>⟧ ⟦<O as Tells>⟧ source (store_seen ⟦<B as Blobs>⟧ blobs.old) records clock out.old)
+        (view_of ⟦<K as Records>⟧ ⟦<C as Clock>⟧ ⟦<O as Tells>⟧ source' (store_seen ⟦<B as Blobs>⟧ blobs.new) result.records result.clock out.new)
+        result.status }
 {
     let mut core = match begin(alloc, settings, records, blobs, clock) {
         Ok(core) => core,
@@ -87,11 +85,10 @@ pub(crate) fn clean<B: Blobs, S: Source, K: Records, C: Clock, O: Sink>(
     clock: C,
     out: &mut O,
 ) -> Ended<K, C>
-    ensures { CleansBy (file (S.left settings.old) (S.read_faults settings.old)) (file (S.left settings.new) (S.read_faults settings.new))
-        (recorded (K.tables records) (K.loading records) (K.faults records)) (recorded (K.tables result.records) (K.loading result.records) (K.faults result.records))
-        (C.moments clock) (C.moments result.clock)
-        (store (B.shelf blobs.old) (B.faults blobs.old)) (store (B.shelf blobs.new) (B.faults blobs.new))
-        (output (O.taken out.old) (O.write_faults out.old)) (output (O.taken out.new) (O.write_faults out.new)) result.status }
+    ensures { CleansBy
+        (view_of ⟦<K as Records>⟧ ⟦<C as Clock>⟧ ⟦<O as Tells>⟧ (source_seen ⟦<S as Tells>⟧ settings.old) (store_seen ⟦<B as Blobs>⟧ blobs.old) records clock out.old)
+        (view_of ⟦<K as Records>⟧ ⟦<C as Clock>⟧ ⟦<O as Tells>⟧ (source_seen ⟦<S as Tells>⟧ settings.new) (store_seen ⟦<B as Blobs>⟧ blobs.new) result.records result.clock out.new)
+        result.status }
 {
     match settings_of(alloc, settings, out) {
         Ok(settings) => clean_by(alloc, &settings, blobs, records, clock, out),

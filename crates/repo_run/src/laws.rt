@@ -1,10 +1,9 @@
 //! What follows where a core serves alone. No function here has code: its contract is the law.
-ghost use Rattle.std.specs.Prelude.{◌≡◌, ◌⊎◌, ◌+◌, ◌≤◌, ℕ, List, [], ◌++◌, length, min, Option, Some};
+ghost use Rattle.std.specs.Prelude.{◌≡◌, ◌⊎◌, ◌+◌, ◌≤◌, ℕ, List, [], ◌++◌, length, min, Some};
 ghost use Rattle.outside.specs.Faults.{last_count};
 ghost use Rattle.outside.specs.Moments.{Moments};
 ghost use Rattle.repo_core.specs.Whole.{Whole};
 ghost use Rattle.repo_course.specs.declared.outcomes.End.{End};
-ghost use Rattle.repo_course.specs.Cleaning.{Store};
 ghost use Rattle.repo_course.specs.Serving.{AllTell, Outside, Serves};
 ghost use Rattle.repo_model.specs.History.{Entry, Legal, end};
 ghost use Rattle.repo_model.specs.Settings.{Settings};
@@ -13,11 +12,10 @@ ghost use Rattle.repo_laws.specs.Sound.{IsSound};
 ghost use Rattle.course_laws.specs.AsPlayed.{NoFaults, WantedMemory};
 ghost use Rattle.course_laws.specs.Worked.{abc_200, created_201, last_get, put_abc, worked_settings};
 ghost use Rattle.course_laws.specs.LeftBehind.{IsDrawn, LeavesNothing};
-ghost use Rattle.store_check.specs.Checking.{Recorded};
 ghost use Rattle.repo_run.specs.Begun.{IsFresh};
 ghost use Rattle.repo_run.specs.FirstConnection.{Makes};
 ghost use Rattle.repo_run.specs.Replay.{AllTold, IsReplayed};
-ghost use Rattle.repo_run.specs.Surroundings.{Connection, outside_at};
+ghost use Rattle.repo_run.specs.Surroundings.{Served, View, outside_of};
 
 use outside::Held;
 
@@ -40,12 +38,10 @@ pub fn alone_nothing_is_left_behind<H: Held>()
 /// repositories are the worked ones: where nothing failed it has taken the worked answers byte for byte and was closed, or
 /// memory was wanted.
 pub fn worked_replay<H: Held>()
-    ensures { (settings : Settings) (records records' : Recorded) (clock clock' : Option Moments) (moments : Moments) (old new : Connection) (blobs blobs' : Store) (ending : End) (calls : ℕ) →
-        IsReplayed (AllTell H.bytes) (worked_settings settings) records records' clock clock' old new blobs blobs' ending calls →
-        IsFresh records records' blobs →
-        AllTold (AllTell H.bytes) clock old moments (put_abc ++ last_get) [] →
-        NoFaults (outside_at old.left old blobs) (outside_at new.left new blobs') →
-        ((new.taken ≡ Some (created_201 ++ abc_200)) × (ending ≡ End.Closed)) ⊎ WantedMemory [] new.taken }
+    ensures { (settings : Settings) (old new : View Served) (moments : Moments) (ending : End) (calls : ℕ) →
+        IsReplayed (AllTell H.bytes) (worked_settings settings) old new ending calls → IsFresh old.records new.records old.place.kit.blobs →
+        AllTold (AllTell H.bytes) old.clock old.place.connection moments (put_abc ++ last_get) [] → NoFaults (outside_of old.place) (outside_of new.place) →
+        ((new.place.connection.taken ≡ Some (created_201 ++ abc_200)) × (ending ≡ End.Closed)) ⊎ WantedMemory [] new.place.connection.taken }
 {}
 
 /// In a sound state, as the core keeps it, the drafts and the leases that stand are below the numbers to be drawn.

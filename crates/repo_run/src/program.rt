@@ -1,14 +1,10 @@
 //! A run of the program: its words, and what is done by them.
 ghost use Rattle.std.specs.Prelude.{◌≡◌, ◌<◌, map, vec_len};
 ghost use Rattle.std.specs.String.{string_bytes};
-ghost use Rattle.repo_course.specs.Cleaning.{store};
-ghost use Rattle.repo_course.specs.Serving.{AllTell};
-ghost use Rattle.run_lines.specs.Printing.{output};
-ghost use Rattle.run_lines.specs.Reading.{file};
-ghost use Rattle.store_check.specs.Checking.{recorded};
-ghost use Rattle.repo_run.specs.Running.{Runs};
+ghost use Rattle.run_desks.specs.Seen.{looks};
+ghost use Rattle.repo_run.specs.Running.{Acts, Runs};
 ghost use Rattle.repo_run.specs.Status.{MatchAction};
-ghost use Rattle.repo_run.specs.Surroundings.{FirstOnly, beside, connection, desk_state};
+ghost use Rattle.repo_run.specs.Surroundings.{view};
 ghost use Rattle.repo_run.specs.Words.{asked};
 
 use crate::actions::Action;
@@ -16,7 +12,7 @@ use crate::cleans::clean;
 use crate::ran::{Ended, Ran};
 use crate::replays::replay;
 use crate::words::wanted;
-use outside::{Blobs, Clock, Port, Sink, Source};
+use outside::{Blobs, Clock, Held, Port, Sink, Source, Tells};
 use outside_pace::Pace;
 use row_tables::Records;
 use run_desks::{Cleaner, Desk};
@@ -24,27 +20,23 @@ use run_lines::{NO_MEMORY, REFUSED, fault};
 use std::alloc::Global;
 use store_check::check;
 
-/// Does what a command asks for, with one desk and the blobs of the cleaner.
-fn act<B: Blobs, S: Source, P: Port, K: Records, C: Clock, O: Sink>(
+/// Does what a command asks for, with one desk and the cleaner.
+fn act<B: Blobs, S: Source, P: Port, Q: Pace, K: Records, C: Clock, O: Sink>(
     alloc: Global,
     command: Action,
     settings: &mut S,
     desk: &mut Desk<P, B>,
-    garbage: &mut B,
+    cleaner: &mut Cleaner<B, Q>,
     records: K,
     clock: C,
     out: &mut O,
 ) -> Ended<K, C>
     ensures status { MatchAction command result.status }
-    ensures run { Runs command (AllTell B.Held.bytes)
-        (λ link. connection (P.Link.left link) (P.Link.taken link) (P.Link.read_faults link) (P.Link.write_faults link))
-        (beside (file (S.left settings.old) (S.read_faults settings.old)) (store (B.shelf garbage.old) (B.faults garbage.old))
-        (recorded (K.tables records) (K.loading records) (K.faults records)) (C.moments clock) (output (O.taken out.old) (O.write_faults out.old)))
-        (beside (file (S.left settings.new) (S.read_faults settings.new)) (store (B.shelf garbage.new) (B.faults garbage.new))
-        (recorded (K.tables result.records) (K.loading result.records) (K.faults result.records)) (C.moments result.clock) (output (O.taken out.new) (O.write_faults out.new)))
-        (desk_state (P.left desk.old.port) (P.given_back desk.old.port) (P.faults desk.old.port) (store (B.shelf desk.old.blobs) (B.faults desk.old.blobs)))
-        (desk_state (P.left desk.new.port) (P.given_back desk.new.port) (P.faults desk.new.port) (store (B.shelf desk.new.blobs) (B.faults desk.new.blobs)))
+    ensures run { Acts (looks ⟦<P as Port>⟧ ⟦<P::Link as Tells>⟧ ⟦<B as Blobs>⟧ ⟦<B::Held as Held>⟧) command
+        (view ⟦<S as Tells>⟧ ⟦<B as Blobs>⟧ ⟦<Q as Pace>⟧ ⟦<K as Records>⟧ ⟦<C as Clock>⟧ ⟦<O as Tells>⟧ settings.old desk.old cleaner.old records clock out.old)
+        (view ⟦<S as Tells>⟧ ⟦<B as Blobs>⟧ ⟦<Q as Pace>⟧ ⟦<K as Records>⟧ ⟦<C as Clock>⟧ ⟦<O as Tells>⟧ settings.new desk.new cleaner.new result.records result.clock out.new)
         result.status }
+    ensures pace { cleaner.new.pace ≡ cleaner.old.pace }
 {
     match command {
         Action::Replay => replay(alloc, settings, desk, records, clock, out),
@@ -57,7 +49,7 @@ fn act<B: Blobs, S: Source, P: Port, K: Records, C: Clock, O: Sink>(
                 clock,
             }
         }
-        Action::Clean => clean(alloc, settings, garbage, records, clock, out),
+        Action::Clean => clean(alloc, settings, &mut cleaner.blobs, records, clock, out),
         Action::Serve | Action::Nothing => {
             let status = fault(out, b"mvnrepod: words\n", REFUSED);
             Ended {
@@ -107,15 +99,10 @@ pub fn run_once<B: Blobs, S: Source, P: Port, Q: Pace, K: Records, C: Clock, O: 
 ) -> Ran<P, B, Q, K, C>
     requires { 0 < vec_len desks }
     ensures status { MatchAction (asked (map string_bytes words.now)).command result.status }
-    ensures run { FirstOnly (λ old new. Runs (asked (map string_bytes words.now)).command (AllTell B.Held.bytes)
-        (λ link. connection (P.Link.left link) (P.Link.taken link) (P.Link.read_faults link) (P.Link.write_faults link))
-        (beside (file (S.left settings.old) (S.read_faults settings.old)) (store (B.shelf cleaner.blobs) (B.faults cleaner.blobs))
-        (recorded (K.tables records) (K.loading records) (K.faults records)) (C.moments clock) (output (O.taken out.old) (O.write_faults out.old)))
-        (beside (file (S.left settings.new) (S.read_faults settings.new)) (store (B.shelf result.cleaner.blobs) (B.faults result.cleaner.blobs))
-        (recorded (K.tables result.records) (K.loading result.records) (K.faults result.records)) (C.moments result.clock) (output (O.taken out.new) (O.write_faults out.new)))
-        (desk_state (P.left old.port) (P.given_back old.port) (P.faults old.port) (store (B.shelf old.blobs) (B.faults old.blobs)))
-        (desk_state (P.left new.port) (P.given_back new.port) (P.faults new.port) (store (B.shelf new.blobs) (B.faults new.blobs)))
-        result.status) desks.items result.desks.items }
+    ensures run { Runs (looks ⟦<P as Port>⟧ ⟦<P::Link as Tells>⟧ ⟦<B as Blobs>⟧ ⟦<B::Held as Held>⟧) (asked (map string_bytes words.now)).command
+        (view ⟦<S as Tells>⟧ ⟦<B as Blobs>⟧ ⟦<Q as Pace>⟧ ⟦<K as Records>⟧ ⟦<C as Clock>⟧ ⟦<O as Tells>⟧ settings.old desks.items cleaner records clock out.old)
+        (view ⟦<S as Tells>⟧ ⟦<B as Blobs>⟧ ⟦<Q as Pace>⟧ ⟦<K as Records>⟧ ⟦<C as Clock>⟧ ⟦<O as Tells>⟧ settings.new result.desks.items result.cleaner result.records result.clock out.new)
+        result.status }
     ensures pace { result.cleaner.pace ≡ cleaner.pace }
 {
     let mut desks = desks;
@@ -131,7 +118,7 @@ pub fn run_once<B: Blobs, S: Source, P: Port, Q: Pace, K: Records, C: Clock, O: 
                 wanted.command,
                 settings,
                 &mut desks[0],
-                &mut cleaner.blobs,
+                &mut cleaner,
                 records,
                 clock,
                 out,

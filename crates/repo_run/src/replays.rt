@@ -1,18 +1,16 @@
 //! The command `replay`: the settings are read, and the first connection of a desk is served.
 ghost use Rattle.std.specs.Prelude.{◌≡◌};
-ghost use Rattle.repo_course.specs.Cleaning.{store};
 ghost use Rattle.repo_course.specs.Serving.{AllTell};
-ghost use Rattle.run_lines.specs.Printing.{output};
-ghost use Rattle.run_lines.specs.Reading.{file};
+ghost use Rattle.run_desks.specs.Seen.{looks};
+ghost use Rattle.run_lines.specs.Reading.{File};
 ghost use Rattle.repo_run.specs.FirstConnection.{ServesFirst};
-ghost use Rattle.store_check.specs.Checking.{recorded};
-ghost use Rattle.repo_run.specs.Replay.{Replays, ServesWith};
-ghost use Rattle.repo_run.specs.Surroundings.{connection, desk_state};
+ghost use Rattle.repo_run.specs.Replay.{Replays, ReplaysBy};
+ghost use Rattle.repo_run.specs.Surroundings.{desk_state, source_seen, view_of};
 
 use crate::begun::{begin, refuse_start};
 use crate::ran::Ended;
 use crate::reports::report_first;
-use outside::{Blobs, Clock, Port, Sink, Source};
+use outside::{Blobs, Clock, Held, Port, Sink, Source, Tells};
 use repo_config::Settings;
 use repo_core::Core;
 use repo_course::End;
@@ -30,10 +28,9 @@ pub fn serve_first<P: Port, B: Blobs, K: Records, C: Clock>(
     core: &mut Core<K, C, B::Held>,
 ) -> Option<End>
     requires { core.old.settings ≡ settings.now }
-    ensures { ServesFirst (AllTell B.Held.bytes) settings.now
-        (λ link. connection (P.Link.left link) (P.Link.taken link) (P.Link.read_faults link) (P.Link.write_faults link))
-        (desk_state (P.left desk.old.port) (P.given_back desk.old.port) (P.faults desk.old.port) (store (B.shelf desk.old.blobs) (B.faults desk.old.blobs)))
-        (desk_state (P.left desk.new.port) (P.given_back desk.new.port) (P.faults desk.new.port) (store (B.shelf desk.new.blobs) (B.faults desk.new.blobs)))
+    ensures { ServesFirst (AllTell B.Held.bytes) ⟦<P::Link as Tells>⟧ settings.now
+        (desk_state (looks ⟦<P as Port>⟧ ⟦<P::Link as Tells>⟧ ⟦<B as Blobs>⟧ ⟦<B::Held as Held>⟧) desk.old)
+        (desk_state (looks ⟦<P as Port>⟧ ⟦<P::Link as Tells>⟧ ⟦<B as Blobs>⟧ ⟦<B::Held as Held>⟧) desk.new)
         core.old core.new result }
 {
     match desk.port.next() {
@@ -56,13 +53,10 @@ fn serve<P: Port, B: Blobs, K: Records, C: Clock, O: Sink>(
     clock: C,
     out: &mut O,
 ) -> Ended<K, C>
-    ensures { ServesWith (AllTell B.Held.bytes) settings.now
-        (λ link. connection (P.Link.left link) (P.Link.taken link) (P.Link.read_faults link) (P.Link.write_faults link))
-        (recorded (K.tables records) (K.loading records) (K.faults records)) (recorded (K.tables result.records) (K.loading result.records) (K.faults result.records))
-        (C.moments clock) (C.moments result.clock)
-        (desk_state (P.left desk.old.port) (P.given_back desk.old.port) (P.faults desk.old.port) (store (B.shelf desk.old.blobs) (B.faults desk.old.blobs)))
-        (desk_state (P.left desk.new.port) (P.given_back desk.new.port) (P.faults desk.new.port) (store (B.shelf desk.new.blobs) (B.faults desk.new.blobs)))
-        (output (O.taken out.old) (O.write_faults out.old)) (output (O.taken out.new) (O.write_faults out.new)) result.status }
+    ensures { (source source' : File) → Replays (AllTell B.Held.bytes) ⟦<P::Link as Tells>⟧ settings.now
+        (view_of ⟦<K as Records>⟧ ⟦<C as Clock>⟧ ⟦<O as Tells>⟧ source (desk_state (looks ⟦<P as Port>⟧ ⟦<P::Link as Tells>⟧ ⟦<B as Blobs>⟧ ⟦<B::Held as Held>⟧) desk.old) records clock out.old)
+        (view_of ⟦<K as Records>⟧ ⟦<C as Clock>⟧ ⟦<O as Tells>⟧ source' (desk_state (looks ⟦<P as Port>⟧ ⟦<P::Link as Tells>⟧ ⟦<B as Blobs>⟧ ⟦<B::Held as Held>⟧) desk.new) result.records result.clock out.new)
+        result.status }
 {
     settings.form();
     let mut core = match begin(alloc, settings, records, &mut desk.blobs, clock) {
@@ -95,14 +89,10 @@ pub(crate) fn replay<S: Source, P: Port, B: Blobs, K: Records, C: Clock, O: Sink
     clock: C,
     out: &mut O,
 ) -> Ended<K, C>
-    ensures { Replays (AllTell B.Held.bytes)
-        (λ link. connection (P.Link.left link) (P.Link.taken link) (P.Link.read_faults link) (P.Link.write_faults link))
-        (file (S.left settings.old) (S.read_faults settings.old)) (file (S.left settings.new) (S.read_faults settings.new))
-        (recorded (K.tables records) (K.loading records) (K.faults records)) (recorded (K.tables result.records) (K.loading result.records) (K.faults result.records))
-        (C.moments clock) (C.moments result.clock)
-        (desk_state (P.left desk.old.port) (P.given_back desk.old.port) (P.faults desk.old.port) (store (B.shelf desk.old.blobs) (B.faults desk.old.blobs)))
-        (desk_state (P.left desk.new.port) (P.given_back desk.new.port) (P.faults desk.new.port) (store (B.shelf desk.new.blobs) (B.faults desk.new.blobs)))
-        (output (O.taken out.old) (O.write_faults out.old)) (output (O.taken out.new) (O.write_faults out.new)) result.status }
+    ensures { ReplaysBy (AllTell B.Held.bytes) ⟦<P::Link as Tells>⟧
+        (view_of ⟦<K as Records>⟧ ⟦<C as Clock>⟧ ⟦<O as Tells>⟧ (source_seen ⟦<S as Tells>⟧ settings.old) (desk_state (looks ⟦<P as Port>⟧ ⟦<P::Link as Tells>⟧ ⟦<B as Blobs>⟧ ⟦<B::Held as Held>⟧) desk.old) records clock out.old)
+        (view_of ⟦<K as Records>⟧ ⟦<C as Clock>⟧ ⟦<O as Tells>⟧ (source_seen ⟦<S as Tells>⟧ settings.new) (desk_state (looks ⟦<P as Port>⟧ ⟦<P::Link as Tells>⟧ ⟦<B as Blobs>⟧ ⟦<B::Held as Held>⟧) desk.new) result.records result.clock out.new)
+        result.status }
 {
     match settings_of(alloc, settings, out) {
         Ok(settings) => serve(alloc, &settings, desk, records, clock, out),

@@ -1,10 +1,10 @@
 //! The line of a stream that was served, and its status.
 ghost use Rattle.std.specs.Prelude.{◌≡◌, IfOk};
-ghost use Rattle.run_lines.specs.Printing.{output};
 ghost use Rattle.repo_run.specs.Lines.{end_name, ending_line};
 ghost use Rattle.repo_run.specs.Replay.{Finishes, Reports, ReportsFirst};
+ghost use Rattle.repo_run.specs.Surroundings.{output_seen};
 
-use outside::Sink;
+use outside::{Sink, Tells};
 use repo_course::End;
 use run_lines::{DONE, INPUT, NO_MEMORY, OUTPUT, fault, print};
 use std::alloc::{AllocError, Global};
@@ -34,7 +34,7 @@ fn ending_line(alloc: Global, calls: u64, end: End) -> Result<Vec<u8>, AllocErro
 
 /// Prints how many calls a stream made and how it ended.
 fn finish<O: Sink>(alloc: Global, out: &mut O, calls: u64, end: End) -> u8
-    ensures { Finishes calls end (output (O.taken out.old) (O.write_faults out.old)) (output (O.taken out.new) (O.write_faults out.new)) result }
+    ensures { Finishes calls end (output_seen ⟦<O as Tells>⟧ out.old) (output_seen ⟦<O as Tells>⟧ out.new) result }
 {
     let Ok(line) = ending_line(alloc, calls, end) else {
         return fault(out, b"mvnrepod: memory\n", NO_MEMORY);
@@ -48,7 +48,7 @@ fn finish<O: Sink>(alloc: Global, out: &mut O, calls: u64, end: End) -> u8
 
 /// The status of a stream that was served, and its line.
 fn report<O: Sink>(alloc: Global, out: &mut O, calls: u64, end: End) -> u8
-    ensures { Reports end calls (output (O.taken out.old) (O.write_faults out.old)) (output (O.taken out.new) (O.write_faults out.new)) result }
+    ensures { Reports end calls (output_seen ⟦<O as Tells>⟧ out.old) (output_seen ⟦<O as Tells>⟧ out.new) result }
 {
     match end {
         End::SourceFault => fault(out, b"mvnrepod: input\n", INPUT),
@@ -64,7 +64,7 @@ pub(crate) fn report_first<O: Sink>(
     calls: u64,
     ended: Option<End>,
 ) -> u8
-    ensures { ReportsFirst ended calls (output (O.taken out.old) (O.write_faults out.old)) (output (O.taken out.new) (O.write_faults out.new)) result }
+    ensures { ReportsFirst ended calls (output_seen ⟦<O as Tells>⟧ out.old) (output_seen ⟦<O as Tells>⟧ out.new) result }
 {
     match ended {
         Some(end) => report(alloc, out, calls, end),

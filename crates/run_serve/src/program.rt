@@ -1,20 +1,14 @@
 //! A run of the program: its words, and what is done by them.
 ghost use Rattle.std.specs.Prelude.{◌≡◌, ◌<◌, map, vec_len};
 ghost use Rattle.std.specs.String.{string_bytes};
-ghost use Rattle.repo_course.specs.Cleaning.{store};
-ghost use Rattle.repo_course.specs.Serving.{AllTell};
-ghost use Rattle.repo_run.specs.Running.{Runs};
-ghost use Rattle.repo_run.specs.Surroundings.{FirstOnly, beside, connection, desk_state};
+ghost use Rattle.desk_work.specs.Rules.{rules};
+ghost use Rattle.repo_run.specs.Surroundings.{view};
 ghost use Rattle.repo_run.specs.Words.{asked};
-ghost use Rattle.run_lines.specs.Printing.{output};
-ghost use Rattle.run_lines.specs.Reading.{file};
-ghost use Rattle.run_serve.specs.Running.{ByWords, MatchRun};
-ghost use Rattle.run_serve.specs.Serving.{Serves, broom};
-ghost use Rattle.store_check.specs.Checking.{recorded};
-ghost use Rattle.turn_lock.specs.History.{IsStep};
+ghost use Rattle.run_desks.specs.Seen.{looks};
+ghost use Rattle.run_serve.specs.Running.{ByWords, MatchRun, RunsBy};
 
 use crate::serving::serve;
-use outside::{Blobs, Clock, Port, Sink, Source, Tells};
+use outside::{Blobs, Clock, Held, Port, Sink, Source, Tells};
 use outside_pace::Pace;
 use repo_core::Core;
 use repo_run::{Action, Ran, run_once, wanted};
@@ -56,30 +50,11 @@ where
     B::Pen: Send,
     requires desks { 0 < vec_len desks }
     ensures status { MatchRun (asked (map string_bytes words.now)).command result.status }
-    ensures run { ByWords (asked (map string_bytes words.now)).command
-        (Serves ⟦<P::Link as Tells>⟧ (record {
-          left = P.left;
-          given_back = P.given_back;
-          faults = P.faults;
-          port = λ desk. desk.port;
-          blobs = λ desk. store (B.shelf desk.blobs) (B.faults desk.blobs);
-        }) (AllTell B.Held.bytes) ⟦<Core<K, C, B::Held> as Repository>⟧.sight
-        (IsStep ⟦<Core<K, C, B::Held> as Thing>⟧.fixed ⟦<Core<K, C, B::Held> as Thing>⟧.may_ask ⟦<Core<K, C, B::Held> as Thing>⟧.turned)
-        (file (S.left settings.old) (S.read_faults settings.old)) (file (S.left settings.new) (S.read_faults settings.new))
-        (recorded (K.tables records) (K.loading records) (K.faults records)) (recorded (K.tables result.records) (K.loading result.records) (K.faults result.records))
-        (C.moments clock) (C.moments result.clock) desks.items result.desks.items
-        (broom (Q.pauses cleaner.pace) (store (B.shelf cleaner.blobs) (B.faults cleaner.blobs)))
-        (broom (Q.pauses result.cleaner.pace) (store (B.shelf result.cleaner.blobs) (B.faults result.cleaner.blobs)))
-        (output (O.taken out.old) (O.write_faults out.old)) (output (O.taken out.new) (O.write_faults out.new)) result.status)
-        (FirstOnly (λ old new. Runs (asked (map string_bytes words.now)).command (AllTell B.Held.bytes)
-        (λ link. connection (P.Link.left link) (P.Link.taken link) (P.Link.read_faults link) (P.Link.write_faults link))
-        (beside (file (S.left settings.old) (S.read_faults settings.old)) (store (B.shelf cleaner.blobs) (B.faults cleaner.blobs))
-        (recorded (K.tables records) (K.loading records) (K.faults records)) (C.moments clock) (output (O.taken out.old) (O.write_faults out.old)))
-        (beside (file (S.left settings.new) (S.read_faults settings.new)) (store (B.shelf result.cleaner.blobs) (B.faults result.cleaner.blobs))
-        (recorded (K.tables result.records) (K.loading result.records) (K.faults result.records)) (C.moments result.clock) (output (O.taken out.new) (O.write_faults out.new)))
-        (desk_state (P.left old.port) (P.given_back old.port) (P.faults old.port) (store (B.shelf old.blobs) (B.faults old.blobs)))
-        (desk_state (P.left new.port) (P.given_back new.port) (P.faults new.port) (store (B.shelf new.blobs) (B.faults new.blobs)))
-        result.status) desks.items result.desks.items) }
+    ensures run { RunsBy (looks ⟦<P as Port>⟧ ⟦<P::Link as Tells>⟧ ⟦<B as Blobs>⟧ ⟦<B::Held as Held>⟧)
+        (rules ⟦<Core<K, C, B::Held> as Thing>⟧ ⟦<Core<K, C, B::Held> as Repository>⟧.sight) (asked (map string_bytes words.now)).command
+        (view ⟦<S as Tells>⟧ ⟦<B as Blobs>⟧ ⟦<Q as Pace>⟧ ⟦<K as Records>⟧ ⟦<C as Clock>⟧ ⟦<O as Tells>⟧ settings.old desks.items cleaner records clock out.old)
+        (view ⟦<S as Tells>⟧ ⟦<B as Blobs>⟧ ⟦<Q as Pace>⟧ ⟦<K as Records>⟧ ⟦<C as Clock>⟧ ⟦<O as Tells>⟧ settings.new result.desks.items result.cleaner result.records result.clock out.new)
+        result.status }
     ensures pace { ByWords (asked (map string_bytes words.now)).command (Unit {0}) (result.cleaner.pace ≡ cleaner.pace) }
 {
     match wanted(alloc, words) {

@@ -1,17 +1,14 @@
 //! A server, from its settings to its line.
-ghost use Rattle.std.specs.Prelude.{◌≡◌, ◌<◌, IsFalse, vec_len};
-ghost use Rattle.outside.specs.Faults.{last_count};
-ghost use Rattle.repo_course.specs.Cleaning.{store};
-ghost use Rattle.repo_course.specs.Serving.{AllTell};
-ghost use Rattle.run_lines.specs.Printing.{output};
-ghost use Rattle.run_lines.specs.Reading.{file};
-ghost use Rattle.run_serve.specs.Serving.{Serves, ServesBy, ServesWith, broom};
-ghost use Rattle.store_check.specs.Checking.{recorded};
-ghost use Rattle.turn_lock.specs.History.{IsStep};
+ghost use Rattle.std.specs.Prelude.{◌≡◌, ◌<◌, vec_len};
+ghost use Rattle.desk_work.specs.Rules.{rules};
+ghost use Rattle.repo_run.specs.Surroundings.{output_seen, view, view_of};
+ghost use Rattle.run_desks.specs.Seen.{floor, looks};
+ghost use Rattle.run_lines.specs.Reading.{File};
+ghost use Rattle.run_serve.specs.Serving.{Serves, ServesBy, ServesWith};
 
 use crate::calls::tell_work;
 use desk_work::{Worked, work};
-use outside::{Blobs, Clock, Port, Sink, Source, Tells};
+use outside::{Blobs, Clock, Held, Port, Sink, Source, Tells};
 use outside_pace::Pace;
 use repo_config::Settings;
 use repo_core::Core;
@@ -48,18 +45,10 @@ where
     B::Held: Send,
     B::Pen: Send,
     requires settings { core.settings ≡ settings }
-    ensures serves { ServesWith ⟦<P::Link as Tells>⟧ (record {
-      left = P.left;
-      given_back = P.given_back;
-      faults = P.faults;
-      port = λ desk. desk.port;
-      blobs = λ desk. store (B.shelf desk.blobs) (B.faults desk.blobs);
-    }) (AllTell B.Held.bytes) ⟦<Core<K, C, B::Held> as Repository>⟧.sight
-        (IsStep ⟦<Core<K, C, B::Held> as Thing>⟧.fixed ⟦<Core<K, C, B::Held> as Thing>⟧.may_ask ⟦<Core<K, C, B::Held> as Thing>⟧.turned) settings core
-        (recorded (K.tables result.records) (K.loading result.records) (K.faults result.records)) (C.moments result.clock) desks.items result.desks.items
-        (broom (Q.pauses cleaner.pace) (store (B.shelf cleaner.blobs) (B.faults cleaner.blobs)))
-        (broom (Q.pauses result.cleaner.pace) (store (B.shelf result.cleaner.blobs) (B.faults result.cleaner.blobs)))
-        (output (O.taken out.old) (O.write_faults out.old)) (output (O.taken out.new) (O.write_faults out.new)) result.status }
+    ensures serves { (source : File) → ServesWith (looks ⟦<P as Port>⟧ ⟦<P::Link as Tells>⟧ ⟦<B as Blobs>⟧ ⟦<B::Held as Held>⟧)
+        (rules ⟦<Core<K, C, B::Held> as Thing>⟧ ⟦<Core<K, C, B::Held> as Repository>⟧.sight) settings core (floor ⟦<B as Blobs>⟧ ⟦<Q as Pace>⟧ desks.items cleaner) (output_seen ⟦<O as Tells>⟧ out.old)
+        (view_of ⟦<K as Records>⟧ ⟦<C as Clock>⟧ ⟦<O as Tells>⟧ source (floor ⟦<B as Blobs>⟧ ⟦<Q as Pace>⟧ result.desks.items result.cleaner) result.records result.clock out.new)
+        result.status }
 {
     let (turns, seat) = match Turns::begin(alloc, core) {
         Ok(begun) => begun,
@@ -118,19 +107,11 @@ where
     B::Held: Send,
     B::Pen: Send,
     requires desks { 0 < vec_len desks }
-    ensures serves { ServesBy ⟦<P::Link as Tells>⟧ (record {
-      left = P.left;
-      given_back = P.given_back;
-      faults = P.faults;
-      port = λ desk. desk.port;
-      blobs = λ desk. store (B.shelf desk.blobs) (B.faults desk.blobs);
-    }) (AllTell B.Held.bytes) ⟦<Core<K, C, B::Held> as Repository>⟧.sight
-        (IsStep ⟦<Core<K, C, B::Held> as Thing>⟧.fixed ⟦<Core<K, C, B::Held> as Thing>⟧.may_ask ⟦<Core<K, C, B::Held> as Thing>⟧.turned) settings
-        (recorded (K.tables records) (K.loading records) (K.faults records)) (recorded (K.tables result.records) (K.loading result.records) (K.faults result.records))
-        (C.moments clock) (C.moments result.clock) desks.items result.desks.items
-        (broom (Q.pauses cleaner.pace) (store (B.shelf cleaner.blobs) (B.faults cleaner.blobs)))
-        (broom (Q.pauses result.cleaner.pace) (store (B.shelf result.cleaner.blobs) (B.faults result.cleaner.blobs)))
-        (output (O.taken out.old) (O.write_faults out.old)) (output (O.taken out.new) (O.write_faults out.new)) result.status }
+    ensures serves { (source source' : File) → ServesBy (looks ⟦<P as Port>⟧ ⟦<P::Link as Tells>⟧ ⟦<B as Blobs>⟧ ⟦<B::Held as Held>⟧)
+        (rules ⟦<Core<K, C, B::Held> as Thing>⟧ ⟦<Core<K, C, B::Held> as Repository>⟧.sight) settings
+        (view_of ⟦<K as Records>⟧ ⟦<C as Clock>⟧ ⟦<O as Tells>⟧ source (floor ⟦<B as Blobs>⟧ ⟦<Q as Pace>⟧ desks.items cleaner) records clock out.old)
+        (view_of ⟦<K as Records>⟧ ⟦<C as Clock>⟧ ⟦<O as Tells>⟧ source' (floor ⟦<B as Blobs>⟧ ⟦<Q as Pace>⟧ result.desks.items result.cleaner) result.records result.clock out.new)
+        result.status }
 {
     let mut desks = desks;
     match begin(alloc, &settings, records, &mut desks[0].blobs, clock) {
@@ -188,20 +169,11 @@ where
     B::Held: Send,
     B::Pen: Send,
     requires desks { 0 < vec_len desks }
-    ensures serves { Serves ⟦<P::Link as Tells>⟧ (record {
-      left = P.left;
-      given_back = P.given_back;
-      faults = P.faults;
-      port = λ desk. desk.port;
-      blobs = λ desk. store (B.shelf desk.blobs) (B.faults desk.blobs);
-    }) (AllTell B.Held.bytes) ⟦<Core<K, C, B::Held> as Repository>⟧.sight
-        (IsStep ⟦<Core<K, C, B::Held> as Thing>⟧.fixed ⟦<Core<K, C, B::Held> as Thing>⟧.may_ask ⟦<Core<K, C, B::Held> as Thing>⟧.turned)
-        (file (S.left settings.old) (S.read_faults settings.old)) (file (S.left settings.new) (S.read_faults settings.new))
-        (recorded (K.tables records) (K.loading records) (K.faults records)) (recorded (K.tables result.records) (K.loading result.records) (K.faults result.records))
-        (C.moments clock) (C.moments result.clock) desks.items result.desks.items
-        (broom (Q.pauses cleaner.pace) (store (B.shelf cleaner.blobs) (B.faults cleaner.blobs)))
-        (broom (Q.pauses result.cleaner.pace) (store (B.shelf result.cleaner.blobs) (B.faults result.cleaner.blobs)))
-        (output (O.taken out.old) (O.write_faults out.old)) (output (O.taken out.new) (O.write_faults out.new)) result.status }
+    ensures serves { Serves (looks ⟦<P as Port>⟧ ⟦<P::Link as Tells>⟧ ⟦<B as Blobs>⟧ ⟦<B::Held as Held>⟧)
+        (rules ⟦<Core<K, C, B::Held> as Thing>⟧ ⟦<Core<K, C, B::Held> as Repository>⟧.sight)
+        (view ⟦<S as Tells>⟧ ⟦<B as Blobs>⟧ ⟦<Q as Pace>⟧ ⟦<K as Records>⟧ ⟦<C as Clock>⟧ ⟦<O as Tells>⟧ settings.old desks.items cleaner records clock out.old)
+        (view ⟦<S as Tells>⟧ ⟦<B as Blobs>⟧ ⟦<Q as Pace>⟧ ⟦<K as Records>⟧ ⟦<C as Clock>⟧ ⟦<O as Tells>⟧ settings.new result.desks.items result.cleaner result.records result.clock out.new)
+        result.status }
 {
     match settings_of(alloc, settings, out) {
         Ok(settings) => serve_by(rt, alloc, settings, desks, cleaner, records, clock, out),

@@ -1,24 +1,20 @@
 -- Two servers, the later one over the tables that the earlier one left.
-use Rattle.std.proofs.Common.{◌≡◌, List, [], ◌∷◌, Option, Some, subst, ◌∙◌}
-use Rattle.outside.specs.declared.tells.Tells.{Ghosts}
-use Rattle.outside.specs.Moments.{Moments}
+use Rattle.std.proofs.Common.{◌≡◌, List, [], ◌∷◌, Some, subst, ◌∙◌}
 use Rattle.repo_model.specs.History.{end}
 use Rattle.repo_model.specs.Settings.{Settings}
 use Rattle.repo_model.specs.Tables.{Tables}
 use Rattle.repo_laws.specs.Holds.{StandsFor, told, with_items}
 use Rattle.repo_laws.specs.InRange.{Follow, Run}
-use Rattle.store_check.specs.Checking.{Recorded}
-use Rattle.desk_work.specs.Working.{Looks}
+use Rattle.repo_run.specs.Surroundings.{View}
+use Rattle.run_desks.specs.Seen.{Floor, Looks}
 use Rattle.served_laws.specs.Restarted.{RestartShows, ShowsWhatWasNamedIn, both, idle_earlier, idle_later}
 use Rattle.served_laws.specs.Runs.{ServerShows, idle, served}
 use Rattle.served_laws.proofs.Across.{shows-later}
 use Rattle.served_laws.proofs.Showing.{desks-again}
 
-module _ {L P D : Type 0} (G : Ghosts L) (looks : Looks L P D) (tells : Type 0) (settings : Settings) (tables : Tables)
-    (records records' later_records later_records' : Recorded) (clock later_clock : Option Moments) (desks back later_desks later_back : List D)
-    (told_so : records.tables ≡ Some tables) (passed : later_records.tables ≡ records'.tables) where
-  pub restart-shows : ServerShows G looks tells settings records records' clock desks back → ServerShows G looks tells settings later_records later_records' later_clock later_desks later_back
-      → RestartShows G looks tells settings records later_records clock later_clock desks back later_desks later_back
+module _ {L P D : Type 0} (looks : Looks L P D) (settings : Settings) (tables : Tables) (old new later_old later_new : View (Floor (List D)))
+    (told_so : old.records.tables ≡ Some tables) (passed : later_old.records.tables ≡ new.records.tables) where
+  pub restart-shows : ServerShows looks settings old new → ServerShows looks settings later_old later_new → RestartShows looks settings old new later_old later_new
   restart-shows (idle same still) later = idle_earlier same
   restart-shows (served core begun history only closed shown records_so) (idle same still) = idle_later same
   restart-shows (served core begun history only closed shown records_so) (served later_core later_begun later_history later_only later_closed later_shown later_so) =
@@ -31,7 +27,7 @@ module _ {L P D : Type 0} (G : Ghosts L) (looks : Looks L P D) (tells : Type 0) 
       let stands : StandsFor (with_items tables (told settings core.state history)) later_core.state = subst (λ (t : Tables). StandsFor t later_core.state) was.left is.stands in
       let follow : Follow settings (with_items tables (told settings core.state history)) (end settings core.state history).last (later ∷ []) =
       (stands, later_closed.sound, later_closed.legal, begins_from, tt) in
-      desks-again settings tells (ShowsWhatWasNamedIn settings earlier later_core.state) later_history
+      desks-again looks settings (ShowsWhatWasNamedIn settings earlier later_core.state) later_history
       (λ before more rest e from turn is_first parts turned.
-      shows-later settings closed.apart tables earlier [] later closed.sound was.order was.stands.holds closed.legal follow tells before more rest e from turn is_first parts turned)
-      G looks _ later_begun later_back later_shown)
+      shows-later settings closed.apart tables earlier [] later closed.sound was.order was.stands.holds closed.legal follow looks.tells before more rest e from turn is_first parts turned)
+      _ later_begun later_new.place.desks later_shown)

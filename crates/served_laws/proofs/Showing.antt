@@ -2,13 +2,11 @@
 use Rattle.std.proofs.Common.{◌≡◌, inl, inr, ℕ, zero, suc, Bool, List, [], ◌∷◌, ◌++◌, map, All, sym, subst, ap, ◌∙◌}
 use Rattle.std.specs.List.{AllZip}
 use Rattle.std.proofs.lemmas.List.Elements.{All-head, All-tail}
-use Rattle.outside.specs.declared.tells.Tells.{Ghosts}
 use Rattle.repo_model.specs.History.{Entry}
 use Rattle.repo_model.specs.Settings.{Settings}
 use Rattle.repo_model.specs.State.{State}
 use Rattle.repo_laws.specs.Sound.{AreNamedApart, IsSound}
 use Rattle.repo_course.specs.Asking.{LiesIn}
-use Rattle.repo_course.specs.Cleaning.{Store}
 use Rattle.repo_course.specs.Serving.{Outside, Serves, Turn}
 use Rattle.repo_course.specs.declared.outcomes.End.{End}
 use Rattle.closed_laws.specs.Streams.{AreTurns, Seen}
@@ -19,9 +17,11 @@ use Rattle.turn_lock.specs.declared.seat.SeatToken.{SeatToken as Seat}
 use Rattle.turn_lock.specs.History.{entries_by}
 use Rattle.turn_lock.specs.Seats.{number}
 use Rattle.turn_seats.specs.Ending.{Holds}
-use Rattle.turn_seats.specs.Seated.{Sight, entry_of}
+use Rattle.turn_seats.specs.Seated.{entry_of}
+use Rattle.run_desks.specs.Seen.{Kit, Looks}
+use Rattle.desk_work.specs.Rules.{Rules}
 use Rattle.desk_work.specs.Visits.{Attends, Visit, entries_of}
-use Rattle.desk_work.specs.Working.{DeskDone, Looks}
+use Rattle.desk_work.specs.Working.{DeskDone}
 use Rattle.served_laws.specs.Shown.{AllShowIn, ConnectionShows, DeskShows, DesksShow, Showing, VisitsShow}
 use Rattle.served_laws.proofs.Woven.{lie-by}
 
@@ -47,30 +47,6 @@ module _ (settings : Settings) (tells : Type 0) (Shows : Showing) (history : Lis
       → ConnectionShows Shows settings tells history entries old new ending
   turned-shows entries old new ending was = record { turns = was.turns; are = was.are; show = all-show 1000 was.turns entries old new ending was.are }
 
-  module _ {L P D : Type 0} (G : Ghosts L) (looks : Looks L P D) where
-    visits-again : (Before : Showing) (before : Store) (visits : List (Visit L)) → VisitsShow G looks tells Before settings history before visits
-        → VisitsShow G looks tells Shows settings history before visits
-    visits-again Before before [] show = tt
-    visits-again Before before (v ∷ vs) show = (turned-shows {Before = Before} v.entries _ _ v.ending show.0, visits-again Before v.left vs show.1)
-
-    -- desks that showed something else show this too
-    pub desks-again : (Before : Showing) (desks back : List D) → DesksShow G looks tells Before settings history desks back
-        → DesksShow G looks tells Shows settings history desks back
-    desks-again Before [] [] show = tt
-    desks-again Before [] (b ∷ bs) show = absurd show
-    desks-again Before (d ∷ ds) [] show = absurd show
-    desks-again Before (d ∷ ds) (b ∷ bs) show = (
-      record {
-        visits = show.0.visits;
-        attends = show.0.attends;
-        came = show.0.came;
-        went = show.0.went;
-        lie = show.0.lie;
-        show = visits-again Before (looks.blobs d) show.0.visits show.0.show;
-      },
-      desks-again Before ds bs show.1,
-    )
-
   module _ (apart : AreNamedApart settings.hosted) (start : State) (sound : IsSound settings start) where
     -- a stream that was served
     pub served-shows : (entries : List Entry) (old new : Outside) (ending : End) → Serves settings tells 1000 entries old new ending
@@ -79,36 +55,62 @@ module _ (settings : Settings) (tells : Type 0) (Shows : Showing) (history : Lis
         let (turns, are, _) = stream-shows settings tells apart start sound 1000 entries old new ending serves in
         record { turns = turns; are = are; show = all-show 1000 turns entries old new ending are }
 
-    module _ {L P D C R T : Type 0} (G : Ghosts L) (looks : Looks L P D) (sight : Sight T C R) (steps : T → C → R → T → Type 0) (turns : Turns T C R) (first : Seat C R T)
-        (log : List (Call C R T)) (history_is : history ≡ map (entry_of sight) log) where
-      visits-show : (before after : Store) (visits : List (Visit L)) → Attends G settings tells before visits after
-          → VisitsShow G looks tells Shows settings history before visits
-      visits-show before after [] attends = tt
-      visits-show before after (v ∷ vs) attends = (served-shows v.entries _ _ v.ending attends.0, visits-show v.left after vs attends.1)
+module _ {L P D : Type 0} (looks : Looks L P D) (settings : Settings) (Shows : Showing) (history : List Entry)
+    (each : (before more later : List Entry) (e : Entry) (old : Outside) (turn : Seen) → turn.entries ≡ e ∷ more → history ≡ before ++ e ∷ later
+    → Turn settings looks.tells turn.last turn.entries old turn.new turn.stop → Shows before e old turn) where
+  visits-again : (Before : Showing) (before : Kit) (visits : List (Visit L)) → VisitsShow looks Before settings history before visits
+      → VisitsShow looks Shows settings history before visits
+  visits-again Before before [] show = tt
+  visits-again Before before (v ∷ vs) show = (turned-shows settings looks.tells Shows history each {Before = Before} v.entries _ _ v.ending show.0, visits-again Before v.left vs show.1)
 
-      desk-shows : (desk : D) (out : Seat C R T × (D × Bool)) → DeskDone G looks settings tells sight steps turns first desk out → Holds log out.0
-          → DeskShows G looks tells Shows settings history desk out.1.0
-      desk-shows desk out (own, begun, (did, over)) holds =
-          let calls : did.gained.calls ≡ entries_by (number out.0) log =
-          ap (λ (cs : List (Call C R T)). cs ++ did.gained.calls) (sym begun.1) ∙ sym did.gained.mine_are ∙ holds.1.0 in
-          let entries : entries_of did.visits ≡ map (entry_of sight) (entries_by (number out.0) log) = did.gained.entries_are ∙ ap (map (entry_of sight)) calls in
-          record {
-            visits = did.visits;
-            attends = did.attends;
-            came = did.came;
-            went = did.went;
-            lie = subst (λ (h : List Entry). LiesIn (entries_of did.visits) h) (sym history_is)
-                (subst (λ (es : List Entry). LiesIn es (map (entry_of sight) log)) (sym entries) (lie-by (entry_of sight) (number out.0) log));
-            show = visits-show (looks.blobs desk) (looks.blobs out.1.0) did.visits did.attends;
-          }
+  -- desks that showed something else show this too
+  pub desks-again : (Before : Showing) (desks back : List D) → DesksShow looks Before settings history desks back
+      → DesksShow looks Shows settings history desks back
+  desks-again Before [] [] show = tt
+  desks-again Before [] (b ∷ bs) show = absurd show
+  desks-again Before (d ∷ ds) [] show = absurd show
+  desks-again Before (d ∷ ds) (b ∷ bs) show = (
+    record {
+      visits = show.0.visits;
+      attends = show.0.attends;
+      came = show.0.came;
+      went = show.0.went;
+      lie = show.0.lie;
+      show = visits-again Before (looks.kit d) show.0.visits show.0.show;
+    },
+    desks-again Before ds bs show.1,
+  )
 
-      pub desks-show : (desks : List D) (outs : List (Seat C R T × (D × Bool))) → AllZip (DeskDone G looks settings tells sight steps turns first) desks outs
-          → All (Holds log) (map (λ (out : Seat C R T × (D × Bool)). out.0) outs)
-          → DesksShow G looks tells Shows settings history desks (map (λ (out : Seat C R T × (D × Bool)). out.1.0) outs)
-      desks-show [] [] done held = tt
-      desks-show [] (o ∷ os) done held = absurd done
-      desks-show (d ∷ ds) [] done held = absurd done
-      desks-show (d ∷ ds) (o ∷ os) done held = (
-        desk-shows d o done.0 (All-head (Holds log) o.0 (map (λ (out : Seat C R T × (D × Bool)). out.0) os) held),
-        desks-show ds os done.1 (All-tail (Holds log) o.0 (map (λ (out : Seat C R T × (D × Bool)). out.0) os) held),
-      )
+  module _ {C R T : Type 0} (rules : Rules T C R) (apart : AreNamedApart settings.hosted) (start : State) (sound : IsSound settings start) (turns : Turns T C R) (first : Seat C R T)
+      (log : List (Call C R T)) (history_is : history ≡ map (entry_of rules.sight) log) where
+    visits-show : (before after : Kit) (visits : List (Visit L)) → Attends looks settings before visits after
+        → VisitsShow looks Shows settings history before visits
+    visits-show before after [] attends = tt
+    visits-show before after (v ∷ vs) attends = (served-shows settings looks.tells Shows history each apart start sound v.entries _ _ v.ending attends.0, visits-show v.left after vs attends.1)
+
+    desk-shows : (desk : D) (out : Seat C R T × (D × Bool)) → DeskDone looks rules settings turns first desk out → Holds log out.0
+        → DeskShows looks Shows settings history desk out.1.0
+    desk-shows desk out (own, begun, (did, over)) holds =
+        let calls : did.gained.calls ≡ entries_by (number out.0) log =
+        ap (λ (cs : List (Call C R T)). cs ++ did.gained.calls) (sym begun.1) ∙ sym did.gained.mine_are ∙ holds.1.0 in
+        let entries : entries_of did.visits ≡ map (entry_of rules.sight) (entries_by (number out.0) log) = did.gained.entries_are ∙ ap (map (entry_of rules.sight)) calls in
+        record {
+          visits = did.visits;
+          attends = did.attends;
+          came = did.came;
+          went = did.went;
+          lie = subst (λ (h : List Entry). LiesIn (entries_of did.visits) h) (sym history_is)
+              (subst (λ (es : List Entry). LiesIn es (map (entry_of rules.sight) log)) (sym entries) (lie-by (entry_of rules.sight) (number out.0) log));
+          show = visits-show (looks.kit desk) (looks.kit out.1.0) did.visits did.attends;
+        }
+
+    pub desks-show : (desks : List D) (outs : List (Seat C R T × (D × Bool))) → AllZip (DeskDone looks rules settings turns first) desks outs
+        → All (Holds log) (map (λ (out : Seat C R T × (D × Bool)). out.0) outs)
+        → DesksShow looks Shows settings history desks (map (λ (out : Seat C R T × (D × Bool)). out.1.0) outs)
+    desks-show [] [] done held = tt
+    desks-show [] (o ∷ os) done held = absurd done
+    desks-show (d ∷ ds) [] done held = absurd done
+    desks-show (d ∷ ds) (o ∷ os) done held = (
+      desk-shows d o done.0 (All-head (Holds log) o.0 (map (λ (out : Seat C R T × (D × Bool)). out.0) os) held),
+      desks-show ds os done.1 (All-tail (Holds log) o.0 (map (λ (out : Seat C R T × (D × Bool)). out.0) os) held),
+    )

@@ -1,7 +1,5 @@
 -- A run by its one history: what it was opened over, what its history keeps, and what its connections show.
-use Rattle.std.specs.Prelude.{◌≡◌, List, map, Option, Some}
-use Rattle.outside.specs.declared.tells.Tells.{Ghosts}
-use Rattle.outside.specs.Moments.{Moments}
+use Rattle.std.specs.Prelude.{◌≡◌, List, map, Some}
 use Rattle.repo_model.specs.History.{Entry, Legal}
 use Rattle.repo_model.specs.Settings.{Settings}
 use Rattle.repo_model.specs.State.{State}
@@ -13,9 +11,10 @@ use Rattle.repo_laws.specs.Sound.{AreNamedApart, IsSound}
 use Rattle.repo_core.specs.Whole.{Whole}
 use Rattle.store_check.specs.Checking.{Recorded}
 use Rattle.repo_run.specs.Begun.{Begins}
-use Rattle.repo_run.specs.Surroundings.{FirstOnly}
+use Rattle.repo_run.specs.Surroundings.{FirstOnly, View}
 use Rattle.closed_laws.specs.Streams.{ShowsWhatWasNamed}
-use Rattle.desk_work.specs.Working.{Looks}
+use Rattle.run_desks.specs.Seen.{Floor, Looks}
+use Rattle.run_serve.specs.Serving.{OtherBlobs}
 use Rattle.served_laws.specs.Shown.{DesksShow}
 
 -- A legal history from a sound state: every file that a document of it names is answered behind it, up to the grace after that
@@ -41,11 +40,11 @@ RecordsTables settings records records' run =
 -- Of a server under these settings either no connection was handed out and no table changed; or its repository was opened over
 -- the records and the first desk's blobs, and has one history, in which each connection of each desk shows every file that a
 -- document named before, and in time.
-pub data ServerShows {L P D : Type 0} (G : Ghosts L) (looks : Looks L P D) (tells : Type 0) (settings : Settings) (records records' : Recorded) (clock : Option Moments) (desks back : List D) : Type 0 where
-  idle : map looks.port back ≡ map looks.port desks → records'.tables ≡ records.tables → ServerShows G looks tells settings records records' clock desks back
+pub data ServerShows {L P D : Type 0} (looks : Looks L P D) (settings : Settings) (old new : View (Floor (List D))) : Type 0 where
+  idle : map looks.port new.place.desks ≡ map looks.port old.place.desks → new.records.tables ≡ old.records.tables → ServerShows looks settings old new
   served : (core : Whole) (begun : List D) (history : List Entry)
-      → FirstOnly (λ old new. (looks.port new ≡ looks.port old) × Begins settings records (looks.blobs old) (looks.blobs new) clock core) desks begun
+      → FirstOnly (OtherBlobs looks (λ blobs blobs'. Begins settings old.records blobs blobs' old.clock core)) old.place.desks begun
       → IsClosed settings core.state history
-      → DesksShow G looks tells (ShowsWhatWasNamed settings core.state) settings history begun back
-      → RecordsTables settings records records' (record { start = core.state; entries = history })
-      → ServerShows G looks tells settings records records' clock desks back
+      → DesksShow looks (ShowsWhatWasNamed settings core.state) settings history begun new.place.desks
+      → RecordsTables settings old.records new.records (record { start = core.state; entries = history })
+      → ServerShows looks settings old new

@@ -1,17 +1,15 @@
 -- What the connections of desks show of the files that documents named, each turn at its place in one history.
 use Rattle.std.specs.Prelude.{◌≡◌, List, [], ◌∷◌, ◌++◌, map}
 use Rattle.std.specs.List.{AllZip}
-use Rattle.outside.specs.declared.tells.Tells.{Ghosts}
 use Rattle.outside.specs.Told.{behind, in_front}
 use Rattle.repo_model.specs.History.{Entry}
 use Rattle.repo_model.specs.Settings.{Settings}
 use Rattle.repo_course.specs.Asking.{LiesIn}
-use Rattle.repo_course.specs.Cleaning.{Store}
-use Rattle.repo_course.specs.Serving.{Outside, outside}
+use Rattle.repo_course.specs.Serving.{Outside}
 use Rattle.repo_course.specs.declared.outcomes.End.{End}
 use Rattle.closed_laws.specs.Streams.{AreTurns, Seen}
+use Rattle.run_desks.specs.Seen.{Kit, Looks, around}
 use Rattle.desk_work.specs.Visits.{Attends, Visit, entries_of}
-use Rattle.desk_work.specs.Working.{Looks}
 
 -- what a turn shows, that was seen from this on and whose first entry stands behind those of a history
 abbrev pub Showing : Type 1
@@ -30,22 +28,22 @@ pub record ConnectionShows (Shows : Showing) (settings : Settings) (tells : Type
   pub are : AreTurns settings tells 1000 turns entries old new ending
   pub show : AllShowIn Shows history old turns
 
-module _ {L P D : Type 0} (G : Ghosts L) (looks : Looks L P D) (tells : Type 0) (Shows : Showing) (settings : Settings) (history : List Entry) where
+module _ {L P D : Type 0} (looks : Looks L P D) (Shows : Showing) (settings : Settings) (history : List Entry) where
   -- each of these connections in turn does
-  abbrev pub VisitsShow : Store → List (Visit L) → Type 0
+  abbrev pub VisitsShow : Kit → List (Visit L) → Type 0
   VisitsShow before [] = Unit {0}
   VisitsShow before (v ∷ vs) =
-      ConnectionShows Shows settings tells history v.entries (outside G [] v.came before.faults before.shelf) (outside G v.held v.went v.left.faults v.left.shelf) v.ending
+      ConnectionShows Shows settings looks.tells history v.entries (around looks [] v.came before) (around looks v.held v.went v.left) v.ending
       × VisitsShow v.left vs
 
   -- A desk was handed these connections, served each and gave each back; their entries stand in the history in their order
   pub record DeskShows (desk back : D) : Type 0 where
     pub visits : List (Visit L)
-    pub attends : Attends G settings tells (looks.blobs desk) visits (looks.blobs back)
+    pub attends : Attends looks settings (looks.kit desk) visits (looks.kit back)
     pub came : looks.left (looks.port desk) ≡ in_front (map (λ (v : Visit L). v.came) visits) (looks.left (looks.port back))
     pub went : looks.given_back (looks.port back) ≡ behind (looks.given_back (looks.port desk)) (map (λ (v : Visit L). v.went) visits)
     pub lie : LiesIn (entries_of visits) history
-    pub show : VisitsShow (looks.blobs desk) visits
+    pub show : VisitsShow (looks.kit desk) visits
 
   -- so did all desks
   abbrev pub DesksShow : List D → List D → Type 0

@@ -1,7 +1,5 @@
 //! What follows for the files that served documents name. No function here has code: its contract is the law.
-ghost use Rattle.std.specs.Prelude.{◌≡◌, ℕ, List, [], ◌∷◌, ◌++◌, Option, Some};
-ghost use Rattle.outside.specs.Moments.{Moments};
-ghost use Rattle.outside.specs.Told.{in_front};
+ghost use Rattle.std.specs.Prelude.{◌≡◌, ℕ, List, [], ◌∷◌, ◌++◌, Some};
 ghost use Rattle.repo_model.specs.Command.{look};
 ghost use Rattle.repo_model.specs.History.{Legal, end};
 ghost use Rattle.repo_model.specs.Settings.{Settings};
@@ -10,18 +8,16 @@ ghost use Rattle.repo_laws.specs.Holds.{Holds, InOrder, told, with_items};
 ghost use Rattle.repo_laws.specs.InRange.{Follow, Run};
 ghost use Rattle.repo_laws.specs.Sound.{AreNamedApart, IsSound};
 ghost use Rattle.repo_laws.specs.Worked.{releases, shop};
-ghost use Rattle.repo_course.specs.Cleaning.{Store, store};
 ghost use Rattle.repo_course.specs.Serving.{AllTell, Outside};
 ghost use Rattle.repo_course.specs.declared.outcomes.End.{End};
 ghost use Rattle.run_desks.specs.declared.objects.Desk.{Desk};
-ghost use Rattle.run_lines.specs.Printing.{Output};
-ghost use Rattle.store_check.specs.Checking.{Recorded};
+ghost use Rattle.run_desks.specs.Seen.{Floor, looks};
 ghost use Rattle.repo_run.specs.Replay.{IsReplayed};
-ghost use Rattle.repo_run.specs.Surroundings.{Connection, outside_at};
+ghost use Rattle.repo_run.specs.Surroundings.{Served, View, outside_of, outside_with, with_store};
 ghost use Rattle.closed_laws.specs.Named.{WasNamed};
 ghost use Rattle.closed_laws.specs.Streams.{ShowsWhatWasNamed};
-ghost use Rattle.run_serve.specs.Serving.{Broom, ServesBy};
-ghost use Rattle.turn_lock.specs.History.{IsStep};
+ghost use Rattle.desk_work.specs.Rules.{rules};
+ghost use Rattle.run_serve.specs.Serving.{ServesBy};
 ghost use Rattle.served_laws.specs.Restarted.{RestartShows, ShowsWhatWasNamedIn};
 ghost use Rattle.served_laws.specs.Runs.{IsClosed, RecordsTables, ServerShows};
 ghost use Rattle.served_laws.specs.Shown.{ConnectionShows, DesksShow};
@@ -40,33 +36,19 @@ use turn_seats::Repository;
 /// file's bytes and both checksums, whole, or an alternative with its cause; so for its side files. What the history recorded is
 /// what the records tell in the end, where they tell.
 pub fn servers_serve_named_files<P: Port, B: Blobs, K: Records, C: Clock>()
-    ensures { (settings : Settings) (records records' : Recorded) (clock clock' : Option Moments) (desks back : List (Desk P B P.Link B.Held B.Pen)) (old new : Broom) (out out' : Output) (status : ℕ) →
-        ServesBy ⟦<P::Link as Tells>⟧ (record {
-          left = P.left;
-          given_back = P.given_back;
-          faults = P.faults;
-          port = λ desk. desk.port;
-          blobs = λ desk. store (B.shelf desk.blobs) (B.faults desk.blobs);
-        }) (AllTell B.Held.bytes) ⟦<Core<K, C, B::Held> as Repository>⟧.sight
-        (IsStep ⟦<Core<K, C, B::Held> as Thing>⟧.fixed ⟦<Core<K, C, B::Held> as Thing>⟧.may_ask ⟦<Core<K, C, B::Held> as Thing>⟧.turned)
-        settings records records' clock clock' desks back old new out out' status →
-        ServerShows ⟦<P::Link as Tells>⟧ (record {
-          left = P.left;
-          given_back = P.given_back;
-          faults = P.faults;
-          port = λ desk. desk.port;
-          blobs = λ desk. store (B.shelf desk.blobs) (B.faults desk.blobs);
-        }) (AllTell B.Held.bytes) settings records records' clock desks back }
+    ensures { (settings : Settings) (old new : View (Floor (List (Desk P B P.Link B.Held B.Pen)))) (status : ℕ) →
+        ServesBy (looks ⟦<P as Port>⟧ ⟦<P::Link as Tells>⟧ ⟦<B as Blobs>⟧ ⟦<B::Held as Held>⟧)
+        (rules ⟦<Core<K, C, B::Held> as Thing>⟧ ⟦<Core<K, C, B::Held> as Repository>⟧.sight) settings old new status →
+        ServerShows (looks ⟦<P as Port>⟧ ⟦<P::Link as Tells>⟧ ⟦<B as Blobs>⟧ ⟦<B::Held as Held>⟧) settings old new }
 {}
 
 /// So is it of the connection that a replay serves, whose entries are the whole history.
 pub fn replays_serve_named_files<H: Held>()
-    ensures { (settings : Settings) (records records' : Recorded) (clock clock' : Option Moments) (old new : Connection) (blobs blobs' : Store) (ending : End) (calls : ℕ)
-        (replayed : IsReplayed (AllTell H.bytes) settings records records' clock clock' old new blobs blobs' ending calls) →
+    ensures { (settings : Settings) (old new : View Served) (ending : End) (calls : ℕ) (replayed : IsReplayed (AllTell H.bytes) settings old new ending calls) →
         IsClosed settings replayed.begun.state replayed.entries
         × ConnectionShows (ShowsWhatWasNamed settings replayed.begun.state) settings (AllTell H.bytes) replayed.entries replayed.entries
-        (outside_at old.left old replayed.cleared) (outside_at (in_front replayed.held new.left) new blobs') ending
-        × RecordsTables settings records records' (record { start = replayed.begun.state; entries = replayed.entries }) }
+        (outside_of (with_store replayed.cleared old.place)) (outside_with replayed.held new.place) ending
+        × RecordsTables settings old.records new.records (record { start = replayed.begun.state; entries = replayed.entries }) }
 {}
 
 /// Across restarts: what a document named in one run under these settings, each turn of each desk's connection of a later run shows
@@ -77,20 +59,8 @@ pub fn later_runs_serve_named_files<P: Port, B: Blobs>()
     ensures desks { (settings : Settings) (tables : Tables) (earlier : Run) (between : List Run) (later : Run) (desks back : List (Desk P B P.Link B.Held B.Pen)) →
         AreNamedApart settings.hosted → IsSound settings earlier.start → InOrder tables → Holds tables earlier.start → Legal settings earlier.start earlier.entries →
         Follow settings (with_items tables (told settings earlier.start earlier.entries)) (end settings earlier.start earlier.entries).last (between ++ later ∷ []) →
-        DesksShow ⟦<P::Link as Tells>⟧ (record {
-          left = P.left;
-          given_back = P.given_back;
-          faults = P.faults;
-          port = λ desk. desk.port;
-          blobs = λ desk. store (B.shelf desk.blobs) (B.faults desk.blobs);
-        }) (AllTell B.Held.bytes) (ShowsWhatWasNamed settings later.start) settings later.entries desks back →
-        DesksShow ⟦<P::Link as Tells>⟧ (record {
-          left = P.left;
-          given_back = P.given_back;
-          faults = P.faults;
-          port = λ desk. desk.port;
-          blobs = λ desk. store (B.shelf desk.blobs) (B.faults desk.blobs);
-        }) (AllTell B.Held.bytes) (ShowsWhatWasNamedIn settings earlier later.start) settings later.entries desks back }
+        DesksShow (looks ⟦<P as Port>⟧ ⟦<P::Link as Tells>⟧ ⟦<B as Blobs>⟧ ⟦<B::Held as Held>⟧) (ShowsWhatWasNamed settings later.start) settings later.entries desks back →
+        DesksShow (looks ⟦<P as Port>⟧ ⟦<P::Link as Tells>⟧ ⟦<B as Blobs>⟧ ⟦<B::Held as Held>⟧) (ShowsWhatWasNamedIn settings earlier later.start) settings later.entries desks back }
     ensures alone { (settings : Settings) (tables : Tables) (earlier : Run) (between : List Run) (later : Run) (old new : Outside) (ending : End) →
         AreNamedApart settings.hosted → IsSound settings earlier.start → InOrder tables → Holds tables earlier.start → Legal settings earlier.start earlier.entries →
         Follow settings (with_items tables (told settings earlier.start earlier.entries)) (end settings earlier.start earlier.entries).last (between ++ later ∷ []) →
@@ -102,34 +72,13 @@ pub fn later_runs_serve_named_files<P: Port, B: Blobs>()
 /// tables: each desk of the later one shows what a document of the earlier one named, in time, where no entry of it is earlier than
 /// the end of the other.
 pub fn restarted_servers_serve_named_files<P: Port, B: Blobs, K: Records, C: Clock>()
-    ensures { (settings : Settings) (tables : Tables) (records records' later_records later_records' : Recorded) (clock clock' later_clock later_clock' : Option Moments)
-        (desks back later_desks later_back : List (Desk P B P.Link B.Held B.Pen)) (old new later_old later_new : Broom) (out out' later_out later_out' : Output) (status later_status : ℕ) →
-        records.tables ≡ Some tables → later_records.tables ≡ records'.tables →
-        ServesBy ⟦<P::Link as Tells>⟧ (record {
-          left = P.left;
-          given_back = P.given_back;
-          faults = P.faults;
-          port = λ desk. desk.port;
-          blobs = λ desk. store (B.shelf desk.blobs) (B.faults desk.blobs);
-        }) (AllTell B.Held.bytes) ⟦<Core<K, C, B::Held> as Repository>⟧.sight
-        (IsStep ⟦<Core<K, C, B::Held> as Thing>⟧.fixed ⟦<Core<K, C, B::Held> as Thing>⟧.may_ask ⟦<Core<K, C, B::Held> as Thing>⟧.turned)
-        settings records records' clock clock' desks back old new out out' status →
-        ServesBy ⟦<P::Link as Tells>⟧ (record {
-          left = P.left;
-          given_back = P.given_back;
-          faults = P.faults;
-          port = λ desk. desk.port;
-          blobs = λ desk. store (B.shelf desk.blobs) (B.faults desk.blobs);
-        }) (AllTell B.Held.bytes) ⟦<Core<K, C, B::Held> as Repository>⟧.sight
-        (IsStep ⟦<Core<K, C, B::Held> as Thing>⟧.fixed ⟦<Core<K, C, B::Held> as Thing>⟧.may_ask ⟦<Core<K, C, B::Held> as Thing>⟧.turned)
-        settings later_records later_records' later_clock later_clock' later_desks later_back later_old later_new later_out later_out' later_status →
-        RestartShows ⟦<P::Link as Tells>⟧ (record {
-          left = P.left;
-          given_back = P.given_back;
-          faults = P.faults;
-          port = λ desk. desk.port;
-          blobs = λ desk. store (B.shelf desk.blobs) (B.faults desk.blobs);
-        }) (AllTell B.Held.bytes) settings records later_records clock later_clock desks back later_desks later_back }
+    ensures { (settings : Settings) (tables : Tables) (old new later_old later_new : View (Floor (List (Desk P B P.Link B.Held B.Pen)))) (status later_status : ℕ) →
+        old.records.tables ≡ Some tables → later_old.records.tables ≡ new.records.tables →
+        ServesBy (looks ⟦<P as Port>⟧ ⟦<P::Link as Tells>⟧ ⟦<B as Blobs>⟧ ⟦<B::Held as Held>⟧)
+        (rules ⟦<Core<K, C, B::Held> as Thing>⟧ ⟦<Core<K, C, B::Held> as Repository>⟧.sight) settings old new status →
+        ServesBy (looks ⟦<P as Port>⟧ ⟦<P::Link as Tells>⟧ ⟦<B as Blobs>⟧ ⟦<B::Held as Held>⟧)
+        (rules ⟦<Core<K, C, B::Held> as Thing>⟧ ⟦<Core<K, C, B::Held> as Repository>⟧.sight) settings later_old later_new later_status →
+        RestartShows (looks ⟦<P as Port>⟧ ⟦<P::Link as Tells>⟧ ⟦<B as Blobs>⟧ ⟦<B::Held as Held>⟧) settings old new later_old later_new }
 {}
 
 /// A worked case of what these laws speak of: a release is put, the document of its versions, which is answered next, names it, and

@@ -1,18 +1,17 @@
 -- The copy of the settings is started by; or memory was wanting for it.
 use Rattle.std.proofs.Common.{subst, sym}
 use Rattle.repo_config.specs.Form.{IsSettings}
-use Rattle.repo_course.specs.Cleaning.{store}
 use Rattle.repo_model.specs.Settings.{Settings}
-use Rattle.store_check.specs.Checking.{recorded}
+use Rattle.run_desks.specs.Seen.{store_seen}
 use Rattle.repo_run.specs.Begun.{Begins}
+use Rattle.repo_run.specs.Surroundings.{records_seen}
 use Rattle.repo_run.proofs.NotBegun.{not-begun}
 use Rattle.repo_run.proofs.begun.begin.Goals as goal
 
 pub returns-in-Ok-start-clause-ok : goal.returns-in-Ok-start-clause-ok
 returns-in-Ok-start-clause-ok g c =
     let s = c.in-Ok-start.ensures in
-    subst (λ (own : Settings). Begins own (recorded (g.K.Records.tables c.args.records) (g.K.Records.loading c.args.records) (g.K.Records.faults c.args.records))
-    (store (g.B.Blobs.shelf c.args.blobs.now) (g.B.Blobs.faults c.args.blobs.now)) (store (g.B.Blobs.shelf c.start.new.blobs) (g.B.Blobs.faults c.start.new.blobs))
+    subst (λ (own : Settings). Begins own (records_seen g.K.Records c.args.records) (store_seen g.B.Blobs c.args.blobs.now) (store_seen g.B.Blobs c.start.new.blobs)
     (g.C.Clock.moments c.args.clock) c.in-Ok-start.core) c.in-Ok.ensures
     (record {
       form = subst IsSettings (sym c.in-Ok.ensures) c.form.ensures;

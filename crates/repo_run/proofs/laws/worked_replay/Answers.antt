@@ -14,7 +14,7 @@ taken settings n scene written end is ends output ending (in_full out so) = inl 
 taken settings n scene written end is ends output ending (wants_memory front head_only is_front answers out so) = inr (front, head_only, out)
 
 pub returns : goal.returns
-returns g c settings records records' clock clock' moments old new blobs blobs' ending calls replayed fresh told calm =
+returns g c settings old new moments ending calls replayed fresh told calm =
     let worked = put_and_get settings (Some moments) in
-    taken _ _ _ _ _ worked.0 worked.1 new.taken ending
+    taken _ _ _ _ _ worked.0 worked.1 new.place.connection.taken ending
     (replayed.faultless fresh moments (put_abc ++ last_get) [] told (record { reads = calm.reads; writes = calm.writes; blobs = calm.blobs }))

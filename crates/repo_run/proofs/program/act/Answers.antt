@@ -1,7 +1,7 @@
 -- What each command does, beside what it leaves alone.
 use Rattle.std.proofs.Common.{refl, ap}
 use Rattle.repo_course.specs.Cleaning.{store}
-use Rattle.repo_run.specs.Surroundings.{desk_state}
+use Rattle.repo_run.proofs.FirstDesk.{desk_of}
 use Rattle.repo_run.proofs.program.act.Goals as goal
 
 pub returns-in-Replay-clause-run : goal.returns-in-Replay-clause-run
@@ -11,9 +11,9 @@ pub returns-in-Check-clause-run : goal.returns-in-Check-clause-run
 returns-in-Check-clause-run g c =
     let desk = c.args.desk.now in
     let looked = c.check-status.ensures in
-    let kept = ap (λ shelf. desk_state (g.P.Port.left desk.port) (g.P.Port.given_back desk.port) (g.P.Port.faults desk.port)
-    (store shelf (g.B.Blobs.faults c.check-status.new.blobs))) looked.kept in
-    rw c.in-Check.is (looked.checks, kept, looked.tables, refl, refl)
+    let kept = ap (λ shelf. desk_of (g.P.Port.left desk.port) (g.P.Port.given_back desk.port) (g.P.Port.faults desk.port)
+    (record { blobs = store shelf (g.B.Blobs.faults c.check-status.new.blobs) })) looked.kept in
+    rw c.in-Check.is ((looked.checks, kept, looked.tables, refl), refl)
 
 pub returns-in-Clean-clause-run : goal.returns-in-Clean-clause-run
-returns-in-Clean-clause-run g c = rw c.in-Clean.is (c.clean.ensures, refl)
+returns-in-Clean-clause-run g c = rw c.in-Clean.is (c.clean.ensures, refl, refl)

@@ -1,6 +1,9 @@
 -- The words are carried out with the first desk, or memory was wanting to read them.
-use Rattle.std.proofs.Common.{ℕ, ◌<◌, subst, sym, ap}
+use Rattle.std.proofs.Common.{ℕ, ◌<◌, subst, ap}
+use Rattle.run_desks.specs.Seen.{looks}
 use Rattle.repo_run.specs.declared.actions.Wanted.{Wanted}
+use Rattle.repo_run.specs.Running.{at_desk}
+use Rattle.repo_run.specs.Surroundings.{output_seen, view}
 use Rattle.repo_run.proofs.FirstDesk.{first-same, first-set}
 use Rattle.repo_run.proofs.Starved.{starved-run}
 use Rattle.repo_run.proofs.program.run_once.Goals as goal
@@ -13,5 +16,6 @@ returns-in-Ok-clause-run g c =
 
 pub returns-in-Err-clause-run : goal.returns-in-Err-clause-run
 returns-in-Err-clause-run g c =
+    let old = view g.S.Tells g.B.Blobs g.Q.Pace g.K.Records g.C.Clock g.O.Tells c.args.settings.now c.args.desks.items c.args.cleaner c.args.records c.args.clock c.args.out.now in
     first-same c.args.desks.items _ (subst (λ (n : ℕ). 0 < n) c.args.desks.ok.0 c.requires)
-    (λ desk. starved-run _ _ _ _ _ _ _ c.fault-status.ensures.prints c.fault-status.ensures.status)
+    (λ desk. starved-run (looks g.P.Port g.P.Link.Tells g.B.Blobs g.B.Held.Held) _ (at_desk desk old) (output_seen g.O.Tells c.fault-status.new.out) _ c.fault-status.ensures.prints c.fault-status.ensures.status)

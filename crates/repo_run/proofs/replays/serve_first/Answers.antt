@@ -1,7 +1,7 @@
 -- The port's first connection is served and given back, or there is none, or the port failed.
 use Rattle.std.proofs.Common.{[], ◌∷◌, refl, ap, ◌∙◌}
 use Rattle.outside.specs.Told.{behind}
-use Rattle.repo_course.specs.Cleaning.{store}
+use Rattle.run_desks.specs.Seen.{store_seen}
 use Rattle.repo_run.specs.FirstConnection.{port_failed, one_served}
 use Rattle.repo_run.proofs.FirstDesk.{same_desk}
 use Rattle.repo_run.proofs.replays.serve_first.Goals as goal
@@ -13,7 +13,7 @@ returns-in-Ok-Some g c =
     let taken = rw c.in-Ok-Some.field-0-is at next.given in
     let s = c.serve_stream-end.ensures.serves in
     one_served c.in-Ok-Some.link c.serve_stream-end.new.stream (g.P.Port.left c.next.new.self) s.0
-    (store (g.B.Blobs.shelf c.serve_stream-end.new.blobs) (g.B.Blobs.faults c.serve_stream-end.new.blobs)) c.serve_stream-end.result s.1 taken
+    (record { blobs = store_seen g.B.Blobs c.serve_stream-end.new.blobs }) c.serve_stream-end.result s.1 taken
     (same_desk _ _ _ _ _ _ _ back.left (back.given_back ∙ ap (λ t. behind t (c.serve_stream-end.new.stream ∷ [])) next.given_back) (back.faults ∙ next.cause))
     s.2 s.4 refl
 

@@ -1,9 +1,7 @@
 -- The settings are read, and served by; or not.
-use Rattle.std.proofs.Common.{refl}
-use Rattle.run_serve.specs.Serving.{read}
+use Rattle.repo_run.specs.Surroundings.{output_seen}
+use Rattle.run_serve.proofs.Outcomes.{serves-read}
 use Rattle.run_serve.proofs.serving.serve.Goals as goal
 
 pub returns-in-Ok : goal.returns-in-Ok
-returns-in-Ok g c =
-    let was = c.in-Ok.ensures in
-    record { serves = read c.in-Ok.settings (was.0, was.1, refl) (rw was.2 at c.serve_by.ensures.serves) }
+returns-in-Ok g c = record { serves = serves-read _ _ c.in-Ok.settings _ _ _ (output_seen g.O.Tells c.settings_of.new.out) c.in-Ok.ensures (c.serve_by.ensures.serves _ _) }

@@ -3,5 +3,4 @@ use Rattle.served_laws.proofs.Servers.{server-shows}
 use Rattle.served_laws.proofs.laws.servers_serve_named_files.Goals as goal
 
 pub returns : goal.returns
-returns g c settings records records' clock clock' desks back old new out out' status serves =
-    server-shows _ _ _ _ _ (λ w. refl) (λ w. refl) (λ before after call reply step. step.1.turn) settings records records' clock clock' desks back old new out out' status serves
+returns g c settings old new status serves = server-shows _ _ (λ w. refl) (λ w. refl) (λ before after call reply step. step.1.turn) settings old new status serves

@@ -1,0 +1,65 @@
+-- What is seen of the things that a run works with: its desks, each with its own things, and its cleaner.
+use Rattle.std.specs.Prelude.{ℕ, List, Option}
+use Rattle.outside.specs.declared.ports.Port.{Ghosts as Listening}
+use Rattle.outside.specs.declared.stores.Blobs.{Ghosts as Storing}
+use Rattle.outside.specs.declared.stores.Held.{Ghosts as Holding}
+use Rattle.outside.specs.declared.tells.Tells.{Ghosts as Telling}
+use Rattle.outside_pace.specs.declared.pace.Pace.{Ghosts as Pacing}
+use Rattle.outside_pace.specs.Pauses.{Pauses}
+use Rattle.repo_course.specs.Cleaning.{Store, store}
+use Rattle.repo_course.specs.Serving.{AllTell, Outside, outside}
+use Rattle.run_desks.specs.declared.objects.Cleaner.{Cleaner}
+use Rattle.run_desks.specs.declared.objects.Desk.{Desk}
+
+-- what a desk's own things tell: its store of blobs
+pub record Kit : Type 0 where
+  pub blobs : Store
+
+-- the same with other blobs
+abbrev pub with_blobs : Store → Kit → Kit
+with_blobs blobs kit = record kit { blobs = blobs }
+
+-- how desks are seen: what a connection tells; of a port the connections that it will hand out, those that came back, and how many
+-- of its calls have failed; a desk's port and its own things; and that blobs in use tell their bytes
+pub record Looks (L P D : Type 0) : Type 1 where
+  pub link : Telling L
+  pub left : P → Option (List L)
+  pub given_back : P → Option (List L)
+  pub faults : P → ℕ
+  pub port : D → P
+  pub kit : D → Kit
+  pub tells : Type 0
+
+abbrev pub store_seen : {B H N : Type 0} → Storing B H N → B → Store
+store_seen stores blobs = store (stores.shelf blobs) (stores.faults blobs)
+
+abbrev pub looks : {P B L H N : Type 0} → Listening P L → Telling L → Storing B H N → Holding H → Looks L P (Desk P B L H N)
+looks ports links stores held = record {
+  link = links;
+  left = ports.left;
+  given_back = ports.given_back;
+  faults = ports.faults;
+  port = λ desk. desk.port;
+  kit = λ desk. record { blobs = store_seen stores desk.blobs };
+  tells = AllTell held.bytes;
+}
+
+-- what is seen while a connection is served with these things, of which these bytes are held
+abbrev pub around : {L P D : Type 0} → Looks L P D → List ℕ → L → Kit → Outside
+around looks held link kit = outside looks.link held link kit.blobs.faults kit.blobs.shelf
+
+-- the cleaner: the pauses that its timer tells, and its blobs
+pub record Broom : Type 0 where
+  pub pauses : Option Pauses
+  pub blobs : Store
+
+abbrev pub broom : {B Q H N : Type 0} → Storing B H N → Pacing Q → Cleaner B Q H N → Broom
+broom stores paces cleaner = record { pauses = paces.pauses cleaner.pace; blobs = store_seen stores cleaner.blobs }
+
+-- what a run works with: a desk or several, and the cleaner
+pub record Floor (D : Type 0) : Type 0 where
+  pub desks : D
+  pub cleaner : Broom
+
+abbrev pub floor : {B Q H N D : Type 0} → Storing B H N → Pacing Q → D → Cleaner B Q H N → Floor D
+floor stores paces desks cleaner = record { desks = desks; cleaner = broom stores paces cleaner }
