@@ -18,7 +18,7 @@ use Rattle.repo_model.specs.Document.{document, listed_in}
 use Rattle.repo_laws.specs.Laws.{AnyByRecursion}
 use Rattle.repo_laws.specs.Closed.{gives_file, named}
 use Rattle.repo_laws.specs.Described.{IsAmong, IsFileOf, IsIn, ListsVersions, Describes}
-use Rattle.repo_laws.proofs.DocumentsDescribe.{row-visible, document-so}
+use Rattle.naming_laws.proofs.DocumentsDescribe.{row-visible, document-so}
 use Rattle.naming_laws.specs.Named.{IsOfVersion, IsOfRelease}
 use Rattle.naming_laws.proofs.Ones.{any-found, among-any, any-passes, passes-any}
 use Rattle.naming_laws.proofs.Files.{file-path}

@@ -1,5 +1,8 @@
 pub mod Answered
 pub mod Artifacts
+pub mod Describing
+pub mod DescribingBuilds
+pub mod DocumentsDescribe
 pub mod Files
 pub mod Firsts
 pub mod Kept

@@ -23,7 +23,7 @@ use Rattle.repo_model.specs.Document.{document, listed_in}
 use Rattle.repo_laws.specs.Laws.{AnyByRecursion}
 use Rattle.repo_laws.specs.Closed.{gives_build, gives_file, is_named_so, named}
 use Rattle.repo_laws.specs.Described.{IsAmong, IsVersion, IsFileOf, Adds, ListsBuilds, Describes}
-use Rattle.repo_laws.proofs.DocumentsDescribe.{among-filter, filter-among, row-visible, document-so, document-none}
+use Rattle.naming_laws.proofs.DocumentsDescribe.{among-filter, filter-among, row-visible, document-so, document-none}
 use Rattle.naming_laws.specs.Named.{path_given, IsGiven, IsNewestOfPair}
 use Rattle.naming_laws.proofs.Ones.{any-found, among-any, among-all, all-with, any-passes, passes-any, found-at, at-found, build-ties, neither-greater}
 use Rattle.naming_laws.proofs.Files.{file-path}

@@ -8,9 +8,6 @@ mod documents;
 mod ends;
 mod puts;
 
-pub use documents::{
-    artifacts_name_releases, given_files_are_answered, snapshots_name_the_newest,
-    worked_documents_name,
-};
+pub use documents::{documents_name_their_rows, given_files_are_answered, worked_documents_name};
 pub use ends::what_is_left_was_given;
 pub use puts::{files_stay_until_collected, puts_again_keep_files};

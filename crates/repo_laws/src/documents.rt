@@ -1,5 +1,5 @@
 //! Each file that a served document names is answered up to the grace.
-ghost use Rattle.std.specs.Prelude.{◌≡◌, ◌↔◌, ℕ, ◌+◌, ◌≤◌, List, [], ◌∷◌, None, Some, Ok, IsTrue};
+ghost use Rattle.std.specs.Prelude.{◌≡◌, ℕ, ◌+◌, ◌≤◌, List, ◌∷◌, Ok, IsTrue};
 ghost use Rattle.std.specs.List.{AllByRecursion};
 ghost use Rattle.mvn_coords.specs.Kind.{kind};
 ghost use Rattle.mvn_coords.specs.declared.kind.Kind.TheVariants.{Doc, DocSide};
@@ -7,12 +7,10 @@ ghost use Rattle.mvn_coords.specs.declared.fault.Side.{Side};
 ghost use Rattle.mvn_coords.specs.Layout.{Directory};
 ghost use Rattle.mvn_digest.specs.declared.digests.Digests.{Digests};
 ghost use Rattle.mvn_digest.specs.Digests.{digests_of};
-ghost use Rattle.mvn_metadata.specs.Document.{Document, dotted};
+ghost use Rattle.mvn_metadata.specs.Document.{Document};
 ghost use Rattle.mvn_metadata.specs.Written as written;
 ghost use Rattle.repo_model.specs.Settings.{Settings};
-ghost use Rattle.repo_model.specs.Data.{Blob, Row, listed};
-ghost use Rattle.repo_model.specs.Paths.{file_at};
-ghost use Rattle.repo_model.specs.Document.{document, listed_in};
+ghost use Rattle.repo_model.specs.Data.{Blob, Row};
 ghost use Rattle.repo_model.specs.State.{State, rows_of};
 ghost use Rattle.repo_model.specs.Command.{look, is_file_path};
 ghost use Rattle.repo_model.specs.Reply.{doc, text};
@@ -20,7 +18,6 @@ ghost use Rattle.mvn_digest.specs.Sides.{side_text};
 ghost use Rattle.repo_model.specs.History.{Entry, Fits, Legal, after, end};
 ghost use Rattle.repo_laws.specs.Laws.{Stands};
 ghost use Rattle.repo_laws.specs.Sound.{AreNamedApart, IsSound};
-ghost use Rattle.repo_laws.specs.Described.{IsAmong, IsFileOf, Describes};
 ghost use Rattle.repo_laws.specs.Closed.{named, AnswersDocument, AnswersUpTo, StandsInTime, Closed};
 
 /// In every legal history from a sound state each file that a served document names is answered at its own address with its
@@ -51,16 +48,4 @@ pub fn documents_are_computed()
     ensures side { (settings : Settings) (s : State) (e : Entry) (repo path tried : List ℕ) (d : Directory) (side : Side) (bytes : List ℕ)
         → Fits settings s e → e.command ≡ look repo path tried → kind path ≡ Ok (DocSide d side) → e.reply ≡ text bytes
         → (served : Document) × AnswersDocument s e repo d served × (bytes ≡ side_text side (digests_of (written.text served))) }
-{}
-
-/// A document has its directory's coordinates and is determined by its visible rows. Of an artifact it lists exactly the
-/// version directories with a visible row, in order and each once, and the latest time at which one of these rows was accepted.
-/// Of a snapshot directory it lists each classifier and extension of visible files of builds once, with the newest of these
-/// builds, and the newest build of all. There is none exactly where no row is visible.
-pub fn documents_describe_rows()
-    ensures described { (d : Directory) (rows : List Row) (served : Document) → document d rows ≡ Some served
-        → (served.group ≡ dotted d.group) × (served.artifact ≡ Some d.artifact) × Describes (listed_in d rows) d.version served.listing }
-    ensures none { (d : Directory) (rows : List Row) → (document d rows ≡ None) ↔ (listed_in d rows ≡ []) }
-    ensures visible { (d : Directory) (rows : List Row) (row : Row)
-        → IsAmong row (listed_in d rows) ↔ (IsAmong row rows × (row.phase ≡ listed) × IsFileOf d (file_at row.path)) }
 {}

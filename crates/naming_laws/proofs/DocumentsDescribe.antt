@@ -15,8 +15,8 @@ use Rattle.repo_model.specs.Document.{is_listed, listed_in, described, document,
 use Rattle.repo_laws.specs.Laws.{AnyByRecursion}
 use Rattle.repo_laws.specs.Described.{IsAmong, IsVersion, IsFileOf, IsIn, IsOfBuild, IsNewest, Describes, ListsVersions}
 use Rattle.repo_laws.proofs.Lists.{filter-has, all-then}
-use Rattle.repo_laws.proofs.Describing.{HasPath, versions_of, newest_of, artifact-rows, rising-versions, versions-from, versions-have, latest-rows, snapshot-rows, newest-reaches, newest-from}
-use Rattle.repo_laws.proofs.DescribingBuilds.{lists-builds}
+use Rattle.naming_laws.proofs.Describing.{HasPath, versions_of, newest_of, artifact-rows, rising-versions, versions-from, versions-have, latest-rows, snapshot-rows, newest-reaches, newest-from}
+use Rattle.naming_laws.proofs.DescribingBuilds.{lists-builds}
 
 -- ---- the rows of a directory
 module _ {X : Type 0} (q : X → Bool) where

@@ -24,7 +24,7 @@ use Rattle.repo_model.specs.Paths.{file_at}
 use Rattle.repo_laws.specs.Laws.{AnyByRecursion}
 use Rattle.repo_laws.specs.Described.{Adds, ListsBuilds}
 use Rattle.repo_laws.proofs.Lists.{all-then}
-use Rattle.repo_laws.proofs.Describing.{entry_of, entry_step, entries_then, entries_of, chosen, chosen-above}
+use Rattle.naming_laws.proofs.Describing.{entry_of, entry_step, entries_then, entries_of, chosen, chosen-above}
 
 -- ---- entries
 all-insert_entry : (Q : Entry → Type 0) (es : List Entry) (k : Pair) (v : SnapshotBuild) → Q (k, v) → AllByRecursion Q es → AllByRecursion Q (insert_entry pair_cmp es k v)
