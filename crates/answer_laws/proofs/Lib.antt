@@ -1,0 +1,4 @@
+pub mod Placed
+pub mod Given
+pub mod Walked
+pub mod Due

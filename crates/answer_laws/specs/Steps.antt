@@ -1,0 +1,34 @@
+-- The steps of a course as it is followed: the commands that it asked, and the deeds that it did, each with what came of it.
+use Rattle.std.specs.Prelude.{◌≡◌, ℕ, List, [], ◌∷◌, ◌++◌, Option}
+use Rattle.repo_model.specs.History.{Entry}
+use Rattle.repo_model.specs.Reply.{Reply}
+use Rattle.repo_course.specs.Course.{Close, Course, Deed, Outcome, asks, does}
+use Rattle.repo_course.specs.Serving.{Does, Outside}
+use Rattle.course_laws.specs.Duties.{Duty, MayAsk, MayDo, Stand, due_after, due_done, stand_after, stand_done}
+
+-- a command by its entry; or a deed, its outcome, the entries of the commands that it asked, and what is seen behind it
+pub data Step : Type 0 where
+  asked : Entry → Step
+  did : (deed : Deed) → Outcome deed → List Entry → Outside → Step
+
+-- the entries that these steps made
+abbrev pub made : List Step → List Entry
+made [] = []
+made (asked e ∷ steps) = e ∷ made steps
+made (did deed outcome mine seen ∷ steps) = mine ++ made steps
+
+-- what is due behind a step, where this was due before it
+abbrev pub due_by : (List ℕ → Option Close) → Step → Option Close → Option Close
+due_by by_text (asked e) due = due_after e.command e.reply due
+due_by by_text (did deed outcome mine seen) due = due_done by_text deed outcome due
+
+-- These are steps of a course, one after another: each is its next one and may be made where it stands, and a deed did what is seen
+-- behind it. They lead from a course, where it stands and what is seen to these.
+abbrev pub Leads : Type 0 → Duty → List Step → Course → Stand → Outside → Course → Stand → Outside → Type 0
+Leads tells duty [] c s old d t new = (d ≡ c) × (t ≡ s) × (new ≡ old)
+Leads tells duty (asked e ∷ steps) c s old d t new =
+    (next : Reply → Course) × (c ≡ asks e.command next) × MayAsk e.command s
+    × Leads tells duty steps (next e.reply) (stand_after e.command e.reply s) old d t new
+Leads tells duty (did deed outcome mine seen ∷ steps) c s old d t new =
+    (next : Outcome deed → Course) × (c ≡ does deed next) × MayDo duty.manner deed s × Does tells deed outcome mine old seen
+    × Leads tells duty steps (next outcome) (stand_done duty.by_text deed outcome s) seen d t new

@@ -1,0 +1,137 @@
+-- Why a turn of a served stream is answered as it is: the head, the reply or the deed that its answer is due for, and the cause of each
+-- of its replies, in the state at the place of its entry in a history.
+use Rattle.std.specs.Prelude.{◌≡◌, ℕ, ◌≤◌, Bool, false, List, [], ◌∷◌, ◌++◌, Option, Some, None, IsTrue}
+use Rattle.std.specs.List.{AllByRecursion}
+use Rattle.repo_model.specs.History.{Entry, Fits, end}
+use Rattle.repo_model.specs.Reply.{draft, no_draft, is_free}
+use Rattle.repo_model.specs.Settings.{Settings}
+use Rattle.repo_model.specs.State.{State}
+use Rattle.repo_laws.specs.Causes.{Cause}
+use Rattle.repo_laws.specs.Replies.{is_refusal, spends, uses_draft}
+use Rattle.repo_routes.specs.Framing.{is_head}
+use Rattle.repo_routes.specs.Judge.{judge}
+use Rattle.repo_course.specs.Answers.{answer_of, at_end, memory_answer}
+use Rattle.repo_course.specs.Course.{Close, Course, Deed, Outcome, end_of, rests, says, speaks, stops}
+use Rattle.repo_course.specs.Serving.{Does, Opens, clean, torn, failed, refused, unread_head, starved, served, Outside, Says}
+use Rattle.repo_course.specs.declared.manner.Manner.{Manner}
+use Rattle.repo_course.specs.declared.outcomes.End.{End}
+use Rattle.repo_course.specs.declared.outcomes.End.TheVariants as stream
+use Rattle.repo_course.specs.declared.said.Said.TheVariants as said
+use Rattle.course_laws.specs.Duties.{Duty, HoldsNothing, Stand, due_after, due_done, duty_of, duty_without_head, manner_of, to_end}
+use Rattle.closed_laws.specs.Streams.{Seen}
+use Rattle.answer_laws.specs.Marked.{Mark, entries_of, others_entry, own_entry, own_of}
+use Rattle.answer_laws.specs.Steps.{Leads, Step, asked, did, due_by, made}
+
+-- A turn asks with a draft that an earlier one of its own entries was given, and none of the caller's own since then has spent that; an
+-- entry of another has, in the history before it. `past` are the caller's entries before the turn, `done` those of the turn before it.
+pub record IsSpentByAnother (past done : List Entry) (e : Entry) (before : List Mark) : Type 0 where
+  pub number : ℕ
+  pub first : List Entry
+  pub given : Entry
+  pub since : List Entry
+  pub parts : done ≡ first ++ given ∷ since
+  pub draft_is : given.reply ≡ draft number
+  pub asks : IsTrue (uses_draft number e.command)
+  pub unspent : AllByRecursion (λ (x : Entry). spends number x ≡ false) since
+  pub earlier : List Mark
+  pub between : List Mark
+  pub place : before ≡ earlier ++ own_entry given ∷ between
+  pub lie : own_of earlier ≡ past ++ first
+  pub follow : own_of between ≡ since
+  pub front : List Mark
+  pub other : Entry
+  pub back : List Mark
+  pub other_is : between ≡ front ++ others_entry other ∷ back
+  pub spent : IsTrue (spends number other)
+
+-- no count of faults fell
+pub record NoneFell (old new : Outside) : Type 0 where
+  pub reads : old.read_faults ≤ new.read_faults
+  pub writes : old.write_faults ≤ new.write_faults
+  pub blobs : old.blob_faults ≤ new.blob_faults
+
+-- these steps make no end due
+abbrev pub AreSilent : (List ℕ → Option Close) → List Step → Type 0
+AreSilent by_text steps = AllByRecursion (λ (step : Step). due_by by_text step None ≡ None) steps
+
+-- Why an end is due behind the steps of a turn, where this was due for its head: for the head, and no step makes another due; or for
+-- just one of the steps, a reply that is answered, or a deed that failed, was the last one or refuses what it read. A deed's counts of
+-- faults lie between those before the turn and behind it.
+pub data Why (tells : Type 0) (by_text : List ℕ → Option Close) (due : Option Close) (steps : List Step) (old new : Outside) (close : Close) : Type 0 where
+  by_head : due ≡ Some close → AreSilent by_text steps → Why tells by_text due steps old new close
+  by_reply : (before behind : List Step) (e : Entry) → steps ≡ before ++ asked e ∷ behind → due ≡ None
+      → due_after e.command e.reply None ≡ Some close → AreSilent by_text before → AreSilent by_text behind
+      → Why tells by_text due steps old new close
+  by_deed : (before behind : List Step) (deed : Deed) (outcome : Outcome deed) (mine : List Entry) (from seen : Outside)
+      → steps ≡ before ++ did deed outcome mine seen ∷ behind → due ≡ None
+      → Does tells deed outcome mine from seen → NoneFell old from → NoneFell seen new
+      → due_done by_text deed outcome None ≡ Some close → AreSilent by_text before → AreSilent by_text behind
+      → Why tells by_text due steps old new close
+
+-- How a course ends by what is due, where this body is not read: with an answer in the manner of the request, or with none, and then
+-- the connection goes on only where the body was read.
+abbrev pub EndsBy : Manner → Option ℕ → Close → Course → Outside → Outside → Option End → Type 0
+EndsBy manner unread (speaks what) last mid new stop =
+    let own = manner_of what unread manner in
+    (last ≡ says what own) × Says (answer_of what own) (memory_answer own.head_only) (end_of own) mid new stop
+EndsBy manner unread (rests next) last mid new stop = (last ≡ stops next) × (new ≡ mid) × (stop ≡ next) × (next ≡ None → unread ≡ None)
+
+-- the entries of turns, one after another
+abbrev pub entries_in : List Seen → List Entry
+entries_in [] = []
+entries_in (turn ∷ turns) = turn.entries ++ entries_in turns
+
+module _ (settings : Settings) where
+  -- what a turn owes by its head, or by what comes in place of one
+  abbrev pub owed : {last : Bool} {old mid : Outside} {c : Course} → Opens settings last old mid c → Duty
+  owed (clean begins still is) = to_end (rests (Some stream.Closed)) (at_end false)
+  owed (torn begins still is) = to_end (rests (Some stream.TornRequest)) (at_end false)
+  owed (failed faults rose still is) = to_end (rests (Some stream.SourceFault)) (at_end false)
+  owed (refused fault begins still is) = duty_without_head fault
+  owed (unread_head begins still is) = to_end (speaks said.NoMemory) (at_end false)
+  owed (starved head rest begins uses is) = to_end (speaks said.NoMemory) (at_end (is_head head))
+  owed {last} (served head rest begins uses is) = duty_of (judge settings head) last
+
+  -- A turn is opened by its head, makes the steps of its course, and ends as is due; and why.
+  pub record IsAnsweredByCause (tells : Type 0) (last : Bool) (entries : List Entry) (old new : Outside) (stop : Option End) : Type 0 where
+    pub course : Course
+    pub mid : Outside
+    pub opens : Opens settings last old mid course
+    pub steps : List Step
+    pub finish : Course
+    pub stand : Stand
+    pub to : Outside
+    pub leads : Leads tells (owed opens) steps course (owed opens).stand mid finish stand to
+    pub entries_are : entries ≡ made steps
+    pub holds : HoldsNothing stand
+    pub close : Close
+    pub due : stand.due ≡ Some close
+    pub why : Why tells (owed opens).by_text (owed opens).stand.due steps old new close
+    pub ends : EndsBy (owed opens).manner stand.unread close finish to new stop
+
+  module _ (tells : Type 0) (start : State) (history : List Mark) where
+    -- An entry of a turn is the caller's own in the history, behind its entries before it and before those that follow, and fits the
+    -- state that all entries before it leave: so its reply is the one that is due there, or memory was wanting, or the records failed
+    -- and their count has risen. Where it is refused, the cause is in that state; where it is told that there is no draft, another has
+    -- spent it.
+    pub record IsCaused (past done : List Entry) (e : Entry) (later : List Entry) : Type 0 where
+      pub before : List Mark
+      pub behind : List Mark
+      pub place : history ≡ before ++ own_entry e ∷ behind
+      pub lie : own_of before ≡ past ++ done
+      pub follow : own_of behind ≡ later
+      pub fits : Fits settings (end settings start (entries_of before)) e
+      pub cause : is_free e.reply ≡ false → IsTrue (is_refusal e.reply) → Cause (end settings start (entries_of before)) e.command e.reply
+      pub spent : e.reply ≡ no_draft → IsSpentByAnother past done e before
+
+    -- so does each of a turn's entries, between the caller's before it and behind it
+    abbrev pub AllCaused : List Entry → List Entry → List Entry → List Entry → Type 0
+    AllCaused past done [] rest = Unit {0}
+    AllCaused past done (e ∷ es) rest = IsCaused past done e (es ++ rest) × AllCaused past (done ++ e ∷ []) es rest
+
+    -- each of these turns, between the caller's entries before and behind the stream, ends so, and each of its entries is caused
+    abbrev pub AllAnsweredByCause : List Entry → List Entry → Outside → List Seen → Type 0
+    AllAnsweredByCause past rest old [] = Unit {0}
+    AllAnsweredByCause past rest old (turn ∷ turns) =
+        IsAnsweredByCause tells turn.last turn.entries old turn.new turn.stop × AllCaused past [] turn.entries (entries_in turns ++ rest)
+        × AllAnsweredByCause (past ++ turn.entries) rest turn.new turns
