@@ -5,8 +5,10 @@
 #![tactic(auto)]
 
 mod laws;
+mod seats;
 
 pub use laws::{
     later_runs_serve_named_files, replays_serve_named_files, restarted_servers_serve_named_files,
     servers_serve_named_files, worked_file_is_named,
 };
+pub use seats::seats_of_repositories_see_closed_histories;

@@ -1,0 +1,86 @@
+-- Entries that each fit some state, and what lists of them give back.
+use Rattle.std.proofs.Common.{◌≡◌, inl, inr, ℕ, false, List, [], ◌∷◌, ◌++◌, refl, sym, subst, IsTrue}
+use Rattle.std.specs.List.{AllByRecursion}
+use Rattle.std.proofs.lemmas.Bool.{false≢true}
+use Rattle.repo_model.specs.Command.{Command, unlist, collect}
+use Rattle.repo_model.specs.Data.{Blob}
+use Rattle.repo_model.specs.History.{Entry, Fits, Legal, after}
+use Rattle.repo_model.specs.Reply.{Reply, draft, file, is_free, can_get}
+use Rattle.repo_model.specs.Settings.{Settings}
+use Rattle.repo_model.specs.State.{State}
+use Rattle.repo_laws.proofs.Answered.{reply-can_get}
+use Rattle.repo_laws.specs.Laws.{AnyByRecursion}
+use Rattle.repo_course.specs.Asking.{LiesIn}
+use Rattle.course_laws.proofs.Passes.{ArePass, IsPassCommand}
+use Rattle.desk_laws.specs.Back.{GiveAllBack, SpendDrafts, ReturnLeases}
+
+-- it fits some state
+abbrev pub FitsOne : Settings → Entry → Type 0
+FitsOne settings e = (s : State) × Fits settings s e
+
+there : (settings : Settings) (before rest : List Entry) (e : Entry) (s : State) → Legal settings s (before ++ e ∷ rest) → FitsOne settings e × ((u : State) × Legal settings u rest)
+there settings [] rest e s legal = ((s, legal.0), (after settings s e, legal.1))
+there settings (b ∷ before) rest e s legal = there settings before rest e (after settings s b) legal.1
+
+pub all-fit : (settings : Settings) (entries history : List Entry) (s : State) → Legal settings s history → LiesIn entries history → AllByRecursion (FitsOne settings) entries
+all-fit settings [] history s legal lies = tt
+all-fit settings (e ∷ entries) history s legal (before, rest, parts, lies) =
+    let here = there settings before rest e s (subst (Legal settings s) parts legal) in
+    (here.0, all-fit settings entries rest here.1.0 here.1.1 lies)
+
+module _ {X : Type 0} (P : X → Type 0) where
+  pub all-cut : (xs ys : List X) → AllByRecursion P (xs ++ ys) → AllByRecursion P xs × AllByRecursion P ys
+  all-cut [] ys all = (tt, all)
+  all-cut (x ∷ xs) ys all = let rest = all-cut xs ys all.1 in ((all.0, rest.0), rest.1)
+
+  pub any-left : (xs ys : List X) → AnyByRecursion P xs → AnyByRecursion P (xs ++ ys)
+  any-left [] ys any = absurd any
+  any-left (x ∷ xs) ys (inl here) = inl here
+  any-left (x ∷ xs) ys (inr later) = inr (any-left xs ys later)
+
+  pub any-right : (xs ys : List X) → AnyByRecursion P ys → AnyByRecursion P (xs ++ ys)
+  any-right [] ys any = any
+  any-right (x ∷ xs) ys any = inr (any-right xs ys any)
+
+spend-both : (xs ys : List Entry) → SpendDrafts xs → SpendDrafts ys → SpendDrafts (xs ++ ys)
+spend-both [] ys first rest = rest
+spend-both (x ∷ xs) ys first rest = (λ n is. any-left _ xs ys (first.0 n is), spend-both xs ys first.1 rest)
+
+return-both : (xs ys : List Entry) → ReturnLeases xs → ReturnLeases ys → ReturnLeases (xs ++ ys)
+return-both [] ys first rest = rest
+return-both (x ∷ xs) ys first rest = (λ n blob is. any-left _ xs ys (first.0 n blob is), return-both xs ys first.1 rest)
+
+pub both-back : (xs ys : List Entry) → GiveAllBack xs → GiveAllBack ys → GiveAllBack (xs ++ ys)
+both-back xs ys first rest = record { drafts = spend-both xs ys first.drafts rest.drafts; leases = return-both xs ys first.leases rest.leases }
+
+pub none-back : GiveAllBack []
+none-back = record { drafts = tt; leases = tt }
+
+-- a reply that is given by the state is one that the command can get
+pub draft-by : (settings : Settings) (e : Entry) (n : ℕ) → FitsOne settings e → e.reply ≡ draft n → IsTrue (can_get e.command (draft n))
+draft-by settings e n fits is =
+    subst (λ (r : Reply). IsTrue (can_get e.command r)) is (reply-can_get settings fits.0 e fits.1 (subst (λ (r : Reply). is_free r ≡ false) (sym is) refl))
+
+pub file-by : (settings : Settings) (e : Entry) (n : ℕ) (blob : Blob) → FitsOne settings e → e.reply ≡ file n blob → IsTrue (can_get e.command (file n blob))
+file-by settings e n blob fits is =
+    subst (λ (r : Reply). IsTrue (can_get e.command r)) is (reply-can_get settings fits.0 e fits.1 (subst (λ (r : Reply). is_free r ≡ false) (sym is) refl))
+
+-- a pass is given nothing
+pass-no-draft : (command : Command) (n : ℕ) → IsPassCommand command → IsTrue (can_get command (draft n)) → ⊥
+pass-no-draft (unlist repo) n is can = false≢true can
+pass-no-draft collect n is can = false≢true can
+pass-no-draft command n is can = absurd is
+
+pass-no-file : (command : Command) (n : ℕ) (blob : Blob) → IsPassCommand command → IsTrue (can_get command (file n blob)) → ⊥
+pass-no-file (unlist repo) n blob is can = false≢true can
+pass-no-file collect n blob is can = false≢true can
+pass-no-file command n blob is can = absurd is
+
+pub pass-back : (settings : Settings) (entries : List Entry) → AllByRecursion (FitsOne settings) entries → ArePass entries → GiveAllBack entries
+pass-back settings [] fit pass = none-back
+pass-back settings (e ∷ es) fit pass =
+    let rest = pass-back settings es fit.1 pass.1 in
+    record {
+      drafts = (λ n is. absurd (pass-no-draft e.command n pass.0 (draft-by settings e n fit.0 is)), rest.drafts);
+      leases = (λ n blob is. absurd (pass-no-file e.command n blob pass.0 (file-by settings e n blob fit.0 is)), rest.leases);
+    }

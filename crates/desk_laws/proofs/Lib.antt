@@ -1,0 +1,5 @@
+mod Fitting
+mod Streams
+mod Servers
+mod Desks
+mod Seats

@@ -1,0 +1,13 @@
+//! Laws of desks that serve at once and the cleaner beside them: a stream gives back what it was given among its own entries, and so a
+//! server leaves no draft and no lease; each turn of each desk is answered by its cause in the one history; and what their seats have
+//! seen is closed.
+//!
+//! No function here has code: its contract is the law.
+#![tactic(auto)]
+
+mod laws;
+
+pub use laws::{
+    desks_are_answered_by_cause, seats_of_servers_see_closed_histories, servers_leave_nothing,
+    streams_give_all_back,
+};
