@@ -1,0 +1,62 @@
+-- What a start finds recorded is answered behind it.
+use Rattle.std.proofs.Common.{◌≡◌, ℕ, true, false, List, [], ◌∷◌, ◌++◌, Option, Some, None, Ok, refl, ap, ◌∙◌, eqb-true}
+use Rattle.std.specs.Prelude.{◌==◌, if◌then◌else◌, IsTrue}
+use Rattle.std.specs.Option.{option_map}
+use Rattle.mvn_coords.specs.Kind.{kind}
+use Rattle.mvn_coords.specs.declared.kind.Kind.TheVariants.{File}
+use Rattle.mvn_coords.specs.Layout.{Coordinates}
+use Rattle.outside.specs.Moments.{Moments}
+use Rattle.repo_model.specs.Command.{is_there, look}
+use Rattle.repo_model.specs.Data.{Blob, Row}
+use Rattle.repo_model.specs.Effect.{lends, recorded}
+use Rattle.repo_model.specs.History.{Entry, Fits, IsReply, Legal, after, end}
+use Rattle.repo_model.specs.Reply.{file, spent}
+use Rattle.repo_model.specs.Restart.{started, with_bytes}
+use Rattle.repo_model.specs.Settings.{Settings}
+use Rattle.repo_model.specs.State.{State, number_end, row_at, rows_of}
+use Rattle.repo_model.specs.Tables.{Tables, recorded_at}
+use Rattle.repo_model.specs.Turn.{Turn, draws_or_spent, is_file, or_nothing, says, seen_at, shows, turn}
+use Rattle.repo_laws.specs.Closed.{GivesFile}
+use Rattle.repo_laws.specs.Holds.{InOrder}
+use Rattle.repo_laws.specs.InRange.{InRange, IsSameBlob}
+use Rattle.repo_laws.specs.Sound.{AreNamedApart}
+use Rattle.repo_laws.proofs.Closed.{look-gives}
+use Rattle.repo_laws.proofs.StartedSound.{started-rows, started-sound}
+use Rattle.naming_laws.proofs.Kept.{history-stays}
+use Rattle.stop_laws.specs.Found.{IsRecordedAs}
+use Rattle.stop_laws.specs.Stops.{AreNoCollects}
+
+cut : (settings : Settings) (before : List Entry) (e : Entry) (rest : List Entry) (s : State) → Legal settings s (before ++ e ∷ rest)
+    → Legal settings s before × Fits settings (end settings s before) e
+cut settings [] e rest s legal = (tt, legal.0)
+cut settings (b ∷ before) e rest s legal = let r = cut settings before e rest (after settings s b) legal.1 in ((legal.0, r.0), r.1)
+
+module _ (settings : Settings) (s : State) (e : Entry) (repo at tried : List ℕ) where
+  gives : (c : Coordinates) (row : Row) → IsReply settings s e → e.command ≡ look repo at tried → kind at ≡ Ok (File c) → row_at at (rows_of repo s) ≡ Some row
+      → GivesFile s row.blob e.reply
+  gives c row is looks kind_is found =
+      let next = s.yard.next_lease in
+      let given : Turn = record { reply = file next row.blob; effects = lends row.blob.number ∷ [] } in
+      let turn_is : turn settings s e.moment (look repo at tried) ≡ draws_or_spent next given =
+      ap (λ k. shows next (seen_at (rows_of repo s) at k)) kind_is ∙ ap (λ r. shows next (or_nothing (λ (x : Row). is_file x.blob) r)) found in
+      look-gives settings s e repo at tried (GivesFile s row.blob) (draws_or_spent next given) tt turn_is
+      (elim (next == number_end) as (λ b. recorded (if b then says spent else given).effects ≡ []) [ true ↦ refl | false ↦ refl ])
+      (elim (next == number_end) as (λ b. (next == number_end) ≡ b → GivesFile s row.blob (if b then says spent else given).reply) [ true ↦ λ last. eqb-true next number_end last | false ↦ λ _. refl ] refl)
+      is looks
+
+pub answered-again : (settings : Settings) (u : Tables) (tells : ℕ → Option (List ℕ)) (stored : List ℕ) (clock : Option Moments) (faults : ℕ) (before : List Entry) (e : Entry) (rest : List Entry)
+    (repo tried : List ℕ) (row : Row) (c : Coordinates) → AreNamedApart settings.hosted → InOrder u → InRange u → IsTrue (is_there repo settings) → kind row.path ≡ Ok (File c)
+    → IsRecordedAs repo row u → Legal settings (started settings tells stored clock faults u) (before ++ e ∷ rest) → AreNoCollects before → e.command ≡ look repo row.path tried
+    → (kept : Blob) × IsSameBlob kept row.blob × GivesFile (end settings (started settings tells stored clock faults u) before) kept e.reply
+answered-again settings u tells stored clock faults before e rest repo tried row c apart order range there kind_is (first, at, number, print) legal none looks =
+    let s : State = started settings tells stored clock faults u in
+    let parts = cut settings before e rest s legal in
+    let here : row_at row.path (rows_of repo s) ≡ Some (with_bytes tells first) =
+    started-rows settings tells stored clock faults u repo row.path
+    ∙ ap (λ b. if b then option_map (with_bytes tells) (recorded_at repo row.path u.hosted) else None) there
+    ∙ ap (option_map (with_bytes tells)) at in
+    let (kept, found, same) = history-stays settings s before apart (started-sound settings tells stored clock faults u apart order range) parts.0 none repo row.path (with_bytes tells first) here in (
+      kept.blob,
+      (ap (λ (b : Blob). b.number) same ∙ number, ap (λ (b : Blob). b.print) same ∙ print),
+      gives settings (end settings s before) e repo row.path tried c kept parts.1.reply looks kind_is found,
+    )

@@ -1,0 +1,26 @@
+-- What a start finds of the blobs after a stop, where their store keeps what it acknowledged.
+use Rattle.std.specs.Prelude.{◌≡◌, ℕ, List, Some, IfSome}
+use Rattle.std.specs.List.{AllByRecursion}
+use Rattle.std.specs.Option.{ForSome}
+use Rattle.outside.specs.Blobs.{Shelf, bytes_at}
+use Rattle.repo_model.specs.Data.{Row}
+use Rattle.repo_model.specs.Tables.{RecordedRow, recorded_at, Tables}
+use Rattle.blob_audit.specs.Damages.{print_of}
+
+-- The store was stopped when it told the first shelf, and is found with the second: each blob that was acknowledged, and not removed
+-- since, has its bytes. What was being stored or removed then may be there or not.
+abbrev pub KeepsBlobs : Shelf → Shelf → Type 0
+KeepsBlobs acknowledged found =
+    IfSome found.blobs (λ them. ForSome acknowledged.blobs (λ those. (n : ℕ) (bytes : List ℕ) → bytes_at n those ≡ Some bytes → bytes_at n them ≡ Some bytes))
+
+-- each of these rows names a blob that was acknowledged, with the fingerprint that is recorded
+abbrev pub IsStored : Shelf → RecordedRow → Type 0
+IsStored shelf r = (those : List (ℕ × List ℕ)) × (bytes : List ℕ) × (shelf.blobs ≡ Some those) × (bytes_at r.row.blob.number those ≡ Some bytes) × (print_of bytes ≡ r.row.blob.print)
+
+abbrev pub AreStored : Shelf → List RecordedRow → Type 0
+AreStored shelf rows = AllByRecursion (IsStored shelf) rows
+
+-- a row with this number and this fingerprint is recorded at a path
+abbrev pub IsRecordedAs : List ℕ → Row → Tables → Type 0
+IsRecordedAs repo row t =
+    (kept : Row) × (recorded_at repo row.path t.hosted ≡ Some kept) × (kept.blob.number ≡ row.blob.number) × (kept.blob.print ≡ row.blob.print)

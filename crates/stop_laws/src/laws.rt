@@ -1,0 +1,52 @@
+//! What follows for a start behind a stop. No function here has code: its contract is the law.
+ghost use Rattle.std.specs.Prelude.{◌≡◌, ℕ, IsTrue, List, [], ◌∷◌, ◌++◌, Option, Some, Ok};
+ghost use Rattle.mvn_coords.specs.Kind.{kind};
+ghost use Rattle.mvn_coords.specs.Layout.{Coordinates};
+ghost use Rattle.mvn_coords.specs.declared.kind.Kind.TheVariants.{File};
+ghost use Rattle.outside.specs.Blobs.{Shelf};
+ghost use Rattle.outside.specs.Moments.{Moments};
+ghost use Rattle.repo_model.specs.Command.{is_there, look};
+ghost use Rattle.repo_model.specs.Restart.{started};
+ghost use Rattle.repo_model.specs.Data.{Blob, Row};
+ghost use Rattle.repo_model.specs.History.{Entry, Legal, end};
+ghost use Rattle.repo_model.specs.Settings.{Settings};
+ghost use Rattle.repo_model.specs.State.{State, row_at, rows_of};
+ghost use Rattle.repo_model.specs.Tables.{RecordedRow, Tables};
+ghost use Rattle.blob_audit.specs.Damages.{AreDamaged};
+ghost use Rattle.repo_laws.specs.Closed.{GivesFile};
+ghost use Rattle.repo_laws.specs.Holds.{Holds, InOrder, told, with_items};
+ghost use Rattle.repo_laws.specs.InRange.{InRange, IsSameBlob};
+ghost use Rattle.repo_laws.specs.Sound.{AreNamedApart, IsSound};
+ghost use Rattle.stop_laws.specs.Found.{AreStored, IsRecordedAs, KeepsBlobs};
+ghost use Rattle.stop_laws.specs.Stops.{AreNoCollects, IsFrontOf, IsLeft};
+
+/// A start over a store that keeps what it acknowledged finds none of these files damaged, where each of them names a blob that
+/// was acknowledged.
+pub fn kept_blobs_are_whole()
+    ensures { (rows : List RecordedRow) (acknowledged found : Shelf) → AreStored acknowledged rows → KeepsBlobs acknowledged found → AreDamaged found rows [] }
+{}
+
+/// Whatever a start may find behind a stop, between the calls of a run or in the last of them, is what a legal history records that
+/// is a front of its entries: each as it was answered, but that the last may be one whose commit failed, which then counts as done.
+pub fn stops_leave_fronts_of_histories()
+    ensures { (settings : Settings) (s : State) (t u : Tables) (entries : List Entry) → Legal settings s entries → IsLeft settings s t entries u
+        → (history : List Entry) × IsFrontOf settings s entries history × Legal settings s history × (u ≡ with_items t (told settings s history)) }
+{}
+
+/// A file that stands in a repository is recorded with its number and its fingerprint in whatever a start may find behind a stop at any
+/// later moment, unless an entry asks for a Collect, be it that its commit fails.
+pub fn rows_outlast_stops()
+    ensures { (settings : Settings) (s : State) (t u : Tables) (entries : List Entry) (repo : List ℕ) (row : Row)
+        → AreNamedApart settings.hosted → IsSound settings s → InOrder t → Holds t s → Legal settings s entries → AreNoCollects entries
+        → row_at row.path (rows_of repo s) ≡ Some row → IsLeft settings s t entries u → IsRecordedAs repo row u }
+{}
+
+/// A start over tables in which a file is recorded, and then any entries without a Collect: who looks there is given the file, with the
+/// number and the fingerprint that were recorded; or memory is wanting, or no lease is left.
+pub fn starts_answer_what_is_recorded()
+    ensures { (settings : Settings) (u : Tables) (tells : ℕ → Option (List ℕ)) (stored : List ℕ) (clock : Option Moments) (faults : ℕ) (before : List Entry) (e : Entry)
+        (rest : List Entry) (repo tried : List ℕ) (row : Row) (c : Coordinates) → AreNamedApart settings.hosted → InOrder u → InRange u → IsTrue (is_there repo settings)
+        → kind row.path ≡ Ok (File c) → IsRecordedAs repo row u → Legal settings (started settings tells stored clock faults u) (before ++ e ∷ rest)
+        → AreNoCollects before → e.command ≡ look repo row.path tried
+        → (kept : Blob) × IsSameBlob kept row.blob × GivesFile (end settings (started settings tells stored clock faults u) before) kept e.reply }
+{}

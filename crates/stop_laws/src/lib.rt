@@ -1,0 +1,11 @@
+//! What a stop leaves of a repository, and what a start makes of that.
+//!
+//! No function here has code: its contract is the law.
+#![tactic(auto)]
+
+mod laws;
+
+pub use laws::{
+    kept_blobs_are_whole, rows_outlast_stops, starts_answer_what_is_recorded,
+    stops_leave_fronts_of_histories,
+};
