@@ -1,6 +1,6 @@
 //! Runs over a folder.
 use crate::stock::{cleaner_over, desks_with};
-use data_folder::{blobs_in, open_disk};
+use data_folder::{ReportingDisk, blobs_in, open_disk};
 use outside::NoMemory;
 use outside_memory::MemLink;
 use outside_system::{SystemClock, WriterSink, file_source};
@@ -23,7 +23,7 @@ pub fn status_over_folder<R: Threads + Wait + Sync>(
     let links: Vec<MemLink> = Vec::new(alloc);
     let desks = desks_with(alloc, links, blobs_in(rt, folder)?)?;
     let cleaner = cleaner_over(alloc, blobs_in(rt, folder)?)?;
-    let records = Journal::new(open_disk(rt, folder)?);
+    let records = Journal::new(ReportingDisk::new(open_disk(rt, folder)?, rt.clone()?));
     let clock = SystemClock::new(rt.clone()?);
     let mut out = WriterSink::new(rt.stdout());
     Ok(
