@@ -1,0 +1,211 @@
+// What a run is given, in memory. No function here says what it gives, so that who calls several of them carries no facts.
+ghost use Rattle.std.specs.Prelude.{◌<◌, IfOk, vec_len};
+
+use case_texts::{Case, Script, Stored, Went};
+use outside::{Blobs, Duplex};
+use outside_memory::{FaultScript, MemBlobs, MemLink, MemSink, MemSource, ScriptClock, ScriptPort};
+use outside_pace::ScriptPace;
+use row_tables::MemRecords;
+use run_desks::{Cleaner, Desk};
+use std::alloc::{AllocError, Global};
+
+pub(crate) type MemPort = ScriptPort<MemLink>;
+
+pub(crate) type MemDesk = Desk<MemPort, MemBlobs>;
+
+pub(crate) type MemCleaner = Cleaner<MemBlobs, ScriptPace>;
+
+/// The number of the call that fails, if there is one.
+fn numbers_of(alloc: Global, call: Option<u64>) -> Result<Vec<u64>, AllocError> {
+    Vec::from_slice(alloc, call.as_slice())
+}
+
+/// The call with this number fails, if there is one.
+fn failing_at(alloc: Global, call: Option<u64>) -> Result<FaultScript, AllocError> {
+    Ok(FaultScript::failing_at(numbers_of(alloc, call)?))
+}
+
+/// A source of these bytes, so many at most a read, of which one fails, if there is such a call.
+fn source_of(
+    alloc: Global,
+    bytes: &[u8],
+    most: usize,
+    failing: Option<u64>,
+) -> Result<MemSource, AllocError> {
+    let faults: FaultScript = failing_at(alloc, failing)?;
+    Ok(MemSource::new(Vec::from_slice(alloc, bytes)?, most.max(1), faults))
+}
+
+/// A sink with this room.
+fn sink_of(alloc: Global, room: usize) -> Result<MemSink, AllocError> {
+    Ok(MemSink::new(alloc, room, FaultScript::none(alloc))?)
+}
+
+/// A connection that gives this input in pieces of so many bytes.
+fn link_of(
+    alloc: Global,
+    input: &[u8],
+    script: Script,
+    most: usize,
+) -> Result<MemLink, AllocError> {
+    let source: MemSource = source_of(alloc, input, most, script.reads)?;
+    let sink: MemSink = sink_of(alloc, script.room)?;
+    Ok(Duplex { source, sink })
+}
+
+/// A port with one connection.
+pub(crate) fn port_of(
+    alloc: Global,
+    input: &[u8],
+    script: Script,
+    most: usize,
+) -> Result<MemPort, AllocError> {
+    let faults: FaultScript = failing_at(alloc, script.port)?;
+    let links: Vec<MemLink> = vec![in alloc; link_of(alloc, input, script, most)?]?;
+    Ok(ScriptPort::new(alloc, links, faults)?)
+}
+
+/// The one desk of a run.
+pub(crate) fn desks_of(
+    alloc: Global,
+    port: MemPort,
+    blobs: MemBlobs,
+) -> Result<Vec<MemDesk>, AllocError>
+    ensures { IfOk result (λ desks. 0 < vec_len desks) }
+{
+    Ok(vec![in alloc; Desk { port, blobs }]?)
+}
+
+/// What was written on the connection that a desk gave back.
+fn written_on(desk: &MemDesk) -> &[u8] {
+    match desk.port.given_back().first() {
+        Some(link) => link.sink.bytes(),
+        None => &[],
+    }
+}
+
+/// What a desk came to with its one connection, and its blobs.
+pub(crate) fn went_of(
+    alloc: Global,
+    desk: MemDesk,
+    line: Vec<u8>,
+    status: u8,
+) -> Result<(Went, MemBlobs), AllocError> {
+    let answers: Vec<u8> = Vec::from_slice(alloc, written_on(&desk))?;
+    let blob_faults: u64 = desk.blobs.faults();
+    let Desk { port: _, blobs } = desk;
+    let went = Went {
+        answers,
+        line,
+        status,
+        blob_faults,
+        blobs: None,
+    };
+    Ok((went, blobs))
+}
+
+/// A word and a number behind it.
+fn push_number(
+    alloc: Global,
+    words: &mut Vec<String>,
+    word: &str,
+    number: u64,
+) -> Result<(), AllocError> {
+    words.push(String::from_str(alloc, word)?)?;
+    words.push(format!(in alloc; "{number}")?)?;
+    Ok(())
+}
+
+/// The words of a replay at the moment and by the step of a case.
+pub(crate) fn replay_of(alloc: Global, case: &Case) -> Result<Vec<String>, AllocError> {
+    let mut words: Vec<String> = Vec::new(alloc);
+    words.push(String::from_str(alloc, "replay")?)?;
+    words.push(String::from_str(alloc, "settings.toml")?)?;
+    push_number(alloc, &mut words, "--at", case.moment)?;
+    if case.step > 0 {
+        push_number(alloc, &mut words, "--step", case.step)?;
+    }
+    Ok(words)
+}
+
+/// The words of a case.
+pub(crate) fn words_of(alloc: Global, case: &Case) -> Result<Vec<String>, AllocError> {
+    if case.words.is_empty() {
+        return replay_of(alloc, case);
+    }
+    let mut words: Vec<String> = Vec::new(alloc);
+    for word in &case.words {
+        words.push(word.clone()?)?;
+    }
+    Ok(words)
+}
+
+/// Where a run reads its settings, and where it prints its line.
+#[derive(Drop)]
+pub(crate) struct Ends {
+    pub(crate) settings: MemSource,
+    pub(crate) out: MemSink,
+}
+
+/// The settings of a case, and the sink of its line.
+pub(crate) fn ends_of(alloc: Global, case: &Case, script: Script) -> Result<Ends, AllocError> {
+    let settings: MemSource = source_of(
+        alloc,
+        case.settings.as_slice(),
+        1_000_000,
+        script.settings,
+    )?;
+    let out: MemSink = sink_of(alloc, script.line_room)?;
+    Ok(Ends { settings, out })
+}
+
+/// A cleaner that is never asked.
+pub(crate) fn cleaner_of(alloc: Global) -> Result<MemCleaner, AllocError> {
+    let pace: ScriptPace = ScriptPace::new(alloc, Vec::new(alloc))?;
+    let blobs: MemBlobs = MemBlobs::new(alloc, FaultScript::none(alloc));
+    Ok(Cleaner { blobs, pace })
+}
+
+/// The clock of a case.
+pub(crate) fn clock_of(alloc: Global, case: &Case) -> ScriptClock {
+    ScriptClock::stepping(alloc, case.moment, case.step)
+}
+
+/// What outlasts a run: blobs and records.
+#[derive(Drop)]
+pub(crate) struct Store {
+    pub(crate) blobs: MemBlobs,
+    pub(crate) records: MemRecords,
+}
+
+/// Stores a blob. Where that fails it is not there, as the script of a case may want it.
+fn put(blobs: &mut MemBlobs, stored: &Stored) {
+    let _ = blobs.store(stored.blob, stored.bytes.as_slice());
+}
+
+/// Removes a blob.
+fn remove(blobs: &mut MemBlobs, blob: u64) {
+    let _ = blobs.remove(blob);
+}
+
+/// What is there before all runs of a case.
+pub(crate) fn store_of(alloc: Global, case: &Case, script: Script) -> Result<Store, AllocError> {
+    let mut blobs: MemBlobs = MemBlobs::new(alloc, failing_at(alloc, script.blobs)?);
+    for stored in &case.stored {
+        put(&mut blobs, stored);
+    }
+    let records: MemRecords = MemRecords::new(alloc, numbers_of(alloc, script.records)?);
+    Ok(Store { blobs, records })
+}
+
+/// Takes away what a case has lost.
+pub(crate) fn lose(blobs: &mut MemBlobs, case: &Case) {
+    for blob in &case.lost {
+        remove(blobs, *blob);
+    }
+}
+
+/// The numbers of the blobs that are there. Nothing where they can not be listed.
+pub(crate) fn listed(blobs: &mut MemBlobs) -> Option<Vec<u64>> {
+    blobs.list().ok()
+}
