@@ -1,6 +1,6 @@
 -- A path that the rule takes is the one path of what it names.
 use Rattle.std.proofs.Common.{◌≡◌, ℕ, ◌≤◌, Bool, true, false, cond, not, eqb, ltb, leb, List, [], ◌∷◌, ◌++◌, length, Option, Some, None, Result, Ok, Err, IfOk, codes, refl, ap, sym, subst, ◌∙◌, arith, is_some}
-use Rattle.std.specs.List.{list_all}
+use Rattle.std.specs.List.{list_all, ends_with}
 use Rattle.std.specs.Str.{bytes_eq}
 use Rattle.std.proofs.lemmas.Bool.{and_parts, or_from, ltb-false, leb-true}
 use Rattle.std.proofs.lemmas.List.{append-nil, length-append}
@@ -9,14 +9,14 @@ use Rattle.std.proofs.lemmas.Slice.Eq.{bytes_eq-Decides}
 use Rattle.mvn_coords.specs.declared.fault.PathFault.{PathFault}
 use Rattle.mvn_coords.specs.declared.fault.PathFault.TheVariants as fault
 use Rattle.mvn_coords.specs.declared.fault.Side.{Side}
-use Rattle.mvn_coords.specs.declared.fault.Side.TheVariants.{Sha1, Md5}
+use Rattle.mvn_coords.specs.declared.fault.Side.TheVariants.{Sha1, Md5, Sha256, Sha512}
 use Rattle.mvn_coords.specs.declared.kind.Kind.{Kind}
 use Rattle.mvn_coords.specs.declared.kind.Kind.TheVariants.{File, FileSide, Doc, DocSide}
 use Rattle.mvn_coords.specs.Segment.{Segment, levels, is_segment, is_path_byte}
 use Rattle.byte_cuts.specs.Cuts.{before}
 use Rattle.mvn_coords.specs.FileName.{◌>>=◌, base_of}
 use Rattle.mvn_coords.specs.Layout.{Coordinates, Directory, Named, file, document, file_of, directory_of, named, text_of, text_of_document}
-use Rattle.mvn_coords.specs.Path.{Cut, cut_by, cut_side, has_suffix, has_other_suffix, suffix_of, Parts, parts_by, parts_of, IsPlain, IsBelow, IsFile, IsDirectory}
+use Rattle.mvn_coords.specs.Path.{Cut, cut_at, cut_by, cut_side, has_suffix, suffix_of, Parts, parts_by, parts_of, IsPlain, IsBelow, IsFile, IsDirectory}
 use Rattle.mvn_coords.specs.Kind.{with_side, kind_of_parts, kind, text_of_kind, IsExact}
 use Rattle.mvn_coords.proofs.Cuts.{before_some, before_none}
 use Rattle.mvn_coords.proofs.Levels.{Whole, Filled, filled, levels_longer, below}
@@ -33,6 +33,8 @@ side_whole : (side : Option Side) → Whole (side_text side)
 side_whole None = refl
 side_whole (Some Sha1) = refl
 side_whole (Some Md5) = refl
+side_whole (Some Sha256) = refl
+side_whole (Some Sha512) = refl
 
 -- what was cut off
 pub record IsCut (path : List ℕ) (cut : Cut) : Type 0 where
@@ -40,7 +42,9 @@ pub record IsCut (path : List ℕ) (cut : Cut) : Type 0 where
   pub plain : has_suffix cut.path ≡ false
 
 pub is_cut : (path : List ℕ) (cut : Cut) → cut_side path ≡ Ok cut → IsCut path cut
-is_cut path cut h = by_other (has_other_suffix path) refl h
+is_cut path cut h =
+    next Sha1 _ h (λ no_sha1 h1. next Md5 _ h1 (λ no_md5 h2. next Sha256 _ h2 (λ no_sha256 h3. next Sha512 _ h3 (λ no_sha512 h4.
+    uncut (or_from _ _ (or_from _ _ (or_from _ _ no_sha1 no_md5) no_sha256) no_sha512) h4))))
   where
     off : (side : Side) (rest : List ℕ) (t : Bool) → has_suffix rest ≡ t → path ≡ rest ++ suffix_of side → cond t (Err fault.BadSide) (Ok (record { path = rest; side = Some side })) ≡ Ok cut → IsCut path cut
     off side rest true e j h = cc
@@ -48,17 +52,17 @@ is_cut path cut h = by_other (has_other_suffix path) refl h
         let same : record { path = rest; side = Some side } ≡ cut = ok_same _ _ h in
         subst (λ (c : Cut). IsCut path c) same (record { joined = j; plain = e })
 
-    by_ends : (o p : Option (List ℕ)) → has_other_suffix path ≡ false → before (codes ".sha1") path ≡ o → before (codes ".md5") path ≡ p → cut_by path o p ≡ Ok cut → IsCut path cut
-    by_ends (Some rest) p e a b h = off Sha1 rest (has_suffix rest) refl (before_some (codes ".sha1") path rest a) h
-    by_ends None (Some rest) e a b h = off Md5 rest (has_suffix rest) refl (before_some (codes ".md5") path rest b) h
-    by_ends None None e a b h =
-        let same : record { path = path; side = None } ≡ cut = ok_same _ _ h in
-        let plain : has_suffix path ≡ false = or_from _ _ (or_from _ _ e (before_none (codes ".sha1") path a)) (before_none (codes ".md5") path b) in
-        subst (λ (c : Cut). IsCut path c) same (record { joined = sym (append-nil path); plain = plain })
+    next : (side : Side) (other : Result Cut PathFault) → cut_at side path other ≡ Ok cut → (ends_with eqb path (suffix_of side) ≡ false → other ≡ Ok cut → IsCut path cut) → IsCut path cut
+    next side other h more = by_rest (before (suffix_of side) path) refl h
+      where
+        by_rest : (o : Option (List ℕ)) → before (suffix_of side) path ≡ o → cut_by side o other ≡ Ok cut → IsCut path cut
+        by_rest (Some rest) e g = off side rest (has_suffix rest) refl (before_some (suffix_of side) path rest e) g
+        by_rest None e g = more (before_none (suffix_of side) path e) g
 
-    by_other : (t : Bool) → has_other_suffix path ≡ t → cond t (Err fault.BadSide) (cut_by path (before (codes ".sha1") path) (before (codes ".md5") path)) ≡ Ok cut → IsCut path cut
-    by_other true e h = cc
-    by_other false e h = by_ends (before (codes ".sha1") path) (before (codes ".md5") path) e refl refl h
+    uncut : has_suffix path ≡ false → ◌≡◌ {A = Result Cut PathFault} (Ok (record { path = path; side = None })) (Ok cut) → IsCut path cut
+    uncut plain g =
+        let same : record { path = path; side = None } ≡ cut = ok_same _ _ g in
+        subst (λ (c : Cut). IsCut path c) same (record { joined = sym (append-nil path); plain = plain })
 
 -- what is left of a path without its suffix is plain
 plain_last : (last end : List ℕ) → is_segment (last ++ end) ≡ true → (list_all is_path_byte last ≡ true) × (length last ≤ 255)

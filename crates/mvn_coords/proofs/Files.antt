@@ -9,7 +9,7 @@ use Rattle.mvn_coords.specs.declared.fault.PathFault.TheVariants as fault
 use Rattle.mvn_coords.specs.Segment.{Segment, levels, path_of_levels, is_segment, is_path_byte}
 use Rattle.mvn_coords.specs.FileName.{Ending, ◌>>=◌, base_of, ending_in}
 use Rattle.mvn_coords.specs.Layout.{Coordinates, Named, file, document, may_stand, coordinates_of, with_ending, file_in, file_of, version_with, tail_text, version_directory_of, name_of, directory_of, named, text_of}
-use Rattle.mvn_coords.specs.Path.{has_other_suffix, parts_of, IsFile, IsPlain, IsBelow}
+use Rattle.mvn_coords.specs.Path.{parts_of, IsFile, IsPlain, IsBelow}
 use Rattle.mvn_coords.proofs.Levels.{Filled, filled, below, path_of_levels-levels}
 use Rattle.mvn_coords.proofs.Endings.{ending_written, build_for_base}
 use Rattle.mvn_coords.proofs.Results.{bound, chosen, ok_same}
@@ -103,11 +103,12 @@ spelled_segment name a rest e bytes size =
 pub parts_of_plain : (path : List ℕ) (thing : Named) → 0 < length path → IsPlain path → list_all is_segment (levels path) ≡ true → named (levels path) ≡ Ok thing → parts_of path ≡ Ok (record { thing = thing; side = None })
 unfolding parts_of
 parts_of_plain path thing filled plain ok e =
-    let other = or_parts _ (ends_with eqb path (codes ".md5")) plain.plain in
-    let sha = or_parts (has_other_suffix path) (ends_with eqb path (codes ".sha1")) other.0 in
+    let three = or_parts _ (ends_with eqb path (codes ".sha512")) plain.plain in
+    let two = or_parts _ (ends_with eqb path (codes ".sha256")) three.0 in
+    let one = or_parts (ends_with eqb path (codes ".sha1")) (ends_with eqb path (codes ".md5")) two.0 in
     let some : eqb (length path) 0 ≡ false = ne_eqb (length path) 0 (λ z. omega arith) in
     let short : ltb 1024 (length path) ≡ false = le-ltb 1024 (length path) plain.short in
-    rw (some, short, ok, sha.0, sha.1, other.1, e) refl
+    rw (some, short, ok, one.0, one.1, two.1, three.1, e) refl
 
 pub plain_segments : (path : List ℕ) (name : Segment) (above : List Segment) → IsPlain path → levels path ≡ name ∷ above → is_segment name ≡ true → list_all is_segment (levels path) ≡ true
 plain_segments path name above plain split h =

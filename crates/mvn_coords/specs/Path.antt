@@ -4,7 +4,7 @@ use Rattle.std.specs.List.{list_all, ends_with}
 use Rattle.mvn_coords.specs.declared.fault.PathFault.{PathFault}
 use Rattle.mvn_coords.specs.declared.fault.PathFault.TheVariants as fault
 use Rattle.mvn_coords.specs.declared.fault.Side.{Side}
-use Rattle.mvn_coords.specs.declared.fault.Side.TheVariants.{Sha1, Md5}
+use Rattle.mvn_coords.specs.declared.fault.Side.TheVariants.{Sha1, Md5, Sha256, Sha512}
 use Rattle.mvn_coords.specs.Segment.{Segment, levels, is_segment, is_path_byte}
 use Rattle.byte_cuts.specs.Cuts.{before}
 use Rattle.mvn_coords.specs.FileName.{◌>>=◌}
@@ -14,14 +14,14 @@ use Rattle.mvn_coords.specs.Layout.{Coordinates, Directory, Named, file, documen
 abbrev pub suffix_of : Side → List ℕ
 suffix_of Sha1 = codes ".sha1"
 suffix_of Md5 = codes ".md5"
+suffix_of Sha256 = codes ".sha256"
+suffix_of Sha512 = codes ".sha512"
 
--- a path ends in the suffix of a digest that has no side file here; what its last segment ends in, the path ends in
-abbrev pub has_other_suffix : List ℕ → Bool
-has_other_suffix path = ends_with nat_eq path (codes ".sha256") || ends_with nat_eq path (codes ".sha512")
-
+-- a path ends in a side file's suffix; what its last segment ends in, the path ends in
 abbrev pub has_suffix : List ℕ → Bool
 has_suffix path =
-    has_other_suffix path || ends_with nat_eq path (codes ".sha1") || ends_with nat_eq path (codes ".md5")
+    ends_with nat_eq path (codes ".sha1") || ends_with nat_eq path (codes ".md5")
+    || ends_with nat_eq path (codes ".sha256") || ends_with nat_eq path (codes ".sha512")
 
 -- a path without its side suffix, and the side; the rest of a side file's path has no suffix again
 pub record Cut : Type 0 where
@@ -31,15 +31,16 @@ pub record Cut : Type 0 where
 abbrev pub cut_off : Side → List ℕ → Result Cut PathFault
 cut_off side path = if has_suffix path then Err fault.BadSide else Ok (record { path = path; side = Some side })
 
-abbrev pub cut_by : List ℕ → Option (List ℕ) → Option (List ℕ) → Result Cut PathFault
-cut_by path (Some rest) _ = cut_off Sha1 rest
-cut_by path None (Some rest) = cut_off Md5 rest
-cut_by path None None = Ok (record { path = path; side = None })
+abbrev pub cut_by : Side → Option (List ℕ) → Result Cut PathFault → Result Cut PathFault
+cut_by side (Some rest) other = cut_off side rest
+cut_by side None other = other
+
+abbrev pub cut_at : Side → List ℕ → Result Cut PathFault → Result Cut PathFault
+cut_at side path other = cut_by side (before (suffix_of side) path) other
 
 abbrev pub cut_side : List ℕ → Result Cut PathFault
 cut_side path =
-    if has_other_suffix path then Err fault.BadSide
-    else cut_by path (before (codes ".sha1") path) (before (codes ".md5") path)
+    cut_at Sha1 path (cut_at Md5 path (cut_at Sha256 path (cut_at Sha512 path (Ok (record { path = path; side = None })))))
 
 -- what a path names, and the side where it is a side file's
 pub record Parts : Type 0 where

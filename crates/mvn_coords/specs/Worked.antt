@@ -1,8 +1,8 @@
 -- Paths with their kinds, written out (Maven 2 repository layout).
 use Rattle.std.specs.Prelude.{◌≡◌, Some, None, Ok, Err, codes}
 use Rattle.mvn_coords.specs.declared.fault.PathFault.TheVariants.{Empty, BadSegment, BadSide, Short, NotNamed, LiteralSnapshot, BadStamp, BadBuild}
-use Rattle.mvn_coords.specs.declared.fault.Side.TheVariants.{Sha1}
-use Rattle.mvn_coords.specs.declared.kind.Kind.TheVariants.{File, FileSide, Doc}
+use Rattle.mvn_coords.specs.declared.fault.Side.TheVariants.{Sha1, Sha256, Sha512}
+use Rattle.mvn_coords.specs.declared.kind.Kind.TheVariants.{File, FileSide, Doc, DocSide}
 use Rattle.mvn_coords.specs.Layout.{Coordinates, directory}
 use Rattle.mvn_coords.specs.Kind.{kind}
 
@@ -35,7 +35,9 @@ pub record WorkedPaths : Type 0 where
   pub short : kind (codes "a/b.jar") ≡ Err Short
   pub release : kind (codes "org/acme/lib/1.0/lib-1.0.jar") ≡ Ok (File jar)
   pub side : kind (codes "org/acme/lib/1.0/lib-1.0.jar.sha1") ≡ Ok (FileSide jar Sha1)
-  pub other_side : kind (codes "org/acme/lib/1.0/lib-1.0.jar.sha256") ≡ Err BadSide
+  pub further_side : kind (codes "org/acme/lib/1.0/lib-1.0.jar.sha256") ≡ Ok (FileSide jar Sha256)
+  pub document_side : kind (codes "org/acme/lib/maven-metadata.xml.sha512") ≡ Ok (DocSide (directory (codes "org/acme") (codes "lib") None) Sha512)
+  pub two_sides : kind (codes "org/acme/lib/1.0/lib-1.0.jar.sha256.sha1") ≡ Err BadSide
   pub not_named : kind (codes "org/acme/lib/1.0/other-1.0.jar") ≡ Err NotNamed
   pub bad_segment : kind (codes "org/../lib/1.0/lib-1.0.jar") ≡ Err BadSegment
   pub snapshot : kind (codes "org/acme/lib/1.1-SNAPSHOT/lib-1.1-20240229.235959-1-all.jar") ≡ Ok (File snapshot_jar)

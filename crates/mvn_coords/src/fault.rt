@@ -11,7 +11,7 @@ pub enum PathFault {
     /// A segment is empty, longer than 255 bytes, `.` or `..`, has a byte outside the alphabet,
     /// or may not stand where it stands.
     BadSegment,
-    /// A side suffix that has no side file here, or two side suffixes.
+    /// Two side suffixes.
     BadSide,
     /// Too few segments.
     Short,
@@ -44,9 +44,11 @@ impl PathFault {
     }
 }
 
-/// A digest that a side file has: `.sha1` or `.md5` behind the path of its file or document.
+/// A digest that a side file has: `.sha1`, `.md5`, `.sha256` or `.sha512` behind the path of its file or document.
 #[derive(Clone, Copy, Debug, PartialEq, Eq)]
 pub enum Side {
     Sha1,
     Md5,
+    Sha256,
+    Sha512,
 }

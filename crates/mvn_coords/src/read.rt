@@ -20,7 +20,7 @@ use std::marker::Model;
 /// A path has 1 to 1,024 bytes, and segments of 1 to 255 bytes of `A-Z a-z 0-9 . _ + -` between
 /// single slashes. It names a file, `group/artifact/version/artifact-version[-classifier].extension`
 /// with one or more group segments, or the document `maven-metadata.xml` of a directory; with
-/// `.sha1` or `.md5` at its end, a side file of either (Maven 2 repository layout).
+/// `.sha1`, `.md5`, `.sha256` or `.sha512` at its end, a side file of either (Maven 2 repository layout).
 pub fn kind_of(path: &str) -> Result<Kind<'_>, PathFault>
     ensures kind { result ≡ kind path.now }
     ensures path { IfOk result (λ k. text_of_kind k ≡ path.now) }
@@ -92,30 +92,29 @@ impl<'a> Model for Cut<'a> {
 }
 
 #[tactic(auto, using(std::proofs::lemmas::Str::Pattern::ends_text))]
-fn has_other_suffix(path: &str) -> bool
-    ensures { result ≡ path_rule.has_other_suffix path.now }
-{
-    path.ends_with(".sha256") || path.ends_with(".sha512")
-}
-
-#[tactic(auto, using(std::proofs::lemmas::Str::Pattern::ends_text))]
 fn has_suffix(path: &str) -> bool
     ensures { result ≡ path_rule.has_suffix path.now }
 {
-    has_other_suffix(path) || path.ends_with(".sha1") || path.ends_with(".md5")
+    path.ends_with(".sha1")
+        || path.ends_with(".md5")
+        || path.ends_with(".sha256")
+        || path.ends_with(".sha512")
 }
 
 fn cut_side(path: &str) -> Result<Cut<'_>, PathFault>
     ensures { result ≡ path_rule.cut_side path.now }
 {
-    if has_other_suffix(path) {
-        return Err(PathFault::BadSide);
-    }
     if let Some(rest) = before(".sha1", path) {
         return cut_off(Side::Sha1, rest);
     }
     if let Some(rest) = before(".md5", path) {
         return cut_off(Side::Md5, rest);
+    }
+    if let Some(rest) = before(".sha256", path) {
+        return cut_off(Side::Sha256, rest);
+    }
+    if let Some(rest) = before(".sha512", path) {
+        return cut_off(Side::Sha512, rest);
     }
     Ok(Cut { path, side: None })
 }

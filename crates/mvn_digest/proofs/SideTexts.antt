@@ -11,7 +11,7 @@ use Rattle.hex.specs.Hex.{IsBytes, is_hex_digit}
 use Rattle.hex.proofs.HexLemmas.{IsOk-decode_sized, decode_sized-encode_lower, length-encode_with}
 use Rattle.mvn_coords.specs.FileName.{is_filled}
 use Rattle.mvn_coords.specs.declared.fault.Side.{Side}
-use Rattle.mvn_coords.specs.declared.fault.Side.TheVariants.{Sha1, Md5}
+use Rattle.mvn_coords.specs.declared.fault.Side.TheVariants.{Sha1, Md5, Sha256, Sha512}
 use Rattle.mvn_digest.specs.Hex.{hex_text}
 use Rattle.mvn_digest.specs.Sides.{digest_size, digest_word, first_line, first_word, has_sign, is_blank, read_side}
 
@@ -54,6 +54,8 @@ word_is text h k = rw (no_sign text h) (one_word text h k)
 filled : (side : Side) → 0 < digest_size side
 filled Sha1 = omega arith
 filled Md5 = omega arith
+filled Sha256 = omega arith
+filled Sha512 = omega arith
 
 pub read_again : (side : Side) (digest : List ℕ) → length digest ≡ digest_size side → IsBytes digest → read_side side (hex_text digest) ≡ Some digest
 read_again side digest e bytes =

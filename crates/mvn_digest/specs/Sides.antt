@@ -7,7 +7,7 @@ use Rattle.mvn_coords.specs.FileName.{is_filled}
 use Rattle.mvn_coords.specs.declared.fault.Side.{Side}
 use Rattle.mvn_coords.specs.declared.fault.Side.TheVariants as side
 use Rattle.mvn_digest.specs.declared.digests.Digest.{Digest}
-use Rattle.mvn_digest.specs.declared.digests.Digest.TheVariants.{Sha1, Md5}
+use Rattle.mvn_digest.specs.declared.digests.Digest.TheVariants.{Sha1, Md5, Sha256, Sha512}
 use Rattle.mvn_digest.specs.declared.digests.Digests.{Digests}
 use Rattle.mvn_digest.specs.Hex.{hex_text}
 
@@ -15,6 +15,8 @@ use Rattle.mvn_digest.specs.Hex.{hex_text}
 abbrev pub side_of : Digests → Side → List ℕ
 side_of digests side.Sha1 = digests.sha1
 side_of digests side.Md5 = digests.md5
+side_of digests side.Sha256 = digests.sha256
+side_of digests side.Sha512 = digests.sha512
 
 -- the text of a side file as it is written
 abbrev pub side_text : Side → Digests → List ℕ
@@ -24,10 +26,14 @@ side_text side digests = hex_text (side_of digests side)
 abbrev pub bytes_in : Digest → List ℕ
 bytes_in (Sha1 bytes) = bytes
 bytes_in (Md5 bytes) = bytes
+bytes_in (Sha256 bytes) = bytes
+bytes_in (Sha512 bytes) = bytes
 
 abbrev pub side_in : Digest → Side
 side_in (Sha1 bytes) = side.Sha1
 side_in (Md5 bytes) = side.Md5
+side_in (Sha256 bytes) = side.Sha256
+side_in (Sha512 bytes) = side.Sha512
 
 -- blank, tab and CR
 abbrev pub is_blank : ℕ → Bool
@@ -56,10 +62,12 @@ has_sign (b ∷ bs) = starts_with nat_eq (b ∷ bs) (codes " = ") || has_sign bs
 abbrev pub digest_word : List ℕ → Option (List ℕ)
 digest_word line = if has_sign line then last_word line else first_word line
 
--- the digest that a word writes with two hexadecimal digits of either case a byte, 20 bytes of SHA-1 or 16 of MD5
+-- the digest that a word writes with two hexadecimal digits of either case a byte, 20 bytes of SHA-1, 16 of MD5, 32 of SHA-256 or 64 of SHA-512
 abbrev pub digest_size : Side → ℕ
 digest_size side.Sha1 = 20
 digest_size side.Md5 = 16
+digest_size side.Sha256 = 32
+digest_size side.Sha512 = 64
 
 abbrev pub digest_in : Side → List ℕ → Option (List ℕ)
 digest_in side word = result_ok (decode_sized word (digest_size side))

@@ -1,21 +1,23 @@
 //! Side files: the text that is written beside a file, and the digest that such a text says.
-ghost use Rattle.std.specs.Prelude.{◌≡◌, IfSome, filter, find, not};
+ghost use Rattle.std.specs.Prelude.{◌≡◌, ◌≤◌, IfSome, filter, find, length, not};
 ghost use Rattle.std.specs.List.{last_or, list_all};
 ghost use Rattle.std.specs.Option.{option_copied, option_map};
+ghost use Rattle.mvn_digest.specs.Hex.{hex_text};
 ghost use Rattle.mvn_digest.specs.Sides as spec;
 ghost use Rattle.mvn_digest.specs.Sides.{bytes_in, side_in};
 
-use crate::digests::{Digest, Digests, MD5_DIGITS, SHA1_DIGITS};
+use crate::digests::{Digest, Digests, SHA512_DIGITS};
 use hex::FromHex;
 use mvn_coords::Side;
 use std::marker::Model;
 
-/// The text of a side file: a digest in lower case hexadecimal, 40 digits of SHA-1 or 32 of MD5, without a line end.
+/// The text of a side file: a digest in lower case hexadecimal, 40 digits of SHA-1, 32 of MD5, 64 of SHA-256 or 128 of
+/// SHA-512, without a line end.
 ///
 /// Contracts see the text's bytes.
 #[derive(Drop)]
 pub struct SideText {
-    digits: [u8; SHA1_DIGITS],
+    digits: [u8; SHA512_DIGITS],
     len: usize,
 }
 
@@ -26,7 +28,7 @@ impl Model for SideText {
 
     ghost view = { λ t. take t.len t.digits };
 
-    ghost invariant = { λ t. t.len ≤ 40 };
+    ghost invariant = { λ t. t.len ≤ 128 };
 }
 
 impl SideText {
@@ -38,28 +40,26 @@ impl SideText {
     }
 }
 
+// The text of a digest of at most 64 bytes.
+fn text_of(digest: &[u8]) -> SideText
+    requires { length digest.now ≤ 64 }
+    ensures { result ≡ hex_text digest.now }
+{
+    let mut digits = [0; SHA512_DIGITS];
+    let len = 2 * digest.len();
+    let _ = hex::encode_to_slice(digest, &mut digits[..len]);
+    SideText { digits, len }
+}
+
 /// The text that the side file of these digests has.
 pub fn side_text(digests: &Digests, side: Side) -> SideText
     ensures { result ≡ spec.side_text side digests.now }
 {
-    match side {
-        Side::Sha1 => SideText {
-            digits: digests.sha1_text(),
-            len: SHA1_DIGITS,
-        },
-        Side::Md5 => {
-            let mut digits = [0; SHA1_DIGITS];
-            digits[..MD5_DIGITS].copy_from_slice(digests.md5_text().as_slice());
-            SideText {
-                digits,
-                len: MD5_DIGITS,
-            }
-        }
-    }
+    text_of(digests.of(side).bytes())
 }
 
-/// The digest that the text of a side file says: hexadecimal digits of either case, 40 of SHA-1 or 32 of MD5, as the
-/// first word of the first line that is not blank, or as its last word where the line has ` = ` (as in
+/// The digest that the text of a side file says: hexadecimal digits of either case, 40 of SHA-1, 32 of MD5, 64 of SHA-256
+/// or 128 of SHA-512, as the first word of the first line that is not blank, or as its last word where the line has ` = ` (as in
 /// `MD5 (lib.jar) = ..`). Lines end at LF, words at blank, tab and CR. `None` where no digest of the side stands there.
 pub fn read_side(text: &[u8], side: Side) -> Option<Digest>
     ensures digest { option_map bytes_in result ≡ spec.read_side side text.now }
@@ -134,5 +134,7 @@ fn digest_in(word: &[u8], side: Side) -> Option<Digest>
     match side {
         Side::Sha1 => Some(Digest::Sha1(<[u8; 20] as FromHex>::from_hex(word).ok()?)),
         Side::Md5 => Some(Digest::Md5(<[u8; 16] as FromHex>::from_hex(word).ok()?)),
+        Side::Sha256 => Some(Digest::Sha256(<[u8; 32] as FromHex>::from_hex(word).ok()?)),
+        Side::Sha512 => Some(Digest::Sha512(<[u8; 64] as FromHex>::from_hex(word).ok()?)),
     }
 }
