@@ -14,6 +14,7 @@ use Rattle.repo_model.specs.declared.session.SessionResult.TheVariants.{Done}
 use Rattle.repo_model.specs.Data as plain
 use Rattle.repo_model.specs.Data.{Row, Staged, Session}
 use Rattle.repo_model.specs.Deploy.{Offence, deliver_all, deliver_again, deliver_at, offence, without_pom}
+use Rattle.repo_model.specs.Prints.{recorded_print}
 use Rattle.repo_model.specs.Effect.{Effect, ends, items_of, list_again, new_row, recorded, with_row}
 use Rattle.repo_model.specs.Reply as reply
 use Rattle.repo_model.specs.State.{change_first, change_where, is_open_at, is_row, is_session, most_staged, number_end, row_at}
@@ -97,7 +98,7 @@ module _ (one other : Session) (same : one.repo ≡ other.repo) (now : ℕ) (row
       let a : List Effect = effects_by one now rows files in
       let b : List Effect = effects_by other now rows files in
       elim (row_at file.path rows) as (λ o. recorded (deliver_at one now file o ++ a) ≡ recorded (deliver_at other now file o ++ b)) [
-        | None ↦ λ i. HostedPut (same i) file.path file.blob.number file.blob.print now ∷ items-alike files i
+        | None ↦ λ i. HostedPut (same i) file.path file.blob.number (recorded_print file.blob.print) now ∷ items-alike files i
         | Some row ↦ elim (row.phase) as (λ p. recorded (deliver_again one now file p ++ a) ≡ recorded (deliver_again other now file p ++ b)) [
           | plain.listed ↦ items-alike files
           | plain.fading since ↦ λ i. Relisted (same i) file.path now ∷ items-alike files i

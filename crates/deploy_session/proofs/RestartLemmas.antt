@@ -8,12 +8,13 @@ use Rattle.std.proofs.lemmas.List.Folds.{list_all-append}
 use Rattle.std.proofs.lemmas.List.Sums.{sum_by-append}
 use Rattle.std.specs.List.{list_all}
 use Rattle.repo_model.specs.declared.item.Item.{Item}
-use Rattle.repo_model.specs.declared.item.Item.TheVariants.{HostedPut, Faded, Relisted, Removed, CachedFile, CachedDoc, SessionOpened, SessionEnded}
+use Rattle.repo_model.specs.declared.item.Item.TheVariants.{HostedPut, Faded, Relisted, Removed, CachedFile, CachedDoc, SessionOpened, SessionEnded, Digested}
 use Rattle.repo_model.specs.declared.session.SessionResult.{SessionResult}
 use Rattle.repo_model.specs.Data.{Session}
 use Rattle.repo_model.specs.Restart.{session_from, sessions_from}
 use Rattle.repo_model.specs.State.{change_where, is_open, number_end}
-use Rattle.repo_model.specs.Tables.{Tables, RecordedSession, applied_from, fits_on, is_session, item_on, no_tables}
+use Rattle.mvn_digest.specs.declared.known.Further.{Further}
+use Rattle.repo_model.specs.Tables.{Tables, RecordedSession, applied_from, change_recorded, digested, fits_on, lacks_at, is_session, item_on, no_tables}
 use Rattle.row_tables.specs.Applying.{AreRising, with_items}
 use Rattle.row_tables.specs.Items.{is_item, is_number}
 use Rattle.row_tables.specs.Recorded.{IsBuiltUp}
@@ -44,6 +45,12 @@ numbers_changed n how (s ∷ ss) =
       | false ↦ ap (λ b. is_number s.number && b) (numbers_changed n how ss)
     ]
 
+-- further digests leave sessions
+digests_leave : (hosted : Bool) (repo path : List ℕ) (further : Further) (t : Tables) → AreRecordedSessions t.sessions
+    → AreRecordedSessions (cond hosted (record t { hosted = change_recorded repo path (digested further) t.hosted }) (record t { cached = change_recorded repo path (digested further) t.cached })).sessions
+digests_leave true repo path further t so = so
+digests_leave false repo path further t so = so
+
 -- an item that fits keeps that
 by_item : (t : Tables) (item : Item) → fits_on t item ≡ true → is_item item ≡ true → AreRecordedSessions t.sessions → AreRecordedSessions (item_on t item).sessions
 by_item t (HostedPut repo path blob print accepted) fits form so = so
@@ -52,6 +59,7 @@ by_item t (Relisted repo path accepted) fits form so = so
 by_item t (Removed repo path) fits form so = so
 by_item t (CachedFile repo path blob print accepted) fits form so = so
 by_item t (CachedDoc repo path checked document) fits form so = so
+by_item t (Digested repo path further) fits form so = digests_leave (lacks_at repo path t.hosted) repo path further t so
 by_item t (SessionOpened n) fits form so =
     let new : RecordedSession = record { number = n; result = None } in (
       rising_push n new t.sessions refl so.0 fits,

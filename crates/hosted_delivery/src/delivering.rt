@@ -9,7 +9,8 @@ ghost use Rattle.repo_model.specs.History.{latest_moment};
 ghost use Rattle.repo_model.specs.Purge.{most_rows};
 ghost use Rattle.repo_model.specs.Shown.{shown_parcel};
 ghost use Rattle.row_tables.specs.Commits.{tables_with};
-ghost use Rattle.row_tables.specs.Items.{is_id, is_item, item_bytes};
+ghost use Rattle.row_tables.specs.Items.{are_of, is_id, is_item, is_of, item_bytes};
+ghost use Rattle.row_tables.specs.declared.version.Version.TheVariants.{Second};
 ghost use Rattle.hosted_delivery.specs.Deliveries.{free_paths, is_recordable, left_by, rows_without, session_with, shown_files, with_file, with_files, with_listed, with_listed_by, without_put, without_puts};
 ghost use Rattle.ordered_rows.specs.Recording.{FitWhereTold, IsShort};
 ghost use Rattle.row_tables.specs.Records.{HasCommitCause};
@@ -47,7 +48,7 @@ fn item_of<H: Held>(
             repo,
             path,
             blob: parcel.blob,
-            print: print_of(parcel),
+            print: print_of(parcel).recorded(),
             accepted: now,
         }));
     };
@@ -130,8 +131,10 @@ fn change_with(items: Vec<Item>, also: Item) -> Result<Change, NoMemory>
     requires items { AllByRecursion IsShort items.items }
     requires few { length items.items ≤ most_rows }
     requires also { IsTrue (is_item also) }
+    requires whole { IsTrue (is_of Second also) }
     requires short { length (item_bytes also) < 65536 }
-    ensures { IfOk result (λ change. change ≡ items.items ++ also ∷ []) }
+    ensures items { IfOk result (λ change. change ≡ items.items ++ also ∷ []) }
+    ensures whole { IfOk result (λ change. IsTrue (are_of Second change)) }
 {
     let mut items = items;
     items.push(also)?;
@@ -239,6 +242,7 @@ fn add_and_commit<H: Held, K: Records>(
 ) -> Result<(), CommitFault>
     requires moment { now ≤ latest_moment }
     requires ready { K.ready records.old }
+    requires whole { IsTrue (are_of Second change.now) }
     requires fits { FitWhereTold (K.tables records.old) change.now }
     ensures ok { OnOk result (rows.new ≡ with_files now (shown_files staged.now.entries) rows.old) }
     ensures back { let free = free_paths rows.old (shown_files staged.now.entries) in
@@ -289,6 +293,7 @@ pub fn deliver<H: Held, K: Records>(
     requires files { IsTrue (list_all is_recordable (shown_files staged.now.entries)) }
     requires few { length (shown_files staged.now.entries) ≤ most_rows }
     requires also { IsTrue (is_item also) }
+    requires whole { IsTrue (is_of Second also) }
     requires short { length (item_bytes also) < 65536 }
     requires fits { FitWhereTold (K.tables records.old)
         (items_by (deliver_all (session_with repo.now (shown_files staged.now.entries)) now rows.old) ++ also ∷ []) }

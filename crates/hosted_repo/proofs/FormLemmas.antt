@@ -6,22 +6,23 @@ use Rattle.std.specs.List.{AllByRecursion, list_all}
 use Rattle.std.specs.Ordering.{match_ordering, nat_cmp}
 use Rattle.std.specs.declared.cmp.Ordering.TheVariants.{Less, Equal, Greater}
 use Rattle.std.specs.Cmp.Lexicographic.{slice_cmp}
-use Rattle.std.proofs.lemmas.Bool.{and_from, and_parts, eq-eqb, le-leb, leb-true, leb-false}
+use Rattle.std.proofs.lemmas.Bool.{and_parts, le-leb, leb-true, leb-false}
 use Rattle.std.proofs.lemmas.List.{length-take, take-map}
 use Rattle.repo_model.specs.Data as plain
 use Rattle.repo_model.specs.declared.item.Item.{Item}
 use Rattle.repo_model.specs.declared.print.Print.{Print}
-use Rattle.repo_model.specs.declared.item.Item.TheVariants.{HostedPut, Faded, Relisted, Removed, CachedFile, CachedDoc, SessionOpened, SessionEnded}
+use Rattle.repo_model.specs.declared.item.Item.TheVariants.{HostedPut, Faded, Relisted, Removed, CachedFile, CachedDoc, SessionOpened, SessionEnded, Digested}
 use Rattle.repo_model.specs.Document.{is_listed}
 use Rattle.repo_model.specs.Effect.{Effect, expires, fade, fades, list_again, recorded, with_row}
 use Rattle.repo_model.specs.History.{latest_moment}
 use Rattle.repo_model.specs.Paths.{file_at}
+use Rattle.repo_model.specs.Prints.{recorded_print}
 use Rattle.repo_model.specs.Purge.{due_rows, expired_of, fade_all, is_due_at, is_over, most_rows}
 use Rattle.repo_model.specs.State.{change_where, is_row, number_end}
-use Rattle.row_tables.specs.Items.{IsChange, is_file_path, is_count, is_id, is_item, is_moment, is_number, is_print}
+use Rattle.row_tables.specs.Items.{IsChange, is_file_path, is_count, is_id, is_item, is_number}
 use Rattle.ordered_rows.specs.Recording.{IsRemoved, IsShort}
 use Rattle.ordered_rows.specs.Rows.{AreFiles, IsFileRow, rows_after_all}
-use Rattle.ordered_rows.proofs.ChangeLemmas.{change-of, fade-short, moment-so, relist-short, put-short, removed-short}
+use Rattle.ordered_rows.proofs.ChangeLemmas.{AreDigests, change-of, fade-short, moment-so, relist-short, put-short, removed-short}
 use Rattle.ordered_rows.proofs.EachRow.{each-changed}
 
 -- what holds of all holds of those that pass a test, and of the first ones
@@ -53,11 +54,11 @@ module _ (id : List ℕ) (named : is_id id ≡ true) where
   fading-count now [] = refl
   fading-count now (row ∷ rows) = ap suc (fading-count now rows)
 
-  pub puts-change : (path : List ℕ) (blob : ℕ) (print : Print) (now : ℕ) → is_file_path path ≡ true → is_number blob ≡ true → print.length < number_end → length print.digests.sha1 ≡ 20
-      → length print.digests.md5 ≡ 16 → now ≤ latest_moment → IsChange (HostedPut id path blob print now ∷ [])
-  puts-change path blob print now file number short sha1 md5 late =
-      let is : is_print print ≡ true = and_from _ _ (le-leb print.length 9223372036854775807 (omega (arith, short))) (and_from _ _ (eq-eqb (length print.digests.sha1) 20 sha1) (eq-eqb (length print.digests.md5) 16 md5)) in
-      change-of (HostedPut id path blob print now ∷ []) (put-short id path named file blob print now number is sha1 md5 (moment-so now late), tt) (omega arith)
+  pub puts-change : (path : List ℕ) (blob : ℕ) (print : Print) (now : ℕ) → is_file_path path ≡ true → is_number blob ≡ true → print.length < number_end → AreDigests print.digests
+      → now ≤ latest_moment → IsChange (HostedPut id path blob (recorded_print print) now ∷ [])
+  puts-change path blob print now file number short are late =
+      let count : is_count print.length ≡ true = le-leb print.length 9223372036854775807 (omega (arith, short)) in
+      change-of (HostedPut id path blob (recorded_print print) now ∷ []) (put-short id path named file blob print now number count are (moment-so now late), tt) (omega arith)
 
   pub relists-change : (path : List ℕ) (now : ℕ) → is_file_path path ≡ true → now ≤ latest_moment → IsChange (Relisted id path now ∷ [])
   relists-change path now file late = change-of (Relisted id path now ∷ []) (relist-short id path named file now (moment-so now late), tt) (omega arith)
@@ -93,6 +94,7 @@ removals-short (CachedFile repo path blob print accepted ∷ items) form all = a
 removals-short (CachedDoc repo path checked document ∷ items) form all = absurd all.0
 removals-short (SessionOpened n ∷ items) form all = absurd all.0
 removals-short (SessionEnded n result ∷ items) form all = absurd all.0
+removals-short (Digested repo path further ∷ items) form all = absurd all.0
 
 more-none : (items : List Item) (rest : List Item) → IsChange items → length rest ≡ 0 → IsChange (items ++ rest)
 more-none items [] change none = subst IsChange (sym (plus-none items)) change where

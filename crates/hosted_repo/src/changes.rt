@@ -1,6 +1,7 @@
 //! The changes that are recorded of a repository's rows, made of copies.
 ghost use Rattle.std.specs.Prelude.{◌≡◌, ◌∷◌, [], map, IfOk};
 ghost use Rattle.repo_model.specs.Effect.{recorded};
+ghost use Rattle.repo_model.specs.Prints.{recorded_print};
 ghost use Rattle.repo_model.specs.declared.item.Item.TheVariants.{HostedPut, Relisted};
 ghost use Rattle.row_tables.specs.Items.{IsChange};
 ghost use Rattle.hosted_repo.specs.Fades.{fade_at_paths};
@@ -32,8 +33,8 @@ pub fn put_change(
     print: Print,
     accepted: u64,
 ) -> Result<Change, NoMemory>
-    requires { IsChange (HostedPut repo.now path.now blob print accepted ∷ []) }
-    ensures { IfOk result (λ change. change ≡ HostedPut repo.now path.now blob print accepted ∷ []) }
+    requires { IsChange (HostedPut repo.now path.now blob (recorded_print print) accepted ∷ []) }
+    ensures { IfOk result (λ change. change ≡ HostedPut repo.now path.now blob (recorded_print print) accepted ∷ []) }
 {
     let repo = repo.copied(alloc)?;
     let path = Text::new(alloc, path)?;
@@ -43,7 +44,7 @@ pub fn put_change(
             repo,
             path,
             blob,
-            print,
+            print: print.recorded(),
             accepted,
         },
     )

@@ -9,13 +9,15 @@ ghost use Rattle.repo_model.specs.Document.{document};
 ghost use Rattle.repo_model.specs.Effect.{list_again, new_row, recorded, with_row};
 ghost use Rattle.repo_model.specs.History.{latest_moment};
 ghost use Rattle.repo_model.specs.Paths.{takes_file, file_in, is_snapshot_path};
+ghost use Rattle.repo_model.specs.Prints.{recorded_print};
 ghost use Rattle.repo_model.specs.Purge.{due_rows, expired_of, fade_all, most_rows};
 ghost use Rattle.repo_model.specs.Reply.{created, is_free, relisted};
 ghost use Rattle.repo_model.specs.Shown.{shown_parcel, shown_print};
 ghost use Rattle.repo_model.specs.State.{change_where, is_repository, is_row, number_end, row_at, new_hosted};
 ghost use Rattle.repo_model.specs.Turn.{seen_at};
 ghost use Rattle.row_tables.specs.Commits.{tables_with};
-ghost use Rattle.row_tables.specs.Items.{is_file_path, is_id, is_item, is_number, item_bytes};
+ghost use Rattle.row_tables.specs.Items.{is_file_path, is_id, is_item, is_number, is_of, item_bytes};
+ghost use Rattle.row_tables.specs.declared.version.Version.TheVariants.{Second};
 ghost use Rattle.hosted_delivery.specs.Deliveries.{blobs_of, deliveries, delivery, is_done, is_recordable, left_by, shown_files, shown_put_all};
 ghost use Rattle.hosted_repo.specs.Expired.{blob_of};
 ghost use Rattle.ordered_rows.specs.Recording.{FitWhereTold, HasReplyCause, IsRemoved};
@@ -166,12 +168,12 @@ impl<H: Held> Hosted<H> {
         requires path { IsTrue (is_file_path path.now) }
         requires blob { IsTrue (is_number parcel.blob) }
         requires length { parcel.length < number_end }
-        requires fits { FitWhereTold (K.tables records.old) (HostedPut self.old.rule.id path.now parcel.blob (shown_print parcel) now ∷ []) }
+        requires fits { FitWhereTold (K.tables records.old) (HostedPut self.old.rule.id path.now parcel.blob (recorded_print (shown_print parcel)) now ∷ []) }
         ensures reply { (shown_put result ≡ created) ⊎ IsTrue (is_free (shown_put result)) }
         ensures rows { self.new ≡ (if is_free (shown_put result) then self.old
             else record self.old { rows = with_row (new_row path.now (shown_parcel parcel) now) self.old.rows }) }
         ensures tables { K.tables records.new ≡ (if is_free (shown_put result) then K.tables records.old
-            else tables_with (HostedPut self.old.rule.id path.now parcel.blob (shown_print parcel) now ∷ []) (K.tables records.old)) }
+            else tables_with (HostedPut self.old.rule.id path.now parcel.blob (recorded_print (shown_print parcel)) now ∷ []) (K.tables records.old)) }
         ensures releases { KeepsReleases self.old.rows self.new.rows }
         ensures cause { HasReplyCause (K.faults records.old) (K.faults records.new) (shown_put result) }
         ensures ready { K.ready records.new }
@@ -233,6 +235,7 @@ impl<H: Held> Hosted<H> {
         requires files { IsTrue (list_all is_recordable (shown_files staged.now.entries)) }
         requires few { length (shown_files staged.now.entries) ≤ most_rows }
         requires also { IsTrue (is_item also) }
+        requires whole { IsTrue (is_of Second also) }
         requires short { length (item_bytes also) < 65536 }
         requires fits { offence self.old.rows (shown_files staged.now.entries) ≡ None → without_pom self.old.rows (shown_files staged.now.entries) ≡ None
             → FitWhereTold (K.tables records.old) (recorded (deliveries self.old (shown_files staged.now.entries) now) ++ also ∷ []) }

@@ -3,6 +3,7 @@ ghost use Rattle.std.specs.Prelude.{◌≡◌, ◌≤◌, ◌∷◌, [], None, O
 ghost use Rattle.repo_model.specs.declared.item.Item.TheVariants.{HostedPut, Relisted};
 ghost use Rattle.repo_model.specs.Effect.{list_again, new_row, with_row};
 ghost use Rattle.repo_model.specs.History.{latest_moment};
+ghost use Rattle.repo_model.specs.Prints.{recorded_print};
 ghost use Rattle.repo_model.specs.Shown.{shown_parcel, shown_print};
 ghost use Rattle.repo_model.specs.State.{change_where, is_row, row_at};
 ghost use Rattle.row_tables.specs.Commits.{tables_with};
@@ -30,12 +31,12 @@ pub fn create<H: Held, K: Records>(
     requires free { row_at path.now rows.old ≡ None }
     requires moment { accepted ≤ latest_moment }
     requires ready { K.ready records.old }
-    requires change { IsChange (HostedPut repo.now path.now parcel.now.blob (shown_print parcel.now) accepted ∷ []) }
-    requires fits { FitWhereTold (K.tables records.old) (HostedPut repo.now path.now parcel.now.blob (shown_print parcel.now) accepted ∷ []) }
+    requires change { IsChange (HostedPut repo.now path.now parcel.now.blob (recorded_print (shown_print parcel.now)) accepted ∷ []) }
+    requires fits { FitWhereTold (K.tables records.old) (HostedPut repo.now path.now parcel.now.blob (recorded_print (shown_print parcel.now)) accepted ∷ []) }
     ensures ok { OnOk result (rows.new ≡ with_row (new_row path.now (shown_parcel parcel.now) accepted) rows.old) }
     ensures err { OnErr result (rows.new ≡ rows.old) }
     ensures recorded { OnOk result (K.tables records.new
-        ≡ tables_with (HostedPut repo.now path.now parcel.now.blob (shown_print parcel.now) accepted ∷ []) (K.tables records.old)) }
+        ≡ tables_with (HostedPut repo.now path.now parcel.now.blob (recorded_print (shown_print parcel.now)) accepted ∷ []) (K.tables records.old)) }
     ensures untold { OnErr result (K.tables records.new ≡ K.tables records.old) }
     ensures cause { HasCommitCause (K.faults records.old) (K.faults records.new) result }
     ensures ready { K.ready records.new }

@@ -7,16 +7,18 @@ use Rattle.repo_model.specs.declared.item.Item.{Item}
 use Rattle.repo_model.specs.declared.item.Item.TheVariants.{Removed}
 use Rattle.repo_model.specs.Tables.{Tables, applied}
 use Rattle.row_tables.specs.Applying.{with_items}
-use Rattle.row_tables.specs.Items.{is_item, item_bytes}
+use Rattle.row_tables.specs.Items.{is_item, is_of, item_bytes}
+use Rattle.row_tables.specs.declared.version.Version.TheVariants.{Second}
 
 -- items that fit the tables, where these are told
 abbrev pub FitWhereTold : Option Tables → List Item → Type 0
 FitWhereTold tables items = ForSome tables (λ t. applied t items ≡ Ok (with_items t items))
 
--- an item of its form that has at most 1,153 bytes
+-- an item of its form that has at most 1,249 bytes; a file has its SHA-256 and SHA-512
 pub record IsShort (item : Item) : Type 0 where
   pub form : IsTrue (is_item item)
-  pub size : length (item_bytes item) ≤ 1153
+  pub whole : IsTrue (is_of Second item)
+  pub size : length (item_bytes item) ≤ 1249
 
 -- an item by which a row goes
 abbrev pub IsRemoved : Item → Type 0

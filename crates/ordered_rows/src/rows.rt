@@ -23,10 +23,12 @@ pub fn print_of<H: Held>(parcel: &Parcel<H>) -> Print
     }
 }
 
-/// The digests of a content have 20 and 16 bytes.
+/// The digests of a content have 20, 16, 32 and 64 bytes.
 pub fn sizes(digests: Digests)
     ensures sha1 { length digests.sha1 ≡ 20 }
     ensures md5 { length digests.md5 ≡ 16 }
+    ensures sha256 { length digests.sha256 ≡ 32 }
+    ensures sha512 { length digests.sha512 ≡ 64 }
 {}
 
 /// The row at a path.

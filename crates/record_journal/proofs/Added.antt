@@ -9,10 +9,10 @@ use Rattle.record_log.specs.Log.{IsAtRest, StandsFor, LogState, HasAcknowledged}
 use Rattle.repo_model.specs.declared.item.Item.{Item}
 use Rattle.repo_model.specs.Tables.{Tables, applied}
 use Rattle.row_tables.specs.Applying.{with_items}
-use Rattle.row_tables.specs.Items.{IsChange, change_bytes}
+use Rattle.row_tables.specs.Items.{change_bytes}
 use Rattle.record_journal.specs.Loading.{built_up}
 use Rattle.record_journal.specs.Journal.{tables_by, tables_of, LoadsTo, MayLoad, Fits, IsStanding, IsReady, KeepsTables, Adds, AddsNothing, Commits}
-use Rattle.record_journal.proofs.Loads.{loads_held, pushed, after_change, change_again}
+use Rattle.record_journal.proofs.Loads.{IsWritable, loads_held, pushed, after_change, change_again}
 use Rattle.record_journal.proofs.Standing.{standing_tables, same_tables, standing_images}
 
 -- the change fits the tables that are told
@@ -20,7 +20,7 @@ abbrev pub FitsTold : Option Tables → List Item → Type 0
 FitsTold told items = ForSome told (λ t. applied t items ≡ Ok (with_items t items))
 
 -- a frame of a change is added behind the others, or fails and stays pending
-module _ (items : List Item) (is : IsChange items) where
+module _ (items : List Item) (is : IsWritable items) where
   abbrev payload : List ℕ
   payload = change_bytes items
 
@@ -137,7 +137,7 @@ then_added (Some s) (Some t) (Some v) g before after mid items known none same t
 }
 
 -- an append to a log that is ready
-module _ (items : List Item) (is : IsChange items) (old new : LogState) (bytes : List ℕ) (same : bytes ≡ change_bytes items) (undone : old.pending ≡ None)
+module _ (items : List Item) (is : IsWritable items) (old new : LogState) (bytes : List ℕ) (same : bytes ≡ change_bytes items) (undone : old.pending ≡ None)
     (moments : Told old.trace new.trace (λ s t. (ps : List (List ℕ)) → IsAtRest old.gate ps s → Throughout (HoldsOneMore ps bytes) s t)) (ready : IsReady old) (fits : FitsTold (tables_of old) items) where
   told_so : Told old.trace new.trace (Adding items is old.gate)
   told_so = subst (λ l. Told old.trace new.trace (λ s t. (ps : List (List ℕ)) → IsAtRest old.gate ps s → Throughout (HoldsOneMore ps l) s t)) same moments

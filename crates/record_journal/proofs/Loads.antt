@@ -9,7 +9,8 @@ use Rattle.repo_model.specs.Tables.{Tables, no_tables, applied}
 use Rattle.repo_rows.specs.Reading.{taken}
 use Rattle.repo_rows.proofs.Changes.{again}
 use Rattle.row_tables.specs.Applying.{with_items}
-use Rattle.row_tables.specs.Items.{IsChange, change_bytes}
+use Rattle.row_tables.specs.Items.{IsChange, are_of, change_bytes}
+use Rattle.row_tables.specs.declared.version.Version.TheVariants.{Second}
 use Rattle.row_tables.specs.declared.faults.LoadFault.{LoadFault}
 use Rattle.record_journal.specs.Given.{Loads}
 use Rattle.record_journal.specs.Loading.{of_size, change_in, by_bytes, with_change, after_frame, next_frame, after_frames, loading_of, loading, built_up}
@@ -88,10 +89,14 @@ pushed frame t u v (q ∷ payloads) p builds next = by (λ w is. pushed (frame +
 pub after_change : (t : Tables) (p : List ℕ) (items : List Item) → change_in p ≡ Ok items → applied t items ≡ Ok (with_items t items) → after_frame t p ≡ Ok (with_items t items)
 after_change t p items change fits = ap (with_change t) change ∙ ap (by_bytes items) fits
 
+-- a change whose files have their SHA-256 and SHA-512
+abbrev pub IsWritable : List Item → Type 0
+IsWritable items = IsChange items × (are_of Second items ≡ true)
+
 -- what was written is read again
-pub change_again : (items : List Item) → IsChange items → change_in (change_bytes items) ≡ Ok items
+pub change_again : (items : List Item) → IsWritable items → change_in (change_bytes items) ≡ Ok items
 change_again items is =
     let bytes = change_bytes items in
-    let read : taken bytes ≡ Ok (items, length bytes) = ap taken (sym (append-nil bytes)) ∙ again items [] is in
+    let read : taken bytes ≡ Ok (items, length bytes) = ap taken (sym (append-nil bytes)) ∙ again Second items [] is.0 is.1 in
     let whole : (length bytes == length bytes) ≡ true = grind (arith, nat_tests) in
     ap (of_size (length bytes)) read ∙ (λ i. if whole i then Ok items else Err 0)

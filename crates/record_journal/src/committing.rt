@@ -1,10 +1,11 @@
 //! How a change is committed.
-ghost use Rattle.std.specs.Prelude.{◌≡◌, ◌⊎◌, ◌<◌, ◌+◌, ◌^◌, [], None, Some, Ok, length, IfOk, IsOk, IsErrOf, OnOk, OnErr};
+ghost use Rattle.std.specs.Prelude.{◌≡◌, ◌⊎◌, ◌<◌, ◌+◌, ◌^◌, [], None, Some, Ok, length, IfOk, IsTrue, IsOk, IsErrOf, OnOk, OnErr};
 ghost use Rattle.std.specs.Option.{ForSome, option_map};
 ghost use Rattle.record_disk.specs.Disk.{Told};
 ghost use Rattle.repo_model.specs.Tables.{applied};
 ghost use Rattle.row_tables.specs.Applying.{with_items};
-ghost use Rattle.row_tables.specs.Items.{IsChange, change_bytes};
+ghost use Rattle.row_tables.specs.Items.{IsChange, are_of, change_bytes};
+ghost use Rattle.row_tables.specs.declared.version.Version.TheVariants.{Second};
 ghost use Rattle.row_tables.specs.Records.{HasCommitCause};
 ghost use Rattle.row_tables.specs.declared.faults.CommitFault.TheVariants.{Failed as failed};
 ghost use Rattle.record_journal.specs.Journal.{tables_of, Adds, AddsNothing, IsReady, Commits};
@@ -35,6 +36,7 @@ fn append_change<D: Disk>(
     change: &Change,
 ) -> Result<(), CommitFault>
     requires ready { IsReady log.old }
+    requires whole { IsTrue (are_of Second change.now) }
     requires undone { log.old.pending ≡ None }
     requires fits { ForSome (tables_of log.old) (λ t. applied t change.now ≡ Ok (with_items t change.now)) }
     ensures cause { HasCommitCause log.old.faults log.new.faults result }
@@ -66,6 +68,7 @@ pub fn commit_change<D: Disk>(
     change: &Change,
 ) -> Result<(), CommitFault>
     requires ready { IsReady log.old }
+    requires whole { IsTrue (are_of Second change.now) }
     requires fits { ForSome (tables_of log.old) (λ t. applied t change.now ≡ Ok (with_items t change.now)) }
     ensures cause { HasCommitCause log.old.faults log.new.faults result }
     ensures ready { IsReady log.new }

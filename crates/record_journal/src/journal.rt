@@ -1,10 +1,11 @@
-ghost use Rattle.std.specs.Prelude.{◌≡◌, ◌⊎◌, ◌+◌, [], None, Some, Ok, length, IfOk, IfSome, IsOk, IsErrOf, OnOk, OnErr, false, is_some};
+ghost use Rattle.std.specs.Prelude.{◌≡◌, ◌⊎◌, ◌+◌, [], None, Some, Ok, length, IfOk, IfSome, IsTrue, IsOk, IsErrOf, OnOk, OnErr, false, is_some};
 ghost use Rattle.std.specs.Option.{ForSome, option_map};
 ghost use Rattle.record_disk.specs.Disk.{After, Sync, content, Told};
 ghost use Rattle.record_log.specs.Frames.{frames, end_of};
 ghost use Rattle.repo_model.specs.Tables.{applied};
 ghost use Rattle.row_tables.specs.Applying.{with_items};
-ghost use Rattle.row_tables.specs.Items.{change_bytes};
+ghost use Rattle.row_tables.specs.Items.{are_of, change_bytes};
+ghost use Rattle.row_tables.specs.declared.version.Version.TheVariants.{Second};
 ghost use Rattle.row_tables.specs.Recorded.{IsBuiltUp};
 ghost use Rattle.row_tables.specs.Records.{HasLoadCause, HasCommitCause, IsRefusal, LoadsUnlessFailed};
 ghost use Rattle.row_tables.specs.declared.faults.CommitFault.TheVariants.{Failed as failed};
@@ -97,6 +98,7 @@ impl<D: Disk> Records for Journal<D> {
 
     fn commit(&mut self, alloc: Global, change: &Change) -> Result<(), CommitFault>
         requires ready { IsReady self.old }
+        requires whole { IsTrue (are_of Second change.now) }
         requires fits { ForSome (tables_of self.old) (λ t. applied t change.now ≡ Ok (with_items t change.now)) }
         ensures cause { HasCommitCause self.old.faults self.new.faults result }
         ensures ok { OnOk result (tables_of self.new ≡ option_map (λ t. with_items t change.now) (tables_of self.old)) }

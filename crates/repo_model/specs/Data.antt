@@ -1,4 +1,4 @@
--- The plain data of a repository: fingerprints, stored blobs, rows and sessions (SHA-1 of FIPS 180-4 and MD5 of RFC 1321 as checksums).
+-- The plain data of a repository: fingerprints, stored blobs, rows and sessions (SHA-1, SHA-256 and SHA-512 of FIPS 180-4 and MD5 of RFC 1321 as checksums).
 use Rattle.std.specs.Prelude.{ℕ, Bool, ◌&&◌, ◌==◌, List, Option}
 use Rattle.std.specs.Str.{bytes_eq}
 use Rattle.repo_model.specs.declared.print.Print.{Print}
@@ -6,7 +6,10 @@ use Rattle.repo_model.specs.declared.session.SessionResult.{SessionResult}
 use Rattle.repo_model.specs.Settings.{Rule}
 
 abbrev pub is_same_print : Print → Print → Bool
-is_same_print a b = (a.length == b.length) && (bytes_eq a.digests.sha1 b.digests.sha1 && bytes_eq a.digests.md5 b.digests.md5)
+is_same_print a b =
+    (a.length == b.length)
+    && (bytes_eq a.digests.sha1 b.digests.sha1 && (bytes_eq a.digests.md5 b.digests.md5
+    && (bytes_eq a.digests.sha256 b.digests.sha256 && bytes_eq a.digests.sha512 b.digests.sha512)))
 
 -- a stored blob: its number, its bytes where they are told, and its fingerprint
 pub record Blob : Type 0 where

@@ -7,6 +7,7 @@ use Rattle.repo_model.specs.declared.item.Item.{Item}
 use Rattle.repo_model.specs.declared.item.Item.TheVariants.{HostedPut, Faded, Relisted, Removed, SessionOpened, SessionEnded}
 use Rattle.repo_model.specs.declared.session.SessionResult.{SessionResult}
 use Rattle.repo_model.specs.Data.{Blob, Row, listed, fading, Hosted, Staged, Session}
+use Rattle.repo_model.specs.Prints.{recorded_print}
 use Rattle.repo_model.specs.State.{State, Yard, change_where, change_first, is_repository, is_row, is_staged, is_open_at, is_among}
 
 pub data Effect : Type 0 where
@@ -164,9 +165,9 @@ with_effects s (e ∷ es) = with_effects (with_effect s e) es
 abbrev pub items_of : Effect → List Item
 items_of draws = []
 items_of (drops n) = []
-items_of (creates repo path blob moment) = HostedPut repo path blob.number blob.print moment ∷ []
+items_of (creates repo path blob moment) = HostedPut repo path blob.number (recorded_print blob.print) moment ∷ []
 items_of (stages n path blob) = []
-items_of (delivers n repo path blob moment) = HostedPut repo path blob.number blob.print moment ∷ []
+items_of (delivers n repo path blob moment) = HostedPut repo path blob.number (recorded_print blob.print) moment ∷ []
 items_of (discards n path draft) = []
 items_of (relists repo path moment) = Relisted repo path moment ∷ []
 items_of (fades repo path moment) = Faded repo path moment ∷ []

@@ -1,6 +1,7 @@
 pub mod Settings
 pub mod Data
 pub mod Paths
+pub mod Prints
 pub mod Document
 pub mod State
 pub mod Effect

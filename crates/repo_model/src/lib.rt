@@ -18,6 +18,6 @@ pub use blobs::Numbers;
 pub use command::{Command, Place};
 pub use item::Item;
 pub use numbers::NUMBER_END;
-pub use print::Print;
+pub use print::{Print, Recorded};
 pub use reply::Reply;
 pub use session::SessionResult;

@@ -1,13 +1,15 @@
 -- Changes within the bytes that are looked at.
-use Rattle.std.proofs.Common.{◌≡◌, ℕ, ◌+◌, ◌-◌, ◌^◌, ◌<◌, ◌≤◌, min, inl, inr, List, [], ◌∷◌, ◌++◌, length, take, drop, Result, Ok, Err, sym, ap, ◌∙◌, append_assoc, arith, length-append, length-take}
+use Rattle.std.proofs.Common.{◌≡◌, ℕ, ◌+◌, ◌-◌, ◌^◌, ◌<◌, ◌≤◌, min, inl, inr, List, [], ◌∷◌, ◌++◌, length, take, drop, Result, Ok, Err, refl, sym, ap, ◌∙◌, append_assoc, arith, length-append, length-take}
 use Rattle.std.specs.List.{flat_map}
 use Rattle.std.proofs.lemmas.Bool.{cases_lt}
 use Rattle.std.specs.Int.{w32, to_be_bytes}
 use Rattle.std.proofs.lemmas.List.{take_at, take_all, take-append-drop}
 use Rattle.std.proofs.Math.Seq.{take-append-add}
 use Rattle.repo_model.specs.declared.item.Item.{Item}
-use Rattle.repo_model.specs.declared.item.Item.TheVariants.{HostedPut, Faded, Relisted, Removed, CachedFile, CachedDoc, SessionOpened, SessionEnded}
-use Rattle.row_tables.specs.Items.{IsChange, item_bytes, change_bytes}
+use Rattle.repo_model.specs.declared.item.Item.TheVariants.{HostedPut, Faded, Relisted, Removed, CachedFile, CachedDoc, SessionOpened, SessionEnded, Digested}
+use Rattle.row_tables.specs.Items.{IsChange, item_bytes, change_bytes, change_of, version_byte}
+use Rattle.row_tables.specs.declared.version.Version.{Version}
+use Rattle.row_tables.specs.declared.version.Version.TheVariants.{First, Second}
 use Rattle.repo_rows.specs.Laws.{ReadsAgain, WasWritten}
 use Rattle.repo_rows.specs.Reading.{change_at, placed, taken}
 use Rattle.repo_rows.proofs.FieldLaws.{IsBytes, IsBytes-take}
@@ -23,6 +25,7 @@ some_byte (CachedFile repo path blob print accepted) = omega arith
 some_byte (CachedDoc repo path checked document) = omega arith
 some_byte (SessionOpened number) = omega arith
 some_byte (SessionEnded session result) = omega arith
+some_byte (Digested repo path further) = omega arith
 
 few_items : (items : List Item) → length items ≤ length (flat_map item_bytes items)
 few_items [] = omega arith
@@ -34,6 +37,10 @@ size_of_change items = omega (arith, length-append (to_be_bytes w32 (length item
 pub few : (items : List Item) → length (change_bytes items) < 2 ^ 32 → length items < 2 ^ 32
 few items small = omega (arith, small, size_of_change items, few_items items)
 
+-- in each version a change has as many bytes
+pub size_of : (version : Version) (items : List Item) → length (change_of version items) ≡ length (change_bytes items)
+size_of version items = refl
+
 -- the front of what is looked at
 looked_at : (front rest : List ℕ) (n : ℕ) → length front ≤ n → take n (front ++ rest) ≡ front ++ take (n - length front) rest
 looked_at front rest n fits =
@@ -41,11 +48,12 @@ looked_at front rest n fits =
     ap (λ k. take k (front ++ rest)) e ∙ take-append-add front rest (n - length front)
 
 pub again : ReadsAgain
-again items rest is =
-    let front = change_bytes items in
+again version items rest is so =
+    let front = change_of version items in
     let more = take (4294967295 - length front) rest in
-    let seen : take 4294967295 (front ++ rest) ≡ front ++ more = looked_at front rest 4294967295 (omega (arith, is.size)) in
-    let read : change_at (front ++ more) ≡ Ok (items, more) = change_again items more is.form (few items is.size) in
+    let short : length front < 2 ^ 32 = omega (arith, size_of version items, is.size) in
+    let seen : take 4294967295 (front ++ rest) ≡ front ++ more = looked_at front rest 4294967295 (omega (arith, short)) in
+    let read : change_at (front ++ more) ≡ Ok (items, more) = change_again version items more is.form so (few items is.size) in
     let size : length (front ++ more) - length more ≡ length front = omega (arith, length-append front more) in
     ap (λ l. placed (length l) (change_at l)) seen ∙ ap (placed (length (front ++ more))) read ∙ ap (λ n. Ok (items, n)) size
 
@@ -60,11 +68,12 @@ was_written bytes items size are is =
     let seen = take 4294967295 bytes in
     let p = placed_ok (length seen) (change_at seen) items size is in
     let t = change_takes seen (items, p.0) (IsBytes-take 4294967295 bytes are) p.1 in
-    let long : length seen ≡ length (change_bytes items) + length p.0 = omega (arith, ap length t.parts, length-append (change_bytes items) p.0) in
-    let at : size ≡ length (change_bytes items) = omega (arith, p.2, long) in
-    let small : length (change_bytes items) < 2 ^ 32 = omega (arith, long, length-take 4294967295 bytes) in
-    let whole : bytes ≡ change_bytes items ++ (p.0 ++ drop 4294967295 bytes) = sym (take-append-drop 4294967295 bytes) ∙ ap (λ l. l ++ drop 4294967295 bytes) t.parts ∙ append_assoc (change_bytes items) p.0 (drop 4294967295 bytes) in
-    (record { form = t.fits; size = small }, ap (take size) whole ∙ take_at (change_bytes items) (p.0 ++ drop 4294967295 bytes) size (sym at), at)
+    let front = change_of t.version items in
+    let long : length seen ≡ length front + length p.0 = omega (arith, ap length t.parts, length-append front p.0) in
+    let at : size ≡ length front = omega (arith, p.2, long) in
+    let small : length (change_bytes items) < 2 ^ 32 = omega (arith, long, size_of t.version items, length-take 4294967295 bytes) in
+    let whole : bytes ≡ front ++ (p.0 ++ drop 4294967295 bytes) = sym (take-append-drop 4294967295 bytes) ∙ ap (λ l. l ++ drop 4294967295 bytes) t.parts ∙ append_assoc front p.0 (drop 4294967295 bytes) in
+    (record { form = t.fits; size = small }, t.version, t.of_version, ap (take size) whole ∙ take_at front (p.0 ++ drop 4294967295 bytes) size (sym at), at)
 
 -- what is looked at, as the code cuts it
 pub looked : (bytes : List ℕ) (most : ℕ) → take (min (length bytes) most) bytes ≡ take most bytes

@@ -1,6 +1,7 @@
 pub mod Ascii
 pub mod Loop
 pub mod FieldLaws
+pub mod FileLaws
 pub mod Kept
 pub mod DocumentLaws
 pub mod ItemLaws

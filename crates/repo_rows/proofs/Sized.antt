@@ -8,7 +8,7 @@ use Rattle.mvn_metadata.specs.Document.{Document, settled}
 use Rattle.mvn_metadata.specs.Form.{is_document}
 use Rattle.mvn_metadata.specs.Written.{text}
 use Rattle.repo_model.specs.declared.item.Item.{Item}
-use Rattle.repo_model.specs.declared.item.Item.TheVariants.{HostedPut, Faded, Relisted, Removed, CachedFile, CachedDoc, SessionOpened, SessionEnded}
+use Rattle.repo_model.specs.declared.item.Item.TheVariants.{HostedPut, Faded, Relisted, Removed, CachedFile, CachedDoc, SessionOpened, SessionEnded, Digested}
 use Rattle.row_tables.specs.Items.{is_id, is_file_path, directory_at, is_moment, is_kept_in, is_item}
 use Rattle.repo_rows.specs.Sizes.{IsSized}
 use Rattle.repo_rows.proofs.Ascii.{both, id_short, file_path_short, document_path_short}
@@ -32,6 +32,7 @@ item_sized (CachedDoc repo path checked document) is =
     (id_short repo p.0, document_path_short path q.0, kept_size (directory_at path) document (both (is_moment checked) _ q.1).1)
 item_sized (SessionOpened number) is = tt
 item_sized (SessionEnded session result) is = tt
+item_sized (Digested repo path further) is = let p = both (is_id repo) _ is in (id_short repo p.0, file_path_short path (both (is_file_path path) _ p.1).0)
 
 pub are_sized : (items : List Item) → IsTrue (list_all is_item items) → (k : ℕ) (d : Item) → k < length items → IsSized (get_or items k d)
 are_sized [] all k d within = absurd (omega arith)

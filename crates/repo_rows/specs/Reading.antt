@@ -3,15 +3,18 @@
 use Rattle.std.specs.Prelude.{ℕ, zero, suc, ◌-◌, Bool, ◌==◌, nat_lt, nat_le, if◌then◌else◌, List, [], ◌∷◌, length, take, drop, Option, Some, None, is_some, Result, Ok, Err, bytes_eq}
 use Rattle.std.specs.Int.{Width, w16, w32, w64, byte_len, from_be_bytes}
 use Rattle.mvn_coords.specs.Layout.{Directory}
+use Rattle.mvn_digest.specs.declared.known.Further.{Further}
 use Rattle.mvn_doc.specs.Reading.{reading}
 use Rattle.mvn_metadata.specs.Document.{Document, settled}
 use Rattle.mvn_metadata.specs.Written.{text}
 use Rattle.repo_model.specs.declared.item.Item.{Item}
-use Rattle.repo_model.specs.declared.item.Item.TheVariants.{HostedPut, Faded, Relisted, Removed, CachedFile, CachedDoc, SessionOpened, SessionEnded}
-use Rattle.repo_model.specs.declared.print.Print.{Print}
+use Rattle.repo_model.specs.declared.item.Item.TheVariants.{HostedPut, Faded, Relisted, Removed, CachedFile, CachedDoc, SessionOpened, SessionEnded, Digested}
+use Rattle.repo_model.specs.declared.print.Recorded.{Recorded}
 use Rattle.repo_model.specs.declared.session.SessionResult.{SessionResult}
 use Rattle.repo_model.specs.declared.session.SessionResult.TheVariants.{Aborted, Done}
 use Rattle.row_tables.specs.Items.{is_id, is_file_path, directory_at, is_moment, is_count, is_number}
+use Rattle.row_tables.specs.declared.version.Version.{Version}
+use Rattle.row_tables.specs.declared.version.Version.TheVariants.{First, Second}
 
 infixl 10 ◌>>=◌
 abbrev pub ◌>>=◌ : {A B : Type 0} → Result A ℕ → (A → Result B ℕ) → Result B ℕ
@@ -65,18 +68,36 @@ serial_at bytes = of_form is_number (number_at w64) bytes
 unfoldable pub place_at : Field (List ℕ × List ℕ)
 place_at bytes = then_at id_at file_path_at bytes
 
-abbrev pub print_of : ℕ × (List ℕ × List ℕ) → Print
-print_of p = record { length = p.0; digests = record { sha1 = p.1.0; md5 = p.1.1 } }
+-- SHA-256 and SHA-512
+abbrev pub further_of : List ℕ × List ℕ → Further
+further_of f = record { sha256 = f.0; sha512 = f.1 }
 
-unfoldable pub print_at : Field Print
-print_at bytes = then_at count_at (then_at (bytes_at 20) (bytes_at 16)) bytes >>= λ x. Ok (print_of x.0, x.1)
+unfoldable pub further_at : Field Further
+further_at bytes = then_at (bytes_at 32) (bytes_at 64) bytes >>= λ x. Ok (further_of x.0, x.1)
+
+-- what is recorded of a file's content, in the first version and since the second
+abbrev pub short_of : ℕ × (List ℕ × List ℕ) → Recorded
+short_of p = record { length = p.0; digests = record { sha1 = p.1.0; md5 = p.1.1; further = None } }
+
+unfoldable pub short_at : Field Recorded
+short_at bytes = then_at count_at (then_at (bytes_at 20) (bytes_at 16)) bytes >>= λ x. Ok (short_of x.0, x.1)
+
+abbrev pub whole_of : ℕ × (List ℕ × (List ℕ × Further)) → Recorded
+whole_of p = record { length = p.0; digests = record { sha1 = p.1.0; md5 = p.1.1.0; further = Some p.1.1.1 } }
+
+unfoldable pub whole_at : Field Recorded
+whole_at bytes = then_at count_at (then_at (bytes_at 20) (then_at (bytes_at 16) further_at)) bytes >>= λ x. Ok (whole_of x.0, x.1)
+
+abbrev pub print_at : Version → Field Recorded
+print_at First = short_at
+print_at Second = whole_at
 
 -- what a file's item has behind its tag
 abbrev pub FileFields : Type 0
-FileFields = (List ℕ × List ℕ) × (ℕ × (Print × ℕ))
+FileFields = (List ℕ × List ℕ) × (ℕ × (Recorded × ℕ))
 
-unfoldable pub file_at : Field FileFields
-file_at bytes = then_at place_at (then_at serial_at (then_at print_at moment_at)) bytes
+unfoldable pub file_at : Version → Field FileFields
+file_at version bytes = then_at place_at (then_at serial_at (then_at (print_at version) moment_at)) bytes
 
 -- the document of a text, as it is settled for a directory, where it is written so
 abbrev pub as_settled : List ℕ → Directory → Result Document ℕ → Option Document
@@ -115,31 +136,42 @@ hosted_of f = HostedPut f.0.0 f.0.1 f.1.0 f.1.1.0 f.1.1.1
 abbrev pub cached_of : FileFields → Item
 cached_of f = CachedFile f.0.0 f.0.1 f.1.0 f.1.1.0 f.1.1.1
 
--- an item by its tag
-unfoldable pub item_of : ℕ → List ℕ → Result (Item × List ℕ) ℕ
-item_of tag rest =
-    if tag == 1 then (file_at rest >>= λ x. Ok (hosted_of x.0, x.1))
+-- SHA-256 and SHA-512 of a file, which are given in the second version alone
+unfoldable pub digested_at : Version → Field Item
+digested_at First rest = Err (suc (length rest))
+digested_at Second rest = then_at place_at further_at rest >>= λ x. Ok (Digested x.0.0.0 x.0.0.1 x.0.1, x.1)
+
+-- an item of a version by its tag
+unfoldable pub item_of : Version → ℕ → List ℕ → Result (Item × List ℕ) ℕ
+item_of version tag rest =
+    if tag == 1 then (file_at version rest >>= λ x. Ok (hosted_of x.0, x.1))
     else (if tag == 2 then (then_at place_at moment_at rest >>= λ x. Ok (Faded x.0.0.0 x.0.0.1 x.0.1, x.1))
     else (if tag == 3 then (then_at place_at moment_at rest >>= λ x. Ok (Relisted x.0.0.0 x.0.0.1 x.0.1, x.1))
     else (if tag == 4 then (place_at rest >>= λ x. Ok (Removed x.0.0 x.0.1, x.1))
-    else (if tag == 5 then (file_at rest >>= λ x. Ok (cached_of x.0, x.1))
+    else (if tag == 5 then (file_at version rest >>= λ x. Ok (cached_of x.0, x.1))
     else (if tag == 6 then (kept_at rest >>= λ x. Ok (CachedDoc x.0.0.0 x.0.0.1 x.0.1.0 x.0.1.1, x.1))
     else (if tag == 7 then (serial_at rest >>= λ x. Ok (SessionOpened x.0, x.1))
     else (if tag == 8 then (then_at serial_at result_at rest >>= λ x. Ok (SessionEnded x.0.0 x.0.1, x.1))
-    else Err (suc (length rest)))))))))
+    else (if tag == 9 then digested_at version rest
+    else Err (suc (length rest))))))))))
 
-unfoldable pub item_at : Field Item
-item_at [] = Err 0
-item_at (tag ∷ rest) = item_of tag rest
+unfoldable pub item_at : Version → Field Item
+item_at version [] = Err 0
+item_at version (tag ∷ rest) = item_of version tag rest
 
-unfoldable pub items_at : ℕ → Field (List Item)
-items_at zero bytes = Ok ([], bytes)
-items_at (suc n) bytes = item_at bytes >>= λ i. items_at n i.1 >>= λ is. Ok (i.0 ∷ is.0, is.1)
+unfoldable pub items_at : Version → ℕ → Field (List Item)
+items_at version zero bytes = Ok ([], bytes)
+items_at version (suc n) bytes = item_at version bytes >>= λ i. items_at version n i.1 >>= λ is. Ok (i.0 ∷ is.0, is.1)
 
--- a change: its version, which is 1, how many items it has, and these
+-- a change: its version, which is 1 or 2, how many items it has, and these
+unfoldable pub counted_items_at : Version → Field (List Item)
+counted_items_at version bytes = number_at w32 bytes >>= λ n. items_at version n.0 n.1
+
 unfoldable pub change_at : Field (List Item)
 change_at [] = Err 0
-change_at (version ∷ rest) = if version == 1 then (number_at w32 rest >>= λ n. items_at n.0 n.1) else Err (suc (length rest))
+change_at (version ∷ rest) =
+    if version == 1 then counted_items_at First rest
+    else (if version == 2 then counted_items_at Second rest else Err (suc (length rest)))
 
 -- the change that bytes begin with and how many of them it takes; or where the first field begins that is refused. A change
 -- has fewer than 2^32 bytes, so no more of them are looked at.

@@ -1,32 +1,48 @@
 //! What items have behind their tags.
 ghost use Rattle.std.specs.Prelude.{◌≡◌, IfOk};
 ghost use Rattle.repo_rows.specs.Given.{Gives};
-ghost use Rattle.repo_rows.specs.Reading.{print_at, file_at, kept_in, written_at, document_at, kept_at, result_at};
+ghost use Rattle.repo_rows.specs.Reading.{further_at, short_at, whole_at, print_at, file_at, kept_in, written_at, document_at, kept_at, result_at};
 ghost use Rattle.row_tables.specs.Items.{directory_at};
 
 use crate::faults::ReadFault;
 use crate::numbers::{Read, read_count, read_moment, read_serial, read_u32, read_u64};
 use crate::strings::{read_bytes, read_document_path, read_id, read_place};
 use mvn_coords::{Kind, kind_of};
-use mvn_digest::Digests;
+use mvn_digest::{Further, Known};
 use mvn_doc::{DocFault, read, write};
 use mvn_metadata::{Doc, settle};
-use repo_model::{Print, SessionResult};
+use repo_model::{Recorded, SessionResult};
+use row_tables::Version;
 use std::alloc::{AllocError, Global};
 use texts::Text;
 
 /// A repository and a path in it.
 pub type Place = (Text, Text);
 
-/// The place of a file, its blob's number, its fingerprint and the moment when it was accepted.
-pub type FileFields = (Place, (u64, (Print, u64)));
+/// The place of a file, its blob's number, what is recorded of its content, and the moment when it was accepted.
+pub type FileFields = (Place, (u64, (Recorded, u64)));
 
 /// The place of a document, the moment when it was asked for, and the document.
 pub type KeptFields = (Place, (u64, Doc));
 
-#[tactic(auto, unfolding(crate::specs::Reading::print_at))]
-fn read_print(bytes: &[u8]) -> Read<'_, Print>
-    ensures { Gives (λ x. (x.0, x.1.now)) result (print_at bytes.now) }
+/// SHA-256 and SHA-512.
+#[tactic(auto, unfolding(crate::specs::Reading::further_at))]
+pub fn read_further(bytes: &[u8]) -> Read<'_, Further>
+    ensures { Gives (λ x. (x.0, x.1.now)) result (further_at bytes.now) }
+{
+    let (front, rest) = read_bytes(bytes, 32)?;
+    let mut sha256 = [0; 32];
+    sha256.copy_from_slice(front);
+    let (front, rest) = read_bytes(rest, 64)?;
+    let mut sha512 = [0; 64];
+    sha512.copy_from_slice(front);
+    Ok((Further { sha256, sha512 }, rest))
+}
+
+// What the first version records of a content.
+#[tactic(auto, unfolding(crate::specs::Reading::short_at))]
+fn read_short(bytes: &[u8]) -> Read<'_, Recorded>
+    ensures { Gives (λ x. (x.0, x.1.now)) result (short_at bytes.now) }
 {
     let (length, rest) = read_count(bytes)?;
     let (front, rest) = read_bytes(rest, 20)?;
@@ -35,18 +51,52 @@ fn read_print(bytes: &[u8]) -> Read<'_, Print>
     let (front, rest) = read_bytes(rest, 16)?;
     let mut md5 = [0; 16];
     md5.copy_from_slice(front);
-    let digests = Digests { sha1, md5 };
-    Ok((Print { length, digests }, rest))
+    let digests = Known {
+        sha1,
+        md5,
+        further: None,
+    };
+    Ok((Recorded { length, digests }, rest))
+}
+
+// What the second version records of a content.
+#[tactic(auto, unfolding(crate::specs::Reading::whole_at))]
+fn read_whole(bytes: &[u8]) -> Read<'_, Recorded>
+    ensures { Gives (λ x. (x.0, x.1.now)) result (whole_at bytes.now) }
+{
+    let (length, rest) = read_count(bytes)?;
+    let (front, rest) = read_bytes(rest, 20)?;
+    let mut sha1 = [0; 20];
+    sha1.copy_from_slice(front);
+    let (front, rest) = read_bytes(rest, 16)?;
+    let mut md5 = [0; 16];
+    md5.copy_from_slice(front);
+    let (further, rest) = read_further(rest)?;
+    let digests = Known {
+        sha1,
+        md5,
+        further: Some(further),
+    };
+    Ok((Recorded { length, digests }, rest))
+}
+
+fn read_print(version: Version, bytes: &[u8]) -> Read<'_, Recorded>
+    ensures { Gives (λ x. (x.0, x.1.now)) result (print_at version bytes.now) }
+{
+    match version {
+        Version::First => read_short(bytes),
+        Version::Second => read_whole(bytes),
+    }
 }
 
 /// What a file's item has.
 #[tactic(auto, unfolding(crate::specs::Reading::file_at))]
-pub fn read_file(alloc: Global, bytes: &[u8]) -> Read<'_, FileFields>
-    ensures { Gives (λ x. (x.0, x.1.now)) result (file_at bytes.now) }
+pub fn read_file(alloc: Global, version: Version, bytes: &[u8]) -> Read<'_, FileFields>
+    ensures { Gives (λ x. (x.0, x.1.now)) result (file_at version bytes.now) }
 {
     let (place, rest) = read_place(alloc, bytes)?;
     let (blob, rest) = read_serial(rest)?;
-    let (print, rest) = read_print(rest)?;
+    let (print, rest) = read_print(version, rest)?;
     let (accepted, rest) = read_moment(rest)?;
     Ok(((place, (blob, (print, accepted))), rest))
 }

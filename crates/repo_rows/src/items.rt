@@ -1,13 +1,14 @@
 //! Items, and changes of items.
 ghost use Rattle.std.specs.Prelude.{◌≡◌, ◌≤◌, zero, suc};
 ghost use Rattle.repo_rows.specs.Given.{Gives};
-ghost use Rattle.repo_rows.specs.Reading.{then_at, place_at, moment_at, item_of, item_at, items_at, change_at};
+ghost use Rattle.repo_rows.specs.Reading.{then_at, place_at, moment_at, digested_at, item_of, item_at, items_at, counted_items_at, change_at};
 
 use crate::faults::ReadFault;
-use crate::fields::{Place, read_file, read_kept, read_result};
+use crate::fields::{Place, read_file, read_further, read_kept, read_result};
 use crate::numbers::{Read, read_moment, read_serial, read_u32};
 use crate::strings::read_place;
 use repo_model::Item;
+use row_tables::Version;
 use std::alloc::Global;
 
 // A place and a moment.
@@ -21,13 +22,15 @@ fn read_dated(alloc: Global, bytes: &[u8]) -> Read<'_, (Place, u64)>
 
 // An item of a hosted repository behind its tag.
 #[tactic(auto, unfolding(crate::specs::Reading::item_of))]
-fn hosted_behind(alloc: Global, tag: u8, bytes: &[u8]) -> Read<'_, Item>
+fn hosted_behind(alloc: Global, version: Version, tag: u8, bytes: &[u8]) -> Read<'_, Item>
     requires { tag ≤ 4 }
-    ensures { Gives (λ x. (x.0, x.1.now)) result (item_of tag bytes.now) }
+    ensures { Gives (λ x. (x.0, x.1.now)) result (item_of version tag bytes.now) }
 {
     match tag {
         1 => {
-            let (((repo, path), (blob, (print, accepted))), rest) = read_file(alloc, bytes)?;
+            let (((repo, path), (blob, (print, accepted))), rest) = read_file(
+                alloc, version, bytes,
+            )?;
             Ok((
                 Item::HostedPut {
                     repo,
@@ -62,15 +65,39 @@ fn hosted_behind(alloc: Global, tag: u8, bytes: &[u8]) -> Read<'_, Item>
     }
 }
 
+// The digests of a file behind their tag.
+#[tactic(auto, unfolding(crate::specs::Reading::digested_at))]
+fn digested_behind(alloc: Global, version: Version, bytes: &[u8]) -> Read<'_, Item>
+    ensures { Gives (λ x. (x.0, x.1.now)) result (digested_at version bytes.now) }
+{
+    match version {
+        Version::First => Err(ReadFault::Refused(bytes.len() + 1)),
+        Version::Second => {
+            let ((repo, path), rest) = read_place(alloc, bytes)?;
+            let (further, rest) = read_further(rest)?;
+            Ok((
+                Item::Digested {
+                    repo,
+                    path,
+                    further,
+                },
+                rest,
+            ))
+        }
+    }
+}
+
 // An item behind its tag.
 #[tactic(auto, unfolding(crate::specs::Reading::item_of))]
-fn item_behind(alloc: Global, tag: u8, bytes: &[u8]) -> Read<'_, Item>
-    ensures { Gives (λ x. (x.0, x.1.now)) result (item_of tag bytes.now) }
+fn item_behind(alloc: Global, version: Version, tag: u8, bytes: &[u8]) -> Read<'_, Item>
+    ensures { Gives (λ x. (x.0, x.1.now)) result (item_of version tag bytes.now) }
 {
     match tag {
-        0..=4 => hosted_behind(alloc, tag, bytes),
+        0..=4 => hosted_behind(alloc, version, tag, bytes),
         5 => {
-            let (((repo, path), (blob, (print, accepted))), rest) = read_file(alloc, bytes)?;
+            let (((repo, path), (blob, (print, accepted))), rest) = read_file(
+                alloc, version, bytes,
+            )?;
             Ok((
                 Item::CachedFile {
                     repo,
@@ -103,31 +130,41 @@ fn item_behind(alloc: Global, tag: u8, bytes: &[u8]) -> Read<'_, Item>
             let (result, rest) = read_result(rest)?;
             Ok((Item::SessionEnded { session, result }, rest))
         }
+        9 => digested_behind(alloc, version, bytes),
         _ => Err(ReadFault::Refused(bytes.len() + 1)),
     }
 }
 
 #[tactic(auto, unfolding(crate::specs::Reading::item_at))]
-fn read_item(alloc: Global, bytes: &[u8]) -> Read<'_, Item>
-    ensures { Gives (λ x. (x.0, x.1.now)) result (item_at bytes.now) }
+fn read_item(alloc: Global, version: Version, bytes: &[u8]) -> Read<'_, Item>
+    ensures { Gives (λ x. (x.0, x.1.now)) result (item_at version bytes.now) }
 {
     match bytes {
         [] => Err(ReadFault::Refused(0)),
-        [tag, rest @ ..] => item_behind(alloc, *tag, rest),
+        [tag, rest @ ..] => item_behind(alloc, version, *tag, rest),
     }
 }
 
-fn read_items(alloc: Global, count: u32, bytes: &[u8]) -> Read<'_, Vec<Item>>
-    ensures { Gives (λ x. (x.0.items, x.1.now)) result (items_at count bytes.now) }
+fn read_items(alloc: Global, version: Version, count: u32, bytes: &[u8]) -> Read<'_, Vec<Item>>
+    ensures { Gives (λ x. (x.0.items, x.1.now)) result (items_at version count bytes.now) }
 {
     let mut items = Vec::new(alloc);
     let mut rest = bytes;
     for _ in 0..count {
-        let (item, after) = read_item(alloc, rest)?;
+        let (item, after) = read_item(alloc, version, rest)?;
         items.push(item)?;
         rest = after;
     }
     Ok((items, rest))
+}
+
+// How many items a change of a version has, and these.
+#[tactic(auto, unfolding(crate::specs::Reading::counted_items_at))]
+fn read_counted(alloc: Global, version: Version, bytes: &[u8]) -> Read<'_, Vec<Item>>
+    ensures { Gives (λ x. (x.0.items, x.1.now)) result (counted_items_at version bytes.now) }
+{
+    let (count, rest) = read_u32(bytes)?;
+    read_items(alloc, version, count, rest)
 }
 
 /// The items of a change.
@@ -137,10 +174,8 @@ pub fn read_change(alloc: Global, bytes: &[u8]) -> Read<'_, Vec<Item>>
 {
     match bytes {
         [] => Err(ReadFault::Refused(0)),
-        [1, rest @ ..] => {
-            let (count, rest) = read_u32(rest)?;
-            read_items(alloc, count, rest)
-        }
+        [1, rest @ ..] => read_counted(alloc, Version::First, rest),
+        [2, rest @ ..] => read_counted(alloc, Version::Second, rest),
         [_, ..] => Err(ReadFault::Refused(bytes.len())),
     }
 }

@@ -4,11 +4,12 @@ ghost use Rattle.std.specs.Int.{w64, to_be_bytes};
 ghost use Rattle.std.specs.List.{flat_map};
 ghost use Rattle.mvn_metadata.specs.Written.{text as text_of};
 ghost use Rattle.repo_rows.specs.Sizes.{IsSized, AreSized};
-ghost use Rattle.row_tables.specs.Items.{IsHosted, text_bytes, document_bytes, print_bytes, result_bytes, place_bytes, file_bytes, item_bytes, change_bytes};
+ghost use Rattle.row_tables.specs.Items.{IsHosted, behind_sha1, further_bytes, text_bytes, document_bytes, print_bytes, result_bytes, place_bytes, file_bytes, item_bytes, change_bytes};
 
+use mvn_digest::{Further, Known};
 use mvn_doc::write;
 use mvn_metadata::Doc;
-use repo_model::{Item, Print, SessionResult};
+use repo_model::{Item, Recorded, SessionResult};
 use row_tables::Change;
 use std::alloc::{AllocError, Global};
 use texts::Text;
@@ -37,16 +38,39 @@ fn put_number(out: &mut Vec<u8>, number: u64) -> Result<(), AllocError>
     out.extend_from_slice(&number.to_be_bytes())
 }
 
-fn put_print(out: &mut Vec<u8>, print: &Print) -> Result<(), AllocError>
+fn put_further(out: &mut Vec<u8>, further: &Further) -> Result<(), AllocError>
+    ensures { OnOk result (out.new.items ≡ out.old.items ++ further_bytes further.now) }
+{
+    out.extend_from_slice(&further.sha256)?;
+    out.extend_from_slice(&further.sha512)
+}
+
+// What stands behind a file's SHA-1.
+fn put_behind_sha1(out: &mut Vec<u8>, known: &Known) -> Result<(), AllocError>
+    ensures { OnOk result (out.new.items ≡ out.old.items ++ behind_sha1 known.now.md5 known.now.further) }
+{
+    out.extend_from_slice(&known.md5)?;
+    match &known.further {
+        None => Ok(()),
+        Some(further) => put_further(out, further),
+    }
+}
+
+fn put_print(out: &mut Vec<u8>, print: &Recorded) -> Result<(), AllocError>
     ensures { OnOk result (out.new.items ≡ out.old.items ++ print_bytes print.now) }
 {
     put_number(out, print.length)?;
     out.extend_from_slice(&print.digests.sha1)?;
-    out.extend_from_slice(&print.digests.md5)
+    put_behind_sha1(out, &print.digests)
 }
 
 // What a file's item has behind its place.
-fn put_stored(out: &mut Vec<u8>, blob: u64, print: &Print, accepted: u64) -> Result<(), AllocError>
+fn put_stored(
+    out: &mut Vec<u8>,
+    blob: u64,
+    print: &Recorded,
+    accepted: u64,
+) -> Result<(), AllocError>
     ensures { OnOk result (out.new.items ≡ out.old.items ++ (to_be_bytes w64 blob ++ (print_bytes print.now ++ to_be_bytes w64 accepted))) }
 {
     put_number(out, blob)?;
@@ -169,6 +193,14 @@ fn put_item(alloc: Global, out: &mut Vec<u8>, item: &Item) -> Result<(), AllocEr
             put_number(out, *session)?;
             put_result(out, *result)
         }
+        Item::Digested {
+            repo,
+            path,
+            further,
+        } => {
+            put_tagged(out, 9, repo, path)?;
+            put_further(out, further)
+        }
         _ => put_hosted(out, item),
     }
 }
@@ -190,13 +222,13 @@ fn written(alloc: Global, change: &Change) -> Result<Vec<u8>, AllocError>
 {
     let items = change.items();
     let mut out = Vec::new(alloc);
-    out.push(1)?;
+    out.push(2)?;
     out.extend_from_slice(&(items.len() as u32).to_be_bytes())?;
     put_items(alloc, &mut out, items)?;
     Ok(out)
 }
 
-/// Writes a change behind what is there. Where memory is wanting nothing is written.
+/// Writes a change behind what is there, in the second version. Where memory is wanting nothing is written.
 pub fn put(alloc: Global, change: &Change, out: &mut Vec<u8>) -> Result<(), AllocError>
     ensures ok { OnOk result (out.new.items ≡ out.old.items ++ change_bytes change.now) }
     ensures err { OnErr result (out.new.items ≡ out.old.items) }

@@ -38,13 +38,13 @@ any_with test r (s ∷ rows) = by (any_with test r rows) (place_cmp r.repo r.row
     by known Equal = refl
     by known Greater = ap (λ b. test s || b) known ∙ or_swap (test s) (test r) (list_any test rows)
 
-any_changed : (n : ℕ) (repo path : List ℕ) (f : Row → Row) (rows : List RecordedRow) → ((row : Row) → (f row).blob ≡ row.blob)
+any_changed : (n : ℕ) (repo path : List ℕ) (f : Row → Row) (rows : List RecordedRow) → ((row : Row) → (f row).blob.number ≡ row.blob.number)
     → list_any (λ (r : RecordedRow). r.row.blob.number == n) (change_recorded repo path f rows) ≡ list_any (λ (r : RecordedRow). r.row.blob.number == n) rows
 any_changed n repo path f [] keeps = refl
 any_changed n repo path f (r ∷ rows) keeps = λ i. head (is_recorded repo path r) i || any_changed n repo path f rows keeps i
   where
     head : (b : Bool) → (cond b (record r { row = f r.row }) r).row.blob.number == n ≡ r.row.blob.number == n
-    head true = ap (λ blob. blob.number == n) (keeps r.row)
+    head true = ap (λ number. number == n) (keeps r.row)
     head false = refl
 
 any_filtered : (test p : RecordedRow → Bool) (rows : List RecordedRow) → list_any test rows ≡ false → list_any test (filter p rows) ≡ false
@@ -91,10 +91,15 @@ module _ (numbers : BTreeSet ℕ) (rows other new : List RecordedRow) (documents
       let old = or_false _ _ (among n before) in
       false_or _ _ old.0 (ap (list_any (λ (s : RecordedRow). s.row.blob.number == n)) is ∙ any_with (λ (s : RecordedRow). s.row.blob.number == n) r rows ∙ false_or _ _ apart old.1)
 
-  pub among_changed : (repo path : List ℕ) (f : Row → Row) → ((row : Row) → (f row).blob ≡ row.blob) → new ≡ change_recorded repo path f rows → NamesAmong numbers (of_hosted rows) → NamesAmong numbers (of_hosted new)
+  pub among_changed : (repo path : List ℕ) (f : Row → Row) → ((row : Row) → (f row).blob.number ≡ row.blob.number) → new ≡ change_recorded repo path f rows → NamesAmong numbers (of_hosted rows) → NamesAmong numbers (of_hosted new)
   among_changed repo path f keeps is among n none =
       let old = or_false _ _ (among n none) in
       false_or _ _ (ap (list_any (λ (s : RecordedRow). s.row.blob.number == n)) is ∙ any_changed n repo path f rows keeps ∙ old.0) old.1
+
+  pub among_changed_cached : (repo path : List ℕ) (f : Row → Row) → ((row : Row) → (f row).blob.number ≡ row.blob.number) → new ≡ change_recorded repo path f rows → NamesAmong numbers (of_cached rows) → NamesAmong numbers (of_cached new)
+  among_changed_cached repo path f keeps is among n none =
+      let old = or_false _ _ (among n none) in
+      false_or _ _ old.0 (ap (list_any (λ (s : RecordedRow). s.row.blob.number == n)) is ∙ any_changed n repo path f rows keeps ∙ old.1)
 
   pub among_filtered : (p : RecordedRow → Bool) → new ≡ filter p rows → NamesAmong numbers (of_hosted rows) → NamesAmong numbers (of_hosted new)
   among_filtered p is among n none =

@@ -2,6 +2,7 @@
 use Rattle.std.specs.Prelude.{ℕ, List, map, None, String, string_bytes}
 use Rattle.std.specs.declared.alloc.Global.{Global}
 use Rattle.repo_model.specs.Data.{Row, Phase, listed, fading}
+use Rattle.repo_model.specs.Prints.{print_in}
 use Rattle.repo_model.specs.Tables.{RecordedRow, RecordedDocument, RecordedSession}
 use Rattle.row_tables.specs.declared.files.FileRow.{FileRow}
 use Rattle.row_tables.specs.declared.files.RowPhase.{RowPhase}
@@ -19,7 +20,7 @@ shown_phase (Fading since) = fading since
 abbrev pub shown_row : List ℕ → FileRow → Row
 shown_row path row = record {
   path = path;
-  blob = record { number = row.blob; bytes = None; print = row.print };
+  blob = record { number = row.blob; bytes = None; print = print_in row.print };
   accepted = row.accepted;
   phase = shown_phase row.phase;
 }

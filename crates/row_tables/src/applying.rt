@@ -5,7 +5,7 @@ ghost use Rattle.mvn_metadata.specs.Form.{is_document};
 ghost use Rattle.repo_model.specs.Tables.{fits_on, item_on};
 ghost use Rattle.row_tables.specs.Applying.{Tried, Applies};
 ghost use Rattle.row_tables.specs.Items.{IsHosted, is_item};
-ghost use Rattle.repo_model.specs.declared.item.Item.TheVariants.{CachedDoc};
+ghost use Rattle.repo_model.specs.declared.item.Item.TheVariants.{CachedDoc, Digested};
 
 use crate::change::Change;
 use crate::copies::copied_document;
@@ -14,13 +14,14 @@ use crate::faults::ApplyFault;
 use crate::files::{FileRow, RowPhase};
 use crate::paths::new_place;
 use crate::tables::Tables;
+use mvn_digest::Further;
 use mvn_metadata::Doc;
-use repo_model::{Item, Print};
+use repo_model::{Item, Recorded};
 use std::alloc::{AllocError, Global};
 use texts::Text;
 
 // A visible row.
-fn listed(blob: u64, print: Print, accepted: u64) -> FileRow
+fn listed(blob: u64, print: Recorded, accepted: u64) -> FileRow
     ensures { result ≡ record { blob = blob; print = print; accepted = accepted; phase = RowPhase.Listed } }
 {
     FileRow {
@@ -50,6 +51,22 @@ impl Tables {
         let document = copied_document(alloc, document)?;
         self.keep(place, KeptDocument { checked, document })?;
         Ok(true)
+    }
+
+    // Completes the digests of a file that lacks SHA-256 and SHA-512.
+    fn complete(
+        &mut self,
+        alloc: Global,
+        repo: &Text,
+        path: &Text,
+        further: Further,
+    ) -> Result<bool, AllocError>
+        ensures ok { IfOk result (Tried (fits_on self.old (Digested repo.now path.now further))
+            (item_on self.old (Digested repo.now path.now further)) self.old self.new) }
+        ensures err { OnErr result (self.new ≡ self.old) }
+    {
+        let place = new_place(alloc, repo, path)?;
+        Ok(self.digest(&place, further))
     }
 
     // Applies an item of a hosted repository, where it fits.
@@ -114,6 +131,11 @@ impl Tables {
             } => { self.keep_copy(alloc, repo, path, *checked, document) }
             Item::SessionOpened(number) => self.open_session(*number),
             Item::SessionEnded { session, result } => Ok(self.end_session(*session, *result)),
+            Item::Digested {
+                repo,
+                path,
+                further,
+            } => self.complete(alloc, repo, path, *further),
             _ => self.apply_hosted(alloc, item),
         }
     }

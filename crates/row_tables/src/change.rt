@@ -1,5 +1,6 @@
 ghost use Rattle.std.specs.Prelude.{◌≡◌, ◌<◌, ◌^◌, ◌↔◌, [], ◌∷◌, ◌++◌, length, IsTrue, OnOk, OnErr, IfErr};
-ghost use Rattle.row_tables.specs.Items.{IsChange, is_item, change_bytes};
+ghost use Rattle.row_tables.specs.Items.{IsChange, are_of, is_item, is_of, change_bytes};
+ghost use Rattle.row_tables.specs.declared.version.Version.TheVariants.{Second};
 
 use repo_model::Item;
 use std::alloc::{AllocError, AllocFailed, Global};
@@ -22,6 +23,17 @@ impl Model for Change {
     ghost view = { λ c. c.items.items };
 
     ghost invariant = { λ c. IsChange c.items.items };
+}
+
+// Whether a file has its SHA-256 and SHA-512.
+fn has_further(item: &Item) -> bool
+    ensures { result ≡ is_of Second item.now }
+{
+    match item {
+        Item::HostedPut { print, .. } => print.digests.further.is_some(),
+        Item::CachedFile { print, .. } => print.digests.further.is_some(),
+        _ => true,
+    }
 }
 
 impl Change {
@@ -68,6 +80,13 @@ impl Change {
         ensures form { IsChange self.now }
     {
         self.items.as_slice()
+    }
+
+    /// Whether each of its files has its SHA-256 and SHA-512, as a change has that is committed.
+    pub fn is_whole(&self) -> bool
+        ensures { result ≡ are_of Second self.now }
+    {
+        self.items.iter().all(|item| has_further(item))
     }
 
     /// How many items it has.

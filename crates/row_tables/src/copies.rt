@@ -95,6 +95,15 @@ pub fn copied_item(alloc: Global, item: &Item) -> Result<Item, AllocError>
             session: *session,
             result: *result,
         },
+        Item::Digested {
+            repo,
+            path,
+            further,
+        } => Item::Digested {
+            repo: repo.copied(alloc)?,
+            path: path.copied(alloc)?,
+            further: *further,
+        },
         _ => copied_hosted(alloc, item)?,
     })
 }

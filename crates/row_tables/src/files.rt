@@ -4,10 +4,11 @@ ghost use Rattle.std.specs.Option.{option_map};
 ghost use Rattle.repo_model.specs.Data.{Row};
 ghost use Rattle.repo_model.specs.Document.{is_listed};
 ghost use Rattle.repo_model.specs.Effect.{fade, list_again};
-ghost use Rattle.repo_model.specs.Tables.{is_recorded, recorded_at, with_recorded, change_recorded};
+ghost use Rattle.repo_model.specs.Tables.{is_recorded, recorded_at, with_recorded, change_recorded, digested, lacks_at};
 ghost use Rattle.row_tables.specs.Stored.{shown_row, shown_rows, shown_entry};
 
-use repo_model::Print;
+use mvn_digest::Further;
+use repo_model::Recorded;
 use std::alloc::AllocError;
 use std::collections::BTreeMap;
 
@@ -21,11 +22,11 @@ pub enum RowPhase {
     Fading(u64),
 }
 
-/// A recorded file: its blob's number, its fingerprint, the moment when it was accepted, and its phase.
+/// A recorded file: its blob's number, what is recorded of its content, the moment when it was accepted, and its phase.
 #[derive(Clone, Copy, Debug, PartialEq, Eq)]
 pub struct FileRow {
     pub blob: u64,
-    pub print: Print,
+    pub print: Recorded,
     pub accepted: u64,
     pub phase: RowPhase,
 }
@@ -81,6 +82,26 @@ pub fn relist_file(rows: &mut BTreeMap<Place, FileRow>, place: &Place, accepted:
     if let Some(row) = rows.get_mut(place) {
         row.accepted = accepted;
         row.phase = RowPhase::Listed;
+    }
+}
+
+/// Whether a file stands at a place that lacks its SHA-256 and SHA-512.
+pub fn lacks_at(rows: &BTreeMap<Place, FileRow>, place: &Place) -> bool
+    ensures { result ≡ lacks_at (string_bytes place.now.0) (string_bytes place.now.1) (shown_rows rows.now.entries) }
+{
+    match file_at(rows, place) {
+        Some(row) => row.print.digests.further.is_none(),
+        None => false,
+    }
+}
+
+/// The file at a place has these further digests.
+pub fn digest_file(rows: &mut BTreeMap<Place, FileRow>, place: &Place, further: Further)
+    ensures { shown_rows rows.new.entries
+        ≡ change_recorded (string_bytes place.now.0) (string_bytes place.now.1) (digested further) (shown_rows rows.old.entries) }
+{
+    if let Some(row) = rows.get_mut(place) {
+        row.print.digests.further = Some(further);
     }
 }
 

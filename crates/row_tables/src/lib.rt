@@ -13,6 +13,7 @@ mod paths;
 mod records;
 mod sessions;
 mod tables;
+mod version;
 
 pub use change::Change;
 pub use documents::KeptDocument;
@@ -22,3 +23,4 @@ pub use memory::MemRecords;
 pub use records::Records;
 pub use sessions::SessionRow;
 pub use tables::Tables;
+pub use version::Version;

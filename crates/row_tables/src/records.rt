@@ -1,14 +1,16 @@
 //! Where changes are recorded.
-ghost use Rattle.std.specs.Prelude.{◌≡◌, ℕ, Bool, false, Option, None, IfOk, IfSome, OnOk, OnErr, Ok};
+ghost use Rattle.std.specs.Prelude.{◌≡◌, ℕ, Bool, false, Option, None, IfOk, IfSome, OnOk, OnErr, Ok, IsTrue};
 ghost use Rattle.std.specs.Option.{ForSome, option_map};
 ghost use Rattle.repo_model.specs.Tables.{Tables as Plain, applied};
 ghost use Rattle.row_tables.specs.Applying.{with_items};
+ghost use Rattle.row_tables.specs.Items.{are_of};
 ghost use Rattle.row_tables.specs.Recorded.{IsBuiltUp};
 ghost use Rattle.row_tables.specs.Records.{Expected, HasLoadCause, HasCommitCause, IsRefusal, LoadsUnlessFailed};
 
 use crate::change::Change;
 use crate::faults::{CommitFault, LoadFault};
 use crate::tables::Tables;
+use crate::version::Version;
 use std::alloc::Global;
 
 /// A record of changes that outlasts the program.
@@ -40,10 +42,11 @@ pub trait Records {
         ensures settled { OnOk result (unsettled self.new ≡ false) }
         ensures same { tables self.new ≡ tables self.old };
 
-    /// Adds a change. At `Ok` it is recorded for good, and no change whose commit failed is found any more. At an error the
+    /// Adds a change, each file of which has its SHA-256 and SHA-512. At `Ok` it is recorded for good, and no change whose commit failed is found any more. At an error the
     /// tables are as before, and stay so once a later commit or load succeeds.
     fn commit(&mut self, alloc: Global, change: &Change) -> Result<(), CommitFault>
         requires ready { ready self.old }
+        requires whole { IsTrue (are_of Version.Second change.now) }
         requires fits { ForSome (tables self.old) (λ t. applied t change.now ≡ Ok (with_items t change.now)) }
         ensures cause { HasCommitCause (faults self.old) (faults self.new) result }
         ensures ok { OnOk result (tables self.new ≡ option_map (λ t. with_items t change.now) (tables self.old)) }

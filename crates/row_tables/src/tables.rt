@@ -1,21 +1,23 @@
-ghost use Rattle.std.specs.Prelude.{◌≡◌, ◌&&◌, ◌==◌, ◌∷◌, ◌++◌, [], None, Some, not, is_none, find, filter, nat_lt, string_bytes, IfOk, OnOk, OnErr, List, ℕ};
+ghost use Rattle.std.specs.Prelude.{◌≡◌, ◌&&◌, ◌||◌, ◌==◌, ◌∷◌, ◌++◌, [], None, Some, not, is_none, find, filter, nat_lt, string_bytes, IfOk, OnOk, OnErr, List, ℕ};
 ghost use Rattle.std.specs.List.{list_all, list_any};
 ghost use Rattle.std.specs.BTreeMap.{values};
 ghost use Rattle.row_tables.specs.declared.files.FileRow.{FileRow};
 ghost use Rattle.repo_model.specs.Effect.{fade, list_again};
 ghost use Rattle.repo_model.specs.Paths.{is_snapshot_path};
 ghost use Rattle.repo_model.specs.State.{change_where};
-ghost use Rattle.repo_model.specs.Tables.{RecordedSession, no_tables, names_blob, greatest_moment, is_recorded, recorded_at, with_recorded, change_recorded, with_document, is_listed_row, is_fading_row, is_session, is_open_session};
+ghost use Rattle.repo_model.specs.Tables.{RecordedSession, no_tables, names_blob, greatest_moment, is_recorded, recorded_at, with_recorded, change_recorded, digested, with_digests, with_document, lacks_at, is_listed_row, is_fading_row, is_session, is_open_session};
 ghost use Rattle.row_tables.specs.Applying.{Tried};
 ghost use Rattle.row_tables.specs.Stored.{shown_entry, shown_document, shown_rows, shown_sessions};
 
 use crate::documents::{KeptDocument, keep_document};
 use crate::files::{
-    FileRow, Place, add_file, fade_file, file_at, phase_at, relist_file, remove_file,
+    FileRow, Place, add_file, digest_file, fade_file, file_at, lacks_at, phase_at, relist_file,
+    remove_file,
 };
 use crate::moments::{latest_document, latest_file};
 use crate::paths::is_snapshot;
 use crate::sessions::{SessionRow, end_in, is_next};
+use mvn_digest::Further;
 use repo_model::SessionResult;
 use std::alloc::{AllocError, Global};
 use std::collections::{BTreeMap, BTreeSet};
@@ -181,6 +183,37 @@ impl Tables {
         }
         remove_file(&mut self.hosted, place);
         true
+    }
+
+    // The hosted repository's file at a place has these further digests.
+    fn digest_hosted(&mut self, place: &Place, further: Further)
+        ensures { self.new ≡ record self.old { hosted = change_recorded (string_bytes place.now.0) (string_bytes place.now.1) (digested further) self.old.hosted } }
+    {
+        digest_file(&mut self.hosted, place, further);
+    }
+
+    // The proxy's file at a place has these further digests.
+    fn digest_cached(&mut self, place: &Place, further: Further)
+        ensures { self.new ≡ record self.old { cached = change_recorded (string_bytes place.now.0) (string_bytes place.now.1) (digested further) self.old.cached } }
+    {
+        digest_file(&mut self.cached, place, further);
+    }
+
+    // The file at a place has these further digests, where it lacks them: a hosted repository's, else a proxy's.
+    pub(crate) fn digest(&mut self, place: &Place, further: Further) -> bool
+        ensures { Tried (lacks_at (string_bytes place.now.0) (string_bytes place.now.1) self.old.hosted
+            || lacks_at (string_bytes place.now.0) (string_bytes place.now.1) self.old.cached)
+            (with_digests (string_bytes place.now.0) (string_bytes place.now.1) further self.old) self.old self.new result }
+    {
+        if lacks_at(&self.hosted, place) {
+            self.digest_hosted(place, further);
+            return true;
+        }
+        if lacks_at(&self.cached, place) {
+            self.digest_cached(place, further);
+            return true;
+        }
+        false
     }
 
     // Keeps a document at a place.

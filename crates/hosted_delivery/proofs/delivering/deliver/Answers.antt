@@ -14,7 +14,7 @@ add_and_commit-result-requires-clause-fits g c =
     let files = shown_files c.args.staged.now.entries in
     let s = session_with c.args.repo.now files in
     subst (FitWhereTold (g.K.Records.tables c.args.records.now))
-    (sym (c.in_ok-change.ensures
+    (sym (c.in_ok-change.ensures.items
     ∙ ap (λ items. items ++ c.args.also ∷ []) (c.in_ok-items.ensures.items ∙ ap (λ rs. recorded (effects_by s c.args.now rs files)) c.map-before.ensures)))
     c.requires.fits
 
@@ -27,7 +27,7 @@ returns-in_err-finish-clause-err g c =
     let some = c.add_and_commit-result.new.rows in
     let made : List Item = c.front.result.now in
     let made_is : made ≡ recorded (effects_by s now rows files) =
-    c.front.ensures ∙ ap (take c.len-count.result) c.in_ok-change.ensures ∙ ap (λ n. take n (c.in_ok-items.items.items ++ c.args.also ∷ [])) c.len-count.ensures
+    c.front.ensures ∙ ap (take c.len-count.result) c.in_ok-change.ensures.items ∙ ap (λ n. take n (c.in_ok-items.items.items ++ c.args.also ∷ [])) c.len-count.ensures
     ∙ ap (λ n. take n (c.in_ok-items.items.items ++ c.args.also ∷ [])) c.in_ok-items.items.ok.0
     ∙ take-front c.in_ok-items.items.items (c.args.also ∷ []) ∙ c.in_ok-items.ensures.items
     ∙ ap (λ rs. recorded (effects_by s now rs files)) c.map-before.ensures in
@@ -49,7 +49,7 @@ returns-clause-rows g c =
     let some = c.add_and_commit-result.new.rows in
     let made : List Item = c.front.result.now in
     let made_is : made ≡ recorded (effects_by s now rows files) =
-    c.front.ensures ∙ ap (take c.len-count.result) c.in_ok-change.ensures ∙ ap (λ n. take n (c.in_ok-items.items.items ++ c.args.also ∷ [])) c.len-count.ensures
+    c.front.ensures ∙ ap (take c.len-count.result) c.in_ok-change.ensures.items ∙ ap (λ n. take n (c.in_ok-items.items.items ++ c.args.also ∷ [])) c.len-count.ensures
     ∙ ap (λ n. take n (c.in_ok-items.items.items ++ c.args.also ∷ [])) c.in_ok-items.items.ok.0
     ∙ take-front c.in_ok-items.items.items (c.args.also ∷ []) ∙ c.in_ok-items.ensures.items
     ∙ ap (λ rs. recorded (effects_by s now rs files)) c.map-before.ensures in

@@ -1,4 +1,5 @@
-use Rattle.std.proofs.Common.{◌≡◌, ℕ, List, [], ◌∷◌, length, map, Option, Some, None, String, Global, string_bytes, vec_len, refl, sym, ap, ◌∙◌, subst, arith, eqb-true}
+use Rattle.std.proofs.Common.{◌≡◌, ℕ, List, [], ◌∷◌, length, map, Option, Some, None, String, Global, string_bytes, true, vec_len, refl, sym, ap, ◌∙◌, subst, arith, eqb-true}
+use Rattle.std.specs.Prelude.{IsTrue}
 use Rattle.std.proofs.lemmas.Bool.{both_ways, eq-eqb}
 use Rattle.std.proofs.lemmas.List.{length-map, nil_from_length}
 use Rattle.repo_model.specs.Data as plain
@@ -6,7 +7,8 @@ use Rattle.repo_model.specs.Effect.{Effect, fades, recorded}
 use Rattle.repo_model.specs.Purge.{due_rows}
 use Rattle.repo_model.specs.Tables.{Tables}
 use Rattle.row_tables.specs.Commits.{tables_with}
-use Rattle.row_tables.specs.Items.{IsChange}
+use Rattle.row_tables.specs.Items.{IsChange, are_of}
+use Rattle.row_tables.specs.declared.version.Version.TheVariants.{Second}
 use Rattle.hosted_repo.specs.Fades.{fade_at_paths}
 use Rattle.ordered_rows.specs.Recording.{FitWhereTold}
 use Rattle.ordered_rows.specs.Rows.{rows_after_all}
@@ -36,6 +38,11 @@ not-cons x xs e = cc
 nothing-due : (repo : List ℕ) (now : ℕ) (due : List plain.Row) → recorded (faded_at repo now due) ≡ [] → due ≡ []
 nothing-due repo now [] e = refl
 nothing-due repo now (row ∷ due) e = absurd (not-cons _ _ e)
+
+-- items that say so are of the second version
+fading-whole : (repo : List ℕ) (now : ℕ) (paths : List (String Global)) → are_of Second (recorded (fade_at_paths repo now paths)) ≡ true
+fading-whole repo now [] = refl
+fading-whole repo now (path ∷ paths) = fading-whole repo now paths
 
 told_same : (t : Option Tables) → t ≡ tables_with [] t
 told_same None = refl
@@ -67,6 +74,10 @@ fade_change-requires g c =
     let id = c.args.rule.now.id in
     let due = due_rows (shown_rule c.args.rule.now) c.args.now c.args.rows.now in
     subst (λ (es : List Effect). IsChange (recorded es)) (sym (ap (fade_at_paths id c.args.now) c.deref.ensures.value ∙ faded id c.args.now c.in_ok-paths.paths.items due c.in_ok-paths.ensures)) c.requires.change
+
+pub commit-requires-clause-whole : goal.commit-requires-clause-whole
+commit-requires-clause-whole g c =
+    subst (λ items. IsTrue (are_of Second items)) (sym c.in_ok-change.ensures) (fading-whole c.args.rule.now.id c.args.now c.deref.result.now)
 
 pub commit-requires-clause-fits : goal.commit-requires-clause-fits
 commit-requires-clause-fits g c =

@@ -7,30 +7,30 @@ returns-in-Err-clause-crash g c = none_crash c.args.log.now c.args.log.now c.arg
 
 pub returns-in-Ok-append-clause-ready : goal.returns-in-Ok-append-clause-ready
 returns-in-Ok-append-clause-ready g c =
-    append_ready c.args.change.now c.in-Ok.ensures.form c.args.log.now c.append.new.self c.in-Ok.payload.items c.in-Ok.ensures.bytes c.requires.undone c.append.ensures.moments c.requires.ready c.requires.fits (omega (arith, c.in-Ok-append.ensures.gate)) c.in-Ok-append.ensures.done c.in-Ok-append.ensures.ok
+    append_ready c.args.change.now (c.in-Ok.ensures.form, c.requires.whole) c.args.log.now c.append.new.self c.in-Ok.payload.items c.in-Ok.ensures.bytes c.requires.undone c.append.ensures.moments c.requires.ready c.requires.fits (omega (arith, c.in-Ok-append.ensures.gate)) c.in-Ok-append.ensures.done c.in-Ok-append.ensures.ok
 
 pub returns-in-Ok-append-clause-ok : goal.returns-in-Ok-append-clause-ok
 returns-in-Ok-append-clause-ok g c =
-    append_tables c.args.change.now c.in-Ok.ensures.form c.args.log.now c.append.new.self c.in-Ok.payload.items c.in-Ok.ensures.bytes c.requires.undone c.append.ensures.moments c.requires.ready c.requires.fits c.in-Ok-append.ensures.done c.in-Ok-append.ensures.ok
+    append_tables c.args.change.now (c.in-Ok.ensures.form, c.requires.whole) c.args.log.now c.append.new.self c.in-Ok.payload.items c.in-Ok.ensures.bytes c.requires.undone c.append.ensures.moments c.requires.ready c.requires.fits c.in-Ok-append.ensures.done c.in-Ok-append.ensures.ok
 
 pub returns-in-Ok-append-clause-crash : goal.returns-in-Ok-append-clause-crash
 returns-in-Ok-append-clause-crash g c =
-    append_crash c.args.change.now c.in-Ok.ensures.form c.args.log.now c.append.new.self c.in-Ok.payload.items c.in-Ok.ensures.bytes c.requires.undone c.append.ensures.moments c.requires.ready c.requires.fits
+    append_crash c.args.change.now (c.in-Ok.ensures.form, c.requires.whole) c.args.log.now c.append.new.self c.in-Ok.payload.items c.in-Ok.ensures.bytes c.requires.undone c.append.ensures.moments c.requires.ready c.requires.fits
 
 pub returns-in-Err-Failed-clause-ready : goal.returns-in-Err-Failed-clause-ready
 returns-in-Err-Failed-clause-ready g c =
-    append_failed_ready c.args.change.now c.in-Ok.ensures.form c.args.log.now c.append.new.self c.in-Ok.payload.items c.in-Ok.ensures.bytes c.requires.undone c.append.ensures.moments c.requires.ready c.requires.fits
+    append_failed_ready c.args.change.now (c.in-Ok.ensures.form, c.requires.whole) c.args.log.now c.append.new.self c.in-Ok.payload.items c.in-Ok.ensures.bytes c.requires.undone c.append.ensures.moments c.requires.ready c.requires.fits
     (omega (arith, c.in-Err-Failed.ensures.stays))
     (c.append.ensures.failed (c.in-Err-Failed.is ∙ ap Err c.in-Err-Failed.field-0-is)) c.in-Err-Failed.ensures.err
 
 pub returns-in-Err-Failed-clause-err : goal.returns-in-Err-Failed-clause-err
 returns-in-Err-Failed-clause-err g c =
-    append_failed_tables c.args.change.now c.in-Ok.ensures.form c.args.log.now c.append.new.self c.in-Ok.payload.items c.in-Ok.ensures.bytes c.requires.undone c.append.ensures.moments c.requires.ready c.requires.fits
+    append_failed_tables c.args.change.now (c.in-Ok.ensures.form, c.requires.whole) c.args.log.now c.append.new.self c.in-Ok.payload.items c.in-Ok.ensures.bytes c.requires.undone c.append.ensures.moments c.requires.ready c.requires.fits
     (c.append.ensures.failed (c.in-Err-Failed.is ∙ ap Err c.in-Err-Failed.field-0-is)) c.in-Err-Failed.ensures.err
 
 pub returns-in-Err-Failed-clause-crash : goal.returns-in-Err-Failed-clause-crash
 returns-in-Err-Failed-clause-crash g c =
-    append_crash c.args.change.now c.in-Ok.ensures.form c.args.log.now c.append.new.self c.in-Ok.payload.items c.in-Ok.ensures.bytes c.requires.undone c.append.ensures.moments c.requires.ready c.requires.fits
+    append_crash c.args.change.now (c.in-Ok.ensures.form, c.requires.whole) c.args.log.now c.append.new.self c.in-Ok.payload.items c.in-Ok.ensures.bytes c.requires.undone c.append.ensures.moments c.requires.ready c.requires.fits
 
 pub returns-in-Err-NoMemory-clause-crash : goal.returns-in-Err-NoMemory-clause-crash
 returns-in-Err-NoMemory-clause-crash g c =

@@ -2,6 +2,7 @@ use Rattle.std.proofs.Common.{[], ◌∷◌, sym, ap, ◌∙◌, subst}
 use Rattle.repo_model.specs.Data as plain
 use Rattle.repo_model.specs.declared.item.Item.TheVariants.{HostedPut}
 use Rattle.repo_model.specs.Effect.{new_row, with_row}
+use Rattle.repo_model.specs.Prints.{recorded_print}
 use Rattle.repo_model.specs.Shown.{shown_parcel, shown_print}
 use Rattle.repo_model.specs.State.{row_at}
 use Rattle.ordered_rows.specs.Recording.{FitWhereTold}
@@ -15,11 +16,11 @@ use Rattle.hosted_repo.proofs.hosted.Hosted.create.Goals as goal
 pub create-requires-clause-change : goal.create-requires-clause-change
 create-requires-clause-change g c =
     puts-change c.self.inside.rule.id c.self.invariant.named c.args.path.now c.args.parcel.blob (shown_print c.args.parcel) c.args.now c.requires.path c.requires.blob c.requires.length
-    c.sizes.ensures.sha1 c.sizes.ensures.md5 c.requires.moment
+    (record { sha1 = c.sizes.ensures.sha1; md5 = c.sizes.ensures.md5; sha256 = c.sizes.ensures.sha256; sha512 = c.sizes.ensures.sha512 }) c.requires.moment
 
 pub create-requires-clause-fits : goal.create-requires-clause-fits
 create-requires-clause-fits g c =
-    subst (λ (h : plain.Hosted). FitWhereTold (g.K.Records.tables c.args.records.now) (HostedPut h.rule.id c.args.path.now c.args.parcel.blob (shown_print c.args.parcel) c.args.now ∷ [])) (sym c.self.view_is) c.requires.fits
+    subst (λ (h : plain.Hosted). FitWhereTold (g.K.Records.tables c.args.records.now) (HostedPut h.rule.id c.args.path.now c.args.parcel.blob (recorded_print (shown_print c.args.parcel)) c.args.now ∷ [])) (sym c.self.view_is) c.requires.fits
 
 pub invariant_of-self : goal.invariant_of-self
 invariant_of-self g c =
