@@ -4,22 +4,24 @@ ghost use Rattle.outside.specs.Blobs.{HasBlobCause};
 ghost use Rattle.blob_audit.specs.Damages.{AreDamaged, damaged_row};
 ghost use Rattle.blob_audit.specs.Files.{shown_file};
 
+use crate::lengths::sizes;
 use crate::looking::{Found, look_at};
 use crate::order::RecordedFile;
 use outside::{BlobFault, Blobs};
-use repo_model::Print;
+use repo_model::{Print, Recorded};
 use std::alloc::{AllocError, Global};
 use texts::Text;
 
-/// A recorded file whose blob has another length or other digests than those recorded, or is not there.
+/// A recorded file whose blob has another length than the recorded one, or another of the digests that are recorded, or is
+/// not there.
 #[derive(Drop)]
 pub struct Damaged {
     /// The id of its repository.
     pub repo: Text,
     /// Its path.
     pub path: Text,
-    /// The fingerprint that was recorded.
-    pub recorded: Print,
+    /// What was recorded of its content.
+    pub recorded: Recorded,
     /// That of the blob; none where there is no blob.
     pub found: Option<Print>,
 }
@@ -41,6 +43,7 @@ pub fn damage_of(
 ) -> Result<Damaged, AllocError>
     ensures { IfOk result (λ one. one ≡ damaged_row (shown_file file.now).row found) }
 {
+    sizes(file.row.print);
     Ok(Damaged {
         repo: Text::new(alloc, &file.place.0)?,
         path: Text::new(alloc, &file.place.1)?,

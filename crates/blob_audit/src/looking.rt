@@ -2,10 +2,12 @@
 ghost use Rattle.std.specs.Prelude.{◌≡◌, IfOk};
 ghost use Rattle.outside.specs.Blobs.{HasBlobCause};
 ghost use Rattle.blob_audit.specs.Damages.{IsFound};
-ghost use Rattle.blob_audit.specs.Found.{found_in, IsOther, IsParcelOf};
+ghost use Rattle.blob_audit.specs.Found.{found_in, IsJudged, IsParcelOf};
+ghost use Rattle.repo_model.specs.Prints.{print_in};
 
+use crate::lengths::sizes;
 use outside::{BlobFault, Blobs, CheckFault, Held, Parcel, adopt_checked};
-use repo_model::Print;
+use repo_model::{Print, Recorded};
 use row_tables::FileRow;
 
 /// What a store has under the number of a recorded file's blob.
@@ -17,16 +19,17 @@ pub enum Found<H: Held> {
     Other(Option<Print>),
 }
 
-/// Looks at the blob of a recorded file: reads it once, and compares its length and digests with the recorded ones.
+/// Looks at the blob of a recorded file: reads it once, and compares its length and each digest that is recorded.
 pub fn look_at<B: Blobs>(blobs: &mut B, row: &FileRow) -> Result<Found<B::Held>, BlobFault>
     ensures cause { HasBlobCause (B.faults blobs.old) (B.faults blobs.new) result }
-    ensures found { IfOk result (λ f. IsFound (B.shelf blobs.old) row.now.blob (found_in row.now.print f)) }
-    ensures other { IfOk result (IsOther row.now.print) }
-    ensures parcel { IfOk result (IsParcelOf B.Held.bytes (B.shelf blobs.old) row.now.blob row.now.print) }
+    ensures found { IfOk result (λ f. IsFound (B.shelf blobs.old) row.now.blob (found_in f)) }
+    ensures judged { IfOk result (IsJudged (print_in row.now.print)) }
+    ensures parcel { IfOk result (IsParcelOf B.Held.bytes (B.shelf blobs.old) row.now.blob) }
     ensures kept { B.shelf blobs.new ≡ B.shelf blobs.old }
 {
-    let Print { length, digests } = row.print;
-    match adopt_checked(blobs, row.blob, length, digests) {
+    sizes(row.print);
+    let Recorded { length, digests } = row.print;
+    match adopt_checked(blobs, row.blob, length, &digests) {
         Ok(Some(parcel)) => Ok(Found::Whole(parcel)),
         Ok(None) => Ok(Found::Other(None)),
         Err(CheckFault::Differs { length, digests }) => {

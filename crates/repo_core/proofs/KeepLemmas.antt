@@ -14,7 +14,7 @@ use Rattle.repo_laws.proofs.Holding.{effects-recorded}
 use Rattle.repo_laws.proofs.Turns.{turn-can}
 use Rattle.repo_core.specs.Turn.{MayRecord}
 use Rattle.repo_core.specs.Whole.{IsKept, IsOrderly, Parts, Tell, counting, whole_of}
-use Rattle.repo_core.proofs.NameLemmas.{named-apart}
+use Rattle.settings_laws.proofs.Apart.{named-apart}
 
 module _ (p : Parts) (tables : Option Tables) (unsettled : Bool) (faults : ℕ) (kept : IsKept (whole_of p tables unsettled faults)) where
   order_of : Sound p.settings p.state

@@ -11,7 +11,6 @@ mod KeepLemmas
 mod ListLemmas
 mod LookLemmas
 mod LoopLemmas
-mod NameLemmas
 mod PurgeLemmas
 mod PurgeTurns
 mod PutReplies

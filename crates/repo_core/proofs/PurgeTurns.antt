@@ -33,7 +33,7 @@ use Rattle.hosted_repo.specs.Expired.{blob_of}
 use Rattle.repo_core.specs.Purge.{AreKeptOnce, condemned_by, dropped_by, kept_without, shares}
 use Rattle.repo_core.specs.Turn.{Recorded, Turned}
 use Rattle.repo_core.specs.Whole.{IsOrderly, Parts}
-use Rattle.repo_core.proofs.NameLemmas.{named-apart}
+use Rattle.settings_laws.proofs.Apart.{named-apart}
 use Rattle.repo_core.proofs.BlobLemmas.{all-still, gone-once, none-gone}
 use Rattle.repo_core.proofs.PurgeLemmas.{IsRemoval, dropped-used, expired-all, faded, fading_all, removals}
 use Rattle.repo_core.proofs.GarbageLemmas.{IsGoing, covered-then, garbage_of}

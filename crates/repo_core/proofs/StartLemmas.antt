@@ -16,7 +16,7 @@ use Rattle.repo_model.specs.History.{latest_moment}
 use Rattle.repo_model.specs.Restart.{blobs_named, greatest_number, hosted_from, is_of, recorded_of, started, with_bytes}
 use Rattle.repo_model.specs.Settings.{Rule, Settings}
 use Rattle.repo_model.specs.State.{State, is_among, number_end, opening}
-use Rattle.repo_model.specs.Tables.{Tables, RecordedRow, no_tables}
+use Rattle.repo_model.specs.Tables.{AreComplete, Tables, RecordedRow, no_tables}
 use Rattle.repo_laws.specs.Holds.{InOrder, StandsFor}
 use Rattle.repo_laws.specs.InRange.{InRange, IsRowInRange}
 use Rattle.repo_laws.specs.Laws.{FadesRightly}
@@ -27,15 +27,22 @@ use Rattle.repo_laws.proofs.Starting.{each-from, greatest-below-end, greatest-fr
 use Rattle.repo_laws.proofs.StartedSound.{started-sound}
 use Rattle.row_tables.specs.Items.{is_file_path}
 use Rattle.row_tables.specs.Recorded.{IsBuiltUp}
+use Rattle.row_tables.specs.Records.{Expected}
+use Rattle.row_completion.specs.Completion.{IsComplete, IsDigestedWhereTold}
+use Rattle.row_completion.proofs.Digesting.{tables-stay, where-told}
 use Rattle.table_laws.specs.Standing.{StandsAtFile}
 use Rattle.table_laws.proofs.Building.{built-hosted, built-order, built-range}
 use Rattle.repo_restart.specs.Leftovers.{Clears, ClearsFront, left_over}
 use Rattle.repo_restart.specs.Rows.{AreRestorable, AreRestored}
 use Rattle.repo_core.specs.Deploys.{AreStagedInUse}
 use Rattle.repo_core.specs.Hosted.{AreInUse, rules_of}
-use Rattle.repo_core.specs.Start.{Starts}
+use Rattle.blob_audit.specs.declared.damages.Damaged.{Damaged}
+use Rattle.repo_core.specs.Start.{AreCompleted, Starts}
+use Rattle.repo_core.specs.StartFaults.{OnDamage}
+use Rattle.repo_core.specs.declared.faults.StartFault.{StartFault}
+use Rattle.repo_core.specs.declared.faults.StartFault.TheVariants as start
 use Rattle.repo_core.specs.Whole.{IsKept, Parts, Tell, counting, whole_of}
-use Rattle.repo_core.proofs.NameLemmas.{named-apart}
+use Rattle.settings_laws.proofs.Apart.{named-apart}
 use Rattle.repo_core.proofs.StagedLemmas.{SessionUsed}
 use Rattle.repo_core.proofs.UseLemmas.{RowsUsed, here-so, or-right}
 
@@ -43,8 +50,8 @@ abbrev number_in : RecordedRow → ℕ
 number_in r = r.row.blob.number
 
 -- ---- what the steps need
-pub restorable : (t : Tables) → IsBuiltUp t → AreRestorable t.hosted
-restorable t built =
+pub restorable : (t : Tables) → IsBuiltUp t → AreComplete t.hosted → AreRestorable t.hosted
+restorable t built complete =
     let order : InOrder t = built-order t built in
     let range : InRange t = built-range t built in
     record {
@@ -53,6 +60,7 @@ restorable t built =
       files = all-then StandsAtFile (λ (r : RecordedRow). IsTrue (is_file_path r.row.path)) (λ r so. so.1) t.hosted (built-hosted t built);
       in_time = all-then (λ (r : RecordedRow). IsRowInRange r × FadesRightly r.row) (λ (r : RecordedRow). r.row.accepted ≤ latest_moment) (λ r so. so.0.3.0) t.hosted range.hosted;
       fading = all-then (λ (r : RecordedRow). IsRowInRange r × FadesRightly r.row) (λ (r : RecordedRow). FadesRightly r.row) (λ r so. so.1) t.hosted range.hosted;
+      complete = complete;
     }
 
 -- ---- numbers
@@ -199,7 +207,41 @@ module _ (settings : Settings) (t : Tables) (old new : Shelf) (clock : Option Mo
   over-empty none None listed = tt
   over-empty none (Some them) listed = λ empty. opens none (sym listed ∙ ap keys_of empty)
 
-  pub starts-opening : (told : Option Tables) → IfSome told (λ them. t ≡ them)
+  pub starts-opening : (told : Option Tables) → IfSome told (λ u. u ≡ no_tables → t ≡ no_tables)
       → IfSome told (λ u. u ≡ no_tables → IfSome old.blobs (λ them. them ≡ [] → s ≡ counting faults (opening settings clock)))
   starts-opening None same = tt
-  starts-opening (Some u) same = λ none. over-empty (same ∙ none) old.blobs starts.listed
+  starts-opening (Some u) same = λ none. over-empty (same none) old.blobs starts.listed
+
+-- what follows of each damage follows where one is told
+pub damage-then : (fault : StartFault) {P Q : Damaged → Type 0} → ((d : Damaged) → P d → Q d) → OnDamage fault P → OnDamage fault Q
+damage-then start.NoMemory so told = tt
+damage-then start.Store so told = tt
+damage-then start.NotOurs so told = tt
+damage-then (start.Row frame at) so told = tt
+damage-then (start.Damaged d) so told = so d told
+
+-- ---- tables that were loaded, with all digests
+module _ (told : Option Tables) (loading : Option Expected) (shelf : Shelf) (t : Tables) (completed : AreCompleted told loading shelf t) where
+  -- tables without rows are as they were
+  pub empty-stays : IfSome told (λ u. u ≡ no_tables → t ≡ no_tables)
+  empty-stays = by told completed.1.told
+    where
+      by : (o : Option Tables) → IfSome o (λ them. completed.0 ≡ them) → IfSome o (λ u. u ≡ no_tables → t ≡ no_tables)
+      by None same = tt
+      by (Some u) same = λ none.
+          let empty : completed.0 ≡ no_tables = same ∙ none in
+          tables-stay shelf completed.0 t (subst IsComplete (sym empty) (record { hosted = tt; cached = tt })) completed.2 ∙ empty
+
+  pub digested-so : (now : Option Tables) → now ≡ option_map (λ u. t) told → IsDigestedWhereTold shelf told now
+  digested-so now is = subst (IsDigestedWhereTold shelf told) (sym is) (where-told shelf told completed.0 t completed.1.told completed.2)
+
+-- what is told is the same, where it is told
+pub told-then : (told now : Option Tables) (t : Tables) → now ≡ option_map (λ u. t) told → IfSome now (λ them. t ≡ them)
+told-then None now t is = subst (λ o. IfSome o (λ them. t ≡ them)) (sym is) tt
+told-then (Some u) now t is = subst (λ o. IfSome o (λ them. t ≡ them)) (sym is) refl
+
+pub complete-then : (told now : Option Tables) (t : Tables) → now ≡ option_map (λ u. t) told → IsComplete t → ForSome now IsComplete
+complete-then told now t is complete x some = by (told-then told now t is)
+  where
+    by : IfSome now (λ them. t ≡ them) → IsComplete x
+    by same = subst IsComplete (subst (λ o. IfSome o (λ them. t ≡ them)) some same) complete

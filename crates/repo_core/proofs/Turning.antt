@@ -40,7 +40,7 @@ use Rattle.std.proofs.lemmas.Bool.{false≢true, ne_eqb}
 use Rattle.std.proofs.lemmas.Option.{none-some}
 use Rattle.repo_core.specs.Turn.{done_by, IsAnswer, IsSettledBy, due, wants_memory, failed, MayRecord, Recorded, Turned}
 use Rattle.repo_core.specs.Whole.{Parts, Whole, IsKept, IsOrderly, Tell, counting}
-use Rattle.repo_core.proofs.NameLemmas.{named-apart}
+use Rattle.settings_laws.proofs.Apart.{named-apart}
 
 nothing-done : (b : Bool) (s : State) → s ≡ with_effects s (if b then [] else [])
 nothing-done true s = refl

@@ -11,6 +11,7 @@ use Rattle.row_tables.specs.Recorded.{IsBuiltUp}
 use Rattle.row_tables.specs.Records.{Expected}
 use Rattle.blob_audit.specs.Damages.{AreDamaged}
 use Rattle.blob_audit.specs.Order.{all_rows}
+use Rattle.row_completion.specs.Completion.{IsComplete, IsDigested}
 use Rattle.repo_restart.specs.Leftovers.{left_over, without_blobs}
 
 -- tables that are recorded: items built them up, and they are those that the records tell and that a load gives
@@ -18,6 +19,10 @@ pub record AreLoaded (tables : Option Tables) (loading : Option Expected) (t : T
   pub built : IsBuiltUp t
   pub told : IfSome tables (λ them. t ≡ them)
   pub loads : IfSome loading (λ expected. expected ≡ Ok t)
+
+-- tables that were loaded, and what they are once all their rows have all digests
+abbrev pub AreCompleted : Option Tables → Option Expected → Shelf → Tables → Type 0
+AreCompleted tables loading shelf t = (loaded : Tables) × AreLoaded tables loading loaded × IsDigested shelf loaded t × IsComplete t
 
 -- The state that a start makes over tables and a store: its rows have the bytes that stand under their numbers, where the store
 -- tells its blobs. None of the recorded files is damaged. Of the stored blobs exactly those that no row names are removed.

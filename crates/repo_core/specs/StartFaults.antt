@@ -5,13 +5,15 @@ use Rattle.blob_audit.specs.declared.damages.Damaged.{Damaged as Damage}
 use Rattle.repo_model.specs.Tables.{Tables}
 use Rattle.repo_restart.specs.declared.faults.RestoreFault.{RestoreFault}
 use Rattle.repo_restart.specs.declared.faults.RestoreFault.TheVariants as restore
+use Rattle.row_completion.specs.declared.faults.CompletionFault.{CompletionFault}
+use Rattle.row_completion.specs.declared.faults.CompletionFault.TheVariants as complete
 use Rattle.row_tables.specs.Records.{Expected}
 use Rattle.row_tables.specs.declared.faults.LoadFault.{LoadFault}
 use Rattle.row_tables.specs.declared.faults.LoadFault.TheVariants as load
 use Rattle.repo_core.specs.declared.faults.StartFault.{StartFault}
 use Rattle.repo_core.specs.declared.faults.StartFault.TheVariants.{NoMemory, Store, NotOurs, Row, Damaged}
 
--- a fault of the records, and one of the recorded files
+-- a fault of the records, and faults of the recorded files
 abbrev pub load_fault : LoadFault → StartFault
 load_fault load.Failed = Store
 load_fault load.NoMemory = NoMemory
@@ -22,6 +24,11 @@ abbrev pub restore_fault : RestoreFault → StartFault
 restore_fault restore.NoMemory = NoMemory
 restore_fault restore.Store = Store
 restore_fault (restore.Damaged damage) = Damaged damage
+
+abbrev pub completion_fault : CompletionFault → StartFault
+completion_fault complete.NoMemory = NoMemory
+completion_fault complete.Store = Store
+completion_fault (complete.Damaged damage) = Damaged damage
 
 -- the count of the records or of the blobs has risen where one of them failed, and else both stand still
 abbrev pub HasStartCause : (records records' blobs blobs' : ℕ) → StartFault → Type 0

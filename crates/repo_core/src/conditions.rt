@@ -8,7 +8,7 @@ ghost use Rattle.repo_model.specs.Paths as paths;
 ghost use Rattle.repo_model.specs.Shown.{shown_command, shown_place};
 
 use mvn_coords::{Kind, Side, kind_of};
-use mvn_digest::{Digest, MD5_BYTES, SHA1_BYTES};
+use mvn_digest::{Digest, MD5_BYTES, SHA1_BYTES, SHA256_BYTES, SHA512_BYTES};
 use outside::Held;
 use repo_config::{HostedRule, Settings};
 use repo_model::{Command, NUMBER_END, Place};
@@ -145,5 +145,7 @@ fn size_of(side: Side) -> usize
     match side {
         Side::Sha1 => SHA1_BYTES,
         Side::Md5 => MD5_BYTES,
+        Side::Sha256 => SHA256_BYTES,
+        Side::Sha512 => SHA512_BYTES,
     }
 }

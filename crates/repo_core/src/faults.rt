@@ -4,6 +4,7 @@ ghost use Rattle.repo_core.specs.declared.faults.StartFault.TheVariants.{NoMemor
 use blob_audit::Damaged;
 use outside::NoMemory;
 use repo_restart::RestoreFault;
+use row_completion::CompletionFault;
 use row_tables::LoadFault;
 
 /// Why a repository did not start.
@@ -42,6 +43,20 @@ impl From<LoadFault> for StartFault {
             LoadFault::NoMemory => StartFault::NoMemory,
             LoadFault::NotOurs => StartFault::NotOurs,
             LoadFault::Row { frame, at } => StartFault::Row { frame, at },
+        }
+    }
+}
+
+impl From<CompletionFault> for StartFault {
+    ghost use Rattle.repo_core.specs.StartFaults.{completion_fault};
+
+    ghost from_gives = { λ completion fault. fault ≡ completion_fault completion };
+
+    fn from(fault: CompletionFault) -> StartFault {
+        match fault {
+            CompletionFault::NoMemory => StartFault::NoMemory,
+            CompletionFault::Store => StartFault::Store,
+            CompletionFault::Damaged(damaged) => StartFault::Damaged(damaged),
         }
     }
 }

@@ -6,6 +6,7 @@ mod conditions;
 mod deploys;
 mod faults;
 mod hosted;
+mod loading;
 mod looks;
 mod machine;
 mod purges;

@@ -1,5 +1,7 @@
 //! The purge over all repositories: rows whose grace period is over go, and their blobs become garbage.
 ghost use Rattle.std.specs.Prelude.{◌≡◌, ◌≤◌, length, map, vec_len, IfOk};
+ghost use Rattle.std.specs.List.{AllByRecursion};
+ghost use Rattle.ordered_rows.specs.Recording.{IsRemoved};
 ghost use Rattle.repo_model.specs.Purge.{expire_all, most_rows};
 ghost use Rattle.repo_model.specs.Effect.{recorded};
 ghost use Rattle.hosted_repo.specs.Expired.{blob_of};
@@ -30,6 +32,7 @@ pub fn expiring<H: Held>(
     ensures counts { IfOk result (λ found. found.counts.items ≡ shares grace now most_rows repos.now) }
     ensures blobs { IfOk result (λ found. found.blobs.items ≡ map blob_of (expire_all grace now repos.now)) }
     ensures change { IfOk result (λ found. found.change ≡ recorded (expire_all grace now repos.now)) }
+    ensures removed { IfOk result (λ found. AllByRecursion IsRemoved found.change) }
 {
     let mut counts = Vec::new(alloc);
     let mut blobs = Vec::new(alloc);

@@ -1,25 +1,27 @@
 //! A start: what is recorded and stored becomes a repository.
 ghost use Rattle.std.specs.Prelude.{◌≡◌, ◌⊎◌, false, [], None, Option, IfOk, IfErr, IfSome, OnOk, OnErr};
-ghost use Rattle.std.specs.Option.{ForSome};
+ghost use Rattle.std.specs.Option.{ForSome, option_map};
 ghost use Rattle.outside.specs.Moments.{Moments};
 ghost use Rattle.repo_config.specs.Form.{IsSettings};
 ghost use Rattle.repo_model.specs.Restart.{blobs_named};
 ghost use Rattle.repo_model.specs.State.{opening};
-ghost use Rattle.repo_model.specs.Tables.{Tables as Plain, no_tables};
+ghost use Rattle.repo_model.specs.Tables.{AreComplete, Tables as Plain, no_tables};
 ghost use Rattle.repo_laws.specs.Holds.{StandsFor};
 ghost use Rattle.row_tables.specs.Recorded.{IsBuiltUp};
 ghost use Rattle.blob_audit.specs.Order.{all_rows};
 ghost use Rattle.repo_restart.specs.Faults.{HasRestoreCause};
 ghost use Rattle.repo_restart.specs.Faults as restoring;
 ghost use Rattle.repo_restart.specs.Leftovers.{ClearsFront};
-ghost use Rattle.repo_restart.specs.Rows.{IsFirstDamaged};
+ghost use Rattle.blob_audit.specs.Damages.{IsFirstDamaged};
+ghost use Rattle.row_completion.specs.Completion.{IsComplete, IsDigested, IsDigestedWhereTold};
 ghost use Rattle.repo_core.specs.Hosted.{AreInUse};
-ghost use Rattle.repo_core.specs.Start.{AreLoaded, Starts};
+ghost use Rattle.repo_core.specs.Start.{AreCompleted, AreLoaded, Starts};
 ghost use Rattle.repo_core.specs.StartFaults.{HasStartCause, IsUnread, OnDamage, RefusesAs};
 ghost use Rattle.repo_core.specs.Stock.{state_of};
 ghost use Rattle.repo_core.specs.Whole.{counting};
 
 use crate::faults::StartFault;
+use crate::loading::load;
 use crate::machine::{Machine, Stock};
 use crate::repository::Core;
 use blob_yard::Yard;
@@ -38,6 +40,7 @@ fn stock_of<B: Blobs>(
     blobs: &mut B,
 ) -> Result<Stock<B::Held>, RestoreFault>
     requires built { IsBuiltUp tables.now }
+    requires complete { AreComplete tables.now.hosted }
     requires form { IsSettings settings.now }
     ensures starts { IfOk result (λ stock. (clock : Option Moments)
         → Starts settings.now tables.now (B.shelf blobs.old) (B.shelf blobs.new) clock 0 (state_of stock clock)) }
@@ -61,14 +64,15 @@ fn stock_of<B: Blobs>(
 
 /// A repository by these settings, over what is recorded and stored.
 ///
-/// The records are loaded; a refusal of theirs ends the call. Then each recorded file is looked at: its blob is read once and
-/// compared with what was recorded, and the first that differs, or is not there, is `Damaged`. So far nothing is changed. Then
-/// the blobs that no row names are removed, in the order of the store; where that fails, or memory is wanting, the first ones of
-/// these are gone and no others. `Store` comes where the records or the store failed.
+/// The records are loaded; a refusal of theirs ends the call. Where recorded files lack SHA-256 and SHA-512 these are completed,
+/// as `row_completion::complete` does: what a blob is found to have is committed, and nothing else is. Then each recorded file is
+/// looked at: its blob is read once and compared with what was recorded, and the first that differs, or is not there, is
+/// `Damaged`. Then the blobs that no row names are removed, in the order of the store; where that fails, or memory is wanting,
+/// the first ones of these are gone and no others. `Store` comes where the records or the store failed.
 ///
-/// The state is the one that the machine's definition makes of the tables: rows with the bytes that stand, results of sessions, no
-/// drafts, leases and open sessions, and the greatest moment that is recorded. Nothing is committed. At an error the records
-/// and the clock come back.
+/// The state is the one that the machine's definition makes of the tables so completed: rows with the bytes that stand, results
+/// of sessions, no drafts, leases and open sessions, and the greatest moment that is recorded. At an error the records and the
+/// clock come back.
 pub fn start<K: Records, B: Blobs, C: Clock>(
     alloc: Global,
     settings: Settings,
@@ -77,9 +81,11 @@ pub fn start<K: Records, B: Blobs, C: Clock>(
     clock: C,
 ) -> Result<Core<K, C, B::Held>, (StartFault, K, C)>
     ensures settings { IfOk result (λ core. core.settings ≡ settings) }
-    ensures state { IfOk result (λ core. (t : Plain) × AreLoaded (K.tables records) (K.loading records) t
+    ensures state { IfOk result (λ core. (t : Plain) × AreCompleted (K.tables records) (K.loading records) (B.shelf blobs.old) t
+        × (core.tables ≡ option_map (λ _. t) (K.tables records))
         × Starts settings t (B.shelf blobs.old) (B.shelf blobs.new) (C.moments clock) (K.faults records) core.state) }
-    ensures tables { IfOk result (λ core. core.tables ≡ K.tables records) }
+    ensures tables { IfOk result (λ core. IsDigestedWhereTold (B.shelf blobs.old) (K.tables records) core.tables) }
+    ensures complete { IfOk result (λ core. ForSome core.tables IsComplete) }
     ensures stands { IfOk result (λ core. ForSome core.tables (λ t. StandsFor t core.state)) }
     ensures calls { IfOk result (λ core. core.calls ≡ 0) }
     ensures settled { IfOk result (λ core. core.unsettled ≡ false) }
@@ -89,20 +95,20 @@ pub fn start<K: Records, B: Blobs, C: Clock>(
     ensures still { OnOk result (B.faults blobs.new ≡ B.faults blobs.old) }
     ensures refused { IfErr result (λ error. IfSome (K.loading records) (λ expected. RefusesAs expected error.0)) }
     ensures unread { IfErr result (λ error. IsUnread error.0 → K.tables records ≡ None) }
-    ensures damaged { IfErr result (λ error. OnDamage error.0 (λ damage. (t : Plain) × AreLoaded (K.tables records) (K.loading records) t
-        × IsFirstDamaged (B.shelf blobs.old) (all_rows t) damage × (B.shelf blobs.new ≡ B.shelf blobs.old))) }
+    ensures damaged { IfErr result (λ error. OnDamage error.0 (λ damage. (loaded t : Plain)
+        × AreLoaded (K.tables records) (K.loading records) loaded × IsDigested (B.shelf blobs.old) loaded t × IsFirstDamaged (B.shelf blobs.old) (all_rows t) damage × (B.shelf blobs.new ≡ B.shelf blobs.old))) }
     ensures shelf { OnErr result ((B.shelf blobs.new ≡ B.shelf blobs.old) ⊎ ((t : Plain) × AreLoaded (K.tables records) (K.loading records) t
         × ClearsFront (blobs_named t) (B.shelf blobs.old) (B.shelf blobs.new))) }
     ensures cause { IfErr result (λ error.
         HasStartCause (K.faults records) (K.faults error.1) (B.faults blobs.old) (B.faults blobs.new) error.0) }
-    ensures records { IfErr result (λ error. K.tables error.1 ≡ K.tables records) }
+    ensures records { IfErr result (λ error. IsDigestedWhereTold (B.shelf blobs.old) (K.tables records) (K.tables error.1)) }
     ensures clock { IfErr result (λ error. error.2 ≡ clock) }
 {
     // Their ids differ, and have their form.
     settings.form();
-    let tables = match records.load(alloc) {
+    let tables = match load(alloc, &mut records, blobs) {
         Ok(tables) => tables,
-        Err(fault) => return Err((StartFault::from(fault), records, clock)),
+        Err(fault) => return Err((fault, records, clock)),
     };
     match stock_of(alloc, &settings, &tables, blobs) {
         Ok(stock) => Ok(Core::over(Machine::of(settings, stock, clock), records)),

@@ -8,6 +8,7 @@ use Rattle.std.proofs.lemmas.List.Elements.{filter-append}
 use Rattle.outside.specs.Blobs.{Shelf}
 use Rattle.repo_model.specs.Data.{Hosted}
 use Rattle.repo_model.specs.History.{latest_moment}
+use Rattle.repo_model.specs.Prints.{lacks_further}
 use Rattle.repo_model.specs.Settings.{Rule}
 use Rattle.repo_model.specs.State.{row_at}
 use Rattle.repo_model.specs.Tables.{RecordedRow}
@@ -23,7 +24,7 @@ use Rattle.repo_laws.specs.Sound.{AreNamedApart}
 use Rattle.repo_restart.specs.declared.faults.RestoreFault.{RestoreFault}
 use Rattle.repo_restart.specs.declared.faults.RestoreFault.TheVariants as fault
 use Rattle.repo_restart.specs.Faults.{OnDamage}
-use Rattle.repo_restart.specs.Rows.{AreRestorable, AreRestored, IsFirstDamaged, hosted_rows}
+use Rattle.repo_restart.specs.Rows.{AreRestorable, AreRestored, hosted_rows}
 use Rattle.repo_restart.specs.Taking.{CanTake, TakesFile, rows_in, with_taken}
 use Rattle.repo_restart.proofs.FrontLemmas.{among, in_front, names, none-yet, unnamed}
 use Rattle.repo_restart.proofs.RestoreLemmas.{restored-more}
@@ -87,6 +88,7 @@ module _ (files : List RecordedFile) (i : ℕ) (file : RecordedFile) (within : i
             among (λ (r : RecordedRow). IsTrue (is_file_path r.row.path)) front x rest (behind hosted).files,
             among (λ (r : RecordedRow). r.row.accepted ≤ latest_moment) front x rest (behind hosted).in_time,
             among (λ (r : RecordedRow). FadesRightly r.row) front x rest (behind hosted).fading,
+            among (λ (r : RecordedRow). lacks_further r.row.blob.print ≡ false) front x rest (behind hosted).complete,
             subst (λ them. row_at x.row.path (rows_in x.repo them) ≡ None) (sym old.made) (none-yet old.tells x front (earlier hosted) rules),
           )
 
@@ -103,13 +105,6 @@ module _ (files : List RecordedFile) (i : ℕ) (file : RecordedFile) (within : i
               let rows : rows_of (take (i + 1) files) ≡ rows_of (take i files) = rows-more false foreign ∙ append-nil (rows_of (take i files)) in
               subst (λ them. AreRestored shelf (rows_of (take (i + 1) files)) rules them) (sym same)
               (subst (λ them. AreRestored shelf them rules repos) (sym rows) old)
-
-  -- the file is the first damaged one
-  pub first-damaged : (shelf : Shelf) (damage : Damaged) → AreDamaged shelf (map (λ (f : RecordedFile). (shown_file f).row) (take i files)) []
-      → AreDamaged shelf ((shown_file file).row ∷ []) (damage ∷ []) → IsFirstDamaged shelf (map (λ (f : RecordedFile). (shown_file f).row) files) damage
-  first-damaged shelf damage sound here =
-      let shown = λ (f : RecordedFile). (shown_file f).row in
-      (map shown (take i files), shown file, map shown (drop (i + 1) files), ap (map shown) split ∙ map-append shown (take i files) (file ∷ drop (i + 1) files), sound, here)
 
 -- what follows of each damage follows where one is told
 pub damage-then : {T : Type 0} (result : Result T RestoreFault) {P Q : Damaged → Type 0} → ((d : Damaged) → P d → Q d) → OnDamage result P → OnDamage result Q

@@ -8,6 +8,7 @@ use Rattle.std.proofs.lemmas.Option.{none-some}
 use Rattle.outside.specs.declared.parcels.Parcel.{Parcel}
 use Rattle.outside.specs.declared.stores.Held.{Ghosts}
 use Rattle.repo_model.specs.Data as plain
+use Rattle.repo_model.specs.Prints.{print_in}
 use Rattle.repo_model.specs.Shown.{shown_parcel, shown_print}
 use Rattle.repo_model.specs.State.{change_first, is_repository}
 use Rattle.row_tables.specs.Stored.{shown_row}
@@ -87,7 +88,7 @@ rows-at id repos i repo is here =
     ap (λ found. option_map_or (λ (h : plain.Hosted). h.rows) found []) (find-at (is_repository id) repos i repo is) ∙ ap (λ (h : plain.Hosted). h.rows) (sym here)
 
 -- a row that was kept with a parcel of its number and fingerprint is the recorded one, with the parcel's bytes
-pub kept-is : {H : Type 0} {G : Ghosts H} (path : List ℕ) (r : FileRow) (parcel : Parcel H G) (phase : Phase) → parcel.blob ≡ r.blob → shown_print parcel ≡ r.print
+pub kept-is : {H : Type 0} {G : Ghosts H} (path : List ℕ) (r : FileRow) (parcel : Parcel H G) (phase : Phase) → parcel.blob ≡ r.blob → shown_print parcel ≡ print_in r.print
     → rows.shown_phase phase ≡ stored.shown_phase r.phase → kept_row path (shown_parcel parcel) r.accepted phase ≡ holding (G.bytes parcel.held) (shown_row path r)
 kept-is {H} {G} path r parcel phase number print same = λ i. record {
   path = path;

@@ -1,15 +1,17 @@
 -- A recorded file whose blob was looked at, taken up by its repository.
-use Rattle.std.specs.Prelude.{◌≡◌, ℕ, ◌≤◌, true, if◌then◌else◌, IsTrue, List, [], Option, Some, None, find, IfSome}
+use Rattle.std.specs.Prelude.{◌≡◌, ℕ, ◌≤◌, true, false, if◌then◌else◌, IsTrue, List, [], Option, None, find, IfSome}
 use Rattle.std.specs.Option.{option_map_or}
 use Rattle.outside.specs.Blobs.{Shelf, bytes_at}
 use Rattle.repo_model.specs.Data.{Row, Hosted}
 use Rattle.repo_model.specs.Effect.{with_row}
 use Rattle.repo_model.specs.History.{latest_moment}
+use Rattle.repo_model.specs.Prints.{lacks_further}
 use Rattle.repo_model.specs.State.{change_first, is_repository, row_at}
 use Rattle.repo_model.specs.Tables.{RecordedRow}
+use Rattle.repo_model.specs.declared.print.Print.{Print}
 use Rattle.row_tables.specs.Items.{is_file_path}
 use Rattle.hosted_repo.specs.Releases.{FadesRightly}
-use Rattle.blob_audit.specs.Damages.{IsFound}
+use Rattle.blob_audit.specs.Damages.{IsFound, IsWhole}
 use Rattle.blob_audit.specs.Order.{File}
 
 -- the rows of the repository of an id; none where there is no such repository
@@ -28,16 +30,18 @@ with_taken r bytes repos =
 abbrev pub with_file : File → Option (List ℕ) → List Hosted → List Hosted
 with_file f bytes repos = if f.is_hosted then with_taken f.row bytes repos else repos
 
--- a hosted file can be taken up: its path is that of a file and has no row yet, its moment is none too late, and it is a
--- snapshot's where it fades
+-- a hosted file can be taken up: its path is that of a file and has no row yet, its moment is none too late, it is a snapshot's
+-- where it fades, and it has all its digests
 abbrev pub CanTake : File → List Hosted → Type 0
 CanTake f repos =
     f.is_hosted ≡ true → IsTrue (is_file_path f.row.row.path) × (f.row.row.accepted ≤ latest_moment) × FadesRightly f.row.row
-    × (row_at f.row.row.path (rows_in f.row.repo repos) ≡ None)
+    × (lacks_further f.row.row.blob.print ≡ false) × (row_at f.row.row.path (rows_in f.row.repo repos) ≡ None)
 
 -- the file's blob is the recorded one, and its row is taken up with the bytes that stand, where the store tells its blobs
 pub record TakesFile (shelf : Shelf) (f : File) (old new : List Hosted) : Type 0 where
-  pub sound : IsFound shelf f.row.row.blob.number (Some f.row.row.blob.print)
+  pub found : Option Print
+  pub at : IsFound shelf f.row.row.blob.number found
+  pub sound : IsWhole f.row.row.blob.print found
   pub bytes : Option (List ℕ)
   pub standing : IfSome shelf.blobs (λ them. bytes ≡ bytes_at f.row.row.blob.number them)
   pub taken : new ≡ with_file f bytes old

@@ -4,11 +4,11 @@ ghost use Rattle.std.specs.List.{AllByRecursion};
 ghost use Rattle.repo_model.specs.Restart.{blobs_named};
 ghost use Rattle.row_tables.specs.Items.{is_id};
 ghost use Rattle.repo_laws.specs.Sound.{AreNamedApart};
-ghost use Rattle.blob_audit.specs.Damages.{AreDamaged};
+ghost use Rattle.blob_audit.specs.Damages.{AreDamaged, IsFirstDamaged};
 ghost use Rattle.blob_audit.specs.Order.{all_rows};
 ghost use Rattle.repo_restart.specs.Faults.{HasRestoreCause, OnDamage};
 ghost use Rattle.repo_restart.specs.Leftovers.{Clears, ClearsFront};
-ghost use Rattle.repo_restart.specs.Rows.{AreRestorable, AreRestored, IsFirstDamaged};
+ghost use Rattle.repo_restart.specs.Rows.{AreRestorable, AreRestored};
 
 use crate::faults::RestoreFault;
 use crate::leftovers::clear;

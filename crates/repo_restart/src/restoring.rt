@@ -3,10 +3,10 @@ ghost use Rattle.std.specs.Prelude.{◌≡◌, [], IsTrue, IfOk, OnOk, map};
 ghost use Rattle.std.specs.List.{AllByRecursion};
 ghost use Rattle.row_tables.specs.Items.{is_id};
 ghost use Rattle.repo_laws.specs.Sound.{AreNamedApart};
-ghost use Rattle.blob_audit.specs.Damages.{AreDamaged};
+ghost use Rattle.blob_audit.specs.Damages.{AreDamaged, IsFirstDamaged};
 ghost use Rattle.blob_audit.specs.Files.{shown_file};
 ghost use Rattle.repo_restart.specs.Faults.{HasRestoreCause, OnDamage};
-ghost use Rattle.repo_restart.specs.Rows.{AreRestorable, AreRestored, IsFirstDamaged, hosted_rows};
+ghost use Rattle.repo_restart.specs.Rows.{AreRestorable, AreRestored, hosted_rows};
 
 use crate::empties::empty_repos;
 use crate::faults::RestoreFault;

@@ -1,7 +1,8 @@
 //! A recorded file is looked at and taken up by its repository.
-ghost use Rattle.std.specs.Prelude.{◌≡◌, ◌≤◌, ◌∷◌, [], None, IsTrue, OnOk};
+ghost use Rattle.std.specs.Prelude.{◌≡◌, ◌≤◌, ◌∷◌, [], true, None, IsTrue, OnOk};
 ghost use Rattle.std.specs.List.{position};
 ghost use Rattle.repo_model.specs.History.{latest_moment};
+ghost use Rattle.repo_model.specs.Prints.{print_in};
 ghost use Rattle.repo_model.specs.Shown.{shown_print};
 ghost use Rattle.repo_model.specs.State.{is_repository, row_at};
 ghost use Rattle.hosted_repo.specs.Releases.{FadesRightly};
@@ -48,7 +49,7 @@ fn take_row<H: Held>(
     requires fading { FadesRightly (shown_file file.now).row.row }
     requires free { row_at (shown_file file.now).row.row.path (rows_in (shown_file file.now).row.repo repos.old.items) ≡ None }
     requires number { parcel.blob ≡ file.now.row.now.blob }
-    requires print { shown_print parcel ≡ file.now.row.now.print }
+    requires print { shown_print parcel ≡ print_in file.now.row.now.print }
     ensures { OnOk result (repos.new.items ≡ with_taken (shown_file file.now).row (H.bytes parcel.held) repos.old.items) }
 {
     let Some(place) = place_of(repos, file.place.0.as_str()) else {
@@ -74,7 +75,7 @@ fn take_parcel<H: Held>(
 ) -> Result<(), NoMemory>
     requires can { CanTake (shown_file file.now) repos.old.items }
     requires number { parcel.blob ≡ file.now.row.now.blob }
-    requires print { shown_print parcel ≡ file.now.row.now.print }
+    requires print { file.now.is_hosted ≡ true → shown_print parcel ≡ print_in file.now.row.now.print }
     ensures { OnOk result (repos.new.items ≡ with_file (shown_file file.now) (H.bytes parcel.held) repos.old.items) }
 {
     if file.is_hosted {

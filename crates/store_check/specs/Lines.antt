@@ -4,22 +4,25 @@ use Rattle.std.specs.Fmt.{decimal}
 use Rattle.std.specs.List.{flat_map}
 use Rattle.mvn_digest.specs.Hex.{hex_text}
 use Rattle.repo_model.specs.declared.print.Print.{Print}
+use Rattle.repo_model.specs.declared.print.Recorded.{Recorded}
 use Rattle.blob_audit.specs.declared.damages.Damaged.{Damaged}
 use Rattle.run_lines.specs.Lines.{line}
 
--- length, SHA-1 and MD5 of a content
-abbrev pub print_text : Print → List ℕ
-print_text print =
-    decimal print.length ++ 32 ∷ hex_text print.digests.sha1 ++ 32 ∷ hex_text print.digests.md5
+-- length, SHA-1 and MD5 of a content, which are recorded of each
+abbrev pub sums_text : ℕ → List ℕ → List ℕ → List ℕ
+sums_text count sha1 md5 = decimal count ++ 32 ∷ hex_text sha1 ++ 32 ∷ hex_text md5
+
+abbrev pub recorded_text : Recorded → List ℕ
+recorded_text recorded = sums_text recorded.length recorded.digests.sha1 recorded.digests.md5
 
 abbrev pub found_text : Option Print → List ℕ
-found_text (Some print) = print_text print
+found_text (Some print) = sums_text print.length print.digests.sha1 print.digests.md5
 found_text None = codes "none"
 
 -- the path of a file, what was recorded of it and what was found
 abbrev pub damaged_text : Damaged → List ℕ
 damaged_text d =
-    codes "damaged " ++ d.repo ++ 47 ∷ d.path ++ codes " recorded " ++ print_text d.recorded ++ codes " found " ++ found_text d.found
+    codes "damaged " ++ d.repo ++ 47 ∷ d.path ++ codes " recorded " ++ recorded_text d.recorded ++ codes " found " ++ found_text d.found
 
 abbrev pub damaged_line : Damaged → List ℕ
 damaged_line d = line (damaged_text d)

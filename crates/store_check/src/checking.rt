@@ -75,8 +75,9 @@ pub fn refuse_store<O: Sink>(alloc: Global, out: &mut O, refusal: AuditFault) ->
 /// | 8 | memory was wanting | `mvnrepod: memory` |
 /// | 9 | some are not | `damaged REPO/PATH recorded L S M found L S M` or `.. found none` for each, then `checked N` |
 ///
-/// Files stand in byte order of repository and then of path, one of a hosted repository before a proxy's. L is a length in
-/// bytes, S and M are the SHA-1 and the MD5 digest. Each failure is one that its object counted.
+/// Files stand in byte order of repository and then of path, one of a hosted repository before a proxy's. Compared are a file's
+/// length and each digest that is recorded of it, SHA-1 and MD5 and, unless an old record lacks them, SHA-256 and SHA-512. L is
+/// a length in bytes, S and M are the SHA-1 and the MD5 digest. Each failure is one that its object counted.
 pub fn check_store<K: Records, B: Blobs, O: Sink>(
     alloc: Global,
     records: &mut K,

@@ -1,21 +1,48 @@
 //! The lines of a check.
-ghost use Rattle.std.specs.Prelude.{◌≡◌, ◌++◌, IfOk, OnOk};
+ghost use Rattle.std.specs.Prelude.{◌≡◌, ◌≤◌, ◌++◌, IfOk, OnOk, length};
 ghost use Rattle.std.specs.List.{flat_map};
-ghost use Rattle.store_check.specs.Lines.{checked_line, damaged_line, damaged_text, found_text, print_text, report_text, row_line, stopped_line};
+ghost use Rattle.mvn_digest.specs.Hex.{hex_text};
+ghost use Rattle.store_check.specs.Lines.{checked_line, damaged_line, damaged_text, found_text, recorded_text, report_text, row_line, stopped_line, sums_text};
 
 use blob_audit::{Audit, Damaged};
-use repo_model::Print;
+use mvn_digest::SHA1_DIGITS;
+use repo_model::{Print, Recorded};
 use std::alloc::{AllocError, Global};
 
-/// Adds length, SHA-1 and MD5 of a content.
-fn push_print(alloc: Global, text: &mut Vec<u8>, print: &Print) -> Result<(), AllocError>
-    ensures { OnOk result (text.new.items ≡ text.old.items ++ print_text print.now) }
+/// Adds a digest of at most 20 bytes in small hexadecimal digits.
+fn push_digest(text: &mut Vec<u8>, digest: &[u8]) -> Result<(), AllocError>
+    requires { length digest.now ≤ 20 }
+    ensures { OnOk result (text.new.items ≡ text.old.items ++ hex_text digest.now) }
 {
-    text.extend_from_slice(print.length.to_string(alloc)?.as_bytes())?;
+    let mut digits = [0; SHA1_DIGITS];
+    let len = 2 * digest.len();
+    let _ = hex::encode_to_slice(digest, &mut digits[..len]);
+    text.extend_from_slice(&digits[..len])
+}
+
+/// Adds length, SHA-1 and MD5 of a content.
+fn push_sums(
+    alloc: Global,
+    text: &mut Vec<u8>,
+    length: u64,
+    sha1: &[u8; 20],
+    md5: &[u8; 16],
+) -> Result<(), AllocError>
+    ensures { OnOk result (text.new.items ≡ text.old.items ++ sums_text length sha1.now md5.now) }
+{
+    text.extend_from_slice(length.to_string(alloc)?.as_bytes())?;
     text.push(b' ')?;
-    text.extend_from_slice(&print.digests.sha1_text())?;
+    push_digest(text, sha1)?;
     text.push(b' ')?;
-    text.extend_from_slice(&print.digests.md5_text())
+    push_digest(text, md5)
+}
+
+/// Adds what was recorded of a content.
+fn push_recorded(alloc: Global, text: &mut Vec<u8>, recorded: &Recorded) -> Result<(), AllocError>
+    ensures { OnOk result (text.new.items ≡ text.old.items ++ recorded_text recorded.now) }
+{
+    let known = &recorded.digests;
+    push_sums(alloc, text, recorded.length, &known.sha1, &known.md5)
 }
 
 /// Adds what was found of a content, or that there was none.
@@ -23,7 +50,10 @@ fn push_found(alloc: Global, text: &mut Vec<u8>, found: &Option<Print>) -> Resul
     ensures { OnOk result (text.new.items ≡ text.old.items ++ found_text found.now) }
 {
     match found {
-        Some(print) => push_print(alloc, text, print),
+        Some(print) => {
+            let digests = &print.digests;
+            push_sums(alloc, text, print.length, &digests.sha1, &digests.md5)
+        }
         None => text.extend_from_slice(b"none"),
     }
 }
@@ -37,7 +67,7 @@ fn push_damaged(alloc: Global, text: &mut Vec<u8>, damaged: &Damaged) -> Result<
     text.push(b'/')?;
     text.extend_from_slice(damaged.path.as_str().as_bytes())?;
     text.extend_from_slice(b" recorded ")?;
-    push_print(alloc, text, &damaged.recorded)?;
+    push_recorded(alloc, text, &damaged.recorded)?;
     text.extend_from_slice(b" found ")?;
     push_found(alloc, text, &damaged.found)
 }

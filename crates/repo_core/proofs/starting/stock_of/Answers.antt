@@ -2,7 +2,7 @@ use Rattle.std.proofs.Common.{◌∙◌}
 use Rattle.outside.proofs.ToldLemmas.{on_err}
 use Rattle.repo_model.specs.Restart.{blobs_named}
 use Rattle.repo_core.proofs.ItemForms.{ids-so}
-use Rattle.repo_core.proofs.NameLemmas.{named-apart}
+use Rattle.settings_laws.proofs.Apart.{named-apart}
 use Rattle.repo_core.proofs.StartLemmas.{all-cleared, next-above, next-end, none-cleared, restorable, restored-used}
 use Rattle.repo_core.proofs.starting.stock_of.Goals as goal
 
@@ -16,7 +16,7 @@ pub restore-requires-clause-apart : goal.restore-requires-clause-apart
 restore-requires-clause-apart g c = rw c.hosted.ensures (named-apart c.args.settings.now c.requires.form)
 
 pub restore-requires-clause-rows : goal.restore-requires-clause-rows
-restore-requires-clause-rows g c = restorable c.args.tables.now c.requires.built
+restore-requires-clause-rows g c = restorable c.args.tables.now c.requires.built c.requires.complete
 
 pub start-requires-2-clause-named : goal.start-requires-2-clause-named
 start-requires-2-clause-named g c =

@@ -4,11 +4,11 @@ use Rattle.blob_audit.specs.Damages.{AreDamaged, none}
 use Rattle.blob_audit.specs.Files.{shown_file}
 use Rattle.blob_audit.specs.declared.damages.Damaged.{Damaged}
 use Rattle.blob_audit.specs.declared.order.RecordedFile.{RecordedFile}
-use Rattle.blob_audit.proofs.DamageLemmas.{next-whole}
+use Rattle.blob_audit.proofs.DamageLemmas.{first-damaged, next-whole}
 use Rattle.outside.specs.Blobs.{Shelf}
 use Rattle.repo_restart.specs.Rows.{AreRestored}
 use Rattle.repo_restart.specs.Taking.{TakesFile}
-use Rattle.repo_restart.proofs.FileLemmas.{can-take, damage-on, damage-then, first-damaged, rows_of, takes-more}
+use Rattle.repo_restart.proofs.FileLemmas.{can-take, damage-on, damage-then, rows_of, takes-more}
 use Rattle.repo_restart.proofs.RestoreLemmas.{none-restored}
 use Rattle.repo_restart.proofs.restoring.restored.Goals as goal
 
@@ -35,7 +35,7 @@ returns-in_err-take_file-clause-damaged g c =
     let here : Damaged → Type 0 = λ d. AreDamaged now ((shown_file file).row ∷ []) (d ∷ []) in
     damage-then c.from_residual-in_err-take_file.result
     (λ d is.
-    first-damaged c.args.files.now c.loop-file.file-index file c.loop-file-test.true c.file-item.is shelf d c.loop-file.invariant.sound
+    first-damaged (λ (f : RecordedFile). (shown_file f).row) c.args.files.now c.loop-file.file-index file c.loop-file-test.true c.file-item.is shelf d c.loop-file.invariant.sound
     (subst (λ (s : Shelf). AreDamaged s ((shown_file file).row ∷ []) (d ∷ [])) c.loop-file.invariant.kept is))
     (damage-on (Unit {0}) c.from_residual-in_err-take_file.result c.in_err-take_file.field-0.0 here c.from_residual-in_err-take_file.ensures.1 c.in_err-take_file.ensures.damaged)
 
@@ -52,7 +52,7 @@ loop-file-preserved g c =
     record {
       kept = c.take_file.ensures.kept ∙ c.loop-file.invariant.kept;
       count = c.in_ok-take_file.ensures.cause ∙ c.loop-file.invariant.count;
-      sound = next-whole (λ (f : RecordedFile). (shown_file f).row) files i file c.loop-file-test.true c.file-item.is c.loop-file.invariant.kept c.loop-file.invariant.sound took.sound refl;
+      sound = next-whole (λ (f : RecordedFile). (shown_file f).row) files i file c.loop-file-test.true c.file-item.is c.loop-file.invariant.kept c.loop-file.invariant.sound took.found took.at took.sound refl;
       restored =
           takes-more files i file c.loop-file-test.true c.file-item.is c.requires.rows shelf c.args.rules.now c.loop-file.repos.items c.loop-file.invariant.restored c.requires.named
           c.take_file.new.repos.items taken;

@@ -16,7 +16,7 @@ use Rattle.repo_core.specs.Whole.{Parts}
 use Rattle.repo_core.proofs.DeployTurns.{recorded-by, recorded-given}
 use Rattle.repo_core.proofs.EndTurns.{abort-gives, end-files, end-left, end-once, end-rows, end-yard, given-hosted, giving-going, known-if, next-if}
 use Rattle.repo_core.proofs.GarbageLemmas.{garbage_of}
-use Rattle.repo_core.proofs.NameLemmas.{named-apart}
+use Rattle.settings_laws.proofs.Apart.{named-apart}
 use Rattle.repo_core.proofs.machine.Machine.abort.Goals as goal
 
 pub condemn_left-requires : goal.condemn_left-requires

@@ -1,9 +1,13 @@
 use Rattle.std.proofs.Common.{sym, ◌∙◌, subst}
 use Rattle.ordered_rows.specs.Recording.{FitWhereTold}
+use Rattle.ordered_rows.proofs.ChangeLemmas.{removals-whole}
 use Rattle.repo_model.specs.Shown.{shown_reply}
 use Rattle.repo_core.proofs.PurgeTurns.{change-at, collect-done, collect-items}
 use Rattle.repo_core.proofs.Turning.{settled-by}
 use Rattle.repo_core.proofs.machine.Machine.collect.Goals as goal
+
+pub commit-requires-clause-whole : goal.commit-requires-clause-whole
+commit-requires-clause-whole g c = removals-whole c.in-Ok.gone.change c.in-Ok.ensures.removed
 
 pub commit-requires-clause-fits : goal.commit-requires-clause-fits
 commit-requires-clause-fits g c =

@@ -18,7 +18,7 @@ use Rattle.repo_core.specs.Whole.{Parts}
 use Rattle.repo_core.proofs.DeployTurns.{recorded-by}
 use Rattle.repo_core.proofs.EndTurns.{commit-given, commit-going, commit-rules, end-files, end-left, end-once, end-rows, end-yard, known-if, next-if, open-there, rules-if}
 use Rattle.repo_core.proofs.GarbageLemmas.{garbage_of}
-use Rattle.repo_core.proofs.NameLemmas.{named-apart}
+use Rattle.settings_laws.proofs.Apart.{named-apart}
 use Rattle.repo_core.proofs.machine.Machine.commit.Goals as goal
 
 pub commit-did-requires-clause-there : goal.commit-did-requires-clause-there

@@ -8,7 +8,7 @@ use Rattle.repo_laws.specs.Sound.{AreNamedApart}
 use Rattle.repo_core.specs.Deploys.{AreStagedInUse}
 use Rattle.repo_core.specs.Hosted.{AreInUse, rules_of}
 use Rattle.repo_core.specs.Purge.{AreKeptOnce, condemned_by, dropped_by, kept_without, shares}
-use Rattle.repo_core.proofs.NameLemmas.{named-apart}
+use Rattle.settings_laws.proofs.Apart.{named-apart}
 use Rattle.repo_core.proofs.PurgeLemmas.{dropped-rules, shares-length}
 use Rattle.repo_core.proofs.PurgeTurns.{blobs-at, collected-once, collected-staged, collected-used, counts-at, turned-collected}
 use Rattle.repo_core.proofs.SessionNumbers.{session-condemned}

@@ -9,7 +9,7 @@ use Rattle.row_tables.specs.Commits.{tables_with}
 use Rattle.repo_core.specs.Whole.{IsKept, Whole, counting, whole_of}
 use Rattle.repo_core.proofs.AnswerLemmas.{answers}
 use Rattle.repo_core.proofs.KeepLemmas.{may-record, orderly-kept}
-use Rattle.repo_core.proofs.NameLemmas.{named-apart}
+use Rattle.settings_laws.proofs.Apart.{named-apart}
 use Rattle.repo_core.proofs.Turning.{kept-more}
 use Rattle.repo_core.proofs.repository.Core.call.Goals as goal
 

@@ -1,0 +1,11 @@
+pub mod Fitting
+pub mod Chunks
+pub mod Weaving
+pub mod Behind
+pub mod Outcomes
+pub mod Completed
+pub mod Counting
+pub mod Items
+pub mod Digesting
+pub mod GatherLemmas
+pub mod Handing

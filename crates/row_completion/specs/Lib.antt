@@ -1,0 +1,3 @@
+pub mod Completion
+pub mod Faults
+pub mod Gathering
