@@ -8,9 +8,9 @@ use Rattle.repo_laws.specs.Described.{IsAmong}
 use Rattle.repo_model.specs.declared.item.Item.{Item}
 use Rattle.repo_model.specs.Tables.{Tables}
 use Rattle.row_tables.specs.Applying.{with_items}
-use Rattle.row_tables.specs.Items.{IsChange, change_bytes}
+use Rattle.row_tables.specs.Items.{change_bytes}
 use Rattle.record_journal.specs.Journal.{AddsNothing, Commits, CommitsTo, LoadsTo, MayLoad, tables_of}
-use Rattle.record_journal.proofs.Loads.{change_again}
+use Rattle.record_journal.proofs.Loads.{IsWritable, change_again}
 use Rattle.stop_laws.specs.Stops.{left_by}
 use Rattle.journal_stops.specs.Through.{LoadsAmong, Through, items_of}
 use Rattle.journal_stops.proofs.Still.{among_left, second_left}
@@ -31,7 +31,7 @@ left-first t (Some items) = inl refl
 some-same : (t u : Tables) → Some t ≡ Some u → t ≡ u
 some-same t u same = cc
 
-module _ (old new : LogState) (items : List Item) (is : IsChange items) (t u : Tables) (told : tables_of old ≡ Some t) (told' : tables_of new ≡ Some u) where
+module _ (old new : LogState) (items : List Item) (t u : Tables) (told : tables_of old ≡ Some t) (told' : tables_of new ≡ Some u) where
   abbrev left : List Tables
   left = left_by t (items_of old.pending) ++ left_by u (items_of new.pending)
 
@@ -63,10 +63,10 @@ module _ (old new : LogState) (items : List Item) (is : IsChange items) (t u : T
       let same : u ≡ with_items t items = some-same u (with_items t items) (sym told' ∙ ok ∙ ap (option_map (λ y. with_items y items)) told) in
       by-crash (back (with_items t items) (left_by t (items_of old.pending)) (left_by u (items_of new.pending)) (subst (λ y. IsAmong y (left_by u (items_of new.pending))) same (left-first u (items_of new.pending)))) crash
 
-  pub failed-between : tables_of new ≡ tables_of old → (new.pending ≡ Some (change_bytes items)) ⊎ Told old.trace new.trace (AddsNothing (tables_of old) old.pending)
+  pub failed-between : IsWritable items → tables_of new ≡ tables_of old → (new.pending ≡ Some (change_bytes items)) ⊎ Told old.trace new.trace (AddsNothing (tables_of old) old.pending)
       → Told old.trace new.trace (Commits (tables_of old) old.pending items) → Through old.trace new.trace left
-  failed-between err (inr none) crash = by-nothing none
-  failed-between err (inl pends) crash =
+  failed-between is err (inr none) crash = by-nothing none
+  failed-between is err (inl pends) crash =
       let same : u ≡ t = some-same u t (sym told' ∙ err ∙ told) in
       by-crash (back (with_items t items) (left_by t (items_of old.pending)) (left_by u (items_of new.pending))
       (subst (λ y. IsAmong (with_items t items) (left_by y (items_of new.pending))) (sym same)

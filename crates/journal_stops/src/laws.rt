@@ -1,5 +1,5 @@
 //! What a stop leaves of a journal. No function here has code: its contract is the law.
-ghost use Rattle.std.specs.Prelude.{◌≡◌, ◌⊎◌, ◌++◌, List, Option, Some};
+ghost use Rattle.std.specs.Prelude.{◌≡◌, ◌⊎◌, ◌++◌, IsTrue, List, Option, Some};
 ghost use Rattle.std.specs.Option.{option_map};
 ghost use Rattle.record_disk.specs.Disk.{Told, Trace};
 ghost use Rattle.record_journal.specs.Journal.{AddsNothing, Commits, IsReady, tables_of};
@@ -8,7 +8,8 @@ ghost use Rattle.repo_laws.specs.Described.{IsAmong};
 ghost use Rattle.repo_model.specs.declared.item.Item.{Item};
 ghost use Rattle.repo_model.specs.Tables.{Tables};
 ghost use Rattle.row_tables.specs.Applying.{with_items};
-ghost use Rattle.row_tables.specs.Items.{IsChange, change_bytes};
+ghost use Rattle.row_tables.specs.Items.{IsChange, are_of, change_bytes};
+ghost use Rattle.row_tables.specs.declared.version.Version.TheVariants.{Second};
 ghost use Rattle.stop_laws.specs.Stops.{left_by};
 ghost use Rattle.journal_stops.specs.Through.{Through, items_of};
 
@@ -21,7 +22,7 @@ pub fn stops_of_journals()
     ensures done { (old new : LogState) (items : List Item) (t u : Tables) → IsChange items → tables_of old ≡ Some t → tables_of new ≡ Some u
         → tables_of new ≡ option_map (λ x. with_items x items) (tables_of old) → Told old.trace new.trace (Commits (tables_of old) old.pending items)
         → Through old.trace new.trace (left_by t (items_of old.pending) ++ left_by u (items_of new.pending)) }
-    ensures failed { (old new : LogState) (items : List Item) (t u : Tables) → IsChange items → tables_of old ≡ Some t → tables_of new ≡ Some u
+    ensures failed { (old new : LogState) (items : List Item) (t u : Tables) → IsChange items → IsTrue (are_of Second items) → tables_of old ≡ Some t → tables_of new ≡ Some u
         → tables_of new ≡ tables_of old → (new.pending ≡ Some (change_bytes items)) ⊎ Told old.trace new.trace (AddsNothing (tables_of old) old.pending)
         → Told old.trace new.trace (Commits (tables_of old) old.pending items)
         → Through old.trace new.trace (left_by t (items_of old.pending) ++ left_by u (items_of new.pending)) }

@@ -14,6 +14,7 @@ use Rattle.repo_model.specs.Data.{Blob, Hosted}
 use Rattle.repo_model.specs.Document.{is_listed}
 use Rattle.repo_model.specs.Paths.{is_snapshot_path}
 use Rattle.repo_model.specs.Settings.{Rule, Settings}
+use Rattle.repo_model.specs.Prints.{recorded_print}
 use Rattle.repo_model.specs.State.{State, opening, new_hosted, is_repository, is_staged, is_open_at, row_at, rows_of}
 use Rattle.repo_model.specs.Effect.{Effect, draws, drops, creates, stages, delivers, discards, relists, fades, expires, forgets, lends, returns, opens, ends, with_staged, without_staged, list_again, fade, with_effect, with_effects, items_of, recorded}
 use Rattle.repo_model.specs.May.{May, AllMay}
@@ -94,12 +95,12 @@ module _ (grace now : ℕ) (s : State) (t : Tables) (up : now ≤ s.last) (place
   created : (repo path : List ℕ) (blob : Blob) (moment : ℕ) → May grace now s (creates repo path blob moment) → Goal (creates repo path blob moment)
   created repo path blob moment may =
       let (at_now, there, among, free) = may in
-      let new : RecordedRow = recorded_row repo path blob.number blob.print moment in (
+      let new : RecordedRow = recorded_row repo path blob.number (recorded_print blob.print) moment in (
         (free-here repo path blob.number there free (omega (arith, among-counts blob.number s.yard.drafts among)), tt),
         record {
           rows = held-new t.hosted s.hosted repo path blob moment parts.rows there free;
           sessions = record { ended = parts.sessions.ended; opened = parts.sessions.opened; next_session = parts.sessions.next_session };
-          blobs = blobs-new s (with_effect s (creates repo path blob moment)) blob.number (named_in t) (named_in (item_on t (HostedPut repo path blob.number blob.print moment))) placed
+          blobs = blobs-new s (with_effect s (creates repo path blob moment)) blob.number (named_in t) (named_in (item_on t (HostedPut repo path blob.number (recorded_print blob.print) moment))) placed
               (λ n. omega (arith, given-up n blob.number s.yard.drafts among)) (omega arith) (λ n. omega (arith, count-with_recorded (λ r. r.row.blob.number == n) new t.hosted)) parts.blobs;
           moments = (moments-new t.hosted repo path moment s.last (omega (arith, at_now, up)) new refl parts.moments.0, parts.moments.1, parts.moments.2);
         },
@@ -108,7 +109,7 @@ module _ (grace now : ℕ) (s : State) (t : Tables) (up : now ≤ s.last) (place
   delivered : (m : ℕ) (repo path : List ℕ) (blob : Blob) (moment : ℕ) → May grace now s (delivers m repo path blob moment) → Goal (delivers m repo path blob moment)
   delivered m repo path blob moment may =
       let (one, at_now, there, found, is, free) = may in
-      let new : RecordedRow = recorded_row repo path blob.number blob.print moment in
+      let new : RecordedRow = recorded_row repo path blob.number (recorded_print blob.print) moment in
       let fewer : (n : ℕ) → loose_in (with_effect s (delivers m repo path blob moment)) n + one_if (blob.number == n) ≤ loose_in s n =
       λ n. omega (
         arith,
@@ -120,7 +121,7 @@ module _ (grace now : ℕ) (s : State) (t : Tables) (up : now ≤ s.last) (place
         record {
           rows = held-new t.hosted s.hosted repo path blob moment parts.rows there free;
           sessions = sessions-staged m (without_staged path) (λ x. refl) (λ x. refl) t.sessions s.sessions s.yard.next_session parts.sessions;
-          blobs = blobs-new s (with_effect s (delivers m repo path blob moment)) blob.number (named_in t) (named_in (item_on t (HostedPut repo path blob.number blob.print moment))) placed
+          blobs = blobs-new s (with_effect s (delivers m repo path blob moment)) blob.number (named_in t) (named_in (item_on t (HostedPut repo path blob.number (recorded_print blob.print) moment))) placed
               fewer (omega arith) (λ n. omega (arith, count-with_recorded (λ r. r.row.blob.number == n) new t.hosted)) parts.blobs;
           moments = (moments-new t.hosted repo path moment s.last (omega (arith, at_now, up)) new refl parts.moments.0, parts.moments.1, parts.moments.2);
         },

@@ -1,7 +1,7 @@
 -- Tables stay in order under each item that fits.
 use native.Mathlib.Omega.{arith}
 use Rattle.std.proofs.Common.{◌≡◌, ◌≤◌, ◌<◌, ◌+◌, ℕ, Bool, true, false, not, cond, List, [], ◌∷◌, ◌++◌, Some, None, refl, sym, ◌∙◌, ap, subst, option_map, eqb-true}
-use Rattle.std.specs.Prelude.{◌==◌, nat_lt, filter, find, count_by, bytes_eq, is_none}
+use Rattle.std.specs.Prelude.{◌==◌, if◌then◌else◌, nat_lt, filter, find, count_by, bytes_eq, is_none}
 use Rattle.std.specs.List.{AllByRecursion, list_any, list_all}
 use Rattle.std.specs.List.Sorted.{IsStrictlySortedBy}
 use Rattle.std.specs.Ordering.{nat_cmp, match_ordering, ordering_then, ordering_reverse}
@@ -13,10 +13,10 @@ use Rattle.std.proofs.lemmas.Bool.{false≢true, and_parts, and_from, or_parts, 
 use Rattle.std.proofs.lemmas.Map.Lookups.{exact_bytes}
 use Rattle.std.proofs.lemmas.Option.{none-some}
 use Rattle.repo_model.specs.declared.item.Item.{Item}
-use Rattle.repo_model.specs.declared.item.Item.TheVariants.{HostedPut, Faded, Relisted, Removed, CachedFile, CachedDoc, SessionOpened, SessionEnded}
+use Rattle.repo_model.specs.declared.item.Item.TheVariants.{HostedPut, Faded, Relisted, Removed, CachedFile, CachedDoc, SessionOpened, SessionEnded, Digested}
 use Rattle.repo_model.specs.Effect.{list_again, fade}
 use Rattle.repo_model.specs.State.{change_where}
-use Rattle.repo_model.specs.Tables.{Tables, RecordedRow, RecordedDocument, RecordedSession, no_tables, place_cmp, is_recorded, recorded_at, recorded_row, with_recorded, with_document, is_session, names_blob, item_on, fits_on}
+use Rattle.repo_model.specs.Tables.{Tables, RecordedRow, RecordedDocument, RecordedSession, no_tables, place_cmp, is_recorded, recorded_at, recorded_row, with_recorded, with_document, change_recorded, is_session, names_blob, digested, lacks_at, item_on, fits_on}
 use Rattle.repo_laws.specs.Holds.{row_cmp, document_cmp, session_cmp, named_in, InOrder}
 use Rattle.repo_laws.proofs.Counts.{one_if, count-cons, count-filter}
 use Rattle.repo_laws.proofs.Releases.{same_path, is_itself}
@@ -166,8 +166,8 @@ with_document-ordered new (d ∷ documents) rising =
 pub all-below : (n : ℕ) (sessions : List RecordedSession) → list_all (λ (one : RecordedSession). nat_lt one.number n) sessions ≡ true → AllByRecursion (λ (one : RecordedSession). one.number < n) sessions
 all-below n [] all = tt
 all-below n (one ∷ sessions) all =
-    let (here, then) = and_parts (nat_lt one.number n) (list_all (λ (other : RecordedSession). nat_lt other.number n) sessions) all in
-    (ltb-true one.number n here, all-below n sessions then)
+    let (here, rest) = and_parts (nat_lt one.number n) (list_all (λ (other : RecordedSession). nat_lt other.number n) sessions) all in
+    (ltb-true one.number n here, all-below n sessions rest)
 
 below-before : (n : ℕ) (sessions : List RecordedSession) → AllByRecursion (λ (one : RecordedSession). one.number < n) sessions → AllByRecursion (λ (one : RecordedSession). nat_cmp one.number n ≡ Less) sessions
 below-before n [] all = tt
@@ -263,6 +263,26 @@ ordered-kept t (SessionEnded n result) old fits =
       sessions = change-ordered session_cmp sessions-order (is_session n) (λ one. record one { result = Some result }) (λ x y. refl) (λ x y. refl) t.sessions old.sessions;
       blobs = old.blobs;
     }
+ordered-kept t (Digested repo path further) old fits =
+    let f : RecordedRow → RecordedRow = λ r. record r { row = digested further r.row } in
+    let names : ℕ → RecordedRow → Bool = λ n r. r.row.blob.number == n in
+    elim (lacks_at repo path t.hosted)
+    as (λ b. InOrder (if b then record t { hosted = change_recorded repo path (digested further) t.hosted } else record t { cached = change_recorded repo path (digested further) t.cached })) [
+      | true ↦ record {
+        hosted = change-ordered row_cmp rows-order (is_recorded repo path) f (λ x y. refl) (λ x y. refl) t.hosted old.hosted;
+        cached = old.cached;
+        documents = old.documents;
+        sessions = old.sessions;
+        blobs = λ n. omega (arith, old.blobs n, count-same (names n) (is_recorded repo path) f (λ r. refl) t.hosted);
+      }
+      | false ↦ record {
+        hosted = old.hosted;
+        cached = change-ordered row_cmp rows-order (is_recorded repo path) f (λ x y. refl) (λ x y. refl) t.cached old.cached;
+        documents = old.documents;
+        sessions = old.sessions;
+        blobs = λ n. omega (arith, old.blobs n, count-same (names n) (is_recorded repo path) f (λ r. refl) t.cached);
+      }
+    ]
 
 pub no-tables-ordered : InOrder no_tables
 unfolding IsStrictlySortedBy

@@ -9,6 +9,7 @@ use Rattle.std.specs.declared.cmp.Ordering.TheVariants.{Less, Equal, Greater}
 use Rattle.std.proofs.lemmas.Bool.{false≢true, false_from_ne_true, and_from}
 use Rattle.std.proofs.lemmas.Option.{none-some}
 use Rattle.repo_model.specs.Data.{Blob, Row, Hosted}
+use Rattle.repo_model.specs.Prints.{recorded_print}
 use Rattle.repo_model.specs.State.{change_where, change_first, is_repository, is_row, row_at}
 use Rattle.repo_model.specs.Effect.{with_row, new_row, without_row}
 use Rattle.repo_model.specs.Tables.{RecordedRow, place_cmp, is_recorded, recorded_at, recorded_row, with_recorded, change_recorded}
@@ -142,9 +143,9 @@ none-recorded repo path rows none =
 
 module _ (tables : List RecordedRow) (hosted : List Hosted) (repo path : List ℕ) where
   pub held-new : (blob : Blob) (moment : ℕ) → RowsHeld tables hosted → list_any (is_repository repo) hosted ≡ true → row_at path (rows_in repo hosted) ≡ None
-      → RowsHeld (with_recorded (recorded_row repo path blob.number blob.print moment) tables) (change_first (is_repository repo) (λ h. record h { rows = with_row (new_row path blob moment) h.rows }) hosted)
+      → RowsHeld (with_recorded (recorded_row repo path blob.number (recorded_print blob.print) moment) tables) (change_first (is_repository repo) (λ h. record h { rows = with_row (new_row path blob moment) h.rows }) hosted)
   held-new blob moment held there free =
-      let new : RecordedRow = recorded_row repo path blob.number blob.print moment in
+      let new : RecordedRow = recorded_row repo path blob.number (recorded_print blob.print) moment in
       let here_too : is_recorded repo path new ≡ true = there-itself repo path new refl refl in
       let none : recorded_at repo path tables ≡ None = held repo path there ∙ ap (option_map without_bytes) free in
       held-then repo path (with_row (new_row path blob moment)) tables (with_recorded new tables) hosted

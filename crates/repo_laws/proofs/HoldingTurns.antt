@@ -10,6 +10,7 @@ use Rattle.repo_model.specs.declared.session.SessionResult.{SessionResult}
 use Rattle.repo_model.specs.declared.session.SessionResult.TheVariants.{Aborted, Done}
 use Rattle.repo_model.specs.Data.{Blob, Row, Phase, listed, fading, Hosted, Staged, Session, is_same_print}
 use Rattle.repo_model.specs.Settings.{Settings}
+use Rattle.repo_model.specs.Prints.{recorded_print}
 use Rattle.repo_model.specs.State.{State, is_session, is_open, hosted_of, row_at, rows_of, session_of, is_among, number_end, most_sessions}
 use Rattle.repo_model.specs.Effect.{Effect, drops, discards, fades, expires, forgets, opens, ends, with_effects, items_of, recorded}
 use Rattle.repo_model.specs.Command.{Command, put, open_session, commit, abort, unlist, collect}
@@ -39,7 +40,7 @@ module _ (settings : Settings) (s : State) (now : ℕ) where
 -- a put records one item, of a new row or of one that is visible again
 abbrev PutRecords : List ℕ → List ℕ → Blob → ℕ → Turn → Type 0
 PutRecords repo path blob now t =
-    (t.reply ≡ answered.created → recorded t.effects ≡ HostedPut repo path blob.number blob.print now ∷ [])
+    (t.reply ≡ answered.created → recorded t.effects ≡ HostedPut repo path blob.number (recorded_print blob.print) now ∷ [])
     × (t.reply ≡ answered.relisted → recorded t.effects ≡ Relisted repo path now ∷ [])
 
 pub put-records : (settings : Settings) (s : State) (now : ℕ) (repo path : List ℕ) (n : ℕ) (blob : Blob) → PutRecords repo path blob now (turn settings s now (put repo path n blob))

@@ -8,15 +8,15 @@ use Rattle.std.specs.declared.cmp.Ordering.TheVariants.{Less, Equal, Greater}
 use Rattle.std.proofs.lemmas.Bool.{false≢true, and_parts, eq-eqb, ltb-true, ltb-false}
 use Rattle.std.proofs.lemmas.Option.{none-some}
 use Rattle.repo_model.specs.declared.item.Item.{Item}
-use Rattle.repo_model.specs.declared.item.Item.TheVariants.{HostedPut, Faded, Relisted, Removed, CachedFile, CachedDoc, SessionOpened, SessionEnded}
-use Rattle.repo_model.specs.declared.print.Print.{Print}
+use Rattle.repo_model.specs.declared.item.Item.TheVariants.{HostedPut, Faded, Relisted, Removed, CachedFile, CachedDoc, SessionOpened, SessionEnded, Digested}
+use Rattle.repo_model.specs.declared.print.Recorded.{Recorded}
 use Rattle.repo_model.specs.Data.{listed, fading, Staged, Session}
 use Rattle.repo_model.specs.Paths.{is_snapshot_path}
 use Rattle.repo_model.specs.Settings.{Settings}
 use Rattle.repo_model.specs.State.{State, change_where, is_open_at, is_staged, number_end}
 use Rattle.repo_model.specs.Effect.{Effect, draws, drops, creates, stages, delivers, discards, relists, fades, expires, forgets, lends, returns, opens, ends, list_again, fade, with_effect, items_of, recorded}
 use Rattle.repo_model.specs.May.{May, AllMay}
-use Rattle.repo_model.specs.Tables.{Tables, RecordedRow, RecordedDocument, RecordedSession, no_tables, place_cmp, is_recorded, recorded_at, recorded_row, with_document, is_session, is_listed_row, names_blob, item_on, fits_on, applied}
+use Rattle.repo_model.specs.Tables.{Tables, RecordedRow, RecordedDocument, RecordedSession, no_tables, place_cmp, is_recorded, recorded_at, recorded_row, with_document, is_session, is_listed_row, change_recorded, digested, lacks_at, names_blob, item_on, fits_on, applied}
 use Rattle.repo_model.specs.History.{Entry, Legal, latest_moment, ticked, effects_of, after}
 use Rattle.repo_laws.specs.Laws.{FadesRightly, staged_with, places_of}
 use Rattle.repo_laws.specs.Sound.{AreNamedApart, Sound, OnePlace, IsSound}
@@ -94,7 +94,7 @@ abbrev FadesSnapshot : Item → Type 0
 FadesSnapshot (Faded repo path moment) = is_snapshot_path path ≡ true
 FadesSnapshot item = Unit {0}
 
-new-in-range : (repo path : List ℕ) (blob : ℕ) (print : Print) (accepted : ℕ) → (0 < blob) × (blob < number_end) × (accepted ≤ latest_moment) → IsRowInRange (recorded_row repo path blob print accepted)
+new-in-range : (repo path : List ℕ) (blob : ℕ) (print : Recorded) (accepted : ℕ) → (0 < blob) × (blob < number_end) × (accepted ≤ latest_moment) → IsRowInRange (recorded_row repo path blob print accepted)
 new-in-range repo path blob print accepted (above, below, early) = (refl, above, below, (early, λ since is. absurd (let e : listed ≡ fading since = is in cc)))
 
 fades-to : (moment since : ℕ) → fading moment ≡ fading since → moment ≡ since
@@ -158,6 +158,23 @@ range-step t (SessionEnded n result) old so rightly = record {
   documents = old.documents;
   sessions = all-change_where (λ (one : RecordedSession). one.number < number_end) (is_session n) (λ one. record one { result = Some result }) (λ one below. below) t.sessions old.sessions;
 }
+range-step t (Digested repo path further) old so rightly =
+    let f : RecordedRow → RecordedRow = λ r. record r { row = digested further r.row } in
+    elim (lacks_at repo path t.hosted)
+    as (λ b. InRange (if b then record t { hosted = change_recorded repo path (digested further) t.hosted } else record t { cached = change_recorded repo path (digested further) t.cached })) [
+      | true ↦ record {
+        hosted = all-changed (λ (r : RecordedRow). IsRowInRange r × FadesRightly r.row) (is_recorded repo path) f (λ r _ both. both) t.hosted old.hosted;
+        cached = old.cached;
+        documents = old.documents;
+        sessions = old.sessions;
+      }
+      | false ↦ record {
+        hosted = old.hosted;
+        cached = all-changed IsRowInRange (is_recorded repo path) f (λ r _ range. range) t.cached old.cached;
+        documents = old.documents;
+        sessions = old.sessions;
+      }
+    ]
 
 -- what fits lets no other row fade
 fits-rightly : (t : Tables) (item : Item) → fits_on t item ≡ true → FadesSnapshot item

@@ -75,7 +75,7 @@ pub fn moments_are_the_clocks()
     ensures latest { latest_moment ≡ 253402207200 }
 {}
 
-/// Contents count as equal exactly where length and both digests are the same.
+/// Contents count as equal exactly where their lengths and all four digests are the same.
 pub fn prints_compare()
     ensures { (a b : Print) → IsTrue (is_same_print a b) ↔ (a ≡ b) }
 {}

@@ -15,7 +15,7 @@ ghost use Rattle.repo_model.specs.Restart.{with_bytes, started};
 ghost use Rattle.repo_laws.specs.Sound.{AreNamedApart, IsSound};
 ghost use Rattle.repo_laws.specs.Holds.{InOrder, Holds, StandsFor, with_items, told};
 ghost use Rattle.repo_laws.specs.Closed.{named, AnswersDocument};
-ghost use Rattle.repo_laws.specs.InRange.{InRange, IsItemInRange, Run, Follow, AnsweredOn};
+ghost use Rattle.repo_laws.specs.InRange.{InRange, IsItemInRange, Completes, IsFoundSince, Run, Follow, AnsweredOn};
 
 /// The state that a start makes from tables in order and in range stands for them and is sound. Its rows are the recorded ones,
 /// with the bytes that the store tells, of the repositories that the settings name, and no others. The next draft is above each
@@ -43,9 +43,19 @@ pub fn tables_stay_in_range()
         → IsSound settings s → InRange t → InRange (with_items t (told settings s entries)) }
 {}
 
+/// The further digests that a start commits leave tables in order and in range. Each row that stood at a place stands there still,
+/// and is the same, or it lacked its further digests and has them now; and none has come.
+pub fn starts_complete_rows()
+    ensures order { (old new : Tables) → Completes old new → InOrder old → InOrder new }
+    ensures range { (old new : Tables) → Completes old new → InRange old → InRange new }
+    ensures rows { (old new : Tables) (repo path : List ℕ) → Completes old new → IsFoundSince (recorded_at repo path new.hosted) (recorded_at repo path old.hosted) }
+    ensures files { (old new : Tables) (repo path : List ℕ) → Completes old new → IsFoundSince (recorded_at repo path new.cached) (recorded_at repo path old.cached) }
+{}
+
 /// Across restarts: each file that a document named is answered in all later runs under the same settings, up to the grace after
-/// that moment, with its number and fingerprint, or memory is wanting, or no lease is left. Each run begins in a sound state
-/// that stands for the tables after the commits of the runs before it, and no earlier than these ended. What was being
+/// that moment, with its number and fingerprint, or memory is wanting, or no lease is left; a fingerprint that lacked its further
+/// digests may have been given them. Each run begins in a sound state that stands for the tables after the commits of the runs
+/// before it, once its start has completed them, and no earlier than these ended. What was being
 /// committed at a stop counts as an entry of that run, or as none.
 pub fn served_names_outlast_restarts()
     ensures { (settings : Settings) (before : List Entry) (e : Entry) (rest : List Entry) (s : State) (t : Tables) (runs : List Run) (repo : List ℕ) (d : Directory)

@@ -1,17 +1,19 @@
 //! Laws of the records: what a turn records, and what the tables tell of the state.
-ghost use Rattle.std.specs.Prelude.{◌≡◌, ◌↔◌, ℕ, ◌<◌, ◌≤◌, if◌then◌else◌, List, [], ◌∷◌, ◌++◌, length, find, Option, option_map, None, Some, Ok, Err, false, IsTrue};
+ghost use Rattle.std.specs.Prelude.{◌≡◌, ◌↔◌, ◌⊎◌, ℕ, ◌<◌, ◌≤◌, if◌then◌else◌, List, [], ◌∷◌, ◌++◌, length, find, Option, option_map, None, Some, Ok, Err, false, IsTrue};
 ghost use Rattle.std.specs.List.{AllByRecursion, list_any, flat_map};
 ghost use Rattle.std.specs.List.Sorted.{IsStrictlySortedBy};
 ghost use Rattle.std.specs.declared.cmp.Ordering.TheVariants.{Less};
+ghost use Rattle.mvn_digest.specs.declared.known.Further.{Further};
 ghost use Rattle.mvn_metadata.specs.Document.{Document};
 ghost use Rattle.outside.specs.Moments.{Moments};
 ghost use Rattle.repo_model.specs.declared.item.Item.{Item};
-ghost use Rattle.repo_model.specs.declared.item.Item.TheVariants.{HostedPut, Faded, Relisted, Removed, CachedFile, CachedDoc, SessionOpened, SessionEnded};
-ghost use Rattle.repo_model.specs.declared.print.Print.{Print};
+ghost use Rattle.repo_model.specs.declared.item.Item.TheVariants.{HostedPut, Faded, Relisted, Removed, CachedFile, CachedDoc, SessionOpened, SessionEnded, Digested};
+ghost use Rattle.repo_model.specs.declared.print.Recorded.{Recorded};
 ghost use Rattle.repo_model.specs.declared.session.SessionResult.{SessionResult};
 ghost use Rattle.repo_model.specs.declared.session.SessionResult.TheVariants.{Aborted, Done};
 ghost use Rattle.repo_model.specs.Data.{Blob, Row, listed, fading, Staged, Session};
 ghost use Rattle.repo_model.specs.Paths.{is_snapshot_path};
+ghost use Rattle.repo_model.specs.Prints.{lacks_further, recorded_print};
 ghost use Rattle.repo_model.specs.Settings.{Settings};
 ghost use Rattle.repo_model.specs.State.{State, is_repository, is_open_at, opening, row_at, rows_of, session_of};
 ghost use Rattle.repo_model.specs.Effect.{Effect, with_effect, with_effects, items_of, recorded};
@@ -38,9 +40,9 @@ pub fn tables_stay_in_order()
 
 /// Which items fit tables, and so which is the first that does not.
 pub fn items_fit()
-    ensures hosted_put { (t : Tables) (repo path : List ℕ) (blob : ℕ) (print : Print) (accepted : ℕ) → IsTrue (fits_on t (HostedPut repo path blob print accepted))
+    ensures hosted_put { (t : Tables) (repo path : List ℕ) (blob : ℕ) (print : Recorded) (accepted : ℕ) → IsTrue (fits_on t (HostedPut repo path blob print accepted))
         ↔ ((recorded_at repo path t.hosted ≡ None) × (names_blob blob t ≡ false)) }
-    ensures cached_file { (t : Tables) (repo path : List ℕ) (blob : ℕ) (print : Print) (accepted : ℕ) → IsTrue (fits_on t (CachedFile repo path blob print accepted))
+    ensures cached_file { (t : Tables) (repo path : List ℕ) (blob : ℕ) (print : Recorded) (accepted : ℕ) → IsTrue (fits_on t (CachedFile repo path blob print accepted))
         ↔ ((recorded_at repo path t.cached ≡ None) × (names_blob blob t ≡ false)) }
     ensures cached_doc { (t : Tables) (repo path : List ℕ) (checked : ℕ) (document : Document) → IsTrue (fits_on t (CachedDoc repo path checked document)) }
     ensures faded { (t : Tables) (repo path : List ℕ) (moment : ℕ) → IsTrue (fits_on t (Faded repo path moment))
@@ -52,6 +54,8 @@ pub fn items_fit()
     ensures session_opened { (t : Tables) (n : ℕ) → IsTrue (fits_on t (SessionOpened n)) ↔ AllByRecursion (λ (one : RecordedSession). one.number < n) t.sessions }
     ensures session_ended { (t : Tables) (n : ℕ) (result : SessionResult) → IsTrue (fits_on t (SessionEnded n result))
         ↔ (find (is_session n) t.sessions ≡ Some (record { number = n; result = None })) }
+    ensures digested { (t : Tables) (repo path : List ℕ) (further : Further) → IsTrue (fits_on t (Digested repo path further))
+        ↔ ((row : Row) × ((recorded_at repo path t.hosted ≡ Some row) ⊎ (recorded_at repo path t.cached ≡ Some row)) × IsTrue (lacks_further row.blob.print)) }
     ensures first { (t : Tables) (items : List Item) (place : ℕ) → applied t items ≡ Err place
         → (before : List Item) × (item : Item) × (after : List Item) × (items ≡ before ++ item ∷ after) × (place ≡ length before)
         × (applied t before ≡ Ok (with_items t before)) × (fits_on (with_items t before) item ≡ false) }
@@ -62,7 +66,7 @@ pub fn items_change_one_place()
     ensures rows { (t : Tables) (item : Item) (id at : List ℕ) → IsTrue (fits_on t item)
         → recorded_at id at (item_on t item).hosted ≡ (if is_of_row id at item then row_then item (recorded_at id at t.hosted) else recorded_at id at t.hosted) }
     ensures files { (t : Tables) (item : Item) (id at : List ℕ) → IsTrue (fits_on t item)
-        → recorded_at id at (item_on t item).cached ≡ (if is_of_file id at item then file_then item (recorded_at id at t.cached) else recorded_at id at t.cached) }
+        → recorded_at id at (item_on t item).cached ≡ (if is_of_file id at item then file_then item (recorded_at id at t.hosted) (recorded_at id at t.cached) else recorded_at id at t.cached) }
     ensures documents { (t : Tables) (item : Item) (id at : List ℕ)
         → document_at id at (item_on t item).documents ≡ (if is_of_document id at item then document_then item (document_at id at t.documents) else document_at id at t.documents) }
     ensures sessions { (t : Tables) (item : Item) (n : ℕ) → IsTrue (fits_on t item)
@@ -106,7 +110,7 @@ pub fn empty_tables_hold()
 pub fn turns_record()
     ensures refused { (settings : Settings) (s : State) (now : ℕ) (c : Command) → can_record (turn settings s now c).reply ≡ false → recorded (turn settings s now c).effects ≡ [] }
     ensures created { (settings : Settings) (s : State) (now : ℕ) (repo path : List ℕ) (n : ℕ) (blob : Blob) → (turn settings s now (put repo path n blob)).reply ≡ created
-        → recorded (turn settings s now (put repo path n blob)).effects ≡ HostedPut repo path blob.number blob.print now ∷ [] }
+        → recorded (turn settings s now (put repo path n blob)).effects ≡ HostedPut repo path blob.number (recorded_print blob.print) now ∷ [] }
     ensures relisted { (settings : Settings) (s : State) (now : ℕ) (repo path : List ℕ) (n : ℕ) (blob : Blob) → (turn settings s now (put repo path n blob)).reply ≡ relisted
         → recorded (turn settings s now (put repo path n blob)).effects ≡ Relisted repo path now ∷ [] }
     ensures opened { (settings : Settings) (s : State) (now : ℕ) (repo : List ℕ) (n : ℕ) → (turn settings s now (open_session repo)).reply ≡ opened n

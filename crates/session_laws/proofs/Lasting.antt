@@ -10,12 +10,13 @@ use Rattle.repo_model.specs.Data.{Session}
 use Rattle.repo_model.specs.Settings.{Settings}
 use Rattle.repo_model.specs.State.{State, change_first, is_session, is_open, is_open_at}
 use Rattle.repo_model.specs.Effect.{Effect, draws, drops, creates, stages, delivers, discards, relists, fades, expires, forgets, lends, returns, opens, ends, new_session, with_staged, without_staged, sessions_after, with_effect, with_effects}
-use Rattle.repo_model.specs.Tables.{Tables}
+use Rattle.repo_model.specs.Tables.{Tables, RecordedSession, is_session as is_recorded_session}
 use Rattle.repo_model.specs.Restart.{started}
 use Rattle.repo_model.specs.History.{Entry, ticked, effects_of, after, Legal, end}
 use Rattle.repo_laws.specs.Sound.{AreNamedApart, IsSound}
-use Rattle.repo_laws.specs.Holds.{InOrder, Holds, StandsFor, with_items, told, result_of}
-use Rattle.repo_laws.specs.InRange.{InRange}
+use Rattle.repo_laws.specs.Holds.{InOrder, Holds, StandsFor, with_items, told, result_in, result_of}
+use Rattle.repo_laws.specs.InRange.{InRange, Completes}
+use Rattle.repo_laws.proofs.Completing.{completed-order, completed-range}
 use Rattle.repo_laws.proofs.Holding.{history-recorded}
 use Rattle.repo_laws.proofs.Ranges.{range-history}
 use Rattle.repo_laws.proofs.Starting.{started-stands}
@@ -86,11 +87,13 @@ history-result settings start [] n r is = is
 history-result settings start (e ∷ entries) n r is = history-result settings (after settings start e) entries n r (entry-result settings start e n r is)
 
 pub started-result : (settings later : Settings) (start : State) (t : Tables) (entries : List Entry) (tells : ℕ → Option (List ℕ)) (stored : List ℕ) (clock : Option Moments) (faults n : ℕ) (r : SessionResult)
-    → AreNamedApart settings.hosted → IsSound settings start → InOrder t → InRange t → Holds t start → Legal settings start entries → result_of start n ≡ Some r
-    → result_of (started later tells stored clock faults (with_items t (told settings start entries))) n ≡ Some r
-started-result settings later start t entries tells stored clock faults n r apart sound order range holds legal is =
-    let then : Tables = with_items t (told settings start entries) in
+    (whole : Tables) → AreNamedApart settings.hosted → IsSound settings start → InOrder t → InRange t → Holds t start → Legal settings start entries → result_of start n ≡ Some r
+    → Completes (with_items t (told settings start entries)) whole → result_of (started later tells stored clock faults whole) n ≡ Some r
+started-result settings later start t entries tells stored clock faults n r whole apart sound order range holds legal is completes =
+    let left : Tables = with_items t (told settings start entries) in
     let (_, order_then, holds_then) = history-recorded settings apart entries start t legal sound.order sound.places sound.sessions order holds in
-    let stands : StandsFor then (started later tells stored clock faults then) =
-    started-stands later tells stored clock faults then order_then (range-history settings apart entries start t legal sound range) in
-    sym (stands.holds.ended n) ∙ holds_then.ended n ∙ history-result settings start entries n r is
+    let stands : StandsFor whole (started later tells stored clock faults whole) =
+    started-stands later tells stored clock faults whole (completed-order left whole completes order_then)
+    (completed-range left whole completes (range-history settings apart entries start t legal sound range)) in
+    let same : result_in whole n ≡ result_in left n = ap (λ (sessions : List RecordedSession). option_and_then (λ (one : RecordedSession). one.result) (find (is_recorded_session n) sessions)) completes.sessions in
+    sym (stands.holds.ended n) ∙ same ∙ holds_then.ended n ∙ history-result settings start entries n r is

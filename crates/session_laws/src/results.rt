@@ -11,11 +11,11 @@ ghost use Rattle.repo_model.specs.Restart.{started};
 ghost use Rattle.repo_model.specs.History.{Entry, Fits, Legal, ticked, after, end};
 ghost use Rattle.repo_laws.specs.Sound.{AreNamedApart, IsSound};
 ghost use Rattle.repo_laws.specs.Holds.{InOrder, Holds, with_items, told, result_of};
-ghost use Rattle.repo_laws.specs.InRange.{InRange};
+ghost use Rattle.repo_laws.specs.InRange.{InRange, Completes};
 ghost use Rattle.session_laws.specs.Ended.{ends_session, IsResultOrMemory};
 
 /// A session that has ended keeps its result behind each effect, each entry and all entries that follow, in any state, and over
-/// a start behind these from the tables that tell the state, whatever settings it has.
+/// a start behind these from the tables that tell the state, once it has completed them, whatever settings it has.
 pub fn results_are_kept()
     ensures effect { (s : State) (e : Effect) (n : ℕ) (r : SessionResult) → result_of s n ≡ Some r → result_of (with_effect s e) n ≡ Some r }
     ensures entry { (settings : Settings) (old : State) (e : Entry) (n : ℕ) (r : SessionResult) → result_of old n ≡ Some r
@@ -23,9 +23,9 @@ pub fn results_are_kept()
     ensures history { (settings : Settings) (start : State) (entries : List Entry) (n : ℕ) (r : SessionResult) → result_of start n ≡ Some r
         → result_of (end settings start entries) n ≡ Some r }
     ensures started { (settings later : Settings) (start : State) (t : Tables) (entries : List Entry) (tells : ℕ → Option (List ℕ)) (stored : List ℕ)
-        (clock : Option Moments) (faults n : ℕ) (r : SessionResult) → AreNamedApart settings.hosted → IsSound settings start → InOrder t → InRange t → Holds t start
-        → Legal settings start entries → result_of start n ≡ Some r
-        → result_of (started later tells stored clock faults (with_items t (told settings start entries))) n ≡ Some r }
+        (clock : Option Moments) (faults n : ℕ) (r : SessionResult) (whole : Tables) → AreNamedApart settings.hosted → IsSound settings start → InOrder t → InRange t → Holds t start
+        → Legal settings start entries → result_of start n ≡ Some r → Completes (with_items t (told settings start entries)) whole
+        → result_of (started later tells stored clock faults whole) n ≡ Some r }
 {}
 
 /// Once a commit or an abort was answered with the session's result, or the session has a result from before, each later commit

@@ -1,11 +1,12 @@
 -- What a start finds recorded is answered behind it.
-use Rattle.std.proofs.Common.{◌≡◌, ℕ, true, false, List, [], ◌∷◌, ◌++◌, Option, Some, None, Ok, refl, ap, ◌∙◌, eqb-true}
+use Rattle.std.proofs.Common.{◌≡◌, ℕ, true, false, List, [], ◌∷◌, ◌++◌, Option, Some, None, Ok, refl, sym, ap, subst, ◌∙◌, eqb-true}
 use Rattle.std.specs.Prelude.{◌==◌, if◌then◌else◌, IsTrue}
 use Rattle.std.specs.Option.{option_map}
 use Rattle.mvn_coords.specs.Kind.{kind}
 use Rattle.mvn_coords.specs.declared.kind.Kind.TheVariants.{File}
 use Rattle.mvn_coords.specs.Layout.{Coordinates}
 use Rattle.outside.specs.Moments.{Moments}
+use Rattle.repo_model.specs.declared.print.Print.{Print}
 use Rattle.repo_model.specs.Command.{is_there, look}
 use Rattle.repo_model.specs.Data.{Blob, Row}
 use Rattle.repo_model.specs.Effect.{lends, recorded}
@@ -18,9 +19,10 @@ use Rattle.repo_model.specs.Tables.{Tables, recorded_at}
 use Rattle.repo_model.specs.Turn.{Turn, draws_or_spent, is_file, or_nothing, says, seen_at, shows, turn}
 use Rattle.repo_laws.specs.Closed.{GivesFile}
 use Rattle.repo_laws.specs.Holds.{InOrder}
-use Rattle.repo_laws.specs.InRange.{InRange, IsSameBlob}
+use Rattle.repo_laws.specs.InRange.{InRange, Completes, IsFoundSince, IsSince, IsSameBlob}
 use Rattle.repo_laws.specs.Sound.{AreNamedApart}
 use Rattle.repo_laws.proofs.Closed.{look-gives}
+use Rattle.repo_laws.proofs.Completing.{completed-order, completed-range, completed-rows, since-blob}
 use Rattle.repo_laws.proofs.StartedSound.{started-rows, started-sound}
 use Rattle.naming_laws.proofs.Kept.{history-stays}
 use Rattle.stop_laws.specs.Found.{IsRecordedAs}
@@ -45,18 +47,25 @@ module _ (settings : Settings) (s : State) (e : Entry) (repo at tried : List ℕ
       is looks
 
 pub answered-again : (settings : Settings) (u : Tables) (tells : ℕ → Option (List ℕ)) (stored : List ℕ) (clock : Option Moments) (faults : ℕ) (before : List Entry) (e : Entry) (rest : List Entry)
-    (repo tried : List ℕ) (row : Row) (c : Coordinates) → AreNamedApart settings.hosted → InOrder u → InRange u → IsTrue (is_there repo settings) → kind row.path ≡ Ok (File c)
-    → IsRecordedAs repo row u → Legal settings (started settings tells stored clock faults u) (before ++ e ∷ rest) → AreNoCollects before → e.command ≡ look repo row.path tried
-    → (kept : Blob) × IsSameBlob kept row.blob × GivesFile (end settings (started settings tells stored clock faults u) before) kept e.reply
-answered-again settings u tells stored clock faults before e rest repo tried row c apart order range there kind_is (first, at, number, print) legal none looks =
-    let s : State = started settings tells stored clock faults u in
+    (repo tried : List ℕ) (row : Row) (c : Coordinates) (whole : Tables) → AreNamedApart settings.hosted → InOrder u → InRange u → Completes u whole → IsTrue (is_there repo settings)
+    → kind row.path ≡ Ok (File c) → IsRecordedAs repo row u → Legal settings (started settings tells stored clock faults whole) (before ++ e ∷ rest) → AreNoCollects before
+    → e.command ≡ look repo row.path tried
+    → (kept : Blob) × IsSameBlob kept row.blob × GivesFile (end settings (started settings tells stored clock faults whole) before) kept e.reply
+answered-again settings u tells stored clock faults before e rest repo tried row c whole apart order range completes there kind_is (recorded_row, recorded_so, number, print) legal none looks =
+    let s : State = started settings tells stored clock faults whole in
     let parts = cut settings before e rest s legal in
+    let (first, at, since) = subst (IsFoundSince (recorded_at repo row.path whole.hosted)) recorded_so (completed-rows u whole completes repo row.path) in
+    let blob_is : IsSameBlob first.blob recorded_row.blob = since-blob first recorded_row since in
     let here : row_at row.path (rows_of repo s) ≡ Some (with_bytes tells first) =
-    started-rows settings tells stored clock faults u repo row.path
-    ∙ ap (λ b. if b then option_map (with_bytes tells) (recorded_at repo row.path u.hosted) else None) there
+    started-rows settings tells stored clock faults whole repo row.path
+    ∙ ap (λ b. if b then option_map (with_bytes tells) (recorded_at repo row.path whole.hosted) else None) there
     ∙ ap (option_map (with_bytes tells)) at in
-    let (kept, found, same) = history-stays settings s before apart (started-sound settings tells stored clock faults u apart order range) parts.0 none repo row.path (with_bytes tells first) here in (
+    let sound = started-sound settings tells stored clock faults whole apart (completed-order u whole completes order) (completed-range u whole completes range) in
+    let (kept, found, same) = history-stays settings s before apart sound parts.0 none repo row.path (with_bytes tells first) here in (
       kept.blob,
-      (ap (λ (b : Blob). b.number) same ∙ number, ap (λ (b : Blob). b.print) same ∙ print),
+      (
+        ap (λ (b : Blob). b.number) same ∙ blob_is.0 ∙ number,
+        subst (λ (p : Print). IsSince p row.blob.print) (sym (ap (λ (b : Blob). b.print) same)) (subst (IsSince first.blob.print) print blob_is.1),
+      ),
       gives settings (end settings s before) e repo row.path tried c kept parts.1.reply looks kind_is found,
     )

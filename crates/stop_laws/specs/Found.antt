@@ -5,7 +5,7 @@ use Rattle.std.specs.Option.{ForSome}
 use Rattle.outside.specs.Blobs.{Shelf, bytes_at}
 use Rattle.repo_model.specs.Data.{Row}
 use Rattle.repo_model.specs.Tables.{RecordedRow, recorded_at, Tables}
-use Rattle.blob_audit.specs.Damages.{print_of}
+use Rattle.blob_audit.specs.Damages.{IsWhole, print_of}
 
 -- The store was stopped when it told the first shelf, and is found with the second: each blob that was acknowledged, and not removed
 -- since, has its bytes. What was being stored or removed then may be there or not.
@@ -13,9 +13,9 @@ abbrev pub KeepsBlobs : Shelf → Shelf → Type 0
 KeepsBlobs acknowledged found =
     IfSome found.blobs (λ them. ForSome acknowledged.blobs (λ those. (n : ℕ) (bytes : List ℕ) → bytes_at n those ≡ Some bytes → bytes_at n them ≡ Some bytes))
 
--- each of these rows names a blob that was acknowledged, with the fingerprint that is recorded
+-- each of these rows names a blob that was acknowledged, with the fingerprint that is recorded, as far as it is
 abbrev pub IsStored : Shelf → RecordedRow → Type 0
-IsStored shelf r = (those : List (ℕ × List ℕ)) × (bytes : List ℕ) × (shelf.blobs ≡ Some those) × (bytes_at r.row.blob.number those ≡ Some bytes) × (print_of bytes ≡ r.row.blob.print)
+IsStored shelf r = (those : List (ℕ × List ℕ)) × (bytes : List ℕ) × (shelf.blobs ≡ Some those) × (bytes_at r.row.blob.number those ≡ Some bytes) × IsWhole r.row.blob.print (Some (print_of bytes))
 
 abbrev pub AreStored : Shelf → List RecordedRow → Type 0
 AreStored shelf rows = AllByRecursion (IsStored shelf) rows

@@ -15,7 +15,7 @@ ghost use Rattle.repo_model.specs.Tables.{RecordedRow, Tables};
 ghost use Rattle.blob_audit.specs.Damages.{AreDamaged};
 ghost use Rattle.repo_laws.specs.Closed.{GivesFile};
 ghost use Rattle.repo_laws.specs.Holds.{Holds, InOrder, told, with_items};
-ghost use Rattle.repo_laws.specs.InRange.{InRange, IsSameBlob};
+ghost use Rattle.repo_laws.specs.InRange.{InRange, Completes, IsSameBlob};
 ghost use Rattle.repo_laws.specs.Sound.{AreNamedApart, IsSound};
 ghost use Rattle.stop_laws.specs.Found.{AreStored, IsRecordedAs, KeepsBlobs};
 ghost use Rattle.stop_laws.specs.Stops.{AreNoCollects, IsFrontOf, IsLeft};
@@ -41,12 +41,13 @@ pub fn rows_outlast_stops()
         → row_at row.path (rows_of repo s) ≡ Some row → IsLeft settings s t entries u → IsRecordedAs repo row u }
 {}
 
-/// A start over tables in which a file is recorded, and then any entries without a Collect: who looks there is given the file, with the
-/// number and the fingerprint that were recorded; or memory is wanting, or no lease is left.
+/// A start over tables in which a file is recorded, once it has completed them, and then any entries without a Collect: who looks there is
+/// given the file, with the number and the fingerprint that were recorded; or memory is wanting, or no lease is left.
 pub fn starts_answer_what_is_recorded()
     ensures { (settings : Settings) (u : Tables) (tells : ℕ → Option (List ℕ)) (stored : List ℕ) (clock : Option Moments) (faults : ℕ) (before : List Entry) (e : Entry)
-        (rest : List Entry) (repo tried : List ℕ) (row : Row) (c : Coordinates) → AreNamedApart settings.hosted → InOrder u → InRange u → IsTrue (is_there repo settings)
-        → kind row.path ≡ Ok (File c) → IsRecordedAs repo row u → Legal settings (started settings tells stored clock faults u) (before ++ e ∷ rest)
+        (rest : List Entry) (repo tried : List ℕ) (row : Row) (c : Coordinates) (whole : Tables) → AreNamedApart settings.hosted → InOrder u → InRange u → Completes u whole
+        → IsTrue (is_there repo settings)
+        → kind row.path ≡ Ok (File c) → IsRecordedAs repo row u → Legal settings (started settings tells stored clock faults whole) (before ++ e ∷ rest)
         → AreNoCollects before → e.command ≡ look repo row.path tried
-        → (kept : Blob) × IsSameBlob kept row.blob × GivesFile (end settings (started settings tells stored clock faults u) before) kept e.reply }
+        → (kept : Blob) × IsSameBlob kept row.blob × GivesFile (end settings (started settings tells stored clock faults whole) before) kept e.reply }
 {}

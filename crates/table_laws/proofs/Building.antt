@@ -1,12 +1,13 @@
 -- Rows that items of their form build up stand at paths of files.
-use Rattle.std.proofs.Common.{◌≡◌, ℕ, true, ◌&&◌, List, [], ◌∷◌, sym, subst}
+use Rattle.std.proofs.Common.{◌≡◌, ℕ, true, false, ◌&&◌, List, [], ◌∷◌, sym, subst}
+use Rattle.std.specs.Prelude.{if◌then◌else◌}
 use Rattle.std.specs.List.{AllByRecursion, list_all}
 use Rattle.std.proofs.lemmas.Bool.{and_parts}
 use Rattle.repo_model.specs.declared.item.Item.{Item}
-use Rattle.repo_model.specs.declared.item.Item.TheVariants.{HostedPut, Faded, Relisted, Removed, CachedFile, CachedDoc, SessionOpened, SessionEnded}
-use Rattle.repo_model.specs.declared.print.Print.{Print}
+use Rattle.repo_model.specs.declared.item.Item.TheVariants.{HostedPut, Faded, Relisted, Removed, CachedFile, CachedDoc, SessionOpened, SessionEnded, Digested}
+use Rattle.repo_model.specs.declared.print.Recorded.{Recorded}
 use Rattle.repo_model.specs.Effect.{list_again, fade}
-use Rattle.repo_model.specs.Tables.{Tables, RecordedRow, no_tables, is_recorded, recorded_row, item_on}
+use Rattle.repo_model.specs.Tables.{Tables, RecordedRow, no_tables, is_recorded, recorded_row, change_recorded, digested, lacks_at, item_on}
 use Rattle.repo_laws.specs.Holds.{InOrder}
 use Rattle.repo_laws.specs.InRange.{InRange}
 use Rattle.repo_laws.proofs.Holding.{applied-ordered}
@@ -24,7 +25,7 @@ record AllStand (t : Tables) : Type 0 where
   pub hosted : AllByRecursion StandsAtFile t.hosted
   pub cached : AllByRecursion StandsAtFile t.cached
 
-new-stands : (repo path : List ℕ) (blob : ℕ) (print : Print) (accepted : ℕ) → (is_id repo && (is_file_path path && (is_number blob && (is_print print && is_moment accepted)))) ≡ true
+new-stands : (repo path : List ℕ) (blob : ℕ) (print : Recorded) (accepted : ℕ) → (is_id repo && (is_file_path path && (is_number blob && (is_print print && is_moment accepted)))) ≡ true
     → StandsAtFile (recorded_row repo path blob print accepted)
 new-stands repo path blob print accepted is =
     let place = and_parts (is_id repo) (is_file_path path && (is_number blob && (is_print print && is_moment accepted))) is in
@@ -51,6 +52,13 @@ item-stands t (CachedFile repo path blob print accepted) is all = record {
 item-stands t (CachedDoc repo path checked document) is all = record { hosted = all.hosted; cached = all.cached }
 item-stands t (SessionOpened n) is all = record { hosted = all.hosted; cached = all.cached }
 item-stands t (SessionEnded n result) is all = record { hosted = all.hosted; cached = all.cached }
+item-stands t (Digested repo path further) is all =
+    let f : RecordedRow → RecordedRow = λ r. record r { row = digested further r.row } in
+    elim (lacks_at repo path t.hosted)
+    as (λ b. AllStand (if b then record t { hosted = change_recorded repo path (digested further) t.hosted } else record t { cached = change_recorded repo path (digested further) t.cached })) [
+      | true ↦ record { hosted = all-change_where StandsAtFile (is_recorded repo path) f (λ r so. so) t.hosted all.hosted; cached = all.cached }
+      | false ↦ record { hosted = all.hosted; cached = all-change_where StandsAtFile (is_recorded repo path) f (λ r so. so) t.cached all.cached }
+    ]
 
 items-stand : (items : List Item) (t : Tables) → list_all is_item items ≡ true → AllStand t → AllStand (with_items t items)
 items-stand [] t is all = all

@@ -5,7 +5,7 @@ use Rattle.std.specs.Prelude.{is_some}
 use Rattle.std.specs.List.{AllByRecursion, list_all}
 use Rattle.std.proofs.lemmas.Bool.{and_parts, ltb-true, leb-true}
 use Rattle.repo_model.specs.declared.item.Item.{Item}
-use Rattle.repo_model.specs.declared.item.Item.TheVariants.{HostedPut, Faded, Relisted, Removed, CachedFile, CachedDoc, SessionOpened, SessionEnded}
+use Rattle.repo_model.specs.declared.item.Item.TheVariants.{HostedPut, Faded, Relisted, Removed, CachedFile, CachedDoc, SessionOpened, SessionEnded, Digested}
 use Rattle.repo_model.specs.State.{number_end}
 use Rattle.repo_model.specs.History.{latest_moment}
 use Rattle.repo_laws.specs.InRange.{IsItemInRange}
@@ -45,6 +45,7 @@ form-in-range (CachedDoc repo path checked document) is =
     moment-so checked (and_parts (is_moment checked) (is_kept_at path document) kept.1).0
 form-in-range (SessionOpened session) is = (number-so session is).1
 form-in-range (SessionEnded session result) is = tt
+form-in-range (Digested repo path further) is = tt
 
 pub forms-in-range : (items : List Item) → list_all is_item items ≡ true → AllByRecursion IsItemInRange items
 forms-in-range [] all = tt

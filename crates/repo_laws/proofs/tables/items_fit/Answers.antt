@@ -2,7 +2,7 @@ use Rattle.std.proofs.Common.{refl}
 use Rattle.std.specs.Prelude.{is_none}
 use Rattle.repo_model.specs.Tables.{recorded_at, names_blob}
 use Rattle.repo_laws.proofs.Holding.{first-misfit}
-use Rattle.repo_laws.proofs.HoldingItems.{put-fits, faded-fits, fading-fits, opened-fits, ended-fits}
+use Rattle.repo_laws.proofs.HoldingItems.{put-fits, faded-fits, fading-fits, opened-fits, ended-fits, digested-fits}
 use Rattle.repo_laws.proofs.tables.items_fit.Goals as goal
 
 pub returns-clause-hosted_put : goal.returns-clause-hosted_put
@@ -28,6 +28,9 @@ returns-clause-session_opened c = opened-fits
 
 pub returns-clause-session_ended : goal.returns-clause-session_ended
 returns-clause-session_ended c = ended-fits
+
+pub returns-clause-digested : goal.returns-clause-digested
+returns-clause-digested c = digested-fits
 
 pub returns-clause-first : goal.returns-clause-first
 returns-clause-first c = first-misfit
