@@ -24,8 +24,8 @@ use Rattle.repo_course.specs.declared.said.Said.TheVariants as said
 use Rattle.repo_course.specs.Serving.{Begins, Follows, IsWhole, Opens, clean, torn, failed as source_failed, refused as no_head, unread_head, starved as head_starved, served, Outside, SendsAnswer, Turn}
 use Rattle.course_laws.specs.Duties.{duty_of}
 use Rattle.course_laws.proofs.HeadOnly.{judged-head}
-use Rattle.course_laws.proofs.Sendings.{not-sent, other-found, sent-in-part, sent-nothing, sent-whole}
-use Rattle.closed_laws.specs.Answered.{IsLookedUp, looked, unread, failed, ShowsFile, whole, blob_fault, blob_differs, starved, cut, ShowsMemory, ShowsReply, ShowsSaid}
+use Rattle.course_laws.proofs.Sendings.{cut-by-fault, cut-by-other, not-sent, other-found, sent-in-part, sent-nothing, sent-whole}
+use Rattle.closed_laws.specs.Answered.{IsLookedUp, looked, unread, failed, ShowsFile, whole, blob_fault, blob_differs, cut_by_fault, cut_by_other, starved, cut, ShowsMemory, ShowsReply, ShowsSaid}
 
 -- what is seen of an entry by its reply
 abbrev pub By : Entry → Manner → Outside → Outside → Option End → Type 0
@@ -47,6 +47,12 @@ module _ (tells : Type 0) (manner : Manner) where
   sent-seen blob sent.SinkFault rest old mid new end t f =
       let w = sent-in-part manner.head_only blob (shown (file_answer blob manner)) old mid t in
       cut w.0 w.1 w.2 w.3 w.4 w.5 (f.1 ∙ w.6) f.2
+  sent-seen blob sent.CutFault rest old mid new end t f =
+      let w = cut-by-fault manner.head_only blob (shown (file_answer blob manner)) old mid t in
+      cut_by_fault w.0 w.1 w.2 w.3 w.4 w.5 w.6 (f.1 ∙ w.7) f.2
+  sent-seen blob (sent.CutDiffers recorded found) rest old mid new end t f =
+      let w = cut-by-other manner.head_only blob (shown (file_answer blob manner)) recorded found old mid t in
+      cut_by_other recorded found w.0 w.1 w.2 w.3 w.4 w.5 (f.1 ∙ w.6) f.2
   sent-seen blob sent.NoMemory rest old mid new end t f =
       let still = sent-nothing manner.head_only blob (shown (file_answer blob manner)) old mid t in
       starved (subst (λ (o : Outside). ShowsMemory manner.head_only o new end) still f.1)

@@ -1,6 +1,8 @@
 -- How a GET or HEAD of a path is answered on the wire, by the reply to its look.
-use Rattle.std.specs.Prelude.{◌≡◌, ℕ, Bool, true, false, List, [], ◌∷◌, Option, Some, Ok}
+use Rattle.std.specs.Prelude.{◌≡◌, ℕ, Bool, true, false, List, [], ◌∷◌, ◌++◌, Option, Some, Ok}
 use Rattle.outside.specs.Faults.{Rose}
+use Rattle.outside.specs.Told.{IsWhereTold}
+use Rattle.http_wire.specs.Answer.{shown}
 use Rattle.http_wire.specs.Head.{Head}
 use Rattle.repo_model.specs.Command.{look}
 use Rattle.repo_model.specs.declared.print.Print.{Print}
@@ -10,9 +12,9 @@ use Rattle.repo_model.specs.Reply.{Reply, file}
 use Rattle.repo_model.specs.Settings.{Settings}
 use Rattle.repo_routes.specs.Intent.{Judged, reads}
 use Rattle.repo_routes.specs.Judge.{judge}
-use Rattle.repo_course.specs.Answers.{answer_of, memory_answer}
+use Rattle.repo_course.specs.Answers.{answer_of, file_answer, memory_answer}
 use Rattle.repo_course.specs.Course.{end_of, manner_for, said_of}
-use Rattle.repo_course.specs.Serving.{Begins, IsFrontOf, IsOtherContent, IsWhole, Outside, ReadsOn, Says, writes}
+use Rattle.repo_course.specs.Serving.{Begins, IsContentSoFar, IsCut, IsFrontOf, IsOtherContent, IsWhole, Outside, ReadsOn, Says, print_of, writes}
 use Rattle.repo_course.specs.declared.manner.Manner.{Manner}
 use Rattle.repo_course.specs.declared.outcomes.End.{End}
 use Rattle.repo_course.specs.declared.outcomes.End.TheVariants as stream
@@ -28,10 +30,16 @@ ShowsSaid manner answer old new end = Says (answer_of answer manner) (memory_ans
 abbrev pub ShowsMemory : Bool → Outside → Outside → Option End → Type 0
 ShowsMemory head_only old new end = Says (memory_answer head_only) (memory_answer head_only) (Some stream.Closed) old new end
 
+-- these are bytes of the blob: those that it tells, and, unless the head alone is sent, of its recorded length and digests, or, of a
+-- blob that does not tell its bytes, fewer than were recorded
+abbrev pub AreSomeBytesOf : Manner → Blob → List ℕ → Type 0
+AreSomeBytesOf manner blob bytes = IsWhereTold blob.bytes bytes × (manner.head_only ≡ false → IsContentSoFar blob bytes)
+
 -- What is seen of the answer with a file: 200 with its length and both checksums and its bytes, whole, which have these. Or the
 -- blobs did not give them, whose count rose then, and 503 `blob-fault` is answered, never to a HEAD; or the blob, which does not
--- tell its bytes, has others than were recorded, and 503 `blob-differs` is answered, never to a HEAD; or memory was wanted; or
--- the sink took a front.
+-- tell its bytes, has others than were recorded, and 503 `blob-differs` is answered, never to a HEAD; or the one or the other came
+-- behind the head and a front of the file's bytes, or of those that were found, and the stream ends; or memory was wanted; or the
+-- sink took a front.
 pub data ShowsFile (manner : Manner) (blob : Blob) (old new : Outside) (end : Option End) : Type 0 where
   whole : (bytes : List ℕ) → AreBytesOf manner blob bytes → new ≡ writes (file_shown manner blob bytes) old → end ≡ end_of manner
       → ShowsFile manner blob old new end
@@ -39,8 +47,14 @@ pub data ShowsFile (manner : Manner) (blob : Blob) (old new : Outside) (end : Op
       → ShowsSaid manner said.BlobFault (record old { blob_faults = faults }) new end → ShowsFile manner blob old new end
   blob_differs : (recorded found : Print) → manner.head_only ≡ false → IsOtherContent blob recorded found
       → ShowsSaid manner (said.BlobDiffers recorded found) old new end → ShowsFile manner blob old new end
+  cut_by_fault : (faults : ℕ) (bytes part : List ℕ) → manner.head_only ≡ false → Rose old.blob_faults faults → IsWhereTold blob.bytes bytes
+      → IsCut blob bytes part → new ≡ writes (shown (file_answer blob manner) ++ part) (record old { blob_faults = faults })
+      → end ≡ Some stream.Closed → ShowsFile manner blob old new end
+  cut_by_other : (recorded found : Print) (bytes part : List ℕ) → manner.head_only ≡ false → IsOtherContent blob recorded found
+      → found ≡ print_of bytes → IsCut blob bytes part → new ≡ writes (shown (file_answer blob manner) ++ part) old
+      → end ≡ Some stream.Closed → ShowsFile manner blob old new end
   starved : ShowsMemory manner.head_only old new end → ShowsFile manner blob old new end
-  cut : (faults : ℕ) (bytes part : List ℕ) → Rose old.write_faults faults → AreBytesOf manner blob bytes
+  cut : (faults : ℕ) (bytes part : List ℕ) → Rose old.write_faults faults → AreSomeBytesOf manner blob bytes
       → IsFrontOf part (file_shown manner blob bytes) → new ≡ writes part (record old { write_faults = faults })
       → end ≡ Some stream.SinkFault → ShowsFile manner blob old new end
 

@@ -1,7 +1,6 @@
 -- The counts of faults never fall, so that where they stand still no fault happened.
 use Rattle.std.proofs.Common.{◌≡◌, ℕ, zero, suc, ◌≤◌, ◌<◌, Bool, List, [], ◌∷◌, inl, inr, Option, Some, None, Result, Ok, Err, refl, sym, subst, ap, arith}
 use Rattle.std.specs.Prelude.{◌==◌}
-use Rattle.outside.specs.Blobs.{with_blob}
 use Rattle.outside.specs.Faults.{Rose, last_count}
 use Rattle.http_wire.specs.Answer.{shown}
 use Rattle.http_wire.specs.declared.answers.Answer.{Answer}
@@ -20,8 +19,8 @@ use Rattle.repo_course.specs.declared.outcomes.Sent.{Sent}
 use Rattle.repo_course.specs.declared.outcomes.Sent.TheVariants as sent
 use Rattle.repo_course.specs.declared.outcomes.Took.{Took}
 use Rattle.repo_course.specs.declared.outcomes.Took.TheVariants as took
-use Rattle.repo_course.specs.Serving.{Continues, Does, Reads, Takes, SendsAnswer, Says, whole, memory, cut, Follows, Opens, clean, torn, failed, refused, unread_head, starved, served, Outside, ReadsOn, Serves, Turn, store_of, with_store}
-use Rattle.course_laws.proofs.Sendings.{not-sent, other-found, sent-in-part, sent-nothing, sent-whole}
+use Rattle.repo_course.specs.Serving.{Continues, Does, Fails, Reads, Takes, UsesFront, with_body, SendsAnswer, Says, whole, memory, cut, Follows, Opens, clean, torn, failed, refused, unread_head, starved, served, Outside, ReadsOn, Serves, Turn, store_of, with_store}
+use Rattle.course_laws.proofs.Sendings.{cut-by-fault, cut-by-other, not-sent, other-found, sent-in-part, sent-nothing, sent-whole}
 
 -- no count fell
 pub record Grew (old new : Outside) : Type 0 where
@@ -72,7 +71,7 @@ fault-grew count took.Torn old new t = reads-grew old new t.1
 fault-grew count took.SourceFault old new t =
     let mid : Outside = record old { read_faults = t.0 } in
     grew-then old mid new (record { reads = t.1.0; writes = omega arith; blobs = omega arith }) (reads-grew mid new t.2)
-fault-grew count took.BlobFault old new t = absurd t
+fault-grew count (took.BlobFault unread) old new t = absurd t
 fault-grew count took.NoMemory old new (inl still) = reads-grew old new (old.input, still)
 fault-grew count took.NoMemory old new (inr t) = reads-grew old new (t.1.0, t.1.3)
 
@@ -80,15 +79,24 @@ reads-body-grew : (count : ℕ) (body : Body) (old new : Outside) → Reads coun
 reads-body-grew count (Ok body) old new t = reads-grew old new (t.0, t.3)
 reads-body-grew count (Err fault) old new t = fault-grew count fault old new t
 
+uses-grew : (gone : List ℕ) (old new : Outside) → UsesFront gone old new → Grew old new
+uses-grew gone old new t = reads-grew old new (t.0, t.2)
+
+fails-grew : (count : ℕ) (gone : List ℕ) (fault : Took) (old new : Outside) → Fails count gone fault old new → Grew old new
+fails-grew count gone took.Torn old new t = uses-grew gone old new t.1
+fails-grew count gone took.SourceFault old new t =
+    let mid : Outside = record old { read_faults = t.0 } in
+    grew-then old mid new (record { reads = t.1.0; writes = omega arith; blobs = omega arith }) (uses-grew gone mid new t.3)
+fails-grew count gone (took.BlobFault unread) old new t =
+    let mid : Outside = record old { blob_faults = t.0 } in
+    grew-then old mid new (record { reads = omega arith; writes = omega arith; blobs = t.1.0 }) (uses-grew gone mid new t.4)
+fails-grew count gone took.NoMemory old new t = uses-grew gone old new t.1
+
 takes-grew : (tells : Type 0) (number count : ℕ) (stored : Stored) (old new : Outside) → Takes tells number count stored old new → Grew old new
 takes-grew tells number count (Ok blob) old new t =
-    let mid : Outside = record old { input = t.1.0; shelf = with_blob number t.0 old.shelf } in from-is old mid new (grew old mid refl refl refl) t.1.3
-takes-grew tells number count (Err took.Torn) old new t = fault-grew count took.Torn old new t
-takes-grew tells number count (Err took.SourceFault) old new t = fault-grew count took.SourceFault old new t
-takes-grew tells number count (Err took.BlobFault) old new t =
-    let mid : Outside = record old { blob_faults = t.0; input = t.3.0 } in
-    from-is old mid new (record { reads = omega arith; writes = omega arith; blobs = t.2.0 }) t.3.3
-takes-grew tells number count (Err took.NoMemory) old new t = fault-grew count took.NoMemory old new t
+    let mid : Outside = record old { input = t.1.0; shelf = with_body number t.0 old.shelf } in from-is old mid new (grew old mid refl refl refl) t.1.3
+takes-grew tells number count (Err fault) old new t =
+    let mid : Outside = record old { shelf = t.1 } in grew-then old mid new (grew old mid refl refl refl) (fails-grew count t.0 fault mid new t.3)
 
 sends-grew : (only : Bool) (blob : Blob) (head : List ℕ) (result : Sent) (old new : Outside) → SendsAnswer only blob head result old new → Grew old new
 sends-grew only blob head sent.Whole old new t =
@@ -100,6 +108,11 @@ sends-grew only blob head (sent.BlobDiffers recorded found) old new t = still-gr
 sends-grew only blob head sent.SinkFault old new t =
     let w = sent-in-part only blob head old new t in
     subst (λ o. Grew old o) (sym w.6) (record { reads = omega arith; writes = w.3.0; blobs = omega arith })
+sends-grew only blob head sent.CutFault old new t =
+    let w = cut-by-fault only blob head old new t in
+    subst (λ o. Grew old o) (sym w.7) (record { reads = omega arith; writes = omega arith; blobs = w.4.0 })
+sends-grew only blob head (sent.CutDiffers recorded found) old new t =
+    let w = cut-by-other only blob head recorded found old new t in subst (λ o. Grew old o) (sym w.6) (grew old _ refl refl refl)
 sends-grew only blob head sent.NoMemory old new t = still-grew old new (sent-nothing only blob head old new t)
 
 removes-grew : (blobs : List ℕ) (old new : Store) (result : Result ℕ CleanFault) → Removes blobs old new result → old.faults ≤ new.faults

@@ -29,13 +29,13 @@ use Rattle.repo_course.specs.declared.outcomes.Sent.{Sent}
 use Rattle.repo_course.specs.declared.outcomes.Sent.TheVariants as sent
 use Rattle.repo_course.specs.declared.outcomes.Took.{Took}
 use Rattle.repo_course.specs.declared.outcomes.Took.TheVariants as took
-use Rattle.repo_course.specs.Serving.{Continues, Does, Follows, Opens, clean, torn, failed, refused, unread_head, starved, served, Outside, Reads, Says, whole, memory, cut, SendsAnswer, Serves, Takes, Turn}
+use Rattle.repo_course.specs.Serving.{Continues, Does, Fails, Follows, Opens, clean, torn, failed, refused, unread_head, starved, served, Outside, Reads, Says, whole, memory, cut, SendsAnswer, Serves, Takes, Turn}
 use Rattle.course_laws.specs.Duties.{Keeps, MayAsk, Stand, asked_by, due_after, due_done, duty_of, left_by, most_asked, most_for, stand_after, stand_done}
 use Rattle.course_laws.specs.Endings.{EndsByCause, NoneRose}
 use Rattle.course_laws.proofs.Passes.{passes-few}
 use Rattle.course_laws.proofs.Early.{due-moves, nothing-due, still-due}
 use Rattle.course_laws.proofs.Kept.{duty_at, opens-keeps}
-use Rattle.course_laws.proofs.Sendings.{not-sent, other-found, sent-in-part, sent-nothing, sent-whole}
+use Rattle.course_laws.proofs.Sendings.{cut-by-fault, cut-by-other, not-sent, other-found, sent-in-part, sent-nothing, sent-whole}
 use Rattle.course_laws.proofs.Unsent.{IsUnsent, judged-unsent}
 
 -- how a course ends, and where it stands, in the counts since the turn began
@@ -104,17 +104,20 @@ continues_caused by_text continued.SinkFault old mid new n t = sink-shows old mi
 fault_caused : (count : ℕ) (fault : Took) (old mid new : Outside) → NoneRose old mid → Reads count (Err fault) mid new → Caused (Some (of_fault fault)) old new
 fault_caused count took.Torn old mid new n t = none-then old mid new n (counts mid new t.1.1)
 fault_caused count took.SourceFault old mid new n t = source-shows old mid new t.0 n t.1 t.2.1
-fault_caused count took.BlobFault old mid new n t = absurd t
+fault_caused count (took.BlobFault unread) old mid new n t = absurd t
 fault_caused count took.NoMemory old mid new n (inl t) = none-then old mid new n (counts mid new t)
 fault_caused count took.NoMemory old mid new n (inr t) = none-then old mid new n (counts mid new t.1.3)
+
+fails_caused : (count : ℕ) (gone : List ℕ) (fault : Took) (old mid new : Outside) → NoneRose old mid → Fails count gone fault mid new → Caused (Some (of_fault fault)) old new
+fails_caused count gone took.Torn old mid new n t = none-then old mid new n (counts mid new t.1.2)
+fails_caused count gone took.SourceFault old mid new n t = source-shows old mid new t.0 n t.1 t.3.2
+fails_caused count gone (took.BlobFault unread) old mid new n t = none-then old mid new n (counts mid new t.4.2)
+fails_caused count gone took.NoMemory old mid new n t = none-then old mid new n (counts mid new t.1.2)
 
 takes_caused : (tells : Type 0) (by_text : List ℕ → Option Close) (draft count : ℕ) (stored : Stored) (old mid new : Outside) → NoneRose old mid
     → Takes tells draft count stored mid new → Caused (due_done by_text (take_body draft count) stored None) old new
 takes_caused tells by_text draft count (Ok blob) old mid new n t = none-then old mid new n (counts mid new t.1.3)
-takes_caused tells by_text draft count (Err took.BlobFault) old mid new n t = none-then old mid new n (counts mid new t.3.3)
-takes_caused tells by_text draft count (Err took.Torn) old mid new n t = fault_caused count took.Torn old mid new n t
-takes_caused tells by_text draft count (Err took.SourceFault) old mid new n t = fault_caused count took.SourceFault old mid new n t
-takes_caused tells by_text draft count (Err took.NoMemory) old mid new n t = fault_caused count took.NoMemory old mid new n t
+takes_caused tells by_text draft count (Err fault) old mid new n t = fails_caused count t.0 fault old (record mid { shelf = t.1 }) new n t.3
 
 unsent_caused : (due : Option Close) (old now : Outside) → IsUnsent due → NoneRose old now → Caused due old now
 unsent_caused None old now un n = n
@@ -135,6 +138,9 @@ sends_caused only blob manner head sent.BlobFault old mid new n t = none-then ol
 sends_caused only blob manner head (sent.BlobDiffers recorded found) old mid new n t =
     none-then old mid new n (counts mid new (other-found only blob head recorded found mid new t).2)
 sends_caused only blob manner head sent.SinkFault old mid new n t = let w = sent-in-part only blob head mid new t in sink-shows old mid new w.0 n w.3 w.6
+sends_caused only blob manner head sent.CutFault old mid new n t = none-then old mid new n (counts mid new (cut-by-fault only blob head mid new t).7)
+sends_caused only blob manner head (sent.CutDiffers recorded found) old mid new n t =
+    none-then old mid new n (counts mid new (cut-by-other only blob head recorded found mid new t).6)
 sends_caused only blob manner head sent.NoMemory old mid new n t = none-then old mid new n (counts mid new (sent-nothing only blob head mid new t))
 
 pass_caused : (pass : Pass) (old new : Outside) → NoneRose old new → Caused (Some (of_pass pass)) old new

@@ -4,7 +4,7 @@ use Rattle.std.specs.Prelude.{if◌then◌else◌}
 use Rattle.std.proofs.lemmas.Bool.{false≢true}
 use Rattle.std.proofs.lemmas.Option.{none-some}
 use Rattle.std.proofs.Math.Seq.{drop-append_seam, take-append_seam}
-use Rattle.outside.specs.Blobs.{Shelf, with_blob}
+use Rattle.outside.specs.Blobs.{Shelf}
 use Rattle.http_wire.specs.Answer.{continue_bytes, shown}
 use Rattle.http_wire.specs.Front.{Front, Clean, Cut, Bad, Whole, front}
 use Rattle.http_wire.specs.Head.{Head}
@@ -27,16 +27,17 @@ use Rattle.repo_course.specs.declared.outcomes.CleanFault.TheVariants as clean_f
 use Rattle.repo_course.specs.declared.outcomes.Continued.{Continued}
 use Rattle.repo_course.specs.declared.outcomes.Continued.TheVariants as continued
 use Rattle.repo_course.specs.declared.outcomes.End.{End}
+use Rattle.repo_course.specs.declared.outcomes.End.TheVariants as stream
 use Rattle.repo_course.specs.declared.outcomes.Sent.{Sent}
 use Rattle.repo_course.specs.declared.outcomes.Sent.TheVariants as sent
 use Rattle.repo_course.specs.declared.outcomes.Took.TheVariants as took
 use Rattle.repo_course.specs.declared.said.Said.{Said}
 use Rattle.repo_course.specs.declared.said.Said.TheVariants as said
-use Rattle.repo_course.specs.Serving.{Begins, Continues, Follows, IsOtherContent, IsWhole, Opens, clean, torn, failed, refused, unread_head, starved as head_starved, served, Outside, Reads, ReadsBody, Says, SendsAnswer, Takes, Turn, store_of, with_store, writes}
+use Rattle.repo_course.specs.Serving.{Begins, Continues, Follows, IsOtherContent, IsWhole, Opens, clean, torn, failed, refused, unread_head, starved as head_starved, served, Outside, Reads, ReadsBody, Says, SendsAnswer, Takes, Turn, store_of, with_body, with_store, writes}
 use Rattle.course_laws.specs.AsPlayed.{NoFaults, StoodStill}
 use Rattle.course_laws.specs.Faultless.{done_by}
 use Rattle.course_laws.specs.Duties.{IsReady, Keeps, Stand, at_first, body_length, due_after, duty_of, for_text, lent_after, most_for, stand_after, stand_done}
-use Rattle.course_laws.specs.Granted.{AllGranted, BodyIsTaken, ComesWhole, Grants, IsAnsweredFor, IsServed, IsSuccess, answered, sent as file_sent, differs, starved, Succeeds, answer_by, behind_body, due_by, file_by, invitation}
+use Rattle.course_laws.specs.Granted.{AllGranted, BodyIsTaken, ComesWhole, Grants, IsAnsweredFor, IsServed, IsSuccess, answered, sent as file_sent, differs, file_cut, starved, Succeeds, answer_by, behind_body, due_by, file_by, invitation}
 use Rattle.course_laws.proofs.Counts.{Calm, follows-grew, opens-grew}
 use Rattle.course_laws.proofs.Early.{EndsAs, ends-due}
 use Rattle.course_laws.proofs.HeadOnly.{judged-head}
@@ -45,7 +46,8 @@ use Rattle.course_laws.proofs.Passes.{ArePass, IsPassCommand, passes-ask}
 use Rattle.course_laws.proofs.PassesPlayed.{as_pass, pass-kept, pass-tells, passes-hold, passes-rose}
 use Rattle.course_laws.proofs.PlayedActs.{front-of, unasked, unwritten}
 use Rattle.course_laws.proofs.Succeeding.{request-succeeds}
-use Rattle.course_laws.proofs.Sendings.{not-sent, other-found, sent-in-part, sent-nothing, sent-whole}
+use Rattle.course_laws.proofs.Sendings.{cut-by-fault, cut-by-other, not-sent, other-found, sent-in-part, sent-nothing, sent-whole}
+use Rattle.course_laws.proofs.Takings.{fails-torn}
 use Rattle.course_laws.proofs.ServedActs.{IsPlain, Quiet, body-is-there, deed-quiet, granted-or-starved, no-blob-fault, no-read-fault, no-write-fault, plain-success, quiet-first, quiet-then, read-served, reply-plain, starved-so, whole-said, wrote-served}
 
 -- nothing but an answer is due, and no pass is to be made
@@ -59,7 +61,7 @@ module _ (tells : Type 0) (manner : Manner) (by_text : List ℕ → Option Close
 
   -- a course that is followed so is served
   abbrev Serves-so : Course → Type 0
-  Serves-so c = (n : ℕ) (s : Stand) → Keeps by_text manner c n s → Succeeds by_text manner c s → IsOpen s → (entries : List Entry) → AllGranted entries
+  Serves-so c = (n : ℕ) (s : Stand) (is_cut : Bool) → Keeps by_text manner c n s → Succeeds by_text manner is_cut c s → IsOpen s → (entries : List Entry) → AllGranted entries
       → (old new : Outside) (end : Option End) (input : List ℕ) → old.input ≡ Some input → BodyIsTaken by_text s.unread input → Quiet old new
       → Follows tells c entries old new end → Served s input entries old new end
 
@@ -101,16 +103,16 @@ module _ (tells : Type 0) (manner : Manner) (by_text : List ℕ → Option Close
       starved-so manner manner.head_only (λ alone. alone) (invitation s.waits) (behind_body s.unread input) answer lent old mid new end kept q
       (ends-due tells by_text manner next n behind (speaks said.NoMemory) k is entries mid new end f).0
 
-  continues-so : (next : Continued → Course) → Serves-so (next continued.Written) → (result : Continued) (n : ℕ) (s : Stand) → Keeps by_text manner (does invite next) n s
-      → Succeeds by_text manner (does invite next) s → IsOpen s → (entries : List Entry) → AllGranted entries → (old mid new : Outside) (end : Option End) (input : List ℕ)
+  continues-so : (next : Continued → Course) → Serves-so (next continued.Written) → (result : Continued) (n : ℕ) (s : Stand) (is_cut : Bool) → Keeps by_text manner (does invite next) n s
+      → Succeeds by_text manner is_cut (does invite next) s → IsOpen s → (entries : List Entry) → AllGranted entries → (old mid new : Outside) (end : Option End) (input : List ℕ)
       → old.input ≡ Some input → BodyIsTaken by_text s.unread input → Quiet old mid → Quiet mid new → Continues result old mid
       → Follows tells (next result) entries mid new end → Served s input entries old new end
-  continues-so next ih continued.Written n s k su stands entries all old mid new end input input-is taken q more cause f =
-      let later = ih n (stand_done by_text invite continued.Written s) (k.2 continued.Written) (su.1 continued.Written tt) stands entries all mid new end input
+  continues-so next ih continued.Written n s is_cut k su stands entries all old mid new end input input-is taken q more cause f =
+      let later = ih n (stand_done by_text invite continued.Written s) is_cut (k.2 continued.Written) (su.1 continued.Written tt) stands entries all mid new end input
       (ap (λ o. o.input) cause ∙ input-is) taken more f in
       subst (λ (b : Bool). IsServed manner (invitation b) (behind_body s.unread input) (answer_by entries s.due) (file_by entries s.lent) old new end) (sym su.0.1)
       (wrote-served manner continue_bytes (behind_body s.unread input) (answer_by entries s.due) (file_by entries s.lent) old mid new end cause later)
-  continues-so next ih continued.SinkFault n s k su stands entries all old mid new end input input-is taken q more cause f =
+  continues-so next ih continued.SinkFault n s is_cut k su stands entries all old mid new end input input-is taken q more cause f =
       no-write-fault old mid cause.0 cause.2 (ap (λ o. o.write_faults) cause.4) q
 
   -- behind a body that was read
@@ -125,32 +127,32 @@ module _ (tells : Type 0) (manner : Manner) (by_text : List ℕ → Option Close
       let left-is : behind_body s.unread input ≡ got.0 = ap (λ (u : Option ℕ). behind_body u input) unread ∙ rest-is in
       subst (λ left. IsServed manner (invitation s.waits) left answer lent old new end) (sym left-is) here
 
-  takes-so : (number count : ℕ) (next : Stored → Course) → ((stored : Stored) → Serves-so (next stored)) → (stored : Stored) (n : ℕ) (s : Stand)
-      → Keeps by_text manner (does (take_body number count) next) n s → Succeeds by_text manner (does (take_body number count) next) s → IsOpen s → (entries : List Entry)
+  takes-so : (number count : ℕ) (next : Stored → Course) → ((stored : Stored) → Serves-so (next stored)) → (stored : Stored) (n : ℕ) (s : Stand) (is_cut : Bool)
+      → Keeps by_text manner (does (take_body number count) next) n s → Succeeds by_text manner is_cut (does (take_body number count) next) s → IsOpen s → (entries : List Entry)
       → AllGranted entries → (old mid new : Outside) (end : Option End) (input : List ℕ) → old.input ≡ Some input
       → BodyIsTaken by_text s.unread input → Quiet old mid → Quiet mid new → Takes tells number count stored old mid → Follows tells (next stored) entries mid new end
       → Served s input entries old new end
-  takes-so number count next ih (Ok blob) n s k su stands entries all old mid new end input input-is taken q more t f =
-      body-so s count su.0.2 (answer_by entries s.due) (file_by entries s.lent) old mid new end input t.0 (with_blob number t.0 old.shelf) input-is t.1
+  takes-so number count next ih (Ok blob) n s is_cut k su stands entries all old mid new end input input-is taken q more t f =
+      body-so s count su.0.2 (answer_by entries s.due) (file_by entries s.lent) old mid new end input t.0 (with_body number t.0 old.shelf) input-is t.1
       (λ left left-is.
-      ih (Ok blob) n (stand_done by_text (take_body number count) (Ok blob) s) (k.2 (Ok blob)) (su.1 (Ok blob) tt) stands entries all mid new end
+      ih (Ok blob) n (stand_done by_text (take_body number count) (Ok blob) s) is_cut (k.2 (Ok blob)) (su.1 (Ok blob) tt) stands entries all mid new end
       left left-is tt more f)
-  takes-so number count next ih (Err took.Torn) n s k su stands entries all old mid new end input input-is taken q more t f =
-      body-is-there by_text s.unread count input old su.0.2 input-is taken t.0
-  takes-so number count next ih (Err took.SourceFault) n s k su stands entries all old mid new end input input-is taken q more t f =
-      no-read-fault old mid t.0 t.1 (ap (λ o. o.read_faults) t.2.1) q
-  takes-so number count next ih (Err took.BlobFault) n s k su stands entries all old mid new end input input-is taken q more t f =
-      no-blob-fault old mid t.0 t.2 (ap (λ o. o.blob_faults) t.3.3) q
-  takes-so number count next ih (Err took.NoMemory) n s k su stands entries all old mid new end input input-is taken q more t f =
+  takes-so number count next ih (Err took.Torn) n s is_cut k su stands entries all old mid new end input input-is taken q more t f =
+      body-is-there by_text s.unread count input old su.0.2 input-is taken (fails-torn count t.0 (record old { shelf = t.1 }) mid t.3).0
+  takes-so number count next ih (Err took.SourceFault) n s is_cut k su stands entries all old mid new end input input-is taken q more t f =
+      no-read-fault old mid t.3.0 t.3.1 (ap (λ o. o.read_faults) t.3.3.2) q
+  takes-so number count next ih (Err (took.BlobFault unread)) n s is_cut k su stands entries all old mid new end input input-is taken q more t f =
+      no-blob-fault old mid t.3.0 t.3.1 (ap (λ o. o.blob_faults) t.3.4.2) q
+  takes-so number count next ih (Err took.NoMemory) n s is_cut k su stands entries all old mid new end input input-is taken q more t f =
       memory-so (next (Err took.NoMemory)) n s (stand_done by_text (take_body number count) (Err took.NoMemory) s) (k.2 (Err took.NoMemory)) refl entries old mid new end input
-      (unwritten count old mid t) more f _ _
+      (ap (λ o. o.output) t.3.1.2) more f _ _
 
-  reads-so : (count : ℕ) (next : Body → Course) → ((body : Body) → Serves-so (next body)) → (body : Body) (n : ℕ) (s : Stand)
-      → Keeps by_text manner (does (read_body count) next) n s → Succeeds by_text manner (does (read_body count) next) s → IsOpen s → (entries : List Entry)
+  reads-so : (count : ℕ) (next : Body → Course) → ((body : Body) → Serves-so (next body)) → (body : Body) (n : ℕ) (s : Stand) (is_cut : Bool)
+      → Keeps by_text manner (does (read_body count) next) n s → Succeeds by_text manner is_cut (does (read_body count) next) s → IsOpen s → (entries : List Entry)
       → AllGranted entries → (old mid new : Outside) (end : Option End) (input : List ℕ) → old.input ≡ Some input
       → BodyIsTaken by_text s.unread input → Quiet old mid → Quiet mid new → Reads count body old mid → Follows tells (next body) entries mid new end
       → Served s input entries old new end
-  reads-so count next ih (Ok bytes) n s k su stands entries all old mid new end input input-is taken q more t f =
+  reads-so count next ih (Ok bytes) n s is_cut k su stands entries all old mid new end input input-is taken q more t f =
       let got = front-of input bytes t.0 (sym input-is ∙ t.2) in
       let bytes-are : take count input ≡ bytes = (λ i. take (sym t.1 i) (got.2 i)) ∙ take-append_seam bytes got.0 in
       let says : by_text bytes ≡ None = subst (λ b. by_text b ≡ None) bytes-are (subst (λ u. BodyIsTaken by_text u input) su.0.2 taken).1 in
@@ -158,13 +160,13 @@ module _ (tells : Type 0) (manner : Manner) (by_text : List ℕ → Option Close
       body-so s count su.0.2 (answer_by entries s.due) (file_by entries s.lent) old mid new end input bytes old.shelf input-is t
       (λ left left-is.
       subst (λ (due : Option Close). IsServed manner (invitation s.waits) left (answer_by entries due) (file_by entries s.lent) mid new end) (says ∙ sym su.0.0)
-      (ih (Ok bytes) n behind (k.2 (Ok bytes)) (su.1 (Ok bytes) says) (subst IsPlain (sym says) tt, stands.1) entries all mid new end left left-is tt more f))
-  reads-so count next ih (Err took.Torn) n s k su stands entries all old mid new end input input-is taken q more t f =
+      (ih (Ok bytes) n behind is_cut (k.2 (Ok bytes)) (su.1 (Ok bytes) says) (subst IsPlain (sym says) tt, stands.1) entries all mid new end left left-is tt more f))
+  reads-so count next ih (Err took.Torn) n s is_cut k su stands entries all old mid new end input input-is taken q more t f =
       body-is-there by_text s.unread count input old su.0.2 input-is taken t.0
-  reads-so count next ih (Err took.SourceFault) n s k su stands entries all old mid new end input input-is taken q more t f =
+  reads-so count next ih (Err took.SourceFault) n s is_cut k su stands entries all old mid new end input input-is taken q more t f =
       no-read-fault old mid t.0 t.1 (ap (λ o. o.read_faults) t.2.1) q
-  reads-so count next ih (Err took.BlobFault) n s k su stands entries all old mid new end input input-is taken q more t f = absurd t
-  reads-so count next ih (Err took.NoMemory) n s k su stands entries all old mid new end input input-is taken q more t f =
+  reads-so count next ih (Err (took.BlobFault unread)) n s is_cut k su stands entries all old mid new end input input-is taken q more t f = absurd t
+  reads-so count next ih (Err took.NoMemory) n s is_cut k su stands entries all old mid new end input input-is taken q more t f =
       memory-so (next (Err took.NoMemory)) n s (stand_done by_text (read_body count) (Err took.NoMemory) s) (k.2 (Err took.NoMemory)) refl entries old mid new end input
       (unwritten count old mid t) more f _ _
 
@@ -194,6 +196,15 @@ module _ (tells : Type 0) (manner : Manner) (by_text : List ℕ → Option Close
       (differs-so blob recorded found (answer_by entries s.due) (file_by entries s.lent) (ends.1 s.lent ∙ lent) seen.0 seen.1 old new end input input-is
       (subst (λ (m : Outside). Quiet m new) seen.2 more)
       (subst (λ (m : Outside). Says (answer_of (said.BlobDiffers recorded found) manner) (memory_answer manner.head_only) (end_of manner) m new end) seen.2 said-it))
+  sends-so blob next sent.CutFault n s lent ready k entries old mid new end input input-is q more t f =
+      let w = cut-by-fault manner.head_only blob (shown (file_answer blob manner)) old mid t in no-blob-fault old mid w.0 w.4 (ap (λ o. o.blob_faults) w.7) q
+  sends-so blob next (sent.CutDiffers recorded found) n s lent ready k entries old mid new end input input-is q more t f =
+      let w = cut-by-other manner.head_only blob (shown (file_answer blob manner)) recorded found old mid t in
+      let behind = stand_done by_text (send_file blob manner) (sent.CutDiffers recorded found) s in
+      let ends = ends-due tells by_text manner (next (sent.CutDiffers recorded found)) n behind (rests (Some stream.Closed)) (k (sent.CutDiffers recorded found)) refl entries mid new end f in
+      ready-served s input (answer_by entries s.due) (file_by entries s.lent) old new end ready
+      (file_cut blob recorded found w.0 w.1 old.shelf (ends.1 s.lent ∙ lent) w.2 w.3 w.4 w.5
+      (ends.0.0 ∙ w.6 ∙ ap (λ (i : Option (List ℕ)). writes (shown (file_answer blob manner) ++ w.1) (record old { input = i })) input-is) ends.0.1)
   sends-so blob next sent.SinkFault n s lent ready k entries old mid new end input input-is q more t f =
       let w = sent-in-part manner.head_only blob (shown (file_answer blob manner)) old mid t in no-write-fault old mid w.0 w.3 (ap (λ o. o.write_faults) w.6) q
   sends-so blob next sent.NoMemory n s lent ready k entries old mid new end input input-is q more t f =
@@ -201,48 +212,48 @@ module _ (tells : Type 0) (manner : Manner) (by_text : List ℕ → Option Close
       (ap (λ o. o.output) (sent-nothing manner.head_only blob (shown (file_answer blob manner)) old mid t)) more f _ _
 
   deed-so : (deed : Deed) (next : Outcome deed → Course) → ((outcome : Outcome deed) → Serves-so (next outcome)) → Serves-so (does deed next)
-  deed-so invite next ih n s k su stands entries all old new end input input-is taken q f =
+  deed-so invite next ih n s is_cut k su stands entries all old new end input input-is taken q f =
       let quiet = deed-quiet tells invite next entries old new end q f in
-      continues-so next (ih continued.Written) f.0 n s k su stands entries all old f.3 new end input input-is taken quiet.0 quiet.1 f.5.1
+      continues-so next (ih continued.Written) f.0 n s is_cut k su stands entries all old f.3 new end input input-is taken quiet.0 quiet.1 f.5.1
       (unasked tells (next f.0) entries f.1 f.2 f.3 new end f.4 f.5.0 f.6)
-  deed-so (take_body number count) next ih n s k su stands entries all old new end input input-is taken q f =
+  deed-so (take_body number count) next ih n s is_cut k su stands entries all old new end input input-is taken q f =
       let quiet = deed-quiet tells (take_body number count) next entries old new end q f in
-      takes-so number count next ih f.0 n s k su stands entries all old f.3 new end input input-is taken quiet.0 quiet.1 f.5.1
+      takes-so number count next ih f.0 n s is_cut k su stands entries all old f.3 new end input input-is taken quiet.0 quiet.1 f.5.1
       (unasked tells (next f.0) entries f.1 f.2 f.3 new end f.4 f.5.0 f.6)
-  deed-so (read_body count) next ih n s k su stands entries all old new end input input-is taken q f =
+  deed-so (read_body count) next ih n s is_cut k su stands entries all old new end input input-is taken q f =
       let quiet = deed-quiet tells (read_body count) next entries old new end q f in
-      reads-so count next ih f.0 n s k su stands entries all old f.3 new end input input-is taken quiet.0 quiet.1 f.5.1
+      reads-so count next ih f.0 n s is_cut k su stands entries all old f.3 new end input input-is taken quiet.0 quiet.1 f.5.1
       (unasked tells (next f.0) entries f.1 f.2 f.3 new end f.4 f.5.0 f.6)
-  deed-so (send_file blob own) next ih n s k su stands entries all old new end input input-is taken q f =
+  deed-so (send_file blob own) next ih n s is_cut k su stands entries all old new end input input-is taken q f =
       let quiet = deed-quiet tells (send_file blob own) next entries old new end q f in
       sends-so blob next f.0 n s su.0.1 su.0.0.1
       (subst (λ (m : Manner). (result : Sent) → Keeps by_text manner (next result) n (stand_done by_text (send_file blob m) result s)) su.0.3 k.2)
       entries old f.3 new end input input-is quiet.0 quiet.1
       (subst (λ (m : Manner). SendsAnswer m.head_only blob (shown (file_answer blob m)) f.0 old f.3) su.0.3 f.5.1)
       (unasked tells (next f.0) entries f.1 f.2 f.3 new end f.4 f.5.0 f.6)
-  deed-so (clean_all repos) next ih n s k su stands entries all old new end input input-is taken q f =
+  deed-so (clean_all repos) next ih n s is_cut k su stands entries all old new end input input-is taken q f =
       absurd (none-some repos (sym stands.1 ∙ su.0.2))
 
   follows-so : (c : Course) → Serves-so c
-  follows-so (asks command next) zero s k su stands [] all old new end input input-is taken q f = absurd f
-  follows-so (asks command next) zero s k su stands (e ∷ entries) all old new end input input-is taken q f = absurd k
-  follows-so (asks command next) (suc n) s k su stands [] all old new end input input-is taken q f = absurd f
-  follows-so (asks command next) (suc n) s k su stands (e ∷ entries) all old new end input input-is taken q f =
+  follows-so (asks command next) zero s is_cut k su stands [] all old new end input input-is taken q f = absurd f
+  follows-so (asks command next) zero s is_cut k su stands (e ∷ entries) all old new end input input-is taken q f = absurd k
+  follows-so (asks command next) (suc n) s is_cut k su stands [] all old new end input input-is taken q f = absurd f
+  follows-so (asks command next) (suc n) s is_cut k su stands (e ∷ entries) all old new end input input-is taken q f =
       elim (granted-or-starved command e s f.0 k.0 all.0) [
         | inl granted ↦ subst (λ (c : Command). IsServed manner (invitation s.waits) (behind_body s.unread input) (answer_by entries (due_after c e.reply s.due)) (file_by entries (lent_after c e.reply s.lent)) old new end)
             (sym f.0)
-            (follows-so (next e.reply) n (stand_after command e.reply s) (k.1 e.reply) (su.1 e.reply granted) (reply-plain command e.reply s.due stands.0, stands.1) entries all.1 old new end
+            (follows-so (next e.reply) n (stand_after command e.reply s) is_cut (k.1 e.reply) (su.1 e.reply granted) (reply-plain command e.reply s.due stands.0, stands.1) entries all.1 old new end
             input input-is taken q f.1)
         | inr due ↦ memory-so (next e.reply) n s (stand_after command e.reply s) (k.1 e.reply) due entries old old new end input refl q f.1 _ _
       ]
-  follows-so (does deed next) n s k su stands entries all old new end input input-is taken q f =
-      deed-so deed next (λ o. follows-so (next o)) n s k su stands entries all old new end input input-is taken q f
-  follows-so (says what own) n s k su stands entries all old new end input input-is taken q f =
+  follows-so (does deed next) n s is_cut k su stands entries all old new end input input-is taken q f =
+      deed-so deed next (λ o. follows-so (next o)) n s is_cut k su stands entries all old new end input input-is taken q f
+  follows-so (says what own) n s is_cut k su stands entries all old new end input input-is taken q f =
       subst (λ (es : List Entry). Served s input es old new end) (sym f.0)
       (ready-served s input s.due s.lent old new end su.0
-      (says-so what s.due s.lent su.1 (plain-success manner what su.2 (subst IsPlain su.1 stands.0)) old new end input input-is q
+      (says-so what s.due s.lent su.1 (plain-success manner is_cut what su.2 (subst IsPlain su.1 stands.0)) old new end input input-is q
       (subst (λ (m : Manner). Says (answer_of what m) (memory_answer m.head_only) (end_of m) old new end) su.3 f.1)))
-  follows-so (stops next) n s k su stands entries all old new end input input-is taken q f = absurd (subst IsPlain su.1 stands.0)
+  follows-so (stops next) n s is_cut k su stands entries all old new end input input-is taken q f = absurd (subst IsPlain su.1 stands.0)
 
 -- no reply to a command of a pass that was granted is that the records failed
 granted-holds : (command : Command) (reply : Reply) → IsPassCommand command → Grants command reply ⊎ (reply ≡ no_memory) → reply ≢ store_fault
@@ -294,13 +305,13 @@ module _ (settings : Settings) (tells : Type 0) (manner : Manner) where
 
   -- by what is asked for
   intent-served : (expects : Bool) (intent : Intent) → let s = at_first expects intent in let c = course_for manner expects intent in
-      Keeps (for_text intent) manner c (most_for intent) s → Succeeds (for_text intent) manner c s → (entries : List Entry) → AllGranted entries
+      Keeps (for_text intent) manner c (most_for intent) s → Succeeds (for_text intent) manner false c s → (entries : List Entry) → AllGranted entries
       → (old new : Outside) (end : Option End) (input : List ℕ) → old.input ≡ Some input → BodyIsTaken (for_text intent) (body_length intent) input → Quiet old new
       → Follows tells c entries old new end
       → IsServed manner (invitation s.waits) (behind_body s.unread input) (due_by intent entries) (file_by entries None) old new end
   intent-served expects (cleans_all repos) k su entries all old new end input input-is taken q f = pass-served repos entries all old new end input input-is q f
   intent-served expects intent k su entries all old new end input input-is taken q f =
-      follows-so tells manner (for_text intent) (course_for manner expects intent) (most_for intent) (at_first expects intent) k su
+      follows-so tells manner (for_text intent) (course_for manner expects intent) (most_for intent) (at_first expects intent) false k su
       (tt, refl) entries all old new end input input-is taken q f
 
 calm-of : (a b : ℕ) → StoodStill a b → Calm a b

@@ -21,6 +21,8 @@ use Rattle.repo_course.specs.declared.outcomes.Continued.{Continued}
 use Rattle.repo_course.specs.declared.outcomes.Continued.TheVariants as continued
 use Rattle.repo_course.specs.declared.outcomes.End.TheVariants as stream
 use Rattle.repo_course.specs.declared.said.Said.{Said}
+use Rattle.repo_course.specs.declared.outcomes.Took.TheVariants as took
+use Rattle.repo_course.specs.declared.said.Said.TheVariants as said
 use Rattle.repo_course.specs.declared.said.Said.TheVariants.{NoMemory}
 use Rattle.repo_course.specs.Serving.{Opens, clean, torn, failed, refused, unread_head, starved, served, Outside}
 use Rattle.course_laws.specs.Duties.{AnswersDue, Duty, Fulfils, Keeps, Stand, left_by, at_first, by_digest, by_document, duty_of, duty_without_head, for_text, idle, most_for, spends_draft, stand_after, stand_done, to_end}
@@ -66,10 +68,14 @@ module _ (by_text : List ℕ → Option Close) (manner : Manner) where
   put-keeps n blob reply = (refl, λ dropped. tells-keep reply 0 (Some blob))
 
   take-keeps : (place : Place) (path : List ℕ) (n count : ℕ) (stored : Stored)
-      → Owes (after_take place path n manner stored) 2 (stand_done by_text (take_body n count) stored (drawn n (Some count) false None None))
+      → Owes (after_take place path n count manner stored) 2 (stand_done by_text (take_body n count) stored (drawn n (Some count) false None None))
   take-keeps (repository repo) path n count (Ok blob) = (((refl, (refl, refl, refl)), refl, refl), put-keeps n blob)
   take-keeps (session number) path n count (Ok blob) = (((refl, (refl, refl, refl)), refl, refl), put-keeps n blob)
-  take-keeps place path n count (Err fault) = (refl, λ reply. closes-keep (of_fault fault) 1 None None)
+  take-keeps place path n count (Err (took.BlobFault true)) = (refl, λ reply. answers-keep said.BlobFault 1 (Some count) false None None)
+  take-keeps place path n count (Err (took.BlobFault false)) = (refl, λ reply. answers-keep said.BlobFault 1 None false None None)
+  take-keeps place path n count (Err took.Torn) = (refl, λ reply. closes-keep (of_fault took.Torn) 1 None None)
+  take-keeps place path n count (Err took.SourceFault) = (refl, λ reply. closes-keep (of_fault took.SourceFault) 1 None None)
+  take-keeps place path n count (Err took.NoMemory) = (refl, λ reply. answers-keep NoMemory 1 None false None None)
 
   -- a body that is read, before which the client waits or not
   invites-keep : (waits : Bool) (cut body : Course) (n : ℕ) (s : Stand) → s.due ≡ None
@@ -85,7 +91,7 @@ module _ (by_text : List ℕ → Option Close) (manner : Manner) where
   may_put-keeps : (place : Place) (path : List ℕ) (count : ℕ) (waits : Bool) (reply : Reply)
       → Owes (after_may_put place path count waits manner reply) 2 (stand_after (may_put place path) reply (empty (Some count) waits None None None))
   may_put-keeps place path count waits (draft n) =
-      invites-keep waits (gives_up n cut_off) (does (take_body n count) (after_take place path n manner)) 2 (drawn n (Some count) false None None) refl
+      invites-keep waits (gives_up n cut_off) (does (take_body n count) (after_take place path n count manner)) 2 (drawn n (Some count) false None None) refl
       (refl, λ reply. ((refl, refl), refl, λ goes. cc))
       ((refl, refl, refl, refl), omega arith, take-keeps place path n count)
   may_put-keeps place path count waits reply = answers-keep (said_of reply) 2 (Some count) waits None None

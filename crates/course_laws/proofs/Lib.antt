@@ -8,6 +8,7 @@ pub mod PassesPlayed
 pub mod LeftBehind
 pub mod Complete
 pub mod Sendings
+pub mod Takings
 pub mod Counts
 pub mod Told
 pub mod Early

@@ -2,7 +2,6 @@
 use Rattle.std.proofs.Common.{◌≡◌, ℕ, zero, suc, ◌≤◌, Bool, true, false, arith, inl, inr, List, [], ◌∷◌, ◌++◌, drop, Option, Some, None, Ok, Err, IsTrue, refl, sym, subst, ap, ◌∙◌, append-nil}
 use Rattle.std.specs.Prelude.{IsSome, unwrap_or}
 use Rattle.std.proofs.Math.Seq.{drop-append_seam}
-use Rattle.outside.specs.Blobs.{with_blob}
 use Rattle.http_wire.specs.Answer.{continue_bytes, shown}
 use Rattle.repo_model.specs.Command.{Command, look, put, stage}
 use Rattle.repo_model.specs.Data.{Blob}
@@ -22,7 +21,7 @@ use Rattle.repo_course.specs.declared.outcomes.Sent.{Sent}
 use Rattle.repo_course.specs.declared.outcomes.Sent.TheVariants as sent
 use Rattle.repo_course.specs.declared.outcomes.Took.TheVariants as took
 use Rattle.repo_course.specs.declared.said.Said.TheVariants.{NoMemory}
-use Rattle.repo_course.specs.Serving.{Continues, Follows, IsFrontOf, Outside, Reads, SendsAnswer, Takes, store_of, with_store, writes}
+use Rattle.repo_course.specs.Serving.{Continues, Follows, IsFrontOf, Outside, Reads, SendsAnswer, Takes, store_of, with_body, with_store, writes}
 use Rattle.course_laws.specs.AsPlayed.{RowsTold}
 use Rattle.course_laws.specs.Duties.{Keeps, MayAsk, MayDo, Stand, stand_after, stand_done}
 use Rattle.course_laws.specs.Faultless.{body_of, due_entry, play, taken_body, wrote}
@@ -30,9 +29,10 @@ use Rattle.course_laws.proofs.LeftBehind.{end_append, legal_cut}
 use Rattle.course_laws.proofs.Passes.{entries-clock, entries-told, passes-ask}
 use Rattle.course_laws.proofs.PassesPlayed.{no-store-faults, passes-hold, passes-played, passes-rose}
 use Rattle.course_laws.proofs.Counts.{Calm, Grew, calm-first, calm-then, deed-grew, follows-grew}
-use Rattle.course_laws.proofs.Early.{ComesTo, Ready, ends-due, memory-due, outcome-before, outcome-so, own-head, says-memory}
+use Rattle.course_laws.proofs.Early.{ComesTo, Ready, early-before, ends-due, memory-due, outcome-before, outcome-so, own-head, says-memory}
 use Rattle.course_laws.proofs.PlayedActs.{InHandTold, IsBlobTold, Plays, at, body-torn, body-whole, bytes-are, front-of, memory-play, risen, says-play, short-of, sink-play, source-play, stops-play, taken-torn, taken-whole, told-is, torn-play, unasked, untold, unwritten, wrote-play}
-use Rattle.course_laws.proofs.Sendings.{not-sent, other-found, rest_of, sent-in-part, sent-nothing, sent-whole}
+use Rattle.course_laws.proofs.Sendings.{cut-by-fault, cut-by-other, not-sent, other-found, rest_of, sent-in-part, sent-nothing, sent-whole}
+use Rattle.course_laws.proofs.Takings.{fails-source, fails-torn}
 use Rattle.course_laws.proofs.Unsent.{IsUnsent, MayStarve, none-unsent, reply-may, reply-unsent}
 use Rattle.course_laws.proofs.Told.{CommandTold, ReplyTold, after-told, clock-stays, due-is, faults-are, faults-grow, moment-is, reply-told}
 
@@ -122,8 +122,8 @@ module _ (settings : Settings) (tells : Type 0) (witness : tells) (by_text : Lis
   takes-play number count next ih (Ok blob) n s may k hand entries st legal calm old mid new end input before ready quiet first grows cause follows =
       let body = cause.0 in
       let got = front-of input body cause.1.0 (sym ready.input_is ∙ cause.1.2) in
-      let o : Outside = record old { input = Some got.0; shelf = with_blob number body old.shelf } in
-      let mid-is : mid ≡ o = cause.1.3 ∙ ap (λ i. record old { input = i; shelf = with_blob number body old.shelf }) got.1 in
+      let o : Outside = record old { input = Some got.0; shelf = with_body number body old.shelf } in
+      let mid-is : mid ≡ o = cause.1.3 ∙ ap (λ i. record old { input = i; shelf = with_body number body old.shelf }) got.1 in
       let some = cause.5 witness in
       let told = told-is blob.bytes body cause.4 some in
       let ready' : Ready o st got.0 before = record {
@@ -141,18 +141,36 @@ module _ (settings : Settings) (tells : Type 0) (witness : tells) (by_text : Lis
       (λ i. (sym whole-is i, sym rest-is i))
       (outcome-before (MayStarve manner s) before _ old o new _ end (record { reads = omega arith; writes = omega arith; blobs = omega arith }) done)
   takes-play number count next ih (Err took.Torn) n s may k hand entries st legal calm old mid new end input before ready quiet first grows cause follows =
+      let o : Outside = record old { shelf = cause.1 } in
+      let there : Ready o st input before = record {
+        input_is = ready.input_is;
+        output_is = ready.output_is;
+        rows = ready.rows;
+        clock = ready.clock;
+      } in
+      let torn = fails-torn count cause.0 o mid cause.3 in
       subst (λ r. ComesTo (MayStarve manner s) before (play settings (next r) (at st (drop count input))) old new (end_of settings st entries) end)
-      (sym (taken-torn number count input (short-of settings tells by_text manner count old mid st input before ready cause)))
-      (torn-play settings tells by_text manner (MayStarve manner s) count (next (Err took.Torn)) n (stand_done by_text (take_body number count) (Err took.Torn) s) (k (Err took.Torn)) refl entries st old mid new end input before ready cause follows)
+      (sym (taken-torn number count input (short-of settings tells by_text manner count o mid st input before there torn)))
+      (outcome-before (MayStarve manner s) before _ old o new _ end (record { reads = omega arith; writes = omega arith; blobs = omega arith })
+      (torn-play settings tells by_text manner (MayStarve manner s) count (next (Err took.Torn)) n (stand_done by_text (take_body number count) (Err took.Torn) s) (k (Err took.Torn)) refl entries st o mid new end input before there torn follows))
   takes-play number count next ih (Err took.SourceFault) n s may k hand entries st legal calm old mid new end input before ready quiet first grows cause follows =
-      inr (source-play settings tells by_text manner (MayStarve manner s) count _ (next (Err took.SourceFault)) n (stand_done by_text (take_body number count) (Err took.SourceFault) s) (k (Err took.SourceFault)) refl entries st old mid new end input before ready cause follows)
-  takes-play number count next ih (Err took.BlobFault) n s may k hand entries st legal calm old mid new end input before ready quiet first grows cause follows =
-      risen old.blob_faults cause.0 new.blob_faults cause.2 (subst (λ m. m ≤ new.blob_faults) (ap (λ o. o.blob_faults) cause.3.3) grows.blobs) quiet
+      let o : Outside = record old { shelf = cause.1 } in
+      let there : Ready o st input before = record {
+        input_is = ready.input_is;
+        output_is = ready.output_is;
+        rows = ready.rows;
+        clock = ready.clock;
+      } in
+      inr (early-before (MayStarve manner s) before _ old o new end (record { reads = omega arith; writes = omega arith; blobs = omega arith })
+      (source-play settings tells by_text manner (MayStarve manner s) count _ (next (Err took.SourceFault)) n (stand_done by_text (take_body number count) (Err took.SourceFault) s) (k (Err took.SourceFault)) refl entries st o mid new end input before there
+      (fails-source count cause.0 o mid cause.3) follows))
+  takes-play number count next ih (Err (took.BlobFault unread)) n s may k hand entries st legal calm old mid new end input before ready quiet first grows cause follows =
+      risen old.blob_faults cause.3.0 new.blob_faults cause.3.1 (subst (λ m. m ≤ new.blob_faults) (ap (λ o. o.blob_faults) cause.3.4.2) grows.blobs) quiet
   takes-play number count next ih (Err took.NoMemory) n s may k hand entries st legal calm old mid new end input before ready quiet first grows cause follows =
       inr (memory-play settings tells by_text manner (MayStarve manner s)
       (refl, (none-unsent s.due may.0, inl refl))
       _ (next (Err took.NoMemory)) n (stand_done by_text (take_body number count) (Err took.NoMemory) s) (k (Err took.NoMemory)) refl entries st old mid new end input before ready first
-      (unwritten count old mid cause) follows)
+      (ap (λ o. o.output) cause.3.1.2) follows)
 
   reads-play : (count : ℕ) (next : Body → Course) → ((body : Body) → Plays settings tells by_text manner (next body)) → (body : Body) (n : ℕ) (s : Stand)
       → MayDo manner (read_body count) s → ((body : Body) → Keeps by_text manner (next body) n (stand_done by_text (read_body count) body s)) → InHandTold s → (entries : List Entry) (st : State) → Legal settings st entries → Calm st.faults (end_of settings st entries).faults
@@ -184,7 +202,7 @@ module _ (settings : Settings) (tells : Type 0) (witness : tells) (by_text : Lis
       (torn-play settings tells by_text manner (MayStarve manner s) count (next (Err took.Torn)) n (stand_done by_text (read_body count) (Err took.Torn) s) (k (Err took.Torn)) refl entries st old mid new end input before ready cause follows)
   reads-play count next ih (Err took.SourceFault) n s may k hand entries st legal calm old mid new end input before ready quiet first cause follows =
       inr (source-play settings tells by_text manner (MayStarve manner s) count _ (next (Err took.SourceFault)) n (stand_done by_text (read_body count) (Err took.SourceFault) s) (k (Err took.SourceFault)) refl entries st old mid new end input before ready cause follows)
-  reads-play count next ih (Err took.BlobFault) n s may k hand entries st legal calm old mid new end input before ready quiet first cause follows = absurd cause
+  reads-play count next ih (Err (took.BlobFault unread)) n s may k hand entries st legal calm old mid new end input before ready quiet first cause follows = absurd cause
   reads-play count next ih (Err took.NoMemory) n s may k hand entries st legal calm old mid new end input before ready quiet first cause follows =
       inr (memory-play settings tells by_text manner (MayStarve manner s)
       (refl, (none-unsent s.due may.0, inl refl))
@@ -208,6 +226,11 @@ module _ (settings : Settings) (tells : Type 0) (witness : tells) (by_text : Lis
       risen old.blob_faults w.0 new.blob_faults w.2 (subst (λ m. m ≤ new.blob_faults) (ap (λ o. o.blob_faults) w.3) grows.blobs) quiet
   sends-play only blob own head next ih (sent.BlobDiffers recorded found) n s told none k hand entries st legal calm old mid new end input before ready quiet first grows cause follows =
       untold blob.bytes (other-found only blob head recorded found old mid cause).1.0 told
+  sends-play only blob own head next ih sent.CutFault n s told none k hand entries st legal calm old mid new end input before ready quiet first grows cause follows =
+      let w = cut-by-fault only blob head old mid cause in
+      risen old.blob_faults w.0 new.blob_faults w.4 (subst (λ m. m ≤ new.blob_faults) (ap (λ o. o.blob_faults) w.7) grows.blobs) quiet
+  sends-play only blob own head next ih (sent.CutDiffers recorded found) n s told none k hand entries st legal calm old mid new end input before ready quiet first grows cause follows =
+      untold blob.bytes (cut-by-other only blob head recorded found old mid cause).3.0 told
   sends-play only blob own head next ih sent.SinkFault n s told none k hand entries st legal calm old mid new end input before ready quiet first grows cause follows =
       let w = sent-in-part only blob head old mid cause in
       inr (sink-play settings tells by_text manner (MayStarve manner s) (head ++ rest_of only (unwrap_or blob.bytes [])) (play settings (next sent.Whole) (at st input)).written w.2

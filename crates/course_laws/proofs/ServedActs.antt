@@ -21,7 +21,7 @@ use Rattle.repo_course.specs.declared.said.Said.{Said}
 use Rattle.repo_course.specs.declared.said.Said.TheVariants as said
 use Rattle.repo_course.specs.Serving.{Follows, Outside, Says, whole, memory, cut, writes}
 use Rattle.course_laws.specs.Duties.{MayAsk, Stand, due_after}
-use Rattle.course_laws.specs.Granted.{BodyIsTaken, Grants, IsGood, IsServed, IsSuccess, answered, sent as file_sent, differs, starved}
+use Rattle.course_laws.specs.Granted.{BodyIsTaken, Grants, IsGood, IsServed, IsSuccess, answered, sent as file_sent, differs, file_cut, starved}
 use Rattle.course_laws.proofs.Counts.{Calm, Grew, calm-first, calm-then, deed-grew, follows-grew}
 use Rattle.course_laws.proofs.Early.{SaysMemory, due-moves}
 use Rattle.course_laws.proofs.PlayedActs.{risen}
@@ -106,6 +106,10 @@ module _ (manner : Manner) where
       let all = shown (answer_of (said.BlobDiffers recorded found) manner) in
       differs blob recorded found kept is bodied other
       (wrote ∙ ap (λ (m : Outside). writes all (record m { input = Some left; shelf = kept })) mid-is ∙ writes-writes first all (record old { input = Some left; shelf = kept })) ends
+  wrote-served first left answer lent old mid new end mid-is (file_cut blob recorded found bytes part kept is bodied other print front wrote ends) =
+      let all = shown (file_answer blob manner) ++ part in
+      file_cut blob recorded found bytes part kept is bodied other print front
+      (wrote ∙ ap (λ (m : Outside). writes all (record m { input = Some left; shelf = kept })) mid-is ∙ writes-writes first all (record old { input = Some left; shelf = kept })) ends
   wrote-served first left answer lent old mid new end mid-is (starved part head_only to_head which output ends) =
       let said = shown (memory_answer head_only) in
       let none : part ≡ [] = elim which [ inl e ↦ e | inr e ↦ e ] in
@@ -124,6 +128,9 @@ module _ (manner : Manner) where
   read-served invited left answer lent old mid new rest end shelf mid-is (differs blob recorded found kept is bodied other wrote ends) =
       differs blob recorded found kept is bodied other
       (wrote ∙ ap (λ (m : Outside). writes (invited ++ shown (answer_of (said.BlobDiffers recorded found) manner)) (record m { input = Some left; shelf = kept })) mid-is) ends
+  read-served invited left answer lent old mid new rest end shelf mid-is (file_cut blob recorded found bytes part kept is bodied other print front wrote ends) =
+      file_cut blob recorded found bytes part kept is bodied other print front
+      (wrote ∙ ap (λ (m : Outside). writes (invited ++ (shown (file_answer blob manner) ++ part)) (record m { input = Some left; shelf = kept })) mid-is) ends
   read-served invited left answer lent old mid new rest end shelf mid-is (starved part head_only to_head which output ends) =
       starved part head_only to_head which (output ∙ ap (λ (m : Outside). behind m.output (part ++ shown (memory_answer head_only))) mid-is) ends
 
@@ -165,6 +172,6 @@ reply-plain command reply due plain =
       | inr told ↦ subst IsPlain (sym told) (said-plain reply)
     ]
 
-pub plain-success : (manner : Manner) (what : Said) → IsGood manner (speaks what) → IsPlain (Some (speaks what)) → IsSuccess (full_answer what).status
-plain-success manner (said.BlobDiffers recorded found) good plain = absurd plain
-plain-success manner _ good plain = good
+pub plain-success : (manner : Manner) (is_cut : Bool) (what : Said) → IsGood manner is_cut (speaks what) → IsPlain (Some (speaks what)) → IsSuccess (full_answer what).status
+plain-success manner is_cut (said.BlobDiffers recorded found) good plain = absurd plain
+plain-success manner is_cut _ good plain = good

@@ -11,70 +11,71 @@ use Rattle.repo_course.specs.declared.outcomes.Sent.TheVariants as sent
 use Rattle.repo_course.specs.declared.said.Said.{Said}
 use Rattle.repo_course.specs.declared.said.Said.TheVariants.{NoMemory}
 use Rattle.course_laws.specs.Duties.{Keeps, MayAsk, MayDo, Stand, at_first, due_after, due_done, for_text, left_by, manner_of, stand_after, stand_done, to_clean_done, unread_done, waits_done}
-use Rattle.course_laws.specs.Granted.{Goes, Grants, IsGood, Succeeds}
+use Rattle.course_laws.specs.Granted.{Goes, Grants, IsGood, Succeeds, cut_by}
 use Rattle.course_laws.proofs.Kept.{judged-keeps}
 
 module _ (by_text : List ℕ → Option Close) (manner : Manner) where
   -- what is due is good, and nothing else is to be done
-  abbrev Fine : Option Close → Option ℕ → Option (List (List ℕ)) → Bool → Type 0
-  Fine None unread to_clean waits = Unit {0}
-  Fine (Some close) unread to_clean waits = IsGood manner close × ((unread ≡ None) × (to_clean ≡ None) × (waits ≡ false))
+  abbrev Fine : Bool → Option Close → Option ℕ → Option (List (List ℕ)) → Bool → Type 0
+  Fine is_cut None unread to_clean waits = Unit {0}
+  Fine is_cut (Some close) unread to_clean waits = IsGood manner is_cut close × ((unread ≡ None) × (to_clean ≡ None) × (waits ≡ false))
 
-  reply-fine : (c : Command) (reply : Reply) (s : Stand) → MayAsk c s → Grants c reply → Fine s.due s.unread s.to_clean s.waits
-      → Fine (due_after c reply s.due) s.unread s.to_clean s.waits
-  reply-fine (look repo path tried) (file lease blob) s may granted fine = fine
-  reply-fine (look repo path tried) (text bytes) s may granted fine = (tt, may.0.1)
-  reply-fine (look repo path tried) (doc bytes digests) s may granted fine = (tt, may.0.1)
-  reply-fine (done lease) reply s may granted fine = fine
-  reply-fine (may_put place path) (draft n) s may granted fine = fine
-  reply-fine (put repo path n blob) created s may granted fine = (tt, may.0.1)
-  reply-fine (put repo path n blob) same s may granted fine = (tt, may.0.1)
-  reply-fine (put repo path n blob) relisted s may granted fine = (tt, may.0.1)
-  reply-fine (put_side place path digest) agreed s may granted fine = (tt, may.1)
-  reply-fine (put_doc place path) noted s may granted fine = (tt, may.1)
-  reply-fine (drop_draft n) reply s may granted fine = fine
-  reply-fine (open_session repo) (opened n) s may granted fine = (tt, may.1)
-  reply-fine (stage at path n blob) staged s may granted fine = (tt, may.0.1)
-  reply-fine (stage at path n blob) same s may granted fine = (tt, may.0.1)
-  reply-fine (commit n) (ended result) s may granted fine = (tt, may.1)
-  reply-fine (abort n) (ended result) s may granted fine = (tt, may.1)
-  reply-fine status (counts_reply files fading cached documents sessions) s may granted fine = (tt, may.1)
-  reply-fine (unlist repo) reply s may granted fine = absurd may
-  reply-fine collect reply s may granted fine = absurd may
-  reply-fine _ _ s may granted fine = absurd (false≢true granted)
+  reply-fine : (is_cut : Bool) (c : Command) (reply : Reply) (s : Stand) → MayAsk c s → Grants c reply → Fine is_cut s.due s.unread s.to_clean s.waits
+      → Fine is_cut (due_after c reply s.due) s.unread s.to_clean s.waits
+  reply-fine is_cut (look repo path tried) (file lease blob) s may granted fine = fine
+  reply-fine is_cut (look repo path tried) (text bytes) s may granted fine = (tt, may.0.1)
+  reply-fine is_cut (look repo path tried) (doc bytes digests) s may granted fine = (tt, may.0.1)
+  reply-fine is_cut (done lease) reply s may granted fine = fine
+  reply-fine is_cut (may_put place path) (draft n) s may granted fine = fine
+  reply-fine is_cut (put repo path n blob) created s may granted fine = (tt, may.0.1)
+  reply-fine is_cut (put repo path n blob) same s may granted fine = (tt, may.0.1)
+  reply-fine is_cut (put repo path n blob) relisted s may granted fine = (tt, may.0.1)
+  reply-fine is_cut (put_side place path digest) agreed s may granted fine = (tt, may.1)
+  reply-fine is_cut (put_doc place path) noted s may granted fine = (tt, may.1)
+  reply-fine is_cut (drop_draft n) reply s may granted fine = fine
+  reply-fine is_cut (open_session repo) (opened n) s may granted fine = (tt, may.1)
+  reply-fine is_cut (stage at path n blob) staged s may granted fine = (tt, may.0.1)
+  reply-fine is_cut (stage at path n blob) same s may granted fine = (tt, may.0.1)
+  reply-fine is_cut (commit n) (ended result) s may granted fine = (tt, may.1)
+  reply-fine is_cut (abort n) (ended result) s may granted fine = (tt, may.1)
+  reply-fine is_cut status (counts_reply files fading cached documents sessions) s may granted fine = (tt, may.1)
+  reply-fine is_cut (unlist repo) reply s may granted fine = absurd may
+  reply-fine is_cut collect reply s may granted fine = absurd may
+  reply-fine is_cut _ _ s may granted fine = absurd (false≢true granted)
 
-  going : (due : Option Close) (unread : Option ℕ) (to_clean : Option (List (List ℕ))) (waits : Bool) → due ≡ None → Fine due unread to_clean waits
-  going due unread to_clean waits is = subst (λ d. Fine d unread to_clean waits) (sym is) tt
+  going : (is_cut : Bool) (due : Option Close) (unread : Option ℕ) (to_clean : Option (List (List ℕ))) (waits : Bool) → due ≡ None → Fine is_cut due unread to_clean waits
+  going is_cut due unread to_clean waits is = subst (λ d. Fine is_cut d unread to_clean waits) (sym is) tt
 
-  deed-fine : (deed : Deed) (outcome : Outcome deed) (s : Stand) → MayDo manner deed s → Goes by_text deed outcome → Fine s.due s.unread s.to_clean s.waits
-      → Fine (due_done by_text deed outcome s.due) (unread_done deed s.unread) (to_clean_done deed s.to_clean) (waits_done deed s.waits)
-  deed-fine invite continued.Written s may goes fine = going s.due s.unread s.to_clean false may.0
-  deed-fine (take_body n count) (Ok blob) s may goes fine = going s.due None s.to_clean s.waits may.0
-  deed-fine (read_body count) (Ok bytes) s may goes fine = going (by_text bytes) None s.to_clean s.waits goes
-  deed-fine (send_file blob own) sent.Whole s may goes fine = (ap end_of may.3, may.0.1)
-  deed-fine (send_file blob own) (sent.BlobDiffers recorded found) s may goes fine = (tt, may.0.1)
-  deed-fine (clean_all repos) (Ok did) s may goes fine = (tt, (may.1, refl, may.3))
-  deed-fine _ _ s may goes fine = absurd goes
+  deed-fine : (is_cut : Bool) (deed : Deed) (outcome : Outcome deed) (s : Stand) → MayDo manner deed s → Goes by_text deed outcome → Fine is_cut s.due s.unread s.to_clean s.waits
+      → Fine (cut_by deed outcome is_cut) (due_done by_text deed outcome s.due) (unread_done deed outcome s.unread) (to_clean_done deed s.to_clean) (waits_done deed s.waits)
+  deed-fine is_cut invite continued.Written s may goes fine = going is_cut s.due s.unread s.to_clean false may.0
+  deed-fine is_cut (take_body n count) (Ok blob) s may goes fine = going is_cut s.due None s.to_clean s.waits may.0
+  deed-fine is_cut (read_body count) (Ok bytes) s may goes fine = going is_cut (by_text bytes) None s.to_clean s.waits goes
+  deed-fine is_cut (send_file blob own) sent.Whole s may goes fine = (ap end_of may.3, may.0.1)
+  deed-fine is_cut (send_file blob own) (sent.BlobDiffers recorded found) s may goes fine = (tt, may.0.1)
+  deed-fine is_cut (send_file blob own) (sent.CutDiffers recorded found) s may goes fine = (refl, may.0.1)
+  deed-fine is_cut (clean_all repos) (Ok did) s may goes fine = (tt, (may.1, refl, may.3))
+  deed-fine is_cut _ _ s may goes fine = absurd goes
 
-  pub own-is : (said : Said) → IsGood manner (speaks said) → manner_of said None manner ≡ manner
-  own-is NoMemory good = absurd good
-  own-is _ good = refl
+  pub own-is : (is_cut : Bool) (said : Said) → IsGood manner is_cut (speaks said) → manner_of said None manner ≡ manner
+  own-is is_cut NoMemory good = absurd good
+  own-is is_cut _ good = refl
 
-  keeps-succeeds : (c : Course) (n : ℕ) (s : Stand) → Keeps by_text manner c n s → Fine s.due s.unread s.to_clean s.waits → Succeeds by_text manner c s
-  keeps-succeeds (asks command next) zero s k fine = absurd k
-  keeps-succeeds (asks command next) (suc n) s k fine = (
+  keeps-succeeds : (is_cut : Bool) (c : Course) (n : ℕ) (s : Stand) → Keeps by_text manner c n s → Fine is_cut s.due s.unread s.to_clean s.waits → Succeeds by_text manner is_cut c s
+  keeps-succeeds is_cut (asks command next) zero s k fine = absurd k
+  keeps-succeeds is_cut (asks command next) (suc n) s k fine = (
     k.0,
-    λ reply granted. keeps-succeeds (next reply) n (stand_after command reply s) (k.1 reply) (reply-fine command reply s k.0 granted fine),
+    λ reply granted. keeps-succeeds is_cut (next reply) n (stand_after command reply s) (k.1 reply) (reply-fine is_cut command reply s k.0 granted fine),
   )
-  keeps-succeeds (does deed next) n s k fine = (
+  keeps-succeeds is_cut (does deed next) n s k fine = (
     k.0,
-    λ outcome goes. keeps-succeeds (next outcome) (left_by deed n) (stand_done by_text deed outcome s) (k.2 outcome) (deed-fine deed outcome s k.0 goes fine),
+    λ outcome goes. keeps-succeeds (cut_by deed outcome is_cut) (next outcome) (left_by deed n) (stand_done by_text deed outcome s) (k.2 outcome) (deed-fine is_cut deed outcome s k.0 goes fine),
   )
-  keeps-succeeds (says said own) n s k fine =
-      let good = subst (λ d. Fine d s.unread s.to_clean s.waits) k.1 fine in
-      (good.1, k.1, good.0, k.2 ∙ ap (λ u. manner_of said u manner) good.1.0 ∙ own-is said good.0)
-  keeps-succeeds (stops end) n s k fine = let good = subst (λ d. Fine d s.unread s.to_clean s.waits) k.1 fine in (good.1, k.1, good.0)
+  keeps-succeeds is_cut (says said own) n s k fine =
+      let good = subst (λ d. Fine is_cut d s.unread s.to_clean s.waits) k.1 fine in
+      (good.1, k.1, good.0, k.2 ∙ ap (λ u. manner_of said u manner) good.1.0 ∙ own-is is_cut said good.0)
+  keeps-succeeds is_cut (stops end) n s k fine = let good = subst (λ d. Fine is_cut d s.unread s.to_clean s.waits) k.1 fine in (good.1, k.1, good.0)
 
 pub request-succeeds : (request : Judged) (last : Bool)
-    → Succeeds (for_text request.intent) (manner_for request last) (course_of (Ok request) last) (at_first request.expects request.intent)
-request-succeeds request last = keeps-succeeds (for_text request.intent) (manner_for request last) _ _ _ (judged-keeps (Ok request) last) tt
+    → Succeeds (for_text request.intent) (manner_for request last) false (course_of (Ok request) last) (at_first request.expects request.intent)
+request-succeeds request last = keeps-succeeds (for_text request.intent) (manner_for request last) false _ _ _ (judged-keeps (Ok request) last) tt

@@ -16,6 +16,7 @@ use Rattle.repo_course.specs.Course.{Close, Course, Deed, Outcome, asks, does, s
 use Rattle.repo_course.specs.declared.manner.Manner.{Manner}
 use Rattle.repo_course.specs.declared.outcomes.Continued.TheVariants as continued
 use Rattle.repo_course.specs.declared.outcomes.End.TheVariants as stream
+use Rattle.repo_course.specs.declared.outcomes.Took.TheVariants as took
 use Rattle.repo_course.specs.declared.said.Said.{Said}
 use Rattle.repo_course.specs.declared.said.Said.TheVariants as said
 
@@ -172,10 +173,12 @@ abbrev pub stored_done : (deed : Deed) → Outcome deed → Option Blob → Opti
 stored_done (take_body n count) (Ok blob) held = Some blob
 stored_done deed outcome held = held
 
-abbrev pub unread_done : Deed → Option ℕ → Option ℕ
-unread_done (take_body n count) unread = None
-unread_done (read_body count) unread = None
-unread_done deed unread = unread
+-- the body is read, but where some of it is unread behind a fault
+abbrev pub unread_done : (deed : Deed) → Outcome deed → Option ℕ → Option ℕ
+unread_done (take_body n count) (Err (took.BlobFault true)) unread = unread
+unread_done (take_body n count) stored unread = None
+unread_done (read_body count) body unread = None
+unread_done deed outcome unread = unread
 
 abbrev pub waits_done : Deed → Bool → Bool
 waits_done invite waits = false
@@ -199,7 +202,7 @@ due_done by_text (clean_all repos) pass due = Some (of_pass pass)
 abbrev pub stand_done : (List ℕ → Option Close) → (deed : Deed) → Outcome deed → Stand → Stand
 stand_done by_text deed outcome s = record s {
   stored = stored_done deed outcome s.stored;
-  unread = unread_done deed s.unread;
+  unread = unread_done deed outcome s.unread;
   waits = waits_done deed s.waits;
   to_clean = to_clean_done deed s.to_clean;
   due = due_done by_text deed outcome s.due;

@@ -14,7 +14,7 @@ use Rattle.repo_model.specs.Reply.{Reply, can_get, file, text, doc, missed, give
 use Rattle.repo_routes.specs.Intent.{Intent, Judged, cleans as cleans_all}
 use Rattle.repo_course.specs.Answers.{answer_of, file_answer, full_answer, memory_answer}
 use Rattle.repo_course.specs.Course.{Close, Course, Deed, Outcome, asks, does, says, stops, speaks, rests, invite, take_body, read_body, send_file, clean_all, end_of, manner_for, of_pass}
-use Rattle.repo_course.specs.Serving.{IsOtherContent, Outside, print_of, writes}
+use Rattle.repo_course.specs.Serving.{IsCut, IsOtherContent, Outside, print_of, writes}
 use Rattle.repo_course.specs.declared.manner.Manner.{Manner}
 use Rattle.repo_course.specs.declared.outcomes.Continued.TheVariants as continued
 use Rattle.repo_course.specs.declared.outcomes.End.{End}
@@ -86,27 +86,37 @@ Goes by_text (read_body count) (Err fault) = ⊥
 Goes by_text (send_file blob own) sending.Whole = Unit {0}
 Goes by_text (send_file blob own) sending.BlobFault = ⊥
 Goes by_text (send_file blob own) (sending.BlobDiffers recorded found) = Unit {0}
+Goes by_text (send_file blob own) sending.CutFault = ⊥
+Goes by_text (send_file blob own) (sending.CutDiffers recorded found) = Unit {0}
 Goes by_text (send_file blob own) sending.SinkFault = ⊥
 Goes by_text (send_file blob own) sending.NoMemory = ⊥
 Goes by_text (clean_all repos) (Ok did) = Unit {0}
 Goes by_text (clean_all repos) (Err fault) = ⊥
 
--- an answer of 200 or 201, that the blob differs, or nothing behind a file
-abbrev pub IsGood : Manner → Close → Type 0
-IsGood manner (speaks (BlobDiffers recorded found)) = Unit {0}
-IsGood manner (speaks said) = IsSuccess (full_answer said).status
-IsGood manner (rests end) = end ≡ end_of manner
+-- whether the last file that was sent is cut
+abbrev pub cut_by : (deed : Deed) → Outcome deed → Bool → Bool
+cut_by (send_file blob own) (sending.CutDiffers recorded found) is_cut = true
+cut_by (send_file blob own) outcome is_cut = false
+cut_by deed outcome is_cut = is_cut
+
+-- an answer of 200 or 201, that the blob differs, or nothing behind a file, where the stream ends if it is cut
+abbrev pub IsGood : Manner → Bool → Close → Type 0
+IsGood manner is_cut (speaks (BlobDiffers recorded found)) = Unit {0}
+IsGood manner is_cut (speaks said) = IsSuccess (full_answer said).status
+IsGood manner is_cut (rests end) = end ≡ (if is_cut then Some stream.Closed else end_of manner)
 
 -- Where each command gets what it asks for, no deed fails and the body is refused by nothing that it says, the course does what it
 -- may, and all that is asked for: the body is invited where the client waits for that, and read; the file that is sent is the one
 -- that was lent; a pass goes over the repositories that are asked for. And it ends well: as is due for that, and in this manner.
-abbrev pub Succeeds : (List ℕ → Option Close) → Manner → Course → Stand → Type 0
-Succeeds by_text manner (asks command next) s =
-    MayAsk command s × ((reply : Reply) → Grants command reply → Succeeds by_text manner (next reply) (stand_after command reply s))
-Succeeds by_text manner (does deed next) s =
-    MayDo manner deed s × ((outcome : Outcome deed) → Goes by_text deed outcome → Succeeds by_text manner (next outcome) (stand_done by_text deed outcome s))
-Succeeds by_text manner (says said own) s = IsReady s × (s.due ≡ Some (speaks said)) × IsGood manner (speaks said) × (own ≡ manner)
-Succeeds by_text manner (stops end) s = IsReady s × (s.due ≡ Some (rests end)) × IsGood manner (rests end)
+abbrev pub Succeeds : (List ℕ → Option Close) → Manner → Bool → Course → Stand → Type 0
+Succeeds by_text manner is_cut (asks command next) s =
+    MayAsk command s × ((reply : Reply) → Grants command reply → Succeeds by_text manner is_cut (next reply) (stand_after command reply s))
+Succeeds by_text manner is_cut (does deed next) s =
+    MayDo manner deed s
+    × ((outcome : Outcome deed) → Goes by_text deed outcome
+    → Succeeds by_text manner (cut_by deed outcome is_cut) (next outcome) (stand_done by_text deed outcome s))
+Succeeds by_text manner is_cut (says said own) s = IsReady s × (s.due ≡ Some (speaks said)) × IsGood manner is_cut (speaks said) × (own ≡ manner)
+Succeeds by_text manner is_cut (stops end) s = IsReady s × (s.due ≡ Some (rests end)) × IsGood manner is_cut (rests end)
 
 -- what the replies of these entries came to
 abbrev pub answer_by : List Entry → Option Close → Option Close
@@ -145,8 +155,8 @@ AreBytesOf manner blob bytes = IsWhereTold blob.bytes bytes × (manner.head_only
 
 -- What came to the sink and was used of the input, which is told: the invitation and the answer, whole; or the invitation and the
 -- file, whole, or the head of its answer alone; or, where its blob has another content than was recorded, the answer that says
--- so; or, where memory was wanted, the answer that says so, its head alone to HEAD only, in front of which the invitation stands
--- or nothing. Of the blobs that are told this says nothing.
+-- so, or the head and a front of what was found, behind which the stream ends; or, where memory was wanted, the answer that says so,
+-- its head alone to HEAD only, in front of which the invitation stands or nothing. Of the blobs that are told this says nothing.
 pub data IsServed (manner : Manner) (invited : List ℕ) (left : List ℕ) (answer : Option Close) (lent : Option Blob) (old new : Outside)
     (end : Option End) : Type 0 where
   answered : (said : Said) (kept : Shelf) → answer ≡ Some (speaks said) → IsSuccess (full_answer said).status
@@ -158,6 +168,10 @@ pub data IsServed (manner : Manner) (invited : List ℕ) (left : List ℕ) (answ
   differs : (blob : Blob) (recorded found : Print) (kept : Shelf) → lent ≡ Some blob → manner.head_only ≡ false → IsOtherContent blob recorded found
       → new ≡ writes (invited ++ shown (answer_of (BlobDiffers recorded found) manner)) (record old { input = Some left; shelf = kept })
       → end ≡ end_of manner → IsServed manner invited left answer lent old new end
+  file_cut : (blob : Blob) (recorded found : Print) (bytes part : List ℕ) (kept : Shelf) → lent ≡ Some blob → manner.head_only ≡ false
+      → IsOtherContent blob recorded found → found ≡ print_of bytes → IsCut blob bytes part
+      → new ≡ writes (invited ++ (shown (file_answer blob manner) ++ part)) (record old { input = Some left; shelf = kept })
+      → end ≡ Some stream.Closed → IsServed manner invited left answer lent old new end
   starved : (part : List ℕ) (head_only : Bool) → (head_only ≡ true → manner.head_only ≡ true) → (part ≡ []) ⊎ (part ≡ invited)
       → new.output ≡ behind old.output (part ++ shown (memory_answer head_only))
       → end ≡ Some stream.Closed → IsServed manner invited left answer lent old new end

@@ -94,18 +94,18 @@ pub fn refusals_are_answered<H: Held>()
 
 /// Each course of a request that is not refused by its head comes to an answer of 200 or 201, or sends the file that it was
 /// lent, where each command gets what it asks for, no deed fails and the body is refused by nothing that it says; a pass over the
-/// repositories that are asked for is answered by what it did. It invites the body where the client waits for that, and has read
-/// it then.
+/// repositories that are asked for is answered by what it did. Where the file has another content than was recorded, that is
+/// answered, or the stream ends behind a front of it. It invites the body where the client waits for that, and has read it then.
 pub fn courses_succeed()
     ensures { (request : Judged) (last : Bool) →
-        let duty = duty_of (Ok request) last in Succeeds duty.by_text duty.manner (course_of (Ok request) last) duty.stand }
+        let duty = duty_of (Ok request) last in Succeeds duty.by_text duty.manner false (course_of (Ok request) last) duty.stand }
 {}
 
 /// A request of a served stream that nothing refuses, neither its head, nor a reply to its commands, nor what its body says, and
 /// whose body came whole, gets its answer of 200 or 201, whole, where no count of the stream and the blobs rose, unless the blob
-/// of a file, which tells no bytes, has others than were recorded, which is then answered; or unless memory was wanted, by a
-/// command or for what is read or sent; then that is answered, by a head alone only to HEAD, behind a draft that was given up
-/// too. No more of the input is used than the head and the body. The input is told.
+/// of a file, which tells no bytes, has others than were recorded, which is then answered, or ends the stream behind the head and
+/// a front of them; or unless memory was wanted, by a command or for what is read or sent; then that is answered, by a head alone
+/// only to HEAD, behind a draft that was given up too. No more of the input is used than the head and the body. The input is told.
 pub fn granted_requests_are_answered<H: Held>()
     ensures { (settings : Settings) (last : Bool) (entries : List Entry) (old new : Outside) (ending : Option End) (input rest : List ℕ)
         (head : Head) (request : Judged) →

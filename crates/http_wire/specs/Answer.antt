@@ -40,7 +40,7 @@ content_text Plain = codes "text/plain"
 abbrev pub field_line : List ℕ → List ℕ → List ℕ
 field_line name value = name ++ codes ": " ++ value ++ crlf_bytes
 
--- both digests in lower case hexadecimal, where there are any
+-- SHA-1 and MD5 in lower case hexadecimal, where there are digests
 abbrev pub digest_lines : Option Digests → List ℕ
 digest_lines None = []
 digest_lines (Some digests) =

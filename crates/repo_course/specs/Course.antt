@@ -100,13 +100,15 @@ closes manner (rests end) = stops end
 abbrev pub of_fault : Took → Close
 of_fault took.Torn = rests (Some stream.TornRequest)
 of_fault took.SourceFault = rests (Some stream.SourceFault)
-of_fault took.BlobFault = speaks said.BlobFault
+of_fault (took.BlobFault unread) = speaks said.BlobFault
 of_fault took.NoMemory = speaks said.NoMemory
 
 abbrev pub of_sent : Manner → Sent → Close
 of_sent manner sent.Whole = rests (end_of manner)
 of_sent manner sent.BlobFault = speaks said.BlobFault
 of_sent manner (sent.BlobDiffers recorded found) = speaks (said.BlobDiffers recorded found)
+of_sent manner sent.CutFault = rests (Some stream.Closed)
+of_sent manner (sent.CutDiffers recorded found) = rests (Some stream.Closed)
 of_sent manner sent.SinkFault = rests (Some stream.SinkFault)
 of_sent manner sent.NoMemory = speaks said.NoMemory
 
@@ -222,18 +224,23 @@ abbrev pub puts_at : Place → (path : List ℕ) → ℕ → Blob → Command
 puts_at (repository repo) path n blob = put repo path n blob
 puts_at (session number) path n blob = stage number path n blob
 
--- a file's body that is stored is put, and the draft of another is given up
-abbrev pub after_take : Place → (path : List ℕ) → ℕ → Manner → Stored → Course
-after_take place path n manner (Ok blob) = asks (puts_at place path n blob) (after_put n manner)
-after_take place path n manner (Err fault) = gives_up n (closes manner (of_fault fault))
-
 -- a body that is not read ends the connection
 abbrev pub with_unread : ℕ → Manner → Manner
 with_unread length manner = record manner { close = nat_lt 0 length || manner.close }
 
+-- so does one of which some is unread behind a fault
+abbrev pub behind_fault : (length : ℕ) → Took → Manner → Manner
+behind_fault length (took.BlobFault true) manner = with_unread length manner
+behind_fault length fault manner = manner
+
+-- a file's body that is stored is put, and the draft of another is given up
+abbrev pub after_take : Place → (path : List ℕ) → (n length : ℕ) → Manner → Stored → Course
+after_take place path n length manner (Ok blob) = asks (puts_at place path n blob) (after_put n manner)
+after_take place path n length manner (Err fault) = gives_up n (closes (behind_fault length fault manner) (of_fault fault))
+
 abbrev pub after_may_put : Place → (path : List ℕ) → ℕ → Bool → Manner → Reply → Course
 after_may_put place path length expects manner (draft n) =
-    invites expects (gives_up n cut_off) (does (take_body n length) (after_take place path n manner))
+    invites expects (gives_up n cut_off) (does (take_body n length) (after_take place path n length manner))
 after_may_put place path length expects manner reply = tells (with_unread length manner) reply
 
 -- the digest that a side file says is compared; a text that says none is refused

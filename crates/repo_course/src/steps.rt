@@ -13,7 +13,9 @@ use crate::manner::Manner;
 use crate::outcomes::{CleanFault, Cleaned, End, Sent, Took};
 use crate::said::Said;
 use mvn_coords::Side;
-use mvn_digest::{Digest, Digests, MD5_BYTES, SHA1_BYTES, SideText, side_text};
+use mvn_digest::{
+    Digest, Digests, MD5_BYTES, SHA1_BYTES, SHA256_BYTES, SHA512_BYTES, SideText, side_text,
+};
 use outside::{Held, Parcel};
 use repo_model::{Command, Place, Reply};
 use texts::Text;
@@ -74,21 +76,17 @@ pub(crate) fn give_up<H: Held>(draft: u64, then: After) -> Act<H>
 fn digest_text(digest: Digest) -> SideText
     ensures { result ≡ hex_text (bytes_in digest) }
 {
+    let none = Digests {
+        sha1: [0; SHA1_BYTES],
+        md5: [0; MD5_BYTES],
+        sha256: [0; SHA256_BYTES],
+        sha512: [0; SHA512_BYTES],
+    };
     match digest {
-        Digest::Sha1(sha1) => side_text(
-            &Digests {
-                sha1,
-                md5: [0; MD5_BYTES],
-            },
-            Side::Sha1,
-        ),
-        Digest::Md5(md5) => side_text(
-            &Digests {
-                sha1: [0; SHA1_BYTES],
-                md5,
-            },
-            Side::Md5,
-        ),
+        Digest::Sha1(sha1) => side_text(&Digests { sha1, ..none }, Side::Sha1),
+        Digest::Md5(md5) => side_text(&Digests { md5, ..none }, Side::Md5),
+        Digest::Sha256(sha256) => side_text(&Digests { sha256, ..none }, Side::Sha256),
+        Digest::Sha512(sha512) => side_text(&Digests { sha512, ..none }, Side::Sha512),
     }
 }
 
@@ -213,6 +211,7 @@ fn after_done<H: Held>(manner: Manner, sent: Sent) -> Act<H>
         Sent::BlobDiffers { recorded, found } => {
             say(Said::BlobDiffers { recorded, found }, manner)
         }
+        Sent::CutFault | Sent::CutDiffers { .. } => Act::Stop(Some(End::Closed)),
         Sent::SinkFault => Act::Stop(Some(End::SinkFault)),
         Sent::NoMemory => no_memory(manner),
     }
@@ -270,6 +269,7 @@ pub fn after_reply<H: Held>(manner: Manner, after: After, reply: Reply<H>) -> Ac
         After::Put { draft } => after_put(manner, draft, reply),
         After::Tell => tell(manner, reply),
         After::Say(said) => answer(said, manner),
+        After::SayUnread { said, length } => answer(said, manner.with_unread(length)),
         After::Stop(end) => Act::Stop(Some(end)),
     }
 }
