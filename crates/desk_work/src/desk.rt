@@ -18,6 +18,15 @@ use std::sync::Wait;
 use turn_lock::{Seat, Thing, Turns};
 use turn_seats::Repository;
 
+/// The table of routes that is kept, or, where none is, one made now: a desk for which memory was wanting tries again before its
+/// next connection.
+fn or_made(alloc: Global, kept: Option<Routes>) -> Option<Routes> {
+    match kept {
+        Some(routes) => Some(routes),
+        None => Routes::new(alloc).ok(),
+    }
+}
+
 /// Serves the connections of a desk's port, one after another, each as a stream, until none is left or the port fails. Each is
 /// given back. It says whether the port failed, which is so exactly where the port's count rose. The settings are those of the
 /// repository.
@@ -42,10 +51,11 @@ pub fn serve_desk<
         settings.now turns.now seat result.0 desk.old desk.new }
     ensures over { IsOver result.1 (P.left desk.new.port) (P.faults desk.old.port) (P.faults desk.new.port) }
 {
-    let routes = Routes::new(alloc).ok();
+    let mut routes = None;
     for _ in rt.forever() {
         match desk.port.next() {
             Ok(Some(mut link)) => {
+                routes = or_made(alloc, routes);
                 let (next, _) = serve_with(
                     rt,
                     alloc,

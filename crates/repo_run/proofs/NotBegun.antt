@@ -4,6 +4,7 @@ use Rattle.std.specs.Prelude.{IfSome}
 use Rattle.repo_core.specs.StartFaults.{RefusesAs}
 use Rattle.repo_core.specs.declared.faults.StartFault.TheVariants.{NoMemory}
 use Rattle.repo_course.specs.Cleaning.{Store}
+use Rattle.row_completion.proofs.Digesting.{told-same}
 use Rattle.row_tables.specs.Records.{Expected}
 use Rattle.store_check.specs.Checking.{Recorded}
 use Rattle.repo_run.specs.Begun.{StartFails}
@@ -16,7 +17,7 @@ says-nothing (Some expected) = tt
 pub not-begun : (records : Recorded) (blobs : Store) → StartFails records records blobs blobs NoMemory
 not-begun records blobs = record {
   cause = (refl, refl);
-  tables = refl;
+  tables = told-same blobs.shelf records.tables records.tables refl;
   refused = says-nothing records.loading;
   unread = λ none. absurd none;
   damaged = tt;

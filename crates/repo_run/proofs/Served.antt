@@ -27,7 +27,7 @@ use Rattle.course_laws.proofs.Told.{opening-told}
 use Rattle.repo_run.proofs.Alone.{core_alone, core_counted}
 use Rattle.repo_run.specs.FirstConnection.{Makes, ServesFirst, port_failed, none_left, one_served}
 use Rattle.store_check.specs.Checking.{Recorded}
-use Rattle.repo_run.specs.Begun.{Begins, HoldsRecords, IsFresh, LeavesRecords}
+use Rattle.repo_run.specs.Begun.{Begins, HoldsRecords, IsFresh}
 use Rattle.repo_run.specs.Replay.{Finishes, IsReplayed, Replays, Reports, ReportsFirst, counts}
 use Rattle.repo_run.proofs.Fresh.{fresh-state, fresh-store}
 use Rattle.repo_run.specs.Replay as replay
@@ -160,12 +160,12 @@ module _ (tells : Type 0) (settings : Settings) (form : IsSettings settings) whe
     abbrev Replayed : Type 0
     Replayed = Replays tells links settings old new status
 
-    -- a repository that was not asked has its records as they were, and its clock
+    -- a repository that was not asked has its records and its clock as they were when it began
     unasked : (cleared : Store) (core core' : Whole) → Begins settings old.records old.place.kit.blobs cleared old.clock core → core' ≡ core → new.clock ≡ core'.state.clock
-        → HoldsRecords core' new.records → LeavesRecords old.records new.records × (new.clock ≡ old.clock)
+        → HoldsRecords core' new.records → HoldsRecords core new.records × (new.clock ≡ old.clock)
     unasked cleared core core' begins same clock-is holds =
         let first = ap (λ (w : Whole). w.state) same ∙ begins.starts.state in
-        ((holds.0 ∙ ap (λ (w : Whole). w.tables) same ∙ begins.tables_are, holds.1 ∙ ap (λ (s : State). s.faults) first), clock-is ∙ ap (λ (s : State). s.clock) first)
+        (subst (λ (w : Whole). HoldsRecords w new.records) same holds, clock-is ∙ ap (λ (s : State). s.clock) first)
 
     -- what was served, with the line that tells it
     pub replays : (cleared : Store) (core core' : Whole) (ended : Option End) → Begins settings old.records old.place.kit.blobs cleared old.clock core

@@ -1,5 +1,6 @@
 -- The repository of a run: opened over what is recorded and stored, or not.
 use Rattle.std.specs.Prelude.{◌≡◌, ◌⊎◌, ℕ, List, [], Option, Some, None, IfSome}
+use Rattle.std.specs.Option.{option_map}
 use Rattle.outside.specs.Moments.{Moments}
 use Rattle.repo_config.specs.Form.{IsSettings}
 use Rattle.repo_model.specs.Restart.{blobs_named}
@@ -9,8 +10,9 @@ use Rattle.repo_model.specs.Tables.{Tables, no_tables}
 use Rattle.blob_audit.specs.Order.{all_rows}
 use Rattle.blob_audit.specs.declared.faults.AuditFault.TheVariants as audit
 use Rattle.repo_restart.specs.Leftovers.{ClearsFront}
-use Rattle.repo_restart.specs.Rows.{IsFirstDamaged}
-use Rattle.repo_core.specs.Start.{AreLoaded, Starts}
+use Rattle.blob_audit.specs.Damages.{IsFirstDamaged}
+use Rattle.row_completion.specs.Completion.{IsDigested, IsDigestedWhereTold}
+use Rattle.repo_core.specs.Start.{AreCompleted, AreLoaded, Starts}
 use Rattle.repo_core.specs.StartFaults.{HasStartCause, IsUnread, OnDamage, RefusesAs}
 use Rattle.repo_core.specs.Whole.{Whole, counting}
 use Rattle.repo_core.specs.declared.faults.StartFault.{StartFault}
@@ -19,28 +21,31 @@ use Rattle.repo_course.specs.Cleaning as cleaning
 use Rattle.run_lines.specs.Printing.{Output}
 use Rattle.store_check.specs.Checking.{Recorded, RefusesDamaged, RefusesStore}
 
--- The repository of these settings, which have their form, before its first call, over what is recorded and stored. A start leaves
--- the records' tables as they are, and removes of the store exactly what no row names. Where nothing is recorded or stored, it is the
--- repository that was never asked.
+-- The repository of these settings, which have their form, before its first call, over what is recorded and stored. A start gives the
+-- recorded rows the further digests that they lack, of the contents that it finds, and leaves the records' tables as they are else; it
+-- removes of the store exactly what no row names. Where nothing is recorded or stored, it is the repository that was never asked.
 pub record Begins (settings : Settings) (records : Recorded) (old new : cleaning.Store) (clock : Option Moments) (core : Whole) : Type 0 where
   pub form : IsSettings settings
   pub tables : Tables
-  pub loaded : AreLoaded records.tables records.loading tables
+  pub completed : AreCompleted records.tables records.loading old.shelf tables
   pub starts : Starts settings tables old.shelf new.shelf clock records.faults core.state
   pub settings_are : core.settings ≡ settings
-  pub tables_are : core.tables ≡ records.tables
+  pub tables_are : core.tables ≡ option_map (λ (t : Tables). tables) records.tables
+  pub digested : IsDigestedWhereTold old.shelf records.tables core.tables
   pub calls_are : core.calls ≡ 0
   pub still : new.faults ≡ old.faults
   pub opens : IfSome records.tables (λ t. t ≡ no_tables → IfSome old.shelf.blobs (λ them. them ≡ [] → core.state ≡ counting records.faults (opening settings clock)))
 
 -- A repository was not opened: the records or the store failed, which one of their counts tells, or these stand still and the
--- records are refused, as a load is told to refuse them, or a file is damaged, the first one, or memory is wanting.
+-- records are refused, as a load is told to refuse them, or a file is damaged, the first one, or memory is wanting. Some recorded rows
+-- that lacked their further digests may have been given them.
 pub record StartFails (records records' : Recorded) (old new : cleaning.Store) (fault : StartFault) : Type 0 where
   pub cause : HasStartCause records.faults records'.faults old.faults new.faults fault
-  pub tables : records'.tables ≡ records.tables
+  pub tables : IsDigestedWhereTold old.shelf records.tables records'.tables
   pub refused : IfSome records.loading (λ expected. RefusesAs expected fault)
   pub unread : IsUnread fault → records.tables ≡ None
-  pub damaged : OnDamage fault (λ damage. (t : Tables) × AreLoaded records.tables records.loading t × IsFirstDamaged old.shelf (all_rows t) damage × (new.shelf ≡ old.shelf))
+  pub damaged : OnDamage fault (λ damage. (loaded t : Tables) × AreLoaded records.tables records.loading loaded × IsDigested old.shelf loaded t × IsFirstDamaged old.shelf (all_rows t) damage
+      × (new.shelf ≡ old.shelf))
   -- what is left of the store: all of it, or it lacks the first ones of the blobs that no row names
   pub shelf : (new.shelf ≡ old.shelf) ⊎ ((t : Tables) × AreLoaded records.tables records.loading t × ClearsFront (blobs_named t) old.shelf new.shelf)
 

@@ -91,10 +91,10 @@ pub data Replays {X : Type 0} (tells : Type 0) (links : Telling X) (settings : S
       → new.place ≡ record old.place { kit = with_blobs blobs old.place.kit } → new.clock ≡ old.clock → RefusesStart fault old.out new.out status
       → Replays tells links settings old new status
   port_failed : (begun : Whole) (blobs : Store) (faults : ℕ) → Begins settings old.records old.place.kit.blobs blobs old.clock begun → Rose old.place.port_faults faults
-      → new.place ≡ record old.place { port_faults = faults; kit = with_blobs blobs old.place.kit } → LeavesRecords old.records new.records → new.clock ≡ old.clock
+      → new.place ≡ record old.place { port_faults = faults; kit = with_blobs blobs old.place.kit } → HoldsRecords begun new.records → new.clock ≡ old.clock
       → Prints input_line old.out new.out → status ≡ 6 → Replays tells links settings old new status
   none_left : (begun : Whole) (blobs : Store) → Begins settings old.records old.place.kit.blobs blobs old.clock begun → IsAtEnd old.place.left
-      → new.place ≡ record old.place { kit = with_blobs blobs old.place.kit } → LeavesRecords old.records new.records → new.clock ≡ old.clock
+      → new.place ≡ record old.place { kit = with_blobs blobs old.place.kit } → HoldsRecords begun new.records → new.clock ≡ old.clock
       → Reports Closed 0 old.out new.out status → Replays tells links settings old new status
   -- the first connection was served, and given back in this state
   one_served : (link link' : X) (left : Option (List X)) (kit : Kit) (ending : End) (calls : ℕ) → old.place.left ≡ in_front (link ∷ []) left

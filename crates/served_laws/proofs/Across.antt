@@ -2,13 +2,12 @@
 use Rattle.std.proofs.Common.{◌≡◌, ℕ, ◌+◌, ◌≤◌, List, [], ◌∷◌, ◌++◌, subst}
 use Rattle.std.specs.List.{AllByRecursion}
 use Rattle.mvn_digest.specs.Sides.{side_text}
-use Rattle.repo_model.specs.declared.print.Print.{Print}
 use Rattle.repo_model.specs.Data.{Blob, Row}
 use Rattle.repo_model.specs.History.{Entry, Legal, after, end}
 use Rattle.repo_model.specs.Settings.{Settings}
 use Rattle.repo_model.specs.State.{State, rows_of}
 use Rattle.repo_model.specs.Tables.{Tables}
-use Rattle.repo_laws.specs.Closed.{Answers, AnswersUpTo, GivesText, named}
+use Rattle.repo_laws.specs.Closed.{Answers, AnswersUpTo, named}
 use Rattle.repo_laws.specs.Holds.{Holds, InOrder, told, with_items}
 use Rattle.repo_laws.specs.InRange.{AnsweredOn, Follow, IsSameBlob, Run}
 use Rattle.repo_laws.specs.Sound.{AreNamedApart, IsSound}
@@ -50,7 +49,7 @@ module _ (settings : Settings) (apart : AreNamedApart settings.hosted) (tables :
       (kept, same, at-place settings until repo row.path kept before more e later.start (subst (AnswersUpTo until repo row.path kept settings later.start) parts up_to) was.in_time)
 
   pub shows-later : (tells : Type 0) (before more rest : List Entry) (e : Entry) (old : Outside) (turn : Seen) → turn.entries ≡ e ∷ more → later.entries ≡ before ++ e ∷ rest
-      → Turn settings tells turn.last turn.entries old turn.new turn.stop → ShowsWhatWasNamedIn settings earlier later.start before e old turn
+      → Turn settings tells turn.last turn.entries old turn.new turn.stop → ShowsWhatWasNamedIn settings earlier.start earlier.entries later.start before e old turn
   shows-later tells before more rest e old turn is parts turned repo row was =
       let (kept, same, answers) = answered-later before rest e repo row parts was in
       let turned_so : Turn settings tells turn.last (e ∷ more) old turn.new turn.stop = subst (λ (es : List Entry). Turn settings tells turn.last es old turn.new turn.stop) is turned in
@@ -61,9 +60,7 @@ module _ (settings : Settings) (apart : AreNamedApart settings.hosted) (tables :
             answered-then settings turn.last repo row.path (ShowsReply e.reply) (ShowsNamed s kept) (λ m from to ending seen. file-shown s kept e.reply m from to ending (answers.0 tried looks) seen) old turn.new turn.stop
             (turn-answered settings tells turn.last e more repo row.path tried looks old turn.new turn.stop turned_so)),
         (λ at tried side looks beside.
-            answered-then settings turn.last repo at (ShowsReply e.reply) (ShowsSide side row.blob)
-            (λ m from to ending seen.
-            text-shown (side_text side row.blob.print.digests) e.reply m from to ending
-            (subst (λ (p : Print). GivesText (side_text side p.digests) e.reply) same.1 (answers.1 at tried beside.0 side looks beside.1 beside.2)) seen)
+            answered-then settings turn.last repo at (ShowsReply e.reply) (ShowsSide side kept)
+            (λ m from to ending seen. text-shown (side_text side kept.print.digests) e.reply m from to ending (answers.1 at tried beside.0 side looks beside.1 beside.2) seen)
             old turn.new turn.stop (turn-answered settings tells turn.last e more repo at tried looks old turn.new turn.stop turned_so)),
       )

@@ -1,4 +1,3 @@
-mod Apart
 mod Woven
 mod Showing
 mod Runs

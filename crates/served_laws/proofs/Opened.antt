@@ -13,7 +13,7 @@ use Rattle.turn_seats.specs.Histories.{is_history}
 use Rattle.turn_seats.specs.Seated.{IsTurnOf, Sight}
 use Rattle.seat_laws.specs.Closing.{IsFit, SeesAll}
 use Rattle.seat_laws.proofs.Closing.{sees-all}
-use Rattle.served_laws.proofs.Apart.{named-apart}
+use Rattle.settings_laws.proofs.Apart.{named-apart}
 use Rattle.served_laws.proofs.Runs.{begun-sound}
 
 module _ {C R : Type 0} (sight : Sight Whole C R) (steps : Whole → C → R → Whole → Type 0)

@@ -3,6 +3,7 @@ use Rattle.std.proofs.Common.{◌≡◌, List, [], ◌∷◌, ◌++◌, map, Opt
 use Rattle.std.specs.Prelude.{IfSome}
 use Rattle.std.specs.Option.{option_map}
 use Rattle.std.proofs.lemmas.List.Sums.{fold-append}
+use Rattle.outside.specs.Blobs.{Shelf}
 use Rattle.outside.specs.Moments.{Moments}
 use Rattle.repo_model.specs.declared.item.Item.{Item}
 use Rattle.repo_model.specs.Effect.{recorded}
@@ -11,13 +12,17 @@ use Rattle.repo_model.specs.Settings.{Settings}
 use Rattle.repo_model.specs.State.{State}
 use Rattle.repo_model.specs.Tables.{Tables, item_on}
 use Rattle.repo_laws.specs.Holds.{InOrder, StandsFor, told, with_items}
+use Rattle.repo_laws.specs.InRange.{InRange, Completes}
 use Rattle.repo_laws.specs.Sound.{AreNamedApart, IsSound}
+use Rattle.repo_laws.proofs.Completing.{completed-order, completed-range}
 use Rattle.repo_laws.proofs.Closed.{closed}
 use Rattle.repo_laws.proofs.Starting.{started-stands}
 use Rattle.repo_laws.proofs.StartedSound.{started-sound}
 use Rattle.repo_laws.proofs.Untouched.{untouched}
 use Rattle.table_laws.proofs.Building.{built-order, built-range}
 use Rattle.row_tables.specs.Commits.{tables_with}
+use Rattle.row_completion.specs.Completion.{IsDigestedWhereTold}
+use Rattle.row_completion.proofs.Digesting.{completes-so}
 use Rattle.repo_core.specs.CoreTurn.{CoreTurn}
 use Rattle.repo_core.specs.Whole.{Whole}
 use Rattle.repo_course.specs.Cleaning.{Store}
@@ -27,8 +32,8 @@ use Rattle.repo_run.specs.FirstConnection.{Makes}
 use Rattle.turn_lock.specs.declared.view.Entry.{Entry as Call}
 use Rattle.turn_lock.specs.History as calls
 use Rattle.turn_seats.specs.Seated.{Sight, entry_of}
-use Rattle.served_laws.specs.Runs.{IsClosed, RecordsTables}
-use Rattle.served_laws.proofs.Apart.{named-apart}
+use Rattle.settings_laws.proofs.Apart.{named-apart}
+use Rattle.served_laws.specs.Runs.{CompletesTold, IsClosed, RecordsTables}
 
 same-tables : (tables : Option Tables) → tables ≡ option_map (λ t. with_items t []) tables
 same-tables None = refl
@@ -51,15 +56,33 @@ left-tables (e ∷ entries) old new (mid, turn, made) =
     ∙ ap (option_map (λ t. with_items t (told old.settings (after old.settings old.state e) entries))) turn.tables
     ∙ more-tables first (told old.settings (after old.settings old.state e) entries) old.tables
 
+-- tables that a start left, as they are told
+pub told-completed : (shelf : Shelf) (old new : Option Tables) → IsDigestedWhereTold shelf old new → CompletesTold old new
+told-completed shelf None new is = is
+told-completed shelf (Some old) new (whole, is, digested) = (whole, is, completes-so shelf old whole digested)
+
 module _ (settings : Settings) (records : Recorded) (old cleared : Store) (clock : Option Moments) (core : Whole) (begins : Begins settings records old cleared clock core) where
   apart : AreNamedApart settings.hosted
   apart = named-apart settings begins.form
 
+  -- the tables that were completed
+  completes : Completes begins.completed.0 begins.tables
+  completes = completes-so old.shelf begins.completed.0 begins.tables begins.completed.2
+
+  whole-order : InOrder begins.tables
+  whole-order = completed-order begins.completed.0 begins.tables completes (built-order begins.completed.0 begins.completed.1.built)
+
+  whole-range : InRange begins.tables
+  whole-range = completed-range begins.completed.0 begins.tables completes (built-range begins.completed.0 begins.completed.1.built)
+
+  -- what a start leaves of tables that are told
+  pub begun-completes : CompletesTold records.tables core.tables
+  begun-completes = told-completed old.shelf records.tables core.tables begins.digested
+
   pub begun-sound : IsSound settings core.state
   begun-sound =
       subst (IsSound settings) (sym begins.starts.state)
-      (started-sound settings begins.starts.tells begins.starts.stored clock records.faults begins.tables apart
-      (built-order begins.tables begins.loaded.built) (built-range begins.tables begins.loaded.built))
+      (started-sound settings begins.starts.tells begins.starts.stored clock records.faults begins.tables apart whole-order whole-range)
 
   pub begun-closed : (history : List Entry) → Legal settings core.state history → IsClosed settings core.state history
   begun-closed history legal = record {
@@ -71,22 +94,23 @@ module _ (settings : Settings) (records : Recorded) (old cleared : Store) (clock
   }
 
   pub begun-records : (records' : Recorded) (left : Whole) (history : List Entry) → Makes core history left → HoldsRecords left records'
-      → RecordsTables settings records records' (record { start = core.state; entries = history })
+      → RecordsTables settings records records' core.state history
   begun-records records' left history made holds before told_so =
-      let loaded : begins.tables ≡ before = subst (λ (x : Option Tables). IfSome x (λ them. begins.tables ≡ them)) told_so begins.loaded.told in
+      let loaded : begins.completed.0 ≡ before = subst (λ (x : Option Tables). IfSome x (λ them. begins.completed.0 ≡ them)) told_so begins.completed.1.told in
       let stands : StandsFor begins.tables core.state =
       subst (StandsFor begins.tables) (sym begins.starts.state)
-      (started-stands settings begins.starts.tells begins.starts.stored clock records.faults begins.tables
-      (built-order begins.tables begins.loaded.built) (built-range begins.tables begins.loaded.built)) in
-      let now : records'.tables ≡ Some (with_items before (told settings core.state history)) =
+      (started-stands settings begins.starts.tells begins.starts.stored clock records.faults begins.tables whole-order whole-range) in
+      let now : records'.tables ≡ Some (with_items begins.tables (told settings core.state history)) =
       holds.0 ∙ left-tables history core left made
       ∙ ap (λ (s : Settings). option_map (λ t. with_items t (told s core.state history)) core.tables) begins.settings_are
-      ∙ ap (option_map (λ t. with_items t (told settings core.state history))) (begins.tables_are ∙ told_so) in (
-        with_items before (told settings core.state history),
+      ∙ ap (option_map (λ t. with_items t (told settings core.state history))) (begins.tables_are ∙ ap (option_map (λ (t : Tables). begins.tables)) told_so) in (
+        with_items begins.tables (told settings core.state history),
         now,
         record {
-          order = subst InOrder loaded (built-order begins.tables begins.loaded.built);
-          stands = subst (λ (t : Tables). StandsFor t core.state) loaded stands;
+          whole = begins.tables;
+          order = subst InOrder loaded (built-order begins.completed.0 begins.completed.1.built);
+          completes = subst (λ (t : Tables). Completes t begins.tables) loaded completes;
+          stands = stands;
           left = refl;
         },
       )

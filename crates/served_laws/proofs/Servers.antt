@@ -15,9 +15,9 @@ use Rattle.turn_seats.specs.Seated.{entry_of}
 use Rattle.run_desks.specs.Seen.{Floor, Looks}
 use Rattle.desk_work.specs.Rules.{Rules}
 use Rattle.run_serve.specs.Serving.{ServesBy, not_started, refused, started, worked}
-use Rattle.served_laws.specs.Runs.{ServerShows, idle, served}
+use Rattle.served_laws.specs.Runs.{CompletesTold, ServerShows, idle, served}
 use Rattle.served_laws.specs.Shown.{DesksShow}
-use Rattle.served_laws.proofs.Runs.{begun-closed, begun-records, made}
+use Rattle.served_laws.proofs.Runs.{begun-closed, begun-completes, begun-records, made, told-completed}
 use Rattle.served_laws.proofs.Showing.{desks-show}
 
 -- where only the first desk is another, and its port is as it was, all ports are
@@ -44,11 +44,11 @@ module _ {L P D C R : Type 0} (looks : Looks L P D) (rules : Rules Whole C R)
       let desks = old.place.desks in
       let back = new.place.desks in
       let first = first-of _ desks back only in
-      idle (same-ports looks.port _ (λ one other is. is.0) desks back only) first.2.2.tables
+      idle (same-ports looks.port _ (λ one other is. is.0) desks back only) (told-completed (looks.kit first.0).blobs.shelf old.records.tables new.records.tables first.2.2.tables)
   server-shows old new status (started core begun only (refused is holds same_clock told status_is)) =
       let desks = old.place.desks in
       let first = first-of _ desks begun only in
-      idle (ap (λ (f : Floor (List D)). map looks.port f.desks) is ∙ same-ports looks.port _ (λ one other so. so.0) desks begun only) (holds.0 ∙ first.2.2.tables_are)
+      idle (ap (λ (f : Floor (List D)). map looks.port f.desks) is ∙ same-ports looks.port _ (λ one other so. so.0) desks begun only) (subst (CompletesTold old.records.tables) (sym holds.0) (begun-completes settings old.records _ _ old.clock core first.2.2))
   server-shows old new status (started core begun only (worked turns seat left calls failed opens works holds same_clock told)) =
       let first = first-of _ old.place.desks begun only in
       let begins = first.2.2 in

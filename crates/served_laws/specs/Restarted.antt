@@ -6,7 +6,7 @@ use Rattle.repo_model.specs.Data.{Blob, Row}
 use Rattle.repo_model.specs.History.{Entry, end}
 use Rattle.repo_model.specs.Settings.{Settings}
 use Rattle.repo_model.specs.State.{State}
-use Rattle.repo_laws.specs.InRange.{BeginsFrom, IsSameBlob, Run}
+use Rattle.repo_laws.specs.InRange.{BeginsFrom, IsSameBlob}
 use Rattle.repo_core.specs.Whole.{Whole}
 use Rattle.repo_course.specs.Serving.{Outside}
 use Rattle.closed_laws.specs.Answered.{ReadShows}
@@ -19,15 +19,16 @@ use Rattle.run_serve.specs.Serving.{OtherBlobs}
 use Rattle.served_laws.specs.Runs.{IsClosed}
 use Rattle.served_laws.specs.Shown.{DesksShow}
 
--- this entry of a turn, behind those of a later run, looks at a file that was named in time in the earlier one, or at a side file of
--- it: then the turn shows a file with the same number, length and digests
-abbrev pub ShowsWhatWasNamedIn : Settings → Run → State → List Entry → Entry → Outside → Seen → Type 0
-ShowsWhatWasNamedIn settings earlier start before e old turn =
-    (repo : List ℕ) (row : Row) → WasNamed settings earlier.start earlier.entries repo row e.moment → (kept : Blob) × IsSameBlob kept row.blob
+-- this entry of a turn, behind those of a later run, looks at a file that was named in time in an earlier history, or at a side file of
+-- it: then the turn shows a file with the same number, length and digests, or with its further digests if it had none; or what the side
+-- file of that one says
+abbrev pub ShowsWhatWasNamedIn : Settings → State → List Entry → State → List Entry → Entry → Outside → Seen → Type 0
+ShowsWhatWasNamedIn settings first earlier start before e old turn =
+    (repo : List ℕ) (row : Row) → WasNamed settings first earlier repo row e.moment → (kept : Blob) × IsSameBlob kept row.blob
     × ((tried : List ℕ) → e.command ≡ look repo row.path tried →
     ReadShows settings turn.last repo row.path (ShowsNamed (end settings start before) kept) old turn.new turn.stop)
     × ((at tried : List ℕ) (side : Side) → e.command ≡ look repo at tried → IsSideOf row.path side at →
-    ReadShows settings turn.last repo at (ShowsSide side row.blob) old turn.new turn.stop)
+    ReadShows settings turn.last repo at (ShowsSide side kept) old turn.new turn.stop)
 
 -- Of two servers under the same settings, the later one over the tables that the earlier one left, one was handed no connection; or
 -- each has its one history, and where no entry of the later one is earlier than the end of the other, each connection of each of its
@@ -42,5 +43,5 @@ pub data RestartShows {L P D : Type 0} (looks : Looks L P D) (settings : Setting
       → DesksShow looks (ShowsWhatWasNamed settings core.state) settings history begun new.place.desks
       → DesksShow looks (ShowsWhatWasNamed settings later_core.state) settings later_history later_begun later_new.place.desks
       → (BeginsFrom (end settings core.state history).last later_history
-      → DesksShow looks (ShowsWhatWasNamedIn settings (record { start = core.state; entries = history }) later_core.state) settings later_history later_begun later_new.place.desks)
+      → DesksShow looks (ShowsWhatWasNamedIn settings core.state history later_core.state) settings later_history later_begun later_new.place.desks)
       → RestartShows looks settings old new later_old later_new

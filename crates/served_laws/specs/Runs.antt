@@ -1,12 +1,12 @@
 -- A run by its one history: what it was opened over, what its history keeps, and what its connections show.
-use Rattle.std.specs.Prelude.{◌≡◌, List, map, Some}
+use Rattle.std.specs.Prelude.{◌≡◌, List, map, Option, Some, None}
 use Rattle.repo_model.specs.History.{Entry, Legal}
 use Rattle.repo_model.specs.Settings.{Settings}
 use Rattle.repo_model.specs.State.{State}
 use Rattle.repo_model.specs.Tables.{Tables}
 use Rattle.repo_laws.specs.Closed.{Closed, Untouched}
 use Rattle.repo_laws.specs.Holds.{InOrder, StandsFor, told, with_items}
-use Rattle.repo_laws.specs.InRange.{Run}
+use Rattle.repo_laws.specs.InRange.{Completes}
 use Rattle.repo_laws.specs.Sound.{AreNamedApart, IsSound}
 use Rattle.repo_core.specs.Whole.{Whole}
 use Rattle.store_check.specs.Checking.{Recorded}
@@ -26,25 +26,33 @@ pub record IsClosed (settings : Settings) (start : State) (history : List Entry)
   pub closed : Closed settings start history
   pub untouched : Untouched settings start history
 
--- what such a run did to tables: it began in a state that stands for them, and left them with what its history recorded
-pub record IsRecorded (settings : Settings) (before after : Tables) (run : Run) : Type 0 where
+-- what such a run did to tables: its start completed them, it began in a state that stands for them then, and left them with what its
+-- history recorded
+pub record IsRecorded (settings : Settings) (before after : Tables) (start : State) (history : List Entry) : Type 0 where
+  pub whole : Tables
   pub order : InOrder before
-  pub stands : StandsFor before run.start
-  pub left : after ≡ with_items before (told settings run.start run.entries)
+  pub completes : Completes before whole
+  pub stands : StandsFor whole start
+  pub left : after ≡ with_items whole (told settings start history)
 
 -- so it did to those of its records, where these tell them
-abbrev pub RecordsTables : Settings → Recorded → Recorded → Run → Type 0
-RecordsTables settings records records' run =
-    (before : Tables) → records.tables ≡ Some before → (after : Tables) × (records'.tables ≡ Some after) × IsRecorded settings before after run
+abbrev pub RecordsTables : Settings → Recorded → Recorded → State → List Entry → Type 0
+RecordsTables settings records records' start history =
+    (before : Tables) → records.tables ≡ Some before → (after : Tables) × (records'.tables ≡ Some after) × IsRecorded settings before after start history
 
--- Of a server under these settings either no connection was handed out and no table changed; or its repository was opened over
+-- the tables that are told are the same, but for further digests that rows lacked
+abbrev pub CompletesTold : Option Tables → Option Tables → Type 0
+CompletesTold None new = new ≡ None
+CompletesTold (Some old) new = (whole : Tables) × (new ≡ Some whole) × Completes old whole
+
+-- Of a server under these settings either no connection was handed out and the tables are the same, but for further digests; or its repository was opened over
 -- the records and the first desk's blobs, and has one history, in which each connection of each desk shows every file that a
 -- document named before, and in time.
 pub data ServerShows {L P D : Type 0} (looks : Looks L P D) (settings : Settings) (old new : View (Floor (List D))) : Type 0 where
-  idle : map looks.port new.place.desks ≡ map looks.port old.place.desks → new.records.tables ≡ old.records.tables → ServerShows looks settings old new
+  idle : map looks.port new.place.desks ≡ map looks.port old.place.desks → CompletesTold old.records.tables new.records.tables → ServerShows looks settings old new
   served : (core : Whole) (begun : List D) (history : List Entry)
       → FirstOnly (OtherBlobs looks (λ blobs blobs'. Begins settings old.records blobs blobs' old.clock core)) old.place.desks begun
       → IsClosed settings core.state history
       → DesksShow looks (ShowsWhatWasNamed settings core.state) settings history begun new.place.desks
-      → RecordsTables settings old.records new.records (record { start = core.state; entries = history })
+      → RecordsTables settings old.records new.records core.state history
       → ServerShows looks settings old new

@@ -48,24 +48,24 @@ pub fn replays_serve_named_files<H: Held>()
         IsClosed settings replayed.begun.state replayed.entries
         × ConnectionShows (ShowsWhatWasNamed settings replayed.begun.state) settings (AllTell H.bytes) replayed.entries replayed.entries
         (outside_of (with_store replayed.cleared old.place)) (outside_with replayed.held new.place) ending
-        × RecordsTables settings old.records new.records (record { start = replayed.begun.state; entries = replayed.entries }) }
+        × RecordsTables settings old.records new.records replayed.begun.state replayed.entries }
 {}
 
 /// Across restarts: what a document named in one run under these settings, each turn of each desk's connection of a later run shows
 /// that looks there in time; so does each turn of a connection that is served alone. The tables that the earlier run left are those
-/// over which the next one begins, each next run begins no earlier than the one before it ended, and what was being committed at a
+/// over which the next one begins, once its start has completed them, each next run begins no earlier than the one before it ended, and what was being committed at a
 /// stop counts as an entry of its run, or as none.
 pub fn later_runs_serve_named_files<P: Port, B: Blobs>()
     ensures desks { (settings : Settings) (tables : Tables) (earlier : Run) (between : List Run) (later : Run) (desks back : List (Desk P B P.Link B.Held B.Pen)) →
         AreNamedApart settings.hosted → IsSound settings earlier.start → InOrder tables → Holds tables earlier.start → Legal settings earlier.start earlier.entries →
         Follow settings (with_items tables (told settings earlier.start earlier.entries)) (end settings earlier.start earlier.entries).last (between ++ later ∷ []) →
         DesksShow (looks ⟦<P as Port>⟧ ⟦<P::Link as Tells>⟧ ⟦<B as Blobs>⟧ ⟦<B::Held as Held>⟧) (ShowsWhatWasNamed settings later.start) settings later.entries desks back →
-        DesksShow (looks ⟦<P as Port>⟧ ⟦<P::Link as Tells>⟧ ⟦<B as Blobs>⟧ ⟦<B::Held as Held>⟧) (ShowsWhatWasNamedIn settings earlier later.start) settings later.entries desks back }
+        DesksShow (looks ⟦<P as Port>⟧ ⟦<P::Link as Tells>⟧ ⟦<B as Blobs>⟧ ⟦<B::Held as Held>⟧) (ShowsWhatWasNamedIn settings earlier.start earlier.entries later.start) settings later.entries desks back }
     ensures alone { (settings : Settings) (tables : Tables) (earlier : Run) (between : List Run) (later : Run) (old new : Outside) (ending : End) →
         AreNamedApart settings.hosted → IsSound settings earlier.start → InOrder tables → Holds tables earlier.start → Legal settings earlier.start earlier.entries →
         Follow settings (with_items tables (told settings earlier.start earlier.entries)) (end settings earlier.start earlier.entries).last (between ++ later ∷ []) →
         ConnectionShows (ShowsWhatWasNamed settings later.start) settings (AllTell B.Held.bytes) later.entries later.entries old new ending →
-        ConnectionShows (ShowsWhatWasNamedIn settings earlier later.start) settings (AllTell B.Held.bytes) later.entries later.entries old new ending }
+        ConnectionShows (ShowsWhatWasNamedIn settings earlier.start earlier.entries later.start) settings (AllTell B.Held.bytes) later.entries later.entries old new ending }
 {}
 
 /// So of two servers under the same settings, the later one over the records that the earlier one gave back, where these tell their

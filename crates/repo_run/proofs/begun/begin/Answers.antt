@@ -16,10 +16,11 @@ returns-in-Ok-start-clause-ok g c =
     (record {
       form = subst IsSettings (sym c.in-Ok.ensures) c.form.ensures;
       tables = s.state.0;
-      loaded = s.state.1;
-      starts = s.state.2;
+      completed = s.state.1;
+      starts = s.state.3;
       settings_are = s.settings;
-      tables_are = s.tables;
+      tables_are = s.state.2;
+      digested = s.tables;
       calls_are = s.calls;
       still = s.still;
       opens = s.opening;
