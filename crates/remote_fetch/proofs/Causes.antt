@@ -3,6 +3,7 @@ use Rattle.std.proofs.Common.{◌≡◌, ℕ, ◌≤◌, true, false, List, [], 
 use Rattle.std.specs.Prelude.{nat_lt, if◌then◌else◌, bytes_eq}
 use Rattle.std.proofs.lemmas.Bool.{ltb-false}
 use Rattle.std.proofs.lemmas.Slice.Eq.{bytes_eq-Decides}
+use Rattle.mvn_coords.specs.Path.{suffix_of}
 use Rattle.mvn_coords.specs.declared.fault.Side.{Side}
 use Rattle.mvn_coords.specs.declared.fault.Side.TheVariants as side
 use Rattle.mvn_digest.specs.declared.digests.Digest.{Digest}
@@ -23,7 +24,7 @@ use Rattle.remote_fetch.specs.declared.fetching.Checked.{Checked}
 use Rattle.remote_fetch.specs.declared.contents.Content.{Content}
 use Rattle.remote_fetch.specs.declared.contents.Content.TheVariants as content
 use Rattle.remote_fetch.specs.Exchanged.{IsAsked}
-use Rattle.remote_fetch.specs.Fetching.{IsByMd5, AfterSha1, IsSided, AfterBody, IsChecked, IsFetched, body_in, compared, digest_of, document_of, longest_side, longest_text, said_of, suffix_of, with_content}
+use Rattle.remote_fetch.specs.Fetching.{IsByMd5, AfterSha1, IsSided, AfterBody, IsChecked, IsFetched, body_in, compared, digest_of, document_of, longest_side, longest_text, said_of, with_content}
 use Rattle.remote_fetch.specs.Got.{HasFetchCause, IsAgreed, IsGot}
 use Rattle.remote_fetch.proofs.Fair.{IsFair, answer-fair}
 

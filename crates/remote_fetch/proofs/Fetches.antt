@@ -1,6 +1,7 @@
 -- What a fetch comes to, by the exchanges that it made.
 use native.Mathlib.Omega.{arith}
 use Rattle.std.proofs.Common.{◌≡◌, ℕ, ◌+◌, ◌≤◌, List, [], ◌∷◌, ◌++◌, length, Some, Result, Ok, Err, refl, sym, ◌∙◌, ap, subst}
+use Rattle.mvn_coords.specs.Path.{suffix_of}
 use Rattle.mvn_coords.specs.declared.fault.Side.{Side}
 use Rattle.mvn_coords.specs.declared.fault.Side.TheVariants as side
 use Rattle.outside.specs.Told.{behind}
@@ -15,7 +16,7 @@ use Rattle.remote_fetch.specs.declared.replies.Reply.TheVariants.{Body, Gone, Re
 use Rattle.remote_fetch.specs.declared.fetching.Checked.{Checked}
 use Rattle.remote_fetch.specs.declared.contents.Content.{Content}
 use Rattle.remote_fetch.specs.Exchanged.{IsAsked, IsReply, asked_for}
-use Rattle.remote_fetch.specs.Fetching.{IsByMd5, AfterSha1, AfterBody, IsChecked, IsFetched, body_in, said_of, suffix_of, longest_side, with_content}
+use Rattle.remote_fetch.specs.Fetching.{IsByMd5, AfterSha1, AfterBody, IsChecked, IsFetched, body_in, said_of, longest_side, with_content}
 use Rattle.remote_fetch.proofs.Reaching.{behind-twice, behind-none}
 use Rattle.remote_fetch.proofs.Unique.{answer-unique}
 

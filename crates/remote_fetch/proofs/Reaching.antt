@@ -1,6 +1,7 @@
 -- How far exchanges reach that did not fail.
 use native.Mathlib.Omega.{arith}
 use Rattle.std.proofs.Common.{◌≡◌, ◌⊎◌, ℕ, ◌+◌, ◌≤◌, inl, inr, List, [], ◌∷◌, ◌++◌, length, Option, Some, None, Result, Ok, Err, OnErr, refl, sym, ◌∙◌, ap, subst, length-append}
+use Rattle.mvn_coords.specs.Path.{suffix_of}
 use Rattle.mvn_coords.specs.declared.fault.Side.{Side}
 use Rattle.mvn_coords.specs.declared.fault.Side.TheVariants as side
 use Rattle.outside.specs.Told.{behind, in_front}
@@ -16,7 +17,7 @@ use Rattle.fetch_plan.specs.declared.Outcome.{Outcome}
 use Rattle.fetch_plan.specs.declared.Outcome.TheVariants as came
 use Rattle.remote_fetch.specs.declared.fetching.Checked.{Checked}
 use Rattle.remote_fetch.specs.Exchanged.{IsAsked, Reaches, asked_for}
-use Rattle.remote_fetch.specs.Fetching.{HasGot, IsByMd5, AfterSha1, IsSided, IsChecked, body_in, said_of, suffix_of, longest_side}
+use Rattle.remote_fetch.specs.Fetching.{HasGot, IsByMd5, AfterSha1, IsSided, IsChecked, body_in, said_of, longest_side}
 
 -- ---- what is told
 append-assoc : {X : Type 0} (xs ys zs : List X) → (xs ++ ys) ++ zs ≡ xs ++ (ys ++ zs)

@@ -1,5 +1,6 @@
 -- A fetch: the file or document first, and then a side file, each by one exchange.
-use Rattle.std.specs.Prelude.{◌≡◌, ℕ, nat_lt, if◌then◌else◌, bytes_eq, List, [], length, Option, Some, None, Result, Ok, Err, codes}
+use Rattle.std.specs.Prelude.{◌≡◌, ℕ, nat_lt, if◌then◌else◌, bytes_eq, List, [], length, Option, Some, None, Result, Ok, Err}
+use Rattle.mvn_coords.specs.Path.{suffix_of}
 use Rattle.mvn_coords.specs.declared.fault.Side.{Side}
 use Rattle.mvn_coords.specs.declared.fault.Side.TheVariants as side
 use Rattle.mvn_digest.specs.declared.digests.Digest.{Digest}
@@ -25,14 +26,12 @@ use Rattle.remote_fetch.specs.Exchanged.{IsAsked}
 abbrev pub longest_side : ℕ
 longest_side = 1024
 
-abbrev pub suffix_of : Side → List ℕ
-suffix_of side.Sha1 = codes ".sha1"
-suffix_of side.Md5 = codes ".md5"
-
 -- the digest of a side that has these bytes
 abbrev pub digest_of : Side → List ℕ → Digest
 digest_of side.Sha1 bytes = digest.Sha1 bytes
 digest_of side.Md5 bytes = digest.Md5 bytes
+digest_of side.Sha256 bytes = digest.Sha256 bytes
+digest_of side.Sha512 bytes = digest.Sha512 bytes
 
 -- what the digest that is said, if there is one, makes of bytes
 abbrev pub compared : List ℕ → Side → Option (List ℕ) → Outcome Checked

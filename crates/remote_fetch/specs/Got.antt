@@ -1,5 +1,6 @@
 -- What a fetch that got something has from the remote, and when a fetch is a fault.
 use Rattle.std.specs.Prelude.{◌≡◌, ◌≤◌, ℕ, List, [], length, Some, None, Ok}
+use Rattle.mvn_coords.specs.Path.{suffix_of}
 use Rattle.mvn_coords.specs.declared.fault.Side.{Side}
 use Rattle.mvn_digest.specs.Digests.{digests_of}
 use Rattle.mvn_digest.specs.Sides.{side_of, read_side}
@@ -15,7 +16,7 @@ use Rattle.remote_fetch.specs.declared.fetching.Checked.{Checked}
 use Rattle.remote_fetch.specs.declared.contents.Content.{Content}
 use Rattle.remote_fetch.specs.declared.contents.Content.TheVariants as content
 use Rattle.remote_fetch.specs.Exchanged.{IsAsked}
-use Rattle.remote_fetch.specs.Fetching.{longest_side, longest_text, suffix_of}
+use Rattle.remote_fetch.specs.Fetching.{longest_side, longest_text}
 
 -- a fault has raised the count of faults, and any other outcome leaves it
 abbrev pub HasFetchCause : {G : Type 0} → Outcome G → ℕ → ℕ → Type 0

@@ -14,7 +14,7 @@ use outside_remote::Remote;
 use std::alloc::{AllocError, Global};
 use texts::Bytes;
 
-/// Bytes of which a side file of the remote says the digest, and both their digests.
+/// Bytes of which a side file of the remote says the digest, and all their digests.
 #[derive(Drop)]
 pub struct Checked {
     pub bytes: Bytes,

@@ -1,7 +1,8 @@
+use Rattle.mvn_coords.specs.Path.{suffix_of}
 use Rattle.mvn_coords.specs.declared.fault.Side.TheVariants as side
 use Rattle.remote_fetch.specs.declared.replies.Reply.TheVariants.{Gone}
 use Rattle.remote_fetch.specs.Exchanged.{IsAsked}
-use Rattle.remote_fetch.specs.Fetching.{longest_side, suffix_of}
+use Rattle.remote_fetch.specs.Fetching.{longest_side}
 use Rattle.remote_fetch.proofs.Reaching.{err-then, reaches-behind}
 use Rattle.remote_fetch.proofs.fetching.by_sides.Goals as goal
 
