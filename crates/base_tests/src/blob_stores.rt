@@ -2,7 +2,7 @@
 ghost use Rattle.std.specs.Prelude.{◌≡◌};
 ghost use Rattle.mvn_digest.specs.Digests.{digests_of as digests_in};
 
-use mvn_digest::{Digests, Hashes};
+use mvn_digest::{Digests, Hashes, Known};
 use outside::{BlobFault, Blobs, CheckFault, Checked, Parcel, adopt_checked, read_checked};
 use outside_memory::{FaultScript, MemBlobs, WrongBlobs};
 use outside_system::FolderBlobs;
@@ -172,7 +172,7 @@ fn finds(alloc: Global, bytes: &[u8]) -> Result<bool, CheckFault> {
     blobs.give(1, bytes).map_err(BlobFault::from)?;
     let print = Some((bytes.len() as u64, digests_of(bytes)));
     let read = found(read_checked(&mut blobs, &parcel)) == print;
-    let adopted = found(adopt_checked(&mut blobs, 1, 3, digests_of(b"abc"))) == print;
+    let adopted = found(adopt_checked(&mut blobs, 1, 3, &digests_of(b"abc").known())) == print;
     Ok(read && adopted && blobs.faults() == 0)
 }
 
@@ -189,8 +189,8 @@ fn other_bytes_are_found(rt: HostRuntime) -> Result<(), Fail> {
 
 // What stands under 1 is taken into use as `abc` and read, and nothing stands under 2.
 fn adopts_abc<B: Blobs + Drop>(mut blobs: B) -> Result<bool, CheckFault> {
-    let none = adopt_checked(&mut blobs, 2, 3, digests_of(b"abc"))?.is_none();
-    let Some(parcel) = adopt_checked(&mut blobs, 1, 3, digests_of(b"abc"))? else {
+    let none = adopt_checked(&mut blobs, 2, 3, &digests_of(b"abc").known())?.is_none();
+    let Some(parcel) = adopt_checked(&mut blobs, 1, 3, &digests_of(b"abc").known())? else {
         return Ok(false);
     };
     let bytes = Checked { blobs }.read(&parcel)?;
@@ -208,6 +208,47 @@ fn memory_gives_abc(alloc: Global) -> Result<bool, CheckFault> {
     let mut blobs = MemBlobs::new(alloc, FaultScript::none(alloc));
     blobs.store(1, b"abc")?;
     adopts_abc(blobs)
+}
+
+// What stands under 1 is adopted as `abc`, where this is known of it, with all its digests.
+fn is_adopted(alloc: Global, known: &Known) -> Result<bool, CheckFault> {
+    let mut blobs = MemBlobs::new(alloc, FaultScript::none(alloc));
+    blobs.store(1, b"abc")?;
+    match adopt_checked(&mut blobs, 1, 3, known) {
+        Ok(Some(parcel)) => Ok(parcel.digests == digests_of(b"abc")),
+        Err(CheckFault::Differs { .. }) => Ok(false),
+        Ok(None) => Ok(false),
+        Err(fault) => Err(fault),
+    }
+}
+
+// SHA-256 and SHA-512 are compared where they are known, and may be unknown.
+#[test]
+fn each_known_digest_is_compared(rt: HostRuntime) -> Result<(), Fail> {
+    let abc = digests_of(b"abc");
+    let other = digests_of(b"abd");
+    let mut sha256 = abc;
+    let digest = other.sha256;
+    sha256.sha256 = digest;
+    let mut sha512 = abc;
+    let digest = other.sha512;
+    sha512.sha512 = digest;
+    let mut unknown = abc.known();
+    unknown.further = None;
+    let mut md5 = unknown;
+    let digest = other.md5;
+    md5.md5 = digest;
+    for (known, adopted) in [
+        (abc.known(), true),
+        (unknown, true),
+        (sha256.known(), false),
+        (sha512.known(), false),
+        (md5, false),
+    ] {
+        let found = is_adopted(rt.alloc(), &known)?;
+        assert_eq!(rt; found, adopted);
+    }
+    Ok(())
 }
 
 #[test]

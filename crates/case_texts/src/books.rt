@@ -120,19 +120,29 @@ impl Book {
         Ok(None)
     }
 
-    /// Adds what an entry says: texts by their names, and behind them its own lines of text.
-    pub(crate) fn push_parts(&self, all: &mut Vec<u8>, entry: &Entry) -> Result<(), CaseFault> {
+    /// Adds texts by their names, and lines of text behind them.
+    pub(crate) fn push_texts(
+        &self,
+        all: &mut Vec<u8>,
+        parts: &str,
+        text: &str,
+    ) -> Result<(), CaseFault> {
         let mut times: Option<Times> = None;
-        for word in entry.rest.split_whitespace() {
+        for word in parts.split_whitespace() {
             if times.is_some() {
                 return Err(CaseFault::Text);
             }
             times = self.push_word(all, word)?;
         }
         match times {
-            Some(_) if entry.text.is_empty() => Err(CaseFault::Text),
-            Some(times) => push_times(all, entry.text.as_str(), times),
-            None => push_times(all, entry.text.as_str(), ONCE),
+            Some(_) if text.is_empty() => Err(CaseFault::Text),
+            Some(times) => push_times(all, text, times),
+            None => push_times(all, text, ONCE),
         }
+    }
+
+    /// Adds what an entry says: texts by their names, and behind them its own lines of text.
+    pub(crate) fn push_parts(&self, all: &mut Vec<u8>, entry: &Entry) -> Result<(), CaseFault> {
+        self.push_texts(all, entry.rest.as_str(), entry.text.as_str())
     }
 }

@@ -95,6 +95,9 @@ pub struct Case {
     pub moment: u64,
     pub step: u64,
     pub stored: Vec<Stored>,
+    /// What the first blob gives when it is read, in place of what is stored; no byte for that. Where there is any, no run of the
+    /// program is made, and a core over such blobs serves the connection.
+    pub given: Vec<u8>,
     /// The input of an earlier run over the same records and blobs; no byte for none.
     pub before: Vec<u8>,
     /// The blobs that are gone behind it.
@@ -123,6 +126,7 @@ impl Case {
             moment: MOMENT,
             step: 0,
             stored: Vec::new(alloc),
+            given: Vec::new(alloc),
             before: Vec::new(alloc),
             lost: Vec::new(alloc),
             script: Script::PLAIN,

@@ -126,6 +126,7 @@ impl Case {
             && self.earlier.is_empty()
             && self.before.is_empty()
             && self.stored.is_empty()
+            && self.given.is_empty()
             && self.last.input.len() <= Case::MOST_INPUT
     }
 

@@ -201,6 +201,7 @@ fn set(
         Key::Send => book.push_parts(&mut case.last.input, entry),
         Key::Answer => book.push_parts(&mut case.last.answers, entry),
         Key::Before => book.push_parts(&mut case.before, entry),
+        Key::Given => book.push_parts(&mut case.given, entry),
         Key::Settings => {
             case.settings.clear();
             book.push_parts(&mut case.settings, entry)

@@ -1,9 +1,12 @@
 // Connections one after another over one core. The functions over any records, clock and blobs say nothing of what they give, so
 // that those that call them at the forms in memory carry no facts.
-use crate::objects::{MemDesk, MemPort, Store, clock_of, listed, port_of, store_of, went_of};
+use crate::objects::{
+    GivenDesk, MemDesk, MemPort, Store, clock_of, failing_at, give, listed, port_of, records_of,
+    store_of, went_of, written_on,
+};
 use case_texts::{Case, Link, Went};
 use outside::{Blobs, Clock, Port};
-use outside_memory::{MemBlobs, MemHeld, ScriptClock};
+use outside_memory::{MemBlobs, MemHeld, ScriptClock, WrongBlobs, WrongHeld};
 use repo_config::{Settings, read};
 use repo_core::Core;
 use repo_course::End;
@@ -13,6 +16,8 @@ use run_desks::Desk;
 use std::alloc::{AllocError, Global};
 
 type MemCore = Core<MemRecords, ScriptClock, MemHeld>;
+
+type GivenCore = Core<MemRecords, ScriptClock, WrongHeld>;
 
 /// A core of these settings over what is recorded and stored. Nothing where it does not start.
 fn begun<K: Records + Drop, B: Blobs, C: Clock + Drop>(
@@ -95,4 +100,53 @@ impl Kept {
         let (went, blobs) = went_of(alloc, desk, line, 0)?;
         Ok((Kept { core, blobs }, went))
     }
+}
+
+/// A core that runs, and its blobs, of which the first gives other bytes than were stored.
+#[derive(Drop)]
+pub(crate) struct Given {
+    core: GivenCore,
+    blobs: WrongBlobs,
+}
+
+impl Given {
+    /// A core over nothing. Nothing where it does not start.
+    pub(crate) fn new(alloc: Global, case: &Case) -> Result<Option<Given>, AllocError> {
+        let mut blobs = WrongBlobs::new(alloc, failing_at(alloc, case.script.blobs)?);
+        let records: MemRecords = records_of(alloc, case.script)?;
+        let Some(settings) = read(alloc, case.settings.as_slice()).ok() else {
+            return Ok(None);
+        };
+        let clock: ScriptClock = clock_of(alloc, case);
+        match begun(alloc, &settings, records, &mut blobs, clock) {
+            Some(core) => Ok(Some(Given { core, blobs })),
+            None => Ok(None),
+        }
+    }
+
+    /// Serves the last connection of a case, its input in pieces of so many bytes.
+    pub(crate) fn go(self, alloc: Global, case: &Case, most: usize) -> Result<Went, AllocError> {
+        let Given {
+            mut core,
+            mut blobs,
+        } = self;
+        give(&mut blobs, case);
+        let port: MemPort = port_of(alloc, case.last.input.as_slice(), case.script, most)?;
+        let mut desk: GivenDesk = Desk { port, blobs };
+        let end: Option<End> = serve(alloc, &mut desk, &mut core)?;
+        let line: Vec<u8> = line_of(alloc, core.calls(), end)?;
+        given_went(alloc, desk, line)
+    }
+}
+
+/// What its desk came to.
+fn given_went(alloc: Global, desk: GivenDesk, line: Vec<u8>) -> Result<Went, AllocError> {
+    let answers: Vec<u8> = Vec::from_slice(alloc, written_on(&desk.port))?;
+    Ok(Went {
+        answers,
+        line,
+        status: 0,
+        blob_faults: desk.blobs.faults(),
+        blobs: None,
+    })
 }

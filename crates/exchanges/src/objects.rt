@@ -3,7 +3,9 @@ ghost use Rattle.std.specs.Prelude.{◌<◌, IfOk, vec_len};
 
 use case_texts::{Case, Script, Stored, Went};
 use outside::{Blobs, Duplex};
-use outside_memory::{FaultScript, MemBlobs, MemLink, MemSink, MemSource, ScriptClock, ScriptPort};
+use outside_memory::{
+    FaultScript, MemBlobs, MemLink, MemSink, MemSource, ScriptClock, ScriptPort, WrongBlobs,
+};
 use outside_pace::ScriptPace;
 use row_tables::MemRecords;
 use run_desks::{Cleaner, Desk};
@@ -13,6 +15,8 @@ pub(crate) type MemPort = ScriptPort<MemLink>;
 
 pub(crate) type MemDesk = Desk<MemPort, MemBlobs>;
 
+pub(crate) type GivenDesk = Desk<MemPort, WrongBlobs>;
+
 pub(crate) type MemCleaner = Cleaner<MemBlobs, ScriptPace>;
 
 /// The number of the call that fails, if there is one.
@@ -21,7 +25,7 @@ fn numbers_of(alloc: Global, call: Option<u64>) -> Result<Vec<u64>, AllocError> 
 }
 
 /// The call with this number fails, if there is one.
-fn failing_at(alloc: Global, call: Option<u64>) -> Result<FaultScript, AllocError> {
+pub(crate) fn failing_at(alloc: Global, call: Option<u64>) -> Result<FaultScript, AllocError> {
     Ok(FaultScript::failing_at(numbers_of(alloc, call)?))
 }
 
@@ -76,9 +80,9 @@ pub(crate) fn desks_of(
     Ok(vec![in alloc; Desk { port, blobs }]?)
 }
 
-/// What was written on the connection that a desk gave back.
-fn written_on(desk: &MemDesk) -> &[u8] {
-    match desk.port.given_back().first() {
+/// What was written on the connection that was given back to a port.
+pub(crate) fn written_on(port: &MemPort) -> &[u8] {
+    match port.given_back().first() {
         Some(link) => link.sink.bytes(),
         None => &[],
     }
@@ -91,7 +95,7 @@ pub(crate) fn went_of(
     line: Vec<u8>,
     status: u8,
 ) -> Result<(Went, MemBlobs), AllocError> {
-    let answers: Vec<u8> = Vec::from_slice(alloc, written_on(&desk))?;
+    let answers: Vec<u8> = Vec::from_slice(alloc, written_on(&desk.port))?;
     let blob_faults: u64 = desk.blobs.faults();
     let Desk { port: _, blobs } = desk;
     let went = Went {
@@ -194,8 +198,18 @@ pub(crate) fn store_of(alloc: Global, case: &Case, script: Script) -> Result<Sto
     for stored in &case.stored {
         put(&mut blobs, stored);
     }
-    let records: MemRecords = MemRecords::new(alloc, numbers_of(alloc, script.records)?);
+    let records: MemRecords = records_of(alloc, script)?;
     Ok(Store { blobs, records })
+}
+
+/// Records without a row.
+pub(crate) fn records_of(alloc: Global, script: Script) -> Result<MemRecords, AllocError> {
+    Ok(MemRecords::new(alloc, numbers_of(alloc, script.records)?))
+}
+
+/// The first blob gives what a case says.
+pub(crate) fn give(blobs: &mut WrongBlobs, case: &Case) {
+    let _ = blobs.give(1, case.given.as_slice());
 }
 
 /// Takes away what a case has lost.

@@ -1,5 +1,5 @@
 // Cases, each run in its pieces and with its calls failing, and what is told of one that does not go as it has to.
-use crate::kept::Kept;
+use crate::kept::{Given, Kept};
 use crate::runs::run_of;
 use case_texts::{Case, Object, Script, Went, wrong_blobs, wrong_link, wrong_run};
 use std::alloc::{AllocError, Global};
@@ -50,9 +50,22 @@ fn wrong_links(alloc: Global, case: &Case, most: usize) -> Result<Option<String>
     }
 }
 
+/// How the connection of a case goes wrong whose blob gives other bytes than were stored, in pieces of so many bytes.
+fn wrong_given(alloc: Global, case: &Case, most: usize) -> Result<Option<String>, AllocError> {
+    match Given::new(alloc, case)? {
+        Some(given) => {
+            let went: Went = given.go(alloc, case, most)?;
+            wrong_link(alloc, &case.last, &went)
+        }
+        None => Ok(Some(String::from_str(alloc, "no start")?)),
+    }
+}
+
 /// How a case goes wrong in pieces of so many bytes.
 fn wrong_in(alloc: Global, case: &Case, most: usize) -> Result<Option<String>, AllocError> {
-    let wrong: Option<String> = if case.earlier.is_empty() {
+    let wrong: Option<String> = if !case.given.is_empty() {
+        wrong_given(alloc, case, most)?
+    } else if case.earlier.is_empty() {
         wrong_program(alloc, case, most)?
     } else {
         wrong_links(alloc, case, most)?

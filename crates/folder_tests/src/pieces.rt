@@ -1,8 +1,10 @@
 // The calls of a real file system for blobs that are written and read piece by piece.
 use crate::noted::{Noted, Notes};
 use crate::orders::blobs_of;
-use outside::{BlobFault, Blobs, Failed};
+use mvn_digest::Hashes;
+use outside::{BlobFault, Blobs, Failed, Reading, Step};
 use outside_system::FolderBlobs;
+use std::alloc::Global;
 use std::fs;
 use std::os::unix::fs::symlink;
 use std::test::Fail;
@@ -39,6 +41,40 @@ fn reads_abcde<B: Blobs>(blobs: &mut B, held: &B::Held) -> Result<bool, Failed> 
     let count = blobs.read_at(held, 0, &mut buffer)?;
     let end = blobs.read_at(held, 5, &mut [0; 1])?;
     Ok(count == 5 && buffer.as_slice() == b"abcde".as_slice() && end == 0)
+}
+
+const READ_SMALL: &str = "look at pieces_small/7
+open pieces_small/7
+read pieces_small/7
+read pieces_small/7
+";
+
+// A blob of 1,024 bytes that is read out: what a GET of a small file makes of the disk.
+fn write_small<B: Blobs>(blobs: &mut B) -> Result<B::Held, BlobFault> {
+    let mut pen = blobs.begin(7)?;
+    blobs.append(&mut pen, &[b'a'; 1_024])?;
+    blobs.seal(pen)
+}
+
+fn reads_out<B: Blobs>(alloc: Global, blobs: &mut B, held: &B::Held) -> Result<bool, BlobFault> {
+    let mut hashes = Hashes::new();
+    hashes.update(&[b'a'; 1_024]);
+    let mut reading = Reading::new(alloc, 1_024, hashes.finish())?;
+    Ok(reading.next(blobs, held)? == Step::Piece && reading.piece().len() == 1_024)
+}
+
+#[test]
+fn a_small_file_is_opened_once_and_read_twice(rt: HostRuntime) -> Result<(), Fail> {
+    let notes = Notes::new(rt.alloc())?;
+    let mut blobs = blobs_of(&rt, &notes, "pieces_small")?;
+    let held = write_small(&mut blobs)?;
+    let _written = notes.take();
+    let whole = reads_out(rt.alloc(), &mut blobs, &held)?;
+    let read = notes.take();
+    fs::remove_dir_all(&rt, "pieces_small")?;
+    assert_eq!(rt; read.as_str(), READ_SMALL);
+    assert!(rt; whole);
+    Ok(())
 }
 
 // Read again from the end to the front, and removed while the file is open.

@@ -52,6 +52,9 @@ fn add(rt: &HostRuntime, journal: &mut Journal<FileDisk<File>>, number: u64) -> 
     ensures ready { IsReady journal.new }
 {
     let change = change_of(rt, number)?;
+    if !change.is_whole() {
+        return Err(ErrorKind::InvalidData.into());
+    }
     match journal.commit(rt.alloc(), &change) {
         Ok(()) => Ok(()),
         Err(_) => Err(ErrorKind::WriteZero.into()),

@@ -12,17 +12,24 @@ use std::alloc::{AllocError, Global};
 use std::test::Fail;
 
 // The change that opens session 1, and the empty one.
-const OPENED: &[u8] = b"\x01\0\0\0\x01\x07\0\0\0\0\0\0\0\x01";
+const OPENED: &[u8] = b"\x02\0\0\0\x01\x07\0\0\0\0\0\0\0\x01";
 
-const EMPTY: &[u8] = b"\x01\0\0\0\0";
+const EMPTY: &[u8] = b"\x02\0\0\0\0";
 
 // The change of a PUT of `abc` to releases.
-const DEPLOYED: [u8; 106] =
-    *b"\x01\0\0\0\x01\x01\0\x08releases\0\x1corg/acme/lib/1.0/lib-1.0.jar\0\0\0\0\0\0\0\x01\0\0\0\0\0\0\0\x03\xa9\x99\x3e\x36\x47\x06\x81\x6a\xba\x3e\x25\x71\x78\x50\xc2\x6c\x9c\xd0\xd8\x9d\x90\x01\x50\x98\x3c\xd2\x4f\xb0\xd6\x96\x3f\x7d\x28\xe1\x7f\x72\0\0\0\0\x65\xe0\x71\xc0";
+const DEPLOYED: &[u8] =
+    b"\x02\0\0\0\x01\x01\0\x08releases\0\x1corg/acme/lib/1.0/lib-1.0.jar\0\0\0\0\0\0\0\x01\0\0\0\0\0\0\0\x03\xa9\x99\x3e\x36\x47\x06\x81\x6a\xba\x3e\x25\x71\x78\x50\xc2\x6c\x9c\xd0\xd8\x9d\x90\x01\x50\x98\x3c\xd2\x4f\xb0\xd6\x96\x3f\x7d\x28\xe1\x7f\x72\xba\x78\x16\xbf\x8f\x01\xcf\xea\x41\x41\x40\xde\x5d\xae\x22\x23\xb0\x03\x61\xa3\x96\x17\x7a\x9c\xb4\x10\xff\x61\xf2\x00\x15\xad\xdd\xaf\x35\xa1\x93\x61\x7a\xba\xcc\x41\x73\x49\xae\x20\x41\x31\x12\xe6\xfa\x4e\x89\xa9\x7e\xa2\x0a\x9e\xee\xe6\x4b\x55\xd3\x9a\x21\x92\x99\x2a\x27\x4f\xc1\xa8\x36\xba\x3c\x23\xa3\xfe\xeb\xbd\x45\x4d\x44\x23\x64\x3c\xe8\x0e\x2a\x9a\xc9\x4f\xa5\x4c\xa4\x9f\0\0\0\0\x65\xe0\x71\xc0";
 
-// The file of it: 8 bytes of magic, a gate, 4 bytes of length, a payload of 106 and the closed gate.
-const DEPLOYED_FILE: [u8; 120] =
-    *b"MVNROWS1\x01\0\0\0\x6a\x01\0\0\0\x01\x01\0\x08releases\0\x1corg/acme/lib/1.0/lib-1.0.jar\0\0\0\0\0\0\0\x01\0\0\0\0\0\0\0\x03\xa9\x99\x3e\x36\x47\x06\x81\x6a\xba\x3e\x25\x71\x78\x50\xc2\x6c\x9c\xd0\xd8\x9d\x90\x01\x50\x98\x3c\xd2\x4f\xb0\xd6\x96\x3f\x7d\x28\xe1\x7f\x72\0\0\0\0\x65\xe0\x71\xc0\0";
+// The file of it: 8 bytes of magic, a gate, 4 bytes of length, a payload of 202 and the closed gate.
+const DEPLOYED_FILE: &[u8] =
+    b"MVNROWS1\x01\0\0\0\xca\x02\0\0\0\x01\x01\0\x08releases\0\x1corg/acme/lib/1.0/lib-1.0.jar\0\0\0\0\0\0\0\x01\0\0\0\0\0\0\0\x03\xa9\x99\x3e\x36\x47\x06\x81\x6a\xba\x3e\x25\x71\x78\x50\xc2\x6c\x9c\xd0\xd8\x9d\x90\x01\x50\x98\x3c\xd2\x4f\xb0\xd6\x96\x3f\x7d\x28\xe1\x7f\x72\xba\x78\x16\xbf\x8f\x01\xcf\xea\x41\x41\x40\xde\x5d\xae\x22\x23\xb0\x03\x61\xa3\x96\x17\x7a\x9c\xb4\x10\xff\x61\xf2\x00\x15\xad\xdd\xaf\x35\xa1\x93\x61\x7a\xba\xcc\x41\x73\x49\xae\x20\x41\x31\x12\xe6\xfa\x4e\x89\xa9\x7e\xa2\x0a\x9e\xee\xe6\x4b\x55\xd3\x9a\x21\x92\x99\x2a\x27\x4f\xc1\xa8\x36\xba\x3c\x23\xa3\xfe\xeb\xbd\x45\x4d\x44\x23\x64\x3c\xe8\x0e\x2a\x9a\xc9\x4f\xa5\x4c\xa4\x9f\0\0\0\0\x65\xe0\x71\xc0\0";
+
+// The same in the first version, without SHA-256 and SHA-512: a payload of 106.
+const OLD_FILE: &[u8] =
+    b"MVNROWS1\x01\0\0\0\x6a\x01\0\0\0\x01\x01\0\x08releases\0\x1corg/acme/lib/1.0/lib-1.0.jar\0\0\0\0\0\0\0\x01\0\0\0\0\0\0\0\x03\xa9\x99\x3e\x36\x47\x06\x81\x6a\xba\x3e\x25\x71\x78\x50\xc2\x6c\x9c\xd0\xd8\x9d\x90\x01\x50\x98\x3c\xd2\x4f\xb0\xd6\x96\x3f\x7d\x28\xe1\x7f\x72\0\0\0\0\x65\xe0\x71\xc0\0";
+
+// The file of one session in the first version.
+const OLD_SESSION: [u8; 28] = *b"MVNROWS1\x01\0\0\0\x0e\x01\0\0\0\x01\x07\0\0\0\0\0\0\0\x01\0";
 
 // What a read of the file gives.
 fn file_of(journal: &MemJournal) -> &[u8] {
@@ -69,9 +76,9 @@ fn one_session_makes_28_bytes(rt: HostRuntime) -> Result<(), Fail> {
 }
 
 #[test]
-fn one_deployed_file_makes_120_bytes(rt: HostRuntime) -> Result<(), Fail> {
-    let first = (DEPLOYED.as_slice(), None, DEPLOYED_FILE.as_slice());
-    let second = (EMPTY, None, DEPLOYED_FILE.as_slice());
+fn one_deployed_file_makes_216_bytes(rt: HostRuntime) -> Result<(), Fail> {
+    let first = (DEPLOYED, None, DEPLOYED_FILE);
+    let second = (EMPTY, None, DEPLOYED_FILE);
     assert!(rt; both_commit(rt.alloc(), &[], &first, &second)?);
     Ok(())
 }
@@ -88,14 +95,15 @@ fn an_empty_change_undoes_a_frame(rt: HostRuntime) -> Result<(), Fail> {
 // Whether the deployed file fits what a start over this file finds.
 fn is_new_to(alloc: Global, file: &[u8]) -> Result<bool, Fail> {
     let mut tables = open(alloc, &mut journal_of(alloc, file, u64::MAX)?)?;
-    Ok(fits(alloc, &mut tables, &DEPLOYED)?)
+    Ok(fits(alloc, &mut tables, DEPLOYED)?)
 }
 
-// A start finds the row: the same file does not fit.
+// A start finds the row, in either version: the same file does not fit.
 #[test]
 fn a_deployed_file_is_found_by_a_start(rt: HostRuntime) -> Result<(), Fail> {
     assert!(rt; is_new_to(rt.alloc(), b"")?);
-    assert!(rt; !is_new_to(rt.alloc(), &DEPLOYED_FILE)?);
+    assert!(rt; !is_new_to(rt.alloc(), DEPLOYED_FILE)?);
+    assert!(rt; !is_new_to(rt.alloc(), OLD_FILE)?);
     Ok(())
 }
 
@@ -148,26 +156,30 @@ fn a_file_of_9_bytes_is_new(rt: HostRuntime) -> Result<(), Fail> {
 
 // Behind the frame of session 1: nothing, an open gate, a closed one with bytes behind it, another byte. What stands behind
 // the frame is cut off, and its gate is closed.
-static OF_ONE_FRAME: [Load; 6] = [
+static OF_ONE_FRAME: [Load; 7] = [
+    (
+        b"MVNROWS1\x01\0\0\0\x0e\x02\0\0\0\x01\x07\0\0\0\0\0\0\0\x01",
+        Loaded::To(1, &ONE_SESSION),
+    ),
+    (
+        b"MVNROWS1\x01\0\0\0\x0e\x02\0\0\0\x01\x07\0\0\0\0\0\0\0\x01\x01",
+        Loaded::To(1, &ONE_SESSION),
+    ),
+    (
+        b"MVNROWS1\x01\0\0\0\x0e\x02\0\0\0\x01\x07\0\0\0\0\0\0\0\x01\0",
+        Loaded::To(1, &ONE_SESSION),
+    ),
+    (
+        b"MVNROWS1\x01\0\0\0\x0e\x02\0\0\0\x01\x07\0\0\0\0\0\0\0\x01\0\x01\0\0",
+        Loaded::To(1, &ONE_SESSION),
+    ),
+    (
+        b"MVNROWS1\x01\0\0\0\x0e\x02\0\0\0\x01\x07\0\0\0\0\0\0\0\x01\x02xyz",
+        Loaded::To(1, &ONE_SESSION),
+    ),
     (
         b"MVNROWS1\x01\0\0\0\x0e\x01\0\0\0\x01\x07\0\0\0\0\0\0\0\x01",
-        Loaded::To(1, &ONE_SESSION),
-    ),
-    (
-        b"MVNROWS1\x01\0\0\0\x0e\x01\0\0\0\x01\x07\0\0\0\0\0\0\0\x01\x01",
-        Loaded::To(1, &ONE_SESSION),
-    ),
-    (
-        b"MVNROWS1\x01\0\0\0\x0e\x01\0\0\0\x01\x07\0\0\0\0\0\0\0\x01\0",
-        Loaded::To(1, &ONE_SESSION),
-    ),
-    (
-        b"MVNROWS1\x01\0\0\0\x0e\x01\0\0\0\x01\x07\0\0\0\0\0\0\0\x01\0\x01\0\0",
-        Loaded::To(1, &ONE_SESSION),
-    ),
-    (
-        b"MVNROWS1\x01\0\0\0\x0e\x01\0\0\0\x01\x07\0\0\0\0\0\0\0\x01\x02xyz",
-        Loaded::To(1, &ONE_SESSION),
+        Loaded::To(1, &OLD_SESSION),
     ),
     (b"MVNROWS1\0xyz", Loaded::To(0, &NEW)),
 ];
@@ -189,8 +201,9 @@ fn another_beginning_is_refused(rt: HostRuntime) -> Result<(), Fail> {
     Ok(())
 }
 
-// Cut short in its length, and in its payload; longer than its change, an unknown tag, and an unknown version.
-static OF_BAD_FRAMES: [Load; 6] = [
+// Cut short in its length, and in its payload; longer than its change; a tag that the first version does not know, of which the
+// second reads an id; and an unknown version.
+static OF_BAD_FRAMES: [Load; 7] = [
     (
         b"MVNROWS1\x01\0\0",
         Loaded::Refused(LoadFault::Row { frame: 0, at: 0 }),
@@ -212,7 +225,11 @@ static OF_BAD_FRAMES: [Load; 6] = [
         Loaded::Refused(LoadFault::Row { frame: 0, at: 5 }),
     ),
     (
-        b"MVNROWS1\x01\0\0\0\x05\x01\0\0\0\0\x01\0\0\0\x01\x02\0",
+        b"MVNROWS1\x01\0\0\0\x0e\x02\0\0\0\x01\x09\0\0\0\0\0\0\0\x01\0",
+        Loaded::Refused(LoadFault::Row { frame: 0, at: 6 }),
+    ),
+    (
+        b"MVNROWS1\x01\0\0\0\x05\x01\0\0\0\0\x01\0\0\0\x01\x03\0",
         Loaded::Refused(LoadFault::Row { frame: 1, at: 0 }),
     ),
 ];

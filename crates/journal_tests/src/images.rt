@@ -113,11 +113,11 @@ pub fn images_of(alloc: Global, disk: &MemDisk) -> Result<Vec<Vec<u8>>, AllocErr
 // A disk in memory with this file, of which some calls fail.
 pub fn disk_of(alloc: Global, file: &[u8], script: DiskScript) -> Result<MemDisk, AllocError> {
     let room = DiskRoom {
-        file: 200,
-        written: 400,
+        file: 300,
+        written: 600,
         calls: 40,
     };
-    if file.len() > 200 {
+    if file.len() > 300 {
         return Err(AllocError);
     }
     MemDisk::new(alloc, file, room, script)

@@ -16,11 +16,11 @@ pub type MemJournal = Journal<Stopping<MemDisk>>;
 // The files of a journal without a change, and of one with the change of the first session.
 pub const NEW: [u8; 9] = *b"MVNROWS1\0";
 
-pub const ONE_SESSION: [u8; 28] = *b"MVNROWS1\x01\0\0\0\x0e\x01\0\0\0\x01\x07\0\0\0\0\0\0\0\x01\0";
+pub const ONE_SESSION: [u8; 28] = *b"MVNROWS1\x01\0\0\0\x0e\x02\0\0\0\x01\x07\0\0\0\0\0\0\0\x01\0";
 
 // The change that opens the session of a number.
 pub fn opened(number: u8) -> [u8; 14] {
-    let mut bytes = *b"\x01\0\0\0\x01\x07\0\0\0\0\0\0\0\0";
+    let mut bytes = *b"\x02\0\0\0\x01\x07\0\0\0\0\0\0\0\0";
     bytes[13] = number;
     bytes
 }
@@ -56,7 +56,7 @@ fn change_in(alloc: Global, bytes: &[u8]) -> Result<Change, AllocError> {
     }
 }
 
-// Commits the change of these bytes.
+// Commits the change of these bytes, whose files have SHA-256 and SHA-512.
 pub fn add<D: Disk>(
     alloc: Global,
     journal: &mut Journal<D>,
@@ -70,6 +70,9 @@ pub fn add<D: Disk>(
     let Ok(change) = change_in(alloc, bytes) else {
         return Err(CommitFault::NoMemory);
     };
+    if !change.is_whole() {
+        return Err(CommitFault::NoMemory);
+    }
     journal.commit(alloc, &change)
 }
 

@@ -3,6 +3,7 @@ use crate::ends::{
     Ended, has_no_row, has_numbers, has_repo, has_repos, is_damaged, is_damaged_file, is_found,
     is_row, row_in,
 };
+use crate::literals::file_of;
 use crate::steps::Step;
 use crate::stock::{journal_of, started, store_of};
 use outside::Blobs;
@@ -28,7 +29,7 @@ impl Bench {
     fn new(alloc: Global) -> Result<Bench, Fail> {
         Ok(Bench {
             alloc,
-            journal: journal_of(alloc, &[])?,
+            journal: journal_of(alloc, b"", None)?,
             store: store_of(alloc, &[], None)?,
             ended: Err(RestoreFault::NoMemory),
         })
@@ -37,7 +38,14 @@ impl Bench {
     /// Does what a step says.
     fn take(&mut self, step: Step) -> Result<(), Fail> {
         match step {
-            Step::Journal(parts) => self.journal = journal_of(self.alloc, parts)?,
+            Step::Journal(parts) => {
+                let file: Vec<u8> = file_of(self.alloc, parts)?;
+                self.journal = journal_of(self.alloc, &file, None)?;
+            }
+            Step::FailingJournal(parts, call) => {
+                let file: Vec<u8> = file_of(self.alloc, parts)?;
+                self.journal = journal_of(self.alloc, &file, Some(call))?;
+            }
             Step::Store(blobs) => self.store = store_of(self.alloc, blobs, None)?,
             Step::FailingStore(blobs, call) => {
                 self.store = store_of(self.alloc, blobs, Some(call))?;
@@ -65,6 +73,12 @@ impl Bench {
         }
     }
 
+    // Whether the journal's file has these bytes.
+    fn has_file(&self, parts: &str) -> Result<bool, Fail> {
+        let want: Vec<u8> = file_of(self.alloc, parts)?;
+        Ok(self.journal.disk().bytes() == want.as_slice())
+    }
+
     /// Whether the last start has come to what a step says of it.
     fn ends(&self, step: Step) -> bool {
         let ended = &self.ended;
@@ -89,6 +103,8 @@ impl Bench {
             Step::Removed(numbers) => Ok(self.store.removed() == numbers),
             Step::RemovedCount(count) => Ok(self.store.removed().len() == count),
             Step::Row(place, path, blob, fading) => self.has_row(place, path, blob, fading),
+            Step::File(parts) => self.has_file(parts),
+            Step::Size(size) => Ok(self.journal.disk().bytes().len() == size),
             _ => Ok(self.ends(step)),
         }
     }

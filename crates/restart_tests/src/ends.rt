@@ -1,9 +1,9 @@
 // What a start over blobs in memory has come to.
+use crate::audited::print_of;
 use crate::literals::ACCEPTED;
 use blob_audit::Damaged;
 use hosted_repo::{Hosted, Phase, Row};
 use outside_memory::MemHeld;
-use repo_model::Print;
 use repo_restart::{RestoreFault, Restored};
 
 /// The repositories, or why there are none.
@@ -33,7 +33,8 @@ pub fn is_damaged_file(ended: &Ended, path: &str, length: u64) -> bool {
 }
 
 /// Whether this was found of the file that ended it.
-pub fn is_found(ended: &Ended, found: Option<Print>) -> bool {
+pub fn is_found(ended: &Ended, found: Option<&str>) -> bool {
+    let found = found.map(|text| print_of(text.as_bytes()));
     match damage_in(ended) {
         Some(damage) => damage.found == found,
         None => false,

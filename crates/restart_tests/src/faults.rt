@@ -1,6 +1,6 @@
 // Damaged files, and stores that fail.
 use crate::bench::{first_other, follow};
-use crate::literals::{FOUR_FILES, JAR, NOTHING, SIX_BLOBS};
+use crate::literals::{FOUR_FILES, JAR, SIX_BLOBS};
 use crate::steps::Step;
 use crate::stock::is_found_out;
 use std::alloc::Global;
@@ -13,7 +13,7 @@ static OF_A_DAMAGED_FILE: [Step; 8] = [
     Step::Start,
     Step::Damaged("old"),
     Step::DamagedFile(JAR, 3),
-    Step::Found(Some(NOTHING)),
+    Step::Found(Some("")),
     Step::Removed(&[]),
     Step::Faults(0),
 ];

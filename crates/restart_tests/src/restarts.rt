@@ -24,7 +24,7 @@ fn two_repositories_come_back(rt: HostRuntime) -> Result<(), Fail> {
 }
 
 static OF_NOTHING: [Step; 5] = [
-    Step::Journal(&[]),
+    Step::Journal(""),
     Step::Store(&[]),
     Step::Start,
     Step::Repos(2),
@@ -38,7 +38,7 @@ fn nothing_recorded_begins_at_one(rt: HostRuntime) -> Result<(), Fail> {
 
 // The second number is the one behind the last of drafts, which no draft has.
 static OF_LEFT_OVER_BLOBS: [Step; 5] = [
-    Step::Journal(&[]),
+    Step::Journal(""),
     Step::Store(&[(5, b"abc"), (9_223_372_036_854_775_808, b"abc")]),
     Step::Start,
     Step::Numbers(&[], 6),

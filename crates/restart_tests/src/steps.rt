@@ -1,8 +1,7 @@
 // Steps of a test, as plain values.
-use repo_model::Print;
 
-/// Bytes, one part behind the other.
-pub type Parts = &'static [&'static [u8]];
+/// The bytes of a file, by the words of their parts.
+pub type Parts = &'static str;
 
 /// Blobs: their numbers and bytes.
 pub type Stored = &'static [(u64, &'static [u8])];
@@ -10,8 +9,9 @@ pub type Stored = &'static [(u64, &'static [u8])];
 /// What starts begin with from here on, a start, or what the last one has come to.
 #[derive(Clone, Copy)]
 pub enum Step {
-    // a journal with this file
+    // a journal with this file, and one of whose disk this call fails, counted from 0
     Journal(Parts),
+    FailingJournal(Parts, u64),
     Store(Stored),
     // the same, of which this call fails, counted from 0 once they stand there
     FailingStore(Stored, u64),
@@ -20,10 +20,13 @@ pub enum Step {
     Restored,
     StoreFault,
     Damaged(&'static str),
+    // the journal's file has these bytes, or so many
+    File(Parts),
+    Size(usize),
     // the path of the damaged file, and the length that was recorded of it
     DamagedFile(&'static str, u64),
-    // what was found of it
-    Found(Option<Print>),
+    // what was found of it, if there is anything
+    Found(Option<&'static str>),
     // how often the store has failed
     Faults(u64),
     // the numbers that the store was told to remove, and how many they are

@@ -1,40 +1,46 @@
 // A journal of literal bytes, a store, and a start over them.
 ghost use Rattle.std.specs.Prelude.{IfOk};
+ghost use Rattle.row_completion.specs.Completion.{IsComplete};
 ghost use Rattle.row_tables.specs.Recorded.{IsBuiltUp};
 
-use crate::literals::SETTINGS;
+use crate::literals::{SETTINGS, file_of};
 use outside::Blobs;
 use outside_memory::{FaultScript, MemBlobs, WrongBlobs};
 use record_disk::{DiskRoom, DiskScript, MemDisk};
 use record_journal::Journal;
 use repo_config::Settings;
 use repo_restart::{RestoreFault, Restored, restore};
+use row_completion::{CompletionFault, complete};
 use row_tables::{Records, Tables};
 use std::alloc::{AllocError, Global};
 use std::test::Fail;
 use table_laws::built_tables_are_right;
 
-/// The bytes of the parts.
-fn joined(alloc: Global, parts: &[&[u8]]) -> Result<Vec<u8>, AllocError> {
-    let mut bytes: Vec<u8> = Vec::new(alloc);
-    for part in parts {
-        bytes.extend_from_slice(part)?;
-    }
-    Ok(bytes)
-}
-
-/// A journal over a disk in memory, which has this file.
-pub fn journal_of(alloc: Global, parts: &[&[u8]]) -> Result<Journal<MemDisk>, AllocError> {
+/// A journal over a disk in memory, which has this file, and of which this call fails, if there is one.
+pub fn journal_of(
+    alloc: Global,
+    file: &[u8],
+    failing: Option<u64>,
+) -> Result<Journal<MemDisk>, AllocError> {
     let room = DiskRoom {
-        file: 1_000,
-        written: 1_000,
+        file: 300_000,
+        written: 300_000,
         calls: 60,
     };
-    let file: Vec<u8> = joined(alloc, parts)?;
-    if file.len() > 1_000 {
+    if file.len() > 300_000 {
         return Err(AllocError);
     }
-    Ok(Journal::new(MemDisk::new(alloc, &file, room, DiskScript::none(alloc))?))
+    let script = DiskScript::failing_at(calls_of(alloc, failing)?, 0);
+    Ok(Journal::new(MemDisk::new(alloc, file, room, script)?))
+}
+
+// The number of a call, if there is one.
+fn calls_of(alloc: Global, failing: Option<u64>) -> Result<Vec<u64>, AllocError> {
+    let mut calls: Vec<u64> = Vec::new(alloc);
+    if let Some(call) = failing {
+        calls.push(call)?;
+    }
+    Ok(calls)
 }
 
 /// The call of a store that fails, if there is one, counted from 0 once so many blobs stand there.
@@ -43,11 +49,8 @@ fn script_of(
     stored: usize,
     failing: Option<u64>,
 ) -> Result<FaultScript, AllocError> {
-    let mut calls: Vec<u64> = Vec::new(alloc);
-    if let Some(call) = failing {
-        calls.push(call.saturating_add(stored as u64))?;
-    }
-    Ok(FaultScript::failing_at(calls))
+    let call = failing.map(|call| call.saturating_add(stored as u64));
+    Ok(FaultScript::failing_at(calls_of(alloc, call)?))
 }
 
 /// A store with these blobs, of which this call fails, if there is one, counted from 0 once they stand there.
@@ -72,13 +75,37 @@ fn settings_of(alloc: Global, text: &str) -> Result<Settings, Fail> {
     }
 }
 
-// What is recorded.
-fn loaded(alloc: Global, journal: &mut Journal<MemDisk>) -> Result<Tables, Fail>
-    ensures { IfOk result IsBuiltUp }
+// The same fault of a start.
+fn fault_of(fault: CompletionFault) -> RestoreFault {
+    match fault {
+        CompletionFault::NoMemory => RestoreFault::NoMemory,
+        CompletionFault::Store => RestoreFault::Store,
+        CompletionFault::Damaged(damaged) => RestoreFault::Damaged(damaged),
+    }
+}
+
+// Why there are no tables: they were not loaded, or their rows could not be completed.
+#[derive(Drop)]
+enum NoTables {
+    Unloaded,
+    Fault(RestoreFault),
+}
+
+// What is recorded, once its rows are completed.
+fn loaded<B: Blobs>(
+    alloc: Global,
+    journal: &mut Journal<MemDisk>,
+    store: &mut B,
+) -> Result<Tables, NoTables>
+    ensures { IfOk result (λ t. IsBuiltUp t × IsComplete t) }
 {
-    match journal.load(alloc) {
-        Ok(tables) => Ok(tables),
-        Err(_) => Err("not loaded")?,
+    let mut tables = match journal.load(alloc) {
+        Ok(tables) => tables,
+        Err(_) => return Err(NoTables::Unloaded),
+    };
+    match complete(alloc, journal, store, &mut tables) {
+        Ok(()) => Ok(tables),
+        Err(fault) => Err(NoTables::Fault(fault_of(fault))),
     }
 }
 
@@ -89,7 +116,11 @@ pub fn started<B: Blobs>(
     store: &mut B,
 ) -> Result<Result<Restored<B::Held>, RestoreFault>, Fail> {
     let settings = settings_of(alloc, SETTINGS)?;
-    let tables = loaded(alloc, journal)?;
+    let tables = match loaded(alloc, journal, store) {
+        Ok(tables) => tables,
+        Err(NoTables::Fault(fault)) => return Ok(Err(fault)),
+        Err(NoTables::Unloaded) => return Err("not loaded")?,
+    };
     settings.form();
     built_tables_are_right();
     Ok(restore(alloc, settings.hosted(), &tables, store))
@@ -98,11 +129,12 @@ pub fn started<B: Blobs>(
 /// Whether a store that gives these bytes, and tells none, is found out at a file of this repository.
 pub fn is_found_out(
     alloc: Global,
-    parts: &[&[u8]],
+    parts: &str,
     given: &[(u64, &[u8])],
     repo: &str,
 ) -> Result<bool, Fail> {
-    let mut journal: Journal<MemDisk> = journal_of(alloc, parts)?;
+    let file: Vec<u8> = file_of(alloc, parts)?;
+    let mut journal: Journal<MemDisk> = journal_of(alloc, &file, None)?;
     let mut store: WrongBlobs = WrongBlobs::new(alloc, FaultScript::none(alloc));
     for (number, bytes) in given {
         store.give(*number, bytes)?;

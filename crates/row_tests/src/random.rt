@@ -125,7 +125,10 @@ fn taken_again(alloc: Global, bytes: &[u8]) -> Result<Became, AllocError> {
     let mut again = Vec::new(alloc);
     put(alloc, &change, &mut again)?;
     match bytes.get(..size) {
-        Some(front) if again.as_slice() == front => Ok(Became::Same(size)),
+        // The second version is written, and the bytes behind its number are the same.
+        Some([_, front @ ..]) if again.as_slice().split_first() == Some((&2, front)) => {
+            Ok(Became::Same(size))
+        }
         _ => Ok(Became::Other),
     }
 }

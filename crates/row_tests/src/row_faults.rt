@@ -27,9 +27,11 @@ fn judge(rt: &impl Abort, alloc: Global, tags: &[u8], rows: &[Row]) -> Result<()
 }
 
 // The last of them has a second item with a number that is too large, and an unknown tag behind it: the first fault counts.
-static HEADS: [Case; 9] = [
+static HEADS: [Case; 11] = [
     (b"", Some(0)),
-    (b"\x02\0\0\0\0", Some(0)),
+    (b"\x03\0\0\0\0", Some(0)),
+    (b"\x02\0\0\0\0", None),
+    (b"\x02\0\0\0\x01\x0a\0\0\0\0\0\0\0\x01", Some(5)),
     (b"\x01", Some(1)),
     (b"\x01\0\0\0", Some(1)),
     (b"\x01\0\0\0\0", None),

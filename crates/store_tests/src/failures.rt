@@ -124,12 +124,15 @@ static PUT_TORN_DISK: [Row; 8] = [
     CREATED_WHOLE,
 ];
 
-// A start finds and reads the blob of the recorded file, lists the blobs and removes the one that is left over; the PUT stores one.
-static PUT_STORE: [Row; 6] = [
+// A start finds and reads the blob of the recorded file, lists the blobs and removes the one that is left over; the PUT begins one,
+// adds its piece and seals it.
+static PUT_STORE: [Row; 8] = [
     NOT_STARTED,
     NOT_STARTED,
     NOT_STARTED,
     NOT_STARTED,
+    NOT_STORED,
+    NOT_STORED,
     NOT_STORED,
     CREATED_WHOLE,
 ];

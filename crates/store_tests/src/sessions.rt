@@ -19,19 +19,19 @@ const COMMIT_2: &str = "POST /api/sessions/2/commit HTTP/1.1\r\nHost: x\r\n\r\n"
 const NO_SESSION: &[u8] =
     b"HTTP/1.1 404 Not Found\r\nContent-Type: text/plain\r\nContent-Length: 11\r\n\r\nno-session\n";
 
-// The journal has 8 bytes, a frame of 19 bytes for the opening, one of 230 bytes for both files and the end, and 1 byte.
+// The journal has 8 bytes, a frame of 19 bytes for the opening, one of 422 bytes for both files and the end, and 1 byte.
 static OF_A_COMMIT: [Step; 11] = [
     Step::Journal(b""),
     Step::Run("replay", DEPLOY),
     Step::Answered(DEPLOYED),
-    Step::Length(258),
+    Step::Length(450),
     Step::Run("replay", COMMIT),
     Step::Answered(DONE),
-    Step::Length(258),
+    Step::Length(450),
     Step::Said("", "calls 1 end Closed\n", 0),
     Step::Run("replay", COMMIT_2),
     Step::Answered(NO_SESSION),
-    Step::Length(258),
+    Step::Length(450),
 ];
 
 #[test]

@@ -7,7 +7,7 @@ use std::test::Fail;
 use std::thread::Threads;
 
 /// Two builds of one snapshot, each a jar of `abc`, that were accepted on 2024-02-29: the older one with blob 1, the newer one
-/// with blob 2.
+/// with blob 2. They are recorded in a change of the first version, without SHA-256 and SHA-512, which a start adds.
 pub const TWO_BUILDS: &[u8] =
     b"MVNROWS1\x01\0\0\x01\x07\x01\0\0\0\x02\x01\0\x09snapshots\07org/acme/lib/1.1-SNAPSHOT/lib-1.1-20240229.235959-1.jar\0\0\0\0\0\0\0\x01\0\0\0\0\0\0\0\x03\xa9\x99>6G\x06\x81j\xba>%qxP\xc2l\x9c\xd0\xd8\x9d\x90\x01P\x98<\xd2O\xb0\xd6\x96?}(\xe1\x7fr\0\0\0\0e\xe0q\xc0\x01\0\x09snapshots\07org/acme/lib/1.1-SNAPSHOT/lib-1.1-20240301.080000-2.jar\0\0\0\0\0\0\0\x02\0\0\0\0\0\0\0\x03\xa9\x99>6G\x06\x81j\xba>%qxP\xc2l\x9c\xd0\xd8\x9d\x90\x01P\x98<\xd2O\xb0\xd6\x96?}(\xe1\x7fr\0\0\0\0e\xe0q\xc0\0";
 

@@ -1,9 +1,13 @@
-//! Tests of `run_serve` and of what it stands on: servers over objects in memory. They stand apart from it, since a crate is
-//! proved once more with its tests.
+//! Tests of `turn_seats`, of `run_serve` and of what it stands on: seats that ask through the trait, and servers over objects in
+//! memory. They stand apart from these, since a crate is proved once more with its tests.
 #![tactic(auto)]
 
 #[cfg(test)]
 mod cases;
+#[cfg(test)]
+mod idle;
+#[cfg(test)]
+mod idle_seats;
 #[cfg(test)]
 mod literals;
 #[cfg(test)]

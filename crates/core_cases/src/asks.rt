@@ -1,0 +1,25 @@
+// What a core is asked, as plain values.
+use mvn_digest::Digest;
+
+/// A command: repositories, paths, numbers and contents.
+#[derive(Clone, Copy)]
+pub(crate) enum Ask<'a> {
+    Look(&'a str, &'a str),
+    Done(u64),
+    MayPut(&'a str, &'a str),
+    Put(&'a str, &'a str, u64, &'a [u8]),
+    Drop(u64),
+    PutSide(&'a str, &'a str, Digest),
+    PutDoc(&'a str, &'a str),
+    Unlist(&'a str),
+    Collect,
+    Status,
+    Open(&'a str),
+    // at a session
+    MayStage(u64, &'a str),
+    Stage(u64, &'a str, u64, &'a [u8]),
+    Commit(u64),
+    Abort(u64),
+    StageSide(u64, &'a str, Digest),
+    StageDoc(u64, &'a str),
+}

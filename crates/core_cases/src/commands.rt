@@ -1,0 +1,160 @@
+// Commands of plain values.
+use crate::asks::Ask;
+use crate::faults::WorldFault;
+use ids::Id;
+use mvn_digest::{Digest, Hashes};
+use outside::{Blobs, Parcel};
+use outside_memory::{MemBlobs, MemHeld};
+use repo_core::{Command, Place};
+use std::alloc::Global;
+use texts::Text;
+
+type MemCommand = Command<MemHeld>;
+
+/// A parcel of these bytes, stored under a number.
+pub(crate) fn parcel_of(
+    blobs: &mut MemBlobs,
+    blob: u64,
+    bytes: &[u8],
+) -> Result<Parcel<MemHeld>, WorldFault> {
+    let mut hashes = Hashes::new();
+    hashes.update(bytes);
+    let held = blobs.store(blob, bytes)?;
+    Ok(Parcel {
+        blob,
+        held,
+        length: bytes.len() as u64,
+        digests: hashes.finish(),
+    })
+}
+
+fn place_at(alloc: Global, repo: &str) -> Result<Place, WorldFault> {
+    Ok(Place::Repository(Text::new(alloc, repo)?))
+}
+
+fn look(alloc: Global, repo: &str, path: &str) -> Result<MemCommand, WorldFault> {
+    let repo = Text::new(alloc, repo)?;
+    let path = Text::new(alloc, path)?;
+    Ok(Command::Look { repo, path })
+}
+
+fn unlist(alloc: Global, repo: &str) -> Result<MemCommand, WorldFault> {
+    let repo = Id::from_text(Text::new(alloc, repo)?);
+    Ok(Command::Unlist { repo })
+}
+
+fn open(alloc: Global, repo: &str) -> Result<MemCommand, WorldFault> {
+    let repo = Text::new(alloc, repo)?;
+    Ok(Command::Open { repo })
+}
+
+fn put(
+    alloc: Global,
+    repo: &str,
+    path: &str,
+    parcel: Parcel<MemHeld>,
+) -> Result<MemCommand, WorldFault> {
+    let repo = Text::new(alloc, repo)?;
+    let path = Text::new(alloc, path)?;
+    Ok(Command::Put {
+        repo,
+        path,
+        draft: parcel.blob,
+        parcel,
+    })
+}
+
+/// The command that stages a parcel in a session.
+pub(crate) fn stage(
+    alloc: Global,
+    session: u64,
+    path: &str,
+    parcel: Parcel<MemHeld>,
+) -> Result<MemCommand, WorldFault> {
+    let path = Text::new(alloc, path)?;
+    Ok(Command::Stage {
+        session,
+        path,
+        draft: parcel.blob,
+        parcel,
+    })
+}
+
+/// The command that asks for a draft.
+pub(crate) fn may_put(alloc: Global, place: Place, path: &str) -> Result<MemCommand, WorldFault> {
+    let path = Text::new(alloc, path)?;
+    Ok(Command::MayPut { place, path })
+}
+
+fn put_side(
+    alloc: Global,
+    place: Place,
+    path: &str,
+    said: Digest,
+) -> Result<MemCommand, WorldFault> {
+    let path = Text::new(alloc, path)?;
+    Ok(Command::PutSide { place, path, said })
+}
+
+fn put_doc(alloc: Global, place: Place, path: &str) -> Result<MemCommand, WorldFault> {
+    let path = Text::new(alloc, path)?;
+    Ok(Command::PutDoc { place, path })
+}
+
+// A command at a place in a repository.
+fn at_repository(alloc: Global, repo: &str, ask: Ask<'_>) -> Result<MemCommand, WorldFault> {
+    let place = place_at(alloc, repo)?;
+    match ask {
+        Ask::MayPut(_, path) => may_put(alloc, place, path),
+        Ask::PutSide(_, path, said) => put_side(alloc, place, path, said),
+        Ask::PutDoc(_, path) => put_doc(alloc, place, path),
+        _ => Err(WorldFault::NoStep),
+    }
+}
+
+/// The command that is asked; the bytes of a file are stored first.
+pub(crate) fn command_of(
+    alloc: Global,
+    blobs: &mut MemBlobs,
+    ask: Ask<'_>,
+) -> Result<MemCommand, WorldFault> {
+    match ask {
+        Ask::Look(repo, path) => look(alloc, repo, path),
+        Ask::Done(lease) => Ok(Command::Done { lease }),
+        Ask::Drop(draft) => Ok(Command::Drop { draft }),
+        Ask::MayPut(repo, _) | Ask::PutSide(repo, _, _) | Ask::PutDoc(repo, _) => {
+            at_repository(alloc, repo, ask)
+        }
+        Ask::Put(repo, path, draft, bytes) => put(
+            alloc,
+            repo,
+            path,
+            parcel_of(blobs, draft, bytes)?,
+        ),
+        Ask::Unlist(repo) => unlist(alloc, repo),
+        Ask::Collect => Ok(Command::Collect),
+        Ask::Status => Ok(Command::Status),
+        Ask::Open(repo) => open(alloc, repo),
+        _ => session_command_of(alloc, blobs, ask),
+    }
+}
+
+fn session_command_of(
+    alloc: Global,
+    blobs: &mut MemBlobs,
+    ask: Ask<'_>,
+) -> Result<MemCommand, WorldFault> {
+    match ask {
+        Ask::MayStage(number, path) => may_put(alloc, Place::Session(number), path),
+        Ask::Stage(session, path, draft, bytes) => {
+            stage(alloc, session, path, parcel_of(blobs, draft, bytes)?)
+        }
+        Ask::Commit(session) => Ok(Command::Commit { session }),
+        Ask::Abort(session) => Ok(Command::Abort { session }),
+        Ask::StageSide(number, path, said) => {
+            put_side(alloc, Place::Session(number), path, said)
+        }
+        Ask::StageDoc(number, path) => put_doc(alloc, Place::Session(number), path),
+        _ => Err(WorldFault::NoStep),
+    }
+}

@@ -1,0 +1,184 @@
+// What a core replies, in words.
+use crate::faults::WorldFault;
+use mvn_coords::Side;
+use mvn_digest::{Digest, Digests, Hashes, side_text};
+use outside_memory::MemHeld;
+use repo_core::{Damaged, Reply, StartFault};
+use repo_model::{Print, SessionResult};
+use std::alloc::Global;
+
+fn text_of(alloc: Global, text: &str) -> Result<String, WorldFault> {
+    Ok(String::from_str(alloc, text)?)
+}
+
+/// Bytes that are text, or their places.
+fn bytes_of(alloc: Global, bytes: &[u8]) -> Result<String, WorldFault> {
+    Ok(String::from_utf8_lossy(alloc, bytes)?)
+}
+
+/// A word and a number.
+fn number_of(alloc: Global, word: &str, number: u64) -> Result<String, WorldFault> {
+    Ok(format!(in alloc; "{word} {number}")?)
+}
+
+/// A length, and SHA-1, MD5, SHA-256 and SHA-512 in small digits.
+fn content_of(alloc: Global, length: u64, digests: &Digests) -> Result<String, WorldFault> {
+    let sha1: String = bytes_of(alloc, digests.sha1_text().as_slice())?;
+    let md5: String = bytes_of(alloc, digests.md5_text().as_slice())?;
+    let sha256: String = bytes_of(alloc, side_text(digests, Side::Sha256).as_bytes())?;
+    let sha512: String = bytes_of(alloc, side_text(digests, Side::Sha512).as_bytes())?;
+    Ok(format!(in alloc; "{length} {sha1} {md5} {sha256} {sha512}")?)
+}
+
+fn print_of(alloc: Global, print: &Print) -> Result<String, WorldFault> {
+    content_of(alloc, print.length, &print.digests)
+}
+
+/// The name of a digest's form, and its small digits.
+pub(crate) fn digest_of(alloc: Global, digest: &Digest) -> Result<String, WorldFault> {
+    let mut told: String = text_of(
+        alloc,
+        match digest {
+            Digest::Sha1(_) => "sha1:",
+            Digest::Md5(_) => "md5:",
+            Digest::Sha256(_) => "sha256:",
+            Digest::Sha512(_) => "sha512:",
+        },
+    )?;
+    for byte in digest.bytes() {
+        write!(told, "{byte:02x}")?;
+    }
+    Ok(told)
+}
+
+/// Numbers, each behind a blank.
+pub(crate) fn numbers_of(alloc: Global, numbers: &[u64]) -> Result<String, WorldFault> {
+    let mut told: String = String::new(alloc);
+    for number in numbers {
+        write!(told, " {number}")?;
+    }
+    Ok(told)
+}
+
+fn word_of(reply: &Reply<MemHeld>) -> &'static str {
+    match reply {
+        Reply::Missed => "missed",
+        Reply::Done => "done",
+        Reply::KindRefused => "kind-refused",
+        Reply::NoDraft => "no-draft",
+        Reply::Same => "same",
+        Reply::Relisted => "relisted",
+        Reply::Created => "created",
+        Reply::Dropped => "dropped",
+        Reply::NotThere => "not-there",
+        Reply::Agreed => "agreed",
+        Reply::Noted => "noted",
+        Reply::NoSession => "no-session",
+        Reply::TooMany => "too-many",
+        Reply::SessionFull => "session-full",
+        Reply::Staged => "staged",
+        Reply::StoreFault => "store-fault",
+        Reply::Spent => "spent",
+        Reply::NoMemory => "no-memory",
+        _ => "",
+    }
+}
+
+/// Replies of numbers alone; others are a word.
+fn told_numbers(alloc: Global, reply: &Reply<MemHeld>) -> Result<String, WorldFault> {
+    match reply {
+        Reply::Draft(draft) => number_of(alloc, "draft", *draft),
+        Reply::Opened(session) => number_of(alloc, "session", *session),
+        Reply::Ended(SessionResult::Done(count)) => number_of(alloc, "deployed", *count),
+        Reply::Ended(SessionResult::Aborted) => text_of(alloc, "aborted"),
+        Reply::Unlisted(rows) => number_of(alloc, "unlisted", *rows),
+        Reply::Collected { expired, blobs } => {
+            let blobs: String = numbers_of(alloc, blobs.as_slice())?;
+            Ok(format!(in alloc; "collected {expired}:{blobs}")?)
+        }
+        Reply::Counts {
+            files,
+            fading,
+            cached,
+            documents,
+            sessions,
+        } => Ok(format!(in alloc; "{files} {fading} {cached} {documents} {sessions}")?),
+        _ => text_of(alloc, word_of(reply)),
+    }
+}
+
+/// A text, and whether its digests are its own.
+fn document_of(alloc: Global, text: &[u8], digests: &Digests) -> Result<String, WorldFault> {
+    let mut hashes = Hashes::new();
+    hashes.update(text);
+    let word: &str = if hashes.finish() == *digests {
+        "document"
+    } else {
+        "document of other digests"
+    };
+    let text: String = bytes_of(alloc, text)?;
+    Ok(format!(in alloc; "{word} {text}")?)
+}
+
+/// What is kept, and what was sent.
+fn both_of(alloc: Global, kept: &Print, sent: &Print) -> Result<String, WorldFault> {
+    let kept: String = print_of(alloc, kept)?;
+    let sent: String = print_of(alloc, sent)?;
+    Ok(format!(in alloc; "{kept} {sent}")?)
+}
+
+/// A reply, in words.
+pub(crate) fn told(alloc: Global, reply: &Reply<MemHeld>) -> Result<String, WorldFault> {
+    match reply {
+        Reply::File { lease, parcel } => {
+            let blob: u64 = parcel.blob;
+            let content: String = content_of(alloc, parcel.length, &parcel.digests)?;
+            Ok(format!(in alloc; "file {lease} {blob} {content}")?)
+        }
+        Reply::Taken { kept, sent } => {
+            let both: String = both_of(alloc, kept, sent)?;
+            Ok(format!(in alloc; "taken {both}")?)
+        }
+        Reply::Offends { path, kept, sent } => {
+            let path: &str = path.as_str();
+            let both: String = both_of(alloc, kept, sent)?;
+            Ok(format!(in alloc; "offends {path} {both}")?)
+        }
+        Reply::MissingPom { dir } => {
+            let dir: &str = dir.as_str();
+            Ok(format!(in alloc; "missing-pom {dir}")?)
+        }
+        Reply::Text(text) => {
+            let text: String = bytes_of(alloc, text.as_bytes())?;
+            Ok(format!(in alloc; "text {text}")?)
+        }
+        Reply::Doc { text, digests } => document_of(alloc, text.as_slice(), digests),
+        Reply::Differs { said, kept } => {
+            let said: String = digest_of(alloc, said)?;
+            let kept: String = digest_of(alloc, kept)?;
+            Ok(format!(in alloc; "differs {said} {kept}")?)
+        }
+        _ => told_numbers(alloc, reply),
+    }
+}
+
+fn damage_of(alloc: Global, damaged: &Damaged) -> Result<String, WorldFault> {
+    let repo: &str = damaged.repo.as_str();
+    let path: &str = damaged.path.as_str();
+    let recorded: u64 = damaged.recorded.length;
+    let found: String = match &damaged.found {
+        Some(print) => number_of(alloc, "found", print.length)?,
+        None => text_of(alloc, "found none")?,
+    };
+    Ok(format!(in alloc; "damaged {repo} {path} recorded {recorded} {found}")?)
+}
+
+/// What a start came to, in words.
+pub(crate) fn told_start(alloc: Global, fault: &Option<StartFault>) -> Result<String, WorldFault> {
+    match fault {
+        None => text_of(alloc, "started"),
+        Some(StartFault::Store) => text_of(alloc, "store-fault"),
+        Some(StartFault::Damaged(damaged)) => damage_of(alloc, damaged),
+        Some(_) => text_of(alloc, "refused"),
+    }
+}

@@ -1,0 +1,260 @@
+// Steps in words: a command, or what a case does beside.
+use crate::asks::Ask;
+use crate::faults::WorldFault;
+use crate::generated::told_of_generated;
+use crate::replies::digest_of;
+use crate::worlds::World;
+use mvn_coords::Side;
+use mvn_digest::{Digest, read_side};
+use repo_model::Item;
+use std::alloc::{AllocError, Global};
+
+fn number_of(word: &str) -> Result<u64, WorldFault> {
+    word.parse::<u64>().map_err(|_| WorldFault::NoStep)
+}
+
+fn numbers_of(alloc: Global, words: &[String]) -> Result<Vec<u64>, WorldFault> {
+    let mut numbers: Vec<u64> = Vec::new(alloc);
+    for word in words {
+        numbers
+            .push(number_of(word.as_str())?)
+            .map_err(AllocError::from)?;
+    }
+    Ok(numbers)
+}
+
+/// The digest that `sha1:` or `md5:` and small digits say.
+fn said_by(word: &str) -> Result<Digest, WorldFault> {
+    let read = match word.split_once(':') {
+        Some(("sha1", digits)) => read_side(digits.as_bytes(), Side::Sha1),
+        Some(("md5", digits)) => read_side(digits.as_bytes(), Side::Md5),
+        Some(("sha256", digits)) => read_side(digits.as_bytes(), Side::Sha256),
+        Some(("sha512", digits)) => read_side(digits.as_bytes(), Side::Sha512),
+        _ => None,
+    };
+    read.ok_or(WorldFault::NoStep)
+}
+
+/// The command at a repository that these words are.
+fn ask_of(words: &[String]) -> Result<Ask<'_>, WorldFault> {
+    let [word, rest @ ..] = words else {
+        return Err(WorldFault::NoStep);
+    };
+    match (word.as_str(), rest) {
+        ("look", [repo, path]) => Ok(Ask::Look(repo.as_str(), path.as_str())),
+        ("may-put", [repo, path]) => Ok(Ask::MayPut(repo.as_str(), path.as_str())),
+        ("put", [repo, path, draft, bytes]) => Ok(Ask::Put(
+            repo.as_str(),
+            path.as_str(),
+            number_of(draft.as_str())?,
+            bytes.as_bytes(),
+        )),
+        ("put-side", [repo, path, said]) => Ok(Ask::PutSide(
+            repo.as_str(),
+            path.as_str(),
+            said_by(said.as_str())?,
+        )),
+        ("put-document", [repo, path]) => Ok(Ask::PutDoc(repo.as_str(), path.as_str())),
+        ("unlist", [repo]) => Ok(Ask::Unlist(repo.as_str())),
+        ("open", [repo]) => Ok(Ask::Open(repo.as_str())),
+        ("collect", []) => Ok(Ask::Collect),
+        ("status", []) => Ok(Ask::Status),
+        (word, [number, rest @ ..]) => numbered(word, number_of(number.as_str())?, rest),
+        _ => Err(WorldFault::NoStep),
+    }
+}
+
+/// The command of a number that these words are: a lease, a draft or a session.
+fn numbered<'a>(word: &str, number: u64, rest: &'a [String]) -> Result<Ask<'a>, WorldFault> {
+    match (word, rest) {
+        ("done", []) => Ok(Ask::Done(number)),
+        ("drop", []) => Ok(Ask::Drop(number)),
+        ("commit", []) => Ok(Ask::Commit(number)),
+        ("abort", []) => Ok(Ask::Abort(number)),
+        ("may-stage", [path]) => Ok(Ask::MayStage(number, path.as_str())),
+        ("stage", [path, draft, bytes]) => Ok(Ask::Stage(
+            number,
+            path.as_str(),
+            number_of(draft.as_str())?,
+            bytes.as_bytes(),
+        )),
+        ("stage-side", [path, said]) => {
+            Ok(Ask::StageSide(number, path.as_str(), said_by(said.as_str())?))
+        }
+        ("stage-document", [path]) => Ok(Ask::StageDoc(number, path.as_str())),
+        _ => Err(WorldFault::NoStep),
+    }
+}
+
+fn yes_or_no(alloc: Global, is_so: bool) -> Result<String, WorldFault> {
+    Ok(String::from_str(alloc, if is_so { "yes" } else { "no" })?)
+}
+
+fn done(alloc: Global) -> Result<String, WorldFault> {
+    Ok(String::from_str(alloc, "done")?)
+}
+
+/// The item at a place, in words.
+fn told_item(alloc: Global, item: Option<&Item>) -> Result<String, WorldFault> {
+    match item {
+        Some(Item::Removed { repo, path }) => {
+            let repo: &str = repo.as_str();
+            let path: &str = path.as_str();
+            Ok(format!(in alloc; "removed {repo} {path}")?)
+        }
+        Some(_) => Ok(String::from_str(alloc, "another")?),
+        None => Ok(String::from_str(alloc, "none")?),
+    }
+}
+
+/// Whether so many sessions are opened, which have the numbers from 1 on.
+fn opens_all(world: &mut World, alloc: Global, repo: &str, count: u64) -> Result<bool, WorldFault> {
+    for number in 1..count.saturating_add(1) {
+        let want: String = format!(in alloc; "session {number}")?;
+        if world.ask(Ask::Open(repo))?.as_str() != want.as_str() {
+            return Ok(false);
+        }
+    }
+    Ok(true)
+}
+
+/// Whether so many files are staged, their drafts having the numbers from 1 on.
+fn stages_all(world: &mut World, session: u64, count: u64) -> Result<bool, WorldFault> {
+    for number in 1..count.saturating_add(1) {
+        if !world.stages(session, number)? {
+            return Ok(false);
+        }
+    }
+    Ok(true)
+}
+
+/// What is told of a world while no core runs, or of the blobs.
+fn seen(world: &mut World, alloc: Global, words: &[String]) -> Result<Option<String>, WorldFault> {
+    let [word, rest @ ..] = words else {
+        return Ok(None);
+    };
+    match (word.as_str(), rest) {
+        ("ended", []) => {
+            let (calls, moment) = world.ended();
+            Ok(Some(format!(in alloc; "{calls} {moment}")?))
+        }
+        ("recorded", []) => {
+            let count: usize = world.items()?.len();
+            Ok(Some(format!(in alloc; "{count}")?))
+        }
+        ("item", [place]) => {
+            let place: usize = place
+                .as_str()
+                .parse::<usize>()
+                .map_err(|_| WorldFault::NoStep)?;
+            Ok(Some(told_item(alloc, world.items()?.get(place))?))
+        }
+        ("blobs", []) => Ok(Some(world.told_blobs()?)),
+        ("generated", [count]) => {
+            let told: &str = told_of_generated(alloc, number_of(count.as_str())?)?;
+            Ok(Some(String::from_str(alloc, told)?))
+        }
+        ("read", []) => Ok(Some(String::from_utf8_lossy(alloc, world.read()?.as_slice())?)),
+        ("side", [name, text]) => {
+            let side: Side = if name.as_str() == "sha1" {
+                Side::Sha1
+            } else {
+                Side::Md5
+            };
+            match read_side(text.as_bytes(), side) {
+                Some(digest) => Ok(Some(digest_of(alloc, &digest)?)),
+                None => Ok(Some(String::from_str(alloc, "none")?)),
+            }
+        }
+        _ => Ok(None),
+    }
+}
+
+/// Starts, in words: by a moment and a step, or at moments.
+fn started(
+    world: &mut World,
+    alloc: Global,
+    words: &[String],
+) -> Result<Option<String>, WorldFault> {
+    let [word, rest @ ..] = words else {
+        return Ok(None);
+    };
+    match (word.as_str(), rest) {
+        ("start", [settings, at, step]) => Ok(Some(world.start(
+            settings.as_bytes(),
+            number_of(at.as_str())?,
+            number_of(step.as_str())?,
+        )?)),
+        ("start-at", [settings, moments @ ..]) => {
+            let moments: Vec<u64> = numbers_of(alloc, moments)?;
+            Ok(Some(world.start_at(settings.as_bytes(), moments.as_slice())?))
+        }
+        _ => Ok(None),
+    }
+}
+
+/// What is done beside commands, in words.
+fn done_beside(
+    world: &mut World,
+    alloc: Global,
+    words: &[String],
+) -> Result<Option<String>, WorldFault> {
+    let [word, rest @ ..] = words else {
+        return Ok(None);
+    };
+    match (word.as_str(), rest) {
+        ("stop", []) => world.stop()?,
+        ("records-fail", failing) => world.fail_at(numbers_of(alloc, failing)?.as_slice())?,
+        ("blobs-fail", failing) => {
+            *world = World::new(alloc, numbers_of(alloc, failing)?.as_slice())?;
+        }
+        ("store", [blob, bytes]) => world.store(number_of(blob.as_str())?, bytes.as_bytes())?,
+        ("remove", [blob]) => world.remove(number_of(blob.as_str())?)?,
+        _ => return Ok(None),
+    }
+    Ok(Some(done(alloc)?))
+}
+
+/// What is asked and answered by yes or no.
+fn judged(
+    world: &mut World,
+    alloc: Global,
+    words: &[String],
+) -> Result<Option<String>, WorldFault> {
+    let [word, rest @ ..] = words else {
+        return Ok(None);
+    };
+    let is_so: bool = match (word.as_str(), rest) {
+        ("borrow", [repo, path]) => world.borrow(repo.as_str(), path.as_str())?,
+        ("open-all", [repo, count]) => {
+            opens_all(world, alloc, repo.as_str(), number_of(count.as_str())?)?
+        }
+        ("stage-all", [session, count]) => stages_all(
+            world,
+            number_of(session.as_str())?,
+            number_of(count.as_str())?,
+        )?,
+        ("fits", ask) => world.fits(ask_of(ask)?)?,
+        _ => return Ok(None),
+    };
+    Ok(Some(yes_or_no(alloc, is_so)?))
+}
+
+impl World {
+    /// Takes a step that these words say: what is told of it.
+    pub(crate) fn take(&mut self, alloc: Global, words: &[String]) -> Result<String, WorldFault> {
+        if let Some(told) = started(self, alloc, words)? {
+            return Ok(told);
+        }
+        if let Some(told) = done_beside(self, alloc, words)? {
+            return Ok(told);
+        }
+        if let Some(told) = judged(self, alloc, words)? {
+            return Ok(told);
+        }
+        match seen(self, alloc, words)? {
+            Some(told) => Ok(told),
+            None => self.ask(ask_of(words)?),
+        }
+    }
+}

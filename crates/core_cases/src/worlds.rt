@@ -1,0 +1,246 @@
+// Cores over memory, one after the other, and what outlasts each. A core is called in small functions alone, so that what it
+// promises is not carried through the others.
+use crate::asks::Ask;
+use crate::commands::{command_of, may_put, parcel_of, stage};
+use crate::faults::WorldFault;
+use crate::replies::{numbers_of, told, told_start};
+use outside::{Blobs, Clock, Held, Parcel};
+use outside_memory::{FaultScript, MemBlobs, MemHeld, ScriptClock};
+use repo_config::{Settings, read};
+use repo_core::{Command, Core, Place, Reply, StartFault, start};
+use repo_model::Item;
+use row_tables::{MemRecords, Records};
+use std::alloc::Global;
+use std::mem;
+
+type MemCore = Core<MemRecords, ScriptClock, MemHeld>;
+
+/// A core or none, its blobs, and the records while none runs.
+#[derive(Drop)]
+pub(crate) struct World {
+    alloc: Global,
+    core: Option<MemCore>,
+    records: MemRecords,
+    blobs: MemBlobs,
+    borrowed: Option<Parcel<MemHeld>>,
+    // how many calls the last core had, and what its clock then told
+    ended: (u64, u64),
+}
+
+// Whether a command meets its condition.
+fn is_fit<K: Records, C: Clock, H: Held>(core: &Core<K, C, H>, command: &Command<H>) -> bool {
+    Core::<K, C, H>::fits(core.settings(), command)
+}
+
+// The reply, where the command meets its condition.
+fn reply_of<K: Records, C: Clock, H: Held>(
+    core: &mut Core<K, C, H>,
+    command: Command<H>,
+) -> Option<Reply<H>> {
+    if !Core::<K, C, H>::fits(core.settings(), &command) {
+        return None;
+    }
+    Some(core.call(command))
+}
+
+// How many calls there were, and the records and the clock.
+fn end_of<K: Records, C: Clock, H: Held>(core: Core<K, C, H>) -> (u64, K, C) {
+    let calls = core.calls();
+    let (records, clock) = core.end();
+    (calls, records, clock)
+}
+
+// Settings of which nothing is known.
+fn settings_of(alloc: Global, text: &[u8]) -> Result<Settings, WorldFault> {
+    read(alloc, text).map_err(|_| WorldFault::Settings)
+}
+
+impl World {
+    /// Nothing is recorded or stored, and no core runs. The calls of the store with these numbers fail; the first has the number 0.
+    pub(crate) fn new(alloc: Global, failing: &[u64]) -> Result<World, WorldFault> {
+        let script = FaultScript::failing_at(Vec::from_slice(alloc, failing)?);
+        Ok(World {
+            alloc,
+            core: None,
+            records: MemRecords::new(alloc, Vec::new(alloc)),
+            blobs: MemBlobs::new(alloc, script),
+            borrowed: None,
+            ended: (0, 0),
+        })
+    }
+
+    // A start over the records and the blobs.
+    fn start_by(&mut self, settings: Settings, clock: ScriptClock) -> Option<StartFault> {
+        let none = MemRecords::new(self.alloc, Vec::new(self.alloc));
+        let records = mem::replace(&mut self.records, none);
+        match start(self.alloc, settings, records, &mut self.blobs, clock) {
+            Ok(core) => {
+                self.core = Some(core);
+                None
+            }
+            Err((fault, records, _)) => {
+                self.records = records;
+                Some(fault)
+            }
+        }
+    }
+
+    fn start_with(&mut self, settings: &[u8], clock: ScriptClock) -> Result<String, WorldFault> {
+        self.is_ended()?;
+        let settings = settings_of(self.alloc, settings)?;
+        told_start(self.alloc, &self.start_by(settings, clock))
+    }
+
+    /// A start by a clock from this moment, each so many seconds after the one before: what it came to.
+    pub(crate) fn start(
+        &mut self,
+        settings: &[u8],
+        at: u64,
+        step: u64,
+    ) -> Result<String, WorldFault> {
+        let clock = ScriptClock::stepping(self.alloc, at, step);
+        self.start_with(settings, clock)
+    }
+
+    /// A start by a clock that stands at the first of these moments and tells the others, of which the last is repeated: what it came to.
+    pub(crate) fn start_at(
+        &mut self,
+        settings: &[u8],
+        moments: &[u64],
+    ) -> Result<String, WorldFault> {
+        let [first, rest @ ..] = moments else {
+            return Err(WorldFault::NoStep);
+        };
+        let clock = ScriptClock::listed(*first, Vec::from_slice(self.alloc, rest)?);
+        self.start_with(settings, clock)
+    }
+
+    /// Ends the core that runs.
+    pub(crate) fn stop(&mut self) -> Result<(), WorldFault> {
+        let Some(core) = self.core.take() else {
+            return Err(WorldFault::NoCore);
+        };
+        let (calls, records, mut clock) = end_of(core);
+        self.records = records;
+        self.ended = (calls, clock.now());
+        Ok(())
+    }
+
+    // That no core runs.
+    fn is_ended(&self) -> Result<(), WorldFault> {
+        match self.core {
+            Some(_) => Err(WorldFault::Runs),
+            None => Ok(()),
+        }
+    }
+
+    /// How many calls the core had that was ended last, and what its clock then told.
+    pub(crate) fn ended(&self) -> (u64, u64) {
+        self.ended
+    }
+
+    /// The items that are recorded, while no core runs.
+    pub(crate) fn items(&self) -> Result<&[Item], WorldFault> {
+        self.is_ended()?;
+        Ok(self.records.items())
+    }
+
+    /// New records, of which these calls fail.
+    pub(crate) fn fail_at(&mut self, failing: &[u64]) -> Result<(), WorldFault> {
+        self.is_ended()?;
+        let failing = Vec::from_slice(self.alloc, failing)?;
+        self.records = MemRecords::new(self.alloc, failing);
+        Ok(())
+    }
+
+    /// The blobs that were removed from the store, in their order, and those that are there.
+    pub(crate) fn told_blobs(&mut self) -> Result<String, WorldFault> {
+        let listed = self.blobs.list()?;
+        let removed: String = numbers_of(self.alloc, self.blobs.removed())?;
+        let there: String = numbers_of(self.alloc, listed.as_slice())?;
+        Ok(format!(in self.alloc; "removed:{removed} there:{there}")?)
+    }
+
+    /// Stores bytes past the core.
+    pub(crate) fn store(&mut self, blob: u64, bytes: &[u8]) -> Result<(), WorldFault> {
+        self.blobs.store(blob, bytes)?;
+        Ok(())
+    }
+
+    /// Removes a blob past the core.
+    pub(crate) fn remove(&mut self, blob: u64) -> Result<(), WorldFault> {
+        Ok(self.blobs.remove(blob)?)
+    }
+
+    fn reply_to(
+        &mut self,
+        command: Command<MemHeld>,
+    ) -> Result<Option<Reply<MemHeld>>, WorldFault> {
+        match &mut self.core {
+            Some(core) => Ok(reply_of(core, command)),
+            None => Err(WorldFault::NoCore),
+        }
+    }
+
+    fn told_reply(&mut self, command: Command<MemHeld>) -> Result<String, WorldFault> {
+        match self.reply_to(command)? {
+            Some(reply) => told(self.alloc, &reply),
+            None => Ok(String::from_str(self.alloc, "unfit")?),
+        }
+    }
+
+    /// Whether a command meets its condition.
+    pub(crate) fn fits(&mut self, ask: Ask<'_>) -> Result<bool, WorldFault> {
+        let command = command_of(self.alloc, &mut self.blobs, ask)?;
+        match &self.core {
+            Some(core) => Ok(is_fit(core, &command)),
+            None => Err(WorldFault::NoCore),
+        }
+    }
+
+    /// The reply to a command, in words; `unfit` where it does not meet its condition.
+    pub(crate) fn ask(&mut self, ask: Ask<'_>) -> Result<String, WorldFault> {
+        let command = command_of(self.alloc, &mut self.blobs, ask)?;
+        self.told_reply(command)
+    }
+
+    /// Keeps the parcel of a file that is there; whether there is one.
+    pub(crate) fn borrow(&mut self, repo: &str, path: &str) -> Result<bool, WorldFault> {
+        let command = command_of(self.alloc, &mut self.blobs, Ask::Look(repo, path))?;
+        match self.reply_to(command)? {
+            Some(Reply::File { lease: _, parcel }) => {
+                self.borrowed = Some(parcel);
+                Ok(true)
+            }
+            _ => Ok(false),
+        }
+    }
+
+    /// The bytes of the parcel that is kept.
+    pub(crate) fn read(&mut self) -> Result<Vec<u8>, WorldFault> {
+        match &self.borrowed {
+            Some(parcel) => Ok(self.blobs.read(&parcel.held)?),
+            None => Err(WorldFault::NoStep),
+        }
+    }
+
+    // Whether a session gives the draft of this number at a path.
+    fn gives(&mut self, session: u64, path: &str, draft: u64) -> Result<bool, WorldFault> {
+        let asked = may_put(self.alloc, Place::Session(session), path)?;
+        let want = format!(in self.alloc; "draft {draft}")?;
+        Ok(self.told_reply(asked)?.as_str() == want.as_str())
+    }
+
+    // Whether a file without bytes is staged at a path.
+    fn takes(&mut self, session: u64, path: &str, draft: u64) -> Result<bool, WorldFault> {
+        let parcel = parcel_of(&mut self.blobs, draft, b"")?;
+        let sent = stage(self.alloc, session, path, parcel)?;
+        Ok(self.told_reply(sent)?.as_str() == "staged")
+    }
+
+    /// Whether a session gives the draft of a number at a path of its own, and takes a file without bytes there.
+    pub(crate) fn stages(&mut self, session: u64, number: u64) -> Result<bool, WorldFault> {
+        let path = format!(in self.alloc; "g/a/{number}/a-{number}.pom")?;
+        Ok(self.gives(session, &path, number)? && self.takes(session, &path, number)?)
+    }
+}
