@@ -1,4 +1,4 @@
-"""What the scripts of this folder share: a server that runs over a folder, and files that are known by their number."""
+"""What the scripts of this folder share: a server that runs over a folder, files that are known by their number, and figures."""
 
 import hashlib
 import os
@@ -9,6 +9,7 @@ import time
 
 HERE = os.path.dirname(os.path.abspath(__file__))
 PROGRAM = os.path.join(HERE, "..", "crates", "mvnrepod", "out", "mvnrepod")
+DIGESTS = os.path.join(HERE, "..", "crates", "digest_bench", "out", "digest_bench")
 
 
 def free_port():
@@ -30,11 +31,11 @@ def wait_for(port, process):
     sys.exit("the server does not listen")
 
 
-def begin(program, settings, data, port):
-    """A server over the folder `data`, which listens."""
+def begin(program, settings, data, port, through=()):
+    """A server over the folder `data`, which listens; it is started by the words of `through`, where there are some."""
     if not os.access(program, os.X_OK):
         sys.exit(f"no program at {program}; --help says how it is built")
-    server = subprocess.Popen([program, "serve", settings, data, str(port)], stderr=subprocess.PIPE)
+    server = subprocess.Popen([*through, program, "serve", settings, data, str(port)], stderr=subprocess.PIPE)
     wait_for(port, server)
     return server
 
@@ -44,7 +45,47 @@ def body_of(seed, length):
     return hashlib.shake_128(str(seed).encode()).digest(length)
 
 
+def memory(pid, name):
+    with open(f"/proc/{pid}/status", encoding="ascii") as it:
+        return next(int(line.split()[1]) for line in it if line.startswith(name + ":"))
+
+
 def resident(pid):
     """How many KiB of memory a process has resident."""
-    with open(f"/proc/{pid}/status", encoding="ascii") as it:
-        return next(int(line.split()[1]) for line in it if line.startswith("VmRSS"))
+    return memory(pid, "VmRSS")
+
+
+def peak(pid):
+    """How many KiB a process had resident at most since `forget_peak`, or since it began."""
+    return memory(pid, "VmHWM")
+
+
+def forget_peak(pid):
+    with open(f"/proc/{pid}/clear_refs", "w", encoding="ascii") as it:
+        it.write("5")
+
+
+def processor(pid):
+    """The seconds of processor that a process and its children have had."""
+    with open(f"/proc/{pid}/task/{pid}/children", encoding="ascii") as it:
+        pids, spent = [pid, *map(int, it.read().split())], 0
+    for each in pids:
+        with open(f"/proc/{each}/stat", encoding="ascii") as it:
+            spent += sum(map(int, it.read().rpartition(")")[2].split()[11:13]))
+    return spent / os.sysconf("SC_CLK_TCK")
+
+
+class Figures:
+    """Figures beside what is wanted of them. The script that looked at them ends with 1 where one is missed."""
+
+    def __init__(self):
+        self.missed = []
+
+    def look(self, what, holds, wanted):
+        print(f"{'ok    ' if holds else 'MISSED'} {what} (wanted: {wanted})", flush=True)
+        if not holds:
+            self.missed.append(what)
+
+    def end(self):
+        print(f"missed {len(self.missed)}, load {os.getloadavg()[0]:.1f}")
+        sys.exit(1 if self.missed else 0)
