@@ -102,6 +102,15 @@ fn push(
     Ok(())
 }
 
+// Calls a command, and gives what its reply says.
+fn call_one(core: &mut Repository, command: Command<MemHeld>) -> u64
+    requires { IsTrue (meets core.old.settings (shown_command command)) }
+    ensures { core.new.settings ≡ core.old.settings }
+{
+    let reply = core.call(command);
+    number_of(&reply)
+}
+
 // Calls commands, the last one first, and gives what their replies say.
 fn call_all(
     core: &mut Repository,
@@ -111,8 +120,8 @@ fn call_all(
     requires { All (λ c. IsTrue (meets core.old.settings (shown_command c))) batch.items }
 {
     while let Some(command) = batch.pop() {
-        let reply = core.call(command);
-        numbers.push(number_of(&reply))?;
+        let number = call_one(core, command);
+        numbers.push(number)?;
     }
     Ok(numbers)
 }

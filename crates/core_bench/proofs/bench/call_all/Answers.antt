@@ -4,13 +4,13 @@ use Rattle.repo_model.specs.Command.{meets}
 use Rattle.repo_model.specs.Shown.{shown_command}
 use Rattle.core_bench.proofs.bench.call_all.Goals as goal
 
-pub call-reply-requires : goal.call-reply-requires
-call-reply-requires c =
+pub call_one-number-requires : goal.call_one-number-requires
+call_one-number-requires c =
     let items : c.loop-command.batch.items ≡ c.pop.new.self.items ++ c.in-Some.command ∷ [] = search rules in
     (All-pop (λ x. IsTrue (meets c.loop-command.core.settings (shown_command x))) c.loop-command.batch.items c.pop.new.self.items (Some c.in-Some.command) items c.loop-command.invariant).1
 
 pub loop-command-preserved : goal.loop-command-preserved
 loop-command-preserved c =
     let items : c.loop-command.batch.items ≡ c.pop.new.self.items ++ c.in-Some.command ∷ [] = search rules in
-    rw c.call-reply.ensures.settings
+    rw c.call_one-number.ensures
     (All-pop (λ x. IsTrue (meets c.loop-command.core.settings (shown_command x))) c.loop-command.batch.items c.pop.new.self.items (Some c.in-Some.command) items c.loop-command.invariant).0
