@@ -1,8 +1,8 @@
 -- What stays as it was where rows fade.
-use Rattle.std.proofs.Common.{◌≡◌, ℕ, zero, suc, true, false, cond, List, [], ◌∷◌, map, filter, take, Option, Some, None, Result, Ok, Err, option_map, bytes_eq, refl, sym, ap, ◌∙◌}
+use Rattle.std.proofs.Common.{◌≡◌, ℕ, zero, suc, true, false, cond, List, [], ◌∷◌, map, filter, take, Option, Some, None, Result, Ok, Err, option_map, refl, sym, ap, ◌∙◌}
 use Rattle.std.specs.Prelude.{is_some}
 use Rattle.std.specs.List.{AllByRecursion}
-use Rattle.std.proofs.lemmas.Bool.{and_parts, both_ways, false≢true, false_from_ne_true}
+use Rattle.std.proofs.lemmas.Bool.{and_parts, false≢true}
 use Rattle.std.proofs.lemmas.Slice.Eq.{bytes_eq-Decides}
 use Rattle.mvn_coords.specs.FileName.{BuildOf}
 use Rattle.mvn_coords.specs.Layout.{Coordinates, text_of}
@@ -23,7 +23,6 @@ use Rattle.hosted_repo.specs.Releases.{AllFadeRightly, FadesRightly}
 use Rattle.ordered_rows.specs.Rows.{rows_after_all}
 use Rattle.hosted_repo.specs.Seens.{is_of_document}
 use Rattle.ordered_rows.proofs.EachRow.{each-changed}
-use Rattle.hosted_repo.proofs.ReleaseLemmas.{changed-elsewhere}
 
 abbrev blob_at : List ℕ → List plain.Row → Option plain.Blob
 blob_at path rows = option_map (λ (row : plain.Row). row.blob) (row_at path rows)
@@ -92,19 +91,6 @@ snapshots_take : (n : ℕ) (rows : List plain.Row) → AreSnapshots rows → Are
 snapshots_take zero rows h = tt
 snapshots_take (suc n) [] h = tt
 snapshots_take (suc n) (row ∷ rows) h = (h.0, snapshots_take n rows h.1)
-
-kept_apart : (repo : List ℕ) (now : ℕ) (due rows : List plain.Row) (path : List ℕ) → AreSnapshots due → is_snapshot_path path ≡ false
-    → row_at path (rows_after_all (map (λ (row : plain.Row). fades repo row.path now) due) rows) ≡ row_at path rows
-kept_apart repo now [] rows path h other = refl
-kept_apart repo now (row ∷ due) rows path h other =
-    kept_apart repo now due (rows_after (fades repo row.path now) rows) path h.1 other
-    ∙ changed-elsewhere path row.path (fade now) (λ r. refl) rows
-    (false_from_ne_true (bytes_eq row.path path) (λ same. both_ways (is_snapshot_path path) other (ap is_snapshot_path (sym ((bytes_eq-Decides row.path path).0 same)) ∙ h.0)))
-
-pub releases_kept : (rule : Rule) (now : ℕ) (rows : List plain.Row) (path : List ℕ) → is_snapshot_path path ≡ false
-    → row_at path (rows_after_all (map (λ (row : plain.Row). fades rule.id row.path now) (due_rows rule now rows)) rows) ≡ row_at path rows
-releases_kept rule now rows path other =
-    kept_apart rule.id now (due_rows rule now rows) rows path (snapshots_take most_rows (filter (is_due_row rule now rows) rows) (due_filter rule now rows rows)) other
 
 -- rows that fade at a snapshot's path
 rightly-one : (at : List ℕ) (now : ℕ) (rows : List plain.Row) → is_snapshot_path at ≡ true → AllFadeRightly rows → AllFadeRightly (change_where (is_row at) (fade now) rows)

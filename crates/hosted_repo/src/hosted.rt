@@ -23,7 +23,7 @@ ghost use Rattle.hosted_repo.specs.Expired.{blob_of};
 ghost use Rattle.ordered_rows.specs.Recording.{FitWhereTold, HasReplyCause, IsRemoved};
 ghost use Rattle.row_tables.specs.Records.{HasCommitCause};
 ghost use Rattle.directory_rows.specs.Rules.{shown_rule};
-ghost use Rattle.hosted_repo.specs.Releases.{FadesRightly, KeepsReleases};
+ghost use Rattle.hosted_repo.specs.Releases.{FadesRightly};
 ghost use Rattle.hosted_repo.specs.Restored.{kept_row};
 ghost use Rattle.ordered_rows.specs.Rows.{fades, shown_at, rows_after_all};
 ghost use Rattle.hosted_repo.specs.Puts.{shown_put, put_turn, GivesBack};
@@ -141,7 +141,6 @@ impl<H: Held> Hosted<H> {
             self.new ≡ (if is_free (shown_put result) then self.old else record self.old { rows = rows_after_all turn.effects self.old.rows }) }
         ensures tables { let turn = put_turn self.old path.now (shown_parcel parcel) now in
             K.tables records.new ≡ (if is_free (shown_put result) then K.tables records.old else tables_with (recorded turn.effects) (K.tables records.old)) }
-        ensures releases { KeepsReleases self.old.rows self.new.rows }
         ensures cause { HasReplyCause (K.faults records.old) (K.faults records.new) (shown_put result) }
         ensures ready { K.ready records.new }
         ensures parcel { GivesBack result parcel }
@@ -174,7 +173,6 @@ impl<H: Held> Hosted<H> {
             else record self.old { rows = with_row (new_row path.now (shown_parcel parcel) now) self.old.rows }) }
         ensures tables { K.tables records.new ≡ (if is_free (shown_put result) then K.tables records.old
             else tables_with (HostedPut self.old.rule.id path.now parcel.blob (recorded_print (shown_print parcel)) now ∷ []) (K.tables records.old)) }
-        ensures releases { KeepsReleases self.old.rows self.new.rows }
         ensures cause { HasReplyCause (K.faults records.old) (K.faults records.new) (shown_put result) }
         ensures ready { K.ready records.new }
         ensures parcel { GivesBack result parcel }
@@ -206,7 +204,6 @@ impl<H: Held> Hosted<H> {
             else record self.old { rows = change_where (is_row path.now) (list_again now) self.old.rows }) }
         ensures tables { K.tables records.new ≡ (if is_free (shown_put result) then K.tables records.old
             else tables_with (Relisted self.old.rule.id path.now now ∷ []) (K.tables records.old)) }
-        ensures releases { KeepsReleases self.old.rows self.new.rows }
         ensures cause { HasReplyCause (K.faults records.old) (K.faults records.new) (shown_put result) }
         ensures ready { K.ready records.new }
         ensures parcel { GivesBack result parcel }
@@ -246,7 +243,6 @@ impl<H: Held> Hosted<H> {
         ensures blobs { blobs_of result ≡ (if is_done result then flat_map left_by (deliveries self.old (shown_files staged.now.entries) now) else []) }
         ensures tables { K.tables records.new ≡ (if is_done result
             then tables_with (recorded (deliveries self.old (shown_files staged.now.entries) now) ++ also ∷ []) (K.tables records.old) else K.tables records.old) }
-        ensures releases { KeepsReleases self.old.rows self.new.rows }
         ensures cause { HasReplyCause (K.faults records.old) (K.faults records.new) (shown_put_all result) }
         ensures ready { K.ready records.new }
     {
@@ -279,7 +275,6 @@ impl<H: Held> Hosted<H> {
         requires fading { FadesRightly (kept_row path.now (shown_parcel parcel) accepted phase) }
         ensures ok { OnOk result (self.new ≡ record self.old { rows = with_row (kept_row path.now (shown_parcel parcel) accepted phase) self.old.rows }) }
         ensures err { OnErr result (self.new ≡ self.old) }
-        ensures releases { KeepsReleases self.old.rows self.new.rows }
         ensures back { IfErr result (λ back. back ≡ parcel) }
     {
         let row = Row {
@@ -330,9 +325,7 @@ impl<H: Held> Hosted<H> {
         ensures asked { result ≡ Err CommitFault.Failed → recorded (fade_all self.old now) ≢ [] }
         ensures ready { K.ready records.new }
 
-        // Files of releases stay as they are, and all files and their side files are answered as before.
-        ensures releases { (path : List ℕ) → is_snapshot_path path ≡ false
-            → row_at path self.new.rows ≡ row_at path self.old.rows }
+        // All files and their side files are answered as before.
         ensures answered { (path : List ℕ) → is_of_document (kind path) ≡ false
             → seen_at self.new.rows path (kind path) ≡ seen_at self.old.rows path (kind path) }
     {
@@ -364,11 +357,7 @@ impl<H: Held> Hosted<H> {
     /// Takes the first `count` rows away whose grace period, in seconds, is over at a moment. It takes no memory; that they go
     /// was recorded with `expiring`.
     pub fn drop_expired(&mut self, grace: u64, now: u64, count: u64)
-        ensures rows { self.new ≡ record self.old { rows = rows_after_all (take count (expired_of grace now self.old)) self.old.rows } }
-
-        // Files of releases stay as they are.
-        ensures releases { (path : List ℕ) → is_snapshot_path path ≡ false
-            → row_at path self.new.rows ≡ row_at path self.old.rows }
+        ensures { self.new ≡ record self.old { rows = rows_after_all (take count (expired_of grace now self.old)) self.old.rows } }
     {
         // Its contract says that the paths rise.
         let _len = self.rows.map().len();

@@ -76,9 +76,6 @@ module _ {X : Type 0} (p : X → Bool) where
         let at = found-at xs i is in
         subst (λ k. set xs k (f (get_or xs k d)) ≡ change_first p f xs) at.0 (changed-first xs d at.1)
 
-  pub within-at : (xs : List X) (i : ℕ) → position p xs ≡ Some i → i < length xs
-  within-at xs i is = let at = found-at xs i is in subst (λ k. k < length xs) at.0 at.1
-
   pub find-at : (xs : List X) (i : ℕ) (d : X) → position p xs ≡ Some i → find p xs ≡ Some (get_or xs i d)
   find-at xs i d is = let at = found-at xs i is in subst (λ k. find p xs ≡ Some (get_or xs k d)) at.0 (found-first xs d at.1)
 

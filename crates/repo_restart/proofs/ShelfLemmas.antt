@@ -1,25 +1,13 @@
 -- Blobs that are removed one after another.
-use Rattle.std.proofs.Common.{◌≡◌, ℕ, ◌+◌, ◌<◌, cond, not, List, [], ◌∷◌, ◌++◌, length, take, drop, get_or, Option, Some, None, Result, Ok, Err, refl, sym, ap, ◌∙◌}
-use Rattle.std.proofs.lemmas.List.{take_more, take-append-drop}
+use Rattle.std.proofs.Common.{◌≡◌, ℕ, ◌+◌, cond, not, List, [], ◌∷◌, ◌++◌, take, drop, Option, Some, None, Result, Ok, Err, refl, sym, ap, ◌∙◌}
+use Rattle.std.proofs.lemmas.List.{take-append-drop}
 use Rattle.std.proofs.lemmas.List.Elements.{filter-append}
-use Rattle.std.proofs.lemmas.List.Sums.{fold-append}
 use Rattle.std.specs.Prelude.{OnErr}
-use Rattle.outside.specs.Blobs.{Shelf, numbers_of, without_blob}
+use Rattle.outside.specs.Blobs.{Shelf, numbers_of}
 use Rattle.outside.specs.Told.{IsWhereTold}
 use Rattle.repo_model.specs.Restart.{greatest_number}
 use Rattle.repo_model.specs.State.{is_among}
 use Rattle.repo_restart.specs.Leftovers.{Clears, ClearsFront, left_over, without_blobs}
-
--- one more stored number
-pub gone-more : (named stored : List ℕ) (i n : ℕ) (old now new : Shelf) → i < length stored → n ≡ get_or stored i 0 → now ≡ without_blobs (left_over named (take i stored)) old
-    → new ≡ without_blobs (left_over named (n ∷ [])) now → new ≡ without_blobs (left_over named (take (i + 1) stored)) old
-gone-more named stored i n old now new within is before made =
-    let more : take (i + 1) stored ≡ take i stored ++ n ∷ [] = take_more stored i 0 within ∙ ap (λ m. take i stored ++ m ∷ []) (sym is) in
-    let parts : left_over named (take (i + 1) stored) ≡ left_over named (take i stored) ++ left_over named (n ∷ [])
-    = ap (left_over named) more ∙ filter-append (λ m. not (is_among m named)) (take i stored) (n ∷ []) in
-    made ∙ ap (without_blobs (left_over named (n ∷ []))) before
-    ∙ sym (fold-append (λ (left : Shelf) (m : ℕ). without_blob m left) old (left_over named (take i stored)) (left_over named (n ∷ [])))
-    ∙ ap (λ numbers. without_blobs numbers old) (sym parts)
 
 -- those so far and the others
 pub gone-parts : (named stored : List ℕ) (i : ℕ) → left_over named stored ≡ left_over named (take i stored) ++ left_over named (drop i stored)

@@ -4,7 +4,6 @@
 
 mod empties;
 mod faults;
-mod laws;
 mod leftovers;
 mod numbers;
 mod restarts;
@@ -13,5 +12,4 @@ mod taking;
 
 pub use empties::empty_repos;
 pub use faults::RestoreFault;
-pub use laws::one_repository_keeps_what_all_keep;
 pub use restarts::{Restored, restore};

@@ -10,4 +10,4 @@ loop-place-preserved g c =
     let n = get_or counts i 0 in
     let few : length counts ≤ length c.args.repos.now.items = omega (arith, c.requires) in
     drop-more c.args.grace c.args.now counts c.args.repos.now.items c.loop-place.repos.items i n c.index_mut.result.now c.drop_expired.new.self few c.loop-place-test.true
-    (get_or_default counts i 0 n c.loop-place-test.true) c.loop-place.invariant c.index_mut.ensures.value c.drop_expired.ensures.rows
+    (get_or_default counts i 0 n c.loop-place-test.true) c.loop-place.invariant c.index_mut.ensures.value c.drop_expired.ensures

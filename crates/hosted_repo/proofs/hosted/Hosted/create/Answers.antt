@@ -1,15 +1,14 @@
-use Rattle.std.proofs.Common.{[], ◌∷◌, sym, ap, ◌∙◌, subst}
+use Rattle.std.proofs.Common.{[], ◌∷◌, sym, subst}
 use Rattle.repo_model.specs.Data as plain
 use Rattle.repo_model.specs.declared.item.Item.TheVariants.{HostedPut}
-use Rattle.repo_model.specs.Effect.{new_row, with_row}
+use Rattle.repo_model.specs.Effect.{new_row}
 use Rattle.repo_model.specs.Prints.{recorded_print}
 use Rattle.repo_model.specs.Shown.{shown_parcel, shown_print}
-use Rattle.repo_model.specs.State.{row_at}
 use Rattle.ordered_rows.specs.Recording.{FitWhereTold}
 use Rattle.hosted_repo.specs.Releases.{AllFadeRightly, FadesRightly}
 use Rattle.ordered_rows.specs.Rows.{AreFiles, IsFileRow}
 use Rattle.hosted_repo.proofs.FormLemmas.{from-both, puts-change}
-use Rattle.hosted_repo.proofs.ReleaseLemmas.{keeps-either, keeps-new, new-rightly}
+use Rattle.hosted_repo.proofs.ReleaseLemmas.{new-rightly}
 use Rattle.ordered_rows.proofs.EachRow.{each-with}
 use Rattle.hosted_repo.proofs.hosted.Hosted.create.Goals as goal
 
@@ -35,10 +34,3 @@ invariant_of-self g c =
           (λ made. subst AllFadeRightly (sym made) (each-with FadesRightly new old (new-rightly new.path new.blob new.accepted) c.self.invariant.fading))
           (λ same. subst AllFadeRightly (sym same) c.self.invariant.fading);
     }
-
-pub returns-clause-releases : goal.returns-clause-releases
-returns-clause-releases g c =
-    let old = c.self.inside.rows in
-    let new : plain.Row = new_row c.args.path.now (shown_parcel c.args.parcel) c.args.now in
-    keeps-either c.create.result c.args.self.now old c.create.new.rows (with_row new old) (ap (λ (h : plain.Hosted). h.rows) c.self.view_is) c.create.ensures.ok c.create.ensures.err
-    (keeps-new new old (ap (λ (h : plain.Hosted). row_at c.args.path.now h.rows) c.self.view_is ∙ c.requires.free))

@@ -2,12 +2,10 @@ use Rattle.std.proofs.Common.{List, take, sym, ap, ◌∙◌, subst}
 use Rattle.repo_model.specs.Data as plain
 use Rattle.repo_model.specs.Purge.{expired_of}
 use Rattle.repo_model.specs.Settings.{Rule}
-use Rattle.repo_model.specs.State.{row_at}
 use Rattle.hosted_repo.specs.Releases.{AllFadeRightly, FadesRightly}
 use Rattle.ordered_rows.specs.Rows.{AreFiles, IsFileRow, rows_after_all, without_first}
 use Rattle.directory_rows.specs.Rules.{shown_rule}
 use Rattle.hosted_repo.proofs.Expiry.{dropped}
-use Rattle.hosted_repo.proofs.ReleaseLemmas.{left-releases}
 use Rattle.ordered_rows.proofs.Rising.{AreRising, rising-shown}
 use Rattle.ordered_rows.proofs.EachRow.{each-left}
 use Rattle.hosted_repo.proofs.hosted.Hosted.drop_expired.Goals as goal
@@ -22,17 +20,11 @@ invariant_of-self g c = record {
   fading = subst AllFadeRightly (sym c.drop_first.ensures) (each-left FadesRightly c.args.count c.saturating_sub.result c.self.inside.rows c.self.invariant.fading);
 }
 
-pub returns-clause-rows : goal.returns-clause-rows
-returns-clause-rows g c =
+pub returns : goal.returns
+returns g c =
     let y = c.self.inside in
     let rising = subst AreRising c.map.ensures (rising-shown c.map.result.now.entries c.len-len.ensures.ordered) in
     ap (whole (shown_rule y.rule))
     (c.drop_first.ensures ∙ ap (λ limit. without_first c.args.count limit y.rows) c.saturating_sub.ensures
     ∙ sym (dropped c.args.count c.args.grace c.args.now (shown_rule y.rule).id y.rows rising))
     ∙ ap (λ (h : plain.Hosted). whole h.rule (rows_after_all (take c.args.count (expired_of c.args.grace c.args.now h)) h.rows)) c.self.view_is
-
-pub returns-clause-releases : goal.returns-clause-releases
-returns-clause-releases g c path release =
-    ap (row_at path) c.drop_first.ensures
-    ∙ left-releases path release c.args.count c.saturating_sub.result c.self.inside.rows c.self.invariant.fading
-    ∙ ap (λ (h : plain.Hosted). row_at path h.rows) c.self.view_is

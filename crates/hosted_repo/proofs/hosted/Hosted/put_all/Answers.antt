@@ -5,10 +5,10 @@ use Rattle.repo_model.specs.Effect.{recorded}
 use Rattle.hosted_delivery.specs.Deliveries.{deliveries, session_with, shown_files}
 use Rattle.ordered_rows.specs.Recording.{FitWhereTold}
 use Rattle.hosted_repo.specs.Releases.{AllFadeRightly}
-use Rattle.ordered_rows.specs.Rows.{AreFiles, rows_after_all}
-use Rattle.hosted_delivery.proofs.DeliveryLemmas.{effects_by, files-delivered}
+use Rattle.ordered_rows.specs.Rows.{AreFiles}
+use Rattle.hosted_delivery.proofs.DeliveryLemmas.{files-delivered}
 use Rattle.hosted_repo.proofs.FormLemmas.{from-both}
-use Rattle.hosted_repo.proofs.ReleaseLemmas.{keeps-delivered, keeps-either, rightly-delivered}
+use Rattle.hosted_repo.proofs.ReleaseLemmas.{rightly-delivered}
 use Rattle.hosted_repo.proofs.hosted.Hosted.put_all.Goals as goal
 
 pub deliver-requires-clause-fits : goal.deliver-requires-clause-fits
@@ -33,11 +33,3 @@ invariant_of-self g c =
           (λ made. subst AllFadeRightly (sym made) (rightly-delivered (session_with c.self.inside.rule.id files) c.args.now rows files rows c.self.invariant.fading))
           (λ same. subst AllFadeRightly (sym same) c.self.invariant.fading);
     }
-
-pub returns-clause-releases : goal.returns-clause-releases
-returns-clause-releases g c =
-    let rows = c.self.inside.rows in
-    let files = shown_files c.args.staged.now.entries in
-    let s = session_with c.self.inside.rule.id files in
-    keeps-either c.deliver.result c.args.self.now rows c.deliver.new.rows (rows_after_all (effects_by s c.args.now rows files) rows) (ap (λ (h : plain.Hosted). h.rows) c.self.view_is)
-    c.deliver.ensures.rows c.deliver.ensures.err (keeps-delivered s c.args.now files rows c.self.invariant.fading)

@@ -1,13 +1,13 @@
-use Rattle.std.proofs.Common.{[], ◌∷◌, sym, ap, subst}
+use Rattle.std.proofs.Common.{[], ◌∷◌, sym, subst}
 use Rattle.repo_model.specs.Data as plain
 use Rattle.repo_model.specs.declared.item.Item.TheVariants.{Relisted}
 use Rattle.repo_model.specs.Effect.{list_again}
-use Rattle.repo_model.specs.State.{change_where, is_row}
+use Rattle.repo_model.specs.State.{is_row}
 use Rattle.ordered_rows.specs.Recording.{FitWhereTold}
 use Rattle.hosted_repo.specs.Releases.{AllFadeRightly}
 use Rattle.ordered_rows.specs.Rows.{AreFiles, IsFileRow}
 use Rattle.hosted_repo.proofs.FormLemmas.{from-both, relists-change}
-use Rattle.hosted_repo.proofs.ReleaseLemmas.{keeps-again, keeps-either, rightly-again}
+use Rattle.hosted_repo.proofs.ReleaseLemmas.{rightly-again}
 use Rattle.ordered_rows.proofs.EachRow.{each-changed}
 use Rattle.hosted_repo.proofs.hosted.Hosted.relist.Goals as goal
 
@@ -28,9 +28,3 @@ invariant_of-self g c =
       fading = from-both c.relist.result c.relist.ensures.ok c.relist.ensures.err
           (λ made. subst AllFadeRightly (sym made) (rightly-again c.args.path.now c.args.now old c.self.invariant.fading)) (λ same. subst AllFadeRightly (sym same) c.self.invariant.fading);
     }
-
-pub returns-clause-releases : goal.returns-clause-releases
-returns-clause-releases g c =
-    let old = c.self.inside.rows in
-    keeps-either c.relist.result c.args.self.now old c.relist.new.rows (change_where (is_row c.args.path.now) (list_again c.args.now) old) (ap (λ (h : plain.Hosted). h.rows) c.self.view_is)
-    c.relist.ensures.ok c.relist.ensures.err (keeps-again c.args.path.now c.args.now old c.requires.snapshot)

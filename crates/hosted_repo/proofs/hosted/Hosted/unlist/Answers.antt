@@ -4,14 +4,13 @@ use Rattle.mvn_coords.specs.Kind.{kind}
 use Rattle.repo_model.specs.Data as plain
 use Rattle.repo_model.specs.Effect.{recorded}
 use Rattle.repo_model.specs.Purge.{due_rows, fade_all}
-use Rattle.repo_model.specs.State.{row_at}
 use Rattle.repo_model.specs.Turn.{seen_at}
 use Rattle.row_tables.specs.Commits.{tables_with}
 use Rattle.ordered_rows.specs.Recording.{FitWhereTold}
 use Rattle.hosted_repo.specs.Releases.{AllFadeRightly}
 use Rattle.ordered_rows.specs.Rows.{AreFiles, rows_after_all}
 use Rattle.hosted_repo.specs.Fades.{hosted_of}
-use Rattle.hosted_repo.proofs.FadeLaws.{answered_alike, releases_kept, rightly_faded}
+use Rattle.hosted_repo.proofs.FadeLaws.{answered_alike, rightly_faded}
 use Rattle.hosted_repo.proofs.FormLemmas.{fades-change, files-faded, from-both}
 use Rattle.hosted_repo.proofs.hosted.Hosted.unlist.Goals as goal
 
@@ -63,12 +62,6 @@ returns-clause-err g c =
 
 pub returns-clause-asked : goal.returns-clause-asked
 returns-clause-asked g c = λ failed none. c.unlist_rows.ensures.asked failed (ap (λ (k : plain.Hosted). recorded (fade_all k c.args.now)) c.self.view_is ∙ none)
-
-pub returns-clause-releases : goal.returns-clause-releases
-returns-clause-releases g c path other =
-    let h = hosted_of c.self.inside.rule c.self.inside.rows in
-    from-both c.unlist_rows.result c.unlist_rows.ensures.rows c.unlist_rows.ensures.err (λ made. ap (row_at path) made ∙ releases_kept h.rule c.args.now h.rows path other) (λ same. ap (row_at path) same)
-    ∙ ap (λ (k : plain.Hosted). row_at path k.rows) c.self.view_is
 
 pub returns-clause-answered : goal.returns-clause-answered
 returns-clause-answered g c path other =
