@@ -1,8 +1,7 @@
 -- What the effects of a commit come to: for the sessions, the rows, the blobs and the records.
-use Rattle.std.proofs.Common.{◌≡◌, ℕ, ◌<◌, ◌≤◌, Bool, true, false, cond, List, [], ◌∷◌, ◌++◌, length, Option, Some, None, refl, sym, ap, ◌∙◌, arith, length-append}
+use Rattle.std.proofs.Common.{◌≡◌, ℕ, ◌<◌, ◌≤◌, Bool, true, false, cond, List, [], ◌∷◌, ◌++◌, length, Option, Some, None, refl, sym, ap, ◌∙◌, arith}
 use Rattle.std.specs.Prelude.{find, IsTrue}
 use Rattle.std.proofs.Common.{◌⊎◌, inl, inr}
-use Rattle.std.specs.Int.{w64, to_be_bytes}
 use Rattle.std.proofs.lemmas.Bool.{and_parts, and_from, false≢true, le-leb, leb-true, lt-ltb}
 use Rattle.std.proofs.lemmas.List.{append-nil}
 use Rattle.std.proofs.lemmas.List.Concat.{flat_map-append}
@@ -21,7 +20,7 @@ use Rattle.repo_model.specs.State.{change_first, change_where, is_open_at, is_ro
 use Rattle.repo_model.specs.Tables.{Tables}
 use Rattle.repo_model.specs.Turn.{Turn, commit_by, commit_of, with_open}
 use Rattle.row_tables.specs.Commits.{tables_with}
-use Rattle.row_tables.specs.Items.{is_item, is_number, item_bytes}
+use Rattle.row_tables.specs.Items.{is_item, is_number}
 use Rattle.hosted_delivery.specs.Deliveries.{is_done, is_recordable, left_by, session_with, shown_put_all}
 use Rattle.ordered_rows.specs.Rows.{rows_after_all}
 use Rattle.hosted_delivery.specs.declared.put_all.PutAll.{PutAll}
@@ -208,9 +207,6 @@ recordable-there n (s ∷ ss) one is all =
 pub end-formed : (n count : ℕ) → 0 < n → n < number_end → count ≤ most_staged → is_item (SessionEnded n (Done count)) ≡ true
 end-formed n count low high few =
     and_from (is_number n) _ (and_from _ _ (lt-ltb 0 n low) (le-leb n 9223372036854775807 (omega (arith, high)))) (le-leb count 9223372036854775807 (omega (arith, few)))
-
-pub end-short : (n count : ℕ) → length (item_bytes (SessionEnded n (Done count))) < 65536
-end-short n count = omega (arith, length-append (to_be_bytes w64 n) (1 ∷ to_be_bytes w64 count))
 
 pub not-empty : {A : Type 0} (xs : List A) (x : A) → xs ++ x ∷ [] ≡ [] → ⊥
 not-empty [] x e = cc

@@ -3,7 +3,6 @@ use Rattle.std.proofs.Common.{◌≡◌, ℕ, ◌<◌, true, false, cond, ◌&&�
 use Rattle.std.specs.Prelude.{find, is_none, is_some}
 use Rattle.std.proofs.lemmas.Bool.{eqb-true, eq-eqb, ne_eqb, cases_eq, ltb-true, and_parts}
 use Rattle.std.proofs.lemmas.Cmp.{ranked}
-use Rattle.std.proofs.lemmas.List.{map-append}
 use Rattle.std.proofs.lemmas.Option.{none-some}
 use Rattle.repo_model.specs.Turn.{staged_at}
 use Rattle.std.specs.BTreeMap.{is_at, insert_entry}
@@ -155,6 +154,3 @@ module _ {X : Type 0} {G : Ghosts X} where
       let below = ltb-true e.0 next (and_parts (nat_lt 0 e.0) (nat_lt e.0 next) parts.0).1 in
       ap (λ b. cond b (es ++ (n, s) ∷ []) (e ∷ remove_entry (is_at (nat_cmp n)) (es ++ (n, s) ∷ []))) (same_number n e.0 ∙ below_eqb e.0 n (omega (arith, below, is)))
       ∙ ap (λ r. e ∷ r) (taken_out next n s es is parts.1)
-
-  pub shown_last : (n : ℕ) (s : Session X G) (es : List (ℕ × Session X G)) → shown_sessions (es ++ (n, s) ∷ []) ≡ shown_sessions es ++ shown_session (n, s) ∷ []
-  shown_last n s es = map-append shown_session es ((n, s) ∷ [])

@@ -1,9 +1,7 @@
 -- What the items that build tables up say of their sessions, and what a start makes of these.
-use Rattle.std.proofs.Common.{◌≡◌, ℕ, zero, suc, ◌+◌, ◌<◌, ◌≤◌, max, Bool, true, false, cond, ◌&&◌, List, [], ◌∷◌, ◌++◌, fold, length, get_or, take, Option, Some, None, Ok, Err, nat_lt, nat_le, refl, sym, ap, ◌∙◌, subst, arith}
+use Rattle.std.proofs.Common.{◌≡◌, ℕ, zero, suc, ◌+◌, ◌<◌, ◌≤◌, max, Bool, true, false, cond, ◌&&◌, List, [], ◌∷◌, fold, length, get_or, take, Option, Some, None, Ok, Err, nat_lt, nat_le, refl, sym, ap, ◌∙◌, subst, arith}
 use Rattle.std.specs.Prelude.{count_by}
 use Rattle.std.proofs.lemmas.Bool.{and_parts, and_from, leb-true, lt-ltb, ltb-true}
-use Rattle.std.proofs.lemmas.Grind.{flat_map-append}
-use Rattle.std.proofs.lemmas.List.{append-nil, map-append, take_more}
 use Rattle.std.proofs.lemmas.List.Folds.{list_all-append}
 use Rattle.std.proofs.lemmas.List.Sums.{sum_by-append}
 use Rattle.std.specs.List.{list_all}
@@ -163,13 +161,3 @@ below_at (r ∷ rows) (suc i) d low rising numbers =
     all_from (is_drawn next) (shown_session r) (shown_sessions (take i rows))
     (drawn_one next r.number r.result (range_of r.number parts.0).0 (above_at r.number rows i d within rising.0))
     (below_at rows i d within rising.1 parts.1)
-
--- the sessions with the one at a place
-pub more_from : (rows : List SessionRow) (i : ℕ) (d : SessionRow) → i < length rows
-    → sessions_from (shown_sessions (take (i + 1) rows)) ≡ sessions_from (shown_sessions (take i rows)) ++ session_from (get_or rows i d).number (get_or rows i d).result
-more_from rows i d low =
-    let one : SessionRow = get_or rows i d in
-    ap (λ rs. sessions_from (shown_sessions rs)) (take_more rows i d low)
-    ∙ ap sessions_from (map-append shown_session (take i rows) (one ∷ []))
-    ∙ flat_map-append (λ (s : RecordedSession). session_from s.number s.result) (shown_sessions (take i rows)) (shown_session one ∷ [])
-    ∙ ap (λ ss. sessions_from (shown_sessions (take i rows)) ++ ss) (append-nil (session_from one.number one.result))
