@@ -142,7 +142,7 @@ settings_form document no_key no_name =
     record {
       grace = leb-true _ _ grace.1;
       clean = number_within (codes "clean_seconds") 1 86400 3600 document refl;
-      max_file = number_within (codes "max_file") 1 16777216 16777216 document refl;
+      max_file = number_within (codes "max_file") 1 4294967295 16777216 document refl;
       hosted = rules_form Hosted hosted_rule is_rule hosted_form (tables_at (codes "hosted") document) m.hosted u.hosted;
       proxies = rules_form Proxy proxy_rule is_proxy_rule proxy_form (tables_at (codes "proxy") document) m.proxies u.proxies;
       groups = rules_form Group group_rule is_group_rule group_form (tables_at (codes "group") document) m.groups u.groups;

@@ -24,7 +24,7 @@ is_group_rule rule = is_id rule.id && is_member_list rule.members
 pub record IsSettings (s : Settings) : Type 0 where
   pub grace : s.grace ≤ 31536000
   pub clean : is_from_1_to 86400 s.clean ≡ true
-  pub max_file : is_from_1_to 16777216 s.max_file ≡ true
+  pub max_file : is_from_1_to 4294967295 s.max_file ≡ true
   pub hosted : list_all is_rule s.hosted ≡ true
   pub proxies : list_all is_proxy_rule s.proxies ≡ true
   pub groups : list_all is_group_rule s.groups ≡ true

@@ -97,7 +97,7 @@ keys_of Top =
     ∷ optional (codes "grace_seconds") (is_number 0 31536000)
     ∷ optional (codes "group") are_tables
     ∷ optional (codes "hosted") are_tables
-    ∷ optional (codes "max_file") (is_number 1 16777216)
+    ∷ optional (codes "max_file") (is_number 1 4294967295)
     ∷ optional (codes "proxy") are_tables
     ∷ []
 keys_of Hosted =

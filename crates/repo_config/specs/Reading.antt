@@ -50,7 +50,7 @@ abbrev pub settings_of : Members → Settings
 settings_of document = record {
   grace = number_at (codes "grace_seconds") 0 31536000 86400 document;
   clean = number_at (codes "clean_seconds") 1 86400 3600 document;
-  max_file = number_at (codes "max_file") 1 16777216 16777216 document;
+  max_file = number_at (codes "max_file") 1 4294967295 16777216 document;
   hosted = map hosted_rule (tables_at (codes "hosted") document);
   proxies = map proxy_rule (tables_at (codes "proxy") document);
   groups = map group_rule (tables_at (codes "group") document);

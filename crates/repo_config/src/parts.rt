@@ -46,7 +46,7 @@ pub(crate) fn parts_of(alloc: Global, document: &Table) -> Result<Parts, Setting
     Ok(Parts {
         grace: number_at(document, "grace_seconds", 0, 31_536_000, 86_400),
         clean: number_at(document, "clean_seconds", 1, 86_400, 3_600),
-        max_file: number_at(document, "max_file", 1, 16_777_216, 16_777_216),
+        max_file: number_at(document, "max_file", 1, 4_294_967_295, 16_777_216),
         hosted,
         proxies,
         groups,

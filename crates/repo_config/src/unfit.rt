@@ -40,7 +40,7 @@ fn unfit_in_document(document: &Table) -> Option<&'static str>
     if !tables_fit(document, "hosted") {
         return Some("hosted");
     }
-    if !number_fits(document, "max_file", 1, 16_777_216) {
+    if !number_fits(document, "max_file", 1, 4_294_967_295) {
         return Some("max_file");
     }
     if !tables_fit(document, "proxy") {
