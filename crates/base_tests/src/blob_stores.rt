@@ -3,8 +3,8 @@ ghost use Rattle.std.specs.Prelude.{◌≡◌};
 ghost use Rattle.mvn_digest.specs.Digests.{digests_of as digests_in};
 
 use mvn_digest::{Digests, Hashes, Known};
-use outside::{BlobFault, Blobs, CheckFault, Checked, Parcel, adopt_checked, read_checked};
-use outside_memory::{FaultScript, MemBlobs, WrongBlobs};
+use outside::{BlobFault, Blobs, CheckFault, Parcel, Piece, adopt_checked};
+use outside_memory::{FaultScript, MemBlobs, WrongBlobs, read_whole, store_whole};
 use outside_system::FolderBlobs;
 use std::alloc::{AllocError, Global};
 use std::fs;
@@ -25,24 +25,24 @@ pub fn digests_of(bytes: &[u8]) -> Digests
     hashes.finish()
 }
 
-// Nine calls: two blobs, one of them stored once more; the other and a third number are removed.
-fn keeps_by_number<B: Blobs>(blobs: &mut B) -> Result<bool, BlobFault> {
-    blobs.store(10, b"a")?;
-    blobs.store(7, b"abcdef")?;
-    blobs.store(7, b"abc")?;
+// Seventeen calls: two blobs, one of them stored once more; the other and a third number are removed.
+fn keeps_by_number<B: Blobs>(alloc: Global, blobs: &mut B) -> Result<bool, BlobFault> {
+    store_whole(blobs, 10, b"a")?;
+    store_whole(blobs, 7, b"abcdef")?;
+    store_whole(blobs, 7, b"abc")?;
     let both = blobs.list()?;
     blobs.remove(10)?;
     blobs.remove(3)?;
     let left = blobs.list()?;
     let gone = blobs.adopt(10)?.is_none();
-    let read = reads_adopted(blobs)?;
+    let read = reads_adopted(alloc, blobs)?;
     Ok(gone && read && both.as_slice() == [7, 10].as_slice() && left.as_slice() == [7].as_slice())
 }
 
-// Two calls: number 7 is taken into use again and read.
-fn reads_adopted<B: Blobs>(blobs: &mut B) -> Result<bool, BlobFault> {
+// Three calls: number 7 is taken into use again and read, to its end.
+fn reads_adopted<B: Blobs>(alloc: Global, blobs: &mut B) -> Result<bool, BlobFault> {
     match blobs.adopt(7)? {
-        Some(held) => Ok(blobs.read(&held)?.as_slice() == b"abc".as_slice()),
+        Some(held) => Ok(read_whole(alloc, blobs, &held)?.as_slice() == b"abc".as_slice()),
         None => Ok(false),
     }
 }
@@ -50,7 +50,7 @@ fn reads_adopted<B: Blobs>(blobs: &mut B) -> Result<bool, BlobFault> {
 #[test]
 fn a_store_in_memory_keeps_by_number(rt: HostRuntime) -> Result<(), Fail> {
     let mut blobs = MemBlobs::new(rt.alloc(), FaultScript::none(rt.alloc()));
-    let kept = keeps_by_number(&mut blobs)?;
+    let kept = keeps_by_number(rt.alloc(), &mut blobs)?;
     assert!(rt; kept && blobs.faults() == 0);
     assert_eq!(rt; blobs.removed(), [10, 3].as_slice());
     Ok(())
@@ -60,18 +60,18 @@ fn a_store_in_memory_keeps_by_number(rt: HostRuntime) -> Result<(), Fail> {
 fn fails_once(alloc: Global, call: u64) -> Result<bool, AllocError> {
     let script = FaultScript::failing_at(Vec::from_slice(alloc, &[call])?);
     let mut blobs = MemBlobs::new(alloc, script);
-    let failed = matches!(keeps_by_number(&mut blobs), Err(BlobFault::Failed));
+    let failed = matches!(keeps_by_number(alloc, &mut blobs), Err(BlobFault::Failed));
     Ok(failed && blobs.faults() == 1)
 }
 
 #[test]
 fn each_call_fails_where_it_is_told_to(rt: HostRuntime) -> Result<(), Fail> {
-    for call in 0..10 {
+    for call in 0..17 {
         let failed = fails_once(rt.alloc(), call)?;
         assert!(rt; failed, "call {call}");
     }
-    let ten = fails_once(rt.alloc(), 10)?;
-    assert!(rt; !ten);
+    let more = fails_once(rt.alloc(), 17)?;
+    assert!(rt; !more);
     Ok(())
 }
 
@@ -90,14 +90,14 @@ fn folder_blobs(rt: &HostRuntime, folder: &str) -> Result<FolderBlobs<HostRuntim
 fn a_folder_keeps_by_number(rt: HostRuntime) -> Result<(), Fail> {
     empty_folder(&rt)?;
     let mut blobs = folder_blobs(&rt, FOLDER)?;
-    let kept = keeps_by_number(&mut blobs)?;
+    let kept = keeps_by_number(rt.alloc(), &mut blobs)?;
     assert!(rt; kept && blobs.faults() == 0);
 
     // Another store of the same folder, as after a restart, passes over what is no blob.
     fs::write(&rt, "base_tests_blobs/8.part", "left over")?;
     fs::write(&rt, "base_tests_blobs/09", "no number")?;
     let mut again = folder_blobs(&rt, FOLDER)?;
-    let read = reads_adopted(&mut again)?;
+    let read = reads_adopted(rt.alloc(), &mut again)?;
     let listed = again.list()?;
     let file = fs::read(&rt, "base_tests_blobs/7")?;
     fs::remove_dir_all(&rt, FOLDER)?;
@@ -109,7 +109,8 @@ fn a_folder_keeps_by_number(rt: HostRuntime) -> Result<(), Fail> {
 
 // Where a folder stands under a number, nothing can be stored there, and nothing is listed or adopted.
 fn passes_over_a_folder(blobs: &mut FolderBlobs<HostRuntime>) -> Result<bool, BlobFault> {
-    let stored = matches!(blobs.store(7, b"abc"), Err(BlobFault::Failed)) && blobs.faults() == 1;
+    let stored = matches!(store_whole(blobs, 7, b"abc"), Err(BlobFault::Failed))
+        && blobs.faults() == 1;
     let listed = blobs.list()?;
     let adopted = blobs.adopt(7)?.is_some();
     Ok(stored && listed.as_slice() == [8].as_slice() && !adopted && blobs.faults() == 1)
@@ -132,7 +133,8 @@ fn a_folder_with_a_number_is_no_blob(rt: HostRuntime) -> Result<(), Fail> {
 
 // Whether a store in a folder that is missing fails, and reads and lists of it, each counted.
 fn misses(blobs: &mut FolderBlobs<HostRuntime>) -> bool {
-    let stored = matches!(blobs.store(1, b"abc"), Err(BlobFault::Failed)) && blobs.faults() == 1;
+    let stored = matches!(store_whole(blobs, 1, b"abc"), Err(BlobFault::Failed))
+        && blobs.faults() == 1;
     let listed = matches!(blobs.list(), Err(BlobFault::Failed)) && blobs.faults() == 2;
     let absent = matches!(blobs.adopt(1), Ok(None)) && blobs.remove(1).is_ok();
     stored && listed && absent && blobs.faults() == 2
@@ -148,7 +150,7 @@ fn a_missing_folder_fails(rt: HostRuntime) -> Result<(), Fail> {
 
 /// The parcel of a body, stored under 1 where something else may be read.
 pub fn stored<B: Blobs>(blobs: &mut B, body: &[u8]) -> Result<Parcel<B::Held>, BlobFault> {
-    let held = blobs.store(1, body)?;
+    let held = store_whole(blobs, 1, body)?;
     Ok(Parcel {
         blob: 1,
         held,
@@ -157,23 +159,26 @@ pub fn stored<B: Blobs>(blobs: &mut B, body: &[u8]) -> Result<Parcel<B::Held>, B
     })
 }
 
-// What a checked read of `abc` finds in place of it.
-fn found<T: Drop>(read: Result<T, CheckFault>) -> Option<(u64, Digests)> {
-    match read {
+// What a checked look at `abc` finds in place of it.
+fn found<T: Drop>(look: Result<T, CheckFault>) -> Option<(u64, Digests)> {
+    match look {
         Err(CheckFault::Differs { length, digests }) => Some((length, digests)),
         _ => None,
     }
 }
 
-// Both checked reads of `abc` find these bytes in place of it.
+// The room of a look.
+fn room(alloc: Global) -> Result<Piece, CheckFault> {
+    Ok(Piece::new(alloc).map_err(BlobFault::from)?)
+}
+
+// A checked look at `abc` finds these bytes in place of it.
 fn finds(alloc: Global, bytes: &[u8]) -> Result<bool, CheckFault> {
     let mut blobs = WrongBlobs::new(alloc, FaultScript::none(alloc));
-    let parcel = stored(&mut blobs, b"abc")?;
     blobs.give(1, bytes).map_err(BlobFault::from)?;
-    let print = Some((bytes.len() as u64, digests_of(bytes)));
-    let read = found(read_checked(&mut blobs, &parcel)) == print;
-    let adopted = found(adopt_checked(&mut blobs, 1, 3, &digests_of(b"abc").known())) == print;
-    Ok(read && adopted && blobs.faults() == 0)
+    let abc = digests_of(b"abc").known();
+    let looked = found(adopt_checked(&mut blobs, 1, 3, &abc, &mut room(alloc)?));
+    Ok(looked == Some((bytes.len() as u64, digests_of(bytes))) && blobs.faults() == 0)
 }
 
 #[test]
@@ -188,12 +193,14 @@ fn other_bytes_are_found(rt: HostRuntime) -> Result<(), Fail> {
 }
 
 // What stands under 1 is taken into use as `abc` and read, and nothing stands under 2.
-fn adopts_abc<B: Blobs + Drop>(mut blobs: B) -> Result<bool, CheckFault> {
-    let none = adopt_checked(&mut blobs, 2, 3, &digests_of(b"abc").known())?.is_none();
-    let Some(parcel) = adopt_checked(&mut blobs, 1, 3, &digests_of(b"abc").known())? else {
+fn adopts_abc<B: Blobs + Drop>(alloc: Global, mut blobs: B) -> Result<bool, CheckFault> {
+    let abc = digests_of(b"abc").known();
+    let mut room = room(alloc)?;
+    let none = adopt_checked(&mut blobs, 2, 3, &abc, &mut room)?.is_none();
+    let Some(parcel) = adopt_checked(&mut blobs, 1, 3, &abc, &mut room)? else {
         return Ok(false);
     };
-    let bytes = Checked { blobs }.read(&parcel)?;
+    let bytes = read_whole(alloc, &mut blobs, &parcel.held)?;
     Ok(none && parcel.blob == 1 && bytes.as_slice() == b"abc".as_slice())
 }
 
@@ -201,20 +208,20 @@ fn wrong_gives_abc(alloc: Global) -> Result<bool, CheckFault> {
     let mut blobs = WrongBlobs::new(alloc, FaultScript::none(alloc));
     blobs.give(1, b"abc").map_err(BlobFault::from)?;
     let listed = blobs.list()?.as_slice() == [1].as_slice();
-    Ok(adopts_abc(blobs)? && listed)
+    Ok(adopts_abc(alloc, blobs)? && listed)
 }
 
 fn memory_gives_abc(alloc: Global) -> Result<bool, CheckFault> {
     let mut blobs = MemBlobs::new(alloc, FaultScript::none(alloc));
-    blobs.store(1, b"abc")?;
-    adopts_abc(blobs)
+    store_whole(&mut blobs, 1, b"abc")?;
+    adopts_abc(alloc, blobs)
 }
 
 // What stands under 1 is adopted as `abc`, where this is known of it, with all its digests.
 fn is_adopted(alloc: Global, known: &Known) -> Result<bool, CheckFault> {
     let mut blobs = MemBlobs::new(alloc, FaultScript::none(alloc));
-    blobs.store(1, b"abc")?;
-    match adopt_checked(&mut blobs, 1, 3, known) {
+    store_whole(&mut blobs, 1, b"abc")?;
+    match adopt_checked(&mut blobs, 1, 3, known, &mut room(alloc)?) {
         Ok(Some(parcel)) => Ok(parcel.digests == digests_of(b"abc")),
         Err(CheckFault::Differs { .. }) => Ok(false),
         Ok(None) => Ok(false),

@@ -1,7 +1,9 @@
 // A port and a store in memory, through their traits.
 use mvn_digest::Hashes;
 use outside::{BlobFault, Blobs, Duplex, Failed, Parcel, Port, write_all};
-use outside_memory::{FaultScript, MemBlobs, MemLink, MemSink, MemSource, ScriptPort};
+use outside_memory::{
+    FaultScript, MemBlobs, MemLink, MemSink, MemSource, ScriptPort, read_whole, store_whole,
+};
 use std::alloc::{AllocError, Global};
 use std::test::Fail;
 
@@ -63,7 +65,7 @@ fn a_port_takes_back_what_it_handed_out(rt: HostRuntime) -> Result<(), Fail> {
 fn keep<B: Blobs>(blobs: &mut B, body: &[u8]) -> Result<Parcel<B::Held>, BlobFault> {
     let mut hashes = Hashes::new();
     hashes.update(body);
-    let held = blobs.store(7, body)?;
+    let held = store_whole(blobs, 7, body)?;
     Ok(Parcel {
         blob: 7,
         held,
@@ -73,14 +75,14 @@ fn keep<B: Blobs>(blobs: &mut B, body: &[u8]) -> Result<Parcel<B::Held>, BlobFau
 }
 
 // Stores a body, and reads it through a shared parcel.
-fn read_shared<B: Blobs>(blobs: &mut B, body: &[u8]) -> Result<Vec<u8>, BlobFault> {
+fn read_shared<B: Blobs>(alloc: Global, blobs: &mut B, body: &[u8]) -> Result<Vec<u8>, BlobFault> {
     let shared = keep(blobs, body)?.share()?;
-    blobs.read(&shared.held)
+    read_whole(alloc, blobs, &shared.held)
 }
 
 fn reads_the_same(alloc: Global, body: &[u8]) -> Result<bool, BlobFault> {
     let mut blobs = MemBlobs::new(alloc, FaultScript::none(alloc));
-    let bytes = read_shared(&mut blobs, body)?;
+    let bytes = read_shared(alloc, &mut blobs, body)?;
     Ok(bytes.as_slice() == body)
 }
 

@@ -3,13 +3,13 @@ ghost use Rattle.std.specs.Prelude.{◌≡◌, false};
 
 use crate::blob_stores::{digests_of, stored};
 use outside::{BlobFault, Blobs, Checked, Parcel, Reading, Step};
-use outside_memory::{FaultScript, MemBlobs, WrongBlobs};
+use outside_memory::{FaultScript, MemBlobs, WrongBlobs, store_whole};
 use std::alloc::{AllocError, Global};
 use std::test::Fail;
 
-// Eight calls: a blob of two pieces comes in the place of another, of which nothing is left meanwhile.
+// Ten calls: a blob of two pieces comes in the place of another, of which nothing is left meanwhile.
 fn keeps_in_pieces<B: Blobs>(blobs: &mut B) -> Result<bool, BlobFault> {
-    blobs.store(7, b"older")?;
+    store_whole(blobs, 7, b"older")?;
     let mut pen = blobs.begin(7)?;
     let none = blobs.adopt(7)?.is_none();
     blobs.append(&mut pen, b"abc")?;
@@ -34,7 +34,7 @@ fn pieces_are_kept_or_fail(rt: HostRuntime) -> Result<(), Fail> {
     let mut blobs = MemBlobs::new(rt.alloc(), FaultScript::none(rt.alloc()));
     let kept = keeps_in_pieces(&mut blobs)?;
     assert!(rt; kept && blobs.faults() == 0);
-    for call in 0..8 {
+    for call in 0..10 {
         let failed = fails_once(rt.alloc(), call)?;
         assert!(rt; failed, "call {call}");
     }
@@ -153,7 +153,7 @@ fn what_was_recorded_is_given(rt: HostRuntime) -> Result<(), Fail> {
     Ok(())
 }
 
-// What comes of a reading of a body of more than one piece whose calls fail so, counted from its storing.
+// What comes of a reading of a body of more than one piece where this call fails, counted from the first that stores it.
 fn is_cut(alloc: Global, call: u64) -> Result<bool, AllocError> {
     let body = bytes_of(alloc, 65_536, b"b")?;
     let script = FaultScript::failing_at(Vec::from_slice(alloc, &[call])?);
@@ -172,11 +172,11 @@ fn is_cut(alloc: Global, call: u64) -> Result<bool, AllocError> {
 // Its first piece, the byte behind it, and a look behind that.
 #[test]
 fn each_read_of_a_reading_may_fail(rt: HostRuntime) -> Result<(), Fail> {
-    for call in 1..4 {
+    for call in 3..6 {
         let cut = is_cut(rt.alloc(), call)?;
         assert!(rt; cut, "call {call}");
     }
-    let whole = is_cut(rt.alloc(), 4)?;
+    let whole = is_cut(rt.alloc(), 6)?;
     assert!(rt; !whole);
     Ok(())
 }

@@ -7,7 +7,7 @@ ghost use Rattle.blob_audit.specs.Files.{shown_file};
 use crate::lengths::sizes;
 use crate::looking::{Found, look_at};
 use crate::order::RecordedFile;
-use outside::{BlobFault, Blobs};
+use outside::{BlobFault, Blobs, Piece};
 use repo_model::{Print, Recorded};
 use std::alloc::{AllocError, Global};
 use texts::Text;
@@ -66,7 +66,7 @@ fn push_damaged(
     Ok(())
 }
 
-/// The damaged ones of some recorded files, in their order. Each blob is read once.
+/// The damaged ones of some recorded files, in their order. Each blob is read once, all in the same 64 KiB.
 pub fn damages<B: Blobs>(
     alloc: Global,
     blobs: &mut B,
@@ -77,8 +77,9 @@ pub fn damages<B: Blobs>(
     ensures kept { B.shelf blobs.new ≡ B.shelf blobs.old }
 {
     let mut damaged = Vec::new(alloc);
+    let mut room = Piece::new(alloc)?;
     for file in files {
-        match look_at(blobs, file.row)? {
+        match look_at(blobs, file.row, &mut room)? {
             Found::Whole(_) => {}
             Found::Other(found) => push_damaged(alloc, &mut damaged, file, found)?,
         }

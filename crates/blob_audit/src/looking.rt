@@ -6,7 +6,7 @@ ghost use Rattle.blob_audit.specs.Found.{found_in, IsJudged, IsParcelOf};
 ghost use Rattle.repo_model.specs.Prints.{print_in};
 
 use crate::lengths::sizes;
-use outside::{BlobFault, Blobs, CheckFault, Held, Parcel, adopt_checked};
+use outside::{BlobFault, Blobs, CheckFault, Held, Parcel, Piece, adopt_checked};
 use repo_model::{Print, Recorded};
 use row_tables::FileRow;
 
@@ -19,8 +19,13 @@ pub enum Found<H: Held> {
     Other(Option<Print>),
 }
 
-/// Looks at the blob of a recorded file: reads it once, and compares its length and each digest that is recorded.
-pub fn look_at<B: Blobs>(blobs: &mut B, row: &FileRow) -> Result<Found<B::Held>, BlobFault>
+/// Looks at the blob of a recorded file: reads it once, piece by piece in the room that is lent, and compares its length and
+/// each digest that is recorded.
+pub fn look_at<B: Blobs>(
+    blobs: &mut B,
+    row: &FileRow,
+    room: &mut Piece,
+) -> Result<Found<B::Held>, BlobFault>
     ensures cause { HasBlobCause (B.faults blobs.old) (B.faults blobs.new) result }
     ensures found { IfOk result (λ f. IsFound (B.shelf blobs.old) row.now.blob (found_in f)) }
     ensures judged { IfOk result (IsJudged (print_in row.now.print)) }
@@ -29,7 +34,7 @@ pub fn look_at<B: Blobs>(blobs: &mut B, row: &FileRow) -> Result<Found<B::Held>,
 {
     sizes(row.print);
     let Recorded { length, digests } = row.print;
-    match adopt_checked(blobs, row.blob, length, &digests) {
+    match adopt_checked(blobs, row.blob, length, &digests, room) {
         Ok(Some(parcel)) => Ok(Found::Whole(parcel)),
         Ok(None) => Ok(Found::Other(None)),
         Err(CheckFault::Differs { length, digests }) => {

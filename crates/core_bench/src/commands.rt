@@ -2,8 +2,8 @@ use crate::rows::Rows;
 use crate::steps::Form;
 use ids::Id;
 use mvn_digest::Hashes;
-use outside::{Blobs, Parcel};
-use outside_memory::{FaultScript, MemBlobs, MemHeld};
+use outside::Parcel;
+use outside_memory::{FaultScript, MemBlobs, MemHeld, store_whole};
 use repo_core::{Command, Place};
 use std::alloc::{AllocError, Global};
 use texts::Text;
@@ -32,7 +32,7 @@ impl Maker {
     fn parcel(&mut self, blob: u64) -> Result<Parcel<MemHeld>, AllocError> {
         let mut hashes = Hashes::new();
         hashes.update(CONTENT);
-        let Ok(held) = self.blobs.store(1, CONTENT) else {
+        let Ok(held) = store_whole(&mut self.blobs, 1, CONTENT) else {
             return Err(AllocError);
         };
         Ok(Parcel {

@@ -3,8 +3,8 @@ use crate::asks::Ask;
 use crate::faults::WorldFault;
 use ids::Id;
 use mvn_digest::{Digest, Hashes};
-use outside::{Blobs, Parcel};
-use outside_memory::{MemBlobs, MemHeld};
+use outside::Parcel;
+use outside_memory::{MemBlobs, MemHeld, store_whole};
 use repo_core::{Command, Place};
 use std::alloc::Global;
 use texts::Text;
@@ -19,7 +19,7 @@ pub(crate) fn parcel_of(
 ) -> Result<Parcel<MemHeld>, WorldFault> {
     let mut hashes = Hashes::new();
     hashes.update(bytes);
-    let held = blobs.store(blob, bytes)?;
+    let held = store_whole(blobs, blob, bytes)?;
     Ok(Parcel {
         blob,
         held,

@@ -5,7 +5,7 @@ use crate::commands::{command_of, may_put, parcel_of, stage};
 use crate::faults::WorldFault;
 use crate::replies::{numbers_of, told, told_start};
 use outside::{Blobs, Clock, Held, Parcel};
-use outside_memory::{FaultScript, MemBlobs, MemHeld, ScriptClock};
+use outside_memory::{FaultScript, MemBlobs, MemHeld, ScriptClock, read_whole, store_whole};
 use repo_config::{Settings, read};
 use repo_core::{Command, Core, Place, Reply, StartFault, start};
 use repo_model::Item;
@@ -163,7 +163,7 @@ impl World {
 
     /// Stores bytes past the core.
     pub(crate) fn store(&mut self, blob: u64, bytes: &[u8]) -> Result<(), WorldFault> {
-        self.blobs.store(blob, bytes)?;
+        store_whole(&mut self.blobs, blob, bytes)?;
         Ok(())
     }
 
@@ -219,7 +219,7 @@ impl World {
     /// The bytes of the parcel that is kept.
     pub(crate) fn read(&mut self) -> Result<Vec<u8>, WorldFault> {
         match &self.borrowed {
-            Some(parcel) => Ok(self.blobs.read(&parcel.held)?),
+            Some(parcel) => Ok(read_whole(self.alloc, &mut self.blobs, &parcel.held)?),
             None => Err(WorldFault::NoStep),
         }
     }

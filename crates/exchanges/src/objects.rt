@@ -5,6 +5,7 @@ use case_texts::{Case, Script, Stored, Went};
 use outside::{Blobs, Duplex};
 use outside_memory::{
     FaultScript, MemBlobs, MemLink, MemSink, MemSource, ScriptClock, ScriptPort, WrongBlobs,
+    store_whole,
 };
 use outside_pace::ScriptPace;
 use row_tables::MemRecords;
@@ -184,7 +185,7 @@ pub(crate) struct Store {
 
 /// Stores a blob. Where that fails it is not there, as the script of a case may want it.
 fn put(blobs: &mut MemBlobs, stored: &Stored) {
-    let _ = blobs.store(stored.blob, stored.bytes.as_slice());
+    let _ = store_whole(blobs, stored.blob, stored.bytes.as_slice());
 }
 
 /// Removes a blob.

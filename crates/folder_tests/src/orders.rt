@@ -2,8 +2,10 @@
 use crate::noted::{Noted, Notes};
 use data_folder::{ReportingDisk, open_disk};
 use outside::{BlobFault, Blobs, Failed};
+use outside_memory::{read_whole, store_whole};
 use outside_system::FolderBlobs;
 use record_disk::Disk;
+use std::alloc::Global;
 use std::fs;
 use std::os::unix::fs::symlink;
 use std::test::Fail;
@@ -126,8 +128,9 @@ fn a_tail_is_told_before_it_goes(rt: HostRuntime) -> Result<(), Fail> {
     Ok(())
 }
 
-// Of a store, a read, an adoption, a list and a removal.
+// Of a blob that is stored and read whole, an adoption, a list and a removal.
 const BLOB_CALLS: &str = "overwrite orders_blobs/7.part
+remove orders_blobs/7
 write orders_blobs/7.part
 sync orders_blobs/7.part
 rename orders_blobs/7.part
@@ -153,9 +156,9 @@ pub fn blobs_of(rt: &HostRuntime, notes: &Notes, folder: &str) -> Result<FolderB
     Ok(FolderBlobs::new(Noted::new(rt, notes)?, folder)?)
 }
 
-fn calls_all<B: Blobs>(blobs: &mut B) -> Result<bool, BlobFault> {
-    let held = blobs.store(7, b"abc")?;
-    let bytes = blobs.read(&held)?;
+fn calls_all<B: Blobs>(alloc: Global, blobs: &mut B) -> Result<bool, BlobFault> {
+    let held = store_whole(blobs, 7, b"abc")?;
+    let bytes = read_whole(alloc, blobs, &held)?;
     let found = blobs.adopt(7)?.is_some();
     let listed = blobs.list()?;
     blobs.remove(7)?;
@@ -166,7 +169,7 @@ fn calls_all<B: Blobs>(blobs: &mut B) -> Result<bool, BlobFault> {
 fn a_blob_is_synced_and_then_its_name(rt: HostRuntime) -> Result<(), Fail> {
     let notes = Notes::new(rt.alloc())?;
     let mut blobs = blobs_of(&rt, &notes, "orders_blobs")?;
-    let gave = calls_all(&mut blobs)?;
+    let gave = calls_all(rt.alloc(), &mut blobs)?;
     fs::remove_dir_all(&rt, "orders_blobs")?;
     assert!(rt; gave);
     assert_eq!(rt; notes.take().as_str(), BLOB_CALLS);
@@ -175,10 +178,10 @@ fn a_blob_is_synced_and_then_its_name(rt: HostRuntime) -> Result<(), Fail> {
 
 // Whether what stands under 7 is neither read, adopted nor listed. It was a blob when it was stored.
 fn is_no_blob(blobs: &mut FolderBlobs<Noted>, rt: &HostRuntime) -> Result<bool, Fail> {
-    let held = blobs.store(7, b"abc")?;
+    let held = store_whole(blobs, 7, b"abc")?;
     blobs.remove(7)?;
     symlink(rt, "/dev/null", "orders_special/7")?;
-    let read = matches!(blobs.read(&held), Err(BlobFault::Failed)) && blobs.faults() == 1;
+    let read = blobs.read_at(&held, 0, &mut [0; 1]).is_err() && blobs.faults() == 1;
     let absent = blobs.adopt(7)?.is_none() && blobs.list()?.is_empty();
     Ok(read && absent && blobs.faults() == 1)
 }

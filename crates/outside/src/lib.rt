@@ -20,12 +20,12 @@ mod stores;
 mod streams;
 mod tells;
 
-pub use checks::{CheckFault, Checked, adopt_checked, read_checked};
+pub use checks::{CheckFault, Checked, adopt_checked};
 pub use clocks::Clock;
 pub use duplex::Duplex;
 pub use faults::{BlobFault, Failed, NoMemory};
 pub use parcels::Parcel;
-pub use pieces::{PIECE_BYTES, read_full_at};
+pub use pieces::{PIECE_BYTES, Piece, read_full_at};
 pub use ports::Port;
 pub use readings::{Reading, Step};
 pub use sinks::{Sink, write_all};

@@ -63,7 +63,7 @@ fn zeros(alloc: Global, count: usize) -> Result<Vec<u8>, NoMemory>
     Ok(vec![in alloc; 0; count]?)
 }
 
-// At most 65,536 bytes, in a room of so many.
+/// At most 65,536 bytes of a stored blob, in a room of so many.
 #[derive(Drop)]
 pub struct Piece {
     room: Vec<u8>,
@@ -81,6 +81,7 @@ impl Model for Piece {
 }
 
 impl Piece {
+    /// The empty piece. It takes all its room, 64 KiB.
     pub fn new(alloc: Global) -> Result<Piece, NoMemory>
         ensures { IfOk result (λ piece. piece ≡ []) }
     {

@@ -28,9 +28,9 @@ fn joined(message: &Tag, piece: &[u8]) -> Tag
 
 // What a blob is.
 #[derive(Clone, Copy)]
-struct Found {
-    length: u64,
-    digests: Digests,
+pub(crate) struct Found {
+    pub(crate) length: u64,
+    pub(crate) digests: Digests,
 }
 
 /// What a reading gives next.

@@ -1,5 +1,5 @@
 ghost use Rattle.std.specs.Prelude.{◌≡◌, ◌<◌, ◌≤◌, ◌+◌, ◌^◌, ℕ, List, [], Option, Some, None, length, IfOk, IfSome, OnOk, OnErr};
-ghost use Rattle.outside.specs.Blobs.{HasBlobCause, IsAdopted, IsPart, Shelf, bytes_at, numbers_of, sealed, untold, with_blob, without_blob, without_bytes};
+ghost use Rattle.outside.specs.Blobs.{HasBlobCause, IsAdopted, IsPart, Shelf, bytes_at, numbers_of, sealed, untold, without_blob, without_bytes};
 ghost use Rattle.outside.specs.Faults.{HasCause};
 ghost use Rattle.outside.specs.Told.{IsWhereTold, behind};
 
@@ -42,15 +42,6 @@ pub trait Blobs {
     // Its blobs by their numbers, and the numbers that were removed.
     ghost shelf: { Self → Shelf } = { λ _. untold };
 
-    /// Stores `bytes` under the number `blob`. Bytes that stood there are gone. A store that tells its blobs gives one that
-    /// tells its bytes.
-    fn store(&mut self, blob: u64, bytes: &[u8]) -> Result<Self::Held, BlobFault>
-        ensures cause { HasBlobCause (faults self.old) (faults self.new) result }
-        ensures told { IfOk result (λ held. IsWhereTold (Self.Held.bytes held) bytes.now) }
-        ensures tells { IfOk result (λ held. IfSome (shelf self.old).blobs (λ _. Self.Held.bytes held ≡ Some bytes.now)) }
-        ensures stored { OnOk result (shelf self.new ≡ with_blob blob bytes.now (shelf self.old)) }
-        ensures kept { OnErr result (shelf self.new ≡ shelf self.old) };
-
     /// Begins to write the blob of a number. Bytes that stood there are gone, and until the pen is sealed nothing stands there:
     /// the number is neither listed nor adopted. A store that tells its blobs gives a pen that tells its bytes.
     fn begin(&mut self, blob: u64) -> Result<Self::Pen, BlobFault>
@@ -86,12 +77,6 @@ pub trait Blobs {
         ensures count { IfOk result (λ n. n ≤ length buffer.new) }
         ensures below { IfOk result (λ n. 0 < n → at + n < 2 ^ 63) }
         ensures told { IfOk result (λ n. IfSome (Self.Held.bytes held.now) (λ bytes. IsPart bytes at n buffer.new)) }
-        ensures kept { shelf self.new ≡ shelf self.old };
-
-    /// Reads all bytes of a stored blob.
-    fn read(&mut self, held: &Self::Held) -> Result<Vec<u8>, BlobFault>
-        ensures cause { HasBlobCause (faults self.old) (faults self.new) result }
-        ensures told { IfOk result (λ bytes. IsWhereTold (Self.Held.bytes held.now) bytes.items) }
         ensures kept { shelf self.new ≡ shelf self.old };
 
     /// Removes the blob of a number. Where there is none, that is no fault.

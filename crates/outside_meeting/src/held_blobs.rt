@@ -141,18 +141,6 @@ impl Blobs for HeldBlobs {
 
     ghost faults = { λ b. b.faults };
 
-    fn store(&mut self, blob: u64, bytes: &[u8]) -> Result<MemHeld, BlobFault>
-        ensures cause { HasBlobCause self.old.faults self.new.faults result }
-        ensures told { IfOk result (λ held. held ≡ bytes.now) }
-        ensures kept { self.new.is_to_meet ≡ self.old.is_to_meet }
-    {
-        let stored = match self.shared.taken() {
-            Ok(mut store) => store.store(blob, bytes),
-            Err(failed) => Err(failed.into()),
-        };
-        self.counted(stored)
-    }
-
     fn begin(&mut self, blob: u64) -> Result<MemPen, BlobFault>
         ensures cause { HasBlobCause self.old.faults self.new.faults result }
         ensures pen { IfOk result (λ pen. pen ≡ record { number = blob; bytes = [] }) }
@@ -201,19 +189,6 @@ impl Blobs for HeldBlobs {
             Err(failed) => Err(failed),
         };
         self.counted_failure(read)
-    }
-
-    fn read(&mut self, held: &MemHeld) -> Result<Vec<u8>, BlobFault>
-        ensures cause { HasBlobCause self.old.faults self.new.faults result }
-        ensures told { IfOk result (λ bytes. bytes.items ≡ held.now) }
-        ensures met { IsFalse self.new.is_to_meet }
-    {
-        self.meet()?;
-        let bytes = match self.shared.taken() {
-            Ok(mut store) => store.read(held),
-            Err(failed) => Err(failed.into()),
-        };
-        self.counted(bytes)
     }
 
     fn remove(&mut self, blob: u64) -> Result<(), BlobFault>

@@ -44,13 +44,6 @@ impl MemHeld {
     {
         self.bytes.as_slice()
     }
-
-    // A copy of its bytes.
-    pub(crate) fn copied(&self, alloc: Global) -> Result<Vec<u8>, NoMemory>
-        ensures { IfOk result (λ bytes. bytes.items ≡ self.now) }
-    {
-        Vec::from_slice(alloc, self.bytes.as_slice())
-    }
 }
 
 impl Held for MemHeld {
@@ -155,22 +148,6 @@ impl Blobs for MemBlobs {
 
     ghost shelf = { shelf_of };
 
-    fn store(&mut self, blob: u64, bytes: &[u8]) -> Result<MemHeld, BlobFault>
-        ensures cause { HasBlobCause self.old.script.faults self.new.script.faults result }
-        ensures when { IsErrOf result BlobFault.Failed ↔ Contains self.old.script.failing self.old.script.calls }
-        ensures told { IfOk result (λ held. held ≡ bytes.now) }
-        ensures ok { OnOk result (self.new.blobs ≡ insert_entry nat_cmp self.old.blobs blob bytes.now) }
-        ensures err { OnErr result (self.new.blobs ≡ self.old.blobs) }
-        ensures removed { self.new.removed ≡ self.old.removed }
-        ensures script { self.new.script ≡ script_after_blob_call self.old.script result }
-    {
-        self.script.next_call()?;
-        let held = MemHeld::of_bytes(*self.removed.allocator(), bytes)?;
-        let kept = held.share()?;
-        self.blobs.insert(blob, kept).map_err(NoMemory::from)?;
-        Ok(held)
-    }
-
     fn begin(&mut self, blob: u64) -> Result<MemPen, BlobFault>
         ensures cause { HasBlobCause self.old.script.faults self.new.script.faults result }
         ensures when { IsErrOf result BlobFault.Failed ↔ Contains self.old.script.failing self.old.script.calls }
@@ -229,16 +206,6 @@ impl Blobs for MemBlobs {
     {
         self.script.next_call()?;
         Ok(copy_from(held.bytes(), at, buffer))
-    }
-
-    fn read(&mut self, held: &MemHeld) -> Result<Vec<u8>, BlobFault>
-        ensures cause { HasBlobCause self.old.script.faults self.new.script.faults result }
-        ensures when { IsErrOf result BlobFault.Failed ↔ Contains self.old.script.failing self.old.script.calls }
-        ensures told { IfOk result (λ bytes. bytes.items ≡ held.now) }
-        ensures after { self.new ≡ record self.old { script = script_after_blob_call self.old.script result } }
-    {
-        self.script.next_call()?;
-        Ok(held.copied(*self.removed.allocator())?)
     }
 
     fn remove(&mut self, blob: u64) -> Result<(), BlobFault>

@@ -109,16 +109,6 @@ impl Blobs for WrongBlobs {
 
     ghost faults = { λ b. b.script.faults };
 
-    fn store(&mut self, blob: u64, _bytes: &[u8]) -> Result<WrongHeld, BlobFault>
-        ensures cause { HasBlobCause self.old.script.faults self.new.script.faults result }
-        ensures when { IsErrOf result BlobFault.Failed ↔ Contains self.old.script.failing self.old.script.calls }
-        ensures held { IfOk result (λ held. held ≡ blob) }
-        ensures after { self.new ≡ record self.old { script = script_after_blob_call self.old.script result } }
-    {
-        self.script.next_call()?;
-        Ok(WrongHeld { blob })
-    }
-
     fn begin(&mut self, blob: u64) -> Result<WrongPen, BlobFault>
         ensures cause { HasBlobCause self.old.script.faults self.new.script.faults result }
         ensures when { IsErrOf result BlobFault.Failed ↔ Contains self.old.script.failing self.old.script.calls }
@@ -162,19 +152,6 @@ impl Blobs for WrongBlobs {
         match self.given.get(&held.blob) {
             Some(given) => Ok(copy_from(given.bytes(), at, buffer)),
             None => Ok(copy_from(&[], at, buffer)),
-        }
-    }
-
-    fn read(&mut self, held: &WrongHeld) -> Result<Vec<u8>, BlobFault>
-        ensures cause { HasBlobCause self.old.script.faults self.new.script.faults result }
-        ensures when { IsErrOf result BlobFault.Failed ↔ Contains self.old.script.failing self.old.script.calls }
-        ensures given { IfOk result (λ bytes. bytes.items ≡ unwrap_or (bytes_at held.now self.old.given) []) }
-        ensures after { self.new ≡ record self.old { script = script_after_blob_call self.old.script result } }
-    {
-        self.script.next_call()?;
-        match self.given.get(&held.blob) {
-            Some(given) => Ok(given.copied(self.alloc)?),
-            None => Ok(Vec::new(self.alloc)),
         }
     }
 

@@ -5,8 +5,7 @@ ghost use Rattle.outside.specs.Blobs.{HasBlobCause};
 ghost use Rattle.outside.specs.Faults.{HasCause};
 
 use crate::blob_files::{
-    begin_file, has_file, numbers_in, open_path, put_file, read_file, remove_files, seal_file,
-    write_path,
+    begin_file, has_file, numbers_in, open_path, remove_files, seal_file, write_path,
 };
 use crate::open_blobs::{FolderPen, MOST_BYTES, OpenBlob};
 use outside::{BlobFault, Blobs, Failed, Held, NoMemory};
@@ -41,14 +40,13 @@ const PATH_END: usize = 21;
 
 /// The blobs of a folder. Contracts see how many calls have failed; it tells no blobs.
 ///
-/// A call fails where the system refuses it; where the folder is missing, no number stands there and `store`, `begin`, `read`,
-/// `read_at` and `list` fail. `store` and `seal` answer Ok once the system keeps the bytes and their name, whatever stops
-/// afterwards. What a store or a pen that is stopped leaves is not listed, or it is the whole blob. What has a number for its
-/// name and is no file, as a folder or a pipe, is no blob: it is neither listed nor adopted nor opened, and where it is a folder
-/// `store` and `begin` fail at its number.
+/// A call fails where the system refuses it; where the folder is missing, no number stands there and `begin`, `read_at` and
+/// `list` fail. `seal` answers Ok once the system keeps the bytes and their name, whatever stops afterwards. What a pen that is
+/// stopped leaves is not listed, or it is the whole blob. What has a number for its name and is no file, as a folder or a pipe,
+/// is no blob: it is neither listed nor adopted nor opened, and where it is a folder `begin` fails at its number.
 ///
 /// The file of the blob that `read_at` read last stays open, until its end was read, another is read or its number is begun,
-/// sealed, stored or removed.
+/// sealed or removed.
 #[derive(Drop)]
 pub struct FolderBlobs<R: Files + AllocGlobal + Clone + Drop> {
     rt: R,
@@ -176,16 +174,6 @@ impl<R: Files + AllocGlobal + Clone + Drop> Blobs for FolderBlobs<R> {
 
     ghost faults = { λ b. b };
 
-    fn store(&mut self, blob: u64, bytes: &[u8]) -> Result<FolderHeld, BlobFault>
-        ensures cause { HasBlobCause self.old self.new result }
-        ensures held { IfOk result (λ held. held ≡ blob) }
-    {
-        self.close(blob);
-        let stored = put_file(&self.rt, self.folder.as_str(), blob, bytes);
-        self.counted(stored)?;
-        Ok(FolderHeld { blob })
-    }
-
     fn begin(&mut self, blob: u64) -> Result<FolderPen<R::File>, BlobFault>
         ensures cause { HasBlobCause self.old self.new result }
         ensures pen { IfOk result (λ pen. pen ≡ blob) }
@@ -225,13 +213,6 @@ impl<R: Files + AllocGlobal + Clone + Drop> Blobs for FolderBlobs<R> {
             self.faults = self.faults.saturating_add(1);
         }
         read
-    }
-
-    fn read(&mut self, held: &FolderHeld) -> Result<Vec<u8>, BlobFault>
-        ensures { HasBlobCause self.old self.new result }
-    {
-        let read = read_file(&self.rt, self.folder.as_str(), held.blob);
-        self.counted(read)
     }
 
     fn remove(&mut self, blob: u64) -> Result<(), BlobFault>

@@ -13,11 +13,11 @@ use crate::faults::RestoreFault;
 use crate::taking::take_file;
 use blob_audit::RecordedFile;
 use hosted_repo::Hosted;
-use outside::Blobs;
+use outside::{Blobs, Piece};
 use repo_config::HostedRule;
 use std::alloc::Global;
 
-/// The repositories of these rules with the recorded files, each of which is looked at once, in this order. A file of no such
+/// The repositories of these rules with the recorded files, each of which is looked at once, in this order and in the same 64 KiB. A file of no such
 /// repository, or of a proxy, is looked at and let go.
 pub fn restored<B: Blobs>(
     alloc: Global,
@@ -35,8 +35,9 @@ pub fn restored<B: Blobs>(
     ensures kept { B.shelf blobs.new ≡ B.shelf blobs.old }
 {
     let mut repos = empty_repos(alloc, rules)?;
+    let mut room = Piece::new(alloc)?;
     for file in files {
-        take_file(alloc, blobs, &mut repos, file)?;
+        take_file(alloc, blobs, &mut repos, file, &mut room)?;
     }
     Ok(repos)
 }

@@ -17,7 +17,7 @@ ghost use Rattle.repo_restart.specs.Taking.{CanTake, TakesFile, rows_in, with_fi
 use crate::faults::RestoreFault;
 use blob_audit::{Found, RecordedFile, damage_of, look_at};
 use hosted_repo::{Hosted, Phase};
-use outside::{Blobs, Held, NoMemory, Parcel};
+use outside::{Blobs, Held, NoMemory, Parcel, Piece};
 use row_tables::RowPhase;
 use std::alloc::{AllocError, Global};
 
@@ -84,12 +84,14 @@ fn take_parcel<H: Held>(
     Ok(())
 }
 
-/// Looks at the blob of a recorded file, and takes a sound file up. `Damaged` comes where the blob is not the recorded one.
+/// Looks at the blob of a recorded file in the room that is lent, and takes a sound file up. `Damaged` comes where the blob is
+/// not the recorded one.
 pub fn take_file<B: Blobs>(
     alloc: Global,
     blobs: &mut B,
     repos: &mut Vec<Hosted<B::Held>>,
     file: &RecordedFile<'_>,
+    room: &mut Piece,
 ) -> Result<(), RestoreFault>
     requires { CanTake (shown_file file.now) repos.old.items }
     ensures taken { OnOk result (TakesFile (B.shelf blobs.old) (shown_file file.now) repos.old.items repos.new.items) }
@@ -97,7 +99,7 @@ pub fn take_file<B: Blobs>(
     ensures cause { HasRestoreCause (B.faults blobs.old) (B.faults blobs.new) result }
     ensures kept { B.shelf blobs.new ≡ B.shelf blobs.old }
 {
-    match look_at(blobs, file.row)? {
+    match look_at(blobs, file.row, room)? {
         Found::Whole(parcel) => take_parcel(repos, file, parcel)?,
         Found::Other(found) => return Err(RestoreFault::Damaged(damage_of(alloc, file, found)?)),
     }

@@ -1,8 +1,7 @@
 // What is found of four recorded files: sound ones, other contents, and blobs that are not there.
 use crate::audited::{abc, four_files, print_of, whole_file};
 use blob_audit::{Damaged, audit};
-use outside::Blobs;
-use outside_memory::{FaultScript, MemBlobs};
+use outside_memory::{FaultScript, MemBlobs, store_whole};
 use repo_model::Print;
 use std::alloc::Global;
 use std::process::Abort;
@@ -16,7 +15,7 @@ const POM: &str = "org/acme/lib/1.0/lib-1.0.pom";
 fn store_of(alloc: Global, blobs: &[(u64, &[u8])]) -> Result<MemBlobs, Fail> {
     let mut store = MemBlobs::new(alloc, FaultScript::none(alloc));
     for (number, bytes) in blobs {
-        store.store(*number, bytes)?;
+        store_whole(&mut store, *number, bytes)?;
     }
     Ok(store)
 }

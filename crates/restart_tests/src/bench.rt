@@ -6,8 +6,7 @@ use crate::ends::{
 use crate::literals::file_of;
 use crate::steps::Step;
 use crate::stock::{journal_of, started, store_of};
-use outside::Blobs;
-use outside_memory::MemBlobs;
+use outside_memory::{MemBlobs, read_whole};
 use record_disk::MemDisk;
 use record_journal::Journal;
 use repo_restart::RestoreFault;
@@ -66,7 +65,7 @@ impl Bench {
     ) -> Result<bool, Fail> {
         match row_in(&self.ended, place, path) {
             Some(row) => {
-                let bytes: Vec<u8> = self.store.read(&row.parcel.held)?;
+                let bytes: Vec<u8> = read_whole(self.alloc, &mut self.store, &row.parcel.held)?;
                 Ok(is_row(row, blob, fading) && bytes.as_slice() == b"abc".as_slice())
             }
             None => Ok(false),

@@ -48,7 +48,7 @@ fn a_store_that_lies_is_found_out(rt: HostRuntime) -> Result<(), Fail> {
 
 // A start whose call of this number, counted from 0, fails at the store, and the start after it.
 fn fails_at(alloc: Global, call: u64) -> Result<Option<usize>, Fail> {
-    let gone = if call == 10 { 1 } else { 0 };
+    let gone = if call == 14 { 1 } else { 0 };
     let steps = [
         Step::Journal(FOUR_FILES),
         Step::FailingStore(SIX_BLOBS, call),
@@ -63,10 +63,11 @@ fn fails_at(alloc: Global, call: u64) -> Result<Option<usize>, Fail> {
     first_other(alloc, &steps)
 }
 
-// Four files are found and read, the blobs are listed, and two go: each of these calls may fail.
+// Four files are found and read, each by a read of its bytes and one of its end, the blobs are listed, and two go: each of these
+// calls may fail.
 #[test]
 fn each_call_of_the_store_may_fail(rt: HostRuntime) -> Result<(), Fail> {
-    for call in 0..11 {
+    for call in 0..15 {
         assert_eq!(rt; fails_at(rt.alloc(), call)?, None);
     }
     Ok(())

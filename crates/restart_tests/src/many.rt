@@ -1,8 +1,7 @@
 // Many files of `abc` in a journal of the first version, and a start over them.
 use crate::literals::{ABC, ACCEPTED_BYTES, RELEASES};
 use crate::stock::{journal_of, started};
-use outside::Blobs;
-use outside_memory::{FaultScript, MemBlobs};
+use outside_memory::{FaultScript, MemBlobs, store_whole};
 use std::alloc::{AllocError, Global};
 use std::test::Fail;
 
@@ -41,7 +40,7 @@ fn file_of(alloc: Global, count: u32) -> Result<Vec<u8>, AllocError> {
 fn store_of(alloc: Global, count: u32) -> Result<MemBlobs, Fail> {
     let mut store: MemBlobs = MemBlobs::new(alloc, FaultScript::none(alloc));
     for number in 0..count {
-        store.store(number as u64 + 1_000, b"abc")?;
+        store_whole(&mut store, number as u64 + 1_000, b"abc")?;
     }
     Ok(store)
 }

@@ -5,7 +5,7 @@ ghost use Rattle.row_tables.specs.Recorded.{IsBuiltUp};
 
 use crate::literals::{SETTINGS, file_of};
 use outside::Blobs;
-use outside_memory::{FaultScript, MemBlobs, WrongBlobs};
+use outside_memory::{FaultScript, MemBlobs, WrongBlobs, store_whole};
 use record_disk::{DiskRoom, DiskScript, MemDisk};
 use record_journal::Journal;
 use repo_config::Settings;
@@ -43,13 +43,13 @@ fn calls_of(alloc: Global, failing: Option<u64>) -> Result<Vec<u64>, AllocError>
     Ok(calls)
 }
 
-/// The call of a store that fails, if there is one, counted from 0 once so many blobs stand there.
+/// The call of a store that fails, if there is one, counted from 0 once so many blobs stand there, each by three calls.
 fn script_of(
     alloc: Global,
     stored: usize,
     failing: Option<u64>,
 ) -> Result<FaultScript, AllocError> {
-    let call = failing.map(|call| call.saturating_add(stored as u64));
+    let call = failing.map(|call| call.saturating_add((stored as u64).saturating_mul(3)));
     Ok(FaultScript::failing_at(calls_of(alloc, call)?))
 }
 
@@ -62,7 +62,7 @@ pub fn store_of(
     let script: FaultScript = script_of(alloc, blobs.len(), failing)?;
     let mut store: MemBlobs = MemBlobs::new(alloc, script);
     for (number, bytes) in blobs {
-        store.store(*number, bytes)?;
+        store_whole(&mut store, *number, bytes)?;
     }
     Ok(store)
 }

@@ -9,7 +9,7 @@ ghost use Rattle.row_completion.specs.Gathering.{Adds, AreItemsOf, items_of};
 use crate::faults::CompletionFault;
 use blob_audit::{Found, RecordedFile, damage_of, look_at, sizes};
 use mvn_digest::Digests;
-use outside::{Blobs, NoMemory};
+use outside::{Blobs, NoMemory, Piece};
 use repo_model::Item;
 use std::alloc::Global;
 use texts::Text;
@@ -35,26 +35,28 @@ fn add_item(
     Ok(())
 }
 
-// Looks at the blob of a recorded file, and adds what is to be recorded of it.
+// Looks at the blob of a recorded file in the room that is lent, and adds what is to be recorded of it.
 fn add_found<B: Blobs>(
     alloc: Global,
     blobs: &mut B,
     items: &mut Vec<Item>,
     file: &RecordedFile<'_>,
+    room: &mut Piece,
 ) -> Result<(), CompletionFault>
     ensures found { OnOk result (Adds (B.shelf blobs.old) (shown_file file.now) items.old.items items.new.items) }
     ensures damaged { OnDamage result (λ damage. AreDamaged (B.shelf blobs.old) ((shown_file file.now).row ∷ []) (damage ∷ [])) }
     ensures cause { HasFindCause (B.faults blobs.old) (B.faults blobs.new) result }
     ensures kept { B.shelf blobs.new ≡ B.shelf blobs.old }
 {
-    match look_at(blobs, file.row)? {
+    match look_at(blobs, file.row, room)? {
         Found::Whole(parcel) => add_item(alloc, items, file, parcel.digests)?,
         Found::Other(found) => return Err(CompletionFault::Damaged(damage_of(alloc, file, found)?)),
     }
     Ok(())
 }
 
-/// What is to be recorded of files that lack their further digests, in the order of the files. Each blob is read once.
+/// What is to be recorded of files that lack their further digests, in the order of the files. Each blob is read once,
+/// all in the same 64 KiB.
 /// `Damaged` comes at the first file whose blob is not the recorded one.
 pub fn items_of_files<B: Blobs>(
     alloc: Global,
@@ -67,8 +69,9 @@ pub fn items_of_files<B: Blobs>(
     ensures kept { B.shelf blobs.new ≡ B.shelf blobs.old }
 {
     let mut items = Vec::new(alloc);
+    let mut room = Piece::new(alloc)?;
     for file in files {
-        add_found(alloc, blobs, &mut items, file)?;
+        add_found(alloc, blobs, &mut items, file, &mut room)?;
     }
     Ok(items)
 }

@@ -85,7 +85,7 @@ fn an_old_build_goes_in_two_passes(rt: HostRuntime) -> Result<(), Fail> {
     follow(&rt, rt.alloc(), &OF_TWO_BUILDS)
 }
 
-// A start finds and reads both blobs and lists them; the sixth call removes the older build's, and fails. Its row is gone all
+// A start finds both blobs, reads each and its end, and lists them; the eighth call removes the older build's, and fails. Its row is gone all
 // the same, so the next start removes what nothing names.
 static OF_A_FAILED_REMOVAL: [Step; 13] = [
     Step::Journal(TWO_BUILDS),
@@ -93,7 +93,7 @@ static OF_A_FAILED_REMOVAL: [Step; 13] = [
     Step::At(1_709_300_000),
     Step::Run("clean", ""),
     Step::Said("", "unlisted 1\nremoved 0\n", 0),
-    Step::FailingGarbage(&[(1, b"abc"), (2, b"abc")], 5),
+    Step::FailingGarbage(&[(1, b"abc"), (2, b"abc")], 7),
     Step::At(1_709_300_061),
     Step::Run("clean", ""),
     Step::Said("", "mvnrepod: store\n", 4),

@@ -124,9 +124,10 @@ static PUT_TORN_DISK: [Row; 8] = [
     CREATED_WHOLE,
 ];
 
-// A start finds and reads the blob of the recorded file, lists the blobs and removes the one that is left over; the PUT begins one,
-// adds its piece and seals it.
-static PUT_STORE: [Row; 8] = [
+// A start finds the blob of the recorded file, reads it and its end, lists the blobs and removes the one that is left over; the PUT
+// begins one, adds its piece and seals it.
+static PUT_STORE: [Row; 9] = [
+    NOT_STARTED,
     NOT_STARTED,
     NOT_STARTED,
     NOT_STARTED,
@@ -139,8 +140,8 @@ static PUT_STORE: [Row; 8] = [
 
 static CHECK_DISK: [Row; 4] = [NOT_STARTED, NOT_STARTED, NOT_STARTED, CHECKED_WHOLE];
 
-// A check finds and reads the blob of the recorded file.
-static CHECK_STORE: [Row; 3] = [NOT_STARTED, NOT_STARTED, CHECKED_WHOLE];
+// A check finds the blob of the recorded file, and reads it and its end.
+static CHECK_STORE: [Row; 4] = [NOT_STARTED, NOT_STARTED, NOT_STARTED, CHECKED_WHOLE];
 
 const EMPTY: Found = Found {
     checked: NONE,

@@ -1,6 +1,7 @@
 // A real folder: it is made, locked, and given back.
 use data_folder::{FolderDisk, blobs_in, open_disk};
 use outside::Blobs;
+use outside_memory::store_whole;
 use record_disk::Disk;
 use std::fs::{self, File};
 use std::test::Fail;
@@ -28,7 +29,7 @@ fn gives(disk: &mut RealDisk, bytes: [u8; 3]) -> bool {
 /// Whether a blob that is stored in the folder is listed.
 fn keeps_blobs(rt: &HostRuntime) -> Result<bool, Fail> {
     let mut blobs = blobs_in(rt, FOLDER)?;
-    blobs.store(1, b"x")?;
+    store_whole(&mut blobs, 1, b"x")?;
     let listed: Vec<u64> = blobs.list()?;
     Ok(listed.as_slice() == [1].as_slice())
 }

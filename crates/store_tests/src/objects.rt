@@ -1,8 +1,8 @@
 // What a run is given, in memory. No function here says more than it has to, so that who calls several of them carries no facts.
 ghost use Rattle.std.specs.Prelude.{◌<◌, IfOk, vec_len};
 
-use outside::{Blobs, Duplex};
-use outside_memory::{FaultScript, MemBlobs, MemLink, MemSink, MemSource, ScriptPort};
+use outside::Duplex;
+use outside_memory::{FaultScript, MemBlobs, MemLink, MemSink, MemSource, ScriptPort, store_whole};
 use outside_pace::ScriptPace;
 use record_disk::{DiskRoom, DiskScript, MemDisk};
 use record_journal::Journal;
@@ -25,11 +25,11 @@ pub fn store_of(
 ) -> Result<MemBlobs, Fail> {
     let mut calls: Vec<u64> = Vec::new(alloc);
     if let Some(call) = failing {
-        calls.push(call.saturating_add(blobs.len() as u64))?;
+        calls.push(call.saturating_add((blobs.len() as u64).saturating_mul(3)))?;
     }
     let mut store: MemBlobs = MemBlobs::new(alloc, FaultScript::failing_at(calls));
     for (number, bytes) in blobs {
-        store.store(*number, bytes)?;
+        store_whole(&mut store, *number, bytes)?;
     }
     Ok(store)
 }

@@ -4,13 +4,15 @@ use crate::literals::{INPUT_1, INPUT_2, INPUT_3, INPUT_4, UNREAD};
 use crate::serving::{first_twin, serve};
 use outside::{BlobFault, Blobs};
 use outside_meeting::HeldBlobs;
+use outside_memory::{read_whole, store_whole};
+use std::alloc::Global;
 use std::test::Fail;
 
 // Whether the second finds and reads what the first stores.
-fn finds(first: &mut HeldBlobs, second: &mut HeldBlobs) -> Result<bool, BlobFault> {
-    let _ = first.store(7, b"abc")?;
+fn finds(alloc: Global, first: &mut HeldBlobs, second: &mut HeldBlobs) -> Result<bool, BlobFault> {
+    let _ = store_whole(first, 7, b"abc")?;
     match second.adopt(7)? {
-        Some(held) => Ok(second.read(&held)?.as_slice() == b"abc".as_slice()),
+        Some(held) => Ok(read_whole(alloc, second, &held)?.as_slice() == b"abc".as_slice()),
         None => Ok(false),
     }
 }
@@ -25,8 +27,12 @@ fn loses(first: &mut HeldBlobs, second: &mut HeldBlobs) -> Result<bool, BlobFaul
 }
 
 // Whether all that is so, and no call fails.
-fn are_shared(first: &mut HeldBlobs, second: &mut HeldBlobs) -> Result<bool, BlobFault> {
-    let same = finds(first, second)? && loses(first, second)?;
+fn are_shared(
+    alloc: Global,
+    first: &mut HeldBlobs,
+    second: &mut HeldBlobs,
+) -> Result<bool, BlobFault> {
+    let same = finds(alloc, first, second)? && loses(first, second)?;
     Ok(same && first.faults() == 0 && second.faults() == 0)
 }
 
@@ -35,7 +41,7 @@ fn are_shared(first: &mut HeldBlobs, second: &mut HeldBlobs) -> Result<bool, Blo
 fn twins_share_their_blobs(rt: HostRuntime) -> Result<(), Fail> {
     let mut first = first_twin(rt.alloc(), 1)?;
     let mut second = first.member()?;
-    assert!(rt; are_shared(&mut first, &mut second)?);
+    assert!(rt; are_shared(rt.alloc(), &mut first, &mut second)?);
     Ok(())
 }
 

@@ -7,7 +7,7 @@ ghost use Rattle.turn_lock.specs.Seats.{opening, parts_of, IsSeatOf};
 use crate::literals::SETTINGS;
 use mvn_digest::Hashes;
 use outside::{Blobs, Clock, Parcel};
-use outside_memory::{FaultScript, MemBlobs, MemHeld, ScriptClock};
+use outside_memory::{FaultScript, MemBlobs, MemHeld, ScriptClock, store_whole};
 use repo_config::Settings;
 use repo_core::Core;
 use repo_model::{Command, Place, Reply};
@@ -146,7 +146,7 @@ fn put(alloc: Global, blobs: &mut MemBlobs) -> Result<Command<MemHeld>, Fail> {
     hashes.update(b"abc");
     let parcel = Parcel {
         blob: 1,
-        held: blobs.store(1, b"abc")?,
+        held: store_whole(blobs, 1, b"abc")?,
         length: 3,
         digests: hashes.finish(),
     };

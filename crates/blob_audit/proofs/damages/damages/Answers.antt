@@ -14,7 +14,7 @@ pub loop-file-preserved : goal.loop-file-preserved
 loop-file-preserved g c = record {
   kept = c.look_at.ensures.kept ∙ c.loop-file.invariant.kept;
   count = c.in_ok-found.ensures.cause ∙ c.loop-file.invariant.count;
-  damaged = elim c.match-branch-2.branch [
+  damaged = elim c.match-branch-3.branch [
     | (in-Whole w) ↦
         next-whole (λ f. (shown_file f).row) c.args.files.now c.loop-file.file-index c.file-item.result c.loop-file-test.true c.file-item.is
         c.loop-file.invariant.kept c.loop-file.invariant.damaged _

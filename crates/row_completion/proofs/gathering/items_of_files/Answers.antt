@@ -22,11 +22,11 @@ returns-in_err-add_found-clause-damaged g c =
     let now = g.B.Blobs.shelf c.loop-file.blobs in
     let file = c.file-item.result in
     let here : Damaged → Type 0 = λ d. AreDamaged now ((shown_file file).row ∷ []) (d ∷ []) in
-    damage-then c.from_residual.result
+    damage-then c.from_residual-in_err-add_found.result
     (λ d is.
     first-damaged (λ (f : RecordedFile). (shown_file f).row) c.args.files.now c.loop-file.file-index file c.loop-file-test.true c.file-item.is shelf d c.loop-file.invariant.sound
     (subst (λ (s : Shelf). AreDamaged s ((shown_file file).row ∷ []) (d ∷ [])) c.loop-file.invariant.kept is))
-    (damage-on (Unit {0}) c.from_residual.result c.in_err-add_found.field-0.0 here c.from_residual.ensures.1 c.in_err-add_found.ensures.damaged)
+    (damage-on (Unit {0}) c.from_residual-in_err-add_found.result c.in_err-add_found.field-0.0 here c.from_residual-in_err-add_found.ensures.1 c.in_err-add_found.ensures.damaged)
 
 pub loop-file-preserved : goal.loop-file-preserved
 loop-file-preserved g c =
