@@ -67,8 +67,8 @@ pub fn courses_are_complete()
 /// up, gives its lease back and holds it while a file is sent; it invites its body where the client waits for that, reads it by
 /// its length, once, and asks nothing but a draft before; a pass goes over the repositories that are asked for. It ends once, as is
 /// due for what its commands and deeds came to: with an answer in the manner of the request, which closes the connection where
-/// the body was not read or memory was wanted, and is a head alone to HEAD; or, behind a file or where a side of the stream
-/// failed, with none.
+/// the body was not read or memory was wanted, and is a head alone to HEAD; or, behind a file, whole or cut, or where a side of the
+/// stream failed, with none.
 pub fn courses_keep_their_duties()
     ensures requests { (judged : Result Judged Refused) (last : Bool) → Fulfils (duty_of judged last) (course_of judged last) }
     ensures no_heads { (fault : HeadFault) → Fulfils (duty_without_head fault) (refuses_head fault) }

@@ -108,7 +108,7 @@ impl Reading {
         })
     }
 
-    /// The piece that was given last.
+    /// The piece that was given last. Behind an end nothing is said of it.
     pub fn piece(&self) -> &[u8]
         ensures { result.now ≡ self.now.piece }
     {

@@ -65,9 +65,9 @@ fn stock_of<B: Blobs>(
 /// A repository by these settings, over what is recorded and stored.
 ///
 /// The records are loaded; a refusal of theirs ends the call. Where recorded files lack SHA-256 and SHA-512 these are completed,
-/// as `row_completion::complete` does: what a blob is found to have is committed, and nothing else is. Then each recorded file is
-/// looked at: its blob is read once and compared with what was recorded, and the first that differs, or is not there, is
-/// `Damaged`. Then the blobs that no row names are removed, in the order of the store; where that fails, or memory is wanting,
+/// as `row_completion::complete` does, which reads each recorded file: what a blob is found to have is committed, and nothing else is.
+/// Then each recorded file is looked at: its blob is read once more and compared with what was recorded, and the first that
+/// differs, or is not there, is `Damaged`. Then the blobs that no row names are removed, in the order of the store; where that fails, or memory is wanting,
 /// the first ones of these are gone and no others. `Store` comes where the records or the store failed.
 ///
 /// The state is the one that the machine's definition makes of the tables so completed: rows with the bytes that stand, results

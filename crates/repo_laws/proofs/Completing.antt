@@ -90,3 +90,22 @@ module _ (old new : Tables) (completes : Completes old new) where
 
   pub completed-files : (repo path : List ℕ) → IsFoundSince (recorded_at repo path new.cached) (recorded_at repo path old.cached)
   completed-files repo path = rows-found repo path old.cached new.cached completes.cached
+
+-- rows that were completed in two runs are completed
+rows-joined : (old mid new : List RecordedRow) → AreCompleted old mid → AreCompleted mid new → AreCompleted old new
+rows-joined old mid new none none = none
+rows-joined old mid new (same r rows rows' rest) (same now again rows'' later) = same r rows rows'' (rows-joined rows rows' rows'' rest later)
+rows-joined old mid new (same r rows rows' rest) (given now further again rows'' lacks later) =
+    given r further rows rows'' lacks (rows-joined rows rows' rows'' rest later)
+rows-joined old mid new (given r further rows rows' lacks rest) (same now again rows'' later) =
+    given r further rows rows'' lacks (rows-joined rows rows' rows'' rest later)
+rows-joined old mid new (given r further rows rows' lacks rest) (given now more again rows'' still later) =
+    given r more rows rows'' lacks (rows-joined rows rows' rows'' rest later)
+
+pub completed-twice : (old mid new : Tables) → Completes old mid → Completes mid new → Completes old new
+completed-twice old mid new first second = record {
+  hosted = rows-joined old.hosted mid.hosted new.hosted first.hosted second.hosted;
+  cached = rows-joined old.cached mid.cached new.cached first.cached second.cached;
+  documents = second.documents ∙ first.documents;
+  sessions = second.sessions ∙ first.sessions;
+}

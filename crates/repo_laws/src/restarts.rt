@@ -44,12 +44,14 @@ pub fn tables_stay_in_range()
 {}
 
 /// The further digests that a start commits leave tables in order and in range. Each row that stood at a place stands there still,
-/// and is the same, or it lacked its further digests and has them now; and none has come.
+/// and is the same, or it lacked its further digests and has them now; and none has come. What a start that was stopped, or failed,
+/// has committed and the next one goes on with is as if one had committed all.
 pub fn starts_complete_rows()
     ensures order { (old new : Tables) → Completes old new → InOrder old → InOrder new }
     ensures range { (old new : Tables) → Completes old new → InRange old → InRange new }
     ensures rows { (old new : Tables) (repo path : List ℕ) → Completes old new → IsFoundSince (recorded_at repo path new.hosted) (recorded_at repo path old.hosted) }
     ensures files { (old new : Tables) (repo path : List ℕ) → Completes old new → IsFoundSince (recorded_at repo path new.cached) (recorded_at repo path old.cached) }
+    ensures joined { (old mid new : Tables) → Completes old mid → Completes mid new → Completes old new }
 {}
 
 /// Across restarts: each file that a document named is answered in all later runs under the same settings, up to the grace after

@@ -1,4 +1,4 @@
-use Rattle.repo_laws.proofs.Completing.{completed-order, completed-range, completed-rows, completed-files}
+use Rattle.repo_laws.proofs.Completing.{completed-order, completed-range, completed-rows, completed-files, completed-twice}
 use Rattle.repo_laws.proofs.restarts.starts_complete_rows.Goals as goal
 
 pub returns-clause-order : goal.returns-clause-order
@@ -12,3 +12,6 @@ returns-clause-rows c = λ old new repo path completes. completed-rows old new c
 
 pub returns-clause-files : goal.returns-clause-files
 returns-clause-files c = λ old new repo path completes. completed-files old new completes repo path
+
+pub returns-clause-joined : goal.returns-clause-joined
+returns-clause-joined c = completed-twice
