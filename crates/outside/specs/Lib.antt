@@ -4,4 +4,5 @@ pub mod Faults
 pub mod Moments
 pub mod Parcel
 pub mod Readings
+pub mod Rooms
 pub mod Told

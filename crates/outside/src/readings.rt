@@ -1,11 +1,11 @@
 //! Stored blobs that are read piece by piece, each against what was recorded of it.
-ghost use Rattle.std.specs.Prelude.{◌≡◌, ◌<◌, ◌++◌, [], None, length, true, false, IfOk, IfSome, OnOk};
+ghost use Rattle.std.specs.Prelude.{◌≡◌, ◌<◌, ◌+◌, ◌++◌, [], None, length, min, true, false, IfOk, IfSome, OnOk};
 ghost use Rattle.outside.specs.Checks.{IsPrintOf};
 ghost use Rattle.outside.specs.Faults.{HasCause};
-ghost use Rattle.outside.specs.Readings.{Advances, Checks, IsReadOut, Gives, GoesOn, IsAll, IsGivenOrLong, IsReadUp, IsWhole, LooksAhead, Passes, reading_of};
+ghost use Rattle.outside.specs.Readings.{Advances, Checks, Closes, IsReadOut, Gives, GoesOn, IsAll, IsGivenOrLong, IsReadUp, IsWhole, LooksAhead, Passes, reading_of};
 
 use crate::faults::{Failed, NoMemory};
-use crate::pieces::{PIECE_BYTES, Piece};
+use crate::pieces::{PIECE_BYTES, Room};
 use crate::stores::Blobs;
 use boxcar::tag::{Names, Tag};
 use mvn_digest::{Digests, Hashes};
@@ -44,10 +44,17 @@ pub enum Step {
     Differs { length: u64, digests: Digests },
 }
 
+// How many bytes of a blob of this recorded length are read at once.
+fn room_for(length: u64) -> usize
+    ensures { result ≡ min 65535 length + 1 }
+{
+    length.min(PIECE_BYTES as u64 - 1) as usize + 1
+}
+
 /// A blob that is read piece by piece, each of 1 to 65,536 bytes. It gives a piece only once a later byte within the recorded
 /// length was read, or the whole was found to have the recorded length and digests: of a blob that differs, the last piece of
 /// the recorded length is never given. Each piece but the recorded length's last has 65,536 bytes. A longer blob is read on to
-/// its end.
+/// its end. The bytes of a piece are hashed once it was given, or when the whole is judged: a first piece waits for reads alone.
 ///
 /// Contracts see what was recorded, the bytes read so far, how many of them were given, and the piece.
 #[derive(Drop)]
@@ -58,8 +65,8 @@ pub struct Reading {
     given: u64,
     hashes: Hashes,
     message: Tag,
-    piece: Piece,
-    ahead: Piece,
+    piece: Room,
+    ahead: Room,
     is_whole: bool,
     is_short: bool,
     is_spent: bool,
@@ -76,22 +83,23 @@ impl Model for Reading {
       digests = r.digests;
       message = r.message.numbers;
       given = r.given;
-      piece = r.piece;
+      piece = r.piece.bytes;
       is_whole = r.is_whole;
       is_short = r.is_short;
       is_spent = r.is_spent;
       is_over = r.is_over;
     } };
 
-    ghost invariant = { λ r. IsReading r.length r.digests r.message.numbers r.given r.at r.hashes r.ahead r.is_whole r.is_short r.is_spent r.is_over };
+    ghost invariant = { λ r. IsReading r.length r.digests r.message.numbers r.given r.at r.hashes r.piece r.ahead r.is_whole r.is_short r.is_spent r.is_over };
 }
 
 impl Reading {
     /// A reading from the first byte on of a blob with this length in bytes and these digests. It takes all the room that the
-    /// reading wants, 128 KiB.
+    /// reading wants: twice 64 KiB, or of a blob that is shorter twice its length and a byte.
     pub fn new(alloc: Global, length: u64, digests: Digests) -> Result<Reading, NoMemory>
         ensures { IfOk result (λ reading. reading ≡ reading_of length digests) }
     {
+        let most = room_for(length);
         Ok(Reading {
             length,
             digests,
@@ -99,8 +107,8 @@ impl Reading {
             given: 0,
             hashes: Hashes::new(),
             message: Tag::empty(),
-            piece: Piece::new(alloc)?,
-            ahead: Piece::new(alloc)?,
+            piece: Room::new(alloc, most)?,
+            ahead: Room::new(alloc, most)?,
             is_whole: false,
             is_short: false,
             is_spent: false,
@@ -115,11 +123,12 @@ impl Reading {
         self.piece.bytes()
     }
 
-    // The piece that was ahead is the one to give, and nothing is ahead.
+    // The piece that was given is hashed, the one that was ahead is the one to give, and nothing is ahead.
     fn pass(&mut self)
         requires { self.old.is_spent ≡ false }
         ensures { Passes self.old self.new }
     {
+        self.hashes.update(self.piece.bytes());
         mem::swap(&mut self.piece, &mut self.ahead);
         self.ahead.clear();
         self.given = self.at;
@@ -144,15 +153,26 @@ impl Reading {
         self.ahead.fill(blobs, held, self.at, left)?;
         let bytes = self.ahead.bytes();
         self.is_short = (bytes.len() as u64) < left.min(PIECE_BYTES as u64);
-        self.hashes.update(bytes);
         self.message = joined(&self.message, bytes);
         self.at += bytes.len() as u64;
         Ok(())
     }
 
-    // Reads what stands behind the recorded length, to the blob's end.
+    // The last piece is hashed too, and so is all that was read. From here on the reading is spent, until it is judged.
+    fn close(&mut self)
+        requires live { self.old.is_spent ≡ false }
+        requires half { self.old.is_over ≡ false }
+        requires all { self.old.given ≡ length self.old.message }
+        ensures { Closes self.old self.new }
+    {
+        self.hashes.update(self.piece.bytes());
+        self.is_spent = true;
+    }
+
+    // Reads what stands behind the recorded length, to the blob's end, and hashes it.
     fn read_on<B: Blobs>(&mut self, blobs: &mut B, held: &B::Held) -> Result<(), Failed>
         requires half { self.old.is_over ≡ false }
+        requires spent { self.old.is_spent ≡ true }
         requires not_whole { self.old.is_whole ≡ false }
         requires not_short { self.old.is_short ≡ false }
         ensures cause { HasCause (B.faults blobs.old) (B.faults blobs.new) result }
@@ -163,7 +183,6 @@ impl Reading {
         ensures same { (self.new.is_whole ≡ false) × (self.new.given ≡ self.old.given) × (self.new.piece ≡ self.old.piece) }
         ensures kept { B.shelf blobs.new ≡ B.shelf blobs.old }
     {
-        self.is_spent = true;
         loop {
             self.ahead.fill(blobs, held, self.at, PIECE_BYTES as u64)?;
             if self.ahead.is_empty() {
@@ -179,6 +198,7 @@ impl Reading {
     // What the bytes read so far are. All of them were given but for the last piece, or they are too many.
     fn judge(&mut self) -> Option<Found>
         requires half { self.old.is_over ≡ false }
+        requires spent { self.old.is_spent ≡ true }
         requires given { IsGivenOrLong self.old }
         ensures recorded { (self.new.recorded ≡ self.old.recorded) × (self.new.digests ≡ self.old.digests) }
         ensures same { (self.new.given ≡ self.old.given) × (self.new.piece ≡ self.old.piece) × (self.new.message ≡ self.old.message)
@@ -236,6 +256,7 @@ impl Reading {
     // Reads what the blob has behind the recorded length, where it has so many bytes.
     fn read_past<B: Blobs>(&mut self, blobs: &mut B, held: &B::Held) -> Result<(), Failed>
         requires half { self.old.is_over ≡ false }
+        requires spent { self.old.is_spent ≡ true }
         requires not_whole { self.old.is_whole ≡ false }
         requires all { self.old.given ≡ length self.old.message }
         requires up { IsReadUp self.old }
@@ -243,6 +264,7 @@ impl Reading {
         ensures goes { GoesOn (B.Held.bytes held.now) self.old self.new }
         ensures told { OnOk result (IsAll (B.Held.bytes held.now) self.new) }
         ensures half { self.new.is_over ≡ false }
+        ensures spent { self.new.is_spent ≡ true }
         ensures same { (self.new.given ≡ self.old.given) × (self.new.piece ≡ self.old.piece) }
         ensures left { IsGivenOrLong self.new }
         ensures kept { B.shelf blobs.new ≡ B.shelf blobs.old }
@@ -256,6 +278,7 @@ impl Reading {
 
     // Looks whether all of the blob is as it was recorded, and gives what it is where it isn't.
     fn check<B: Blobs>(&mut self, blobs: &mut B, held: &B::Held) -> Result<Option<Found>, Failed>
+        requires live { self.old.is_spent ≡ false }
         requires half { self.old.is_over ≡ false }
         requires not_whole { self.old.is_whole ≡ false }
         requires all { self.old.given ≡ length self.old.message }
@@ -266,6 +289,7 @@ impl Reading {
         ensures checks { IfOk result (λ found. Checks (B.Held.bytes held.now) self.new found) }
         ensures kept { B.shelf blobs.new ≡ B.shelf blobs.old }
     {
+        self.close();
         self.read_past(blobs, held)?;
         Ok(self.judge())
     }
