@@ -19,6 +19,7 @@ use std::alloc::{AllocError, Global};
 
 // The bytes of a change.
 fn payload_of(alloc: Global, change: &Change) -> Result<Vec<u8>, AllocError>
+    requires { IsTrue (are_of Second change.now) }
     ensures bytes { IfOk result (λ bytes. bytes.items ≡ change_bytes change.now) }
     ensures fits { IfOk result (λ bytes. length bytes.items < 2 ^ 32) }
     ensures form { OnOk result (IsChange change.now) }

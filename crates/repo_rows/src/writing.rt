@@ -1,10 +1,11 @@
 //! Changes as bytes.
-ghost use Rattle.std.specs.Prelude.{◌≡◌, ◌<◌, ◌^◌, ◌∷◌, ◌++◌, length, IfOk, OnOk, OnErr};
+ghost use Rattle.std.specs.Prelude.{◌≡◌, ◌<◌, ◌^◌, ◌∷◌, ◌++◌, length, IfOk, OnOk, OnErr, IsTrue};
 ghost use Rattle.std.specs.Int.{w64, to_be_bytes};
 ghost use Rattle.std.specs.List.{flat_map};
 ghost use Rattle.mvn_metadata.specs.Written.{text as text_of};
 ghost use Rattle.repo_rows.specs.Sizes.{IsSized, AreSized};
-ghost use Rattle.row_tables.specs.Items.{IsHosted, behind_sha1, further_bytes, text_bytes, document_bytes, print_bytes, result_bytes, place_bytes, file_bytes, item_bytes, change_bytes};
+ghost use Rattle.row_tables.specs.Items.{IsHosted, are_of, behind_sha1, further_bytes, text_bytes, document_bytes, print_bytes, result_bytes, place_bytes, file_bytes, item_bytes, change_bytes};
+ghost use Rattle.row_tables.specs.declared.version.Version.TheVariants.{Second};
 
 use mvn_digest::{Further, Known};
 use mvn_doc::write;
@@ -228,8 +229,10 @@ fn written(alloc: Global, change: &Change) -> Result<Vec<u8>, AllocError>
     Ok(out)
 }
 
-/// Writes a change behind what is there, in the second version. Where memory is wanting nothing is written.
+/// Writes a change, each file of which has its SHA-256 and SHA-512, behind what is there: in the second version. Where memory is
+/// wanting nothing is written.
 pub fn put(alloc: Global, change: &Change, out: &mut Vec<u8>) -> Result<(), AllocError>
+    requires { IsTrue (are_of Second change.now) }
     ensures ok { OnOk result (out.new.items ≡ out.old.items ++ change_bytes change.now) }
     ensures err { OnErr result (out.new.items ≡ out.old.items) }
 {
