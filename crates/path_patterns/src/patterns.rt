@@ -88,6 +88,17 @@ impl Patterns {
         self.texts.as_slice()
     }
 
+    /// Another list of the same patterns.
+    pub fn copied(&self, alloc: Global) -> Result<Patterns, AllocError>
+        ensures { IfOk result (λ copy. copy ≡ self.now) }
+    {
+        let mut copy = Patterns::new(alloc);
+        for text in self.texts() {
+            copy.add(text.as_str())?;
+        }
+        Ok(copy)
+    }
+
     /// Whether one of the patterns matches the whole path. It takes time up to the length of the patterns times that of
     /// the path, and no memory. Of a side file the path of its file is asked for.
     pub fn allows(&self, path: &str) -> bool

@@ -1,12 +1,17 @@
 -- The commands of the machine, as plain data, and the condition that each of them meets.
-use Rattle.std.specs.Prelude.{ℕ, Bool, true, false, ◌&&◌, ◌==◌, nat_lt, List, length, find, Option, Some, None, Result, Ok, Err, is_some, bytes_eq}
+use Rattle.std.specs.Prelude.{ℕ, Bool, true, false, ◌&&◌, ◌||◌, ◌==◌, nat_lt, nat_le, List, length, find, Option, Some, None, Result, Ok, Err, is_some, bytes_eq}
 use Rattle.mvn_coords.specs.Kind.{kind}
 use Rattle.mvn_coords.specs.declared.kind.Kind.{Kind}
-use Rattle.mvn_coords.specs.declared.kind.Kind.TheVariants.{FileSide, DocSide, Doc}
+use Rattle.mvn_coords.specs.declared.kind.Kind.TheVariants.{File, FileSide, DocSide, Doc}
 use Rattle.mvn_coords.specs.declared.fault.PathFault.{PathFault}
 use Rattle.mvn_digest.specs.Sides.{digest_size}
+use Rattle.mvn_metadata.specs.Document.{Document}
+use Rattle.mvn_metadata.specs.Written as written
 use Rattle.repo_model.specs.Data.{Blob, Place, repository, session}
-use Rattle.repo_model.specs.Settings.{Rule, Settings}
+use Rattle.fetch_plan.specs.declared.Plan.{Plan}
+use Rattle.fetch_plan.specs.declared.Outcome.TheVariants.{Got as Landed}
+use Rattle.repo_model.specs.Fetched.{Landing, got_file, got_doc}
+use Rattle.repo_model.specs.Settings.{GroupRule, ProxyRule, Rule, Settings}
 use Rattle.repo_model.specs.Paths.{takes, file_at}
 use Rattle.repo_model.specs.State.{number_end}
 
@@ -39,6 +44,8 @@ pub data Command : Type 0 where
   collect : Command
   -- asks how much there is
   status : Command
+  -- what came of a fetch
+  land : Plan → Landing → Command
 
 abbrev pub rule_of : List ℕ → Settings → Option Rule
 rule_of id settings = find (λ rule. bytes_eq rule.id id) settings.hosted
@@ -49,6 +56,16 @@ is_fit test (Some value) = test value
 
 abbrev pub is_there : List ℕ → Settings → Bool
 is_there repo settings = is_some (rule_of repo settings)
+
+abbrev pub proxy_rule_of : List ℕ → Settings → Option ProxyRule
+proxy_rule_of id settings = find (λ rule. bytes_eq rule.id id) settings.proxies
+
+abbrev pub group_rule_of : List ℕ → Settings → Option GroupRule
+group_rule_of id settings = find (λ rule. bytes_eq rule.id id) settings.groups
+
+-- a repository of any kind
+abbrev pub is_known : List ℕ → Settings → Bool
+is_known id settings = is_there id settings || (is_some (proxy_rule_of id settings) || is_some (group_rule_of id settings))
 
 abbrev pub is_place : Place → Settings → Bool
 is_place (repository repo) settings = is_there repo settings
@@ -75,9 +92,23 @@ is_file_path path = is_some (file_at path)
 abbrev pub is_parcel : ℕ → Blob → Bool
 is_parcel n blob = (blob.number == n) && nat_lt blob.print.length number_end
 
+-- the longest written text of a document that lands
+abbrev pub longest_landed : ℕ
+longest_landed = 4_000_000
+
+-- a file lands under a draft, with which it is stored, and a document without one
+abbrev pub is_landing : Result Kind PathFault → Option ℕ → Landing → Bool
+is_landing (Ok (File c)) (Some n) (Landed (got_file blob)) = is_parcel n blob
+is_landing (Ok (File c)) (Some n) (Landed (got_doc document)) = false
+is_landing (Ok (File c)) (Some n) outcome = true
+is_landing (Ok (Doc d)) None (Landed (got_file blob)) = false
+is_landing (Ok (Doc d)) None (Landed (got_doc document)) = nat_le (length (written.text document)) longest_landed
+is_landing (Ok (Doc d)) None outcome = true
+is_landing k draft outcome = false
+
 -- the condition of a command
 abbrev pub meets : Settings → Command → Bool
-meets settings (look repo path tried) = is_there repo settings && names_something (kind path)
+meets settings (look repo path tried) = is_known repo settings && names_something (kind path)
 meets settings (done lease) = true
 meets settings (may_put place path) = is_place place settings && is_file_path path
 meets settings (put repo path n blob) = is_fit (λ rule. takes rule path) (rule_of repo settings) && is_parcel n blob
@@ -91,3 +122,4 @@ meets settings (abort n) = true
 meets settings (unlist repo) = is_there repo settings
 meets settings collect = true
 meets settings status = true
+meets settings (land plan outcome) = is_some (proxy_rule_of plan.proxy settings) && is_landing (kind plan.path) plan.draft outcome

@@ -3,7 +3,8 @@ use Rattle.std.specs.Prelude.{ℕ, Bool, ◌&&◌, ◌==◌, List, Option}
 use Rattle.std.specs.Str.{bytes_eq}
 use Rattle.repo_model.specs.declared.print.Print.{Print}
 use Rattle.repo_model.specs.declared.session.SessionResult.{SessionResult}
-use Rattle.repo_model.specs.Settings.{Rule}
+use Rattle.mvn_metadata.specs.Document.{Document}
+use Rattle.repo_model.specs.Settings.{Rule, ProxyRule}
 
 abbrev pub is_same_print : Print → Print → Bool
 is_same_print a b =
@@ -33,6 +34,24 @@ pub record Row : Type 0 where
 pub record Hosted : Type 0 where
   pub rule : Rule
   pub rows : List Row
+
+-- a document that a proxy keeps, and when its remote was asked for it
+pub record Kept : Type 0 where
+  pub path : List ℕ
+  pub checked : ℕ
+  pub document : Document
+
+-- a path at which a proxy's remote had nothing, and when it was asked
+pub record Mark : Type 0 where
+  pub path : List ℕ
+  pub moment : ℕ
+
+-- a proxy: its cached files, each path once, in byte order of path, none of which fades; the documents that it keeps, and its marks, alike
+pub record Proxy : Type 0 where
+  pub rule : ProxyRule
+  pub files : List Row
+  pub documents : List Kept
+  pub marks : List Mark
 
 -- a file that a session has staged
 pub record Staged : Type 0 where

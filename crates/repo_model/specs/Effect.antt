@@ -1,14 +1,15 @@
 -- What a turn may do to the state, one small change after another. A blob's number goes from one place to one other.
-use Rattle.std.specs.Prelude.{ℕ, ◌+◌, not, ◌==◌, if◌then◌else◌, List, [], ◌∷◌, ◌++◌, filter, Option, Some, None, nat_lt}
+use Rattle.std.specs.Prelude.{ℕ, ◌+◌, Bool, not, ◌==◌, ◌&&◌, ◌||◌, if◌then◌else◌, List, [], ◌∷◌, ◌++◌, fold, filter, length, Option, Some, None, nat_lt, nat_le, bytes_eq}
 use Rattle.std.specs.List.{flat_map}
-use Rattle.std.specs.Ordering.{nat_cmp, match_ordering}
+use Rattle.std.specs.Ordering.{nat_cmp, match_ordering, is_lt}
 use Rattle.std.specs.Cmp.Lexicographic.{slice_cmp}
 use Rattle.repo_model.specs.declared.item.Item.{Item}
-use Rattle.repo_model.specs.declared.item.Item.TheVariants.{HostedPut, Faded, Relisted, Removed, SessionOpened, SessionEnded}
+use Rattle.repo_model.specs.declared.item.Item.TheVariants.{HostedPut, Faded, Relisted, Removed, CachedFile, CachedDoc, SessionOpened, SessionEnded}
 use Rattle.repo_model.specs.declared.session.SessionResult.{SessionResult}
-use Rattle.repo_model.specs.Data.{Blob, Row, listed, fading, Hosted, Staged, Session}
+use Rattle.mvn_metadata.specs.Document.{Document}
+use Rattle.repo_model.specs.Data.{Blob, Row, listed, fading, Hosted, Kept, Mark, Proxy, Staged, Session}
 use Rattle.repo_model.specs.Prints.{recorded_print}
-use Rattle.repo_model.specs.State.{State, Yard, change_where, change_first, is_repository, is_row, is_staged, is_open_at, is_among}
+use Rattle.repo_model.specs.State.{State, Yard, change_where, change_first, is_repository, is_row, is_proxy, is_mark, is_staged, is_open_at, is_among}
 
 pub data Effect : Type 0 where
   -- blob numbers: the next one is drawn; a draft is given up; a draft becomes a new row's blob, or a staged file's
@@ -30,6 +31,12 @@ pub data Effect : Type 0 where
   -- sessions
   opens : (number : ℕ) (repo : List ℕ) → Effect
   ends : (session : ℕ) (result : SessionResult) → Effect
+  -- a draft becomes the blob of a file that a proxy keeps for good; a proxy keeps a document, in the place of the one at its path
+  caches : (proxy path : List ℕ) (blob : Blob) (moment : ℕ) → Effect
+  keeps_doc : (proxy path : List ℕ) (document : Document) (moment : ℕ) → Effect
+  -- the remote had nothing at a path; or it has something, and that is forgotten
+  marks_missing : (proxy path : List ℕ) (moment : ℕ) → Effect
+  clears_mark : (proxy path : List ℕ) → Effect
 
 -- numbers in rising order with one more, or without one
 abbrev pub with_number : ℕ → List ℕ → List ℕ
@@ -74,6 +81,44 @@ without_draft n yard = record yard { drafts = without_number n yard.drafts }
 abbrev pub condemning : ℕ → Yard → Yard
 condemning n yard = record yard { condemned = with_number n yard.condemned }
 
+-- documents in byte order of path with one more, in the place of the one at its path
+abbrev pub with_kept : Kept → List Kept → List Kept
+with_kept new [] = new ∷ []
+with_kept new (k ∷ kept) =
+    match_ordering (slice_cmp nat_cmp new.path k.path) (new ∷ k ∷ kept) (new ∷ kept) (k ∷ with_kept new kept)
+
+abbrev pub without_mark : List ℕ → List Mark → List Mark
+without_mark path marks = filter (λ m. not (is_mark path m)) marks
+
+-- a mark is older than another: it has the lesser moment, and of equal ones the lesser path
+abbrev pub is_older : Mark → Mark → Bool
+is_older a b = nat_lt a.moment b.moment || ((a.moment == b.moment) && is_lt (slice_cmp nat_cmp a.path b.path))
+
+abbrev pub older : Option Mark → Mark → Option Mark
+older None m = Some m
+older (Some best) m = Some (if is_older m best then m else best)
+
+abbrev pub without_oldest : Option Mark → List Mark → List Mark
+without_oldest None marks = marks
+without_oldest (Some m) marks = without_mark m.path marks
+
+-- the most marks of a proxy
+abbrev pub most_marks : ℕ
+most_marks = 10_000
+
+-- marks of which there are as many as may be lose the oldest
+abbrev pub with_room : List Mark → List Mark
+with_room marks = if nat_le most_marks (length marks) then without_oldest (fold older None marks) marks else marks
+
+abbrev pub insert_mark : Mark → List Mark → List Mark
+insert_mark new [] = new ∷ []
+insert_mark new (m ∷ marks) =
+    match_ordering (slice_cmp nat_cmp new.path m.path) (new ∷ m ∷ marks) (new ∷ m ∷ marks) (m ∷ insert_mark new marks)
+
+-- marks in byte order of path with one more, in the place of the one at its path
+abbrev pub with_mark : Mark → List Mark → List Mark
+with_mark new marks = insert_mark new (with_room (without_mark new.path marks))
+
 -- the rows of a repository after an effect there
 abbrev pub rows_after : Effect → List Row → List Row
 rows_after draws rows = rows
@@ -90,6 +135,10 @@ rows_after (lends blob) rows = rows
 rows_after (returns lease) rows = rows
 rows_after (opens n repo) rows = rows
 rows_after (ends n result) rows = rows
+rows_after (caches id path blob moment) rows = rows
+rows_after (keeps_doc id path document moment) rows = rows
+rows_after (marks_missing id path moment) rows = rows
+rows_after (clears_mark id path) rows = rows
 
 -- the repository whose rows an effect changes
 abbrev pub repo_of : Effect → Option (List ℕ)
@@ -107,6 +156,10 @@ repo_of (lends blob) = None
 repo_of (returns lease) = None
 repo_of (opens n repo) = None
 repo_of (ends n result) = None
+repo_of (caches id path blob moment) = None
+repo_of (keeps_doc id path document moment) = None
+repo_of (marks_missing id path moment) = None
+repo_of (clears_mark id path) = None
 
 abbrev pub in_repo : Option (List ℕ) → (List Row → List Row) → List Hosted → List Hosted
 in_repo None f hosted = hosted
@@ -114,6 +167,56 @@ in_repo (Some repo) f hosted = change_first (is_repository repo) (λ h. record h
 
 abbrev pub hosted_after : Effect → List Hosted → List Hosted
 hosted_after effect hosted = in_repo (repo_of effect) (rows_after effect) hosted
+
+-- a proxy after an effect there
+abbrev pub proxy_after : Effect → Proxy → Proxy
+proxy_after (caches id path blob moment) p = record p { files = with_row (new_row path blob moment) p.files }
+proxy_after (keeps_doc id path document moment) p =
+    record p { documents = with_kept (record { path = path; checked = moment; document = document }) p.documents }
+proxy_after (marks_missing id path moment) p = record p { marks = with_mark (record { path = path; moment = moment }) p.marks }
+proxy_after (clears_mark id path) p = record p { marks = without_mark path p.marks }
+proxy_after draws p = p
+proxy_after (drops n) p = p
+proxy_after (creates repo path blob moment) p = p
+proxy_after (stages n path blob) p = p
+proxy_after (delivers n repo path blob moment) p = p
+proxy_after (discards n path draft) p = p
+proxy_after (relists repo path moment) p = p
+proxy_after (fades repo path moment) p = p
+proxy_after (expires repo path blob) p = p
+proxy_after (forgets blobs) p = p
+proxy_after (lends blob) p = p
+proxy_after (returns lease) p = p
+proxy_after (opens n repo) p = p
+proxy_after (ends n result) p = p
+
+-- the proxy that an effect changes
+abbrev pub at_proxy : Effect → Option (List ℕ)
+at_proxy (caches id path blob moment) = Some id
+at_proxy (keeps_doc id path document moment) = Some id
+at_proxy (marks_missing id path moment) = Some id
+at_proxy (clears_mark id path) = Some id
+at_proxy draws = None
+at_proxy (drops n) = None
+at_proxy (creates repo path blob moment) = None
+at_proxy (stages n path blob) = None
+at_proxy (delivers n repo path blob moment) = None
+at_proxy (discards n path draft) = None
+at_proxy (relists repo path moment) = None
+at_proxy (fades repo path moment) = None
+at_proxy (expires repo path blob) = None
+at_proxy (forgets blobs) = None
+at_proxy (lends blob) = None
+at_proxy (returns lease) = None
+at_proxy (opens n repo) = None
+at_proxy (ends n result) = None
+
+abbrev pub in_proxy : Option (List ℕ) → (Proxy → Proxy) → List Proxy → List Proxy
+in_proxy None f proxies = proxies
+in_proxy (Some id) f proxies = change_first (is_proxy id) f proxies
+
+abbrev pub proxies_after : Effect → List Proxy → List Proxy
+proxies_after effect proxies = in_proxy (at_proxy effect) (proxy_after effect) proxies
 
 abbrev pub sessions_after : Effect → List Session → List Session
 sessions_after draws sessions = sessions
@@ -131,6 +234,10 @@ sessions_after (lends blob) sessions = sessions
 sessions_after (returns lease) sessions = sessions
 sessions_after (opens n repo) sessions = sessions ++ new_session n repo ∷ []
 sessions_after (ends n result) sessions = change_first (is_open_at n) (λ session. record session { ended = Some result }) sessions
+sessions_after (caches id path blob moment) sessions = sessions
+sessions_after (keeps_doc id path document moment) sessions = sessions
+sessions_after (marks_missing id path moment) sessions = sessions
+sessions_after (clears_mark id path) sessions = sessions
 
 abbrev pub yard_after : Effect → Yard → Yard
 yard_after draws yard = record yard { drafts = yard.drafts ++ yard.next_draft ∷ []; next_draft = yard.next_draft + 1 }
@@ -148,11 +255,16 @@ yard_after (lends blob) yard =
 yard_after (returns lease) yard = record yard { leases = filter (λ l. not (l.number == lease)) yard.leases }
 yard_after (opens n repo) yard = record yard { next_session = n + 1 }
 yard_after (ends n result) yard = yard
+yard_after (caches id path blob moment) yard = without_draft blob.number yard
+yard_after (keeps_doc id path document moment) yard = yard
+yard_after (marks_missing id path moment) yard = yard
+yard_after (clears_mark id path) yard = yard
 
 -- the state after one of them
 abbrev pub with_effect : State → Effect → State
 with_effect s e = record s {
   hosted = hosted_after e s.hosted;
+  proxies = proxies_after e s.proxies;
   sessions = sessions_after e s.sessions;
   yard = yard_after e s.yard;
 }
@@ -177,6 +289,10 @@ items_of (lends blob) = []
 items_of (returns lease) = []
 items_of (opens n repo) = SessionOpened n ∷ []
 items_of (ends n result) = SessionEnded n result ∷ []
+items_of (caches id path blob moment) = CachedFile id path blob.number (recorded_print blob.print) moment ∷ []
+items_of (keeps_doc id path document moment) = CachedDoc id path moment document ∷ []
+items_of (marks_missing id path moment) = []
+items_of (clears_mark id path) = []
 
 abbrev pub recorded : List Effect → List Item
 recorded effects = flat_map items_of effects

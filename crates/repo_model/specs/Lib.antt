@@ -3,8 +3,10 @@ pub mod Data
 pub mod Paths
 pub mod Prints
 pub mod Document
+pub mod Fetched
 pub mod State
 pub mod Effect
+pub mod Proxies
 pub mod May
 pub mod Command
 pub mod Reply

@@ -4,7 +4,8 @@ use Rattle.mvn_digest.specs.declared.digests.Digests.{Digests}
 use Rattle.repo_model.specs.declared.print.Print.{Print}
 use Rattle.repo_model.specs.declared.session.SessionResult.{SessionResult}
 use Rattle.repo_model.specs.Data.{Blob}
-use Rattle.repo_model.specs.Command.{Command, look, done, may_put, put, put_side, put_doc, drop_draft, open_session, stage, commit, abort, unlist, collect, status}
+use Rattle.fetch_plan.specs.declared.Plan.{Plan}
+use Rattle.repo_model.specs.Command.{Command, look, done, may_put, put, put_side, put_doc, drop_draft, open_session, stage, commit, abort, unlist, collect, status, land}
 
 pub data Reply : Type 0 where
   -- to a look: the file, its blob borrowed under the lease; the text of a side file; the document and its digests; nothing
@@ -48,6 +49,13 @@ pub data Reply : Type 0 where
   spent : Reply
   no_memory : Reply
   store_fault : Reply
+  -- to a look at a proxy or group: this is to be fetched, and then landed; at a proxy why nothing is answered
+  fetches : Plan → Reply
+  blocked : Reply
+  negative : Reply
+  never_asked : Reply
+  -- what came of a fetch is kept, as far as it is
+  landed : Reply
 
 -- the two replies that no state determines: they change nothing but the moment
 abbrev pub is_free : Reply → Bool
@@ -67,6 +75,10 @@ is_look_reply (text bytes) = true
 is_look_reply (doc bytes digests) = true
 is_look_reply missed = true
 is_look_reply spent = true
+is_look_reply (fetches plan) = true
+is_look_reply blocked = true
+is_look_reply negative = true
+is_look_reply never_asked = true
 is_look_reply reply = false
 
 abbrev pub is_done_reply : Reply → Bool
@@ -144,6 +156,11 @@ abbrev pub is_status_reply : Reply → Bool
 is_status_reply (counts files fading cached documents sessions) = true
 is_status_reply reply = false
 
+abbrev pub is_land_reply : Reply → Bool
+is_land_reply no_draft = true
+is_land_reply landed = true
+is_land_reply reply = false
+
 -- the replies that the state determines and that a command can get
 abbrev pub can_get : Command → Reply → Bool
 can_get (look repo path tried) reply = is_look_reply reply
@@ -160,3 +177,4 @@ can_get (abort session) reply = is_abort_reply reply
 can_get (unlist repo) reply = is_unlist_reply reply
 can_get collect reply = is_collect_reply reply
 can_get status reply = is_status_reply reply
+can_get (land plan outcome) reply = is_land_reply reply

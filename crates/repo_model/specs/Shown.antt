@@ -10,7 +10,12 @@ use Rattle.repo_model.specs.Command as asked
 use Rattle.repo_model.specs.Reply as answered
 use Rattle.repo_model.specs.History.{Entry}
 use Rattle.repo_model.specs.declared.command.Command.{Command}
-use Rattle.repo_model.specs.declared.command.Command.TheVariants.{Look, Done, MayPut, Put, PutSide, PutDoc, Drop, Open, Stage, Commit, Abort, Unlist, Collect, Status}
+use Rattle.repo_model.specs.declared.command.Command.TheVariants.{Look, Done, MayPut, Put, PutSide, PutDoc, Drop, Open, Stage, Commit, Abort, Unlist, Collect, Status, Land}
+use Rattle.repo_model.specs.declared.fetched.Got as landed
+use Rattle.repo_model.specs.declared.fetched.Got.TheVariants.{File, Doc}
+use Rattle.fetch_plan.specs.declared.Outcome.{Outcome}
+use Rattle.fetch_plan.specs.declared.Outcome.TheVariants.{Got, Gone, Refused, NoChecksum, Differs, TooLarge, BadAnswer, BadDocument, Fault}
+use Rattle.repo_model.specs.Fetched as fetched
 use Rattle.repo_model.specs.declared.command.Place.{Place}
 use Rattle.repo_model.specs.declared.command.Place.TheVariants.{Repository, Session}
 use Rattle.repo_model.specs.declared.reply.Reply.{Reply}
@@ -28,8 +33,24 @@ abbrev pub shown_place : Place → plain.Place
 shown_place (Repository id) = plain.repository id
 shown_place (Session number) = plain.session number
 
+abbrev pub shown_got : {X : Type 0} {G : Ghosts X} → landed.Got X G → fetched.Got
+shown_got (File parcel) = fetched.got_file (shown_parcel parcel)
+shown_got (Doc document) = fetched.got_doc document
+
+-- an outcome with another thing that was got
+abbrev pub outcome_map : {A B : Type 0} → (A → B) → Outcome A → Outcome B
+outcome_map f (Got what) = Got (f what)
+outcome_map f Gone = Gone
+outcome_map f (Refused status) = Refused status
+outcome_map f NoChecksum = NoChecksum
+outcome_map f (Differs said found) = Differs said found
+outcome_map f TooLarge = TooLarge
+outcome_map f (BadAnswer at) = BadAnswer at
+outcome_map f (BadDocument at) = BadDocument at
+outcome_map f Fault = Fault
+
 abbrev pub shown_command : {X : Type 0} {G : Ghosts X} → Command X G → asked.Command
-shown_command (Look repo path) = asked.look repo path []
+shown_command (Look repo path tried) = asked.look repo path tried
 shown_command (Done lease) = asked.done lease
 shown_command (MayPut place path) = asked.may_put (shown_place place) path
 shown_command (Put repo path draft parcel) = asked.put repo path draft (shown_parcel parcel)
@@ -43,6 +64,7 @@ shown_command (Abort session) = asked.abort session
 shown_command (Unlist repo) = asked.unlist repo
 shown_command Collect = asked.collect
 shown_command Status = asked.status
+shown_command (Land plan outcome) = asked.land plan (outcome_map shown_got outcome)
 
 abbrev pub shown_reply : {X : Type 0} {G : Ghosts X} → Reply X G → answered.Reply
 shown_reply (given.File lease parcel) = answered.file lease (shown_parcel parcel)
@@ -76,6 +98,11 @@ shown_reply (given.Counts files fading cached documents sessions) = answered.cou
 shown_reply given.Spent = answered.spent
 shown_reply given.NoMemory = answered.no_memory
 shown_reply given.StoreFault = answered.store_fault
+shown_reply (given.Fetch plan) = answered.fetches plan
+shown_reply given.Blocked = answered.blocked
+shown_reply given.Negative = answered.negative
+shown_reply given.Never = answered.never_asked
+shown_reply given.Landed = answered.landed
 
 -- a call at a moment, what it answered, and how often the records had failed then
 abbrev pub entry_of : {X : Type 0} {G : Ghosts X} → Command X G → ℕ → Reply X G → ℕ → Entry

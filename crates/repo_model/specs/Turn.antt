@@ -1,6 +1,6 @@
 -- One turn of the machine: the reply to a command and what it does to the state.
-use Rattle.std.specs.Prelude.{ℕ, Bool, not, ◌==◌, ◌||◌, nat_le, if◌then◌else◌, List, [], ◌∷◌, ◌++◌, length, filter, find, take, count_by, sum_by, Option, Some, None, Result, Ok, Err, bytes_eq}
-use Rattle.std.specs.Option.{option_map}
+use Rattle.std.specs.Prelude.{ℕ, ◌+◌, min, Bool, true, false, not, ◌==◌, ◌||◌, nat_le, if◌then◌else◌, List, [], ◌∷◌, ◌++◌, length, filter, find, take, count_by, sum_by, Option, Some, None, Result, Ok, Err, bytes_eq}
+use Rattle.std.specs.Option.{option_map, option_map_or}
 use Rattle.std.specs.List.{list_any}
 use Rattle.mvn_coords.specs.Kind.{kind}
 use Rattle.mvn_coords.specs.declared.kind.Kind.{Kind}
@@ -9,17 +9,24 @@ use Rattle.mvn_coords.specs.declared.fault.PathFault.{PathFault}
 use Rattle.mvn_coords.specs.Layout.{Directory, text_of}
 use Rattle.mvn_digest.specs.Digests.{digests_of}
 use Rattle.mvn_digest.specs.Sides.{side_of, side_text}
+use Rattle.mvn_metadata.specs.Document.{Document, merge}
 use Rattle.mvn_metadata.specs.Written as written
 use Rattle.repo_model.specs.declared.session.SessionResult.{SessionResult}
 use Rattle.repo_model.specs.declared.session.SessionResult.TheVariants.{Aborted, Done}
-use Rattle.repo_model.specs.Data.{Blob, Row, Phase, listed, fading, repository, session, Hosted, Staged, Session, is_same_print}
-use Rattle.repo_model.specs.Settings.{Settings}
+use Rattle.repo_model.specs.declared.step.Step.{Step}
+use Rattle.repo_model.specs.declared.step.Step.TheVariants.{Serve, Missed, Blocked, Negative, Never, Fetch}
+use Rattle.repo_model.specs.Data.{Blob, Row, Phase, listed, fading, repository, session, Hosted, Kept, Proxy, Staged, Session, is_same_print}
+use Rattle.fetch_plan.specs.declared.Plan.{Plan}
+use Rattle.fetch_plan.specs.declared.Outcome.TheVariants.{Got, Gone}
+use Rattle.repo_model.specs.Fetched.{Landing, got_file, got_doc}
+use Rattle.repo_model.specs.Proxies.{subject_of, kept_at, decided, settled_at}
+use Rattle.repo_model.specs.Settings.{GroupRule, ProxyRule, Settings}
 use Rattle.repo_model.specs.Paths.{takes}
 use Rattle.repo_model.specs.Document.{document, is_listed}
-use Rattle.repo_model.specs.State.{State, Yard, Lease, hosted_of, row_at, rows_of, session_of, open_of, is_open, is_staged, is_among, number_end, most_sessions, most_staged}
-use Rattle.repo_model.specs.Effect.{Effect, draws, drops, creates, stages, relists, forgets, lends, returns, opens, ends, with_effects}
-use Rattle.repo_model.specs.Command.{Command, look, done, may_put, put, put_side, put_doc, drop_draft, open_session, stage, commit, abort, unlist, collect, status}
-use Rattle.repo_model.specs.Reply.{Reply, file, text, doc, missed, given_back, kind_refused, draft, no_draft, taken, same, relisted, created, not_there, differs, agreed, noted, dropped, no_session, sessions_full, opened, session_full, staged, ended, unlisted, collected, counts, spent, offends, missing_pom}
+use Rattle.repo_model.specs.State.{State, Yard, Lease, hosted_of, proxy_of, row_at, rows_of, files_of, session_of, open_of, is_open, is_staged, is_among, number_end, most_sessions, most_staged}
+use Rattle.repo_model.specs.Effect.{Effect, draws, drops, creates, stages, relists, forgets, lends, returns, opens, ends, caches, keeps_doc, marks_missing, clears_mark, with_effects}
+use Rattle.repo_model.specs.Command.{Command, look, done, may_put, put, put_side, put_doc, drop_draft, open_session, stage, commit, abort, unlist, collect, status, land, group_rule_of}
+use Rattle.repo_model.specs.Reply.{Reply, file, text, doc, missed, given_back, kind_refused, draft, no_draft, taken, same, relisted, created, not_there, differs, agreed, noted, dropped, no_session, sessions_full, opened, session_full, staged, ended, unlisted, collected, counts, spent, offends, missing_pom, fetches, blocked, negative, never_asked, landed}
 use Rattle.repo_model.specs.Purge.{fade_all, due_rows, expire_all}
 use Rattle.repo_model.specs.Deploy.{Offence, offence, without_pom, deliver_all, discard_all}
 
@@ -40,6 +47,11 @@ pub data Seen : Type 0 where
   is_text : List ℕ → Seen
   is_doc : List ℕ → Seen
   is_nothing : Seen
+  -- a proxy, at a place of the group that is asked, is to fetch the file or document at a path
+  is_to_fetch : (member : ℕ) (rule : ProxyRule) (path : List ℕ) (of_file : Bool) → Seen
+  is_blocked : Seen
+  is_negative : Seen
+  is_never : Seen
 
 abbrev pub or_nothing : {A : Type 0} → (A → Seen) → Option A → Seen
 or_nothing f None = is_nothing
@@ -56,11 +68,183 @@ seen_at rows path (Ok (Doc d)) = or_nothing is_doc (document_text d rows)
 seen_at rows path (Ok (DocSide d side)) = or_nothing (λ bytes. is_text (side_text side (digests_of bytes))) (document_text d rows)
 seen_at rows path (Err fault) = is_nothing
 
-abbrev pub shows : ℕ → Seen → Turn
-shows next (is_file blob) = draws_or_spent next (record { reply = file next blob; effects = lends blob.number ∷ [] })
-shows next (is_text bytes) = says (text bytes)
-shows next (is_doc bytes) = says (doc bytes (digests_of bytes))
-shows next is_nothing = says missed
+-- the longest file and the longest document of a remote; a fetch holds the whole of it
+abbrev pub longest_fetched : ℕ
+longest_fetched = 16_777_216
+
+abbrev pub longest_document : ℕ
+longest_document = 1_048_576
+
+-- a file is fetched up to that length, and never beyond what a file may have
+abbrev pub file_limit : Settings → ℕ
+file_limit settings = min settings.max_file longest_fetched
+
+abbrev pub plan_of : ℕ → ProxyRule → List ℕ → Option ℕ → ℕ → Plan
+plan_of member rule path under limit = record {
+  proxy = rule.id;
+  member = member;
+  host = rule.host;
+  port = rule.port;
+  prefix = rule.prefix;
+  path = path;
+  draft = under;
+  limit = limit;
+}
+
+-- a file is fetched under a draft, and a document under none
+abbrev pub plans : Settings → ℕ → ℕ → ProxyRule → List ℕ → Bool → Turn
+plans settings next member rule path true =
+    draws_or_spent next (record { reply = fetches (plan_of member rule path (Some next) (file_limit settings)); effects = draws ∷ [] })
+plans settings next member rule path false = says (fetches (plan_of member rule path None longest_document))
+
+abbrev pub shows : Settings → Yard → Seen → Turn
+shows settings y (is_file blob) = draws_or_spent y.next_lease (record { reply = file y.next_lease blob; effects = lends blob.number ∷ [] })
+shows settings y (is_text bytes) = says (text bytes)
+shows settings y (is_doc bytes) = says (doc bytes (digests_of bytes))
+shows settings y is_nothing = says missed
+shows settings y (is_to_fetch member rule path of_file) = plans settings y.next_draft member rule path of_file
+shows settings y is_blocked = says blocked
+shows settings y is_negative = says negative
+shows settings y is_never = says never_asked
+
+-- a document as it is asked for: itself, or its side file
+abbrev pub document_shown : Result Kind PathFault → Document → Seen
+document_shown (Ok (DocSide d side)) document = is_text (side_text side (digests_of (written.text document)))
+document_shown k document = is_doc (written.text document)
+
+-- a file as it is asked for
+abbrev pub file_shown : Result Kind PathFault → Row → Seen
+file_shown (Ok (FileSide c side)) row = is_text (side_text side row.blob.print.digests)
+file_shown k row = is_file row.blob
+
+abbrev pub is_of_file : Result Kind PathFault → Bool
+is_of_file (Ok (File c)) = true
+is_of_file (Ok (FileSide c side)) = true
+is_of_file k = false
+
+-- what a member has of a directory, or of a file
+abbrev pub served_by : Proxy → List ℕ → Result Kind PathFault → Seen
+served_by p at k =
+    if is_of_file k then or_nothing (file_shown k) (row_at at p.files)
+    else or_nothing (λ (kept : Kept). document_shown k kept.document) (kept_at at p.documents)
+
+abbrev pub stepped : ℕ → Proxy → List ℕ → Result Kind PathFault → Step → Seen
+stepped member p at k Serve = served_by p at k
+stepped member p at k Fetch = is_to_fetch member p.rule at (is_of_file k)
+stepped member p at k Missed = is_nothing
+stepped member p at k Blocked = is_blocked
+stepped member p at k Negative = is_negative
+stepped member p at k Never = is_never
+
+-- what a proxy, at a place of a group or alone, has at a path of a kind
+abbrev pub proxy_seen : ℕ → Proxy → ℕ → List ℕ → List ℕ → Result Kind PathFault → Seen
+proxy_seen member p now tried path k =
+    stepped member p (subject_of path k) k (decided p now (is_among member tried) (subject_of path k))
+
+-- what a repository of an id has there: a hosted one, or a proxy
+abbrev pub member_seen : State → ℕ → List ℕ → List ℕ → Result Kind PathFault → ℕ → List ℕ → Seen
+member_seen s now tried path k member id =
+    option_map_or (λ (h : Hosted). seen_at h.rows path k) (hosted_of id s)
+    (option_map_or (λ (p : Proxy). proxy_seen member p now tried path k) (proxy_of id s) is_nothing)
+
+abbrev pub serves_or_fetches : Seen → Bool
+serves_or_fetches is_nothing = false
+serves_or_fetches is_blocked = false
+serves_or_fetches is_negative = false
+serves_or_fetches is_never = false
+serves_or_fetches seen = true
+
+abbrev pub fetches_one : Seen → Bool
+fetches_one (is_to_fetch member rule path of_file) = true
+fetches_one seen = false
+
+-- what the members have, in their order, from a place on
+abbrev pub each_seen : State → ℕ → List ℕ → List ℕ → Result Kind PathFault → ℕ → List (List ℕ) → List Seen
+each_seen s now tried path k member [] = []
+each_seen s now tried path k member (id ∷ ids) = member_seen s now tried path k member id ∷ each_seen s now tried path k (member + 1) ids
+
+abbrev pub directory_of : Result Kind PathFault → Option Directory
+directory_of (Ok (Doc d)) = Some d
+directory_of (Ok (DocSide d side)) = Some d
+directory_of k = None
+
+-- the document that a proxy serves, where it fetches none
+abbrev pub kept_served : Step → Option Kept → Option Document
+kept_served Serve kept = option_map (λ (k : Kept). k.document) kept
+kept_served step kept = None
+
+abbrev pub proxy_document : Proxy → ℕ → Bool → List ℕ → Option Document
+proxy_document p now tried at = kept_served (decided p now tried at) (kept_at at p.documents)
+
+-- the document that a member serves
+abbrev pub member_document : State → ℕ → List ℕ → List ℕ → Directory → ℕ → List ℕ → Option Document
+member_document s now tried at d member id =
+    option_map_or (λ (h : Hosted). document d h.rows) (hosted_of id s)
+    (option_map_or (λ (p : Proxy). proxy_document p now (is_among member tried) at) (proxy_of id s) None)
+
+abbrev pub with_some : {A : Type 0} → Option A → List A → List A
+with_some None xs = xs
+with_some (Some x) xs = x ∷ xs
+
+abbrev pub each_document : State → ℕ → List ℕ → List ℕ → Directory → ℕ → List (List ℕ) → List Document
+each_document s now tried at d member [] = []
+each_document s now tried at d member (id ∷ ids) =
+    with_some (member_document s now tried at d member id) (each_document s now tried at d (member + 1) ids)
+
+-- the document of a group: that of all members that serve one
+abbrev pub merged_of : State → ℕ → List ℕ → List ℕ → Directory → List (List ℕ) → Option Document
+merged_of s now tried at d ids = merge (each_document s now tried at d 0 ids)
+
+-- what a group has: of a file what the first member has that serves or fetches it; a document of the first member that fetches
+-- one, and else that of all
+abbrev pub first_or : Option Seen → Seen → Seen
+first_or None seen = seen
+first_or (Some found) seen = found
+
+abbrev pub group_seen : State → ℕ → List ℕ → List ℕ → Result Kind PathFault → List (List ℕ) → Option Directory → Seen
+group_seen s now tried path k ids None = first_or (find serves_or_fetches (each_seen s now tried path k 0 ids)) is_nothing
+group_seen s now tried path k ids (Some d) =
+    first_or (find fetches_one (each_seen s now tried path k 0 ids))
+    (or_nothing (document_shown k) (merged_of s now tried (subject_of path k) d ids))
+
+-- what a repository of any kind has at a path
+abbrev pub look_at : Settings → State → ℕ → List ℕ → List ℕ → List ℕ → Seen
+look_at settings s now id tried path =
+    option_map_or (λ (h : Hosted). seen_at h.rows path (kind path)) (hosted_of id s)
+    (option_map_or (λ (g : GroupRule). group_seen s now tried path (kind path) g.members (directory_of (kind path))) (group_rule_of id settings)
+    (member_seen s now tried path (kind path) 0 id))
+
+-- the document that a repository of any kind serves of a directory
+abbrev pub document_at : Settings → State → ℕ → List ℕ → List ℕ → List ℕ → Directory → Option Document
+document_at settings s now id tried at d =
+    option_map_or (λ (h : Hosted). document d h.rows) (hosted_of id s)
+    (option_map_or (λ (g : GroupRule). merged_of s now tried at d g.members) (group_rule_of id settings)
+    (member_document s now tried at d 0 id))
+
+-- a draft that was drawn for what lands is one still
+abbrev pub is_drawn : Option ℕ → List ℕ → Bool
+is_drawn None drafts = true
+is_drawn (Some n) drafts = is_among n drafts
+
+abbrev pub gives_draft_up : Option ℕ → List Effect
+gives_draft_up None = []
+gives_draft_up (Some n) = drops n ∷ []
+
+-- a file is kept unless one is there; what the remote has is no longer missing
+abbrev pub lands_file : Plan → Blob → ℕ → Option Row → List Effect
+lands_file plan blob now None = caches plan.proxy plan.path blob now ∷ clears_mark plan.proxy plan.path ∷ []
+lands_file plan blob now (Some row) = clears_mark plan.proxy plan.path ∷ gives_draft_up plan.draft
+
+-- what lands at a proxy that keeps these files
+abbrev pub lands_by : List Row → ℕ → Plan → Landing → List Effect
+lands_by files now plan (Got (got_file blob)) = lands_file plan blob now (row_at plan.path files)
+lands_by files now plan (Got (got_doc document)) =
+    keeps_doc plan.proxy plan.path (settled_at document (kind plan.path)) now ∷ clears_mark plan.proxy plan.path ∷ []
+lands_by files now plan Gone = marks_missing plan.proxy plan.path now ∷ gives_draft_up plan.draft
+lands_by files now plan outcome = gives_draft_up plan.draft
+
+abbrev pub lands : State → ℕ → Plan → Landing → List Effect
+lands s now plan outcome = lands_by (files_of plan.proxy s) now plan outcome
 
 -- where a file may be put at a place: its repository, and the session
 abbrev pub in_repository : List ℕ → Option Hosted → Turn → Turn
@@ -152,12 +336,13 @@ collect_of expiring yard = record {
 
 abbrev pub counts_of : State → Reply
 counts_of s =
-    counts (sum_by (λ h. length h.rows) s.hosted) (sum_by (λ h. count_by (λ row. not (is_listed row.phase)) h.rows) s.hosted) 0 0
+    counts (sum_by (λ h. length h.rows) s.hosted) (sum_by (λ h. count_by (λ row. not (is_listed row.phase)) h.rows) s.hosted)
+    (sum_by (λ (p : Proxy). length p.files) s.proxies) (sum_by (λ (p : Proxy). length p.documents) s.proxies)
     (count_by is_open s.sessions)
 
 -- the reply to a command at a moment, and what it does
 abbrev pub turn : Settings → State → ℕ → Command → Turn
-turn settings s now (look repo path tried) = shows s.yard.next_lease (seen_at (rows_of repo s) path (kind path))
+turn settings s now (look repo path tried) = shows settings s.yard (look_at settings s now repo tried path)
 turn settings s now (done lease) = record { reply = given_back; effects = returns lease ∷ [] }
 turn settings s now (may_put (repository repo) path) = in_repository path (hosted_of repo s) (draws_draft s.yard.next_draft)
 turn settings s now (may_put (session n) path) = may_put_in s path (open_of n s)
@@ -181,3 +366,5 @@ turn settings s now (unlist repo) = unlist_of now (hosted_of repo s)
 turn settings s now collect =
     let expiring = expire_all settings.grace now s.hosted in collect_of expiring (with_effects s expiring).yard
 turn settings s now status = says (counts_of s)
+turn settings s now (land plan outcome) =
+    if is_drawn plan.draft s.yard.drafts then record { reply = landed; effects = lands s now plan outcome } else says no_draft

@@ -1,4 +1,7 @@
 //! What may be asked of the repository.
+use crate::blobs::Numbers;
+use crate::fetched::Got;
+use fetch_plan::{Outcome, Plan};
 use ids::Id;
 use mvn_digest::Digest;
 use outside::{Held, Parcel};
@@ -19,6 +22,7 @@ pub enum Command<H: Held> {
     Look {
         repo: Text,
         path: Text,
+        tried: Numbers,
     },
     /// Gives a lease back.
     Done {
@@ -79,4 +83,9 @@ pub enum Command<H: Held> {
     Collect,
     /// How much there is.
     Status,
+    /// What came of a fetch, of which a proxy keeps what it may.
+    Land {
+        plan: Plan,
+        outcome: Outcome<Got<H>>,
+    },
 }

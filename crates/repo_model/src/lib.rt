@@ -7,17 +7,23 @@
 mod ask;
 mod blobs;
 mod command;
+mod fetched;
 mod item;
 mod numbers;
 mod print;
 mod reply;
 mod session;
+mod step;
+mod update;
 
 pub use ask::Ask;
 pub use blobs::Numbers;
 pub use command::{Command, Place};
+pub use fetched::Got;
 pub use item::Item;
 pub use numbers::NUMBER_END;
 pub use print::{Print, Recorded};
 pub use reply::Reply;
 pub use session::SessionResult;
+pub use step::Step;
+pub use update::Update;

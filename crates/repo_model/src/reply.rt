@@ -2,6 +2,7 @@
 use crate::blobs::Numbers;
 use crate::print::Print;
 use crate::session::SessionResult;
+use fetch_plan::Plan;
 use mvn_digest::{Digest, Digests, SideText};
 use outside::{Held, Parcel};
 use texts::{Bytes, Text};
@@ -101,4 +102,14 @@ pub enum Reply<H: Held> {
     NoMemory,
     /// The records failed: nothing is recorded, and nothing is changed.
     StoreFault,
+    /// This is to be fetched, and then landed.
+    Fetch(Plan),
+    /// The proxy's patterns do not let the path through.
+    Blocked,
+    /// The proxy's remote had nothing there a short time ago.
+    Negative,
+    /// The proxy never asks its remote.
+    Never,
+    /// What came of a fetch has landed.
+    Landed,
 }
