@@ -24,13 +24,9 @@ use Rattle.naming_laws.proofs.Snapshots.{named-given, snapshot-each}
 use Rattle.naming_laws.proofs.Artifacts.{artifact-each, artifact-given}
 
 module _ (settings : Settings) (s : State) (e : Entry) (later : List Entry) (repo : List ℕ) (d : Directory) (served : Document) (apart : AreNamedApart settings.hosted)
-    (sound : IsSound settings s) (legal : Legal settings s (e ∷ later)) (answers : AnswersDocument s e repo d served) where
+    (sound : IsSound settings s) (legal : Legal settings s (e ∷ later)) (answers : AnswersDocument settings s e repo d served) (served-is : document d (rows_of repo s) ≡ Some served) where
   abbrev rows : List Row
   rows = rows_of repo s
-
-  -- the document is that of the rows
-  served-is : document d rows ≡ Some served
-  served-is = let (_, _, _, _, is, _) = answers in is
 
   named-answered : (row : Row) → IsAmong row (named d rows served) → IsAnswered settings s e later repo row
   named-answered row among = among-all (IsAnswered settings s e later repo) row (named d rows served) among ((closed settings apart (e ∷ later) s sound.order legal).0 repo d served answers)

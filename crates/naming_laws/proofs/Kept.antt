@@ -16,18 +16,19 @@ use Rattle.repo_model.specs.Command.{Command, put}
 use Rattle.repo_model.specs.Reply.{no_draft, taken, is_free}
 use Rattle.repo_model.specs.Purge.{due_rows}
 use Rattle.repo_model.specs.Deploy.{deliver_at, deliver_again}
-use Rattle.repo_model.specs.Turn.{Turn, says, put_again, put_at, turn}
+use Rattle.repo_model.specs.Turn.{Turn, says, put_again, put_at, turn, lands}
 use Rattle.repo_model.specs.History.{Entry, IsReply, due, wants_memory, failed, Fits, Legal, is_collect, ticked, effects_of, after, end}
 use Rattle.repo_laws.specs.Laws.{LastsFrom}
 use Rattle.repo_laws.specs.Sound.{AreNamedApart, IsSound}
 use Rattle.repo_laws.proofs.Answered.{free-none, no-free}
-use Rattle.repo_laws.proofs.Cases.{Case, lends_file, takes_back, gives_draft, makes_row, has_same, lists_again, has_other, gives_up, opens_one, stage_nowhere, stages_one, stage_full, stage_same, stage_other, deploys, aborts, unlists, collects, turn-case}
+use Rattle.repo_laws.proofs.Cases.{Case, lends_file, takes_back, gives_draft, makes_row, has_same, lists_again, has_other, gives_up, opens_one, stage_nowhere, stages_one, stage_full, stage_same, stage_other, deploys, aborts, unlists, collects, turn-case, plans_file, lands_one}
 use Rattle.repo_laws.proofs.Histories.{entry-may}
 use Rattle.repo_laws.proofs.HoldingLists.{all-join}
 use Rattle.repo_laws.proofs.Keeping.{keeps-sound}
 use Rattle.repo_laws.proofs.Rows.{rows-changed}
 use Rattle.repo_laws.proofs.Stands.{stands-kept}
 use Rattle.naming_laws.specs.Kept.{file_in, files_of, may_change_files, takes_away, KeepsFiles}
+use Rattle.repo_laws.proofs.Making.{OfLanding, lands-made}
 
 map-changed : {X Y : Type 0} (g : X → Y) (q : X → Bool) (f : X → X) → ((x : X) → g (f x) ≡ g x) → (xs : List X) → map g (change_where q f xs) ≡ map g xs
 map-changed g q f same [] = refl
@@ -59,6 +60,29 @@ all-discard : (id : List ℕ) (n : ℕ) (result : SessionResult) (files : List S
 all-discard id n result [] s = refl
 all-discard id n result (file ∷ files) s = all-discard id n result files (with_effect s (discards n file.path file.blob.number))
 
+-- what lands changes no file of a hosted repository
+same-files : (id : List ℕ) → OfLanding (λ e. (v : State) → files_of id (with_effect v e) ≡ files_of id v)
+same-files id = record {
+  drops_so = λ n v. refl;
+  caches_so = λ at path blob moment v. refl;
+  keeps_doc_so = λ at path document moment v. refl;
+  marks_so = λ at path moment v. refl;
+  clears_so = λ at path v. refl;
+}
+
+lands-none : (id : List ℕ) (es : List Effect) → AllByRecursion (λ e. (v : State) → files_of id (with_effect v e) ≡ files_of id v) es → (u : State) → files_of id (with_effects u es) ≡ files_of id u
+lands-none id [] all u = refl
+lands-none id (e ∷ es) all u = lands-none id es all.1 (with_effect u e) ∙ all.0 u
+
+none-away : OfLanding (λ e. takes_away e ≡ false)
+none-away = record {
+  drops_so = λ n. refl;
+  caches_so = λ id path blob moment. refl;
+  keeps_doc_so = λ id path document moment. refl;
+  marks_so = λ id path moment. refl;
+  clears_so = λ id path. refl;
+}
+
 -- by the reply of a turn
 module _ (settings : Settings) (s : State) (now : ℕ) where
   case-files : (id : List ℕ) (c : Command) (t : Turn) → Case settings s now c t → may_change_files t.reply ≡ false → (u : State) → files_of id (with_effects u t.effects) ≡ files_of id u
@@ -68,6 +92,7 @@ module _ (settings : Settings) (s : State) (now : ℕ) where
   case-files id c t (aborts n one is going) still u = all-discard id one.number _ one.staged u
   case-files id c t (unlists repo h is) still u = all-fade id h.rule.id now (due_rows h.rule now h.rows) u
   case-files id c t collects still u = absurd (false≢true (sym still))
+  case-files id c t (lands_one plan outcome drawn) still u = lands-none id (lands s now plan outcome) (lands-made (λ e. (v : State) → files_of id (with_effect v e) ≡ files_of id v) (same-files id) s now plan outcome) u
   case-files id c t case still u = refl
 
   abbrev Still : Turn → Type 0
@@ -173,6 +198,8 @@ module _ (settings : Settings) (s : State) (now : ℕ) where
   case-stay c t (aborts n one is going) other = discards-stay one.number _ one.staged
   case-stay c t (unlists repo h is) other = fading-stay h.rule.id now (due_rows h.rule now h.rows)
   case-stay c t (lists_again repo path n blob among row since found phase_is) other = (refl, (refl, tt))
+  case-stay c t (plans_file repo path tried member rule at more is) other = (refl, tt)
+  case-stay c t (lands_one plan outcome drawn) other = lands-made (λ e. takes_away e ≡ false) none-away s now plan outcome
   case-stay c t (lends_file repo path tried blob more is) other = (refl, tt)
   case-stay c t (takes_back lease) other = (refl, tt)
   case-stay c t (gives_draft place path more) other = (refl, tt)

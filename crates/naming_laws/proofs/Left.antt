@@ -9,20 +9,20 @@ use Rattle.repo_model.specs.declared.session.SessionResult.TheVariants.{Aborted,
 use Rattle.repo_model.specs.Data.{Blob}
 use Rattle.repo_model.specs.Settings.{Settings}
 use Rattle.repo_model.specs.State.{Lease, State, is_among, rows_of}
-use Rattle.repo_model.specs.Effect.{Effect, draws, drops, creates, stages, lends, returns, with_effect, with_effects}
-use Rattle.repo_model.specs.Command.{Command, done, put, stage, drop_draft}
+use Rattle.repo_model.specs.Effect.{Effect, draws, drops, creates, stages, lends, returns, with_effect, with_effects, caches}
+use Rattle.repo_model.specs.Command.{Command, done, put, stage, drop_draft, land}
 use Rattle.repo_model.specs.Reply.{Reply, draft, file, no_draft, no_memory, store_fault, is_free}
 use Rattle.repo_model.specs.Purge.{expire_all}
 use Rattle.repo_model.specs.Turn.{Turn, turn, unlent}
 use Rattle.repo_model.specs.History.{Entry, Fits, ticked, after, Legal, end}
 use Rattle.repo_laws.specs.Laws.{count_of, leases_of}
-use Rattle.repo_laws.specs.Replies.{uses_draft, leaves_drafts, spends}
+use Rattle.repo_laws.specs.Replies.{uses_draft, leaves_drafts, spends, GivesDraft}
 use Rattle.repo_laws.proofs.Answered.{free-none, reply-determined, state-determined}
-use Rattle.repo_laws.proofs.Cases.{Case, does, lends_file, takes_back, gives_draft, makes_row, has_same, lists_again, has_other, gives_up, opens_one, stage_nowhere, stages_one, stage_full, stage_same, stage_other, deploys, aborts, unlists, collects, turn-case}
+use Rattle.repo_laws.proofs.Cases.{Case, does, lends_file, takes_back, gives_draft, makes_row, has_same, lists_again, has_other, gives_up, opens_one, stage_nowhere, stages_one, stage_full, stage_same, stage_other, deploys, aborts, unlists, collects, turn-case, plans_file, lands_one}
 use Rattle.repo_laws.proofs.Counts.{among-counts}
-use Rattle.repo_laws.proofs.Drafts.{drafts-put, drafts-staged, drafts-dropped}
+use Rattle.repo_laws.proofs.Drafts.{drafts-put, drafts-staged, drafts-dropped, drafts-landed}
 use Rattle.repo_laws.proofs.HoldingLists.{any-counts}
-use Rattle.repo_laws.proofs.Making.{Bulk, deploys-made, aborts-made, unlists-made, collects-made}
+use Rattle.repo_laws.proofs.Making.{Bulk, deploys-made, aborts-made, unlists-made, collects-made, OfLanding, lands-made}
 use Rattle.repo_laws.proofs.Places.{is_draw}
 use Rattle.repo_laws.proofs.Readers.{none-lent}
 use Rattle.naming_laws.specs.Left.{IsDraftLeft, IsLeaseLeft}
@@ -53,9 +53,18 @@ all-plain = record {
   ends_so = λ n result. (refl, refl);
 }
 
+plain-landing : OfLanding IsPlain
+plain-landing = record {
+  drops_so = λ n. (refl, refl);
+  caches_so = λ id path blob moment. (refl, refl);
+  keeps_doc_so = λ id path document moment. (refl, refl);
+  marks_so = λ id path moment. (refl, refl);
+  clears_so = λ id path. (refl, refl);
+}
+
 module _ (settings : Settings) (s : State) (now : ℕ) where
   abbrev Draws : Turn → Type 0
-  Draws u = u ≡ does (draft s.yard.next_draft) (draws ∷ [])
+  Draws u = (r : Reply) × GivesDraft s.yard.next_draft r × (u ≡ does r (draws ∷ []))
 
   abbrev Lends : Turn → Type 0
   Lends u = (blob : Blob) × (u ≡ does (file s.yard.next_lease blob) (lends blob.number ∷ []))
@@ -65,7 +74,9 @@ module _ (settings : Settings) (s : State) (now : ℕ) where
 
   case-shape : (c : Command) (u : Turn) → Case settings s now c u → Shape u
   case-shape c u (lends_file repo path tried blob more is) = inr (inr (blob, refl))
-  case-shape c u (gives_draft place path more) = inr (inl refl)
+  case-shape c u (gives_draft place path more) = inr (inl (draft s.yard.next_draft, refl, refl))
+  case-shape c u (plans_file repo path tried member rule at more is) = inr (inl (_, refl, refl))
+  case-shape c u (lands_one plan outcome drawn) = inl (lands-made IsPlain plain-landing s now plan outcome)
   case-shape c u (takes_back lease) = inl ((refl, refl), tt)
   case-shape c u (makes_row repo path m blob among free) = inl ((refl, refl), tt)
   case-shape c u (has_same repo path m blob among) = inl ((refl, refl), tt)
@@ -97,6 +108,7 @@ module _ (n : ℕ) where
   draft-before s (drops m) plain there = any-filter (λ k. k == n) (λ k. not (k == m)) s.yard.drafts there
   draft-before s (creates repo path blob moment) plain there = any-filter (λ k. k == n) (λ k. not (k == blob.number)) s.yard.drafts there
   draft-before s (stages at path blob) plain there = any-filter (λ k. k == n) (λ k. not (k == blob.number)) s.yard.drafts there
+  draft-before s (caches id path blob moment) plain there = any-filter (λ k. k == n) (λ k. not (k == blob.number)) s.yard.drafts there
   draft-before s e plain there = there
 
   lease-before : (s : State) (e : Effect) → is_loan e ≡ false → HasLease (with_effect s e) → HasLease s
@@ -124,17 +136,17 @@ module _ (n : ℕ) where
     abbrev left : Turn → State
     left u = with_effects (ticked s now faults) u.effects
 
-    shape-draft : (u : Turn) → Shape settings s now u → HasDraft (left u) → HasDraft s ⊎ (u.reply ≡ draft n)
+    shape-draft : (u : Turn) → Shape settings s now u → HasDraft (left u) → HasDraft s ⊎ GivesDraft n u.reply
     shape-draft u (inl plain) there = inl (drafts-before u.effects (ticked s now faults) plain there)
-    shape-draft u (inr (inl is)) there = by (one-more (λ k. k == n) s.yard.drafts s.yard.next_draft (subst (λ (t : Turn). HasDraft (left t)) is there)) where
-      by : HasDraft s ⊎ ((s.yard.next_draft == n) ≡ true) → HasDraft s ⊎ (u.reply ≡ draft n)
+    shape-draft u (inr (inl (r, gives, is))) there = by (one-more (λ k. k == n) s.yard.drafts s.yard.next_draft (subst (λ (t : Turn). HasDraft (left t)) is there)) where
+      by : HasDraft s ⊎ ((s.yard.next_draft == n) ≡ true) → HasDraft s ⊎ GivesDraft n u.reply
       by (inl old) = inl old
-      by (inr same) = inr (ap (λ (t : Turn). t.reply) is ∙ ap draft (eqb-true s.yard.next_draft n same))
+      by (inr same) = inr (subst (λ (t : Turn). GivesDraft n t.reply) (sym is) (subst (λ k. GivesDraft k r) (eqb-true s.yard.next_draft n same) gives))
     shape-draft u (inr (inr (blob, is))) there = inl (subst (λ (t : Turn). HasDraft (left t)) is there)
 
     shape-lease : (u : Turn) → Shape settings s now u → HasLease (left u) → HasLease s ⊎ ((blob : Blob) × (u.reply ≡ file n blob))
     shape-lease u (inl plain) there = inl (leases-before u.effects (ticked s now faults) plain there)
-    shape-lease u (inr (inl is)) there = inl (subst (λ (t : Turn). HasLease (left t)) is there)
+    shape-lease u (inr (inl (_, _, is))) there = inl (subst (λ (t : Turn). HasLease (left t)) is there)
     shape-lease u (inr (inr (blob, is))) there =
         by (one-more (λ (l : Lease). l.number == n) s.yard.leases (record { number = s.yard.next_lease; blob = blob.number }) (subst (λ (t : Turn). HasLease (left t)) is there)) where
           by : HasLease s ⊎ ((s.yard.next_lease == n) ≡ true) → HasLease s ⊎ ((other : Blob) × (u.reply ≡ file n other))
@@ -164,19 +176,20 @@ module _ (n : ℕ) where
           by (stage at path m blob) is same bound =
               subst (λ k. count_of k (after settings s e).yard.drafts ≡ 0) (eqb-true m n same) (drafts-staged settings s e at path m blob fits is bound)
           by (drop_draft m) is same bound = subst (λ k. count_of k (after settings s e).yard.drafts ≡ 0) (eqb-true m n same) (drafts-dropped settings s e m fits is)
+          by (land plan outcome) is same bound = drafts-landed settings s e plan outcome n fits is same bound
           by c is never bound = absurd (false≢true never)
 
-    entry-draft : HasDraft (after settings s e) → (HasDraft s × (spends n e ≡ false)) ⊎ (e.reply ≡ draft n)
+    entry-draft : HasDraft (after settings s e) → (HasDraft s × (spends n e ≡ false)) ⊎ GivesDraft n e.reply
     entry-draft there =
-        elim (spends n e) as (λ b. spends n e ≡ b → (HasDraft s × (spends n e ≡ false)) ⊎ (e.reply ≡ draft n)) [
+        elim (spends n e) as (λ b. spends n e ≡ b → (HasDraft s × (spends n e ≡ false)) ⊎ GivesDraft n e.reply) [
           | true ↦ λ spent. absurd (spent-none spent there)
           | false ↦ λ unspent. by_reply unspent (is_free e.reply) refl
         ] refl where
-          by_shape : spends n e ≡ false → is_free e.reply ≡ false → HasDraft s ⊎ (u.reply ≡ draft n) → (HasDraft s × (spends n e ≡ false)) ⊎ (e.reply ≡ draft n)
+          by_shape : spends n e ≡ false → is_free e.reply ≡ false → HasDraft s ⊎ GivesDraft n u.reply → (HasDraft s × (spends n e ≡ false)) ⊎ GivesDraft n e.reply
           by_shape unspent bound (inl old) = inl (old, unspent)
-          by_shape unspent bound (inr gives) = inr (reply-determined settings s e fits bound ∙ gives)
+          by_shape unspent bound (inr gives) = inr (subst (GivesDraft n) (sym (reply-determined settings s e fits bound)) gives)
 
-          by_reply : spends n e ≡ false → (free : Bool) → is_free e.reply ≡ free → (HasDraft s × (spends n e ≡ false)) ⊎ (e.reply ≡ draft n)
+          by_reply : spends n e ≡ false → (free : Bool) → is_free e.reply ≡ free → (HasDraft s × (spends n e ≡ false)) ⊎ GivesDraft n e.reply
           by_reply unspent true free = inl (subst (λ es. HasDraft (with_effects (ticked s e.moment e.faults) es)) (free-none settings s e free) there, unspent)
           by_reply unspent false bound =
               by_shape unspent bound (shape-draft settings s e.moment e.faults u (case-shape settings s e.moment e.command u (turn-case settings s e.moment e.command))
@@ -205,7 +218,7 @@ module _ (n : ℕ) where
         → (HasDraft s × AllByRecursion (λ (x : Entry). spends n x ≡ false) entries) ⊎ IsDraftLeft n entries
     left-draft [] s legal there = inl (there, tt)
     left-draft (e ∷ entries) s legal there = by (left-draft entries (after settings s e) legal.1 there) where
-      here : AllByRecursion (λ (x : Entry). spends n x ≡ false) entries → (HasDraft s × (spends n e ≡ false)) ⊎ (e.reply ≡ draft n)
+      here : AllByRecursion (λ (x : Entry). spends n x ≡ false) entries → (HasDraft s × (spends n e ≡ false)) ⊎ GivesDraft n e.reply
           → (HasDraft s × AllByRecursion (λ (x : Entry). spends n x ≡ false) (e ∷ entries)) ⊎ IsDraftLeft n (e ∷ entries)
       here all (inl (old, unspent)) = inl (old, (unspent, all))
       here all (inr gives) = inr ([], entries, e, refl, gives, all)

@@ -71,16 +71,16 @@ pub fn documents_name_their_rows()
 pub fn given_files_are_answered()
     ensures snapshots { (settings : Settings) (s : State) (e : Entry) (later : List Entry) (repo : List ℕ) (d : Directory) (served : Document) (base : List ℕ)
         (newest : Option BuildOf) (entries : List metadata.Entry) → AreNamedApart settings.hosted → IsSound settings s → Legal settings s (e ∷ later)
-        → AnswersDocument s e repo d served → served.listing ≡ Snapshot base newest entries
+        → AnswersDocument settings s e repo d served → document d (rows_of repo s) ≡ Some served → served.listing ≡ Snapshot base newest entries
         → AllByRecursion (λ given. AnyByRecursion (λ (row : Row). (row.path ≡ path_given d given) × IsAnswered settings s e later repo row) (listed_in d (rows_of repo s))) entries }
     ensures releases { (settings : Settings) (s : State) (e : Entry) (later : List Entry) (repo : List ℕ) (d : Directory) (served : Document)
         (versions : List (List ℕ)) (updated : Option CivilTime) (version : List ℕ) → AreNamedApart settings.hosted → IsSound settings s
-        → Legal settings s (e ∷ later) → AnswersDocument s e repo d served → served.listing ≡ Artifact versions updated → IsAmong version versions
+        → Legal settings s (e ∷ later) → AnswersDocument settings s e repo d served → document d (rows_of repo s) ≡ Some served → served.listing ≡ Artifact versions updated → IsAmong version versions
         → base_of version ≡ None
         → AnyByRecursion (λ (row : Row). IsOfVersion d version row.path × IsAnswered settings s e later repo row) (listed_in d (rows_of repo s)) }
     ensures all { (settings : Settings) (s : State) (e : Entry) (later : List Entry) (repo : List ℕ) (d : Directory) (served : Document)
         (versions : List (List ℕ)) (updated : Option CivilTime) (row : Row) → AreNamedApart settings.hosted → IsSound settings s
-        → Legal settings s (e ∷ later) → AnswersDocument s e repo d served → served.listing ≡ Artifact versions updated
+        → Legal settings s (e ∷ later) → AnswersDocument settings s e repo d served → document d (rows_of repo s) ≡ Some served → served.listing ≡ Artifact versions updated
         → IsAmong row (listed_in d (rows_of repo s)) → IsOfRelease d versions row.path → IsAnswered settings s e later repo row }
 {}
 

@@ -1,23 +1,26 @@
 -- What replies say: a command gets one of its own, refusals change nothing, and all is determined but for want of memory and failing records.
 use native.Mathlib.Omega.{arith}
-use Rattle.std.proofs.Common.{◌≡◌, ◌≢◌, ℕ, true, false, ◌&&◌, List, [], ◌∷◌, ◌++◌, map, Option, Some, None, refl, sym, ◌∙◌, ap, subst, eqb-true}
+use Rattle.std.proofs.Common.{◌≡◌, ◌≢◌, ℕ, true, false, ◌&&◌, List, [], ◌∷◌, ◌++◌, map, Option, Some, None, refl, sym, ◌∙◌, ap, subst, eqb-true, ◌⊎◌, inl, inr}
 use Rattle.std.specs.Prelude.{◌==◌, ◌↔◌, ◌<◌, IsTrue, nat_le, count_by, if◌then◌else◌}
 use Rattle.std.specs.List.{AllZip}
 use Rattle.std.proofs.lemmas.Bool.{eq-eqb, false≢true, leb-true, leb-false}
 use Rattle.mvn_coords.specs.Kind.{kind}
 use Rattle.repo_model.specs.declared.session.SessionResult.TheVariants.{Aborted}
 use Rattle.mvn_digest.specs.Digests.{digests_of}
-use Rattle.repo_model.specs.Data.{Blob, Hosted, Staged, Session, repository, session}
-use Rattle.repo_model.specs.Settings.{Settings}
+use Rattle.repo_model.specs.Data.{Blob, Row, Hosted, Staged, Session, repository, session}
+use Rattle.fetch_plan.specs.declared.Plan.{Plan}
+use Rattle.fetch_plan.specs.declared.Outcome.TheVariants.{Got, Gone, Refused, NoChecksum, Differs, TooLarge, BadAnswer, BadDocument, Fault}
+use Rattle.repo_model.specs.Fetched.{Landing, got_file, got_doc}
+use Rattle.repo_model.specs.Settings.{Settings, ProxyRule}
 use Rattle.repo_model.specs.Paths.{takes}
-use Rattle.repo_model.specs.State.{State, hosted_of, open_of, rows_of, is_open, number_end, most_sessions}
-use Rattle.repo_model.specs.Effect.{draws, discards, lends, opens, ends, with_effects}
+use Rattle.repo_model.specs.State.{State, hosted_of, open_of, row_at, rows_of, files_of, is_open, number_end, most_sessions}
+use Rattle.repo_model.specs.Effect.{draws, discards, lends, opens, ends, marks_missing, clears_mark, with_effects}
 use Rattle.repo_model.specs.Command.{Command, look, done, may_put, open_session, is_fit}
-use Rattle.repo_model.specs.Reply.{Reply, file, text, doc, missed, given_back, draft, opened, spent, kind_refused, no_session, session_full, sessions_full, no_memory, store_fault, is_free, can_get, takes_memory}
-use Rattle.repo_model.specs.Turn.{Turn, turn, says, draws_or_spent, draws_draft, in_repository, may_put_in, has_room, Seen, is_file, is_text, is_doc, is_nothing, seen_at, shows}
+use Rattle.repo_model.specs.Reply.{Reply, file, text, doc, missed, given_back, draft, opened, spent, kind_refused, no_session, session_full, sessions_full, no_memory, store_fault, is_free, can_get, takes_memory, fetches, blocked, negative, never_asked}
+use Rattle.repo_model.specs.Turn.{Turn, turn, says, draws_or_spent, draws_draft, in_repository, may_put_in, has_room, Seen, is_file, is_text, is_doc, is_nothing, seen_at, shows, gives_draft_up, lands_file, lands, look_at, is_to_fetch, is_blocked, is_negative, is_never, plan_of, longest_document, file_limit}
 use Rattle.repo_model.specs.History.{Entry, IsReply, due, wants_memory, failed, Fits, ticked, commits, effects_of, after, Legal}
 use Rattle.repo_laws.specs.Replies.{is_refusal, given_up, may_change_rows, takes_at, takes_in, AsksAlike}
-use Rattle.repo_laws.proofs.Cases.{Case, lends_file, shows_text, shows_doc, misses, takes_back, gives_draft, makes_row, has_same, lists_again, gives_up, opens_one, stages_one, stage_same, deploys, aborts, unlists, collects, turn-case}
+use Rattle.repo_laws.proofs.Cases.{Case, lends_file, plans_file, lands_one, shows_text, shows_doc, misses, takes_back, gives_draft, makes_row, has_same, lists_again, gives_up, opens_one, stages_one, stage_same, deploys, aborts, unlists, collects, turn-case}
 
 module _ (settings : Settings) (s : State) (now : ℕ) where
   case-can_get : (c : Command) (t : Turn) → Case settings s now c t → can_get c t.reply ≡ true
@@ -32,6 +35,8 @@ module _ (settings : Settings) (s : State) (now : ℕ) where
   case-refused c t (lends_file repo path tried blob more is) refused = absurd (false≢true refused)
   case-refused c t (shows_text repo path tried bytes) refused = absurd (false≢true refused)
   case-refused c t (shows_doc repo path tried bytes) refused = absurd (false≢true refused)
+  case-refused c t (plans_file repo path tried member rule at more is) refused = absurd (false≢true refused)
+  case-refused c t (lands_one plan outcome drawn) refused = absurd (false≢true refused)
   case-refused c t (takes_back lease) refused = absurd (false≢true refused)
   case-refused c t (gives_draft place path more) refused = absurd (false≢true refused)
   case-refused c t (makes_row repo path n blob among free) refused = absurd (false≢true refused)
@@ -53,11 +58,33 @@ module _ (settings : Settings) (s : State) (now : ℕ) where
   discards-hosted number [] u = refl
   discards-hosted number (f ∷ files) u = discards-hosted number files (with_effects u (discards number f.path f.blob.number ∷ []))
 
+  -- what lands changes no rows of hosted repositories
+  draft-hosted : (under : Option ℕ) (u : State) → (with_effects u (gives_draft_up under)).hosted ≡ u.hosted
+  draft-hosted None u = refl
+  draft-hosted (Some n) u = refl
+
+  file-hosted : (plan : Plan) (blob : Blob) (found : Option Row) (u : State) → (with_effects u (lands_file plan blob now found)).hosted ≡ u.hosted
+  file-hosted plan blob None u = refl
+  file-hosted plan blob (Some row) u = draft-hosted plan.draft (with_effects u (clears_mark plan.proxy plan.path ∷ []))
+
+  lands-hosted : (plan : Plan) (outcome : Landing) (u : State) → (with_effects u (lands s now plan outcome)).hosted ≡ u.hosted
+  lands-hosted plan (Got (got_file blob)) u = file-hosted plan blob (row_at plan.path (files_of plan.proxy s)) u
+  lands-hosted plan (Got (got_doc document)) u = refl
+  lands-hosted plan Gone u = draft-hosted plan.draft (with_effects u (marks_missing plan.proxy plan.path now ∷ []))
+  lands-hosted plan (Refused status) u = draft-hosted plan.draft u
+  lands-hosted plan NoChecksum u = draft-hosted plan.draft u
+  lands-hosted plan (Differs said found) u = draft-hosted plan.draft u
+  lands-hosted plan TooLarge u = draft-hosted plan.draft u
+  lands-hosted plan (BadAnswer at) u = draft-hosted plan.draft u
+  lands-hosted plan (BadDocument at) u = draft-hosted plan.draft u
+  lands-hosted plan Fault u = draft-hosted plan.draft u
+
   case-rows : (c : Command) (t : Turn) → Case settings s now c t → may_change_rows t.reply ≡ false → (u : State) → (with_effects u t.effects).hosted ≡ u.hosted
   case-rows c t (makes_row repo path n blob among free) still u = absurd (false≢true (sym still))
   case-rows c t (lists_again repo path n blob among row since found phase_is) still u = absurd (false≢true (sym still))
   case-rows c t (deploys n one is going) still u = absurd (false≢true (sym still))
   case-rows c t (aborts n one is going) still u = discards-hosted one.number one.staged u
+  case-rows c t (lands_one plan outcome drawn) still u = lands-hosted plan outcome u
   case-rows c t (unlists repo h is) still u = absurd (false≢true (sym still))
   case-rows c t collects still u = absurd (false≢true (sym still))
   case-rows c t case still u = refl
@@ -205,20 +232,57 @@ pub staged-spent : (settings : Settings) (s : State) (now n : ℕ) (path : List 
     → ((turn settings s now (may_put (session n) path)).reply ≡ spent) ↔ (IsTrue (takes_in n path s) × (s.yard.next_draft ≡ number_end))
 staged-spent settings s now n path = spends-staged s path (open_of n s)
 
-shows-spent : (next : ℕ) (seen : Seen) → ((shows next seen).reply ≡ spent) ↔ (((blob : Blob) × (seen ≡ is_file blob)) × (next ≡ number_end))
-shows-spent next (is_file blob) =
-    elim (next == number_end)
-    as (λ b. (next == number_end) ≡ b → ((if b then says spent else record { reply = file next blob; effects = lends blob.number ∷ [] }).reply ≡ spent) ↔ (((b : Blob) × (is_file blob ≡ is_file b)) × (next ≡ number_end))) [
-      | true ↦ λ last. ((λ _. ((blob, refl), eqb-true next number_end last)), (λ _. refl))
-      | false ↦ λ more. ((λ is. absurd (let e : file next blob ≡ spent = is in cc)), (λ both. absurd (false≢true (sym more ∙ eq-eqb next number_end both.1))))
-    ] refl
-shows-spent next (is_text bytes) = ((λ is. absurd (let e : text bytes ≡ spent = is in cc)), (λ both. absurd (let e : is_text bytes ≡ is_file both.0.0 = both.0.1 in cc)))
-shows-spent next (is_doc bytes) = ((λ is. absurd (let e : doc bytes (digests_of bytes) ≡ spent = is in cc)), (λ both. absurd (let e : is_doc bytes ≡ is_file both.0.0 = both.0.1 in cc)))
-shows-spent next is_nothing = ((λ is. absurd (let e : missed ≡ spent = is in cc)), (λ both. absurd (let e : is_nothing ≡ is_file both.0.0 = both.0.1 in cc)))
+abbrev LacksLease : State → Seen → Type 0
+LacksLease s seen = ((blob : Blob) × (seen ≡ is_file blob)) × (s.yard.next_lease ≡ number_end)
+
+abbrev LacksDraft : State → Seen → Type 0
+LacksDraft s seen = ((member : ℕ) × (rule : ProxyRule) × (at : List ℕ) × (seen ≡ is_to_fetch member rule at true)) × (s.yard.next_draft ≡ number_end)
+
+never-spent : (s : State) (seen : Seen) (r : Reply) → (r ≡ spent → ⊥) → ((blob : Blob) → seen ≡ is_file blob → ⊥) → ((member : ℕ) (rule : ProxyRule) (at : List ℕ) → seen ≡ is_to_fetch member rule at true → ⊥)
+    → (r ≡ spent) ↔ (LacksLease s seen ⊎ LacksDraft s seen)
+never-spent s seen r other no_file no_fetch = ((λ is. absurd (other is)), (λ either. by either)) where
+  by : LacksLease s seen ⊎ LacksDraft s seen → r ≡ spent
+  by (inl ((blob, is), _)) = absurd (no_file blob is)
+  by (inr ((member, rule, at, is), _)) = absurd (no_fetch member rule at is)
+
+shows-spent : (settings : Settings) (s : State) (seen : Seen) → ((shows settings s.yard seen).reply ≡ spent) ↔ (LacksLease s seen ⊎ LacksDraft s seen)
+shows-spent settings s (is_file blob) =
+    elim (s.yard.next_lease == number_end)
+    as (λ b. (s.yard.next_lease == number_end) ≡ b
+    → ((if b then says spent else record { reply = file s.yard.next_lease blob; effects = lends blob.number ∷ [] }).reply ≡ spent) ↔ (LacksLease s (is_file blob) ⊎ LacksDraft s (is_file blob))) [
+      | true ↦ λ last. ((λ _. inl ((blob, refl), eqb-true s.yard.next_lease number_end last)), (λ _. refl))
+      | false ↦ λ more. ((λ is. absurd (let e : file s.yard.next_lease blob ≡ spent = is in cc)), (λ either. match-lease more either))
+    ] refl where
+      match-lease : (s.yard.next_lease == number_end) ≡ false → LacksLease s (is_file blob) ⊎ LacksDraft s (is_file blob) → file s.yard.next_lease blob ≡ spent
+      match-lease more (inl lacks) = absurd (false≢true (sym more ∙ eq-eqb s.yard.next_lease number_end lacks.1))
+      match-lease more (inr ((member, rule, at, is), _)) = absurd (let e : is_file blob ≡ is_to_fetch member rule at true = is in cc)
+shows-spent settings s (is_to_fetch member rule at true) =
+    elim (s.yard.next_draft == number_end)
+    as (λ b. (s.yard.next_draft == number_end) ≡ b
+    → ((if b then says spent else record { reply = fetches (plan_of member rule at (Some s.yard.next_draft) (file_limit settings)); effects = draws ∷ [] }).reply ≡ spent)
+    ↔ (LacksLease s (is_to_fetch member rule at true) ⊎ LacksDraft s (is_to_fetch member rule at true))) [
+      | true ↦ λ last. ((λ _. inr ((member, rule, at, refl), eqb-true s.yard.next_draft number_end last)), (λ _. refl))
+      | false ↦ λ more. ((λ is. absurd (let e : fetches (plan_of member rule at (Some s.yard.next_draft) (file_limit settings)) ≡ spent = is in cc)), (λ either. match-draft more either))
+    ] refl where
+      match-draft : (s.yard.next_draft == number_end) ≡ false → LacksLease s (is_to_fetch member rule at true) ⊎ LacksDraft s (is_to_fetch member rule at true)
+          → fetches (plan_of member rule at (Some s.yard.next_draft) (file_limit settings)) ≡ spent
+      match-draft more (inl ((blob, is), _)) = absurd (let e : is_to_fetch member rule at true ≡ is_file blob = is in cc)
+      match-draft more (inr lacks) = absurd (false≢true (sym more ∙ eq-eqb s.yard.next_draft number_end lacks.1))
+shows-spent settings s (is_to_fetch member rule at false) =
+    ((λ is. absurd (let e : fetches (plan_of member rule at None longest_document) ≡ spent = is in cc)), (λ either. none either)) where
+      none : LacksLease s (is_to_fetch member rule at false) ⊎ LacksDraft s (is_to_fetch member rule at false) → fetches (plan_of member rule at None longest_document) ≡ spent
+      none (inl ((blob, is), _)) = absurd (let e : is_to_fetch member rule at false ≡ is_file blob = is in cc)
+      none (inr ((m, r, p, is), _)) = absurd (let e : is_to_fetch member rule at false ≡ is_to_fetch m r p true = is in cc)
+shows-spent settings s (is_text bytes) = never-spent s (is_text bytes) (text bytes) (λ e. cc) (λ blob e. cc) (λ m r p e. cc)
+shows-spent settings s (is_doc bytes) = never-spent s (is_doc bytes) (doc bytes (digests_of bytes)) (λ e. cc) (λ blob e. cc) (λ m r p e. cc)
+shows-spent settings s is_nothing = never-spent s is_nothing missed (λ e. cc) (λ blob e. cc) (λ m r p e. cc)
+shows-spent settings s is_blocked = never-spent s is_blocked blocked (λ e. cc) (λ blob e. cc) (λ m r p e. cc)
+shows-spent settings s is_negative = never-spent s is_negative negative (λ e. cc) (λ blob e. cc) (λ m r p e. cc)
+shows-spent settings s is_never = never-spent s is_never never_asked (λ e. cc) (λ blob e. cc) (λ m r p e. cc)
 
 pub leases-spent : (settings : Settings) (s : State) (now : ℕ) (repo path tried : List ℕ)
-    → ((turn settings s now (look repo path tried)).reply ≡ spent) ↔ (((blob : Blob) × (seen_at (rows_of repo s) path (kind path) ≡ is_file blob)) × (s.yard.next_lease ≡ number_end))
-leases-spent settings s now repo path tried = shows-spent s.yard.next_lease (seen_at (rows_of repo s) path (kind path))
+    → ((turn settings s now (look repo path tried)).reply ≡ spent) ↔ (LacksLease s (look_at settings s now repo tried path) ⊎ LacksDraft s (look_at settings s now repo tried path))
+leases-spent settings s now repo path tried = shows-spent settings s (look_at settings s now repo tried path)
 
 opens-spent : (next : ℕ) (repo : List ℕ) → ((draws_or_spent next (record { reply = opened next; effects = opens next repo ∷ [] })).reply ≡ spent) ↔ (next ≡ number_end)
 opens-spent next repo =

@@ -1,5 +1,5 @@
 -- Rows stand in byte order of path, each path once, whatever effects are made.
-use Rattle.std.proofs.Common.{◌≡◌, ℕ, Bool, true, false, not, cond, List, [], ◌∷◌, Some, None, refl, sym, ◌∙◌, ap, subst}
+use Rattle.std.proofs.Common.{◌≡◌, ℕ, Bool, true, false, not, cond, List, [], ◌∷◌, Option, Some, None, refl, sym, ◌∙◌, ap, subst}
 use Rattle.std.specs.Prelude.{filter, find, bytes_eq}
 use Rattle.std.specs.Option.{option_map_or}
 use Rattle.std.specs.List.{AllByRecursion}
@@ -9,12 +9,13 @@ use Rattle.std.specs.Cmp.Lexicographic.{slice_cmp, nat_list_cmp_total}
 use Rattle.std.specs.FinMap.{slice_cmp-IsAntisymmetric, nat_cmp-IsAntisymmetric}
 use Rattle.std.proofs.lemmas.Bool.{false≢true}
 use Rattle.std.proofs.lemmas.Option.{none-some}
-use Rattle.repo_model.specs.Data.{Row, Hosted}
-use Rattle.repo_model.specs.State.{State, change_where, change_first, is_repository, is_row, row_at, rows_of}
-use Rattle.repo_model.specs.Effect.{Effect, draws, drops, creates, stages, delivers, discards, relists, fades, expires, forgets, lends, returns, opens, ends, with_row, new_row, list_again, fade, without_row, with_effect}
+use Rattle.repo_model.specs.Data.{Row, Hosted, Proxy}
+use Rattle.repo_model.specs.State.{State, change_where, change_first, is_repository, is_proxy, is_row, row_at, rows_of}
+use Rattle.repo_model.specs.Effect.{Effect, draws, drops, creates, stages, delivers, discards, relists, fades, expires, forgets, lends, returns, opens, ends, caches, keeps_doc, marks_missing, clears_mark, with_row, new_row, list_again, fade, without_row, proxy_after, with_effect}
 use Rattle.repo_model.specs.May.{May}
 use Rattle.repo_laws.specs.Sound.{IsBelow, AreByPath}
 use Rattle.repo_laws.proofs.Lists.{all-then}
+use Rattle.repo_laws.proofs.Files.{proxies-keep}
 use Rattle.repo_laws.proofs.Releases.{is_itself, other_path}
 use Rattle.repo_laws.proofs.Rows.{RowsApart, rows_in}
 
@@ -119,6 +120,35 @@ rows-kept grace now s (relists repo path moment) may all = hosted-keeps AreByPat
 rows-kept grace now s (fades repo path moment) may all = hosted-keeps AreByPath repo (change_where (is_row path) (fade moment)) s.hosted (change-by-path (is_row path) (fade moment) (λ r. refl) (rows_of repo s)) all
 rows-kept grace now s (expires repo path blob) may all = hosted-keeps AreByPath repo (without_row path) s.hosted (filter-by-path (λ row. not (is_row path row)) (rows_of repo s)) all
 rows-kept grace now s e may all = all
+
+-- and so do the cached files of each proxy
+pub files-kept : (grace now : ℕ) (s : State) (e : Effect) → May grace now s e → AllByRecursion (λ (p : Proxy). AreByPath p.files) s.proxies → AllByRecursion (λ (p : Proxy). AreByPath p.files) (with_effect s e).proxies
+files-kept grace now s (caches id path blob moment) may all =
+    proxies-keep (λ (p : Proxy). AreByPath p.files) (is_proxy id) (proxy_after (caches id path blob moment)) s.proxies
+    (λ p found order.
+    let free : row_at path p.files ≡ None = subst (λ (x : Option Proxy). row_at path (option_map_or (λ (q : Proxy). q.files) x []) ≡ None) found may.3 in
+    with_row-by-path (new_row path blob moment) p.files free order)
+    all
+files-kept grace now s (keeps_doc id path document moment) may all =
+    proxies-keep (λ (p : Proxy). AreByPath p.files) (is_proxy id) (proxy_after (keeps_doc id path document moment)) s.proxies (λ p found order. order) all
+files-kept grace now s (marks_missing id path moment) may all =
+    proxies-keep (λ (p : Proxy). AreByPath p.files) (is_proxy id) (proxy_after (marks_missing id path moment)) s.proxies (λ p found order. order) all
+files-kept grace now s (clears_mark id path) may all =
+    proxies-keep (λ (p : Proxy). AreByPath p.files) (is_proxy id) (proxy_after (clears_mark id path)) s.proxies (λ p found order. order) all
+files-kept grace now s draws may all = all
+files-kept grace now s (drops n) may all = all
+files-kept grace now s (creates repo path blob moment) may all = all
+files-kept grace now s (stages n path blob) may all = all
+files-kept grace now s (delivers n repo path blob moment) may all = all
+files-kept grace now s (discards n path draft) may all = all
+files-kept grace now s (relists repo path moment) may all = all
+files-kept grace now s (fades repo path moment) may all = all
+files-kept grace now s (expires repo path blob) may all = all
+files-kept grace now s (forgets blobs) may all = all
+files-kept grace now s (lends blob) may all = all
+files-kept grace now s (returns lease) may all = all
+files-kept grace now s (opens n repo) may all = all
+files-kept grace now s (ends n result) may all = all
 
 -- the rows of each repository lie apart
 pub all-apart : (hosted : List Hosted) → AllByRecursion (λ (h : Hosted). AreByPath h.rows) hosted → AllByRecursion (λ (h : Hosted). RowsApart h.rows) hosted

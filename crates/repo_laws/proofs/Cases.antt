@@ -12,15 +12,17 @@ use Rattle.repo_model.specs.declared.print.Print.{Print}
 use Rattle.repo_model.specs.declared.session.SessionResult.{SessionResult}
 use Rattle.repo_model.specs.declared.session.SessionResult.TheVariants.{Aborted, Done}
 use Rattle.repo_model.specs.Data.{Blob, Row, Phase, listed, fading, Hosted, Staged, Session, Place, repository, session, is_same_print}
-use Rattle.repo_model.specs.Settings.{Settings}
+use Rattle.fetch_plan.specs.declared.Plan.{Plan}
+use Rattle.repo_model.specs.Fetched.{Landing}
+use Rattle.repo_model.specs.Settings.{ProxyRule, Settings}
 use Rattle.repo_model.specs.Paths.{takes}
 use Rattle.repo_model.specs.State.{State, hosted_of, row_at, rows_of, session_of, open_of, is_open, is_staged, is_among, number_end, most_sessions}
 use Rattle.repo_model.specs.Effect.{Effect, draws, drops, creates, stages, relists, lends, returns, opens, ends, with_effects}
-use Rattle.repo_model.specs.Command.{Command, look, done, may_put, put, put_side, put_doc, drop_draft, open_session, stage, commit, abort, unlist, collect, status}
-use Rattle.repo_model.specs.Reply.{Reply, file, text, doc, missed, given_back, kind_refused, draft, no_draft, taken, same, relisted, created, not_there, differs, agreed, noted, dropped, no_session, sessions_full, opened, session_full, staged, offends, missing_pom, ended, unlisted, spent}
+use Rattle.repo_model.specs.Command.{Command, look, done, may_put, put, put_side, put_doc, drop_draft, open_session, stage, commit, abort, unlist, collect, status, land}
+use Rattle.repo_model.specs.Reply.{Reply, file, text, doc, missed, given_back, kind_refused, draft, no_draft, taken, same, relisted, created, not_there, differs, agreed, noted, dropped, no_session, sessions_full, opened, session_full, staged, offends, missing_pom, ended, unlisted, spent, fetches, blocked, negative, never_asked, landed}
 use Rattle.repo_model.specs.Purge.{due_rows, fade_all, expire_all}
 use Rattle.repo_model.specs.Deploy.{Offence, offence, without_pom, deliver_all, discard_all}
-use Rattle.repo_model.specs.Turn.{Turn, says, draws_or_spent, Seen, is_file, is_text, is_doc, is_nothing, seen_at, shows, in_repository, has_room, draws_draft, may_put_in, put_again, put_at, compared, judged, with_open, staged_at, stage_at, stage_in, commit_by, commit_of, abort_of, unlist_of, collect_of, counts_of, turn}
+use Rattle.repo_model.specs.Turn.{Turn, says, draws_or_spent, Seen, is_file, is_text, is_doc, is_nothing, is_to_fetch, is_blocked, is_negative, is_never, look_at, plan_of, longest_document, is_drawn, lands, shows, in_repository, has_room, draws_draft, may_put_in, put_again, put_at, compared, judged, with_open, staged_at, stage_at, stage_in, commit_by, commit_of, abort_of, unlist_of, collect_of, counts_of, turn, file_limit}
 use Rattle.mvn_digest.specs.Sides.{side_of}
 
 -- a reply and the effects with it
@@ -28,13 +30,23 @@ abbrev pub does : Reply → List Effect → Turn
 does reply effects = record { reply = reply; effects = effects }
 
 pub data Case (settings : Settings) (s : State) (now : ℕ) : Command → Turn → Type 0 where
-  lends_file : (repo path tried : List ℕ) (blob : Blob) → (s.yard.next_lease == number_end) ≡ false → seen_at (rows_of repo s) path (kind path) ≡ is_file blob
+  lends_file : (repo path tried : List ℕ) (blob : Blob) → (s.yard.next_lease == number_end) ≡ false → look_at settings s now repo tried path ≡ is_file blob
       → Case settings s now (look repo path tried) (does (file s.yard.next_lease blob) (lends blob.number ∷ []))
-  no_lease : (repo path tried : List ℕ) (blob : Blob) → (s.yard.next_lease == number_end) ≡ true → seen_at (rows_of repo s) path (kind path) ≡ is_file blob
+  no_lease : (repo path tried : List ℕ) (blob : Blob) → (s.yard.next_lease == number_end) ≡ true → look_at settings s now repo tried path ≡ is_file blob
       → Case settings s now (look repo path tried) (says spent)
   shows_text : (repo path tried bytes : List ℕ) → Case settings s now (look repo path tried) (says (text bytes))
   shows_doc : (repo path tried bytes : List ℕ) → Case settings s now (look repo path tried) (says (doc bytes (digests_of bytes)))
   misses : (repo path tried : List ℕ) → Case settings s now (look repo path tried) (says missed)
+  plans_file : (repo path tried : List ℕ) (member : ℕ) (rule : ProxyRule) (at : List ℕ) → (s.yard.next_draft == number_end) ≡ false
+      → look_at settings s now repo tried path ≡ is_to_fetch member rule at true
+      → Case settings s now (look repo path tried) (does (fetches (plan_of member rule at (Some s.yard.next_draft) (file_limit settings))) (draws ∷ []))
+  no_plan : (repo path tried : List ℕ) (member : ℕ) (rule : ProxyRule) (at : List ℕ) → (s.yard.next_draft == number_end) ≡ true
+      → look_at settings s now repo tried path ≡ is_to_fetch member rule at true → Case settings s now (look repo path tried) (says spent)
+  plans_document : (repo path tried : List ℕ) (member : ℕ) (rule : ProxyRule) (at : List ℕ) → look_at settings s now repo tried path ≡ is_to_fetch member rule at false
+      → Case settings s now (look repo path tried) (says (fetches (plan_of member rule at None longest_document)))
+  is_not_let_through : (repo path tried : List ℕ) → Case settings s now (look repo path tried) (says blocked)
+  is_marked_missing : (repo path tried : List ℕ) → Case settings s now (look repo path tried) (says negative)
+  is_never_asked : (repo path tried : List ℕ) → Case settings s now (look repo path tried) (says never_asked)
   takes_back : (lease : ℕ) → Case settings s now (done lease) (does given_back (returns lease ∷ []))
   gives_draft : (place : Place) (path : List ℕ) → (s.yard.next_draft == number_end) ≡ false
       → Case settings s now (may_put place path) (does (draft s.yard.next_draft) (draws ∷ []))
@@ -87,6 +99,8 @@ pub data Case (settings : Settings) (s : State) (now : ℕ) : Command → Turn �
       → Case settings s now (unlist repo) (does (unlisted (length (due_rows h.rule now h.rows))) (fade_all h now))
   collects : Case settings s now collect (collect_of (expire_all settings.grace now s.hosted) (with_effects s (expire_all settings.grace now s.hosted)).yard)
   tells : Case settings s now status (says (counts_of s))
+  lands_one : (plan : Plan) (outcome : Landing) → is_drawn plan.draft s.yard.drafts ≡ true → Case settings s now (land plan outcome) (does landed (lands s now plan outcome))
+  lands_late : (plan : Plan) (outcome : Landing) → is_drawn plan.draft s.yard.drafts ≡ false → Case settings s now (land plan outcome) (says no_draft)
 
 module _ (settings : Settings) (s : State) (now : ℕ) where
   abbrev Is : Command → Turn → Type 0
@@ -96,13 +110,20 @@ module _ (settings : Settings) (s : State) (now : ℕ) where
   if-case c true t u one other = one refl
   if-case c false t u one other = other refl
 
-  look-case : (repo path tried : List ℕ) (seen : Seen) → seen_at (rows_of repo s) path (kind path) ≡ seen → Is (look repo path tried) (shows s.yard.next_lease seen)
+  look-case : (repo path tried : List ℕ) (seen : Seen) → look_at settings s now repo tried path ≡ seen → Is (look repo path tried) (shows settings s.yard seen)
   look-case repo path tried (is_file blob) is =
       if-case (look repo path tried) (s.yard.next_lease == number_end) (says spent) (does (file s.yard.next_lease blob) (lends blob.number ∷ []))
       (λ last. no_lease repo path tried blob last is) (λ more. lends_file repo path tried blob more is)
   look-case repo path tried (is_text bytes) is = shows_text repo path tried bytes
   look-case repo path tried (is_doc bytes) is = shows_doc repo path tried bytes
   look-case repo path tried is_nothing is = misses repo path tried
+  look-case repo path tried (is_to_fetch member rule at true) is =
+      if-case (look repo path tried) (s.yard.next_draft == number_end) (says spent) (does (fetches (plan_of member rule at (Some s.yard.next_draft) (file_limit settings))) (draws ∷ []))
+      (λ last. no_plan repo path tried member rule at last is) (λ more. plans_file repo path tried member rule at more is)
+  look-case repo path tried (is_to_fetch member rule at false) is = plans_document repo path tried member rule at is
+  look-case repo path tried is_blocked is = is_not_let_through repo path tried
+  look-case repo path tried is_negative is = is_marked_missing repo path tried
+  look-case repo path tried is_never is = is_never_asked repo path tried
 
   draft-case : (place : Place) (path : List ℕ) → Is (may_put place path) (draws_draft s.yard.next_draft)
   draft-case place path =
@@ -176,7 +197,7 @@ module _ (settings : Settings) (s : State) (now : ℕ) where
 
   -- each turn is one of the cases
   pub turn-case : (c : Command) → Is c (turn settings s now c)
-  turn-case (look repo path tried) = look-case repo path tried (seen_at (rows_of repo s) path (kind path)) refl
+  turn-case (look repo path tried) = look-case repo path tried (look_at settings s now repo tried path) refl
   turn-case (done lease) = takes_back lease
   turn-case (may_put (repository repo) path) = in-case (repository repo) path (hosted_of repo s) (draws_draft s.yard.next_draft) (draft-case (repository repo) path)
   turn-case (may_put (session n) path) = may_put-case n path (open_of n s)
@@ -211,3 +232,6 @@ module _ (settings : Settings) (s : State) (now : ℕ) where
   turn-case (unlist repo) = unlist-case repo (hosted_of repo s) refl
   turn-case collect = collects
   turn-case status = tells
+  turn-case (land plan outcome) =
+      if-case (land plan outcome) (is_drawn plan.draft s.yard.drafts) (does landed (lands s now plan outcome)) (says no_draft)
+      (λ drawn. lands_one plan outcome drawn) (λ late. lands_late plan outcome late)

@@ -1,7 +1,7 @@
 -- Why a look, and why a file that is sent to a repository, is refused.
 use Rattle.std.proofs.Common.{◌≡◌, ◌≢◌, ℕ, Bool, true, false, List, [], ◌∷◌, Option, Some, None, Result, Ok, Err, refl, sym, ◌∙◌, ap, subst, eqb-true}
 use Rattle.std.specs.Prelude.{◌==◌, if◌then◌else◌}
-use Rattle.std.specs.Option.{option_map}
+use Rattle.std.specs.Option.{option_map, option_map_or}
 use Rattle.std.proofs.lemmas.Bool.{false≢true, eq-eqb}
 use Rattle.std.proofs.lemmas.Option.{none-some}
 use Rattle.mvn_coords.specs.Kind.{kind}
@@ -19,12 +19,13 @@ use Rattle.repo_model.specs.Paths.{takes}
 use Rattle.repo_model.specs.Document.{described, listed_in}
 use Rattle.repo_model.specs.State.{State, hosted_of, row_at, rows_of, is_among, number_end}
 use Rattle.repo_model.specs.Effect.{draws, drops, lends}
-use Rattle.repo_model.specs.Command.{is_fit}
-use Rattle.repo_model.specs.Reply.{Reply, file, text, doc, missed, kind_refused, no_draft, taken, same, relisted, created, draft, spent}
-use Rattle.repo_model.specs.Turn.{Turn, says, draws_draft, document_text, Seen, is_file, is_text, is_doc, is_nothing, or_nothing, seen_at, shows, in_repository, put_again, put_at}
-use Rattle.repo_laws.specs.Causes.{HasNothing, LookRefused, MayPutRefused, PutRefused}
+use Rattle.repo_model.specs.Command.{is_fit, group_rule_of}
+use Rattle.repo_model.specs.Reply.{Reply, file, text, doc, missed, kind_refused, no_draft, taken, same, relisted, created, draft, spent, fetches, blocked, negative, never_asked}
+use Rattle.repo_model.specs.Turn.{Turn, says, draws_draft, document_text, Seen, is_file, is_text, is_doc, is_nothing, or_nothing, seen_at, shows, in_repository, put_again, put_at, is_to_fetch, is_blocked, is_negative, is_never, look_at, plan_of, longest_document, group_seen, member_seen, directory_of, file_limit}
+use Rattle.repo_laws.specs.Causes.{HasNothing, LookRefused, MayPutRefused, PutRefused, HostedRefused, SeenRefused, RefusedAt}
 use Rattle.repo_laws.specs.Replies.{is_refusal, takes_at}
 use Rattle.repo_laws.proofs.Prints.{prints-compare}
+use Rattle.repo_model.specs.Settings.{GroupRule, ProxyRule, Settings}
 
 -- a reply that is no refusal is none of the refusals
 pub no-refusal : (x r : Reply) → is_refusal x ≡ false → x ≡ r → is_refusal r ≡ true → ⊥
@@ -80,24 +81,108 @@ module _ (rows : List Row) (path : List ℕ) where
       absurd (or_nothing-file (λ bytes. is_text (side_text side (digests_of bytes))) blob (λ bytes e. let x : is_text (side_text side (digests_of bytes)) ≡ is_file blob = e in cc) (document_text d rows) is)
   file-seen blob (Err fault) is = absurd (let x : is_nothing ≡ is_file blob = is in cc)
 
-module _ (s : State) (repo path : List ℕ) where
-  pub look-caused : (r : Reply) → is_refusal r ≡ true → (seen : Seen) → seen_at (rows_of repo s) path (kind path) ≡ seen → (shows s.yard.next_lease seen).reply ≡ r → LookRefused s repo path r
-  look-caused r refused (is_file blob) there is =
-      elim (s.yard.next_lease == number_end)
-      as (λ b. (s.yard.next_lease == number_end) ≡ b → (if b then says spent else record { reply = file s.yard.next_lease blob; effects = lends blob.number ∷ [] }).reply ≡ r → LookRefused s repo path r) [
-        | true ↦ λ last e. subst (LookRefused s repo path) e (file-seen (rows_of repo s) path blob (kind path) there, eqb-true s.yard.next_lease number_end last)
+-- what rows show is a file, a text, a document or nothing
+abbrev is_plain : Seen → Bool
+is_plain (is_file blob) = true
+is_plain (is_text bytes) = true
+is_plain (is_doc bytes) = true
+is_plain is_nothing = true
+is_plain seen = false
+
+or_nothing-plain : {A : Type 0} (f : A → Seen) → ((x : A) → is_plain (f x) ≡ true) → (found : Option A) → is_plain (or_nothing f found) ≡ true
+or_nothing-plain f plain None = refl
+or_nothing-plain f plain (Some x) = plain x
+
+seen-plain : (rows : List Row) (path : List ℕ) (k : Result Kind PathFault) → is_plain (seen_at rows path k) ≡ true
+seen-plain rows path (Ok (File c)) = or_nothing-plain (λ (row : Row). is_file row.blob) (λ row. refl) (row_at path rows)
+seen-plain rows path (Ok (FileSide c side)) = or_nothing-plain (λ (row : Row). is_text (side_text side row.blob.print.digests)) (λ row. refl) (row_at (text_of c) rows)
+seen-plain rows path (Ok (Doc d)) = or_nothing-plain is_doc (λ bytes. refl) (document_text d rows)
+seen-plain rows path (Ok (DocSide d side)) = or_nothing-plain (λ bytes. is_text (side_text side (digests_of bytes))) (λ bytes. refl) (document_text d rows)
+seen-plain rows path (Err fault) = refl
+
+module _ (settings : Settings) (s : State) where
+  abbrev said : Seen → Reply
+  said seen = (shows settings s.yard seen).reply
+
+  abbrev lease_or_spent : Blob → Bool → Reply
+  lease_or_spent blob b = (if b then says spent else record { reply = file s.yard.next_lease blob; effects = lends blob.number ∷ [] }).reply
+
+  abbrev plan_or_spent : ℕ → ProxyRule → List ℕ → Bool → Reply
+  plan_or_spent member rule at b = (if b then says spent else record { reply = fetches (plan_of member rule at (Some s.yard.next_draft) (file_limit settings)); effects = draws ∷ [] }).reply
+
+  -- by what is seen
+  seen-caused : (r : Reply) → is_refusal r ≡ true → (seen : Seen) → said seen ≡ r → SeenRefused s seen r
+  seen-caused r refused (is_file blob) is =
+      elim (s.yard.next_lease == number_end) as (λ b. (s.yard.next_lease == number_end) ≡ b → lease_or_spent blob b ≡ r → SeenRefused s (is_file blob) r) [
+        | true ↦ λ last e. subst (SeenRefused s (is_file blob)) e (eqb-true s.yard.next_lease number_end last)
         | false ↦ λ more e. absurd (no-refusal (file s.yard.next_lease blob) r refl e refused)
       ] refl is
-  look-caused r refused (is_text bytes) there is = absurd (no-refusal (text bytes) r refl is refused)
-  look-caused r refused (is_doc bytes) there is = absurd (no-refusal (doc bytes (digests_of bytes)) r refl is refused)
-  look-caused r refused is_nothing there is = subst (LookRefused s repo path) is (none-seen (rows_of repo s) path (kind path) there)
+  seen-caused r refused (is_text bytes) is = absurd (no-refusal (text bytes) r refl is refused)
+  seen-caused r refused (is_doc bytes) is = absurd (no-refusal (doc bytes (digests_of bytes)) r refl is refused)
+  seen-caused r refused is_nothing is = subst (SeenRefused s is_nothing) is tt
+  seen-caused r refused (is_to_fetch member rule at true) is =
+      elim (s.yard.next_draft == number_end) as (λ b. (s.yard.next_draft == number_end) ≡ b → plan_or_spent member rule at b ≡ r → SeenRefused s (is_to_fetch member rule at true) r) [
+        | true ↦ λ last e. subst (SeenRefused s (is_to_fetch member rule at true)) e (eqb-true s.yard.next_draft number_end last)
+        | false ↦ λ more e. absurd (no-refusal (fetches (plan_of member rule at (Some s.yard.next_draft) (file_limit settings))) r refl e refused)
+      ] refl is
+  seen-caused r refused (is_to_fetch member rule at false) is = absurd (no-refusal (fetches (plan_of member rule at None longest_document)) r refl is refused)
+  seen-caused r refused is_blocked is = subst (SeenRefused s is_blocked) is tt
+  seen-caused r refused is_negative is = subst (SeenRefused s is_negative) is tt
+  seen-caused r refused is_never is = subst (SeenRefused s is_never) is tt
 
-  pub look-refused : (r : Reply) → LookRefused s repo path r → (shows s.yard.next_lease (seen_at (rows_of repo s) path (kind path))).reply ≡ r
-  look-refused missed none = ap (λ seen. (shows s.yard.next_lease seen).reply) (none-there (rows_of repo s) path (kind path) none)
-  look-refused spent ((c, row, is_kind, found), last) =
-      ap (λ seen. (shows s.yard.next_lease seen).reply) (ap (seen_at (rows_of repo s) path) is_kind ∙ ap (or_nothing (λ (r : Row). is_file r.blob)) found)
-      ∙ ap (λ b. (if b then says spent else record { reply = file s.yard.next_lease row.blob; effects = lends row.blob.number ∷ [] }).reply) (eq-eqb s.yard.next_lease number_end last)
-  look-refused r cause = absurd cause
+  seen-refused : (seen : Seen) (r : Reply) → SeenRefused s seen r → said seen ≡ r
+  seen-refused is_nothing missed cause = refl
+  seen-refused is_blocked blocked cause = refl
+  seen-refused is_negative negative cause = refl
+  seen-refused is_never never_asked cause = refl
+  seen-refused (is_file blob) spent last = ap (lease_or_spent blob) (eq-eqb s.yard.next_lease number_end last)
+  seen-refused (is_to_fetch member rule at true) spent last = ap (plan_or_spent member rule at) (eq-eqb s.yard.next_draft number_end last)
+  seen-refused seen r cause = absurd cause
+
+  module _ (path : List ℕ) (rows : List Row) where
+    never-seen : (seen : Seen) → is_plain seen ≡ false → seen_at rows path (kind path) ≡ seen → ⊥
+    never-seen seen strange there = false≢true (sym (ap is_plain there ∙ strange) ∙ seen-plain rows path (kind path))
+
+    hosted-caused : (r : Reply) → is_refusal r ≡ true → (seen : Seen) → seen_at rows path (kind path) ≡ seen → said seen ≡ r → HostedRefused s rows path r
+    hosted-caused r refused (is_file blob) there is =
+        elim (s.yard.next_lease == number_end) as (λ b. (s.yard.next_lease == number_end) ≡ b → lease_or_spent blob b ≡ r → HostedRefused s rows path r) [
+          | true ↦ λ last e. subst (HostedRefused s rows path) e (file-seen rows path blob (kind path) there, eqb-true s.yard.next_lease number_end last)
+          | false ↦ λ more e. absurd (no-refusal (file s.yard.next_lease blob) r refl e refused)
+        ] refl is
+    hosted-caused r refused (is_text bytes) there is = absurd (no-refusal (text bytes) r refl is refused)
+    hosted-caused r refused (is_doc bytes) there is = absurd (no-refusal (doc bytes (digests_of bytes)) r refl is refused)
+    hosted-caused r refused is_nothing there is = subst (HostedRefused s rows path) is (none-seen rows path (kind path) there)
+    hosted-caused r refused (is_to_fetch member rule at of_file) there is = absurd (never-seen (is_to_fetch member rule at of_file) refl there)
+    hosted-caused r refused is_blocked there is = absurd (never-seen is_blocked refl there)
+    hosted-caused r refused is_negative there is = absurd (never-seen is_negative refl there)
+    hosted-caused r refused is_never there is = absurd (never-seen is_never refl there)
+
+    hosted-refused : (r : Reply) → HostedRefused s rows path r → said (seen_at rows path (kind path)) ≡ r
+    hosted-refused missed none = ap said (none-there rows path (kind path) none)
+    hosted-refused spent ((c, row, is_kind, found), last) =
+        ap said (ap (seen_at rows path) is_kind ∙ ap (or_nothing (λ (r : Row). is_file r.blob)) found) ∙ ap (lease_or_spent row.blob) (eq-eqb s.yard.next_lease number_end last)
+    hosted-refused r cause = absurd cause
+
+  module _ (now : ℕ) (id path tried : List ℕ) where
+    abbrev unhosted : Seen
+    unhosted =
+        option_map_or (λ (g : GroupRule). group_seen s now tried path (kind path) g.members (directory_of (kind path))) (group_rule_of id settings)
+        (member_seen s now tried path (kind path) 0 id)
+
+    abbrev seen_of : Option Hosted → Seen
+    seen_of found = option_map_or (λ (h : Hosted). seen_at h.rows path (kind path)) found unhosted
+
+    pub look-caused : (r : Reply) → is_refusal r ≡ true → said (look_at settings s now id tried path) ≡ r → LookRefused settings s now id path tried r
+    look-caused r refused is = by (hosted_of id s) is where
+      by : (found : Option Hosted) → said (seen_of found) ≡ r → RefusedAt settings s now id path tried r found
+      by (Some h) e = hosted-caused path h.rows r refused (seen_at h.rows path (kind path)) refl e
+      by None _ = seen-caused r refused (look_at settings s now id tried path) is
+
+    pub look-refused : (r : Reply) → LookRefused settings s now id path tried r → said (look_at settings s now id tried path) ≡ r
+    look-refused r cause = by (hosted_of id s) refl cause where
+      by : (found : Option Hosted) → hosted_of id s ≡ found → RefusedAt settings s now id path tried r found → said (seen_of found) ≡ r
+      by (Some h) _ why = hosted-refused path h.rows r why
+      by None there why = sym (ap (λ found. said (seen_of found)) there) ∙ seen-refused (look_at settings s now id tried path) r why
 
 -- a repository that takes a path, or does not
 abbrev FitsPath : List ℕ → Option Hosted → Bool

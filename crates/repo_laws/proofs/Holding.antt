@@ -8,24 +8,24 @@ use Rattle.std.proofs.lemmas.Bool.{false≢true, and_from, eq-eqb, lt-ltb, false
 use Rattle.std.proofs.lemmas.List.Sums.{fold-append}
 use Rattle.outside.specs.Moments.{Moments}
 use Rattle.repo_model.specs.declared.item.Item.{Item}
-use Rattle.repo_model.specs.declared.item.Item.TheVariants.{HostedPut, Faded, Relisted, Removed}
+use Rattle.repo_model.specs.declared.item.Item.TheVariants.{HostedPut, Faded, Relisted, Removed, CachedFile, CachedDoc}
 use Rattle.repo_model.specs.declared.session.SessionResult.{SessionResult}
 use Rattle.repo_model.specs.Data.{Blob, Hosted}
 use Rattle.repo_model.specs.Document.{is_listed}
 use Rattle.repo_model.specs.Paths.{is_snapshot_path}
 use Rattle.repo_model.specs.Settings.{Rule, Settings}
 use Rattle.repo_model.specs.Prints.{recorded_print}
-use Rattle.repo_model.specs.State.{State, opening, new_hosted, is_repository, is_staged, is_open_at, row_at, rows_of}
-use Rattle.repo_model.specs.Effect.{Effect, draws, drops, creates, stages, delivers, discards, relists, fades, expires, forgets, lends, returns, opens, ends, with_staged, without_staged, list_again, fade, with_effect, with_effects, items_of, recorded}
+use Rattle.repo_model.specs.State.{State, opening, new_hosted, is_repository, is_staged, is_open_at, row_at, rows_of, new_proxy}
+use Rattle.repo_model.specs.Effect.{Effect, draws, drops, creates, stages, delivers, discards, relists, fades, expires, forgets, lends, returns, opens, ends, with_staged, without_staged, list_again, fade, with_effect, with_effects, items_of, recorded, caches, keeps_doc, marks_missing, clears_mark, proxy_after}
 use Rattle.repo_model.specs.May.{May, AllMay}
 use Rattle.repo_model.specs.Reply.{is_free}
 use Rattle.repo_model.specs.Turn.{turn}
 use Rattle.repo_model.specs.History.{Entry, Fits, Legal, ticked, effects_of, after, end}
 use Rattle.repo_model.specs.Tables.{Tables, RecordedRow, RecordedSession, no_tables, recorded_at, recorded_row, is_recorded, names_blob, is_fading_row, is_listed_row, is_open_session, moment_of, item_on, fits_on, applied_from, applied}
-use Rattle.repo_laws.specs.Laws.{rows_with}
+use Rattle.repo_laws.specs.Laws.{rows_with, cached_with, without_bytes}
 use Rattle.repo_laws.specs.Sound.{AreNamedApart, Sound, OnePlace}
 use Rattle.repo_laws.specs.Numbered.{Numbered}
-use Rattle.repo_laws.specs.Holds.{InOrder, Holds, StandsFor, named_in, loose_in, without_bytes, with_items, told}
+use Rattle.repo_laws.specs.Holds.{InOrder, Holds, StandsFor, named_in, loose_in, with_items, told}
 use Rattle.repo_laws.specs.Closed.{Throughout}
 use Rattle.repo_laws.proofs.Counts.{one_if, among-counts, given-up, count-with_number, found-goes, staged-counted, stages_it}
 use Rattle.repo_laws.proofs.Rows.{rows_in}
@@ -38,7 +38,11 @@ use Rattle.repo_laws.proofs.HoldingLists.{count-same, all-filter}
 use Rattle.repo_laws.proofs.HoldingOrder.{ordered-kept, count-with_recorded}
 use Rattle.repo_laws.proofs.HoldingRows.{RowsHeld, held-new, held-changed, held-gone, recorded-row}
 use Rattle.repo_laws.proofs.HoldingSessions.{SessionsHeld, numbered-kept, open-there, sessions-staged, sessions-opened, sessions-ended, all-below-next}
-use Rattle.repo_laws.proofs.HoldingBlobs.{BlobsHeld, MomentsHeld, named-counts, counts-named, blobs-new, blobs-same, blobs-gone, loose-kept, moments-all, all-moments, moments-new, moments-relisted, moments-faded, row-gone}
+use Rattle.repo_laws.proofs.HoldingBlobs.{BlobsHeld, MomentsHeld, named-counts, counts-named, blobs-new, blobs-same, blobs-gone, loose-kept, moments-all, all-moments, moments-new, moments-relisted, moments-faded, row-gone, moments-document}
+use Rattle.repo_laws.specs.Files.{FilesHeld, DocumentsHeld}
+use Rattle.repo_laws.proofs.HoldingFiles.{files-held-kept, documents-held-kept, opening-files, opening-documents, no-marks}
+use Rattle.repo_laws.proofs.Files.{cached-stays}
+use Rattle.mvn_metadata.specs.Document.{Document}
 
 -- the parts, as lists have them
 record Parts (t : Tables) (s : State) : Type 0 where
@@ -55,9 +59,20 @@ parts-of t s held = record {
   moments = moments-all t s.last held.moments;
 }
 
-from-parts : (t : Tables) (s : State) → Parts t s → Holds t s
-from-parts t s parts = record {
+-- and the files and documents of proxies
+record Whole (t : Tables) (s : State) : Type 0 where
+  parts : Parts t s
+  files : FilesHeld t.cached s.proxies
+  documents : DocumentsHeld t.documents s.proxies
+
+whole-of : (t : Tables) (s : State) → Holds t s → Whole t s
+whole-of t s held = record { parts = parts-of t s held; files = held.files; documents = held.documents }
+
+from-whole : (t : Tables) (s : State) → Whole t s → Holds t s
+from-whole t s whole = let parts = whole.parts in record {
   rows = parts.rows;
+  files = whole.files;
+  documents = whole.documents;
   ended = parts.sessions.ended;
   opened = parts.sessions.opened;
   next_session = parts.sessions.next_session;
@@ -71,7 +86,7 @@ abbrev pub AllFit : Tables → List Item → Type 0
 AllFit t [] = Unit {0}
 AllFit t (item ∷ items) = IsTrue (fits_on t item) × AllFit (item_on t item) items
 
-module _ (grace now : ℕ) (s : State) (t : Tables) (up : now ≤ s.last) (placed : OnePlace s) (numbered : Numbered s) (ordered : InOrder t) (parts : Parts t s) where
+module _ (grace now : ℕ) (s : State) (t : Tables) (up : now ≤ s.last) (placed : OnePlace s) (numbered : Numbered s) (ordered : InOrder t) (parts : Parts t s) (files : FilesHeld t.cached s.proxies) where
   abbrev Goal : Effect → Type 0
   Goal e = AllFit t (items_of e) × Parts (with_items t (items_of e)) (with_effect s e)
 
@@ -83,12 +98,13 @@ module _ (grace now : ℕ) (s : State) (t : Tables) (up : now ≤ s.last) (place
   free-here repo path blob there free some =
       and_from (is_none (recorded_at repo path t.hosted)) (not (names_blob blob t)) (ap is_none (parts.rows repo path there ∙ ap (option_map without_bytes) free)) (ap not (unnamed blob some))
 
-  -- an effect that records nothing and changes no row and no session
-  quiet : (e : Effect) → items_of e ≡ [] → May grace now s e → (with_effect s e).hosted ≡ s.hosted → SessionsHeld t.sessions (with_effect s e).sessions (with_effect s e).yard.next_session → Parts t (with_effect s e)
-  quiet e none may hosted sessions = record {
+  -- an effect that records nothing and changes no row, no session and no file of a proxy
+  quiet : (e : Effect) → items_of e ≡ [] → May grace now s e → (with_effect s e).hosted ≡ s.hosted → ((n : ℕ) → cached_with n s.proxies ≤ cached_with n (with_effect s e).proxies)
+      → SessionsHeld t.sessions (with_effect s e).sessions (with_effect s e).yard.next_session → Parts t (with_effect s e)
+  quiet e none may hosted cached sessions = record {
     rows = subst (RowsHeld t.hosted) (sym hosted) parts.rows;
     sessions = sessions;
-    blobs = blobs-same s e (named_in t) (named_in t) (loose-kept s grace now e may (λ n. ap (rows_with n) hosted)) (λ n. omega arith) parts.blobs;
+    blobs = blobs-same s e (named_in t) (named_in t) (loose-kept s grace now e may (λ n. ap (rows_with n) hosted) cached) (λ n. omega arith) parts.blobs;
     moments = parts.moments;
   }
 
@@ -185,7 +201,7 @@ module _ (grace now : ℕ) (s : State) (t : Tables) (up : now ≤ s.last) (place
         record {
           rows = parts.rows;
           sessions = sessions-opened n repo t.sessions s.sessions held;
-          blobs = blobs-same s (opens n repo) (named_in t) (named_in t) (loose-kept s grace now (opens n repo) may (λ k. refl)) (λ k. omega arith) parts.blobs;
+          blobs = blobs-same s (opens n repo) (named_in t) (named_in t) (loose-kept s grace now (opens n repo) may (λ k. refl) (λ k. omega arith)) (λ k. omega arith) parts.blobs;
           moments = parts.moments;
         },
       )
@@ -198,30 +214,77 @@ module _ (grace now : ℕ) (s : State) (t : Tables) (up : now ≤ s.last) (place
         record {
           rows = parts.rows;
           sessions = sessions-ended n result t.sessions s.sessions s.yard.next_session there numbered.apart parts.sessions;
-          blobs = blobs-same s (ends n result) (named_in t) (named_in t) (loose-kept s grace now (ends n result) may (λ k. refl)) (λ k. omega arith) parts.blobs;
+          blobs = blobs-same s (ends n result) (named_in t) (named_in t) (loose-kept s grace now (ends n result) may (λ k. refl) (λ k. omega arith)) (λ k. omega arith) parts.blobs;
           moments = parts.moments;
         },
       )
 
+  cached : (id path : List ℕ) (blob : Blob) (moment : ℕ) → May grace now s (caches id path blob moment) → Goal (caches id path blob moment)
+  cached id path blob moment may =
+      let (at_now, there, among, free) = may in
+      let new : RecordedRow = recorded_row id path blob.number (recorded_print blob.print) moment in (
+        (
+          and_from (is_none (recorded_at id path t.cached)) (not (names_blob blob.number t)) (ap is_none (files id path there ∙ ap (option_map without_bytes) free))
+              (ap not (unnamed blob.number (omega (arith, among-counts blob.number s.yard.drafts among)))),
+          tt,
+        ),
+        record {
+          rows = parts.rows;
+          sessions = record { ended = parts.sessions.ended; opened = parts.sessions.opened; next_session = parts.sessions.next_session };
+          blobs = blobs-new s (with_effect s (caches id path blob moment)) blob.number (named_in t) (named_in (item_on t (CachedFile id path blob.number (recorded_print blob.print) moment))) placed
+              (λ n. omega (arith, given-up n blob.number s.yard.drafts among)) (omega arith) (λ n. omega (arith, count-with_recorded (λ r. r.row.blob.number == n) new t.cached)) parts.blobs;
+          moments = (parts.moments.0, moments-new t.cached id path moment s.last (omega (arith, at_now, up)) new refl parts.moments.1, parts.moments.2);
+        },
+      )
+
+  kept : (id path : List ℕ) (document : Document) (moment : ℕ) → May grace now s (keeps_doc id path document moment) → Goal (keeps_doc id path document moment)
+  kept id path document moment may = (
+    (refl, tt),
+    record {
+      rows = parts.rows;
+      sessions = record { ended = parts.sessions.ended; opened = parts.sessions.opened; next_session = parts.sessions.next_session };
+      blobs = blobs-same s (keeps_doc id path document moment) (named_in t) (named_in t)
+          (loose-kept s grace now (keeps_doc id path document moment) may (λ k. refl) (λ k. cached-stays k id (proxy_after (keeps_doc id path document moment)) (λ p. omega arith) s.proxies))
+          (λ k. omega arith) parts.blobs;
+      moments = (parts.moments.0, parts.moments.1, moments-document (record { repo = id; path = path; checked = moment; document = document }) s.last (omega (arith, may.0, up)) t.documents parts.moments.2);
+    },
+  )
+
   step : (e : Effect) → May grace now s e → Goal e
-  step draws may = (tt, quiet draws refl may refl parts.sessions)
-  step (drops n) may = (tt, quiet (drops n) refl may refl parts.sessions)
+  step draws may = (tt, quiet draws refl may refl (λ k. omega arith) parts.sessions)
+  step (drops n) may = (tt, quiet (drops n) refl may refl (λ k. omega arith) parts.sessions)
   step (creates repo path blob moment) may = created repo path blob moment may
   step (stages n path blob) may = (
     tt,
-    quiet (stages n path blob) refl may refl
+    quiet (stages n path blob) refl may refl (λ k. omega arith)
         (sessions-staged n (λ session. record session { staged = with_staged (record { path = path; blob = blob }) session.staged }) (λ x. refl) (λ x. refl) t.sessions s.sessions s.yard.next_session parts.sessions),
   )
   step (delivers n repo path blob moment) may = delivered n repo path blob moment may
-  step (discards n path draft) may = (tt, quiet (discards n path draft) refl may refl (sessions-staged n (without_staged path) (λ x. refl) (λ x. refl) t.sessions s.sessions s.yard.next_session parts.sessions))
+  step (discards n path draft) may = (tt, quiet (discards n path draft) refl may refl (λ k. omega arith) (sessions-staged n (without_staged path) (λ x. refl) (λ x. refl) t.sessions s.sessions s.yard.next_session parts.sessions))
   step (relists repo path moment) may = relisted repo path moment may
   step (fades repo path moment) may = faded repo path moment may
   step (expires repo path blob) may = expired repo path blob may
-  step (forgets blobs) may = (tt, quiet (forgets blobs) refl may refl parts.sessions)
-  step (lends blob) may = (tt, quiet (lends blob) refl may refl parts.sessions)
-  step (returns lease) may = (tt, quiet (returns lease) refl may refl parts.sessions)
+  step (forgets blobs) may = (tt, quiet (forgets blobs) refl may refl (λ k. omega arith) parts.sessions)
+  step (lends blob) may = (tt, quiet (lends blob) refl may refl (λ k. omega arith) parts.sessions)
+  step (returns lease) may = (tt, quiet (returns lease) refl may refl (λ k. omega arith) parts.sessions)
   step (opens n repo) may = opened n repo may
   step (ends n result) may = ended n result may
+  step (caches id path blob moment) may = cached id path blob moment may
+  step (keeps_doc id path document moment) may = kept id path document moment may
+  step (marks_missing id path moment) may = (
+    tt,
+    quiet (marks_missing id path moment) refl may refl (λ k. cached-stays k id (proxy_after (marks_missing id path moment)) (λ p. omega arith) s.proxies) parts.sessions,
+  )
+  step (clears_mark id path) may = (
+    tt,
+    quiet (clears_mark id path) refl may refl (λ k. cached-stays k id (proxy_after (clears_mark id path)) (λ p. omega arith) s.proxies) parts.sessions,
+  )
+
+step-whole : (grace now : ℕ) (s : State) (t : Tables) → now ≤ s.last → OnePlace s → Numbered s → InOrder t → Whole t s → (e : Effect) → May grace now s e
+    → AllFit t (items_of e) × Whole (with_items t (items_of e)) (with_effect s e)
+step-whole grace now s t up placed numbered ordered whole e may =
+    let (fits, parts) = step grace now s t up placed numbered ordered whole.parts whole.files e may in
+    (fits, record { parts = parts; files = files-held-kept grace now s e t may whole.files; documents = documents-held-kept grace now s e t may whole.documents })
 
 -- items that fit are applied
 fit-applied : (items : List Item) (place : ℕ) (t : Tables) → AllFit t items → applied_from place t items ≡ Ok (with_items t items)
@@ -275,32 +338,34 @@ first-misfit t items place is =
 pub effect-recorded : (grace now : ℕ) (s : State) (e : Effect) (t : Tables) → May grace now s e → now ≤ s.last → OnePlace s → Numbered s → InOrder t → Holds t s
     → (applied t (items_of e) ≡ Ok (with_items t (items_of e))) × InOrder (with_items t (items_of e)) × Holds (with_items t (items_of e)) (with_effect s e)
 effect-recorded grace now s e t may up placed numbered ordered held =
-    let (fits, parts) = step grace now s t up placed numbered ordered (parts-of t s held) e may in
-    (fit-applied (items_of e) 0 t fits, fit-ordered (items_of e) t fits ordered, from-parts (with_items t (items_of e)) (with_effect s e) parts)
+    let (fits, whole) = step-whole grace now s t up placed numbered ordered (whole-of t s held) e may in
+    (fit-applied (items_of e) 0 t fits, fit-ordered (items_of e) t fits ordered, from-whole (with_items t (items_of e)) (with_effect s e) whole)
 
 -- all that effects record
 module _ (settings : Settings) (grace now : ℕ) where
-  steps : (es : List Effect) (s : State) (t : Tables) → AllMay grace now s es → now ≤ s.last → Sound settings s → OnePlace s → Numbered s → InOrder t → Parts t s
-      → AllFit t (recorded es) × Parts (with_items t (recorded es)) (with_effects s es)
+  steps : (es : List Effect) (s : State) (t : Tables) → AllMay grace now s es → now ≤ s.last → Sound settings s → OnePlace s → Numbered s → InOrder t → Whole t s
+      → AllFit t (recorded es) × Whole (with_items t (recorded es)) (with_effects s es)
   steps [] s t all up sound placed numbered ordered parts = (tt, parts)
   steps (e ∷ es) s t all up sound placed numbered ordered parts =
-      let (fits, parts_then) = step grace now s t up placed numbered ordered parts e all.0 in
+      let (fits, parts_then) = step-whole grace now s t up placed numbered ordered parts e all.0 in
       let (fit_rest, rest) = steps es (with_effect s e) (with_items t (items_of e)) all.1 up (sound-kept settings grace now s e all.0 sound)
       (one-place-kept grace now s e (all-apart s.hosted sound.rows) all.0 placed) (numbered-kept grace now s e all.0 numbered) (fit-ordered (items_of e) t fits ordered) parts_then in (
         fit-append (items_of e) (recorded es) t fits fit_rest,
-        subst (λ (u : Tables). Parts u (with_effects s (e ∷ es))) (sym (fold-append item_on t (items_of e) (recorded es))) rest,
+        subst (λ (u : Tables). Whole u (with_effects s (e ∷ es))) (sym (fold-append item_on t (items_of e) (recorded es))) rest,
       )
 
   pub effects-recorded : (es : List Effect) (s : State) (t : Tables) → AllMay grace now s es → now ≤ s.last → Sound settings s → OnePlace s → Numbered s → InOrder t → Holds t s
       → (applied t (recorded es) ≡ Ok (with_items t (recorded es))) × InOrder (with_items t (recorded es)) × Holds (with_items t (recorded es)) (with_effects s es)
   effects-recorded es s t all up sound placed numbered ordered held =
-      let (fits, parts) = steps es s t all up sound placed numbered ordered (parts-of t s held) in
-      (fit-applied (recorded es) 0 t fits, fit-ordered (recorded es) t fits ordered, from-parts (with_items t (recorded es)) (with_effects s es) parts)
+      let (fits, parts) = steps es s t all up sound placed numbered ordered (whole-of t s held) in
+      (fit-applied (recorded es) 0 t fits, fit-ordered (recorded es) t fits ordered, from-whole (with_items t (recorded es)) (with_effects s es) parts)
 
 -- the clock and the records' count are no matter of the tables
 held-ticked : (t : Tables) (s : State) (moment faults : ℕ) → s.last ≤ moment → Holds t s → Holds t (ticked s moment faults)
 held-ticked t s moment faults later held = record {
   rows = held.rows;
+  files = held.files;
+  documents = held.documents;
   ended = held.ended;
   opened = held.opened;
   next_session = held.next_session;
@@ -324,11 +389,11 @@ module _ (settings : Settings) (apart : AreNamedApart settings.hosted) where
       (old, numbered-throughout entries (after settings s e) (sound-entry settings apart s e legal.0 sound) (numbered-entry s e legal.0 sound old) legal.1)
 
   entry-steps : (s : State) (e : Entry) (t : Tables) → Fits settings s e → Sound settings s → OnePlace s → Numbered s → InOrder t → Holds t s
-      → AllFit t (recorded (effects_of settings s e)) × Parts (with_items t (recorded (effects_of settings s e))) (after settings s e)
+      → AllFit t (recorded (effects_of settings s e)) × Whole (with_items t (recorded (effects_of settings s e))) (after settings s e)
   entry-steps s e t fits sound placed numbered ordered held =
       let u : State = ticked s e.moment e.faults in
       steps settings settings.grace e.moment (effects_of settings s e) u t (entry-may settings apart s e sound fits) (omega arith) (sound-ticked settings s e.moment e.faults sound)
-      (one-place-ticked s e.moment e.faults placed) (numbered-ticked s e.moment e.faults numbered) ordered (parts-of t u (held-ticked t s e.moment e.faults (moment-rises s e.moment fits.moment) held))
+      (one-place-ticked s e.moment e.faults placed) (numbered-ticked s e.moment e.faults numbered) ordered (whole-of t u (held-ticked t s e.moment e.faults (moment-rises s e.moment fits.moment) held))
 
   pub entry-recorded : (s : State) (e : Entry) (t : Tables) → Fits settings s e → Sound settings s → OnePlace s → Numbered s → InOrder t → Holds t s
       → (applied t (recorded (effects_of settings s e)) ≡ Ok (with_items t (recorded (effects_of settings s e)))) × InOrder (with_items t (recorded (effects_of settings s e)))
@@ -336,7 +401,7 @@ module _ (settings : Settings) (apart : AreNamedApart settings.hosted) where
   entry-recorded s e t fits sound placed numbered ordered held =
       let items : List Item = recorded (effects_of settings s e) in
       let (fit, parts) = entry-steps s e t fits sound placed numbered ordered held in
-      (fit-applied items 0 t fit, fit-ordered items t fit ordered, from-parts (with_items t items) (after settings s e) parts)
+      (fit-applied items 0 t fit, fit-ordered items t fit ordered, from-whole (with_items t items) (after settings s e) parts)
 
   -- a reply that no state determines records nothing
   pub free-recorded : (s : State) (e : Entry) (t : Tables) → Fits settings s e → Sound settings s → OnePlace s → Numbered s → InOrder t → Holds t s → IsTrue (is_free e.reply)
@@ -353,7 +418,7 @@ module _ (settings : Settings) (apart : AreNamedApart settings.hosted) where
       let items : List Item = recorded (effects_of settings s e) in
       let (fit, parts) = entry-steps s e t legal.0 sound placed numbered ordered held in
       let (fit_rest, rest) = history-steps entries (after settings s e) (with_items t items) legal.1 (sound-entry settings apart s e legal.0 sound) (one-place-entry settings apart s e legal.0 sound placed)
-      (numbered-entry s e legal.0 sound numbered) (fit-ordered items t fit ordered) (from-parts (with_items t items) (after settings s e) parts) in (
+      (numbered-entry s e legal.0 sound numbered) (fit-ordered items t fit ordered) (from-whole (with_items t items) (after settings s e) parts) in (
         fit-append items (told settings (after settings s e) entries) t fit fit_rest,
         subst (λ (u : Tables). Holds u (end settings s (e ∷ entries))) (sym (fold-append item_on t items (told settings (after settings s e) entries))) rest,
       )
@@ -376,6 +441,8 @@ no-rows repo (rule ∷ rules) =
 pub opening-held : (settings : Settings) (clock : Option Moments) → Holds no_tables (opening settings clock)
 opening-held settings clock = record {
   rows = λ repo path there. ap (λ rows. option_map without_bytes (row_at path rows)) (sym (no-rows repo settings.hosted));
+  files = opening-files settings.proxies;
+  documents = opening-documents settings.proxies;
   ended = λ n. refl;
   opened = λ n there. absurd (false≢true there);
   next_session = refl;
@@ -385,7 +452,7 @@ opening-held settings clock = record {
 }
 
 pub opening-stands : (settings : Settings) (clock : Option Moments) → StandsFor no_tables (opening settings clock)
-opening-stands settings clock = record { holds = opening-held settings clock; last = refl; next_lease = refl; none_open = tt; leases = refl; drafts = refl; condemned = refl }
+opening-stands settings clock = record { holds = opening-held settings clock; last = refl; next_lease = refl; none_open = tt; leases = refl; drafts = refl; condemned = refl; marks = no-marks new_proxy (λ rule. refl) settings.proxies }
 
 pub opening-numbered : (settings : Settings) (clock : Option Moments) → Numbered (opening settings clock)
 opening-numbered settings clock = record { below = tt; apart = tt }

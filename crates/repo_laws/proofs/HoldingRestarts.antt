@@ -8,7 +8,8 @@ use Rattle.std.proofs.lemmas.Bool.{false≢true}
 use Rattle.repo_model.specs.Data.{Session}
 use Rattle.repo_model.specs.State.{State, is_repository, is_session, is_open, is_open_at, row_at, rows_of, session_of}
 use Rattle.repo_model.specs.Tables.{Tables, RecordedSession}
-use Rattle.repo_laws.specs.Holds.{Holds, StandsFor, without_bytes, result_of}
+use Rattle.repo_laws.specs.Laws.{without_bytes}
+use Rattle.repo_laws.specs.Holds.{Holds, StandsFor, result_of}
 
 module _ (t : Tables) (old new : State) (before : Holds t old) where
   pub rows-again : Holds t new → (repo path : List ℕ) → IsTrue (list_any (is_repository repo) old.hosted) → IsTrue (list_any (is_repository repo) new.hosted)

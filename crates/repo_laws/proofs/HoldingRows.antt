@@ -13,7 +13,7 @@ use Rattle.repo_model.specs.Prints.{recorded_print}
 use Rattle.repo_model.specs.State.{change_where, change_first, is_repository, is_row, row_at}
 use Rattle.repo_model.specs.Effect.{with_row, new_row, without_row}
 use Rattle.repo_model.specs.Tables.{RecordedRow, place_cmp, is_recorded, recorded_at, recorded_row, with_recorded, change_recorded}
-use Rattle.repo_laws.specs.Holds.{without_bytes}
+use Rattle.repo_laws.specs.Laws.{without_bytes}
 use Rattle.repo_laws.proofs.Rows.{rows_in, rows-changed}
 use Rattle.repo_laws.proofs.Releases.{same_path, is_itself, with_row-elsewhere, change-elsewhere, without-elsewhere}
 use Rattle.repo_laws.proofs.HoldingLists.{find-changed, find-change-elsewhere, find-gone, find-gone-elsewhere}

@@ -11,7 +11,7 @@ use Rattle.std.proofs.lemmas.List.Sums.{fold_push}
 use Rattle.repo_model.specs.declared.session.SessionResult.{SessionResult}
 use Rattle.repo_model.specs.Data.{Session}
 use Rattle.repo_model.specs.State.{State, is_session, is_open, is_open_at, change_where, change_first}
-use Rattle.repo_model.specs.Effect.{Effect, draws, drops, creates, stages, delivers, discards, relists, fades, expires, forgets, lends, returns, opens, ends, new_session, without_staged, with_staged, with_effect}
+use Rattle.repo_model.specs.Effect.{Effect, draws, drops, creates, stages, delivers, discards, relists, fades, expires, forgets, lends, returns, opens, ends, new_session, without_staged, with_staged, with_effect, caches, keeps_doc, marks_missing, clears_mark}
 use Rattle.repo_model.specs.May.{May}
 use Rattle.repo_model.specs.Tables as kept
 use Rattle.repo_laws.specs.Numbered.{NumbersApart, Numbered}
@@ -79,6 +79,10 @@ numbered-kept grace now s (opens n repo) may old =
       below = all-push (λ (one : Session). one.number < n + 1) s.sessions (new_session n repo) (more-below n s.sessions below) (omega arith);
       apart = apart-push s.sessions (new_session n repo) below old.apart;
     }
+numbered-kept grace now s (caches id path blob moment) may old = same-numbered s (with_effect s (caches id path blob moment)) refl refl old
+numbered-kept grace now s (keeps_doc id path document moment) may old = same-numbered s (with_effect s (keeps_doc id path document moment)) refl refl old
+numbered-kept grace now s (marks_missing id path moment) may old = same-numbered s (with_effect s (marks_missing id path moment)) refl refl old
+numbered-kept grace now s (clears_mark id path) may old = same-numbered s (with_effect s (clears_mark id path)) refl refl old
 numbered-kept grace now s draws may old = same-numbered s (with_effect s draws) refl refl old
 numbered-kept grace now s (drops n) may old = same-numbered s (with_effect s (drops n)) refl refl old
 numbered-kept grace now s (creates repo path blob moment) may old = same-numbered s (with_effect s (creates repo path blob moment)) refl refl old

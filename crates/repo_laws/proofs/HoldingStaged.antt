@@ -28,7 +28,7 @@ use Rattle.repo_laws.specs.Staged.{path_cmp, staged_cmp, StagedByPath, row_path,
 use Rattle.repo_laws.proofs.Releases.{is_itself}
 use Rattle.repo_laws.proofs.Orderly.{found-has}
 use Rattle.repo_laws.proofs.Histories.{entry-keeps, sound-entry}
-use Rattle.repo_laws.proofs.Cases.{Case, makes_row, lists_again, opens_one, deploys, aborts, unlists, collects, turn-case}
+use Rattle.repo_laws.proofs.Cases.{Case, makes_row, lists_again, opens_one, deploys, aborts, unlists, collects, turn-case, lands_one}
 use Rattle.repo_laws.proofs.HoldingLists.{all-push, all-change_first}
 use Rattle.repo_laws.proofs.HoldingOrder.{after-all, before-it, filter-ordered}
 use Rattle.repo_laws.proofs.HoldingTurns.{deploy-items}
@@ -152,6 +152,7 @@ module _ (settings : Settings) (s : State) (now : ℕ) where
   commit-case n c t (aborts m one known going) is old = cc
   commit-case n c t (unlists repo h found) is old = cc
   commit-case n c t collects is old = cc
+  commit-case n c t (lands_one plan outcome drawn) is old = cc
   commit-case n c t case is old = none-rise path_cmp
 
   pub commit-rises : (n : ℕ) → StagedByPath s → IsStrictlySortedBy path_cmp (row_paths (recorded (turn settings s now (commit n)).effects))

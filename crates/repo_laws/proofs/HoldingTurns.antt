@@ -19,7 +19,7 @@ use Rattle.repo_model.specs.Purge.{expire_all, expired_of, is_over, due_rows, fa
 use Rattle.repo_model.specs.Deploy.{Offence, offence, without_pom, deliver_all, deliver_at, deliver_again}
 use Rattle.repo_model.specs.Turn.{Turn, says, draws_or_spent, put_again, put_at, commit_by, unlist_of, unlent, turn}
 use Rattle.repo_laws.specs.Holds.{can_record, item_again, item_at}
-use Rattle.repo_laws.proofs.Cases.{Case, makes_row, lists_again, opens_one, deploys, aborts, unlists, collects, turn-case}
+use Rattle.repo_laws.proofs.Cases.{Case, makes_row, lists_again, opens_one, deploys, aborts, unlists, collects, turn-case, lands_one}
 use Rattle.repo_laws.proofs.Lists.{found-passes, all-take}
 
 module _ (settings : Settings) (s : State) (now : ℕ) where
@@ -31,6 +31,7 @@ module _ (settings : Settings) (s : State) (now : ℕ) where
   case-quiet c t (aborts n one known going) is = absurd (false≢true (sym is))
   case-quiet c t (unlists repo h found) is = absurd (false≢true (sym is))
   case-quiet c t collects is = absurd (false≢true (sym is))
+  case-quiet c t (lands_one plan outcome drawn) is = absurd (false≢true (sym is))
   case-quiet c t case is = refl
 
   -- behind any other reply nothing is recorded

@@ -16,9 +16,9 @@ use Rattle.repo_model.specs.State.{State, is_repository, row_at, rows_of}
 use Rattle.repo_model.specs.Command.{is_there, is_file_path}
 use Rattle.repo_model.specs.Tables.{Tables, recorded_at}
 use Rattle.repo_model.specs.History.{Entry, Legal, after, end}
-use Rattle.repo_laws.specs.Laws.{LastsFrom, Stands}
+use Rattle.repo_laws.specs.Laws.{LastsFrom, Stands, without_bytes}
 use Rattle.repo_laws.specs.Sound.{AreNamedApart, Sound, IsSound}
-use Rattle.repo_laws.specs.Holds.{InOrder, Holds, StandsFor, with_items, told, without_bytes}
+use Rattle.repo_laws.specs.Holds.{InOrder, Holds, StandsFor, with_items, told}
 use Rattle.repo_laws.specs.Closed.{named, AnswersDocument, AnswersUpTo, StandsInTime}
 use Rattle.repo_laws.specs.InRange.{Run, BeginsFrom, last_moment, Follow, Completes, IsRowSince, IsFoundSince, IsSince, IsSameBlob, AnsweredOn}
 use Rattle.repo_laws.proofs.Completing.{completed-order, completed-rows}
@@ -142,7 +142,7 @@ module _ (settings : Settings) (apart : AreNamedApart settings.hosted) (t : ℕ)
 pub closed-across : (settings : Settings) (before : List Entry) (e : Entry) (rest : List Entry) (s : State) (tables : Tables) (runs : List Run) (repo : List ℕ) (d : Directory) (served : Document)
     → AreNamedApart settings.hosted → IsSound settings s → InOrder tables → Holds tables s → Legal settings s (before ++ e ∷ rest)
     → Follow settings (with_items tables (told settings s (before ++ e ∷ rest))) (end settings s (before ++ e ∷ rest)).last runs
-    → AnswersDocument (end settings s before) e repo d served
+    → AnswersDocument settings (end settings s before) e repo d served
     → AllByRecursion (λ (row : Row). AnsweredOn (e.moment + settings.grace) repo row.path row.blob settings runs) (named d (rows_of repo (end settings s before)) served)
 closed-across settings before e rest s tables runs repo d served apart sound order holds legal follow answers =
     let (legal_before, legal_then) = legal-parts settings before (e ∷ rest) s legal in

@@ -5,19 +5,53 @@ use Rattle.std.specs.List.{AllByRecursion, flat_map}
 use Rattle.repo_model.specs.declared.session.SessionResult.{SessionResult}
 use Rattle.repo_model.specs.declared.session.SessionResult.TheVariants.{Aborted, Done}
 use Rattle.repo_model.specs.Data.{Blob, Row, Phase, listed, fading, Hosted, Staged, Session}
+use Rattle.mvn_metadata.specs.Document.{Document}
+use Rattle.fetch_plan.specs.declared.Plan.{Plan}
+use Rattle.fetch_plan.specs.declared.Outcome.{Outcome}
+use Rattle.fetch_plan.specs.declared.Outcome.TheVariants.{Got, Gone, Refused, NoChecksum, Differs, TooLarge, BadAnswer, BadDocument, Fault}
+use Rattle.repo_model.specs.Fetched.{Landing, got_file, got_doc}
 use Rattle.repo_model.specs.Settings.{Settings}
-use Rattle.repo_model.specs.State.{State, row_at, rows_of}
-use Rattle.repo_model.specs.Effect.{Effect, draws, drops, creates, stages, delivers, discards, relists, fades, expires, forgets, lends, returns, opens, ends, with_effects}
+use Rattle.repo_model.specs.State.{State, row_at, rows_of, files_of}
+use Rattle.repo_model.specs.Effect.{Effect, draws, drops, creates, stages, delivers, discards, relists, fades, expires, forgets, lends, returns, opens, ends, caches, keeps_doc, marks_missing, clears_mark, with_effects}
 use Rattle.repo_model.specs.Command.{Command, done, collect}
 use Rattle.repo_model.specs.Purge.{due_rows, fade_all, expire_all, expired_of, is_over, most_rows}
 use Rattle.repo_model.specs.Deploy.{deliver_at, deliver_again, deliver_all, discard_all}
-use Rattle.repo_model.specs.Turn.{Turn, turn, unlent}
-use Rattle.repo_laws.proofs.Cases.{Case, lends_file, takes_back, gives_draft, makes_row, has_same, lists_again, has_other, gives_up, opens_one, stage_nowhere, stages_one, stage_full, stage_same, stage_other, deploys, aborts, unlists, collects, turn-case}
+use Rattle.repo_model.specs.Turn.{Turn, turn, unlent, gives_draft_up, lands_file, lands}
+use Rattle.repo_laws.proofs.Cases.{Case, lends_file, plans_file, lands_one, takes_back, gives_draft, makes_row, has_same, lists_again, has_other, gives_up, opens_one, stage_nowhere, stages_one, stage_full, stage_same, stage_other, deploys, aborts, unlists, collects, turn-case}
 use Rattle.repo_laws.proofs.Lists.{all-take}
 
 pub all-append : {X : Type 0} (P : X → Type 0) (xs ys : List X) → AllByRecursion P xs → AllByRecursion P ys → AllByRecursion P (xs ++ ys)
 all-append P [] ys all more = more
 all-append P (x ∷ xs) ys all more = (all.0, all-append P xs ys all.1 more)
+
+-- what all effects of a landing have
+pub record OfLanding (R : Effect → Type 0) : Type 0 where
+  pub drops_so : (n : ℕ) → R (drops n)
+  pub caches_so : (id path : List ℕ) (blob : Blob) (moment : ℕ) → R (caches id path blob moment)
+  pub keeps_doc_so : (id path : List ℕ) (document : Document) (moment : ℕ) → R (keeps_doc id path document moment)
+  pub marks_so : (id path : List ℕ) (moment : ℕ) → R (marks_missing id path moment)
+  pub clears_so : (id path : List ℕ) → R (clears_mark id path)
+
+module _ (R : Effect → Type 0) (land : OfLanding R) where
+  draft-made : (under : Option ℕ) → AllByRecursion R (gives_draft_up under)
+  draft-made None = tt
+  draft-made (Some n) = (land.drops_so n, tt)
+
+  file-made : (plan : Plan) (blob : Blob) (now : ℕ) (found : Option Row) → AllByRecursion R (lands_file plan blob now found)
+  file-made plan blob now None = (land.caches_so plan.proxy plan.path blob now, (land.clears_so plan.proxy plan.path, tt))
+  file-made plan blob now (Some row) = (land.clears_so plan.proxy plan.path, draft-made plan.draft)
+
+  pub lands-made : (s : State) (now : ℕ) (plan : Plan) (outcome : Landing) → AllByRecursion R (lands s now plan outcome)
+  lands-made s now plan (Got (got_file blob)) = file-made plan blob now (row_at plan.path (files_of plan.proxy s))
+  lands-made s now plan (Got (got_doc document)) = (land.keeps_doc_so plan.proxy plan.path _ now, (land.clears_so plan.proxy plan.path, tt))
+  lands-made s now plan Gone = (land.marks_so plan.proxy plan.path now, draft-made plan.draft)
+  lands-made s now plan (Refused status) = draft-made plan.draft
+  lands-made s now plan NoChecksum = draft-made plan.draft
+  lands-made s now plan (Differs said found) = draft-made plan.draft
+  lands-made s now plan TooLarge = draft-made plan.draft
+  lands-made s now plan (BadAnswer at) = draft-made plan.draft
+  lands-made s now plan (BadDocument at) = draft-made plan.draft
+  lands-made s now plan Fault = draft-made plan.draft
 
 -- each effect has it, but for those that return a lease or forget garbage
 pub record Common (R : Effect → Type 0) : Type 0 where
@@ -33,6 +67,10 @@ pub record Common (R : Effect → Type 0) : Type 0 where
   pub lends_so : (blob : ℕ) → R (lends blob)
   pub opens_so : (n : ℕ) (repo : List ℕ) → R (opens n repo)
   pub ends_so : (n : ℕ) (result : SessionResult) → R (ends n result)
+  pub caches_so : (id path : List ℕ) (blob : Blob) (moment : ℕ) → R (caches id path blob moment)
+  pub keeps_doc_so : (id path : List ℕ) (document : Document) (moment : ℕ) → R (keeps_doc id path document moment)
+  pub marks_so : (id path : List ℕ) (moment : ℕ) → R (marks_missing id path moment)
+  pub clears_so : (id path : List ℕ) → R (clears_mark id path)
 
 -- each effect has it of those that a turn makes of a list of files or of rows
 pub record Bulk (R : Effect → Type 0) : Type 0 where
@@ -89,6 +127,9 @@ module _ (R : Effect → Type 0) (bulk : Bulk R) where
   collects-made grace now hosted blobs forgets_so = all-append R (expire_all grace now hosted) (forgets blobs ∷ []) (expired-all grace now hosted) (forgets_so, tt)
 
 module _ (R : Effect → Type 0) (common : Common R) where
+  of-landing : OfLanding R
+  of-landing = record { drops_so = common.drops_so; caches_so = common.caches_so; keeps_doc_so = common.keeps_doc_so; marks_so = common.marks_so; clears_so = common.clears_so }
+
   bulk-of : Bulk R
   bulk-of = record {
     delivers_so = common.delivers_so;
@@ -105,6 +146,8 @@ module _ (R : Effect → Type 0) (common : Common R) where
   module _ (settings : Settings) (s : State) (now : ℕ) where
     case-makes : (c : Command) (t : Turn) → Case settings s now c t → ((lease : ℕ) → c ≡ done lease → R (returns lease)) → ((blobs : List ℕ) → c ≡ collect → R (forgets blobs)) → AllByRecursion R t.effects
     case-makes c t (lends_file repo path tried blob more is) returned forgotten = (common.lends_so blob.number, tt)
+    case-makes c t (plans_file repo path tried member rule at more is) returned forgotten = (common.draws_so, tt)
+    case-makes c t (lands_one plan outcome drawn) returned forgotten = lands-made R of-landing s now plan outcome
     case-makes c t (takes_back lease) returned forgotten = (returned lease refl, tt)
     case-makes c t (gives_draft place path more) returned forgotten = (common.draws_so, tt)
     case-makes c t (makes_row repo path n blob among free) returned forgotten = (common.creates_so repo path blob now, tt)

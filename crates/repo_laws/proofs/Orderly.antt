@@ -11,12 +11,13 @@ use Rattle.std.proofs.lemmas.Option.{none-some}
 use Rattle.repo_model.specs.Data.{Row, Hosted, Staged, Session}
 use Rattle.repo_model.specs.Settings.{Rule, Settings}
 use Rattle.repo_model.specs.State.{State, Yard, change_first, is_repository, is_row, is_staged, is_open_at, number_end}
-use Rattle.repo_model.specs.Effect.{Effect, draws, drops, creates, stages, delivers, discards, relists, fades, expires, forgets, lends, returns, opens, ends, with_staged, without_staged, new_session, hosted_after, repo_of, rows_after, in_repo, with_effect}
+use Rattle.repo_model.specs.Effect.{Effect, draws, drops, creates, stages, delivers, discards, relists, fades, expires, forgets, lends, returns, opens, ends, caches, keeps_doc, marks_missing, clears_mark, with_staged, without_staged, new_session, hosted_after, repo_of, rows_after, in_repo, with_effect}
 use Rattle.repo_model.specs.May.{May}
 use Rattle.repo_model.specs.Command.{is_there}
 use Rattle.repo_laws.specs.Laws.{AreApart}
 use Rattle.repo_laws.specs.Sound.{IsInOrder, Sound}
-use Rattle.repo_laws.proofs.ByPath.{rows-kept}
+use Rattle.repo_laws.proofs.ByPath.{rows-kept, files-kept}
+use Rattle.repo_laws.proofs.Files.{proxy-rules-kept}
 use Rattle.repo_laws.proofs.Releases.{is_itself, other_path}
 use Rattle.repo_laws.proofs.Rows.{RowsApart}
 
@@ -151,7 +152,7 @@ Numbers yard = (yard.next_draft ≤ number_end) × (yard.next_lease ≤ number_e
 
 numbers-kept : (grace now : ℕ) (s : State) (e : Effect) → May grace now s e → Numbers s.yard → Numbers (with_effect s e).yard
 numbers-kept grace now s draws may old = (omega (arith, may), old.1, old.2)
-numbers-kept grace now s (lends blob) may old = (old.0, omega (arith, may.3), old.2)
+numbers-kept grace now s (lends blob) may old = (old.0, omega (arith, may.0), old.2)
 numbers-kept grace now s (opens n repo) may old = (old.0, old.1, omega (arith, may.1))
 numbers-kept grace now s e may old = old
 
@@ -161,6 +162,8 @@ sound-kept settings grace now s e may old =
     record {
       rules = rules-kept e s.hosted ∙ old.rules;
       rows = rows-kept grace now s e may old.rows;
+      proxies = proxy-rules-kept e s.proxies ∙ old.proxies;
+      files = files-kept grace now s e may old.files;
       sessions = sessions-kept settings grace now s e old.rules may old.sessions;
       draft = draft;
       lease = lease;

@@ -1,6 +1,6 @@
 -- Each blob number stands in one place: kept by each effect.
 use native.Mathlib.Omega.{arith}
-use Rattle.std.proofs.Common.{◌≡◌, ◌≤◌, ◌<◌, ◌+◌, ℕ, Bool, true, false, not, cond, ◌&&◌, List, [], ◌∷◌, ◌++◌, Some, refl, sym, ◌∙◌, ap, subst}
+use Rattle.std.proofs.Common.{◌≡◌, ◌≤◌, ◌<◌, ◌+◌, ℕ, Bool, true, false, not, cond, ◌&&◌, ◌⊎◌, inl, inr, List, [], ◌∷◌, ◌++◌, Some, refl, sym, ◌∙◌, ap, subst}
 use Rattle.std.specs.Prelude.{◌==◌, nat_lt, IsTrue, count_by, filter, find}
 use Rattle.std.specs.Option.{option_map_or}
 use Rattle.std.specs.List.{AllByRecursion, list_all, list_any}
@@ -8,10 +8,11 @@ use Rattle.std.proofs.lemmas.Bool.{ne_eqb, eq-eqb, false≢true, and_parts, or_p
 use Rattle.std.proofs.lemmas.List.Sums.{sum_by_push}
 use Rattle.repo_model.specs.Data.{Row, Hosted, Staged, Session}
 use Rattle.repo_model.specs.State.{State, Lease, change_where, is_repository, is_row, is_staged, is_open_at, rows_of, is_among}
-use Rattle.repo_model.specs.Effect.{Effect, draws, drops, creates, stages, delivers, discards, relists, fades, expires, forgets, lends, returns, opens, ends, with_row, new_row, list_again, fade, with_staged, without_row, without_staged, new_session, with_effect}
-use Rattle.repo_model.specs.May.{May}
-use Rattle.repo_laws.specs.Laws.{places_of, rows_with, count_of}
+use Rattle.repo_model.specs.Effect.{Effect, draws, drops, creates, stages, delivers, discards, relists, fades, expires, forgets, lends, returns, opens, ends, caches, keeps_doc, marks_missing, clears_mark, with_row, new_row, list_again, fade, with_staged, without_row, without_staged, new_session, proxy_after, with_effect}
+use Rattle.repo_model.specs.May.{May, IsRowsBlob}
+use Rattle.repo_laws.specs.Laws.{places_of, rows_with, cached_with, count_of}
 use Rattle.repo_laws.specs.Sound.{OnePlace}
+use Rattle.repo_laws.proofs.Files.{cached-grows, cached-stays, file-counts}
 use Rattle.repo_laws.proofs.Rows.{RowsApart, rows_in}
 use Rattle.repo_laws.proofs.Counts.{one_if, count-cons, count-push, count-filter, found-goes, row-goes, count-with_number, given-up, count-with_row, count-with_staged, count-change_where, names, stages_it, rows-counted, rows-counted-back, staged-counted, row-counts}
 
@@ -77,6 +78,16 @@ module _ (grace now : ℕ) (s : State) (n : ℕ) where
   places-counted (ends m outcome) may =
       let (one, found, _) = may in
       omega (arith, staged-counted n (is_open_at m) (λ session. record session { ended = Some outcome }) 0 0 s.sessions one found (omega arith))
+  places-counted (caches id path blob moment) may =
+      let here = cached-grows n id (proxy_after (caches id path blob moment)) (one_if (blob.number == n))
+      (λ p. omega (arith, count-with_row (names n) (new_row path blob moment) p.files)) s.proxies in
+      omega (arith, given-up n blob.number s.yard.drafts may.2, here)
+  places-counted (keeps_doc id path document moment) may =
+      omega (arith, cached-grows n id (proxy_after (keeps_doc id path document moment)) 0 (λ p. omega arith) s.proxies)
+  places-counted (marks_missing id path moment) may =
+      omega (arith, cached-grows n id (proxy_after (marks_missing id path moment)) 0 (λ p. omega arith) s.proxies)
+  places-counted (clears_mark id path) may =
+      omega (arith, cached-grows n id (proxy_after (clears_mark id path)) 0 (λ p. omega arith) s.proxies)
 
 -- the next number grows where it is drawn
 pub next-counted : (s : State) (e : Effect) → (with_effect s e).yard.next_draft ≡ s.yard.next_draft + one_if (is_draw e)
@@ -116,10 +127,10 @@ rows-apart repo (h ∷ hosted) all =
 
 -- what is borrowed is a row's or condemned
 abbrev IsLent : State → Lease → Type 0
-IsLent t lease = 0 < rows_with lease.blob t.hosted + count_of lease.blob t.yard.condemned
+IsLent t lease = 0 < rows_with lease.blob t.hosted + cached_with lease.blob t.proxies + count_of lease.blob t.yard.condemned
 
 module _ (s : State) where
-  all-lent : (t : State) → ((n : ℕ) → rows_with n s.hosted + count_of n s.yard.condemned ≤ rows_with n t.hosted + count_of n t.yard.condemned)
+  all-lent : (t : State) → ((n : ℕ) → rows_with n s.hosted + cached_with n s.proxies + count_of n s.yard.condemned ≤ rows_with n t.hosted + cached_with n t.proxies + count_of n t.yard.condemned)
       → (leases : List Lease) → AllByRecursion (IsLent s) leases → AllByRecursion (IsLent t) leases
   all-lent t more [] all = tt
   all-lent t more (lease ∷ leases) all = (omega (arith, all.0, more lease.blob), all-lent t more leases all.1)
@@ -174,6 +185,15 @@ module _ (s : State) where
       let (other, rest) = not_lent lease leases blobs free in
       (omega (arith, all.0, count-others lease.blob blobs s.yard.condemned other), forgotten leases blobs rest all.1)
 
+-- what a file has, counts
+pub rows-blob-counts : (s : State) (blob : ℕ) → IsRowsBlob s blob → 0 < rows_with blob s.hosted + cached_with blob s.proxies
+rows-blob-counts s blob (inl (repo, path, row, found, named)) =
+    let there : 0 < rows_with blob s.hosted = subst (λ (k : ℕ). 0 < rows_with k s.hosted) named (row-counts repo path s.hosted row found) in
+    omega (arith, there)
+rows-blob-counts s blob (inr (id, path, row, found, named)) =
+    let there : 0 < cached_with blob s.proxies = subst (λ (k : ℕ). 0 < cached_with k s.proxies) named (file-counts id path s.proxies row found) in
+    omega (arith, there)
+
 pub lent-kept : (grace now : ℕ) (s : State) (e : Effect) → AllByRecursion (λ (h : Hosted). RowsApart h.rows) s.hosted → May grace now s e
     → AllByRecursion (IsLent s) s.yard.leases → AllByRecursion (IsLent (with_effect s e)) (with_effect s e).yard.leases
 lent-kept grace now s (drops m) apart may all =
@@ -200,10 +220,16 @@ lent-kept grace now s (expires repo path blob) apart may all =
     omega (arith, rows, same, count-with_number n blob s.yard.condemned)) s.yard.leases all
 lent-kept grace now s (forgets blobs) apart may all = forgotten s s.yard.leases blobs may all
 lent-kept grace now s (lends blob) apart may all =
-    let (repo, path, row, _, found, named) = may in
-    let there : 0 < rows_with blob s.hosted = subst (λ (k : ℕ). 0 < rows_with k s.hosted) named (row-counts repo path s.hosted row found) in
-    lent-push s s.yard.leases (record { number = s.yard.next_lease; blob = blob }) all (omega (arith, there))
+    lent-push s s.yard.leases (record { number = s.yard.next_lease; blob = blob }) all (omega (arith, rows-blob-counts s blob may.1))
 lent-kept grace now s (returns lease) apart may all = lent-filter s (λ l. not (l.number == lease)) s.yard.leases all
+lent-kept grace now s (caches id path blob moment) apart may all =
+    all-lent s (with_effect s (caches id path blob moment)) (λ n. omega (arith, cached-stays n id (proxy_after (caches id path blob moment)) (λ p. omega (arith, count-with_row (names n) (new_row path blob moment) p.files)) s.proxies)) s.yard.leases all
+lent-kept grace now s (keeps_doc id path document moment) apart may all =
+    all-lent s (with_effect s (keeps_doc id path document moment)) (λ n. omega (arith, cached-stays n id (proxy_after (keeps_doc id path document moment)) (λ p. omega arith) s.proxies)) s.yard.leases all
+lent-kept grace now s (marks_missing id path moment) apart may all =
+    all-lent s (with_effect s (marks_missing id path moment)) (λ n. omega (arith, cached-stays n id (proxy_after (marks_missing id path moment)) (λ p. omega arith) s.proxies)) s.yard.leases all
+lent-kept grace now s (clears_mark id path) apart may all =
+    all-lent s (with_effect s (clears_mark id path)) (λ n. omega (arith, cached-stays n id (proxy_after (clears_mark id path)) (λ p. omega arith) s.proxies)) s.yard.leases all
 lent-kept grace now s e apart may all = all
 
 -- each effect keeps all of it

@@ -14,7 +14,7 @@ use Rattle.repo_model.specs.Data.{listed, fading, Staged, Session}
 use Rattle.repo_model.specs.Paths.{is_snapshot_path}
 use Rattle.repo_model.specs.Settings.{Settings}
 use Rattle.repo_model.specs.State.{State, change_where, is_open_at, is_staged, number_end}
-use Rattle.repo_model.specs.Effect.{Effect, draws, drops, creates, stages, delivers, discards, relists, fades, expires, forgets, lends, returns, opens, ends, list_again, fade, with_effect, items_of, recorded}
+use Rattle.repo_model.specs.Effect.{Effect, draws, drops, creates, stages, delivers, discards, relists, fades, expires, forgets, lends, returns, opens, ends, list_again, fade, with_effect, items_of, recorded, caches, keeps_doc, marks_missing, clears_mark}
 use Rattle.repo_model.specs.May.{May, AllMay}
 use Rattle.repo_model.specs.Tables.{Tables, RecordedRow, RecordedDocument, RecordedSession, no_tables, place_cmp, is_recorded, recorded_at, recorded_row, with_document, is_session, is_listed_row, change_recorded, digested, lacks_at, names_blob, item_on, fits_on, applied}
 use Rattle.repo_model.specs.History.{Entry, Legal, latest_moment, ticked, effects_of, after}
@@ -56,6 +56,9 @@ rows-named P n t hosted cached named =
 module _ (t : Tables) (range : InRange t) where
   pub range-bare : AllByRecursion (λ (r : RecordedRow). r.row.blob.bytes ≡ None) t.hosted
   range-bare = all-then (λ (r : RecordedRow). IsRowInRange r × FadesRightly r.row) (λ (r : RecordedRow). r.row.blob.bytes ≡ None) (λ r so. so.0.0) t.hosted range.hosted
+
+  pub cached-bare : AllByRecursion (λ (r : RecordedRow). r.row.blob.bytes ≡ None) t.cached
+  cached-bare = all-then IsRowInRange (λ (r : RecordedRow). r.row.blob.bytes ≡ None) (λ r so. so.0) t.cached range.cached
 
   pub range-fading : AllByRecursion (λ (r : RecordedRow). FadesRightly r.row) t.hosted
   range-fading = all-then (λ (r : RecordedRow). IsRowInRange r × FadesRightly r.row) (λ (r : RecordedRow). FadesRightly r.row) (λ r so. so.1) t.hosted range.hosted
@@ -256,6 +259,11 @@ effect-right grace now s (fades repo path moment) may early placed up = ((omega 
 effect-right grace now s (expires repo path blob) may early placed up = ((tt, tt), tt)
 effect-right grace now s (opens n repo) may early placed up = ((may.1, tt), tt)
 effect-right grace now s (ends n result) may early placed up = ((tt, tt), tt)
+effect-right grace now s (caches id path blob moment) may early placed up =
+    let some = among-counts blob.number s.yard.drafts may.2 in
+    let (above, below) = placed-range s blob.number placed up (omega (arith, some)) in
+    (((above, below, omega (arith, may.0, early)), tt), tt)
+effect-right grace now s (keeps_doc id path document moment) may early placed up = ((omega (arith, may.0, early), tt), tt)
 effect-right grace now s e may early placed up = tt
 
 module _ (settings : Settings) (apart : AreNamedApart settings.hosted) where

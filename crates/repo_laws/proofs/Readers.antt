@@ -7,7 +7,7 @@ use Rattle.std.proofs.lemmas.Bool.{false≢true, and_parts, and_from, or_left, o
 use Rattle.repo_model.specs.Data.{Blob, Hosted}
 use Rattle.repo_model.specs.Settings.{Settings}
 use Rattle.repo_model.specs.State.{State, Lease, is_among}
-use Rattle.repo_model.specs.Effect.{Effect, draws, drops, creates, stages, delivers, discards, relists, fades, expires, forgets, lends, returns, opens, ends, with_effect, with_effects}
+use Rattle.repo_model.specs.Effect.{Effect, draws, drops, creates, stages, delivers, discards, relists, fades, expires, forgets, lends, returns, opens, ends, caches, keeps_doc, marks_missing, clears_mark, with_effect, with_effects}
 use Rattle.repo_model.specs.Command.{Command, done, collect}
 use Rattle.repo_model.specs.Reply.{file, is_free}
 use Rattle.repo_model.specs.Purge.{expire_all}
@@ -46,6 +46,10 @@ module _ (lease : ℕ) where
     lends_so = λ blob. refl;
     opens_so = λ n repo. refl;
     ends_so = λ n result. refl;
+    caches_so = λ id path blob moment. refl;
+    keeps_doc_so = λ id path document moment. refl;
+    marks_so = λ id path moment. refl;
+    clears_so = λ id path. refl;
   }
 
   expire-quiet : (grace now : ℕ) (hosted : List Hosted) → Quiet (expire_all grace now hosted)

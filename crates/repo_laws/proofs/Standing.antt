@@ -10,7 +10,7 @@ use Rattle.std.proofs.lemmas.List.Sums.{sum_by_push}
 use Rattle.repo_model.specs.Data.{Row, Hosted, Staged, Session}
 use Rattle.repo_model.specs.Settings.{Settings}
 use Rattle.repo_model.specs.State.{State, change_where, change_first, is_repository, is_row, is_staged, is_open_at, rows_of, is_among}
-use Rattle.repo_model.specs.Effect.{Effect, draws, drops, creates, stages, delivers, discards, relists, fades, expires, forgets, lends, returns, opens, ends, without_number, with_row, new_row, list_again, fade, with_staged, without_row, without_staged, new_session, with_effect, with_effects}
+use Rattle.repo_model.specs.Effect.{Effect, draws, drops, creates, stages, delivers, discards, relists, fades, expires, forgets, lends, returns, opens, ends, without_number, with_row, new_row, list_again, fade, with_staged, without_row, without_staged, new_session, with_effect, with_effects, caches, keeps_doc, marks_missing, clears_mark, proxy_after}
 use Rattle.repo_model.specs.May.{May, AllMay}
 use Rattle.repo_model.specs.Command.{Command, look, collect}
 use Rattle.repo_model.specs.Reply.{is_free, collected}
@@ -31,6 +31,7 @@ use Rattle.repo_laws.proofs.Answered.{free-none}
 use Rattle.repo_laws.proofs.Given.{count-append}
 use Rattle.repo_laws.proofs.Histories.{all-keep, with_effects-append, sound-ticked, one-place-ticked, entry-may, sound-entry, one-place-entry}
 use Rattle.repo_laws.proofs.Making.{Common, all-expired, turn-makes}
+use Rattle.repo_laws.proofs.Files.{cached-stays, cached-gains}
 
 -- a number that is taken out of a list where it stands once at most
 one-out : (k n : ℕ) (ms : List ℕ) → count_of k ms ≤ 1 → count_of k ms ≤ count_of k (without_number n ms) + one_if (n == k)
@@ -179,6 +180,15 @@ module _ (grace now : ℕ) (s : State) (n : ℕ) (once : places_of s n ≤ 1) wh
   places-stay (opens m repo) rows files may =
       let none : count_by (stages_it n) [] ≡ 0 = refl in
       omega (arith, none, sum_by_push (λ (x : Session). count_by (stages_it n) x.staged) s.sessions (new_session m repo))
+  places-stay (caches id path blob moment) rows files may =
+      let more = cached-gains n id (proxy_after (caches id path blob moment)) (one_if (blob.number == n)) (λ p. omega (arith, count-with_row (names n) (new_row path blob moment) p.files)) s.proxies may.1 in
+      omega (arith, one-out n blob.number s.yard.drafts (omega (arith, once)), more)
+  places-stay (keeps_doc id path document moment) rows files may =
+      omega (arith, cached-stays n id (proxy_after (keeps_doc id path document moment)) (λ p. omega arith) s.proxies)
+  places-stay (marks_missing id path moment) rows files may =
+      omega (arith, cached-stays n id (proxy_after (marks_missing id path moment)) (λ p. omega arith) s.proxies)
+  places-stay (clears_mark id path) rows files may =
+      omega (arith, cached-stays n id (proxy_after (clears_mark id path)) (λ p. omega arith) s.proxies)
   places-stay (ends m result) rows files may =
       omega (arith, staged-gained n (is_open_at m) (λ session. record session { ended = Some result }) 0 0 s.sessions may.0 may.1 (omega arith))
 
@@ -231,6 +241,10 @@ none-forgotten = record {
   lends_so = λ blob. refl;
   opens_so = λ n repo. refl;
   ends_so = λ n result. refl;
+  caches_so = λ id path blob moment. refl;
+  keeps_doc_so = λ id path document moment. refl;
+  marks_so = λ id path moment. refl;
+  clears_so = λ id path. refl;
 }
 
 all-may-split : (grace now : ℕ) (es fs : List Effect) (s : State) → AllMay grace now s (es ++ fs) → AllMay grace now s es × AllMay grace now (with_effects s es) fs

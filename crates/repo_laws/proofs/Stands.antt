@@ -6,7 +6,7 @@ use Rattle.std.proofs.lemmas.Bool.{false≢true}
 use Rattle.std.proofs.lemmas.Option.{none-some}
 use Rattle.repo_model.specs.Data.{Blob, Row}
 use Rattle.repo_model.specs.State.{State, change_where, is_row, row_at, rows_of}
-use Rattle.repo_model.specs.Effect.{Effect, draws, drops, creates, stages, delivers, discards, relists, fades, expires, forgets, lends, returns, opens, ends, with_row, new_row, list_again, fade, without_row, with_effect}
+use Rattle.repo_model.specs.Effect.{Effect, draws, drops, creates, stages, delivers, discards, relists, fades, expires, forgets, lends, returns, opens, ends, caches, keeps_doc, marks_missing, clears_mark, with_row, new_row, list_again, fade, without_row, with_effect}
 use Rattle.repo_model.specs.May.{May}
 use Rattle.repo_laws.specs.Laws.{Stands, LastsFrom}
 use Rattle.repo_laws.proofs.Rows.{rows-changed}

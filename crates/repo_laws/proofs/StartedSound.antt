@@ -18,7 +18,7 @@ use Rattle.repo_model.specs.History.{latest_moment}
 use Rattle.repo_model.specs.Restart.{with_bytes, is_of, recorded_of, hosted_from, session_from, sessions_from, greatest_session, greatest_number, blobs_named, started}
 use Rattle.repo_laws.specs.Laws.{FadesRightly, rows_with, places_of}
 use Rattle.repo_laws.specs.Numbered.{NumbersApart}
-use Rattle.repo_laws.specs.Sound.{AreNamedApart, AreByPath, IsInOrder, OnePlace, IsSound}
+use Rattle.repo_laws.specs.Sound.{AreNamedApart, AreByPath, IsInOrder, OnePlace, IsSound, AreProxiesApart}
 use Rattle.repo_laws.specs.Holds.{session_cmp, named_in, InOrder}
 use Rattle.repo_laws.specs.InRange.{InRange}
 use Rattle.repo_laws.proofs.Counts.{one_if, names, count-cons, rows_with-cons}
@@ -30,7 +30,10 @@ use Rattle.repo_laws.proofs.Ranges.{range-fading, range-numbers, range-moments}
 use Rattle.repo_laws.proofs.Rows.{rows_in}
 use Rattle.repo_laws.proofs.Untouched.{among-has}
 use Rattle.repo_laws.proofs.Releases.{same_path, other_path, is_itself}
-use Rattle.repo_laws.proofs.Starting.{rising-later, later-from, by-path-of, of-found, rows-under, none-under, each-from, all-from, greatest-from, greatest-below-end, next-above, started-none-staged}
+use Rattle.repo_laws.proofs.StartingRows.{by-path-of, of-found, rows-under, none-under}
+use Rattle.repo_laws.proofs.Starting.{rising-later, later-from, each-from, all-from, greatest-from, greatest-below-end, next-above, started-none-staged}
+use Rattle.repo_laws.proofs.StartedRows.{rows-named}
+use Rattle.repo_laws.proofs.StartingFiles.{files-named, same-proxies, all-files}
 
 module _ (tells : ℕ → Option (List ℕ)) where
   same-rules : (rows : List RecordedRow) (rules : List Rule) → map (λ (h : Hosted). h.rule) (map (hosted_from tells rows) rules) ≡ rules
@@ -50,75 +53,6 @@ module _ (tells : ℕ → Option (List ℕ)) where
         | false ↦ all-recorded P so rows all.1 repo
       ]
 
-  -- how often a blob's number stands in rows
-  module _ (n : ℕ) where
-    abbrev with_rows : List RecordedRow → List Rule → ℕ
-    with_rows rows rules = rows_with n (map (hosted_from tells rows) rules)
-
-    abbrev is_it : RecordedRow → ℕ
-    is_it r = one_if (r.row.blob.number == n)
-
-    one-more : (r : RecordedRow) (rows : List RecordedRow) (repo : List ℕ) → bytes_eq r.repo repo ≡ true
-        → count_by (names n) (recorded_of tells (r ∷ rows) repo) ≡ is_it r + count_by (names n) (recorded_of tells rows repo)
-    one-more r rows repo is =
-        ap (λ b. count_by (names n) (map (λ (x : RecordedRow). with_bytes tells x.row) (cond b (r ∷ filter (is_of repo) rows) (filter (is_of repo) rows)))) is
-        ∙ count-cons (names n) (with_bytes tells r.row) (recorded_of tells rows repo)
-
-    no-more : (r : RecordedRow) (rows : List RecordedRow) (repo : List ℕ) → bytes_eq r.repo repo ≡ false
-        → count_by (names n) (recorded_of tells (r ∷ rows) repo) ≡ count_by (names n) (recorded_of tells rows repo)
-    no-more r rows repo is = ap (λ b. count_by (names n) (map (λ (x : RecordedRow). with_bytes tells x.row) (cond b (r ∷ filter (is_of repo) rows) (filter (is_of repo) rows)))) is
-
-    -- under other ids it does not stand
-    elsewhere : (r : RecordedRow) (rows : List RecordedRow) (rules : List Rule) → find (λ (other : Rule). bytes_eq other.id r.repo) rules ≡ None → with_rows (r ∷ rows) rules ≡ with_rows rows rules
-    elsewhere r rows [] none = refl
-    elsewhere r rows (rule ∷ rules) none =
-        elim (bytes_eq rule.id r.repo) as (λ b. bytes_eq rule.id r.repo ≡ b → cond b (Some rule) (find (λ (other : Rule). bytes_eq other.id r.repo) rules) ≡ None → with_rows (r ∷ rows) (rule ∷ rules) ≡ with_rows rows (rule ∷ rules)) [
-          | true ↦ λ _ found. absurd (none-some rule (sym found))
-          | false ↦ λ other later.
-              let apart : bytes_eq r.repo rule.id ≡ false = other_path r.repo rule.id (λ same. false≢true (sym other ∙ ap (λ id. bytes_eq id r.repo) (sym same) ∙ is_itself r.repo)) in
-              omega (
-                arith,
-                rows_with-cons n (hosted_from tells (r ∷ rows) rule) (map (hosted_from tells (r ∷ rows)) rules),
-                rows_with-cons n (hosted_from tells rows rule) (map (hosted_from tells rows) rules),
-                no-more r rows rule.id apart,
-                elsewhere r rows rules later,
-              )
-        ] refl none
-
-    once-more : (r : RecordedRow) (rows : List RecordedRow) (rules : List Rule) → AreNamedApart rules → with_rows (r ∷ rows) rules ≤ with_rows rows rules + is_it r
-    once-more r rows [] apart = omega arith
-    once-more r rows (rule ∷ rules) apart =
-        elim (bytes_eq r.repo rule.id) as (λ b. bytes_eq r.repo rule.id ≡ b → with_rows (r ∷ rows) (rule ∷ rules) ≤ with_rows rows (rule ∷ rules) + is_it r) [
-          | true ↦ λ is.
-              let none : find (λ (other : Rule). bytes_eq other.id r.repo) rules ≡ None = subst (λ (id : List ℕ). find (λ (other : Rule). bytes_eq other.id id) rules ≡ None) (sym (same_path r.repo rule.id is)) apart.0 in
-              omega (
-                arith,
-                rows_with-cons n (hosted_from tells (r ∷ rows) rule) (map (hosted_from tells (r ∷ rows)) rules),
-                rows_with-cons n (hosted_from tells rows rule) (map (hosted_from tells rows) rules),
-                one-more r rows rule.id is,
-                elsewhere r rows rules none,
-              )
-          | false ↦ λ is.
-              omega (
-                arith,
-                rows_with-cons n (hosted_from tells (r ∷ rows) rule) (map (hosted_from tells (r ∷ rows)) rules),
-                rows_with-cons n (hosted_from tells rows rule) (map (hosted_from tells rows) rules),
-                no-more r rows rule.id is,
-                once-more r rows rules apart.1,
-              )
-        ] refl
-
-    none-at-first : (rules : List Rule) → with_rows [] rules ≡ 0
-    none-at-first [] = refl
-    none-at-first (rule ∷ rules) =
-        let none : count_by (names n) [] ≡ 0 = refl in
-        omega (arith, none, rows_with-cons n (hosted_from tells [] rule) (map (hosted_from tells []) rules), none-at-first rules)
-
-    rows-named : (rows : List RecordedRow) (rules : List Rule) → AreNamedApart rules → with_rows rows rules ≤ count_by (λ (r : RecordedRow). r.row.blob.number == n) rows
-    rows-named [] rules apart = omega (arith, none-at-first rules)
-    rows-named (r ∷ rows) rules apart =
-        omega (arith, once-more r rows rules apart, rows-named rows rules apart, count-cons (λ (x : RecordedRow). x.row.blob.number == n) r rows)
-
 -- sessions of rising numbers are apart
 apart-from : (sessions : List RecordedSession) → IsStrictlySortedBy session_cmp sessions → NumbersApart (sessions_from sessions)
 unfolding IsStrictlySortedBy
@@ -129,12 +63,12 @@ apart-from (x ∷ sessions) rising =
       | (Some result) ↦ (none-any (is_session x.number) (sessions_from sessions) (later-from x.number sessions (rising-later x sessions rising.0)), apart-from sessions rising.1)
     ]
 
-module _ (settings : Settings) (tells : ℕ → Option (List ℕ)) (stored : List ℕ) (clock : Option Moments) (faults : ℕ) (t : Tables) (apart : AreNamedApart settings.hosted) (order : InOrder t) (range : InRange t) where
+module _ (settings : Settings) (tells : ℕ → Option (List ℕ)) (stored : List ℕ) (clock : Option Moments) (faults : ℕ) (t : Tables) (apart : AreNamedApart settings.hosted) (named : AreProxiesApart settings.proxies) (order : InOrder t) (range : InRange t) where
   abbrev s : State
   s = started settings tells stored clock faults t
 
   in-places : (n : ℕ) → places_of s n ≤ named_in t n
-  in-places n = omega (arith, rows-named tells n t.hosted settings.hosted apart, started-none-staged settings tells stored clock faults t order range n)
+  in-places n = omega (arith, rows-named tells n t.hosted settings.hosted apart, files-named tells t n settings.proxies named, started-none-staged settings tells stored clock faults t order range n)
 
   not-named : (n : ℕ) → (IsTrue (names_blob n t) → ⊥) → places_of s n ≡ 0
   not-named n never =
@@ -167,6 +101,8 @@ module _ (settings : Settings) (tells : ℕ → Option (List ℕ)) (stored : Lis
     order = record {
       rules = same-rules tells t.hosted settings.hosted;
       rows = all-hosted tells AreByPath t.hosted (λ repo. by-path-of tells repo t.hosted order.hosted) settings.hosted;
+      proxies = same-proxies tells t settings.proxies;
+      files = all-files tells t AreByPath (λ id. by-path-of tells id t.cached order.cached) settings.proxies;
       sessions = each-from (IsInOrder settings) (λ n result. ((λ none. absurd (none-some result (sym none))), tt)) t.sessions;
       draft = let below = greatest-below-end (blobs_named t ++ stored) 0 (omega arith) in omega (arith, below);
       lease = omega arith;

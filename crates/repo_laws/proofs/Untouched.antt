@@ -1,24 +1,24 @@
 -- What a Collect gave out to be removed stands nowhere from then on.
 use native.Mathlib.Omega.{arith}
-use Rattle.std.proofs.Common.{◌≡◌, ◌<◌, ℕ, Bool, true, false, not, cond, ◌||◌, List, [], ◌∷◌, ◌++◌, length, refl, sym, ◌∙◌, ap, subst, eqb-true}
+use Rattle.std.proofs.Common.{◌≡◌, ◌<◌, ◌+◌, ℕ, Bool, true, false, not, cond, ◌||◌, List, [], ◌∷◌, ◌++◌, length, refl, sym, ◌∙◌, ap, subst, eqb-true}
 use Rattle.std.specs.Prelude.{◌==◌, nat_lt, filter, if◌then◌else◌}
 use Rattle.std.specs.List.{AllByRecursion, list_any}
 use Rattle.std.proofs.lemmas.Bool.{false≢true, ne_eqb, or_from, or_parts, false_from_ne_true, ltb-true, ltb-false}
 use Rattle.repo_model.specs.Settings.{Settings}
 use Rattle.repo_model.specs.State.{State, Lease, is_among}
-use Rattle.repo_model.specs.Effect.{Effect, draws, drops, creates, stages, delivers, discards, relists, fades, expires, forgets, lends, returns, opens, ends, with_effect, with_effects}
+use Rattle.repo_model.specs.Effect.{Effect, draws, drops, creates, stages, delivers, discards, relists, fades, expires, forgets, lends, returns, opens, ends, caches, keeps_doc, marks_missing, clears_mark, with_effect, with_effects}
 use Rattle.repo_model.specs.May.{May}
 use Rattle.repo_model.specs.Command.{Command, look, collect}
 use Rattle.repo_model.specs.Reply.{Reply, collected, is_free}
 use Rattle.repo_model.specs.Purge.{expire_all}
 use Rattle.repo_model.specs.Turn.{turn, unlent}
 use Rattle.repo_model.specs.History.{Entry, Fits, IsReply, due, wants_memory, failed, ticked, effects_of, after, Legal}
-use Rattle.repo_laws.specs.Laws.{places_of, rows_with, count_of}
+use Rattle.repo_laws.specs.Laws.{places_of, rows_with, cached_with, count_of}
 use Rattle.repo_laws.specs.Sound.{AreNamedApart, Sound, OnePlace}
 use Rattle.repo_laws.specs.Closed.{given_out, IsGone, StaysGone, Untouched}
 use Rattle.repo_laws.proofs.ByPath.{all-apart}
-use Rattle.repo_laws.proofs.Counts.{one_if, count-cons, among-counts, row-counts}
-use Rattle.repo_laws.proofs.Places.{places-counted, next-counted, never-again, one-place-kept}
+use Rattle.repo_laws.proofs.Counts.{one_if, count-cons, among-counts}
+use Rattle.repo_laws.proofs.Places.{rows-blob-counts, places-counted, next-counted, never-again, one-place-kept}
 use Rattle.repo_laws.proofs.Orderly.{sound-kept}
 use Rattle.repo_laws.proofs.Purges.{expires-all}
 use Rattle.repo_laws.proofs.Turns.{unlent-has}
@@ -67,10 +67,9 @@ count-forgotten k blobs (m ∷ ms) among =
 unborrowed : (grace now : ℕ) (s : State) (e : Effect) (n : ℕ) → May grace now s e → places_of s n ≡ 0
     → list_any (λ (l : Lease). l.blob == n) s.yard.leases ≡ false → list_any (λ (l : Lease). l.blob == n) (with_effect s e).yard.leases ≡ false
 unborrowed grace now s (lends blob) n may nowhere none =
-    let (repo, path, row, _, found, named) = may in
-    let there : 0 < rows_with blob s.hosted = subst (λ (k : ℕ). 0 < rows_with k s.hosted) named (row-counts repo path s.hosted row found) in
+    let there : 0 < rows_with blob s.hosted + cached_with blob s.proxies = rows-blob-counts s blob may.1 in
     any-push (λ l. l.blob == n) s.yard.leases (record { number = s.yard.next_lease; blob = blob }) none
-    (ne_eqb blob n (λ same. let here : 0 < rows_with n s.hosted = subst (λ (k : ℕ). 0 < rows_with k s.hosted) same there in omega (arith, here, nowhere)))
+    (ne_eqb blob n (λ same. let here : 0 < rows_with n s.hosted + cached_with n s.proxies = subst (λ (k : ℕ). 0 < rows_with k s.hosted + cached_with k s.proxies) same there in omega (arith, here, nowhere)))
 unborrowed grace now s (returns lease) n may nowhere none = any-filter (λ l. l.blob == n) (λ l. not (l.number == lease)) s.yard.leases none
 unborrowed grace now s e n may nowhere none = none
 

@@ -1,5 +1,5 @@
 -- Why a command is refused: by the command, the cause of each refusal that it can get.
-use Rattle.std.specs.Prelude.{◌≡◌, ◌≢◌, ℕ, ◌<◌, ◌≤◌, false, List, [], ◌∷◌, ◌++◌, length, find, count_by, Option, Some, None, Result, Ok, Err, IsTrue}
+use Rattle.std.specs.Prelude.{◌≡◌, ◌≢◌, ℕ, ◌<◌, ◌≤◌, false, List, [], ◌∷◌, ◌++◌, length, find, count_by, Option, Some, None, Result, Ok, Err, IsTrue, true}
 use Rattle.std.specs.Option.{option_map, option_and_then}
 use Rattle.std.specs.List.{AllByRecursion}
 use Rattle.std.specs.Ordering.{nat_cmp}
@@ -13,16 +13,17 @@ use Rattle.mvn_coords.specs.declared.fault.Side.{Side}
 use Rattle.mvn_coords.specs.Layout.{Coordinates, text_of, version_directory_of}
 use Rattle.mvn_digest.specs.Sides.{side_of}
 use Rattle.repo_model.specs.declared.print.Print.{Print}
-use Rattle.repo_model.specs.Data.{Blob, Row, Staged, Session, Place, repository, session}
+use Rattle.repo_model.specs.Data.{Blob, Row, Staged, Session, Place, repository, session, Hosted}
 use Rattle.repo_model.specs.Paths.{file_at}
 use Rattle.repo_model.specs.Document.{listed_in}
-use Rattle.repo_model.specs.State.{State, row_at, rows_of, session_of, open_of, is_open, is_staged, is_among, number_end, most_sessions, most_staged}
-use Rattle.repo_model.specs.Command.{Command, look, may_put, put, put_side, put_doc, open_session, stage, commit, abort}
-use Rattle.repo_model.specs.Reply.{Reply, missed, kind_refused, no_draft, taken, not_there, differs, no_session, sessions_full, session_full, offends, missing_pom, spent}
+use Rattle.repo_model.specs.State.{State, row_at, rows_of, session_of, open_of, is_open, is_staged, is_among, number_end, most_sessions, most_staged, hosted_of}
+use Rattle.repo_model.specs.Command.{Command, look, may_put, put, put_side, put_doc, open_session, stage, commit, abort, land}
+use Rattle.repo_model.specs.Reply.{Reply, missed, kind_refused, no_draft, taken, not_there, differs, no_session, sessions_full, session_full, offends, missing_pom, spent, blocked, negative, never_asked}
 use Rattle.repo_model.specs.Deploy.{has_pom, pom_of}
-use Rattle.repo_model.specs.Turn.{staged_at}
+use Rattle.repo_model.specs.Turn.{staged_at, Seen, is_nothing, is_blocked, is_negative, is_never, is_file, is_to_fetch, look_at}
 use Rattle.repo_laws.specs.Laws.{AnyByRecursion}
 use Rattle.repo_laws.specs.Replies.{takes_at}
+use Rattle.repo_model.specs.Settings.{Settings}
 
 -- there is nothing at a path: no row of the file, or no visible row of the directory
 abbrev pub HasNothing : List Row → List ℕ → Result Kind PathFault → Type 0
@@ -36,10 +37,28 @@ HasNothing rows path (Err fault) = Unit {0}
 abbrev pub HasFile : List Row → List ℕ → Type 0
 HasFile rows path = (c : Coordinates) × (row : Row) × (kind path ≡ Ok (File c)) × (row_at path rows ≡ Some row)
 
-abbrev pub LookRefused : State → List ℕ → List ℕ → Reply → Type 0
-LookRefused s repo path missed = HasNothing (rows_of repo s) path (kind path)
-LookRefused s repo path spent = HasFile (rows_of repo s) path × (s.yard.next_lease ≡ number_end)
-LookRefused s repo path reply = ⊥
+-- why a look at a hosted repository is refused
+abbrev pub HostedRefused : State → List Row → List ℕ → Reply → Type 0
+HostedRefused s rows path missed = HasNothing rows path (kind path)
+HostedRefused s rows path spent = HasFile rows path × (s.yard.next_lease ≡ number_end)
+HostedRefused s rows path reply = ⊥
+
+-- why one at a proxy or a group is, by what is decided there: nothing, or a number is wanting for the file or for its fetch
+abbrev pub SeenRefused : State → Seen → Reply → Type 0
+SeenRefused s is_nothing missed = Unit {0}
+SeenRefused s is_blocked blocked = Unit {0}
+SeenRefused s is_negative negative = Unit {0}
+SeenRefused s is_never never_asked = Unit {0}
+SeenRefused s (is_file blob) spent = s.yard.next_lease ≡ number_end
+SeenRefused s (is_to_fetch member rule path true) spent = s.yard.next_draft ≡ number_end
+SeenRefused s seen reply = ⊥
+
+abbrev pub RefusedAt : Settings → State → ℕ → List ℕ → List ℕ → List ℕ → Reply → Option Hosted → Type 0
+RefusedAt settings s now id path tried reply (Some h) = HostedRefused s h.rows path reply
+RefusedAt settings s now id path tried reply None = SeenRefused s (look_at settings s now id tried path) reply
+
+abbrev pub LookRefused : Settings → State → ℕ → List ℕ → List ℕ → List ℕ → Reply → Type 0
+LookRefused settings s now id path tried reply = RefusedAt settings s now id path tried reply (hosted_of id s)
 
 -- so many files are staged as may be, none of them at the path
 abbrev pub IsFull : List ℕ → List Staged → Type 0
@@ -141,15 +160,21 @@ abbrev pub AbortRefused : State → ℕ → Reply → Type 0
 AbortRefused s n no_session = session_of n s ≡ None
 AbortRefused s n reply = ⊥
 
+-- what lands stands under a draft that is none any more
+abbrev pub LandRefused : State → Option ℕ → Reply → Type 0
+LandRefused s (Some n) no_draft = is_among n s.yard.drafts ≡ false
+LandRefused s under reply = ⊥
+
 -- the cause of a refusal, by the command; without one the command can't get it
-abbrev pub Cause : State → Command → Reply → Type 0
-Cause s (look repo path tried) reply = LookRefused s repo path reply
-Cause s (may_put place path) reply = MayPutRefused s place path reply
-Cause s (put repo path n blob) reply = PutRefused s repo path n blob reply
-Cause s (put_side place path said) reply = SideRefused s place path said reply
-Cause s (put_doc place path) reply = DocRefused s place reply
-Cause s (open_session repo) reply = OpenRefused s reply
-Cause s (stage at path n blob) reply = StageRefused s at path n blob reply
-Cause s (commit n) reply = CommitRefused s n reply
-Cause s (abort n) reply = AbortRefused s n reply
-Cause s command reply = ⊥
+abbrev pub Cause : Settings → State → ℕ → Command → Reply → Type 0
+Cause settings s now (look repo path tried) reply = LookRefused settings s now repo path tried reply
+Cause settings s now (may_put place path) reply = MayPutRefused s place path reply
+Cause settings s now (put repo path n blob) reply = PutRefused s repo path n blob reply
+Cause settings s now (put_side place path said) reply = SideRefused s place path said reply
+Cause settings s now (put_doc place path) reply = DocRefused s place reply
+Cause settings s now (open_session repo) reply = OpenRefused s reply
+Cause settings s now (stage at path n blob) reply = StageRefused s at path n blob reply
+Cause settings s now (commit n) reply = CommitRefused s n reply
+Cause settings s now (abort n) reply = AbortRefused s n reply
+Cause settings s now (land plan outcome) reply = LandRefused s plan.draft reply
+Cause settings s now command reply = ⊥

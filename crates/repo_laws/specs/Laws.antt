@@ -1,7 +1,7 @@
 -- Words of the laws.
 use Rattle.std.specs.Prelude.{◌≡◌, ℕ, ◌+◌, ◌≤◌, ◌==◌, ◌⊎◌, true, false, List, [], ◌∷◌, find, None, Some, sum_by, count_by}
 use Rattle.std.specs.List.{AllByRecursion}
-use Rattle.repo_model.specs.Data.{Blob, Row, Phase, listed, fading, Hosted, Session, Staged}
+use Rattle.repo_model.specs.Data.{Blob, Row, Phase, listed, fading, Hosted, Proxy, Session, Staged}
 use Rattle.repo_model.specs.Paths.{is_snapshot_path}
 use Rattle.repo_model.specs.State.{State, Lease, row_at, rows_of, is_staged}
 
@@ -29,12 +29,15 @@ count_of n ns = count_by (λ m. m == n) ns
 abbrev pub rows_with : ℕ → List Hosted → ℕ
 rows_with n hosted = sum_by (λ h. count_by (λ (row : Row). row.blob.number == n) h.rows) hosted
 
+abbrev pub cached_with : ℕ → List Proxy → ℕ
+cached_with n proxies = sum_by (λ (p : Proxy). count_by (λ (row : Row). row.blob.number == n) p.files) proxies
+
 abbrev pub staged_with : ℕ → List Session → ℕ
 staged_with n sessions = sum_by (λ (s : Session). count_by (λ (f : Staged). f.blob.number == n) s.staged) sessions
 
 -- in how many places a blob number stands
 abbrev pub places_of : State → ℕ → ℕ
-places_of s n = count_of n s.yard.drafts + rows_with n s.hosted + staged_with n s.sessions + count_of n s.yard.condemned
+places_of s n = count_of n s.yard.drafts + rows_with n s.hosted + cached_with n s.proxies + staged_with n s.sessions + count_of n s.yard.condemned
 
 -- how many leases have a number
 abbrev pub leases_of : State → ℕ → ℕ
@@ -53,3 +56,7 @@ LastsFrom t (fading since) = t ≤ since
 -- a blob stands at a path, and was visible at a moment or later
 abbrev pub Stands : List ℕ → Blob → ℕ → List Row → Type 0
 Stands path blob t rows = (row : Row) × (row_at path rows ≡ Some row) × (row.blob ≡ blob) × LastsFrom t row.phase
+
+-- a row as the tables keep it
+abbrev pub without_bytes : Row → Row
+without_bytes row = record row { blob = record row.blob { bytes = None } }

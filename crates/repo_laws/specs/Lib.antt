@@ -1,9 +1,13 @@
 pub mod Laws
 pub mod Replies
+pub mod Looks
 pub mod Sound
 pub mod Closed
+pub mod Proxied
 pub mod Worked
+pub mod Fetches
 pub mod Holds
+pub mod Files
 pub mod Numbered
 pub mod Items
 pub mod Staged

@@ -1,11 +1,11 @@
 -- Words of the laws on replies: refusals and what they give up, entries that spend a draft, replies that may change rows, entries that ask alike, and the moments of a history.
-use Rattle.std.specs.Prelude.{◌≡◌, ◌↔◌, ℕ, Bool, true, false, not, ◌&&◌, ◌==◌, List, [], ◌∷◌, map}
+use Rattle.std.specs.Prelude.{◌≡◌, ◌↔◌, ℕ, Bool, true, false, not, ◌&&◌, ◌==◌, List, [], ◌∷◌, map, Option, None, Some}
 use Rattle.repo_model.specs.declared.session.SessionResult.TheVariants.{Aborted, Done}
 use Rattle.repo_model.specs.Paths.{takes}
 use Rattle.repo_model.specs.State.{State, hosted_of, open_of}
 use Rattle.repo_model.specs.Effect.{Effect, drops}
-use Rattle.repo_model.specs.Command.{Command, put, stage, drop_draft, is_fit}
-use Rattle.repo_model.specs.Reply.{Reply, file, text, doc, missed, given_back, kind_refused, draft, no_draft, taken, same, relisted, created, not_there, differs, agreed, noted, dropped, no_session, sessions_full, opened, session_full, staged, offends, missing_pom, ended, unlisted, collected, counts, spent, no_memory, store_fault, is_free}
+use Rattle.repo_model.specs.Command.{Command, put, stage, drop_draft, land, is_fit}
+use Rattle.repo_model.specs.Reply.{Reply, file, text, doc, missed, given_back, kind_refused, draft, no_draft, taken, same, relisted, created, not_there, differs, agreed, noted, dropped, no_session, sessions_full, opened, session_full, staged, offends, missing_pom, ended, unlisted, collected, counts, spent, no_memory, store_fault, fetches, blocked, negative, never_asked, landed, is_free}
 use Rattle.repo_model.specs.Turn.{has_room}
 use Rattle.repo_model.specs.History.{Entry}
 
@@ -40,6 +40,11 @@ is_refusal (unlisted n) = false
 is_refusal (collected expired blobs) = false
 is_refusal (counts files faded cached documents sessions) = false
 is_refusal spent = true
+is_refusal (fetches plan) = false
+is_refusal blocked = true
+is_refusal negative = true
+is_refusal never_asked = true
+is_refusal landed = false
 is_refusal no_memory = true
 is_refusal store_fault = true
 
@@ -51,12 +56,24 @@ given_up (stage at path n blob) no_session = drops n ∷ []
 given_up (stage at path n blob) session_full = drops n ∷ []
 given_up command reply = []
 
--- a command puts, stages or drops this draft
+-- what lands stands under this draft
+abbrev pub is_under : ℕ → Option ℕ → Bool
+is_under n None = false
+is_under n (Some m) = m == n
+
+-- a command puts, stages, lands or drops this draft
 abbrev pub uses_draft : ℕ → Command → Bool
 uses_draft n (put repo path m blob) = m == n
 uses_draft n (stage at path m blob) = m == n
 uses_draft n (drop_draft m) = m == n
+uses_draft n (land plan outcome) = is_under n plan.draft
 uses_draft n command = false
+
+-- a reply gives a draft: by itself, or with what is to be fetched
+abbrev pub GivesDraft : ℕ → Reply → Type 0
+GivesDraft n (draft m) = m ≡ n
+GivesDraft n (fetches plan) = plan.draft ≡ Some n
+GivesDraft n reply = ⊥
 
 -- the replies behind which a draft stands as it did
 abbrev pub leaves_drafts : Reply → Bool
@@ -99,6 +116,11 @@ may_change_rows (unlisted n) = true
 may_change_rows (collected expired blobs) = true
 may_change_rows (counts files faded cached documents sessions) = false
 may_change_rows spent = false
+may_change_rows (fetches plan) = false
+may_change_rows blocked = false
+may_change_rows negative = false
+may_change_rows never_asked = false
+may_change_rows landed = false
 may_change_rows no_memory = false
 may_change_rows store_fault = false
 

@@ -4,18 +4,23 @@ use Rattle.std.specs.List.{AllByRecursion}
 use Rattle.std.specs.Ordering.{nat_cmp}
 use Rattle.std.specs.declared.cmp.Ordering.TheVariants.{Less}
 use Rattle.std.specs.Cmp.Lexicographic.{slice_cmp}
-use Rattle.repo_model.specs.Data.{Row, Hosted, Session}
-use Rattle.repo_model.specs.Settings.{Rule, Settings}
+use Rattle.repo_model.specs.Data.{Row, Hosted, Proxy, Session}
+use Rattle.repo_model.specs.Settings.{Rule, Settings, ProxyRule}
 use Rattle.repo_model.specs.State.{State, Lease, row_at, number_end}
 use Rattle.repo_model.specs.Command.{is_there}
 use Rattle.repo_model.specs.History.{latest_moment}
 use Rattle.repo_laws.specs.Numbered.{Numbered}
-use Rattle.repo_laws.specs.Laws.{FadingAreSnapshots, AreApart, places_of, leases_of, rows_with, count_of}
+use Rattle.repo_laws.specs.Laws.{FadingAreSnapshots, AreApart, places_of, leases_of, rows_with, cached_with, count_of}
 
 -- no later rule has the id of an earlier one
 abbrev pub AreNamedApart : List Rule → Type 0
 AreNamedApart [] = Unit {0}
 AreNamedApart (rule ∷ rules) = (find (λ other. bytes_eq other.id rule.id) rules ≡ None) × AreNamedApart rules
+
+-- no later proxy has the id of an earlier one
+abbrev pub AreProxiesApart : List ProxyRule → Type 0
+AreProxiesApart [] = Unit {0}
+AreProxiesApart (rule ∷ rules) = (find (λ other. bytes_eq other.id rule.id) rules ≡ None) × AreProxiesApart rules
 
 -- the path is below that of a row, in byte order
 abbrev pub IsBelow : List ℕ → Row → Type 0
@@ -34,6 +39,8 @@ IsInOrder settings one = (one.ended ≡ None → IsTrue (is_there one.repo setti
 pub record Sound (settings : Settings) (s : State) : Type 0 where
   pub rules : map (λ h. h.rule) s.hosted ≡ settings.hosted
   pub rows : AllByRecursion (λ (h : Hosted). AreByPath h.rows) s.hosted
+  pub proxies : map (λ (p : Proxy). p.rule) s.proxies ≡ settings.proxies
+  pub files : AllByRecursion (λ (p : Proxy). AreByPath p.files) s.proxies
   pub sessions : AllByRecursion (IsInOrder settings) s.sessions
   pub draft : s.yard.next_draft ≤ number_end
   pub lease : s.yard.next_lease ≤ number_end
@@ -45,7 +52,7 @@ pub record OnePlace (s : State) : Type 0 where
   pub later : (n : ℕ) → s.yard.next_draft ≤ n → places_of s n ≡ 0
   pub none : places_of s 0 ≡ 0
   pub begun : 0 < s.yard.next_draft
-  pub lent : AllByRecursion (λ (lease : Lease). 0 < rows_with lease.blob s.hosted + count_of lease.blob s.yard.condemned) s.yard.leases
+  pub lent : AllByRecursion (λ (lease : Lease). 0 < rows_with lease.blob s.hosted + cached_with lease.blob s.proxies + count_of lease.blob s.yard.condemned) s.yard.leases
 
 -- each lease that is taken has a number of its own, which was drawn
 pub record LentOnce (s : State) : Type 0 where

@@ -15,9 +15,9 @@ ghost use Rattle.repo_laws.specs.Replies.{is_refusal};
 /// entry, but where memory is wanting.
 pub fn refusals_have_causes()
     ensures turn { (settings : Settings) (s : State) (now : ℕ) (c : Command) (r : Reply) → IsTrue (is_refusal r)
-        → ((turn settings s now c).reply ≡ r) ↔ Cause s c r }
+        → ((turn settings s now c).reply ≡ r) ↔ Cause settings s now c r }
     ensures entry { (settings : Settings) (old : State) (e : Entry) → Fits settings old e → is_free e.reply ≡ false → IsTrue (is_refusal e.reply)
-        → Cause old e.command e.reply }
-    ensures comes { (settings : Settings) (old : State) (e : Entry) (r : Reply) → Fits settings old e → IsTrue (is_refusal r) → Cause old e.command r
+        → Cause settings old e.moment e.command e.reply }
+    ensures comes { (settings : Settings) (old : State) (e : Entry) (r : Reply) → Fits settings old e → IsTrue (is_refusal r) → Cause settings old e.moment e.command r
         → (e.reply ≡ r) ⊎ (e.reply ≡ no_memory) }
 {}

@@ -44,8 +44,8 @@ pub fn served_names_are_answered()
 pub fn documents_are_computed()
     ensures document { (settings : Settings) (s : State) (e : Entry) (repo path tried : List ℕ) (d : Directory) (bytes : List ℕ) (digests : Digests)
         → Fits settings s e → e.command ≡ look repo path tried → kind path ≡ Ok (Doc d) → e.reply ≡ doc bytes digests
-        → (served : Document) × AnswersDocument s e repo d served × (bytes ≡ written.text served) × (digests ≡ digests_of bytes) }
+        → (served : Document) × AnswersDocument settings s e repo d served × (bytes ≡ written.text served) × (digests ≡ digests_of bytes) }
     ensures side { (settings : Settings) (s : State) (e : Entry) (repo path tried : List ℕ) (d : Directory) (side : Side) (bytes : List ℕ)
         → Fits settings s e → e.command ≡ look repo path tried → kind path ≡ Ok (DocSide d side) → e.reply ≡ text bytes
-        → (served : Document) × AnswersDocument s e repo d served × (bytes ≡ side_text side (digests_of (written.text served))) }
+        → (served : Document) × AnswersDocument settings s e repo d served × (bytes ≡ side_text side (digests_of (written.text served))) }
 {}

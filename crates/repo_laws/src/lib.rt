@@ -7,6 +7,7 @@ pub mod causes;
 pub mod deployed;
 pub mod documents;
 pub mod numbers;
+pub mod proxies;
 pub mod replies;
 pub mod restarts;
 pub mod states;

@@ -1,23 +1,25 @@
 //! Numbers of blobs, leases and sessions.
-ghost use Rattle.std.specs.Prelude.{false, ◌≡◌, ◌≢◌, ℕ, ◌+◌, ◌<◌, ◌≤◌, ◌^◌, ◌⊎◌, ◌↔◌, List, [], ◌∷◌, ◌++◌, Option, IsTrue, count_by, length};
+ghost use Rattle.std.specs.Prelude.{true, false, ◌≡◌, ◌≢◌, ℕ, ◌+◌, ◌<◌, ◌≤◌, ◌^◌, ◌⊎◌, ◌↔◌, List, [], ◌∷◌, ◌++◌, Option, IsTrue, count_by, length};
 ghost use Rattle.std.specs.List.{list_any};
 ghost use Rattle.mvn_coords.specs.Kind.{kind};
 ghost use Rattle.outside.specs.Moments.{Moments};
-ghost use Rattle.repo_model.specs.Settings.{Settings};
+ghost use Rattle.fetch_plan.specs.declared.Plan.{Plan};
+ghost use Rattle.repo_model.specs.Fetched.{Landing};
+ghost use Rattle.repo_model.specs.Settings.{Settings, ProxyRule};
 ghost use Rattle.repo_model.specs.Data.{Blob, repository, session};
 ghost use Rattle.repo_model.specs.State.{State, opening, rows_of, is_open, is_among, number_end, most_sessions, most_staged};
 ghost use Rattle.repo_model.specs.Purge.{most_rows};
 ghost use Rattle.repo_model.specs.Effect.{Effect, with_effect};
 ghost use Rattle.repo_model.specs.May.{May};
-ghost use Rattle.repo_model.specs.Command.{look, done, may_put, put, stage, drop_draft, open_session, collect};
+ghost use Rattle.repo_model.specs.Command.{land, look, done, may_put, put, stage, drop_draft, open_session, collect};
 ghost use Rattle.repo_model.specs.Reply.{file, draft, no_draft, spent, collected, is_free};
-ghost use Rattle.repo_model.specs.Turn.{turn, most_collected, seen_at, is_file};
+ghost use Rattle.repo_model.specs.Turn.{turn, most_collected, seen_at, is_file, look_at, is_to_fetch};
 ghost use Rattle.repo_model.specs.History.{Entry, Fits, Legal, after, end};
 ghost use Rattle.repo_laws.specs.Laws.{places_of, leases_of, count_of};
 ghost use Rattle.repo_laws.specs.Sound.{AreNamedApart, IsSound};
 ghost use Rattle.repo_laws.specs.Closed.{IsGone, IsLentAs, all_given_out, Untouched, ReadersLast};
 ghost use Rattle.repo_laws.specs.Collected.{IsUnlent, IsFirstGarbage, cleared};
-ghost use Rattle.repo_laws.specs.Replies.{takes_at, takes_in, uses_draft, spends};
+ghost use Rattle.repo_laws.specs.Replies.{is_under, takes_at, takes_in, uses_draft, spends, GivesDraft};
 
 /// In every legal history from the opening state a blob number that was drawn stands in exactly one place (a draft, a row, a
 /// staged file or garbage) or was given out once to be removed; any other stands in none and was not given out.
@@ -43,13 +45,15 @@ pub fn readers_last()
         → ReadersLast settings s entries }
 {}
 
-/// A draft serves once: the command that puts, stages or drops it gives it up, and it is never drawn again. It stands until then:
+/// A draft serves once: the command that puts, stages, lands or drops it gives it up, and it is never drawn again. It stands until then:
 /// who was given a draft and is answered that it is none comes behind another entry that spent it.
 pub fn drafts_serve_once()
     ensures put { (settings : Settings) (old : State) (e : Entry) (repo path : List ℕ) (n : ℕ) (blob : Blob) → Fits settings old e
         → e.command ≡ put repo path n blob → is_free e.reply ≡ false → count_of n (after settings old e).yard.drafts ≡ 0 }
     ensures staged { (settings : Settings) (old : State) (e : Entry) (at : ℕ) (path : List ℕ) (n : ℕ) (blob : Blob) → Fits settings old e
         → e.command ≡ stage at path n blob → is_free e.reply ≡ false → count_of n (after settings old e).yard.drafts ≡ 0 }
+    ensures landed { (settings : Settings) (old : State) (e : Entry) (plan : Plan) (outcome : Landing) (n : ℕ) → Fits settings old e
+        → e.command ≡ land plan outcome → IsTrue (is_under n plan.draft) → is_free e.reply ≡ false → count_of n (after settings old e).yard.drafts ≡ 0 }
     ensures dropped { (settings : Settings) (old : State) (e : Entry) (n : ℕ) → Fits settings old e
         → e.command ≡ drop_draft n → count_of n (after settings old e).yard.drafts ≡ 0 }
     ensures gone { (settings : Settings) (old : State) (e : Entry) (n : ℕ) → n < old.yard.next_draft → count_of n old.yard.drafts ≡ 0
@@ -57,7 +61,7 @@ pub fn drafts_serve_once()
     ensures kept { (settings : Settings) (old : State) (e : Entry) (n : ℕ) → Fits settings old e → IsTrue (is_among n old.yard.drafts)
         → spends n e ≡ false → IsTrue (is_among n (after settings old e).yard.drafts) }
     ensures spent_between { (settings : Settings) (old : State) (given asked : Entry) (between : List Entry) (n : ℕ)
-        → Legal settings old (given ∷ between ++ asked ∷ []) → given.reply ≡ draft n → IsTrue (uses_draft n asked.command) → asked.reply ≡ no_draft
+        → Legal settings old (given ∷ between ++ asked ∷ []) → GivesDraft n given.reply → IsTrue (uses_draft n asked.command) → asked.reply ≡ no_draft
         → IsTrue (list_any (spends n) between) }
 {}
 
@@ -80,7 +84,8 @@ pub fn numbers_are_spent()
         ((turn settings s now (may_put (session n) path)).reply ≡ spent) ↔ (IsTrue (takes_in n path s) × (s.yard.next_draft ≡ number_end)) }
     ensures leases { (settings : Settings) (s : State) (now : ℕ) (repo path tried : List ℕ) →
         ((turn settings s now (look repo path tried)).reply ≡ spent)
-        ↔ (((blob : Blob) × (seen_at (rows_of repo s) path (kind path) ≡ is_file blob)) × (s.yard.next_lease ≡ number_end)) }
+        ↔ ((((blob : Blob) × (look_at settings s now repo tried path ≡ is_file blob)) × (s.yard.next_lease ≡ number_end))
+        ⊎ (((member : ℕ) × (rule : ProxyRule) × (at : List ℕ) × (look_at settings s now repo tried path ≡ is_to_fetch member rule at true)) × (s.yard.next_draft ≡ number_end))) }
     ensures sessions { (settings : Settings) (s : State) (now : ℕ) (repo : List ℕ) →
         ((turn settings s now (open_session repo)).reply ≡ spent) ↔ ((count_by is_open s.sessions < most_sessions) × (s.yard.next_session ≡ number_end)) }
 {}

@@ -12,7 +12,7 @@ ghost use Rattle.repo_model.specs.Command.{is_there};
 ghost use Rattle.repo_model.specs.Tables.{Tables, no_tables, recorded_at, item_on, fits_on, applied};
 ghost use Rattle.repo_model.specs.History.{Entry, Legal, end};
 ghost use Rattle.repo_model.specs.Restart.{with_bytes, started};
-ghost use Rattle.repo_laws.specs.Sound.{AreNamedApart, IsSound};
+ghost use Rattle.repo_laws.specs.Sound.{AreNamedApart, AreProxiesApart, IsSound};
 ghost use Rattle.repo_laws.specs.Holds.{InOrder, Holds, StandsFor, with_items, told};
 ghost use Rattle.repo_laws.specs.Closed.{named, AnswersDocument};
 ghost use Rattle.repo_laws.specs.InRange.{InRange, IsItemInRange, Completes, IsFoundSince, Run, Follow, AnsweredOn};
@@ -24,7 +24,7 @@ pub fn starts_stand_for_tables()
     ensures stands { (settings : Settings) (tells : ℕ → Option (List ℕ)) (stored : List ℕ) (clock : Option Moments) (faults : ℕ) (t : Tables)
         → InOrder t → InRange t → StandsFor t (started settings tells stored clock faults t) }
     ensures sound { (settings : Settings) (tells : ℕ → Option (List ℕ)) (stored : List ℕ) (clock : Option Moments) (faults : ℕ) (t : Tables)
-        → AreNamedApart settings.hosted → InOrder t → InRange t → IsSound settings (started settings tells stored clock faults t) }
+        → AreNamedApart settings.hosted → AreProxiesApart settings.proxies → InOrder t → InRange t → IsSound settings (started settings tells stored clock faults t) }
     ensures rows { (settings : Settings) (tells : ℕ → Option (List ℕ)) (stored : List ℕ) (clock : Option Moments) (faults : ℕ) (t : Tables) (repo path : List ℕ)
         → row_at path (rows_of repo (started settings tells stored clock faults t))
         ≡ (if is_there repo settings then option_map (with_bytes tells) (recorded_at repo path t.hosted) else None) }
@@ -63,6 +63,6 @@ pub fn served_names_outlast_restarts()
     ensures { (settings : Settings) (before : List Entry) (e : Entry) (rest : List Entry) (s : State) (t : Tables) (runs : List Run) (repo : List ℕ) (d : Directory)
         (served : Document) → AreNamedApart settings.hosted → IsSound settings s → InOrder t → Holds t s → Legal settings s (before ++ e ∷ rest)
         → Follow settings (with_items t (told settings s (before ++ e ∷ rest))) (end settings s (before ++ e ∷ rest)).last runs
-        → AnswersDocument (end settings s before) e repo d served
+        → AnswersDocument settings (end settings s before) e repo d served
         → AllByRecursion (λ (row : Row). AnsweredOn (e.moment + settings.grace) repo row.path row.blob settings runs) (named d (rows_of repo (end settings s before)) served) }
 {}

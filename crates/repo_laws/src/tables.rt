@@ -25,9 +25,10 @@ ghost use Rattle.repo_model.specs.Deploy.{Offence, offence_at, offence};
 ghost use Rattle.repo_model.specs.Turn.{says, unlent, turn};
 ghost use Rattle.repo_model.specs.History.{Entry, Fits, Legal, effects_of, after, end};
 ghost use Rattle.repo_model.specs.Tables.{Tables, RecordedSession, no_tables, recorded_at, names_blob, is_session, item_on, fits_on, applied, greatest_moment};
+ghost use Rattle.repo_laws.specs.Laws.{without_bytes};
 ghost use Rattle.repo_laws.specs.Sound.{AreNamedApart, OnePlace, IsSound};
 ghost use Rattle.repo_laws.specs.Numbered.{Numbered};
-ghost use Rattle.repo_laws.specs.Holds.{InOrder, Holds, StandsFor, AreUpTo, with_items, told, without_bytes, result_of, can_record, item_at};
+ghost use Rattle.repo_laws.specs.Holds.{InOrder, Holds, StandsFor, AreUpTo, with_items, told, result_of, can_record, item_at};
 ghost use Rattle.repo_laws.specs.Items.{is_of_row, is_of_file, is_of_document, is_of_session, document_at, row_then, file_then, document_then, session_then};
 ghost use Rattle.repo_laws.specs.Staged.{StagedByPath, path_cmp, staged_cmp, row_paths};
 

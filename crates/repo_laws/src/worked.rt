@@ -11,6 +11,7 @@ ghost use Rattle.repo_model.specs.Turn.{turn};
 ghost use Rattle.repo_model.specs.History.{Legal, end};
 ghost use Rattle.repo_laws.specs.Worked.{shop, shelves, releases, snapshots, nightly, jar_1, pom_1, artifact, builds, artifact_text, builds_text, pom_text, release_text};
 ghost use Rattle.repo_laws.specs.Starts.{purge_begun, purged_later, sessions_ended, asked_again};
+ghost use Rattle.repo_laws.specs.Fetches.{fetched, grouped, hourly_shop, an_hour};
 ghost use Rattle.repo_laws.specs.Histories.{two_builds, faded, purged, read_to_its_end, listed_again, still_there, deployed, refused, sent_again, aged, staged_again, kept_a_day, shelved, shelves_faded, shelves_cleared};
 
 /// The worked histories are legal.
@@ -26,6 +27,14 @@ pub fn worked_histories()
     ensures staged_again { Legal shop (opening shop None) staged_again }
     ensures kept_a_day { Legal shelves (opening shelves None) kept_a_day }
     ensures shelves_cleared { Legal shelves (opening shelves None) shelves_cleared }
+{}
+
+/// So are those of a proxy and of a group: what is fetched lands, a path that is missing is not asked for again for a while, a document
+/// is asked for again after its hour, and a group asks its members one after another.
+pub fn worked_fetches()
+    ensures fetched { Legal shop (opening shop None) fetched }
+    ensures grouped { Legal shop (opening shop None) grouped }
+    ensures an_hour { Legal hourly_shop (opening hourly_shop None) an_hour }
 {}
 
 /// So are those behind a start over the tables that such histories leave: what fades is read up to the grace and then goes, results

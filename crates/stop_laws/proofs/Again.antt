@@ -20,8 +20,9 @@ use Rattle.repo_model.specs.Turn.{Turn, draws_or_spent, is_file, or_nothing, say
 use Rattle.repo_laws.specs.Closed.{GivesFile}
 use Rattle.repo_laws.specs.Holds.{InOrder}
 use Rattle.repo_laws.specs.InRange.{InRange, Completes, IsFoundSince, IsSince, IsSameBlob}
-use Rattle.repo_laws.specs.Sound.{AreNamedApart}
+use Rattle.repo_laws.specs.Sound.{AreNamedApart, AreProxiesApart}
 use Rattle.repo_laws.proofs.Closed.{look-gives}
+use Rattle.repo_laws.proofs.Looks.{rows-looked}
 use Rattle.repo_laws.proofs.Completing.{completed-order, completed-range, completed-rows, since-blob}
 use Rattle.repo_laws.proofs.StartedSound.{started-rows, started-sound}
 use Rattle.naming_laws.proofs.Kept.{history-stays}
@@ -40,18 +41,19 @@ module _ (settings : Settings) (s : State) (e : Entry) (repo at tried : List ℕ
       let next = s.yard.next_lease in
       let given : Turn = record { reply = file next row.blob; effects = lends row.blob.number ∷ [] } in
       let turn_is : turn settings s e.moment (look repo at tried) ≡ draws_or_spent next given =
-      ap (λ k. shows next (seen_at (rows_of repo s) at k)) kind_is ∙ ap (λ r. shows next (or_nothing (λ (x : Row). is_file x.blob) r)) found in
+      ap (shows settings s.yard) (rows-looked settings s e.moment repo tried at at row found
+      ∙ ap (seen_at (rows_of repo s) at) kind_is ∙ ap (or_nothing (λ (x : Row). is_file x.blob)) found) in
       look-gives settings s e repo at tried (GivesFile s row.blob) (draws_or_spent next given) tt turn_is
       (elim (next == number_end) as (λ b. recorded (if b then says spent else given).effects ≡ []) [ true ↦ refl | false ↦ refl ])
       (elim (next == number_end) as (λ b. (next == number_end) ≡ b → GivesFile s row.blob (if b then says spent else given).reply) [ true ↦ λ last. eqb-true next number_end last | false ↦ λ _. refl ] refl)
       is looks
 
 pub answered-again : (settings : Settings) (u : Tables) (tells : ℕ → Option (List ℕ)) (stored : List ℕ) (clock : Option Moments) (faults : ℕ) (before : List Entry) (e : Entry) (rest : List Entry)
-    (repo tried : List ℕ) (row : Row) (c : Coordinates) (whole : Tables) → AreNamedApart settings.hosted → InOrder u → InRange u → Completes u whole → IsTrue (is_there repo settings)
+    (repo tried : List ℕ) (row : Row) (c : Coordinates) (whole : Tables) → AreNamedApart settings.hosted → AreProxiesApart settings.proxies → InOrder u → InRange u → Completes u whole → IsTrue (is_there repo settings)
     → kind row.path ≡ Ok (File c) → IsRecordedAs repo row u → Legal settings (started settings tells stored clock faults whole) (before ++ e ∷ rest) → AreNoCollects before
     → e.command ≡ look repo row.path tried
     → (kept : Blob) × IsSameBlob kept row.blob × GivesFile (end settings (started settings tells stored clock faults whole) before) kept e.reply
-answered-again settings u tells stored clock faults before e rest repo tried row c whole apart order range completes there kind_is (recorded_row, recorded_so, number, print) legal none looks =
+answered-again settings u tells stored clock faults before e rest repo tried row c whole apart proxies order range completes there kind_is (recorded_row, recorded_so, number, print) legal none looks =
     let s : State = started settings tells stored clock faults whole in
     let parts = cut settings before e rest s legal in
     let (first, at, since) = subst (IsFoundSince (recorded_at repo row.path whole.hosted)) recorded_so (completed-rows u whole completes repo row.path) in
@@ -60,7 +62,7 @@ answered-again settings u tells stored clock faults before e rest repo tried row
     started-rows settings tells stored clock faults whole repo row.path
     ∙ ap (λ b. if b then option_map (with_bytes tells) (recorded_at repo row.path whole.hosted) else None) there
     ∙ ap (option_map (with_bytes tells)) at in
-    let sound = started-sound settings tells stored clock faults whole apart (completed-order u whole completes order) (completed-range u whole completes range) in
+    let sound = started-sound settings tells stored clock faults whole apart proxies (completed-order u whole completes order) (completed-range u whole completes range) in
     let (kept, found, same) = history-stays settings s before apart sound parts.0 none repo row.path (with_bytes tells first) here in (
       kept.blob,
       (

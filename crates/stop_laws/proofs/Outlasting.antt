@@ -9,7 +9,8 @@ use Rattle.repo_model.specs.History.{Entry, Legal, end}
 use Rattle.repo_model.specs.Settings.{Settings}
 use Rattle.repo_model.specs.State.{State, is_repository, row_at, rows_of}
 use Rattle.repo_model.specs.Tables.{Tables}
-use Rattle.repo_laws.specs.Holds.{Holds, InOrder, told, with_items, without_bytes}
+use Rattle.repo_laws.specs.Holds.{Holds, InOrder, told, with_items}
+use Rattle.repo_laws.specs.Laws.{without_bytes}
 use Rattle.repo_laws.specs.Sound.{AreNamedApart, IsSound}
 use Rattle.repo_laws.proofs.Holding.{history-recorded}
 use Rattle.naming_laws.proofs.Kept.{history-stays}

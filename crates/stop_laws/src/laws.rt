@@ -16,7 +16,7 @@ ghost use Rattle.blob_audit.specs.Damages.{AreDamaged};
 ghost use Rattle.repo_laws.specs.Closed.{GivesFile};
 ghost use Rattle.repo_laws.specs.Holds.{Holds, InOrder, told, with_items};
 ghost use Rattle.repo_laws.specs.InRange.{InRange, Completes, IsSameBlob};
-ghost use Rattle.repo_laws.specs.Sound.{AreNamedApart, IsSound};
+ghost use Rattle.repo_laws.specs.Sound.{AreNamedApart, AreProxiesApart, IsSound};
 ghost use Rattle.stop_laws.specs.Found.{AreStored, IsRecordedAs, KeepsBlobs};
 ghost use Rattle.stop_laws.specs.Stops.{AreNoCollects, IsFrontOf, IsLeft};
 
@@ -45,7 +45,7 @@ pub fn rows_outlast_stops()
 /// given the file, with the number and the fingerprint that were recorded; or memory is wanting, or no lease is left.
 pub fn starts_answer_what_is_recorded()
     ensures { (settings : Settings) (u : Tables) (tells : ℕ → Option (List ℕ)) (stored : List ℕ) (clock : Option Moments) (faults : ℕ) (before : List Entry) (e : Entry)
-        (rest : List Entry) (repo tried : List ℕ) (row : Row) (c : Coordinates) (whole : Tables) → AreNamedApart settings.hosted → InOrder u → InRange u → Completes u whole
+        (rest : List Entry) (repo tried : List ℕ) (row : Row) (c : Coordinates) (whole : Tables) → AreNamedApart settings.hosted → AreProxiesApart settings.proxies → InOrder u → InRange u → Completes u whole
         → IsTrue (is_there repo settings)
         → kind row.path ≡ Ok (File c) → IsRecordedAs repo row u → Legal settings (started settings tells stored clock faults whole) (before ++ e ∷ rest)
         → AreNoCollects before → e.command ≡ look repo row.path tried

@@ -1,5 +1,5 @@
--- Rows that items of their form build up stand at paths of files.
-use Rattle.std.proofs.Common.{◌≡◌, ℕ, true, false, ◌&&◌, List, [], ◌∷◌, sym, subst}
+-- Rows that items of their form build up stand at paths of files, and those of proxies are visible.
+use Rattle.std.proofs.Common.{◌≡◌, ℕ, true, false, ◌&&◌, List, [], ◌∷◌, refl, sym, subst}
 use Rattle.std.specs.Prelude.{if◌then◌else◌}
 use Rattle.std.specs.List.{AllByRecursion, list_all}
 use Rattle.std.proofs.lemmas.Bool.{and_parts}
@@ -17,7 +17,7 @@ use Rattle.repo_laws.proofs.Ranges.{no-tables-in-range, range-applied}
 use Rattle.row_tables.specs.Applying.{with_items}
 use Rattle.row_tables.specs.Items.{is_id, is_file_path, is_number, is_moment, is_print, is_item}
 use Rattle.row_tables.specs.Recorded.{IsBuiltUp}
-use Rattle.table_laws.specs.Standing.{StandsAtFile}
+use Rattle.table_laws.specs.Standing.{IsListed, StandsAtFile}
 use Rattle.table_laws.proofs.Forms.{forms-in-range}
 
 -- all rows of the tables stand so
@@ -66,6 +66,27 @@ items-stand (item ∷ items) t is all =
     let parts = and_parts (is_item item) (list_all is_item items) is in
     items-stand items (item_on t item) parts.1 (item-stands t item parts.0 all)
 
+-- an item leaves the rows of proxies visible
+item-listed : (t : Tables) (item : Item) → AllByRecursion IsListed t.cached → AllByRecursion IsListed (item_on t item).cached
+item-listed t (HostedPut repo path blob print accepted) all = all
+item-listed t (Faded repo path moment) all = all
+item-listed t (Relisted repo path accepted) all = all
+item-listed t (Removed repo path) all = all
+item-listed t (CachedFile repo path blob print accepted) all = all-with_recorded IsListed (recorded_row repo path blob print accepted) t.cached all refl
+item-listed t (CachedDoc repo path checked document) all = all
+item-listed t (SessionOpened n) all = all
+item-listed t (SessionEnded n result) all = all
+item-listed t (Digested repo path further) all =
+    elim (lacks_at repo path t.hosted)
+    as (λ b. AllByRecursion IsListed (if b then record t { hosted = change_recorded repo path (digested further) t.hosted } else record t { cached = change_recorded repo path (digested further) t.cached }).cached) [
+      | true ↦ all
+      | false ↦ all-change_where IsListed (is_recorded repo path) (λ (r : RecordedRow). record r { row = digested further r.row }) (λ r so. so) t.cached all
+    ]
+
+items-listed : (items : List Item) (t : Tables) → AllByRecursion IsListed t.cached → AllByRecursion IsListed (with_items t items).cached
+items-listed [] t all = all
+items-listed (item ∷ items) t all = items-listed items (item_on t item) (item-listed t item all)
+
 module _ (t : Tables) (built : IsBuiltUp t) where
   pub built-order : InOrder t
   built-order = subst InOrder (sym built.built) (applied-ordered no_tables (with_items no_tables built.items) built.items no-tables-ordered built.recorded.fit)
@@ -83,3 +104,6 @@ module _ (t : Tables) (built : IsBuiltUp t) where
 
   pub built-cached : AllByRecursion StandsAtFile t.cached
   built-cached = built-stands.cached
+
+  pub built-listed : AllByRecursion IsListed t.cached
+  built-listed = subst (λ (u : Tables). AllByRecursion IsListed u.cached) (sym built.built) (items-listed built.items no_tables tt)

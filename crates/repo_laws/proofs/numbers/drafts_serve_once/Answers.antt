@@ -1,4 +1,4 @@
-use Rattle.repo_laws.proofs.Drafts.{drafts-put, drafts-staged, drafts-dropped, drafts-gone, drafts-kept, drafts-spent_between}
+use Rattle.repo_laws.proofs.Drafts.{drafts-put, drafts-staged, drafts-dropped, drafts-landed, drafts-gone, drafts-kept, drafts-spent_between}
 use Rattle.repo_laws.proofs.numbers.drafts_serve_once.Goals as goal
 
 pub returns-clause-put : goal.returns-clause-put
@@ -18,3 +18,6 @@ returns-clause-kept c = drafts-kept
 
 pub returns-clause-spent_between : goal.returns-clause-spent_between
 returns-clause-spent_between c = drafts-spent_between
+
+pub returns-clause-landed : goal.returns-clause-landed
+returns-clause-landed c = drafts-landed

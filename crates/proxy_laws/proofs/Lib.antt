@@ -1,0 +1,6 @@
+pub mod Limits
+pub mod Staying
+pub mod Deciding
+pub mod Planning
+pub mod Answering
+pub mod Again
