@@ -7,3 +7,4 @@ pub mod HomeLemmas
 pub mod LastRows
 pub mod Taken
 pub mod ChangeLemmas
+pub mod PutBack

@@ -3,7 +3,6 @@ pub mod Keys
 pub mod Names
 pub mod Reading
 pub mod Refusal
-pub mod Shown
 pub mod Source
 pub mod Values
 pub mod Walks

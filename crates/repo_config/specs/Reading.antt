@@ -5,7 +5,9 @@ use Rattle.std.specs.Option.{option_map_or}
 use Rattle.std.specs.Str.{bytes_eq}
 use Rattle.toml.specs.Data.{Members, as_str, get_member}
 use Rattle.path_patterns.specs.Pattern.{is_pattern}
-use Rattle.repo_model.specs.Settings.{GroupRule, ProxyRule, Rule, Settings, Update, always, daily, hourly, never, once}
+use Rattle.repo_model.specs.Settings.{GroupRule, ProxyRule, Rule, Settings}
+use Rattle.repo_model.specs.declared.update.Update.{Update}
+use Rattle.repo_model.specs.declared.update.Update.TheVariants.{Always, Hourly, Daily, Once, Never}
 use Rattle.repo_config.specs.Values.{flag_at, items_at, number_at, tables_at, text_at, texts_in}
 
 abbrev pub hosted_rule : Members → Rule
@@ -19,11 +21,11 @@ hosted_rule table = record {
 
 abbrev pub update_of : List ℕ → Update
 update_of text =
-    if bytes_eq text (codes "always") then always
-    else (if bytes_eq text (codes "hourly") then hourly
-    else (if bytes_eq text (codes "once") then once
-    else (if bytes_eq text (codes "never") then never
-    else daily)))
+    if bytes_eq text (codes "always") then Always
+    else (if bytes_eq text (codes "hourly") then Hourly
+    else (if bytes_eq text (codes "once") then Once
+    else (if bytes_eq text (codes "never") then Never
+    else Daily)))
 
 abbrev pub patterns_at : List ℕ → List (List ℕ) → Members → List (List ℕ)
 patterns_at name missing table = option_map_or (λ value. filter is_pattern (texts_in value)) (get_member name table) missing

@@ -17,6 +17,6 @@ mod values;
 mod walks;
 
 pub use faults::SettingsFault;
-pub use rules::{GroupRule, HostedRule, ProxyRule, Update};
+pub use rules::{GroupRule, HostedRule, ProxyRule};
 pub use settings::{Settings, read};
 pub use source::{SourceFault, read_from};

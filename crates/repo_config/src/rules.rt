@@ -1,8 +1,8 @@
 //! What the settings say of hosted repositories, of proxies and of groups.
 ghost use Rattle.std.specs.Prelude.{◌≡◌};
-ghost use Rattle.repo_config.specs.Shown.{shown_update};
 
 use path_patterns::Patterns;
+use repo_model::Update;
 use std::marker::Model;
 use texts::Text;
 
@@ -67,16 +67,6 @@ impl HostedRule {
     }
 }
 
-/// How often a proxy asks for a document again: each time, after 3,600 or 86,400 seconds, once, or never.
-#[derive(Clone, Copy, Debug, PartialEq, Eq)]
-pub enum Update {
-    Always,
-    Hourly,
-    Daily,
-    Once,
-    Never,
-}
-
 /// A proxy of a remote repository.
 #[derive(Drop)]
 pub struct ProxyRule {
@@ -95,14 +85,12 @@ impl Model for ProxyRule {
 
     ghost Value = { Rule };
 
-    ghost use Rattle.repo_config.specs.Shown.{shown_update};
-
     ghost view = { λ r. record {
       id = r.id;
       host = r.host;
       port = r.port;
       prefix = r.prefix;
-      update = shown_update r.update;
+      update = r.update;
       negative_seconds = r.negative_seconds;
       allow = r.allow;
       block = r.block;
@@ -140,7 +128,7 @@ impl ProxyRule {
 
     /// How often it asks for a document again.
     pub fn update(&self) -> Update
-        ensures { shown_update result ≡ self.now.update }
+        ensures { result ≡ self.now.update }
     {
         self.update
     }

@@ -7,7 +7,7 @@ ghost use Rattle.repo_model.specs.Paths.{is_snapshot_path};
 ghost use Rattle.repo_model.specs.State.{change_where};
 ghost use Rattle.repo_model.specs.Tables.{RecordedSession, no_tables, names_blob, greatest_moment, is_recorded, recorded_at, with_recorded, change_recorded, digested, with_digests, with_document, lacks_at, is_listed_row, is_fading_row, is_session, is_open_session};
 ghost use Rattle.row_tables.specs.Applying.{Tried};
-ghost use Rattle.row_tables.specs.Stored.{shown_entry, shown_document, shown_rows, shown_sessions};
+ghost use Rattle.row_tables.specs.Stored.{shown_entry, shown_document, shown_documents, shown_rows, shown_sessions};
 
 use crate::documents::{KeptDocument, keep_document};
 use crate::files::{
@@ -90,6 +90,13 @@ impl Tables {
         ensures { shown_rows result.now.entries ≡ self.now.cached }
     {
         &self.cached
+    }
+
+    /// The documents that proxies keep, in byte order of proxy and then of path.
+    pub fn documents(&self) -> &BTreeMap<Place, KeptDocument>
+        ensures { shown_documents result.now.entries ≡ self.now.documents }
+    {
+        &self.documents
     }
 
     /// The sessions, in rising order of number.

@@ -1,5 +1,5 @@
 use Rattle.std.proofs.Common.{refl, ◌∙◌}
-use Rattle.hosted_repo.proofs.PutBack.{put-back}
+use Rattle.ordered_rows.proofs.PutBack.{put-back}
 use Rattle.hosted_repo.proofs.storing.create.Goals as goal
 
 pub returns-in-Err-clause-err : goal.returns-in-Err-clause-err
