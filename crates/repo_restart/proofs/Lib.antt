@@ -6,3 +6,6 @@ pub mod NumberLemmas
 pub mod PlaceLemmas
 pub mod RuleLemmas
 pub mod ShelfLemmas
+pub mod ProxyLemmas
+pub mod DocumentLemmas
+pub mod TellLemmas

@@ -10,13 +10,15 @@ use Rattle.outside.specs.declared.stores.Held.{Ghosts}
 use Rattle.repo_model.specs.Data as plain
 use Rattle.repo_model.specs.Prints.{print_in}
 use Rattle.repo_model.specs.Shown.{shown_parcel, shown_print}
-use Rattle.repo_model.specs.State.{change_first, is_repository}
+use Rattle.repo_model.specs.State.{change_first, is_proxy, is_repository}
 use Rattle.row_tables.specs.Stored.{shown_row}
 use Rattle.row_tables.specs.Stored as stored
 use Rattle.row_tables.specs.declared.files.FileRow.{FileRow}
 use Rattle.hosted_repo.specs.Restored.{kept_row}
 use Rattle.ordered_rows.specs.Rows as rows
 use Rattle.ordered_rows.specs.declared.row.Phase.{Phase}
+use Rattle.repo_model.specs.Effect.{new_row}
+use Rattle.repo_laws.specs.Files.{files_in}
 use Rattle.repo_restart.specs.Taking.{holding, rows_in}
 
 module _ {X : Type 0} (p : X → Bool) where
@@ -83,6 +85,21 @@ module _ {X : Type 0} (p : X → Bool) where
 pub rows-at : (id : List ℕ) (repos : List plain.Hosted) (i : ℕ) (repo : plain.Hosted) → position (is_repository id) repos ≡ Some i → repo ≡ get_or repos i repo → rows_in id repos ≡ repo.rows
 rows-at id repos i repo is here =
     ap (λ found. option_map_or (λ (h : plain.Hosted). h.rows) found []) (find-at (is_repository id) repos i repo is) ∙ ap (λ (h : plain.Hosted). h.rows) (sym here)
+
+-- the files of the proxy at a place
+pub files-at : (id : List ℕ) (proxies : List plain.Proxy) (i : ℕ) (p : plain.Proxy) → position (is_proxy id) proxies ≡ Some i → p ≡ get_or proxies i p → files_in id proxies ≡ p.files
+files-at id proxies i p is here =
+    ap (λ found. option_map_or (λ (q : plain.Proxy). q.files) found []) (find-at (is_proxy id) proxies i p is) ∙ ap (λ (q : plain.Proxy). q.files) (sym here)
+
+-- a file that was kept with a parcel of its number and fingerprint is the recorded one, which is visible, with the parcel's bytes
+pub file-is : {H : Type 0} {G : Ghosts H} (path : List ℕ) (r : FileRow) (parcel : Parcel H G) → parcel.blob ≡ r.blob → shown_print parcel ≡ print_in r.print
+    → stored.shown_phase r.phase ≡ plain.listed → new_row path (shown_parcel parcel) r.accepted ≡ holding (G.bytes parcel.held) (shown_row path r)
+file-is {H} {G} path r parcel number print visible = λ i. record {
+  path = path;
+  blob = record { number = number i; bytes = G.bytes parcel.held; print = print i };
+  accepted = r.accepted;
+  phase = sym visible i;
+}
 
 -- a row that was kept with a parcel of its number and fingerprint is the recorded one, with the parcel's bytes
 pub kept-is : {H : Type 0} {G : Ghosts H} (path : List ℕ) (r : FileRow) (parcel : Parcel H G) (phase : Phase) → parcel.blob ≡ r.blob → shown_print parcel ≡ print_in r.print

@@ -17,7 +17,7 @@ use Rattle.repo_model.specs.Tables.{RecordedRow}
 use Rattle.ordered_rows.proofs.LastRows.{last}
 use Rattle.repo_laws.specs.Holds.{row_cmp}
 use Rattle.repo_laws.specs.Sound.{AreNamedApart}
-use Rattle.repo_restart.specs.Rows.{AreRestored}
+use Rattle.repo_restart.specs.Rows.{AreRowsRestored}
 use Rattle.repo_restart.specs.Taking.{holding, with_taken}
 use Rattle.repo_restart.proofs.FrontLemmas.{names, recorded-before}
 
@@ -47,7 +47,7 @@ own-row : (tells : ℕ → Option (List ℕ)) (bytes : Option (List ℕ)) (x : R
 own-row tells bytes x =
     ap (λ (b : Bool). holding (cond b bytes (tells x.row.blob.number)) x.row) (eq-eqb x.row.blob.number x.row.blob.number refl)
 
-turned : (a b : List ℕ) (x : Bool) → bytes_eq a b ≡ x → bytes_eq b a ≡ x
+pub turned : (a b : List ℕ) (x : Bool) → bytes_eq a b ≡ x → bytes_eq b a ≡ x
 turned a b true is = (bytes_eq-Decides b a).1 (sym ((bytes_eq-Decides a b).0 is))
 turned a b false is = by (bytes_eq b a) refl
   where
@@ -111,7 +111,7 @@ module _ (tells : ℕ → Option (List ℕ)) (bytes : Option (List ℕ)) (front 
       ] refl
 
 -- no rows yet
-pub none-restored : (shelf : Shelf) (rules : List Rule) → AreRestored shelf [] rules (map new_hosted rules)
+pub none-restored : (shelf : Shelf) (rules : List Rule) → AreRowsRestored shelf [] rules (map new_hosted rules)
 none-restored shelf rules = record { tells = λ n. standing_at n shelf; standing = by shelf.blobs; made = refl }
   where
     by : (blobs : Option Numbered) → IfSome blobs (λ them. (n : ℕ) → option_and_then (bytes_at n) blobs ≡ bytes_at n them)
@@ -130,8 +130,8 @@ standing-more (Some them) tells n bytes all here = λ m.
 -- one more row
 pub restored-more : (shelf : Shelf) (front : List RecordedRow) (x : RecordedRow) (rules : List Rule) (repos repos' : List plain.Hosted)
     → AllByRecursion (λ (r : RecordedRow). row_cmp r x ≡ Less) front → AllByRecursion (λ (r : RecordedRow). names x.row.blob.number r ≡ false) front → AreNamedApart rules
-    → AreRestored shelf front rules repos → (bytes : Option (List ℕ)) → IfSome shelf.blobs (λ them. bytes ≡ bytes_at x.row.blob.number them) → repos' ≡ with_taken x bytes repos
-    → AreRestored shelf (front ++ x ∷ []) rules repos'
+    → AreRowsRestored shelf front rules repos → (bytes : Option (List ℕ)) → IfSome shelf.blobs (λ them. bytes ≡ bytes_at x.row.blob.number them) → repos' ≡ with_taken x bytes repos
+    → AreRowsRestored shelf (front ++ x ∷ []) rules repos'
 restored-more shelf front x rules repos repos' before unnamed apart old bytes standing taken = record {
   tells = telling old.tells x.row.blob.number bytes;
   standing = standing-more shelf.blobs old.tells x.row.blob.number bytes old.standing standing;

@@ -5,6 +5,7 @@ use Rattle.blob_audit.specs.Found.{found_in, IsJudged}
 use Rattle.repo_model.specs.Prints.{print_in}
 use Rattle.blob_audit.specs.declared.damages.Damaged.{Damaged}
 use Rattle.blob_audit.proofs.PrintLemmas.{whole-print}
+use Rattle.repo_restart.proofs.ProxyLemmas.{all-digests}
 use Rattle.repo_restart.proofs.taking.take_file.Goals as goal
 
 pub returns-in-Other-clause-damaged : goal.returns-in-Other-clause-damaged
@@ -17,6 +18,7 @@ returns-in-Other-clause-damaged g c =
     subst (λ (damage : Damaged). AreDamaged shelf (r ∷ []) (damage ∷ [])) (sym c.in_ok-damage_of-in-Other.ensures) (damaged r [] [] c.in-Other.found found other none)
 
 pub take_parcel-requires-clause-print : goal.take_parcel-requires-clause-print
-take_parcel-requires-clause-print g c hosted =
-    let print = print_in c.args.file.now.row.now.print in
-    whole-print print _ (c.requires hosted).3 (subst (IsJudged print) c.in-Whole.is c.in_ok-parcel.ensures.judged)
+take_parcel-requires-clause-print g c =
+    let row = c.args.file.now.row.now in
+    let print = print_in row.print in
+    whole-print print _ (all-digests (shown_file c.args.file.now) c.args.repos.now.items c.args.proxies.now.items c.requires) (subst (IsJudged print) c.in-Whole.is c.in_ok-parcel.ensures.judged)
