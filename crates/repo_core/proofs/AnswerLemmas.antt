@@ -1,5 +1,6 @@
--- A draft for a file of a repository is given only where the repository takes the file.
-use Rattle.std.proofs.Common.{◌≡◌, ℕ, Bool, true, false, if◌then◌else◌, List, Option, Some, None, refl, ap, ◌∙◌, subst}
+-- A draft for a file of a repository is given only where the repository takes the file, and what is to be fetched is a plan of the
+-- settings.
+use Rattle.std.proofs.Common.{◌≡◌, ℕ, Bool, true, false, if◌then◌else◌, List, Option, Some, None, refl, sym, ap, ◌∙◌, subst}
 use Rattle.std.specs.Prelude.{IsTrue, find, bytes_eq}
 use Rattle.std.specs.Option.{option_map}
 use Rattle.repo_model.specs.Asking.{IsAnswerTo}
@@ -7,11 +8,12 @@ use Rattle.repo_model.specs.Data.{Hosted, repository}
 use Rattle.repo_model.specs.Settings.{Settings, Rule}
 use Rattle.repo_model.specs.Paths.{takes}
 use Rattle.repo_model.specs.State.{State, hosted_of}
-use Rattle.repo_model.specs.Command.{Command, may_put, is_fit, rule_of}
-use Rattle.repo_model.specs.Reply.{Reply, draft, kind_refused}
+use Rattle.repo_model.specs.Command.{Command, look, may_put, is_fit, rule_of}
+use Rattle.repo_model.specs.Reply.{Reply, draft, fetches, kind_refused}
 use Rattle.repo_model.specs.Turn.{Turn, says, in_repository, draws_draft}
 use Rattle.repo_model.specs.History.{Entry, IsReply, due, wants_memory, failed, Fits}
 use Rattle.repo_laws.specs.Sound.{IsSound}
+use Rattle.repo_laws.proofs.Plans.{look-plans}
 use Rattle.repo_core.proofs.HostedLemmas.{rule-found}
 
 fit-mapped : (path : List ℕ) (found : Option Hosted) → is_fit (λ rule. takes rule path) (option_map (λ (h : Hosted). h.rule) found) ≡ is_fit (λ (h : Hosted). takes h.rule path) found
@@ -37,6 +39,9 @@ module _ (settings : Settings) (s : State) (sound : IsSound settings s) where
   by-reply (may_put (repository repo) path) (draft n) moment faults (due is did) = taken repo path n is
   by-reply (may_put (repository repo) path) (draft n) moment faults (wants_memory is may did) = cc
   by-reply (may_put (repository repo) path) (draft n) moment faults (failed is may rose) = cc
+  by-reply (look id path tried) (fetches plan) moment faults (due is did) = look-plans settings s moment sound.order.proxies id path tried plan (sym is)
+  by-reply (look id path tried) (fetches plan) moment faults (wants_memory is may did) = cc
+  by-reply (look id path tried) (fetches plan) moment faults (failed is may rose) = cc
   by-reply command reply moment faults r = tt
 
   -- an entry that fits a sound state

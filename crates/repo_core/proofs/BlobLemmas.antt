@@ -12,7 +12,7 @@ use Rattle.repo_model.specs.Settings.{Settings}
 use Rattle.repo_model.specs.State.{State, Yard, is_among}
 use Rattle.repo_model.specs.Effect.{Effect, expires, condemning, with_effects, without_number}
 use Rattle.repo_model.specs.Purge.{expired_of, expire_all, is_over, most_rows}
-use Rattle.repo_laws.specs.Laws.{count_of, rows_with}
+use Rattle.repo_laws.specs.Laws.{cached_with, count_of, rows_with}
 use Rattle.repo_laws.specs.Sound.{AreByPath, AreNamedApart, OnePlace, Sound}
 use Rattle.repo_laws.proofs.ByPath.{all-apart, rows-kept}
 use Rattle.repo_laws.proofs.Counts.{count-cons, count-with_number, one_if}
@@ -158,6 +158,16 @@ module _ (grace now : ℕ) where
       by : (b : Bool) → nat_lt n s.yard.next_draft ≡ b → rows_with n s.hosted ≤ 1
       by true is = let drawn : n < s.yard.next_draft = ltb-true n s.yard.next_draft is in omega (arith, places.drawn n drawn)
       by false is = let later : s.yard.next_draft ≤ n = ltb-false n s.yard.next_draft is in omega (arith, places.later n later)
+
+    either-once : (n : ℕ) → rows_with n s.hosted + cached_with n s.proxies ≤ 1
+    either-once n = by (nat_lt n s.yard.next_draft) refl where
+      by : (b : Bool) → nat_lt n s.yard.next_draft ≡ b → rows_with n s.hosted + cached_with n s.proxies ≤ 1
+      by true is = let drawn : n < s.yard.next_draft = ltb-true n s.yard.next_draft is in omega (arith, places.drawn n drawn)
+      by false is = let later : s.yard.next_draft ≤ n = ltb-false n s.yard.next_draft is in omega (arith, places.later n later)
+
+    -- no proxy's file has a blob that goes
+    pub none-of-proxies : (n : ℕ) → 1 ≤ cached_with n s.proxies → count_of n gone ≡ 0
+    none-of-proxies n some = omega (arith, take-few n most_rows (flat_map (expired_of grace now) s.hosted), flat-few n s.hosted, either-once n, some)
 
     -- each blob that goes is in use, and none stands there twice
     pub gone-once : (kept : List ℕ) → AreInUse kept s.hosted → AreKeptOnce gone kept

@@ -32,8 +32,10 @@ use Rattle.repo_model.specs.declared.session.SessionResult.TheVariants.{Aborted,
 use Rattle.row_tables.specs.Commits.{tables_with}
 use Rattle.repo_core.specs.Deploys.{AreStagedInUse, commit_in, hosted_after_all}
 use Rattle.repo_core.specs.Hosted.{AreInUse, rows_in, rules_of, with_rows}
+use Rattle.repo_core.specs.Proxies.{AreCachedInUse}
 use Rattle.repo_core.specs.Purge.{AreKeptOnce, condemned_by, kept_without}
-use Rattle.repo_core.proofs.GarbageLemmas.{IsGoing, covered-then, garbage-once, garbage_of, going-state, next-still}
+use Rattle.repo_core.proofs.CachedLemmas.{cached-still}
+use Rattle.repo_core.proofs.GarbageLemmas.{IsGoing, covered-then, garbage-once, garbage_of, going-state, next-still, none-cached}
 use Rattle.repo_core.proofs.PurgeLemmas.{change-twice}
 use Rattle.repo_core.proofs.PutReplies.{rows-by, unchanged}
 use Rattle.repo_core.proofs.SessionNumbers.{session-condemned}
@@ -193,6 +195,10 @@ module _ (grace now : ℕ) (s : State) (es : List Effect) (going : AllByRecursio
   pub end-rows : (free : Bool) → AreInUse (kept_without (garbage_if free) kept) (hosted_if free)
   end-rows true = used
   end-rows false = covered-rows (kept_without (garbage_of es) kept) (hosted_after_all es s.hosted) (λ n some. then_covered n (omega (arith, some)))
+
+  pub end-cached : AreCachedInUse kept s.proxies → (free : Bool) → AreCachedInUse (kept_without (garbage_if free) kept) s.proxies
+  end-cached cached true = cached
+  end-cached cached false = cached-still (garbage_of es) kept s.proxies (λ n some. none-cached grace now es s going may places n some) cached
 
   pub end-files : (free : Bool) → AreStagedInUse (kept_without (garbage_if free) kept) (sessions_if free)
   end-files true = staged_so

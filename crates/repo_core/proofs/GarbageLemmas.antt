@@ -6,15 +6,16 @@ use Rattle.std.specs.List.{AllByRecursion, flat_map}
 use Rattle.std.proofs.lemmas.Bool.Decides.{nat_tests}
 use borrow.Author.Tests.{ltb-false, ltb-true}
 use Rattle.deploy_session.specs.Known.{garbage_by, next_after_all, sessions_after_all}
-use Rattle.repo_model.specs.Data.{Hosted, Session}
+use Rattle.repo_model.specs.Data.{Hosted, Proxy, Session}
 use Rattle.repo_model.specs.May.{AllMay, May}
 use Rattle.repo_model.specs.State.{State, Yard, change_first, is_among, is_repository}
 use Rattle.repo_model.specs.Effect.{Effect, condemning, delivers, discards, ends, expires, hosted_after, relists, with_effect, with_effects, yard_after}
-use Rattle.repo_laws.specs.Laws.{count_of, places_of, rows_with, staged_with}
+use Rattle.repo_laws.specs.Laws.{cached_with, count_of, places_of, rows_with, staged_with}
 use Rattle.repo_laws.specs.Sound.{OnePlace}
 use Rattle.repo_laws.proofs.Counts.{count-cons, one_if}
 use Rattle.repo_laws.proofs.Places.{places-counted}
 use Rattle.repo_core.specs.Deploys.{hosted_after_all}
+use Rattle.repo_core.specs.Proxies.{proxies_after_all}
 use Rattle.repo_core.specs.Purge.{AreKeptOnce, condemned_by, kept_without}
 use Rattle.repo_core.proofs.BlobLemmas.{count-condemned, kept-once, kept-still}
 use Rattle.repo_core.proofs.StagedLemmas.{Covers}
@@ -36,7 +37,8 @@ yards_after [] yard = yard
 yards_after (e ∷ es) yard = yards_after es (yard_after e yard)
 
 -- each part of the state goes its own way
-spread : (es : List Effect) (s : State) → with_effects s es ≡ record s { hosted = hosted_after_all es s.hosted; sessions = sessions_after_all es s.sessions; yard = yards_after es s.yard }
+spread : (es : List Effect) (s : State)
+    → with_effects s es ≡ record s { hosted = hosted_after_all es s.hosted; proxies = proxies_after_all es s.proxies; sessions = sessions_after_all es s.sessions; yard = yards_after es s.yard }
 spread [] s = refl
 spread (e ∷ es) s = spread es (with_effect s e)
 
@@ -49,10 +51,21 @@ yards-condemned (expires repo path blob ∷ es) yard all = yards-condemned es (c
 yards-condemned (ends n result ∷ es) yard all = yards-condemned es yard all.1
 yards-condemned (e ∷ es) yard all = absurd all.0
 
+pub proxies-still : (es : List Effect) (proxies : List Proxy) → AllByRecursion IsGoing es → proxies_after_all es proxies ≡ proxies
+proxies-still [] proxies all = refl
+proxies-still (delivers n repo path blob moment ∷ es) proxies all = proxies-still es proxies all.1
+proxies-still (discards n path draft ∷ es) proxies all = proxies-still es proxies all.1
+proxies-still (relists repo path moment ∷ es) proxies all = proxies-still es proxies all.1
+proxies-still (expires repo path blob ∷ es) proxies all = proxies-still es proxies all.1
+proxies-still (ends n result ∷ es) proxies all = proxies-still es proxies all.1
+proxies-still (e ∷ es) proxies all = absurd all.0
+
 pub going-state : (es : List Effect) (s : State) → AllByRecursion IsGoing es
     → with_effects s es ≡ record s { hosted = hosted_after_all es s.hosted; sessions = sessions_after_all es s.sessions; yard = condemned_by (garbage_of es) s.yard }
 going-state es s all =
-    spread es s ∙ ap (λ y. record s { hosted = hosted_after_all es s.hosted; sessions = sessions_after_all es s.sessions; yard = y }) (yards-condemned es s.yard all)
+    spread es s
+    ∙ ap (λ ps. record s { hosted = hosted_after_all es s.hosted; proxies = ps; sessions = sessions_after_all es s.sessions; yard = yards_after es s.yard }) (proxies-still es s.proxies all)
+    ∙ ap (λ y. record s { hosted = hosted_after_all es s.hosted; sessions = sessions_after_all es s.sessions; yard = y }) (yards-condemned es s.yard all)
 
 pub next-still : (es : List Effect) (next : ℕ) → AllByRecursion IsGoing es → next_after_all es next ≡ next
 next-still [] next all = refl
@@ -88,7 +101,7 @@ module _ (grace now : ℕ) where
     sessions_then = sessions_after_all es s.sessions
 
     -- where a number stands then is where it stood, but that it may have become garbage
-    stood : (n : ℕ) → count_of n s.yard.drafts + rows_with n hosted_then + staged_with n sessions_then + (count_of n (garbage_of es) + count_of n s.yard.condemned) ≤ places_of s n
+    stood : (n : ℕ) → count_of n s.yard.drafts + rows_with n hosted_then + cached_with n s.proxies + staged_with n sessions_then + (count_of n (garbage_of es) + count_of n s.yard.condemned) ≤ places_of s n
     stood n =
         let after : State = record s { hosted = hosted_then; sessions = sessions_then; yard = condemned_by (garbage_of es) s.yard } in
         let fewer : places_of after n ≤ places_of s n = subst (λ t. places_of t n ≤ places_of s n) (going-state es s going) (all-counted es s n going may) in
@@ -100,6 +113,10 @@ module _ (grace now : ℕ) where
       by : (b : Bool) → nat_lt n s.yard.next_draft ≡ b → places_of s n ≤ 1
       by true is = places.drawn n (ltb-true n s.yard.next_draft is)
       by false is = omega (arith, places.later n (ltb-false n s.yard.next_draft is))
+
+    -- no proxy's file has a blob that becomes garbage
+    pub none-cached : (n : ℕ) → 1 ≤ cached_with n s.proxies → count_of n (garbage_of es) ≡ 0
+    none-cached n some = omega (arith, stood n, once n, some)
 
     module _ (kept : List ℕ) (cover : Covers kept s.hosted s.sessions) where
       -- a number that stands then, or is garbage, was in use

@@ -3,17 +3,19 @@ use native.Mathlib.Omega.{arith}
 use Rattle.std.proofs.Common.{◌≡◌, ℕ, ◌<◌, ◌≤◌, true, ◌&&◌, ◌||◌, List, [], ◌∷◌, length, Option, Some, None, zero, suc, ◌⊎◌, inl, inr, refl}
 use Rattle.std.specs.Prelude.{IsTrue, is_some, nat_le, nat_lt}
 use Rattle.std.specs.List.{AllByRecursion, list_all}
-use Rattle.std.proofs.lemmas.Bool.{and_from, and_parts, cases_order, false≢true, le-leb, lt-ltb}
+use Rattle.std.proofs.lemmas.Bool.{and_from, and_parts, cases_order, false≢true, le-leb, leb-true, lt-ltb}
 use Rattle.mvn_coords.specs.Layout.{Coordinates}
-use Rattle.repo_model.specs.Settings.{Rule}
+use Rattle.repo_model.specs.Settings.{ProxyRule, Rule}
 use Rattle.repo_model.specs.Command.{is_fit}
 use Rattle.repo_model.specs.Paths.{file_at, takes, takes_file}
 use Rattle.repo_model.specs.State.{State, is_among, number_end}
-use Rattle.repo_config.specs.Form.{is_from_1_to, is_rule}
+use Rattle.repo_config.specs.Form.{is_from_1_to, is_proxy_rule, is_rule}
+use Rattle.repo_config.specs.Keys.{is_host, is_pattern_list, is_prefix}
 use Rattle.repo_config.specs.Names as names
 use Rattle.repo_laws.specs.Sound.{OnePlace}
 use Rattle.repo_laws.proofs.Counts.{among-counts}
 use Rattle.row_tables.specs.Items.{is_file_path, is_id, is_id_byte, is_number}
+use Rattle.repo_restart.specs.Rows.{HasProxyForm}
 
 id-so : (id : List ℕ) → names.is_id id ≡ true → is_id id ≡ true
 id-so id is =
@@ -34,6 +36,27 @@ rule-id rule is =
 pub ids-so : (rules : List Rule) → list_all is_rule rules ≡ true → AllByRecursion (λ (rule : Rule). IsTrue (is_id rule.id)) rules
 ids-so [] all = tt
 ids-so (rule ∷ rules) all = let (here, rest) = and_parts (is_rule rule) (list_all is_rule rules) all in (rule-id rule here, ids-so rules rest)
+
+proxy-form : (rule : ProxyRule) → is_proxy_rule rule ≡ true → HasProxyForm rule
+proxy-form rule is =
+    let id = names.is_id rule.id in
+    let host = is_host rule.host in
+    let port = is_from_1_to 65535 rule.port in
+    let prefix = is_prefix rule.prefix in
+    let seconds = nat_le rule.negative_seconds 86400 in
+    let allow = is_pattern_list rule.allow in
+    let (first, block) = and_parts (((((id && host) && port) && prefix) && seconds) && allow) (is_pattern_list rule.block) is in
+    let (second, allowed) = and_parts ((((id && host) && port) && prefix) && seconds) allow first in
+    let (third, few) = and_parts (((id && host) && port) && prefix) seconds second in
+    let (fourth, prefixed) = and_parts ((id && host) && port) prefix third in
+    let (fifth, numbered) = and_parts (id && host) port fourth in
+    let (named, hosted) = and_parts id host fifth in
+    (id-so rule.id named, leb-true rule.negative_seconds 86400 few)
+
+-- and of those of proxies
+pub proxies-so : (rules : List ProxyRule) → list_all is_proxy_rule rules ≡ true → AllByRecursion HasProxyForm rules
+proxies-so [] all = tt
+proxies-so (rule ∷ rules) all = let (here, rest) = and_parts (is_proxy_rule rule) (list_all is_proxy_rule rules) all in (proxy-form rule here, proxies-so rules rest)
 
 taken-file : (rule : Rule) (found : Option Coordinates) → takes_file rule found ≡ true → is_some found ≡ true
 taken-file rule None is = absurd (false≢true is)

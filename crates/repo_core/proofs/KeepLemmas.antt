@@ -20,7 +20,7 @@ module _ (p : Parts) (tables : Option Tables) (unsettled : Bool) (faults : ℕ) 
   order_of : Sound p.settings p.state
   order_of =
       let order = kept.sound.order in
-      record { rules = order.rules; rows = order.rows; sessions = order.sessions; draft = order.draft; lease = order.lease; session = order.session }
+      record { rules = order.rules; rows = order.rows; proxies = order.proxies; files = order.files; sessions = order.sessions; draft = order.draft; lease = order.lease; session = order.session }
 
   places_of : OnePlace p.state
   places_of =
@@ -34,6 +34,8 @@ module _ (p : Parts) (tables : Option Tables) (unsettled : Bool) (faults : ℕ) 
   held-at : (moment : ℕ) (t : Tables) → p.state.last ≤ moment → Holds t (counting faults p.state) → Holds t (ticked p.state moment faults)
   held-at moment t later held = record {
     rows = held.rows;
+    files = held.files;
+    documents = held.documents;
     ended = held.ended;
     opened = held.opened;
     next_session = held.next_session;

@@ -29,12 +29,14 @@ use Rattle.repo_laws.proofs.Lists.{found-passes}
 use Rattle.repo_laws.proofs.Releases.{same_path}
 use Rattle.repo_core.specs.Deploys.{AreStagedInUse}
 use Rattle.repo_core.specs.Hosted.{AreInUse, rows_in, with_rows}
+use Rattle.repo_core.specs.Proxies.{AreCachedInUse}
 use Rattle.hosted_repo.specs.Expired.{blob_of}
 use Rattle.repo_core.specs.Purge.{AreKeptOnce, condemned_by, dropped_by, kept_without, shares}
 use Rattle.repo_core.specs.Turn.{Recorded, Turned}
 use Rattle.repo_core.specs.Whole.{IsOrderly, Parts}
 use Rattle.settings_laws.proofs.Apart.{named-apart}
-use Rattle.repo_core.proofs.BlobLemmas.{all-still, gone-once, none-gone}
+use Rattle.repo_core.proofs.BlobLemmas.{all-still, gone-once, none-gone, none-of-proxies}
+use Rattle.repo_core.proofs.CachedLemmas.{cached-still}
 use Rattle.repo_core.proofs.PurgeLemmas.{IsRemoval, dropped-used, expired-all, faded, fading_all, removals}
 use Rattle.repo_core.proofs.GarbageLemmas.{IsGoing, covered-then, garbage_of}
 use Rattle.repo_core.proofs.StagedLemmas.{covered-files, covers}
@@ -187,6 +189,12 @@ collected-used w kept orderly used =
     all-still gone kept hosted
     (λ n some. none-gone grace s.last s orderly.places w.settings orderly.order named (ap (λ (t : State). t.yard) is) n (subst (λ hs. 1 ≤ rows_with n hs) (sym (ap (λ (t : State). t.hosted) is)) some))
     (dropped-used grace s.last kept s.hosted apart used)
+
+pub collected-cached : (w : Parts) (kept : List ℕ) → IsOrderly w → AreCachedInUse kept w.state.proxies
+    → AreCachedInUse (kept_without (map blob_of (expire_all w.settings.grace w.state.last w.state.hosted)) kept) w.state.proxies
+collected-cached w kept orderly used =
+    let s = w.state in
+    cached-still (map blob_of (expire_all w.settings.grace s.last s.hosted)) kept s.proxies (λ n some. none-of-proxies w.settings.grace s.last s orderly.places n some) used
 
 pub collected-once : (w : Parts) (kept : List ℕ) → IsOrderly w → AreInUse kept w.state.hosted → AreKeptOnce (map blob_of (expire_all w.settings.grace w.state.last w.state.hosted)) kept
 collected-once w kept orderly used = gone-once w.settings.grace w.state.last w.state orderly.places kept used

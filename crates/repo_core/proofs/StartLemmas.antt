@@ -11,12 +11,12 @@ use Rattle.outside.specs.Blobs.{Numbered, Shelf, numbers_of}
 use Rattle.outside.specs.Moments.{Moments}
 use Rattle.outside.specs.Told.{IsWhereTold}
 use Rattle.repo_config.specs.Form.{IsSettings}
-use Rattle.repo_model.specs.Data.{Hosted}
+use Rattle.repo_model.specs.Data.{Hosted, Proxy, Row, fading, listed}
 use Rattle.repo_model.specs.History.{latest_moment}
-use Rattle.repo_model.specs.Restart.{blobs_named, greatest_number, hosted_from, is_of, recorded_of, started, with_bytes}
-use Rattle.repo_model.specs.Settings.{Rule, Settings}
+use Rattle.repo_model.specs.Restart.{blobs_named, greatest_number, hosted_from, is_of, proxy_from, recorded_of, started, with_bytes}
+use Rattle.repo_model.specs.Settings.{ProxyRule, Rule, Settings}
 use Rattle.repo_model.specs.State.{State, is_among, number_end, opening}
-use Rattle.repo_model.specs.Tables.{AreComplete, Tables, RecordedRow, no_tables}
+use Rattle.repo_model.specs.Tables.{Tables, RecordedRow, no_tables}
 use Rattle.repo_laws.specs.Holds.{InOrder, StandsFor}
 use Rattle.repo_laws.specs.InRange.{InRange, IsRowInRange}
 use Rattle.repo_laws.specs.Laws.{FadesRightly}
@@ -30,19 +30,20 @@ use Rattle.row_tables.specs.Recorded.{IsBuiltUp}
 use Rattle.row_tables.specs.Records.{Expected}
 use Rattle.row_completion.specs.Completion.{IsComplete, IsDigestedWhereTold}
 use Rattle.row_completion.proofs.Digesting.{tables-stay, where-told}
-use Rattle.table_laws.specs.Standing.{StandsAtFile}
-use Rattle.table_laws.proofs.Building.{built-hosted, built-order, built-range}
+use Rattle.table_laws.specs.Standing.{IsListed, StandsAtFile}
+use Rattle.table_laws.proofs.Building.{built-cached, built-hosted, built-listed, built-order, built-range}
 use Rattle.repo_restart.specs.Leftovers.{Clears, ClearsFront, left_over}
-use Rattle.repo_restart.specs.Rows.{AreRestorable, AreRestored}
+use Rattle.repo_restart.specs.Rows.{AreRestored, IsRestorable}
 use Rattle.repo_core.specs.Deploys.{AreStagedInUse}
 use Rattle.repo_core.specs.Hosted.{AreInUse, rules_of}
+use Rattle.repo_core.specs.Proxies.{AreCachedInUse, proxy_rules_of}
 use Rattle.blob_audit.specs.declared.damages.Damaged.{Damaged}
 use Rattle.repo_core.specs.Start.{AreCompleted, Starts}
 use Rattle.repo_core.specs.StartFaults.{OnDamage}
 use Rattle.repo_core.specs.declared.faults.StartFault.{StartFault}
 use Rattle.repo_core.specs.declared.faults.StartFault.TheVariants as start
 use Rattle.repo_core.specs.Whole.{IsKept, Parts, Tell, counting, whole_of}
-use Rattle.settings_laws.proofs.Apart.{named-apart}
+use Rattle.settings_laws.proofs.Apart.{named-apart, proxies-apart}
 use Rattle.repo_core.proofs.StagedLemmas.{SessionUsed}
 use Rattle.repo_core.proofs.UseLemmas.{RowsUsed, here-so, or-right}
 
@@ -50,18 +51,36 @@ abbrev number_in : RecordedRow → ℕ
 number_in r = r.row.blob.number
 
 -- ---- what the steps need
-pub restorable : (t : Tables) → IsBuiltUp t → AreComplete t.hosted → AreRestorable t.hosted
+pub restorable : (t : Tables) → IsBuiltUp t → IsComplete t → IsRestorable t
 restorable t built complete =
     let order : InOrder t = built-order t built in
     let range : InRange t = built-range t built in
     record {
-      rising = order.hosted;
-      apart = λ n. omega (arith, order.blobs n);
-      files = all-then StandsAtFile (λ (r : RecordedRow). IsTrue (is_file_path r.row.path)) (λ r so. so.1) t.hosted (built-hosted t built);
-      in_time = all-then (λ (r : RecordedRow). IsRowInRange r × FadesRightly r.row) (λ (r : RecordedRow). r.row.accepted ≤ latest_moment) (λ r so. so.0.3.0) t.hosted range.hosted;
-      fading = all-then (λ (r : RecordedRow). IsRowInRange r × FadesRightly r.row) (λ (r : RecordedRow). FadesRightly r.row) (λ r so. so.1) t.hosted range.hosted;
-      complete = complete;
-    }
+      hosted = record {
+        rising = order.hosted;
+        apart = λ n. omega (arith, order.blobs n);
+        files = all-then StandsAtFile (λ (r : RecordedRow). IsTrue (is_file_path r.row.path)) (λ r so. so.1) t.hosted (built-hosted t built);
+        in_time = all-then (λ (r : RecordedRow). IsRowInRange r × FadesRightly r.row) (λ (r : RecordedRow). r.row.accepted ≤ latest_moment) (λ r so. so.0.3.0) t.hosted range.hosted;
+        fading = all-then (λ (r : RecordedRow). IsRowInRange r × FadesRightly r.row) (λ (r : RecordedRow). FadesRightly r.row) (λ r so. so.1) t.hosted range.hosted;
+        complete = complete.hosted;
+      };
+      cached = record {
+        rows_so = record {
+          rising = order.cached;
+          apart = λ n. omega (arith, order.blobs n);
+          files = all-then StandsAtFile (λ (r : RecordedRow). IsTrue (is_file_path r.row.path)) (λ r so. so.1) t.cached (built-cached t built);
+          in_time = all-then IsRowInRange (λ (r : RecordedRow). r.row.accepted ≤ latest_moment) (λ r so. so.3.0) t.cached range.cached;
+          fading = all-then IsListed (λ (r : RecordedRow). FadesRightly r.row) (λ r is. listed-fades r.row is) t.cached (built-listed t built);
+          complete = complete.cached;
+        };
+        visible = built-listed t built;
+      };
+      apart = order.blobs;
+      rising = order.documents;
+      checked = range.documents;
+    } where
+      listed-fades : (row : Row) → row.phase ≡ listed → FadesRightly row
+      listed-fades row is since fades = absurd (let no : listed ≡ fading since = sym is ∙ fades in cc)
 
 -- ---- numbers
 all-map : (P : ℕ → Type 0) (rows : List RecordedRow) → AllByRecursion (λ (r : RecordedRow). P r.row.blob.number) rows → AllByRecursion P (map number_in rows)
@@ -114,15 +133,25 @@ module _ (kept : List ℕ) (tells : ℕ → Option (List ℕ)) where
   made-used rows [] all = tt
   made-used rows (rule ∷ rules) all = (recorded-used rule.id rows all, made-used rows rules all)
 
-pub restored-used : (t : Tables) (kept named : List ℕ) (shelf : Shelf) (rules : List Rule) (repos : List Hosted) → AreRestored shelf t.hosted rules repos → named ≡ blobs_named t
-    → ((n : ℕ) → is_among n kept ≡ is_among n named) → AreInUse kept repos
-restored-used t kept named shelf rules repos restored same kept_so =
-    let among : AllByRecursion (λ (r : RecordedRow). IsTrue (is_among r.row.blob.number (blobs_named t))) t.hosted =
-    (all-split (λ (r : RecordedRow). IsTrue (is_among r.row.blob.number (blobs_named t))) t.hosted t.cached (among-itself (t.hosted ++ t.cached))).0 in
-    let used : AllByRecursion (λ (r : RecordedRow). IsTrue (is_among r.row.blob.number kept)) t.hosted =
-    all-then (λ (r : RecordedRow). IsTrue (is_among r.row.blob.number (blobs_named t))) (λ (r : RecordedRow). IsTrue (is_among r.row.blob.number kept))
-    (λ r so. subst IsTrue (ap (is_among r.row.blob.number) (sym same) ∙ sym (kept_so r.row.blob.number)) so) t.hosted among in
-    subst (AreInUse kept) (sym restored.made) (made-used kept restored.tells t.hosted rules used)
+  cached-used : (t : Tables) (rules : List ProxyRule) → AllByRecursion (λ (r : RecordedRow). IsTrue (is_among r.row.blob.number kept)) t.cached → AreCachedInUse kept (map (proxy_from tells t) rules)
+  cached-used t [] all = tt
+  cached-used t (rule ∷ rules) all = (recorded-used rule.id t.cached all, cached-used t rules all)
+
+module _ (t : Tables) (kept named : List ℕ) (same : named ≡ blobs_named t) (kept_so : (n : ℕ) → is_among n kept ≡ is_among n named) where
+  both-among : AllByRecursion (λ (r : RecordedRow). IsTrue (is_among r.row.blob.number (blobs_named t))) t.hosted × AllByRecursion (λ (r : RecordedRow). IsTrue (is_among r.row.blob.number (blobs_named t))) t.cached
+  both-among = all-split (λ (r : RecordedRow). IsTrue (is_among r.row.blob.number (blobs_named t))) t.hosted t.cached (among-itself (t.hosted ++ t.cached))
+
+  so-kept : (rows : List RecordedRow) → AllByRecursion (λ (r : RecordedRow). IsTrue (is_among r.row.blob.number (blobs_named t))) rows → AllByRecursion (λ (r : RecordedRow). IsTrue (is_among r.row.blob.number kept)) rows
+  so-kept rows among =
+      all-then (λ (r : RecordedRow). IsTrue (is_among r.row.blob.number (blobs_named t))) (λ (r : RecordedRow). IsTrue (is_among r.row.blob.number kept))
+      (λ r so. subst IsTrue (ap (is_among r.row.blob.number) (sym same) ∙ sym (kept_so r.row.blob.number)) so) rows among
+
+  module _ (shelf : Shelf) (rules : List Rule) (proxy_rules : List ProxyRule) (repos : List Hosted) (proxies : List Proxy) (restored : AreRestored shelf t rules proxy_rules repos proxies) where
+    pub restored-used : AreInUse kept repos
+    restored-used = subst (AreInUse kept) (sym restored.made) (made-used kept restored.tells t.hosted rules (so-kept t.hosted both-among.0))
+
+    pub files-in-use : AreCachedInUse kept proxies
+    files-in-use = subst (AreCachedInUse kept) (sym restored.kept) (cached-used kept restored.tells t proxy_rules (so-kept t.cached both-among.1))
 
 -- ---- what is left where the call ends early
 pub all-cleared : (named : List ℕ) (old new : Shelf) (next : ℕ) → Clears named old new next → ClearsFront named old new
@@ -162,7 +191,7 @@ module _ (settings : Settings) (t : Tables) (old new : Shelf) (clock : Option Mo
   pub starts-sound : (faults : ℕ) → IsSound settings (counting faults s)
   starts-sound faults =
       subst (IsSound settings) (counted_is faults)
-      (started-sound settings starts.tells starts.stored clock faults t (named-apart settings form) (built-order t built) (built-range t built))
+      (started-sound settings starts.tells starts.stored clock faults t (named-apart settings form) (proxies-apart settings form) (built-order t built) (built-range t built))
 
   pub starts-stand : (faults : ℕ) → StandsFor t (counting faults s)
   starts-stand faults =
@@ -173,6 +202,9 @@ module _ (settings : Settings) (t : Tables) (old new : Shelf) (clock : Option Mo
 
   pub starts-rules : rules_of s.hosted ≡ settings.hosted
   starts-rules = (starts-sound 0).order.rules
+
+  pub starts-proxy-rules : proxy_rules_of s.proxies ≡ settings.proxies
+  starts-proxy-rules = (starts-sound 0).order.proxies
 
   -- sessions that have ended have no files
   pub starts-staged : (kept : List ℕ) → AreStagedInUse kept s.sessions
@@ -204,8 +236,8 @@ module _ (settings : Settings) (t : Tables) (old new : Shelf) (clock : Option Mo
       starts.state ∙ ap (λ u. started settings starts.tells starts.stored clock faults u) none ∙ ap (λ ns. started settings starts.tells ns clock faults no_tables) empty
 
   over-empty : t ≡ no_tables → (blobs : Option Numbered) → IsWhereTold (option_map keys_of blobs) starts.stored → IfSome blobs (λ them. them ≡ [] → s ≡ counting faults (opening settings clock))
-  over-empty none None listed = tt
-  over-empty none (Some them) listed = λ empty. opens none (sym listed ∙ ap keys_of empty)
+  over-empty none None told_so = tt
+  over-empty none (Some them) told_so = λ empty. opens none (sym told_so ∙ ap keys_of empty)
 
   pub starts-opening : (told : Option Tables) → IfSome told (λ u. u ≡ no_tables → t ≡ no_tables)
       → IfSome told (λ u. u ≡ no_tables → IfSome old.blobs (λ them. them ≡ [] → s ≡ counting faults (opening settings clock)))

@@ -4,24 +4,24 @@ use Rattle.std.proofs.Common.{◌≡◌, ℕ, ◌≤◌, min, max, Bool, true, f
 use Rattle.std.specs.Prelude.{IfSome, MatchOption, IsTrue, ◌==◌, bytes_eq, count_by, find, length, not, sum_by}
 use Rattle.ordered_rows.specs.Rows.{fades}
 use Rattle.mvn_coords.specs.Kind.{kind}
-use Rattle.outside.specs.Moments.{Moments}
+use Rattle.outside.specs.Moments.{Moments, moments_after}
 use Rattle.mvn_coords.specs.declared.fault.PathFault.{PathFault}
 use Rattle.mvn_coords.specs.declared.kind.Kind.{Kind}
 use Rattle.mvn_coords.specs.declared.kind.Kind.TheVariants.{FileSide}
 use Rattle.mvn_coords.specs.Layout.{text_of}
 use Rattle.mvn_digest.specs.Sides.{side_of}
 use Rattle.std.specs.Option.{option_map}
-use Rattle.repo_model.specs.Data.{Blob, Row, Hosted, Session, repository, session}
+use Rattle.repo_model.specs.Data.{Blob, Row, Hosted, Proxy, Session, repository, session}
 use Rattle.repo_model.specs.Paths.{takes}
 use Rattle.repo_model.specs.Settings.{Settings}
-use Rattle.repo_model.specs.State.{State, hosted_of, is_open, is_open_at, is_session, number_end, open_of, row_at, rows_of}
+use Rattle.repo_model.specs.State.{State, Yard, hosted_of, is_open, is_open_at, is_session, number_end, open_of, row_at, rows_of}
 use Rattle.repo_model.specs.Effect.{Effect, draws, lends, recorded, with_effect, with_effects}
 use Rattle.repo_model.specs.Tables.{Tables}
 use Rattle.repo_model.specs.declared.item.Item.{Item}
 use Rattle.repo_model.specs.Command.{Command, look, may_put, put_side, put_doc, collect, status, meets}
-use Rattle.repo_model.specs.Reply.{Reply, agreed, collected, counts, differs, draft, file, kind_refused, no_memory, no_session, noted, spent, store_fault, is_free}
+use Rattle.repo_model.specs.Reply.{Reply, agreed, collected, counts, differs, draft, fetches, file, kind_refused, no_memory, no_session, noted, spent, store_fault, is_free, takes_memory}
 use Rattle.repo_model.specs.Purge.{expire_all}
-use Rattle.repo_model.specs.Turn.{Seen, Turn, compared, draws_draft, in_repository, is_doc, is_file, is_nothing, is_text, seen_at, shows, turn, says, collect_of, counts_of, judged, may_put_in, staged_at, with_open}
+use Rattle.repo_model.specs.Turn.{Seen, Turn, compared, draws_draft, file_limit, in_repository, is_blocked, is_doc, is_file, is_negative, is_never, is_nothing, is_text, is_to_fetch, look_at, plan_of, shows, turn, says, collect_of, counts_of, judged, may_put_in, staged_at, with_open}
 use Rattle.repo_model.specs.History as history
 use Rattle.repo_model.specs.History.{Entry, IsReply, MomentFits, commits, latest_moment, ticked, Fits, effects_of, after}
 use Rattle.outside.specs.Faults.{Rose}
@@ -41,6 +41,7 @@ use Rattle.std.proofs.lemmas.Option.{none-some}
 use Rattle.repo_core.specs.Turn.{done_by, IsAnswer, IsSettledBy, due, wants_memory, failed, MayRecord, Recorded, Turned}
 use Rattle.repo_core.specs.Whole.{Parts, Whole, IsKept, IsOrderly, Tell, counting}
 use Rattle.settings_laws.proofs.Apart.{named-apart}
+use Rattle.repo_core.proofs.LookSame.{look-same}
 
 nothing-done : (b : Bool) (s : State) → s ≡ with_effects s (if b then [] else [])
 nothing-done true s = refl
@@ -56,19 +57,21 @@ turned-says w command reply is = record {
 }
 
 -- the counts of the rows and of the sessions
-pub turned-counts : (w : Parts) (files unlisted opened : ℕ) → opened ≡ count_by is_open w.state.sessions → files ≡ sum_by (λ (h : Hosted). length h.rows) w.state.hosted
-    → unlisted ≡ sum_by (λ (h : Hosted). count_by fades h.rows) w.state.hosted → Turned w w status (counts files unlisted 0 0 opened)
-turned-counts w files unlisted opened some_open all some =
-    let rows = sum_by (λ (h : Hosted). length h.rows) w.state.hosted in
-    let fading = sum_by (λ (h : Hosted). count_by fades h.rows) w.state.hosted in
-    let is : counts_of w.state ≡ counts files unlisted 0 0 opened =
-    ap (λ n. counts rows fading 0 0 n) (sym some_open) ∙ ap (λ n. counts n fading 0 0 opened) (sym all) ∙ ap (λ n. counts files n 0 0 opened) (sym some) in
-    turned-says w status (counts files unlisted 0 0 opened) (ap says is)
+pub turned-counts : (w : Parts) (files unlisted cached documents opened : ℕ) → opened ≡ count_by is_open w.state.sessions → files ≡ sum_by (λ (h : Hosted). length h.rows) w.state.hosted
+    → unlisted ≡ sum_by (λ (h : Hosted). count_by fades h.rows) w.state.hosted → cached ≡ sum_by (λ (p : Proxy). length p.files) w.state.proxies
+    → documents ≡ sum_by (λ (p : Proxy). length p.documents) w.state.proxies → Turned w w status (counts files unlisted cached documents opened)
+turned-counts w files unlisted cached documents opened some_open all some files_kept documents_kept =
+    let is : counts_of w.state ≡ counts files unlisted cached documents opened = λ i. counts (sym all i) (sym some i) (sym files_kept i) (sym documents_kept i) (sym some_open i) in
+    turned-says w status (counts files unlisted cached documents opened) (ap says is)
+
+-- memory is wanting for a command that takes some
+pub turned-without : (w : Parts) (command : Command) → takes_memory command ≡ true → Turned w w command no_memory
+turned-without w command takes = record { settings = refl; calls = refl; answered = inr (refl, takes); left = refl }
 
 -- what a turn says and does depends on no moment before, on no clock and on no count
 pub turn-ticked : (settings : Settings) (s : State) (m f now : ℕ) (c : Command) → turn settings (ticked s m f) now c ≡ turn settings s now c
 turn-ticked settings s m f now collect = ap (λ (t : State). collect_of (expire_all settings.grace now s.hosted) t.yard) (ticked-later m f (expire_all settings.grace now s.hosted) s)
-turn-ticked settings s m f now (look repo path tried) = refl
+turn-ticked settings s m f now (look repo path tried) = ap (shows settings s.yard) (look-same s m (option_map moments_after s.clock) f settings now repo tried path)
 turn-ticked settings s m f now (may_put (repository repo) path) = refl
 turn-ticked settings s m f now (may_put place path) = refl
 turn-ticked settings s m f now (put_side (repository repo) path said) = refl
@@ -104,7 +107,7 @@ counting-later faults (e ∷ es) s = counting-later faults es (with_effect s e)
 -- what a turn says and does depends on no count
 pub turn-counting : (settings : Settings) (s : State) (faults now : ℕ) (c : Command) → turn settings (counting faults s) now c ≡ turn settings s now c
 turn-counting settings s faults now collect = ap (λ (t : State). collect_of (expire_all settings.grace now s.hosted) t.yard) (counting-later faults (expire_all settings.grace now s.hosted) s)
-turn-counting settings s faults now (look repo path tried) = refl
+turn-counting settings s faults now (look repo path tried) = ap (shows settings s.yard) (look-same s s.last s.clock faults settings now repo tried path)
 turn-counting settings s faults now (may_put (repository repo) path) = refl
 turn-counting settings s faults now (may_put place path) = refl
 turn-counting settings s faults now (put_side (repository repo) path said) = refl
@@ -226,11 +229,19 @@ alone-says : (w : Parts) (command : Command) (reply : Reply) (tables : Option Ta
 alone-says w command reply tables n is = alone w w command reply tables n (ap (λ (t : Turn). recorded t.effects) is) (turned-says w command reply is)
 
 -- the commands that record nothing
-shows-nothing : (next : ℕ) (seen : Seen) → recorded (shows next seen).effects ≡ []
-shows-nothing next (is_file blob) = elim (next == number_end) as (λ b. recorded (if b then says spent else record { reply = file next blob; effects = lends blob.number ∷ [] }).effects ≡ []) [ true ↦ refl | false ↦ refl ]
-shows-nothing next (is_text bytes) = refl
-shows-nothing next (is_doc bytes) = refl
-shows-nothing next is_nothing = refl
+shows-nothing : (settings : Settings) (y : Yard) (seen : Seen) → recorded (shows settings y seen).effects ≡ []
+shows-nothing settings y (is_file blob) =
+    elim (y.next_lease == number_end) as (λ b. recorded (if b then says spent else record { reply = file y.next_lease blob; effects = lends blob.number ∷ [] }).effects ≡ []) [ true ↦ refl | false ↦ refl ]
+shows-nothing settings y (is_text bytes) = refl
+shows-nothing settings y (is_doc bytes) = refl
+shows-nothing settings y is_nothing = refl
+shows-nothing settings y (is_to_fetch member rule path true) =
+    elim (y.next_draft == number_end)
+    as (λ b. recorded (if b then says spent else record { reply = fetches (plan_of member rule path (Some y.next_draft) (file_limit settings)); effects = draws ∷ [] }).effects ≡ []) [ true ↦ refl | false ↦ refl ]
+shows-nothing settings y (is_to_fetch member rule path false) = refl
+shows-nothing settings y is_blocked = refl
+shows-nothing settings y is_negative = refl
+shows-nothing settings y is_never = refl
 
 draws-nothing : (path : List ℕ) (found : Option Hosted) (next : ℕ) → recorded (in_repository path found (draws_draft next)).effects ≡ []
 draws-nothing path None next = refl
@@ -248,8 +259,8 @@ pub judges-nothing : (k : Result Kind PathFault) (said : List ℕ) (blob_at : Li
 judges-nothing (Ok (FileSide c side)) said blob_at = compares-nothing said (option_map (λ (blob : Blob). side_of blob.print.digests side) (blob_at (text_of c)))
 judges-nothing k said blob_at = refl
 
-pub look-quiet : (w : Parts) (repo path : List ℕ) → recorded (turn w.settings w.state w.state.last (look repo path [])).effects ≡ []
-look-quiet w repo path = shows-nothing w.state.yard.next_lease (seen_at (rows_of repo w.state) path (kind path))
+pub look-quiet : (w : Parts) (repo path tried : List ℕ) → recorded (turn w.settings w.state w.state.last (look repo path tried)).effects ≡ []
+look-quiet w repo path tried = shows-nothing w.settings w.state.yard (look_at w.settings w.state w.state.last repo tried path)
 
 pub may_put-quiet : (w : Parts) (repo path : List ℕ) → recorded (turn w.settings w.state w.state.last (may_put (repository repo) path)).effects ≡ []
 may_put-quiet w repo path = draws-nothing path (hosted_of repo w.state) w.state.yard.next_draft

@@ -66,7 +66,7 @@ among-new n (k ∷ ks) =
     ]
 
 -- each row that is used is so among more numbers
-more-used : (kept : List ℕ) (n : ℕ) (rows : List Row) → RowsUsed kept rows → RowsUsed (with_number n kept) rows
+pub more-used : (kept : List ℕ) (n : ℕ) (rows : List Row) → RowsUsed kept rows → RowsUsed (with_number n kept) rows
 more-used kept n [] used = tt
 more-used kept n (row ∷ rows) used = (among-more row.blob.number n kept used.0, more-used kept n rows used.1)
 
@@ -75,7 +75,7 @@ all-more kept n [] used = tt
 all-more kept n (h ∷ hosted) used = (more-used kept n h.rows used.0, all-more kept n hosted used.1)
 
 -- one more row
-row-more : (kept : List ℕ) (row : Row) (rows : List Row) → IsUsed kept row → RowsUsed kept rows → RowsUsed kept (with_row row rows)
+pub row-more : (kept : List ℕ) (row : Row) (rows : List Row) → IsUsed kept row → RowsUsed kept rows → RowsUsed kept (with_row row rows)
 row-more kept row [] new used = (new, tt)
 row-more kept row (first ∷ rows) new used =
     elim (slice_cmp nat_cmp row.path first.path) as (λ o. RowsUsed kept (match_ordering o (row ∷ first ∷ rows) (row ∷ first ∷ rows) (first ∷ with_row row rows))) [

@@ -1,8 +1,10 @@
 pub mod Hosted
+pub mod Looks
 pub mod Numbers
 pub mod Turn
 pub mod Whole
 pub mod CoreTurn
+pub mod Proxies
 pub mod Purge
 pub mod Stock
 pub mod Deploys

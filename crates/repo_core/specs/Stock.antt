@@ -8,6 +8,7 @@ use Rattle.repo_core.specs.declared.machine.Stock.{Stock}
 abbrev pub state_of : {H : Type 0} → Stock H → Option Moments → State
 state_of stock clock = record {
   hosted = stock.repos.items;
+  proxies = stock.proxies.items;
   sessions = stock.sessions.sessions;
   yard = stock.yard.yard;
   last = stock.last;

@@ -8,11 +8,9 @@ ghost use Rattle.repo_model.specs.Paths.{takes};
 ghost use Rattle.repo_model.specs.State.{number_end, row_at, is_repository};
 ghost use Rattle.repo_model.specs.Shown.{shown_parcel};
 ghost use Rattle.repo_model.specs.Reply.{unlisted};
-ghost use Rattle.repo_model.specs.Turn.{seen_at, unlist_of};
+ghost use Rattle.repo_model.specs.Turn.{unlist_of};
 ghost use Rattle.hosted_repo.specs.Puts.{shown_put};
 ghost use Rattle.ordered_rows.specs.Rows.{fades, rows_after_all, shown_at};
-ghost use Rattle.hosted_repo.specs.Seens.{shown_seen};
-ghost use Rattle.mvn_coords.specs.Kind.{kind};
 ghost use Rattle.ordered_rows.specs.Recording.{FitWhereTold, HasReplyCause};
 ghost use Rattle.row_tables.specs.Records.{HasCommitCause};
 ghost use Rattle.repo_model.specs.Effect.{recorded};
@@ -22,13 +20,13 @@ ghost use Rattle.row_tables.specs.Items.{is_file_path, is_number};
 ghost use Rattle.repo_core.specs.Hosted.{rules_of, rows_in, with_rows, put_due, put_in, rows_put};
 ghost use Rattle.repo_core.specs.Turn.{IsDueOrFree};
 
-use hosted_repo::{Hosted, Put, Row, Seen};
+use hosted_repo::{Hosted, Put, Row};
 use mvn_coords::kind_of;
-use outside::{Held, NoMemory, Parcel};
+use outside::{Held, Parcel};
 use row_tables::{CommitFault, Records};
 
-// The repository of an id.
-fn repo_at<'a, H: Held>(repos: &'a [Hosted<H>], id: &str) -> Option<&'a Hosted<H>>
+/// The repository of an id.
+pub fn repo_at<'a, H: Held>(repos: &'a [Hosted<H>], id: &str) -> Option<&'a Hosted<H>>
     ensures rule { option_map (λ repo. repo.now.rule) result ≡ find (λ rule. bytes_eq rule.id id.now) (rules_of repos.now) }
     ensures repo { option_map (λ repo. repo.now) result ≡ find (is_repository id.now) repos.now }
 {
@@ -68,20 +66,6 @@ pub fn row_of<'a, H: Held>(repos: &'a [Hosted<H>], id: &str, path: &str) -> Opti
     ensures { option_map (λ row. shown_at path.now row.now) result ≡ row_at path.now (rows_in id.now repos.now) }
 {
     repo_at(repos, id)?.row(path)
-}
-
-/// What the repository of an id has at a path. Only a document or its side file takes memory.
-pub fn seen_in<'a, H: Held>(
-    repos: &'a [Hosted<H>],
-    id: &str,
-    path: &str,
-) -> Result<Option<Seen<'a, H>>, NoMemory>
-    ensures { IfOk result (λ s. shown_seen s ≡ seen_at (rows_in id.now repos.now) path.now (kind path.now)) }
-{
-    match repo_at(repos, id) {
-        Some(repo) => repo.look(path),
-        None => Ok(None),
-    }
 }
 
 /// Puts a stored blob at a path of the repository of an id, which is there, once that is recorded.

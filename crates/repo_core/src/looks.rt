@@ -1,44 +1,106 @@
-//! Looks: the blob of a file is lent; the text of a side file and a document are given.
-ghost use Rattle.std.specs.Prelude.{◌≡◌, IsTrue};
-ghost use Rattle.mvn_coords.specs.Kind.{kind};
+//! Looks: the blob of a file is lent; the text of a side file and a document are given; or a remote is to be asked first.
+ghost use Rattle.std.specs.Prelude.{◌≡◌, IfOk, IsTrue};
+ghost use Rattle.proxy_rules.specs.Rules.{shown_rule};
 ghost use Rattle.repo_model.specs.Shown.{shown_parcel, shown_reply};
-ghost use Rattle.repo_model.specs.State.{is_among};
-ghost use Rattle.repo_model.specs.Turn.{shows, is_file, seen_at};
-ghost use Rattle.repo_core.specs.Hosted.{AreInUse, rows_in};
+ghost use Rattle.repo_model.specs.State.{State, is_among};
+ghost use Rattle.repo_model.specs.Turn.{shows, is_file, look_at};
+ghost use Rattle.repo_core.specs.Hosted.{AreInUse};
+ghost use Rattle.repo_core.specs.Looks.{HasGoods, IsLendable, shown_looked};
 ghost use Rattle.repo_core.specs.Numbers.{yard_looked};
+ghost use Rattle.repo_core.specs.Proxies.{AreCachedInUse};
 ghost use Rattle.repo_core.specs.Turn.{IsDueOr};
 
-use crate::hosted::seen_in;
+use crate::conditions::group_of;
+use crate::groups::seen_in_group;
+use crate::hosted::repo_at;
+use crate::looked::{Asked, Goods, Looked};
+use crate::members::{seen_by_member, seen_by_repo};
+use crate::plans::plan_fetch;
 use blob_yard::{DrawFault, Yard};
-use hosted_repo::{Hosted, Seen};
-use outside::{Held, Parcel};
+use hosted_repo::Seen;
+use outside::{Held, NoMemory, Parcel};
+use repo_config::Settings;
 use repo_model::Reply;
+use std::alloc::Global;
 use texts::Bytes;
 
-/// What is at a path of the repository of an id. The blob of a file is lent.
-pub fn look<H: Held>(repos: &[Hosted<H>], yard: &mut Yard, id: &str, path: &str) -> Reply<H>
-    requires { AreInUse yard.old.kept repos.now }
-    ensures reply { IsDueOr
-        (shows yard.old.yard.next_lease (seen_at (rows_in id.now repos.now) path.now (kind path.now))).reply
+// What the repository of an id has at a path: a hosted one, a group, or a proxy.
+fn look_at<'a, H: Held>(
+    alloc: Global,
+    settings: &Settings,
+    goods: &Goods<'a, H>,
+    id: &str,
+    asked: &Asked<'a>,
+) -> Result<Looked<'a, H>, NoMemory>
+    ensures { (s : State) → HasGoods s goods.now.repos.now goods.now.proxies.now → IfOk result (λ l. shown_looked l
+        ≡ look_at settings.now s asked.now.moment id.now asked.now.tried.now asked.now.path.now) }
+{
+    if let Some(repo) = repo_at(goods.repos, id) {
+        return seen_by_repo(repo, asked.path);
+    }
+    match group_of(settings, id) {
+        Some(group) => seen_in_group(alloc, goods, group.members(), asked),
+        None => seen_by_member(alloc, goods, 0, id, asked),
+    }
+}
+
+/// What is at a path of the repository of an id. The blob of a file is lent, and what is to be fetched of a remote is planned.
+pub fn look<H: Held>(
+    alloc: Global,
+    settings: &Settings,
+    goods: &Goods<'_, H>,
+    yard: &mut Yard,
+    id: &str,
+    asked: &Asked<'_>,
+) -> Reply<H>
+    requires used { AreInUse yard.old.kept goods.now.repos.now }
+    requires cached { AreCachedInUse yard.old.kept goods.now.proxies.now }
+    ensures reply { (s : State) → HasGoods s goods.now.repos.now goods.now.proxies.now → IsDueOr
+        (shows settings.now yard.old.yard (look_at settings.now s asked.now.moment id.now asked.now.tried.now asked.now.path.now)).reply
         (shown_reply result) }
     ensures yard { yard.new ≡ record yard.old { yard = yard_looked (shown_reply result) yard.old.yard } }
 {
-    match seen_in(repos, id, path) {
-        Ok(Some(Seen::File(parcel))) => lend(yard, parcel),
-        Ok(Some(Seen::Text(text))) => Reply::Text(text),
-        Ok(Some(Seen::Doc(doc))) => Reply::Doc {
-            text: Bytes::from_vec(doc.text),
-            digests: doc.digests,
-        },
-        Ok(None) => Reply::Missed,
+    match look_at(alloc, settings, goods, id, asked) {
+        Ok(looked) => answer(alloc, settings, yard, looked),
         Err(_) => Reply::NoMemory,
     }
 }
 
+// The answer where this is at a path.
+fn answer<H: Held>(
+    alloc: Global,
+    settings: &Settings,
+    yard: &mut Yard,
+    looked: Looked<'_, H>,
+) -> Reply<H>
+    requires { IsLendable yard.old.kept (shown_looked looked) }
+    ensures reply { IsDueOr (shows settings.now yard.old.yard (shown_looked looked.entry)).reply (shown_reply result) }
+    ensures yard { yard.new ≡ record yard.old { yard = yard_looked (shown_reply result) yard.old.yard } }
+{
+    match looked {
+        Looked::Here(Seen::File(parcel)) => lend(settings, yard, parcel),
+        Looked::Here(Seen::Text(text)) => Reply::Text(text),
+        Looked::Here(Seen::Doc(doc)) => Reply::Doc {
+            text: Bytes::from_vec(doc.text),
+            digests: doc.digests,
+        },
+        Looked::Nothing => Reply::Missed,
+        Looked::Fetch {
+            member,
+            rule,
+            path,
+            of_file,
+        } => plan_fetch(alloc, settings, yard, member, rule, path, of_file),
+        Looked::Blocked => Reply::Blocked,
+        Looked::Negative => Reply::Negative,
+        Looked::Never => Reply::Never,
+    }
+}
+
 // The answer where a file is there: its blob, lent.
-fn lend<H: Held>(yard: &mut Yard, parcel: &Parcel<H>) -> Reply<H>
+fn lend<H: Held>(settings: &Settings, yard: &mut Yard, parcel: &Parcel<H>) -> Reply<H>
     requires { IsTrue (is_among parcel.now.blob yard.old.kept) }
-    ensures reply { IsDueOr (shows yard.old.yard.next_lease (is_file (shown_parcel parcel.now))).reply (shown_reply result) }
+    ensures reply { IsDueOr (shows settings.now yard.old.yard (is_file (shown_parcel parcel.now))).reply (shown_reply result) }
     ensures yard { yard.new ≡ record yard.old { yard = yard_looked (shown_reply result) yard.old.yard } }
 {
     let Ok(parcel) = parcel.share() else {

@@ -3,7 +3,9 @@ ghost use Rattle.std.specs.Prelude.{◌≡◌};
 
 use crate::deploys::{reply_of_abort, reply_of_begin, reply_of_commit};
 use crate::hosted::{counts, put, takes, unlist};
+use crate::looked::{Asked, Goods};
 use crate::looks::look;
+use crate::proxies::counts_kept;
 use crate::purges::{Gone, condemn_all, drop_expired, expiring};
 use crate::puts::{compare_side, reply_of, settle};
 use crate::turn::next_moment;
@@ -12,26 +14,29 @@ use deploy_session::Sessions;
 use hosted_repo::Hosted;
 use mvn_digest::Digest;
 use outside::{Clock, Held, Parcel};
+use proxy_rules::Proxy;
 use repo_config::Settings;
 use repo_model::{Command, Numbers, Place, Reply};
 use row_tables::{CommitFault, Records};
 use std::marker::Model;
 
-/// Hosted repositories with their rows, the numbers of blobs, the sessions, and the last moment.
+/// Hosted repositories with their rows, proxies with what they keep, the numbers of blobs, the sessions, and the last moment.
 #[derive(Drop)]
 pub struct Stock<H: Held> {
     pub repos: Vec<Hosted<H>>,
+    pub proxies: Vec<Proxy<H>>,
     pub yard: Yard,
     pub sessions: Sessions<H>,
     pub last: u64,
 }
 
-/// Hosted repositories with their rows, the numbers of blobs, the sessions, a clock, the settings, and how many calls there
-/// were.
+/// Hosted repositories with their rows, proxies with what they keep, the numbers of blobs, the sessions, a clock, the settings, and
+/// how many calls there were.
 #[derive(Drop)]
 pub struct Machine<C: Clock, H: Held> {
     settings: Settings,
     pub(crate) repos: Vec<Hosted<H>>,
+    pub(crate) proxies: Vec<Proxy<H>>,
     pub(crate) yard: Yard,
     pub(crate) sessions: Sessions<H>,
     pub(crate) last: u64,
@@ -48,11 +53,13 @@ impl<C: Clock, H: Held> Model for Machine<C, H> {
 
     ghost use Rattle.repo_core.specs.Hosted.{rules_of, AreInUse};
     ghost use Rattle.repo_core.specs.Deploys.{AreStagedInUse};
+    ghost use Rattle.repo_core.specs.Proxies.{AreCachedInUse, proxy_rules_of};
 
     ghost view = { λ c. record {
       settings = c.settings;
       state = record {
         hosted = c.repos.items;
+        proxies = c.proxies.items;
         sessions = c.sessions.sessions;
         yard = c.yard.yard;
         last = c.last;
@@ -65,7 +72,9 @@ impl<C: Clock, H: Held> Model for Machine<C, H> {
     ghost invariant = { λ c. record {
       moment : c.last ≤ latest_moment;
       blobs : AreInUse c.yard.kept c.repos.items;
+      cached : AreCachedInUse c.yard.kept c.proxies.items;
       rules : rules_of c.repos.items ≡ c.settings.hosted;
+      proxy_rules : proxy_rules_of c.proxies.items ≡ c.settings.proxies;
       staged : AreStagedInUse c.yard.kept c.sessions.sessions;
       numbers : c.yard.yard.next_session ≡ c.sessions.next;
     } };
@@ -88,6 +97,7 @@ impl<C: Clock, H: Held> Machine<C, H> {
     ghost use Rattle.ordered_rows.specs.Recording.{FitWhereTold, HasReplyCause};
     ghost use Rattle.repo_core.specs.Deploys.{AreStagedInUse};
     ghost use Rattle.repo_core.specs.Hosted.{AreInUse, rules_of};
+    ghost use Rattle.repo_core.specs.Proxies.{AreCachedInUse, proxy_rules_of};
     ghost use Rattle.repo_core.specs.Purge.{shares};
     ghost use Rattle.repo_core.specs.Stock.{state_of};
     ghost use Rattle.repo_core.specs.Turn.{IsSettled, IsSettledBy, MayRecord, Recorded, Turned};
@@ -97,7 +107,9 @@ impl<C: Clock, H: Held> Machine<C, H> {
     pub fn of(settings: Settings, stock: Stock<H>, clock: C) -> Machine<C, H>
         requires moment { stock.last ≤ latest_moment }
         requires blobs { AreInUse stock.yard.kept stock.repos.items }
+        requires cached { AreCachedInUse stock.yard.kept stock.proxies.items }
         requires rules { rules_of stock.repos.items ≡ settings.hosted }
+        requires proxy_rules { proxy_rules_of stock.proxies.items ≡ settings.proxies }
         requires staged { AreStagedInUse stock.yard.kept stock.sessions.sessions }
         requires numbers { stock.yard.yard.next_session ≡ stock.sessions.next }
         ensures settings { result.settings ≡ settings }
@@ -106,6 +118,7 @@ impl<C: Clock, H: Held> Machine<C, H> {
     {
         let Stock {
             repos,
+            proxies,
             yard,
             sessions,
             last,
@@ -113,6 +126,7 @@ impl<C: Clock, H: Held> Machine<C, H> {
         Machine {
             settings,
             repos,
+            proxies,
             yard,
             sessions,
             last,
@@ -170,6 +184,7 @@ impl<C: Clock, H: Held> Machine<C, H> {
         let Machine {
             settings: _,
             repos: _,
+            proxies: _,
             yard: _,
             sessions: _,
             last: _,
@@ -190,7 +205,9 @@ impl<C: Clock, H: Held> Machine<C, H> {
         ensures ready { K.ready records.new }
     {
         match command {
-            Command::Look { repo, path } => self.look(repo.as_str(), path.as_str()),
+            Command::Look { repo, path, tried } => {
+                self.look(repo.as_str(), path.as_str(), tried.as_slice())
+            }
             Command::Done { lease } => {
                 self.yard.done(lease);
                 Reply::Done
@@ -226,13 +243,24 @@ impl<C: Clock, H: Held> Machine<C, H> {
             Command::Unlist { repo } => self.unlist(records, repo.as_str()),
             Command::Collect => self.collect(records),
             Command::Status => self.status(),
+            Command::Land { plan, outcome } => self.land(records, plan, outcome),
         }
     }
 
-    fn look(&mut self, repo: &str, path: &str) -> Reply<H>
-        ensures { Turned self.old self.new (look repo.now path.now []) (shown_reply result) }
+    fn look(&mut self, repo: &str, path: &str, tried: &[u64]) -> Reply<H>
+        ensures { Turned self.old self.new (look repo.now path.now tried.now) (shown_reply result) }
     {
-        look(&self.repos, &mut self.yard, repo, path)
+        let alloc = *self.repos.allocator();
+        let goods = Goods {
+            repos: &self.repos,
+            proxies: &self.proxies,
+        };
+        let asked = Asked {
+            moment: self.last,
+            tried,
+            path,
+        };
+        look(alloc, &self.settings, &goods, &mut self.yard, repo, &asked)
     }
 
     fn may_put(&mut self, repo: &str, path: &str) -> Reply<H>
@@ -348,11 +376,15 @@ impl<C: Clock, H: Held> Machine<C, H> {
         ensures { Turned self.old self.new status (shown_reply result) }
     {
         let (files, fading) = counts(&self.repos);
+        // So many documents would have taken more memory than there is.
+        let Some((cached, documents)) = counts_kept(&self.proxies) else {
+            return Reply::NoMemory;
+        };
         Reply::Counts {
             files,
             fading,
-            cached: 0,
-            documents: 0,
+            cached,
+            documents,
             sessions: self.sessions.count(),
         }
     }

@@ -9,10 +9,10 @@ use repo_model::{Command, Reply};
 use row_tables::Records;
 use std::marker::Model;
 
-/// The repository: hosted repositories with their rows, the blob numbers, the sessions, the settings, the records, a clock, and
-/// how many calls there were.
+/// The repository: hosted repositories with their rows, proxies with what they keep, the blob numbers, the sessions, the settings,
+/// the records, a clock, and how many calls there were.
 ///
-/// Its state is always sound: the repositories are those of the settings, their rows in byte order of path, each path once;
+/// Its state is always sound: the repositories and proxies are those of the settings, their rows in byte order of path, each path once;
 /// each blob number stands in one place at most; what fades is a snapshot's. The tables that the records tell, where they do,
 /// hold the state: its rows, the results of its sessions and its numbers.
 #[derive(Drop)]
@@ -67,7 +67,7 @@ impl<K: Records, C: Clock, H: Held> Core<K, C, H> {
     /// Every command but `Done` and `Drop` may want memory; where it is wanting, or where the records fail, nothing changes
     /// but the moment and the count of the records. That count has risen where `StoreFault` is answered, and is as it was where
     /// anything else is. A release's row stands behind each call as it stood before. A draft for a file is given only
-    /// where the repository takes the file. A `Collect` is always committed, an empty one too: where it gives blobs out to be
+    /// where the repository takes the file, and what a look says to fetch is a plan of the settings. A `Collect` is always committed, an empty one too: where it gives blobs out to be
     /// removed, no change whose commit failed, and which may name one of them, is found any more.
     pub fn call(&mut self, command: Command<H>) -> Reply<H>
         requires { IsTrue (meets self.old.settings (shown_command command)) }
@@ -87,9 +87,11 @@ impl<K: Records, C: Clock, H: Held> Core<K, C, H> {
         self.machine.call(&mut self.records, command)
     }
 
-    /// Whether a command meets its condition under these settings: its repository is there, its path names what the command is
-    /// about, and the repository takes files of the path's kind where it is a `Put`, whose parcel has the draft's number and at
-    /// most 2^63 - 1 bytes; what a side file says is a digest of its side.
+    /// Whether a command meets its condition under these settings: its repository is there, of any kind for a `Look`, its path
+    /// names what the command is about, and the repository takes files of the path's kind where it is a `Put`, whose parcel has
+    /// the draft's number and at most 2^63 - 1 bytes; what a side file says is a digest of its side. What lands is of a proxy that
+    /// is there: under a draft nothing but a file, whose parcel is so, and under none nothing but a document, whose written text
+    /// has at most 4,000,000 bytes.
     pub fn fits(settings: &Settings, command: &Command<H>) -> bool
         ensures { result ≡ meets settings.now (shown_command command.now) }
     {

@@ -5,7 +5,7 @@ ghost use Rattle.outside.specs.Moments.{Moments};
 ghost use Rattle.repo_config.specs.Form.{IsSettings};
 ghost use Rattle.repo_model.specs.Restart.{blobs_named};
 ghost use Rattle.repo_model.specs.State.{opening};
-ghost use Rattle.repo_model.specs.Tables.{AreComplete, Tables as Plain, no_tables};
+ghost use Rattle.repo_model.specs.Tables.{Tables as Plain, no_tables};
 ghost use Rattle.repo_laws.specs.Holds.{StandsFor};
 ghost use Rattle.row_tables.specs.Recorded.{IsBuiltUp};
 ghost use Rattle.blob_audit.specs.Order.{all_rows};
@@ -15,6 +15,7 @@ ghost use Rattle.repo_restart.specs.Leftovers.{ClearsFront};
 ghost use Rattle.blob_audit.specs.Damages.{IsFirstDamaged};
 ghost use Rattle.row_completion.specs.Completion.{IsComplete, IsDigested, IsDigestedWhereTold};
 ghost use Rattle.repo_core.specs.Hosted.{AreInUse};
+ghost use Rattle.repo_core.specs.Proxies.{AreCachedInUse};
 ghost use Rattle.repo_core.specs.Start.{AreCompleted, AreLoaded, Starts};
 ghost use Rattle.repo_core.specs.StartFaults.{HasStartCause, IsUnread, OnDamage, RefusesAs};
 ghost use Rattle.repo_core.specs.Stock.{state_of};
@@ -28,11 +29,11 @@ use blob_yard::Yard;
 use deploy_session::Sessions;
 use outside::{Blobs, Clock};
 use repo_config::Settings;
-use repo_restart::{RestoreFault, Restored, restore};
+use repo_restart::{RestoreFault, restore};
 use row_tables::{Records, Tables};
 use std::alloc::Global;
 
-// Rows, numbers and sessions, by what is recorded.
+// Rows, documents, numbers and sessions, by what is recorded.
 fn stock_of<B: Blobs>(
     alloc: Global,
     settings: &Settings,
@@ -40,11 +41,12 @@ fn stock_of<B: Blobs>(
     blobs: &mut B,
 ) -> Result<Stock<B::Held>, RestoreFault>
     requires built { IsBuiltUp tables.now }
-    requires complete { AreComplete tables.now.hosted }
+    requires complete { IsComplete tables.now }
     requires form { IsSettings settings.now }
     ensures starts { IfOk result (λ stock. (clock : Option Moments)
         → Starts settings.now tables.now (B.shelf blobs.old) (B.shelf blobs.new) clock 0 (state_of stock clock)) }
     ensures kept { IfOk result (λ stock. AreInUse stock.yard.kept stock.repos.items) }
+    ensures cached { IfOk result (λ stock. AreCachedInUse stock.yard.kept stock.proxies.items) }
     ensures numbers { IfOk result (λ stock. stock.yard.yard.next_session ≡ stock.sessions.next) }
     ensures damaged { restoring.OnDamage result (λ damage.
         IsFirstDamaged (B.shelf blobs.old) (all_rows tables.now) damage × (B.shelf blobs.new ≡ B.shelf blobs.old)) }
@@ -52,10 +54,12 @@ fn stock_of<B: Blobs>(
     ensures cause { HasRestoreCause (B.faults blobs.old) (B.faults blobs.new) result }
 {
     let sessions = Sessions::start(alloc, tables)?;
-    let Restored { repos, named, next } = restore(alloc, settings.hosted(), tables, blobs)?;
-    let yard = Yard::start(alloc, &named, next, sessions.next_number())?;
+    let restored = restore(alloc, settings.hosted(), settings.proxies(), tables, blobs)?;
+    let next = restored.next;
+    let yard = Yard::start(alloc, &restored.named, next, sessions.next_number())?;
     Ok(Stock {
-        repos,
+        repos: restored.repos,
+        proxies: restored.proxies,
         yard,
         sessions,
         last: tables.greatest_moment(),
@@ -70,9 +74,9 @@ fn stock_of<B: Blobs>(
 /// differs, or is not there, is `Damaged`. Then the blobs that no row names are removed, in the order of the store; where that fails, or memory is wanting,
 /// the first ones of these are gone and no others. `Store` comes where the records or the store failed.
 ///
-/// The state is the one that the machine's definition makes of the tables so completed: rows with the bytes that stand, results
-/// of sessions, no drafts, leases and open sessions, and the greatest moment that is recorded. At an error the records and the
-/// clock come back.
+/// The state is the one that the machine's definition makes of the tables so completed: rows with the bytes that stand, documents
+/// of proxies, which know no path that their remotes lack, results of sessions, no drafts, leases and open sessions, and the
+/// greatest moment that is recorded. At an error the records and the clock come back.
 pub fn start<K: Records, B: Blobs, C: Clock>(
     alloc: Global,
     settings: Settings,

@@ -1,8 +1,26 @@
-use Rattle.repo_model.specs.Shown.{shown_parcel}
-use Rattle.repo_core.proofs.LookLemmas.{seen-used}
+use Rattle.std.proofs.Common.{None, Option, [], refl, sym, subst}
+use Rattle.repo_model.specs.Shown.{shown_reply}
+use Rattle.repo_model.specs.State.{State}
+use Rattle.repo_model.specs.Turn.{Seen, shows}
+use Rattle.repo_core.specs.Looks.{IsLendable}
+use Rattle.repo_core.specs.Turn.{IsDueOr}
+use Rattle.repo_core.proofs.LendLemmas.{look-lendable}
 use Rattle.repo_core.proofs.looks.look.Goals as goal
 
-pub lend-requires : goal.lend-requires
-lend-requires g c =
-    let found = c.in-Ok-Some-File in
-    seen-used c.args.yard.now.kept c.args.id.now c.args.path.now c.args.repos.now (shown_parcel found.parcel.now) c.requires (rw (found.field-0-is, found.field-0-0-is) at found.ensures)
+pub answer-requires : goal.answer-requires
+answer-requires g c =
+    let s : State = record {
+      hosted = c.args.goods.now.repos.now;
+      proxies = c.args.goods.now.proxies.now;
+      sessions = [];
+      yard = c.args.yard.now.yard;
+      last = 0;
+      clock = None;
+      faults = 0;
+    } in
+    subst (IsLendable c.args.yard.now.kept) (sym (c.in-Ok.ensures s (record { hosted_so = refl; proxies_so = refl })))
+    (look-lendable c.args.yard.now.kept s c.requires.used c.requires.cached c.args.settings.now c.args.asked.now.moment c.args.id.now c.args.asked.now.tried.now c.args.asked.now.path.now)
+
+pub returns-in-Ok-clause-reply : goal.returns-in-Ok-clause-reply
+returns-in-Ok-clause-reply g c = λ s has.
+    subst (λ (seen : Seen). IsDueOr (shows c.args.settings.now c.args.yard.now.yard seen).reply (shown_reply c.answer.result)) (c.in-Ok.ensures s has) c.answer.ensures.reply

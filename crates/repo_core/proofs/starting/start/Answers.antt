@@ -11,7 +11,7 @@ use Rattle.repo_model.specs.Tables.{no_tables}
 use Rattle.repo_core.specs.Start.{Starts}
 use Rattle.repo_core.specs.Stock.{state_of}
 use Rattle.repo_core.specs.Whole.{Whole, counting}
-use Rattle.repo_core.proofs.StartLemmas.{complete-then, damage-then, digested-so, empty-stays, starts-counted, starts-kept, starts-last, starts-opening, starts-rules, starts-staged, starts-told, told-then}
+use Rattle.repo_core.proofs.StartLemmas.{complete-then, damage-then, digested-so, empty-stays, starts-counted, starts-kept, starts-last, starts-opening, starts-proxy-rules, starts-rules, starts-staged, starts-told, told-then}
 use Rattle.repo_core.proofs.starting.start.Goals as goal
 
 pub of-requires-clause-moment : goal.of-requires-clause-moment
@@ -27,6 +27,13 @@ of-requires-clause-rules g c =
     let old = g.B.Blobs.shelf c.args.blobs.now in
     let new = g.B.Blobs.shelf c.stock_of.new.blobs in
     starts-rules c.args.settings c.in-Ok.tables old new clock (state_of c.in-Ok-stock_of.stock clock) c.in-Ok.ensures.built c.form.ensures (subst (λ (sh : Shelf). Starts c.args.settings c.in-Ok.tables sh new clock 0 (state_of c.in-Ok-stock_of.stock clock)) c.load.ensures.kept (c.in-Ok-stock_of.ensures.starts clock))
+
+pub of-requires-clause-proxy_rules : goal.of-requires-clause-proxy_rules
+of-requires-clause-proxy_rules g c =
+    let clock = g.C.Clock.moments c.args.clock in
+    let old = g.B.Blobs.shelf c.args.blobs.now in
+    let new = g.B.Blobs.shelf c.stock_of.new.blobs in
+    starts-proxy-rules c.args.settings c.in-Ok.tables old new clock (state_of c.in-Ok-stock_of.stock clock) c.in-Ok.ensures.built c.form.ensures (subst (λ (sh : Shelf). Starts c.args.settings c.in-Ok.tables sh new clock 0 (state_of c.in-Ok-stock_of.stock clock)) c.load.ensures.kept (c.in-Ok-stock_of.ensures.starts clock))
 
 pub of-requires-clause-staged : goal.of-requires-clause-staged
 of-requires-clause-staged g c =

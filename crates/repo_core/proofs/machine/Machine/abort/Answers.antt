@@ -11,10 +11,11 @@ use Rattle.repo_model.specs.State.{State}
 use Rattle.repo_laws.proofs.Turns.{turn-can}
 use Rattle.repo_core.specs.Deploys.{AreStagedInUse, hosted_after_all}
 use Rattle.repo_core.specs.Hosted.{AreInUse}
+use Rattle.repo_core.specs.Proxies.{AreCachedInUse}
 use Rattle.repo_core.specs.Purge.{AreKeptOnce, condemned_by, kept_without}
 use Rattle.repo_core.specs.Whole.{Parts}
 use Rattle.repo_core.proofs.DeployTurns.{recorded-by, recorded-given}
-use Rattle.repo_core.proofs.EndTurns.{abort-gives, end-files, end-left, end-once, end-rows, end-yard, given-hosted, giving-going, known-if, next-if}
+use Rattle.repo_core.proofs.EndTurns.{abort-gives, end-cached, end-files, end-left, end-once, end-rows, end-yard, given-hosted, giving-going, known-if, next-if}
 use Rattle.repo_core.proofs.GarbageLemmas.{garbage_of}
 use Rattle.settings_laws.proofs.Apart.{named-apart}
 use Rattle.repo_core.proofs.machine.Machine.abort.Goals as goal
@@ -28,6 +29,7 @@ condemn_left-requires g c =
     let kept = c.self.inside.yard.kept in
     let s : State = record {
       hosted = c.self.inside.repos.items;
+      proxies = c.self.inside.proxies.items;
       sessions = k.sessions;
       yard = c.self.inside.yard.yard;
       last = c.self.inside.last;
@@ -51,6 +53,7 @@ invariant_of-self g c =
     let kept = c.self.inside.yard.kept in
     let s : State = record {
       hosted = c.self.inside.repos.items;
+      proxies = c.self.inside.proxies.items;
       sessions = k.sessions;
       yard = c.self.inside.yard.yard;
       last = c.self.inside.last;
@@ -67,6 +70,9 @@ invariant_of-self g c =
     record {
       moment = c.self.invariant.moment;
       blobs = subst (λ ns. AreInUse ns s.hosted) (sym kept_is) (subst (AreInUse _) (given-hosted free es s.hosted gives) rows);
+      cached = subst (λ ns. AreCachedInUse ns s.proxies) (sym kept_is)
+          (end-cached settings.grace s.last s es going may orderly.places kept c.self.invariant.blobs c.self.invariant.staged c.self.invariant.cached free);
+      proxy_rules = c.self.invariant.proxy_rules;
       rules = c.self.invariant.rules;
       staged = subst (λ ns. AreStagedInUse ns c.abort-did.new.self.sessions) (sym kept_is)
           (subst (AreStagedInUse _) (sym (ap (λ (q : Known). q.sessions) c.abort-did.ensures.sessions ∙ known-if free es k)) files);
@@ -88,6 +94,7 @@ returns-clause-turn g c =
     let kept = c.self.inside.yard.kept in
     let s : State = record {
       hosted = c.self.inside.repos.items;
+      proxies = c.self.inside.proxies.items;
       sessions = k.sessions;
       yard = c.self.inside.yard.yard;
       last = c.self.inside.last;

@@ -1,10 +1,10 @@
-use Rattle.std.proofs.Common.{◌≡◌, [], sym, ap, ◌∙◌, subst}
+use Rattle.std.proofs.Common.{◌≡◌, sym, ap, ◌∙◌, subst}
 use Rattle.ordered_rows.specs.Recording.{FitWhereTold}
 use Rattle.mvn_digest.specs.Sides.{bytes_in}
-use Rattle.repo_model.specs.Command.{collect, look, may_put, put, put_doc, put_side, stage, unlist}
+use Rattle.repo_model.specs.Command.{collect, land, look, may_put, put, put_doc, put_side, stage, unlist}
 use Rattle.repo_model.specs.Data.{repository, session}
 use Rattle.repo_model.specs.Effect.{recorded}
-use Rattle.repo_model.specs.Shown.{shown_command, shown_parcel, shown_place, shown_reply}
+use Rattle.repo_model.specs.Shown.{outcome_map, shown_command, shown_got, shown_parcel, shown_place, shown_reply}
 use Rattle.repo_model.specs.Turn.{turn}
 use Rattle.repo_core.specs.Turn.{Recorded}
 use Rattle.repo_core.proofs.DeployTurns.{may_stage-quiet, note-quiet, stage-quiet, stage_side-quiet}
@@ -68,10 +68,12 @@ returns-in-Look-clause-turn g c =
     let faults = g.K.Records.faults c.args.records.now in
     let repo = c.as_str.result.now in
     let path = c.as_str-in-Look.result.now in
-    let asked : look repo path [] ≡ shown_command c.args.command =
-    ap (λ r. look r path []) c.as_str.ensures ∙ ap (λ p. look c.in-Look.repo p []) c.as_str-in-Look.ensures ∙ ap (λ q. shown_command q) (sym c.in-Look.is) in
+    let tried = c.as_slice.result.now in
+    let asked : look repo path tried ≡ shown_command c.args.command =
+    ap (λ r. look r path tried) c.as_str.ensures ∙ ap (λ p. look c.in-Look.repo p tried) c.as_str-in-Look.ensures ∙ ap (λ t. look c.in-Look.repo c.in-Look.path t) c.as_slice.ensures
+    ∙ ap (λ q. shown_command q) (sym c.in-Look.is) in
     subst (λ q. Recorded w c.look.new.self q (shown_reply c.look.result) tables tables faults faults) asked
-    (alone w c.look.new.self (look repo path []) (shown_reply c.look.result) tables faults (look-quiet w repo path) c.look.ensures)
+    (alone w c.look.new.self (look repo path tried) (shown_reply c.look.result) tables faults (look-quiet w repo path tried) c.look.ensures)
 
 pub returns-in-Repository-clause-turn : goal.returns-in-Repository-clause-turn
 returns-in-Repository-clause-turn g c =
@@ -121,3 +123,30 @@ collect-requires-clause-items g c =
     let w = c.args.self.now in
     let asked : shown_command c.args.command ≡ collect = ap (λ q. shown_command q) c.in-Collect.is in
     subst (λ q. FitWhereTold (g.K.Records.tables c.args.records.now) (recorded (turn w.settings w.state w.state.last q).effects)) asked c.requires.items
+
+pub land-requires-clause-items : goal.land-requires-clause-items
+land-requires-clause-items g c =
+    let w = c.args.self.now in
+    let asked : shown_command c.args.command ≡ land c.in-Land.plan (outcome_map shown_got c.in-Land.outcome) = ap (λ q. shown_command q) c.in-Land.is in
+    subst (λ q. FitWhereTold (g.K.Records.tables c.args.records.now) (recorded (turn w.settings w.state w.state.last q).effects)) asked c.requires.items
+
+pub returns-in-Put-clause-turn : goal.returns-in-Put-clause-turn
+returns-in-Put-clause-turn g c =
+    let w = c.args.self.now in
+    let draft = c.in-Put.draft in
+    let blob = shown_parcel c.in-Put.parcel in
+    let repo = c.as_str-in-Put.result.now in
+    let path = c.as_str-in-Put-2.result.now in
+    let asked : put repo path draft blob ≡ shown_command c.args.command =
+    ap (λ r. put r path draft blob) c.as_str-in-Put.ensures ∙ ap (λ p. put c.in-Put.repo p draft blob) c.as_str-in-Put-2.ensures ∙ ap (λ q. shown_command q) (sym c.in-Put.is) in
+    subst
+    (λ q. Recorded w c.put.new.self q (shown_reply c.put.result) (g.K.Records.tables c.args.records.now) (g.K.Records.tables c.put.new.records) (g.K.Records.faults c.args.records.now) (g.K.Records.faults c.put.new.records)) asked
+    c.put.ensures.turn
+
+pub returns-clause-turn : goal.returns-clause-turn
+returns-clause-turn g c =
+    let w = c.args.self.now in
+    let asked : land c.in-Land.plan (outcome_map shown_got c.in-Land.outcome) ≡ shown_command c.args.command = ap (λ q. shown_command q) (sym c.in-Land.is) in
+    subst
+    (λ q. Recorded w c.land.new.self q (shown_reply c.land.result) (g.K.Records.tables c.args.records.now) (g.K.Records.tables c.land.new.records) (g.K.Records.faults c.args.records.now) (g.K.Records.faults c.land.new.records))
+    asked c.land.ensures.turn

@@ -16,7 +16,7 @@ answer-requires-clause-items g c =
     let read = c.next_moment-self-inside.ensures in
     let begun : Parts = record {
       settings = c.self.inside.settings;
-      state = record { hosted = c.self.inside.repos.items; sessions = c.self.inside.sessions.sessions; yard = c.self.inside.yard.yard; last = moment; clock = g.C.Clock.moments c.next_moment-self-inside.new.clock; faults = 0 };
+      state = record { hosted = c.self.inside.repos.items; proxies = c.self.inside.proxies.items; sessions = c.self.inside.sessions.sessions; yard = c.self.inside.yard.yard; last = moment; clock = g.C.Clock.moments c.next_moment-self-inside.new.clock; faults = 0 };
       calls = w.calls;
     } in
     begun-fit w begun (g.K.Records.tables c.args.records.now) (shown_command c.args.command) moment (rw (← c.self.view_is)) (rw (← c.self.view_is, read.clock)) (rw (← c.self.view_is) read.order) read.limit c.requires.items

@@ -13,10 +13,11 @@ use Rattle.repo_model.specs.State.{State}
 use Rattle.repo_laws.proofs.Turns.{turn-can}
 use Rattle.repo_core.specs.Deploys.{AreStagedInUse, commit_in, hosted_after_all}
 use Rattle.repo_core.specs.Hosted.{AreInUse, rules_of}
+use Rattle.repo_core.specs.Proxies.{AreCachedInUse}
 use Rattle.repo_core.specs.Purge.{AreKeptOnce, condemned_by, kept_without}
 use Rattle.repo_core.specs.Whole.{Parts}
 use Rattle.repo_core.proofs.DeployTurns.{recorded-by}
-use Rattle.repo_core.proofs.EndTurns.{commit-given, commit-going, commit-rules, end-files, end-left, end-once, end-rows, end-yard, known-if, next-if, open-there, rules-if}
+use Rattle.repo_core.proofs.EndTurns.{commit-given, commit-going, commit-rules, end-cached, end-files, end-left, end-once, end-rows, end-yard, known-if, next-if, open-there, rules-if}
 use Rattle.repo_core.proofs.GarbageLemmas.{garbage_of}
 use Rattle.settings_laws.proofs.Apart.{named-apart}
 use Rattle.repo_core.proofs.machine.Machine.commit.Goals as goal
@@ -38,6 +39,7 @@ condemn_over-requires g c =
     let kept = c.self.inside.yard.kept in
     let s : State = record {
       hosted = c.self.inside.repos.items;
+      proxies = c.self.inside.proxies.items;
       sessions = k.sessions;
       yard = c.self.inside.yard.yard;
       last = c.self.inside.last;
@@ -59,6 +61,7 @@ invariant_of-self g c =
     let kept = c.self.inside.yard.kept in
     let s : State = record {
       hosted = c.self.inside.repos.items;
+      proxies = c.self.inside.proxies.items;
       sessions = k.sessions;
       yard = c.self.inside.yard.yard;
       last = c.self.inside.last;
@@ -77,6 +80,9 @@ invariant_of-self g c =
     record {
       moment = c.self.invariant.moment;
       blobs = subst (λ ns. AreInUse ns c.commit-did.new.repos.items) (sym kept_is) (subst (AreInUse _) (sym c.commit-did.ensures.rows) rows);
+      cached = subst (λ ns. AreCachedInUse ns s.proxies) (sym kept_is)
+          (end-cached settings.grace s.last s es going may orderly.places kept c.self.invariant.blobs c.self.invariant.staged c.self.invariant.cached free);
+      proxy_rules = c.self.invariant.proxy_rules;
       rules = ap rules_of c.commit-did.ensures.rows ∙ rules-if free es s.hosted (commit-rules n s.last k.sessions s.hosted) ∙ c.self.invariant.rules;
       staged = subst (λ ns. AreStagedInUse ns c.commit-did.new.sessions.sessions) (sym kept_is)
           (subst (AreStagedInUse _) (sym (ap (λ (q : Known). q.sessions) c.commit-did.ensures.sessions ∙ known-if free es k)) files);
@@ -94,6 +100,7 @@ returns-clause-turn g c =
     let kept = c.self.inside.yard.kept in
     let s : State = record {
       hosted = c.self.inside.repos.items;
+      proxies = c.self.inside.proxies.items;
       sessions = k.sessions;
       yard = c.self.inside.yard.yard;
       last = c.self.inside.last;

@@ -7,10 +7,11 @@ use Rattle.repo_model.specs.Turn.{unlent}
 use Rattle.repo_laws.specs.Sound.{AreNamedApart}
 use Rattle.repo_core.specs.Deploys.{AreStagedInUse}
 use Rattle.repo_core.specs.Hosted.{AreInUse, rules_of}
+use Rattle.repo_core.specs.Proxies.{AreCachedInUse}
 use Rattle.repo_core.specs.Purge.{AreKeptOnce, condemned_by, dropped_by, kept_without, shares}
 use Rattle.settings_laws.proofs.Apart.{named-apart}
 use Rattle.repo_core.proofs.PurgeLemmas.{dropped-rules, shares-length}
-use Rattle.repo_core.proofs.PurgeTurns.{blobs-at, collected-once, collected-staged, collected-used, counts-at, turned-collected}
+use Rattle.repo_core.proofs.PurgeTurns.{blobs-at, collected-cached, collected-once, collected-staged, collected-used, counts-at, turned-collected}
 use Rattle.repo_core.proofs.SessionNumbers.{session-condemned}
 use Rattle.repo_core.proofs.machine.Machine.drop_gone.Goals as goal
 
@@ -50,6 +51,8 @@ invariant_of-self g c =
       moment = c.self.invariant.moment;
       blobs = subst (λ k. AreInUse k c.drop_expired.new.repos.items) (sym kept_so)
           (subst (AreInUse (kept_without (map blob_of (expire_all grace last items)) kept)) (sym hosted_so) (collected-used _ kept orderly c.self.invariant.blobs));
+      cached = subst (λ k. AreCachedInUse k c.self.inside.proxies.items) (sym kept_so) (collected-cached _ kept orderly c.self.invariant.cached);
+      proxy_rules = c.self.invariant.proxy_rules;
       rules = ap rules_of hosted_so ∙ dropped-rules grace last (shares grace last most_rows items) items few ∙ c.self.invariant.rules;
       staged = subst (λ k. AreStagedInUse k c.self.inside.sessions.sessions) (sym kept_so) (collected-staged _ kept orderly c.self.invariant.blobs c.self.invariant.staged);
       numbers = ap (λ (y : Numbers). y.yard.next_session) c.collect.ensures.forgotten ∙ ap (λ (y : Numbers). y.yard.next_session) c.condemn_all.ensures

@@ -8,6 +8,7 @@ use Rattle.repo_model.specs.Reply.{is_free}
 use Rattle.repo_model.specs.State.{State}
 use Rattle.repo_core.specs.Deploys.{AreStagedInUse, yard_opened}
 use Rattle.repo_core.specs.Hosted.{AreInUse}
+use Rattle.repo_core.specs.Proxies.{AreCachedInUse}
 use Rattle.repo_core.specs.Whole.{Parts}
 use Rattle.repo_core.proofs.DeployTurns.{due-or-free, open-all, open-left, open-next, recorded-by, recorded-given, turn-open}
 use Rattle.repo_core.proofs.StagedLemmas.{staged-opened}
@@ -21,6 +22,7 @@ invariant_of-self g c =
     let repo = c.args.repo.now in
     let s : State = record {
       hosted = c.self.inside.repos.items;
+      proxies = c.self.inside.proxies.items;
       sessions = k.sessions;
       yard = c.self.inside.yard.yard;
       last = c.self.inside.last;
@@ -32,6 +34,8 @@ invariant_of-self g c =
     record {
       moment = c.self.invariant.moment;
       blobs = subst (λ ns. AreInUse ns c.self.inside.repos.items) kept_so c.self.invariant.blobs;
+      cached = subst (λ ns. AreCachedInUse ns c.self.inside.proxies.items) kept_so c.self.invariant.cached;
+      proxy_rules = c.self.invariant.proxy_rules;
       rules = c.self.invariant.rules;
       staged = subst (λ ns. AreStagedInUse ns c.begin-begun.new.self.sessions) kept_so
           (subst (λ (q : Known). AreStagedInUse kept q.sessions) (sym c.begin-begun.ensures.sessions)
@@ -47,6 +51,7 @@ returns-clause-turn g c =
     let repo = c.args.repo.now in
     let s : State = record {
       hosted = c.self.inside.repos.items;
+      proxies = c.self.inside.proxies.items;
       sessions = k.sessions;
       yard = c.self.inside.yard.yard;
       last = c.self.inside.last;

@@ -12,6 +12,7 @@ use Rattle.repo_model.specs.Turn.{Turn}
 use Rattle.row_tables.specs.Items.{is_number}
 use Rattle.repo_core.specs.Hosted.{put_in, rules_of}
 use Rattle.repo_core.specs.Whole.{Parts}
+use Rattle.repo_core.proofs.CachedLemmas.{cached-put}
 use Rattle.repo_core.proofs.DraftLemmas.{fit-so, named-so, put-turn, recorded-put, short-so}
 use Rattle.repo_core.proofs.HostedLemmas.{named-there, rules-kept}
 use Rattle.repo_core.proofs.ItemForms.{draft-number, fit-file}
@@ -59,6 +60,8 @@ invariant_of-self g c =
     record {
       moment = c.self.invariant.moment;
       blobs = rw (c.put-outcome.ensures.rows, c.settle.ensures) used;
+      cached = rw c.settle.ensures (cached-put c.args.draft (shown_put c.put-outcome.result) c.self.inside.yard.kept c.self.inside.proxies.items c.self.invariant.cached);
+      proxy_rules = c.self.invariant.proxy_rules;
       rules = ap rules_of c.put-outcome.ensures.rows ∙ rules-kept c.args.repo.now _ c.self.inside.repos.items ∙ c.self.invariant.rules;
       staged = rw c.settle.ensures (staged-put c.args.draft (shown_put c.put-outcome.result) c.self.inside.yard.kept c.self.inside.sessions.sessions c.self.invariant.staged);
       numbers = ap (λ (y : Numbers). y.yard.next_session) c.settle.ensures ∙ session-put c.args.draft (shown_put c.put-outcome.result) c.self.inside.yard.yard ∙ c.self.invariant.numbers;

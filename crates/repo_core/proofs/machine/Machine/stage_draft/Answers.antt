@@ -10,7 +10,9 @@ use Rattle.repo_model.specs.Turn.{stage_in}
 use Rattle.row_tables.specs.Items.{is_number}
 use Rattle.repo_core.specs.Deploys.{AreStagedInUse}
 use Rattle.repo_core.specs.Hosted.{AreInUse}
+use Rattle.repo_core.specs.Proxies.{AreCachedInUse}
 use Rattle.repo_core.specs.Whole.{Parts}
+use Rattle.repo_core.proofs.CachedLemmas.{cached-staged}
 use Rattle.repo_core.proofs.DeployTurns.{files-staged, next-staged, rows-staged, session-staged, staged-given, staged-known, staged-named, turned-stage}
 use Rattle.repo_core.proofs.EndTurns.{known-if}
 use Rattle.repo_core.proofs.ItemForms.{draft-number}
@@ -37,6 +39,8 @@ invariant_of-self g c =
     record {
       moment = c.self.invariant.moment;
       blobs = subst (λ ns. AreInUse ns c.self.inside.repos.items) kept_so (rows-staged n r c.self.inside.yard.kept c.self.inside.repos.items c.self.invariant.blobs);
+      cached = subst (λ ns. AreCachedInUse ns c.self.inside.proxies.items) kept_so (cached-staged n r c.self.inside.yard.kept c.self.inside.proxies.items c.self.invariant.cached);
+      proxy_rules = c.self.invariant.proxy_rules;
       rules = c.self.invariant.rules;
       staged = subst (λ ns. AreStagedInUse ns c.stage-did.new.self.sessions) kept_so
           (subst (AreStagedInUse _) (sym (ap (λ (q : Known). q.sessions) known ∙ known-if (is_free r) due.effects k))
@@ -53,6 +57,7 @@ returns g c =
     let n = c.args.draft in
     let s : State = record {
       hosted = c.self.inside.repos.items;
+      proxies = c.self.inside.proxies.items;
       sessions = k.sessions;
       yard = c.self.inside.yard.yard;
       last = c.self.inside.last;

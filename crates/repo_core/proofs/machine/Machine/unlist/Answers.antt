@@ -30,6 +30,8 @@ invariant_of-self g c =
       | in-Ok w ↦ record {
         moment = c.self.invariant.moment;
         blobs = subst (AreInUse kept) (sym w.in-Ok.ensures.rows) (unlisted-used kept c.args.repo.now c.self.inside.last items c.self.invariant.blobs);
+        cached = c.self.invariant.cached;
+        proxy_rules = c.self.invariant.proxy_rules;
         rules = ap rules_of w.in-Ok.ensures.rows ∙ rules-kept c.args.repo.now _ items ∙ c.self.invariant.rules;
         staged = c.self.invariant.staged;
         numbers = c.self.invariant.numbers;
@@ -37,6 +39,8 @@ invariant_of-self g c =
       | in-Err-Failed w ↦ record {
         moment = c.self.invariant.moment;
         blobs = subst (AreInUse kept) (sym w.in-Err-Failed.ensures.err) c.self.invariant.blobs;
+        cached = c.self.invariant.cached;
+        proxy_rules = c.self.invariant.proxy_rules;
         rules = ap rules_of w.in-Err-Failed.ensures.err ∙ c.self.invariant.rules;
         staged = c.self.invariant.staged;
         numbers = c.self.invariant.numbers;
@@ -44,6 +48,8 @@ invariant_of-self g c =
       | in-Err-NoMemory w ↦ record {
         moment = c.self.invariant.moment;
         blobs = subst (AreInUse kept) (sym w.in-Err-NoMemory.ensures.err) c.self.invariant.blobs;
+        cached = c.self.invariant.cached;
+        proxy_rules = c.self.invariant.proxy_rules;
         rules = ap rules_of w.in-Err-NoMemory.ensures.err ∙ c.self.invariant.rules;
         staged = c.self.invariant.staged;
         numbers = c.self.invariant.numbers;

@@ -1,0 +1,100 @@
+-- A landing changes one proxy: among others, that of its plan.
+use Rattle.std.proofs.Common.{◌≡◌, ◌<◌, ◌+◌, ◌||◌, ℕ, Bool, true, false, cond, not, List, [], ◌∷◌, length, get_or, set, arith, Option, Some, None, zero, suc, refl, sym, ap, ◌∙◌, bytes_eq}
+use Rattle.std.specs.Prelude.{IsTrue}
+use Rattle.std.specs.List.{AllByRecursion, list_any, position, position_or_len}
+use Rattle.std.proofs.lemmas.Bool.{lt-ltb}
+use Rattle.fetch_plan.specs.declared.Plan.{Plan}
+use Rattle.fetch_plan.specs.declared.Outcome.TheVariants.{Got, Gone, Refused, NoChecksum, Differs, TooLarge, BadAnswer, BadDocument, Fault}
+use Rattle.repo_model.specs.Data.{Blob, Proxy, Row}
+use Rattle.repo_model.specs.Effect.{Effect, proxies_after, proxy_after}
+use Rattle.repo_model.specs.Fetched.{Landing, got_doc, got_file}
+use Rattle.repo_model.specs.State.{change_first, is_proxy, row_at}
+use Rattle.repo_model.specs.Turn.{gives_draft_up, lands_by, lands_file}
+use Rattle.proxy_rules.specs.Landings.{proxy_after_all}
+use Rattle.repo_laws.proofs.Lists.{found-passes}
+use Rattle.repo_restart.proofs.PlaceLemmas.{find-at}
+use Rattle.repo_core.specs.Proxies.{proxies_after_all}
+
+same-all : (id : List ℕ) (proxies : List Proxy) → change_first (is_proxy id) (λ (p : Proxy). p) proxies ≡ proxies
+same-all id [] = refl
+same-all id (p ∷ proxies) =
+    elim (is_proxy id p) as (λ b. cond b (p ∷ proxies) (p ∷ change_first (is_proxy id) (λ (q : Proxy). q) proxies) ≡ p ∷ proxies) [
+      | true ↦ refl
+      | false ↦ ap (λ rest. p ∷ rest) (same-all id proxies)
+    ]
+
+-- one change after another of the same proxy
+change-twice : (id : List ℕ) (f g : Proxy → Proxy) → ((p : Proxy) → (f p).rule ≡ p.rule) → (proxies : List Proxy)
+    → change_first (is_proxy id) g (change_first (is_proxy id) f proxies) ≡ change_first (is_proxy id) (λ p. g (f p)) proxies
+change-twice id f g same [] = refl
+change-twice id f g same (p ∷ proxies) =
+    elim (is_proxy id p)
+    as (λ b. is_proxy id p ≡ b
+    → change_first (is_proxy id) g (cond b (f p ∷ proxies) (p ∷ change_first (is_proxy id) f proxies)) ≡ cond b (g (f p) ∷ proxies) (p ∷ change_first (is_proxy id) (λ q. g (f q)) proxies)) [
+      | true ↦ λ is. ap (λ b. cond b (g (f p) ∷ proxies) (f p ∷ change_first (is_proxy id) g proxies)) (ap (λ rule. bytes_eq rule.id id) (same p) ∙ is)
+      | false ↦ λ other.
+          ap (λ b. cond b (g p ∷ change_first (is_proxy id) f proxies) (p ∷ change_first (is_proxy id) g (change_first (is_proxy id) f proxies))) other
+          ∙ ap (λ rest. p ∷ rest) (change-twice id f g same proxies)
+    ] refl
+
+-- an effect changes no other proxy
+record OnlyAt (id : List ℕ) (e : Effect) : Type 0 where
+  pub here : (proxies : List Proxy) → proxies_after e proxies ≡ change_first (is_proxy id) (proxy_after e) proxies
+  pub rule : (p : Proxy) → (proxy_after e p).rule ≡ p.rule
+
+all-at : (id : List ℕ) (effects : List Effect) → AllByRecursion (OnlyAt id) effects → (proxies : List Proxy) → proxies_after_all effects proxies ≡ change_first (is_proxy id) (proxy_after_all effects) proxies
+all-at id [] at proxies = sym (same-all id proxies)
+all-at id (e ∷ effects) at proxies =
+    all-at id effects at.1 (proxies_after e proxies)
+    ∙ ap (change_first (is_proxy id) (proxy_after_all effects)) (at.0.here proxies)
+    ∙ change-twice id (proxy_after e) (proxy_after_all effects) at.0.rule proxies
+
+up-at : (id : List ℕ) (draft : Option ℕ) → AllByRecursion (OnlyAt id) (gives_draft_up draft)
+up-at id None = tt
+up-at id (Some n) = (record { here = λ proxies. sym (same-all id proxies); rule = λ p. refl }, tt)
+
+file-at : (plan : Plan) (blob : Blob) (now : ℕ) (found : Option Row) → AllByRecursion (OnlyAt plan.proxy) (lands_file plan blob now found)
+file-at plan blob now None = (record { here = λ proxies. refl; rule = λ p. refl }, (record { here = λ proxies. refl; rule = λ p. refl }, tt))
+file-at plan blob now (Some row) = (record { here = λ proxies. refl; rule = λ p. refl }, up-at plan.proxy plan.draft)
+
+landing-at : (files : List Row) (now : ℕ) (plan : Plan) (landing : Landing) → AllByRecursion (OnlyAt plan.proxy) (lands_by files now plan landing)
+landing-at files now plan (Got (got_file blob)) = file-at plan blob now (row_at plan.path files)
+landing-at files now plan (Got (got_doc document)) = (record { here = λ proxies. refl; rule = λ p. refl }, (record { here = λ proxies. refl; rule = λ p. refl }, tt))
+landing-at files now plan Gone = (record { here = λ proxies. refl; rule = λ p. refl }, up-at plan.proxy plan.draft)
+landing-at files now plan (Refused status) = up-at plan.proxy plan.draft
+landing-at files now plan NoChecksum = up-at plan.proxy plan.draft
+landing-at files now plan (Differs said found) = up-at plan.proxy plan.draft
+landing-at files now plan TooLarge = up-at plan.proxy plan.draft
+landing-at files now plan (BadAnswer at) = up-at plan.proxy plan.draft
+landing-at files now plan (BadDocument at) = up-at plan.proxy plan.draft
+landing-at files now plan Fault = up-at plan.proxy plan.draft
+
+-- what lands among proxies lands at that of its plan
+pub landing-here : (files : List Row) (now : ℕ) (plan : Plan) (landing : Landing) (proxies : List Proxy)
+    → proxies_after_all (lands_by files now plan landing) proxies ≡ change_first (is_proxy plan.proxy) (proxy_after_all (lands_by files now plan landing)) proxies
+landing-here files now plan landing proxies = all-at plan.proxy (lands_by files now plan landing) (landing-at files now plan landing) proxies
+
+-- an element that is set to itself
+pub set-itself : {X : Type 0} (xs : List X) (i : ℕ) (x : X) → x ≡ get_or xs i x → set xs i x ≡ xs
+set-itself [] i x is = refl
+set-itself (y ∷ xs) zero x is = ap (λ z. z ∷ xs) is
+set-itself (y ∷ xs) (suc i) x is = ap (λ rest. y ∷ rest) (set-itself xs i x is)
+
+-- a proxy that was found has the id
+pub named-so : (id : List ℕ) (proxies : List Proxy) (i : ℕ) (p : Proxy) → position (is_proxy id) proxies ≡ Some i → p ≡ get_or proxies i p → is_proxy id p ≡ true
+named-so id proxies i p is here = found-passes (is_proxy id) proxies p (find-at (is_proxy id) proxies i p is ∙ ap (λ (q : Proxy). Some q) (sym here))
+
+-- one that is there has a place
+any-within : {X : Type 0} (p : X → Bool) (xs : List X) → list_any p xs ≡ true → position_or_len p xs < length xs
+any-within p [] some = cc
+any-within p (x ∷ xs) some =
+    elim (p x) as (λ b. (b || list_any p xs) ≡ true → cond (not b) (1 + position_or_len p xs) 0 < suc (length xs)) [
+      | true ↦ λ here. omega arith
+      | false ↦ λ later. omega (arith, any-within p xs later)
+    ] some
+
+pub none-there : {X : Type 0} (p : X → Bool) (xs : List X) → IsTrue (list_any p xs) → position p xs ≡ None → ⊥
+none-there p xs some none =
+    let n = position_or_len p xs in
+    let there : position p xs ≡ Some n = ap (λ b. cond b (Some n) None) (lt-ltb n (length xs) (any-within p xs some)) in
+    cc

@@ -1,0 +1,74 @@
+use Rattle.std.proofs.Common.{◌≡◌, true, refl, sym, ap, ◌∙◌, subst}
+use Rattle.std.specs.Prelude.{IsTrue}
+use Rattle.blob_yard.specs.Numbers.{Numbers}
+use Rattle.ordered_rows.specs.Recording.{FitWhereTold}
+use Rattle.repo_model.specs.Command.{land, meets}
+use Rattle.repo_model.specs.Effect.{recorded}
+use Rattle.repo_model.specs.Shown.{outcome_map, shown_got}
+use Rattle.repo_model.specs.Turn.{Turn, is_drawn}
+use Rattle.repo_laws.specs.Files.{files_in}
+use Rattle.proxy_rules.specs.declared.landed.Landed.TheVariants.{Kept}
+use Rattle.repo_core.specs.Proxies.{landing_in, proxy_rules_of}
+use Rattle.repo_core.specs.Whole.{Parts}
+use Rattle.repo_core.proofs.ItemForms.{draft-number}
+use Rattle.repo_core.proofs.LandLemmas.{cached-landed, drawn-so, hosted-landed, land-turn, landed-rules, lands-so, proxy-there, recorded-land, staged-landed, there-so}
+use Rattle.repo_core.proofs.SessionNumbers.{session-landed}
+use Rattle.repo_core.proofs.machine.Machine.land.Goals as goal
+
+pub land-did-requires-clause-there : goal.land-did-requires-clause-there
+land-did-requires-clause-there g c =
+    let landing = outcome_map shown_got c.args.outcome in
+    let met = subst (λ (w : Parts). IsTrue (meets w.settings (land c.args.plan landing))) (sym c.self.view_is) c.requires.meets in
+    proxy-there c.args.plan.proxy c.self.inside.proxies.items (rw c.self.invariant.proxy_rules (there-so c.self.inside.settings c.args.plan landing met))
+
+pub land-did-requires-clause-landing : goal.land-did-requires-clause-landing
+land-did-requires-clause-landing g c = lands-so c.args.self.now.settings c.args.plan (outcome_map shown_got c.args.outcome) c.requires.meets
+
+pub land-did-requires-clause-draft : goal.land-did-requires-clause-draft
+land-did-requires-clause-draft g c =
+    let drawn : is_drawn c.args.plan.draft c.self.inside.yard.yard.drafts ≡ true = cc in
+    let orderly = rw (← c.self.view_is) at c.requires.orderly in
+    λ n is. draft-number _ n orderly.places orderly.order.draft (drawn-so c.args.plan.draft c.self.inside.yard.yard.drafts drawn n is)
+
+pub land-did-requires-clause-fits : goal.land-did-requires-clause-fits
+land-did-requires-clause-fits g c =
+    let w = c.args.self.now in
+    let landing = outcome_map shown_got c.args.outcome in
+    let inside : is_drawn c.args.plan.draft c.self.inside.yard.yard.drafts ≡ true = cc in
+    let drawn : is_drawn c.args.plan.draft w.state.yard.drafts ≡ true = subst (λ (p : Parts). is_drawn c.args.plan.draft p.state.yard.drafts ≡ true) c.self.view_is inside in
+    subst (λ (p : Parts). FitWhereTold (g.K.Records.tables c.args.records.now) (recorded (landing_in p.state.proxies p.state.last c.args.plan c.args.outcome))) (sym c.self.view_is)
+    (subst (λ (t : Turn). FitWhereTold (g.K.Records.tables c.args.records.now) (recorded t.effects)) (land-turn w w c.args.plan landing Kept drawn) c.requires.items)
+
+pub settle_landed-requires : goal.settle_landed-requires
+settle_landed-requires g c =
+    let drawn : is_drawn c.args.plan.draft c.self.inside.yard.yard.drafts ≡ true = cc in
+    drawn-so c.args.plan.draft c.self.inside.yard.yard.drafts drawn
+
+pub invariant_of-self : goal.invariant_of-self
+invariant_of-self g c =
+    let landing = outcome_map shown_got c.args.outcome in
+    let plan = c.args.plan in
+    let did = c.land-did.result in
+    let proxies = c.self.inside.proxies.items in
+    let kept = c.self.inside.yard.kept in
+    let files = files_in plan.proxy proxies in
+    let lands = c.land-did.ensures.lands in
+    let fits = lands-so c.args.self.now.settings plan landing c.requires.meets in
+    record {
+      moment = c.self.invariant.moment;
+      blobs = rw c.settle_landed.ensures (hosted-landed plan.draft did kept c.self.inside.repos.items c.self.invariant.blobs);
+      cached = rw (lands.proxies, c.settle_landed.ensures) (cached-landed kept proxies c.self.invariant.cached files c.self.inside.last plan landing did fits lands.answered);
+      rules = c.self.invariant.rules;
+      proxy_rules = ap proxy_rules_of lands.proxies ∙ landed-rules files c.self.inside.last plan landing _ proxies ∙ c.self.invariant.proxy_rules;
+      staged = rw c.settle_landed.ensures (staged-landed plan.draft did kept c.self.inside.sessions.sessions c.self.invariant.staged);
+      numbers = ap (λ (y : Numbers). y.yard.next_session) c.settle_landed.ensures ∙ session-landed plan.draft did c.self.inside.yard.yard ∙ c.self.invariant.numbers;
+    }
+
+pub returns-clause-turn : goal.returns-clause-turn
+returns-clause-turn g c =
+    let landing = outcome_map shown_got c.args.outcome in
+    let drawn : is_drawn c.args.plan.draft c.self.inside.yard.yard.drafts ≡ true = cc in
+    let met = subst (λ (w : Parts). IsTrue (meets w.settings (land c.args.plan landing))) (sym c.self.view_is) c.requires.meets in
+    let lands = c.land-did.ensures.lands in
+    rw (c.reply_of_landed.ensures, ← c.self.view_is)
+    (recorded-land _ _ c.args.plan landing c.land-did.result _ _ _ _ drawn met refl refl lands.answered lands.asked (rw (lands.proxies, c.settle_landed.ensures)) lands.tables lands.cause)
