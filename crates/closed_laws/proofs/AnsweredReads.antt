@@ -1,6 +1,7 @@
 -- A GET or HEAD is answered by the reply to its look.
-use Rattle.std.proofs.Common.{◌≡◌, ℕ, Bool, false, List, [], ◌∷◌, Option, Some, Result, Ok, refl, sym, subst, ap, ◌∙◌}
+use Rattle.std.proofs.Common.{◌≡◌, ℕ, zero, suc, Bool, false, List, [], ◌∷◌, ◌++◌, Option, Some, Result, Ok, refl, sym, subst, ap, ◌∙◌}
 use Rattle.std.proofs.lemmas.Bool.{false≢true}
+use Rattle.fetch_plan.specs.declared.Plan.{Plan}
 use Rattle.outside.specs.Faults.{Rose}
 use Rattle.http_wire.specs.Answer.{shown}
 use Rattle.http_wire.specs.Front.{Front, Clean, Cut, Bad, Whole, front}
@@ -8,14 +9,17 @@ use Rattle.http_wire.specs.Head.{Head}
 use Rattle.repo_model.specs.Command.{done, look}
 use Rattle.repo_model.specs.Data.{Blob}
 use Rattle.repo_model.specs.History.{Entry}
-use Rattle.repo_model.specs.Reply.{Reply, file}
+use Rattle.repo_model.specs.Reply.{Reply, file, missed, fetches}
 use Rattle.repo_model.specs.Settings.{Settings}
 use Rattle.repo_routes.specs.Framing.{is_head}
 use Rattle.repo_routes.specs.Intent.{Judged, reads}
 use Rattle.repo_routes.specs.Judge.{judge}
+use Rattle.repo_routes.specs.declared.intent.Sort.{Sort}
 use Rattle.repo_routes.specs.declared.judging.Refused.{Refused}
 use Rattle.repo_course.specs.Answers.{file_answer}
-use Rattle.repo_course.specs.Course.{Course, asks, after_look, closes, course_for, course_of, manner_for, of_sent, sends_file}
+use Rattle.repo_course.specs.Course.{Course, asks, after_look, closes, course_for, course_of, is_group, looks, manner_for, of_sent, rounds_of, sends_file}
+use Rattle.repo_course.specs.declared.fetched.Verdict.{Verdict}
+use Rattle.repo_course.specs.declared.fetched.Verdict.TheVariants as verdict
 use Rattle.repo_course.specs.declared.manner.Manner.{Manner}
 use Rattle.repo_course.specs.declared.outcomes.End.{End}
 use Rattle.repo_course.specs.declared.outcomes.Sent.{Sent}
@@ -65,22 +69,31 @@ module _ (tells : Type 0) (manner : Manner) where
       behind [] g = absurd g
       behind (back ∷ rest) g = sent-seen blob f.0 rest old f.3 new end f.5.1 g.1
 
-  pub reply-seen : (reply : Reply) (more : List Entry) (old new : Outside) (end : Option End)
-      → Follows tells (after_look manner reply) more old new end → ShowsReply reply manner old new end
-  reply-seen (file lease blob) more old new end f = file-seen lease blob more old new end f
-  reply-seen _ more old new end f = f.1
+  pub reply-seen : (of_group : Bool) (behind : Plan → Course) (reply : Reply) (more : List Entry) (old new : Outside) (end : Option End)
+      → Follows tells (after_look manner (verdict.Unasked of_group) behind reply) more old new end → ShowsReply reply manner old new end
+  reply-seen of_group behind (file lease blob) more old new end f = file-seen lease blob more old new end f
+  reply-seen of_group behind (fetches plan) more old new end f = tt
+  reply-seen of_group behind missed more old new end f = f.1
+  reply-seen of_group behind _ more old new end f = f.1
 
-  read-looked : (repo path rest : List ℕ) (entries : List Entry) (old mid new : Outside) (end : Option End) → mid ≡ record old { input = Some rest }
-      → Follows tells (asks (look repo path []) (after_look manner)) entries mid new end → IsLookedUp repo path By manner rest entries old new end
-  read-looked repo path rest [] old mid new end mid-is f = absurd f
-  read-looked repo path rest (e ∷ more) old mid new end mid-is f =
-      looked e more refl f.0 (subst (λ (o : Outside). ShowsReply e.reply manner o new end) mid-is (reply-seen e.reply more mid new end f.1))
+  -- whatever may be fetched, a look comes first
+  pub looks-first : (rounds : ℕ) (repo path tried : List ℕ) (so_far : Verdict)
+      → (behind : Plan → Course) × (looks manner rounds repo path tried so_far ≡ asks (look repo path tried) (after_look manner so_far behind))
+  looks-first zero repo path tried so_far = (_, refl)
+  looks-first (suc n) repo path tried so_far = (_, refl)
+
+  read-looked : (of_group : Bool) (behind : Plan → Course) (repo path rest : List ℕ) (entries : List Entry) (old mid new : Outside) (end : Option End)
+      → mid ≡ record old { input = Some rest } → Follows tells (asks (look repo path []) (after_look manner (verdict.Unasked of_group) behind)) entries mid new end
+      → IsLookedUp repo path By manner rest entries old new end
+  read-looked of_group behind repo path rest [] old mid new end mid-is f = absurd f
+  read-looked of_group behind repo path rest (e ∷ more) old mid new end mid-is f =
+      looked e more refl f.0 (subst (λ (o : Outside). ShowsReply e.reply manner o new end) mid-is (reply-seen of_group behind e.reply more mid new end f.1))
 
 module _ (settings : Settings) (tells : Type 0) (last : Bool) where
-  pub turn-looked : (entries : List Entry) (old new : Outside) (end : Option End) (input rest repo path : List ℕ) (head : Head) (request : Judged)
+  pub turn-looked : (entries : List Entry) (old new : Outside) (end : Option End) (input rest repo path : List ℕ) (of_sort : Sort) (head : Head) (request : Judged)
       → Turn settings tells last entries old new end → old.input ≡ Some input → front input ≡ Whole head rest → judge settings head ≡ Ok request
-      → request.intent ≡ reads repo path → IsLookedUp repo path By (manner_for request last) rest entries old new end
-  turn-looked entries old new end input rest repo path head request (c, mid, o, f) input-is front-is judged asks-it = opened o
+      → request.intent ≡ reads repo path of_sort → IsLookedUp repo path By (manner_for request last) rest entries old new end
+  turn-looked entries old new end input rest repo path of_sort head request (c, mid, o, f) input-is front-is judged asks-it = opened o
     where
       manner : Manner
       manner = manner_for request last
@@ -109,7 +122,8 @@ module _ (settings : Settings) (tells : Type 0) (last : Bool) where
       opened (served other left it uses is) =
           let both = begins (IsWhole other left) it in
           let same : head ≡ other = both.0 in
-          let course-is : c ≡ course_for manner request.expects (reads repo path) =
+          let course-is : c ≡ course_for manner request.expects (reads repo path of_sort) =
           is ∙ ap (λ (r : Result Judged Refused). course_of r last) (ap (judge settings) (sym same) ∙ judged) ∙ ap (course_for manner request.expects) asks-it in
-          read-looked tells manner repo path rest entries old mid new end (uses ∙ ap (λ (i : Option (List ℕ)). record old { input = i }) both.1)
-          (follows (course_for manner request.expects (reads repo path)) course-is)
+          let first = looks-first tells manner (rounds_of of_sort) repo path [] (verdict.Unasked (is_group of_sort)) in
+          read-looked tells manner (is_group of_sort) first.0 repo path rest entries old mid new end (uses ∙ ap (λ (i : Option (List ℕ)). record old { input = i }) both.1)
+          (follows _ (course-is ∙ first.1))

@@ -12,7 +12,8 @@ use Rattle.repo_model.specs.Settings.{Settings}
 use Rattle.repo_routes.specs.Intent.{Intent, Judged, reads as reads_path, puts_side, puts_document, cleans as cleans_all}
 use Rattle.repo_routes.specs.Judge.{judge}
 use Rattle.repo_routes.specs.declared.judging.Refused.{Refused}
-use Rattle.repo_course.specs.Course.{Body, Close, Course, Outcome, asks, does, says, stops, speaks, rests, after_continue, after_document, after_side, closes, compares, course_for, course_of, cut_off, invites, manner_for, notes, of_fault, of_pass}
+use Rattle.repo_course.specs.Course.{Body, Close, Course, Outcome, asks, does, says, stops, speaks, rests, after_continue, after_document, after_side, closes, compares, course_for, course_of, cut_off, invites, is_group, manner_for, notes, of_fault, of_pass, rounds_of}
+use Rattle.repo_course.specs.declared.fetched.Verdict.TheVariants as verdict
 use Rattle.repo_course.specs.declared.manner.Manner.{Manner}
 use Rattle.repo_course.specs.declared.outcomes.Continued.{Continued}
 use Rattle.repo_course.specs.declared.outcomes.Continued.TheVariants as continued
@@ -21,7 +22,7 @@ use Rattle.repo_course.specs.declared.said.Said.TheVariants.{NoMemory}
 use Rattle.repo_course.specs.Serving.{Begins, Follows, IsWhole, Opens, clean, torn, failed, refused, unread_head, starved, served, Outside, Turn}
 use Rattle.course_laws.proofs.Passes.{ArePass, IsPassCommand, deed-asks}
 use Rattle.closed_laws.specs.Answered.{ReadShows, ShowsReply}
-use Rattle.closed_laws.proofs.AnsweredReads.{reply-seen}
+use Rattle.closed_laws.proofs.AnsweredReads.{looks-first, reply-seen}
 
 abbrev IsLook : Command → Type 0
 IsLook command = (repo : List ℕ) × (path : List ℕ) × (tried : List ℕ) × (command ≡ look repo path tried)
@@ -90,11 +91,11 @@ invited-unlooking true body un = by-result
 
 -- so it is of each intent but a read
 abbrev IsOther : Intent → Type 0
-IsOther (reads_path repo path) = ⊥
+IsOther (reads_path repo path of_sort) = ⊥
 IsOther intent = Unit {0}
 
 intent-unlooking : (manner : Manner) (expects : Bool) (intent : Intent) → IsOther intent → Unlooking (course_for manner expects intent)
-intent-unlooking manner expects (reads_path repo path) other = absurd other
+intent-unlooking manner expects (reads_path repo path of_sort) other = absurd other
 intent-unlooking manner expects (puts_side place path side count) other = invited-unlooking expects _ (side-unlooking place path side manner)
 intent-unlooking manner expects (puts_document place path count) other = invited-unlooking expects _ (document-unlooking place path manner)
 intent-unlooking manner expects (cleans_all repos) other = λ pass. closes-unlooking manner (of_pass pass)
@@ -115,8 +116,10 @@ module _ (settings : Settings) (tells : Type 0) (last : Bool) (e : Entry) (more 
     module _ (head : Head) (left : Option (List ℕ)) (comes : Begins old.input (IsWhole head left)) (uses : mid ≡ record old { input = left }) where
       by-intent : (request : Judged) → judge settings head ≡ Ok request → (intent : Intent) → request.intent ≡ intent
           → Follows tells (course_for (manner_for request last) request.expects intent) (e ∷ more) mid new end → Goal
-      by-intent request judged (reads_path r p) asks-it f =
-          let same : look r p [] ≡ look repo path tried = sym f.0 ∙ looks in
+      by-intent request judged (reads_path r p of_sort) asks-it f =
+          let first = looks-first tells (manner_for request last) (rounds_of of_sort) r p [] (verdict.Unasked (is_group of_sort)) in
+          let g = subst (λ (d : Course). Follows tells d (e ∷ more) mid new end) first.1 f in
+          let same : look r p [] ≡ look repo path tried = sym g.0 ∙ looks in
           let repo-is : r ≡ repo = cc in
           let path-is : p ≡ path = cc in
           record {
@@ -125,9 +128,10 @@ module _ (settings : Settings) (tells : Type 0) (last : Bool) (e : Entry) (more 
             request = request;
             comes = comes;
             judged = judged;
-            asks = asks-it ∙ ap (λ (x : List ℕ). reads_path x p) repo-is ∙ ap (reads_path repo) path-is;
+            sort = of_sort;
+            asks = asks-it ∙ ap (λ (x : List ℕ). reads_path x p of_sort) repo-is ∙ ap (λ (x : List ℕ). reads_path repo x of_sort) path-is;
             shows = subst (λ (o : Outside). ShowsReply e.reply (manner_for request last) o new end) uses
-                (reply-seen tells (manner_for request last) e.reply more mid new end f.1);
+                (reply-seen tells (manner_for request last) (is_group of_sort) first.0 e.reply more mid new end g.1);
           }
       by-intent request judged intent asks-it f =
           never (course_for (manner_for request last) request.expects intent) (intent-unlooking (manner_for request last) request.expects intent tt) f

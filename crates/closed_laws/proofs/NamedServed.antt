@@ -97,6 +97,7 @@ answered-then settings last repo path P Q then_too old new end a = record {
   request = a.request;
   comes = a.comes;
   judged = a.judged;
+  sort = a.sort;
   asks = a.asks;
   shows = then_too _ _ new end a.shows;
 }

@@ -8,10 +8,11 @@ use Rattle.repo_model.specs.Command.{look}
 use Rattle.repo_model.specs.declared.print.Print.{Print}
 use Rattle.repo_model.specs.Data.{Blob}
 use Rattle.repo_model.specs.History.{Entry}
-use Rattle.repo_model.specs.Reply.{Reply, file}
+use Rattle.repo_model.specs.Reply.{Reply, file, fetches}
 use Rattle.repo_model.specs.Settings.{Settings}
 use Rattle.repo_routes.specs.Intent.{Judged, reads}
 use Rattle.repo_routes.specs.Judge.{judge}
+use Rattle.repo_routes.specs.declared.intent.Sort.{Sort}
 use Rattle.repo_course.specs.Answers.{answer_of, file_answer, memory_answer}
 use Rattle.repo_course.specs.Course.{end_of, manner_for, said_of}
 use Rattle.repo_course.specs.Serving.{Begins, IsContentSoFar, IsCut, IsFrontOf, IsOtherContent, IsWhole, Outside, ReadsOn, Says, print_of, writes}
@@ -63,9 +64,11 @@ abbrev pub ShowsTold : Manner → Said → Outside → Outside → Option End �
 ShowsTold manner said.NoMemory old new end = ShowsMemory manner.head_only old new end
 ShowsTold manner answer old new end = ShowsSaid manner answer old new end
 
--- what is seen of the answer by the reply to the look: the file that it lends, or what it is answered by
+-- What is seen of the answer by the reply to the look: the file that it lends, or what it is answered by. Behind a plan something is
+-- fetched, and the answer is by what comes of that.
 abbrev pub ShowsReply : Reply → Manner → Outside → Outside → Option End → Type 0
 ShowsReply (file lease blob) manner old new end = ShowsFile manner blob old new end
+ShowsReply (fetches plan) manner old new end = Unit {0}
 ShowsReply reply manner old new end = ShowsTold manner (said_of reply) old new end
 
 -- A GET or HEAD of the path is read, all that is seen behind its head is this, and of the input no more is used.
@@ -76,10 +79,11 @@ pub record ReadShows (settings : Settings) (last : Bool) (repo path : List ℕ) 
   pub request : Judged
   pub comes : Begins old.input (IsWhole head left)
   pub judged : judge settings head ≡ Ok request
-  pub asks : request.intent ≡ reads repo path
+  pub sort : Sort
+  pub asks : request.intent ≡ reads repo path sort
   pub shows : Shows (manner_for request last) (record old { input = left }) new end
 
--- What comes of such a request, behind whose head this is left of the input: it looks once at the path, and all that is seen is
+-- What comes of such a request, behind whose head this is left of the input: it looks first at the path, and all that is seen is
 -- this for that entry. Or it asks nothing: memory was wanted for its head, which is answered by a head alone to HEAD only, or
 -- the source failed before it was read.
 pub data IsLookedUp (repo path : List ℕ) (Shows : Entry → Manner → Outside → Outside → Option End → Type 0) (manner : Manner) (left : List ℕ)

@@ -27,7 +27,7 @@ pub record WasNamed (settings : Settings) (start : State) (before : List Entry) 
   pub parts : before ≡ first ++ asked ∷ rest
   pub directory : Directory
   pub served : Document
-  pub answers : AnswersDocument (end settings start first) asked repo directory served
+  pub answers : AnswersDocument settings (end settings start first) asked repo directory served
   pub names : IsAmong row (named directory (rows_of repo (end settings start first)) served)
   pub in_time : now ≤ asked.moment + settings.grace
 

@@ -12,6 +12,7 @@ ghost use Rattle.mvn_coords.specs.declared.fault.Side.{Side};
 ghost use Rattle.repo_laws.specs.Sound.{AreNamedApart, IsSound};
 ghost use Rattle.repo_routes.specs.Intent.{Judged, reads};
 ghost use Rattle.repo_routes.specs.Judge.{judge};
+ghost use Rattle.repo_routes.specs.declared.intent.Sort.{Sort};
 ghost use Rattle.repo_course.specs.declared.outcomes.End.{End};
 ghost use Rattle.repo_course.specs.Serving.{AllTell, Outside, Serves, Turn};
 ghost use Rattle.repo_course.specs.Course.{manner_for};
@@ -21,14 +22,14 @@ ghost use Rattle.closed_laws.specs.Named.{IsSideOf, ShowsNamed, ShowsSide, WasNa
 
 use outside::Held;
 
-/// A GET or HEAD of a path looks there once, and all that is seen of it is by the reply: the file's answer, whole, with both
-/// checksums, or an alternative with its cause. Where the input is told, that is the request whose head comes; and each turn
-/// whose first command is a look is such a request.
+/// A GET or HEAD of a path looks there first, and all that is seen of it is by the reply: the file's answer, whole, with both
+/// checksums, or an alternative with its cause; or, behind the plan of a fetch, what comes of that. Where the input is told,
+/// that is the request whose head comes; and each turn whose first command is a look is such a request.
 pub fn reads_are_answered<H: Held>()
     ensures requests { (settings : Settings) (last : Bool) (entries : List Entry) (old new : Outside) (ending : Option End) (input rest repo path : List ℕ)
-        (head : Head) (request : Judged) →
+        (sort : Sort) (head : Head) (request : Judged) →
         Turn settings (AllTell H.bytes) last entries old new ending → old.input ≡ Some input → front input ≡ Whole head rest →
-        judge settings head ≡ Ok request → request.intent ≡ reads repo path →
+        judge settings head ≡ Ok request → request.intent ≡ reads repo path sort →
         IsLookedUp repo path (λ e. ShowsReply e.reply) (manner_for request last) rest entries old new ending }
     ensures looks { (settings : Settings) (last : Bool) (e : Entry) (more : List Entry) (old new : Outside) (ending : Option End)
         (repo path tried : List ℕ) → Turn settings (AllTell H.bytes) last (e ∷ more) old new ending → e.command ≡ look repo path tried →
@@ -54,17 +55,17 @@ pub fn named_files_are_served<H: Held>()
         Turn settings (AllTell H.bytes) last (e ∷ more) old new ending → e.command ≡ look repo at tried → IsSideOf row.path side at →
         ReadShows settings last repo at (ShowsSide side row.blob) old new ending }
     ensures file_requests { (settings : Settings) (start : State) (before entries later : List Entry) (repo : List ℕ) (row : Row) (last : Bool)
-        (old new : Outside) (ending : Option End) (input rest : List ℕ) (head : Head) (request : Judged) →
+        (old new : Outside) (ending : Option End) (input rest : List ℕ) (sort : Sort) (head : Head) (request : Judged) →
         AreNamedApart settings.hosted → IsSound settings start →
         Turn settings (AllTell H.bytes) last entries old new ending → old.input ≡ Some input → front input ≡ Whole head rest →
-        judge settings head ≡ Ok request → request.intent ≡ reads repo row.path →
+        judge settings head ≡ Ok request → request.intent ≡ reads repo row.path sort →
         IsLookedUp repo row.path (λ e manner from to stop. Legal settings start (before ++ e ∷ later) → WasNamed settings start before repo row e.moment → ShowsNamed (end settings start before) row.blob manner from to stop)
         (manner_for request last) rest entries old new ending }
     ensures side_requests { (settings : Settings) (start : State) (before entries later : List Entry) (repo at : List ℕ) (side : Side) (row : Row) (last : Bool)
-        (old new : Outside) (ending : Option End) (input rest : List ℕ) (head : Head) (request : Judged) →
+        (old new : Outside) (ending : Option End) (input rest : List ℕ) (sort : Sort) (head : Head) (request : Judged) →
         AreNamedApart settings.hosted → IsSound settings start → IsSideOf row.path side at →
         Turn settings (AllTell H.bytes) last entries old new ending → old.input ≡ Some input → front input ≡ Whole head rest →
-        judge settings head ≡ Ok request → request.intent ≡ reads repo at →
+        judge settings head ≡ Ok request → request.intent ≡ reads repo at sort →
         IsLookedUp repo at (λ e manner from to stop. Legal settings start (before ++ e ∷ later) → WasNamed settings start before repo row e.moment → ShowsSide side row.blob manner from to stop)
         (manner_for request last) rest entries old new ending }
 {}

@@ -23,7 +23,7 @@ use Rattle.repo_routes.specs.Intent.{Intent, Judged, reads as reads_path}
 use Rattle.repo_routes.specs.Judge.{check_body, in_repo, intent_of, intent_on, into_session, judge, loses_place, of_session, outcome_of}
 use Rattle.repo_routes.specs.Numbers.{session_of}
 use Rattle.repo_routes.specs.Paths.{check_limit, decoded, limit_of, path_refusal, put_at, put_of, put_to, read_from, thing_at, thing_of, thing_or}
-use Rattle.repo_routes.specs.Routes.{Route, in_repository, sessions, in_session, commit, abort, status, clean, allowed, allows, check_method, check_repository, route_of}
+use Rattle.repo_routes.specs.Routes.{Route, in_repository, sessions, in_session, commit, abort, status, clean, allowed, allows, check_method, check_repository, route_of, sort_of}
 use Rattle.repo_routes.specs.Steps.{◌>>=◌, need}
 use Rattle.repo_routes.specs.Target.{target_path}
 use Rattle.course_laws.specs.Duties.{length_of}
@@ -95,16 +95,16 @@ unfolding put_to thing_at
 to-announced settings head length place written =
     then-holds (decoded head written) _ (λ intent. length_of intent ≡ length) (λ path _. kind-announced settings head place path length (kind path))
 
-from-announced : (head : Head) (length : ℕ) (repo written : List ℕ) → 0 ≡ length → IfOk (read_from head repo written) (λ intent. length_of intent ≡ length)
+from-announced : (settings : Settings) (head : Head) (length : ℕ) (repo written : List ℕ) → 0 ≡ length → IfOk (read_from settings head repo written) (λ intent. length_of intent ≡ length)
 unfolding read_from
-from-announced head length repo written none =
+from-announced settings head length repo written none =
     then-holds (decoded head written) _ (λ intent. length_of intent ≡ length)
-    (λ path _. then-holds (thing_at head path) (λ _. Ok (reads_path repo path)) (λ intent. length_of intent ≡ length) (λ what _. none))
+    (λ path _. then-holds (thing_at head path) (λ _. Ok (reads_path repo path (sort_of repo settings))) (λ intent. length_of intent ≡ length) (λ what _. none))
 
 in-announced : (settings : Settings) (head : Head) (length : ℕ) (put : Bool) (repo written : List ℕ) → (put || not (nat_lt 0 length)) ≡ true
-    → IfOk (cond put (put_to settings head length (repository repo) written) (read_from head repo written)) (λ intent. length_of intent ≡ length)
+    → IfOk (cond put (put_to settings head length (repository repo) written) (read_from settings head repo written)) (λ intent. length_of intent ≡ length)
 in-announced settings head length true repo written test = to-announced settings head length (repository repo) written
-in-announced settings head length false repo written test = from-announced head length repo written (no-bytes false length test refl)
+in-announced settings head length false repo written test = from-announced settings head length repo written (no-bytes false length test refl)
 
 into-announced : (settings : Settings) (head : Head) (length : ℕ) (number written : List ℕ) → IfOk (into_session settings head length number written) (λ intent. length_of intent ≡ length)
 unfolding into_session
@@ -117,7 +117,7 @@ of-announced : (intent : ℕ → Intent) (length : ℕ) (number : List ℕ) → 
 unfolding of_session
 of-announced intent length number all = then-holds (session_of number) (λ n. Ok (intent n)) (λ intent. length_of intent ≡ length) (λ n _. all n)
 
-on-announced : (settings : Settings) (head : Head) (length : ℕ) (route : Route) → allows (allowed route) head ≡ true
+on-announced : (settings : Settings) (head : Head) (length : ℕ) (route : Route) → allows (allowed settings route) head ≡ true
     → (is_put head || not (nat_lt 0 length)) ≡ true → IfOk (intent_on settings head length route) (λ intent. length_of intent ≡ length)
 unfolding in_repo
 on-announced settings head length (in_repository repo written) may test = in-announced settings head length (is_put head) repo written test
@@ -139,7 +139,7 @@ intent-announced settings head =
     (λ _ _. then-holds (framing.length_of head) _ P
     (λ length said. then-holds (route_of path) _ P
     (λ route _. then-holds (check_repository settings route) _ P
-    (λ _ _. then-holds (check_method route head) _ P
+    (λ _ _. then-holds (check_method settings route head) _ P
     (λ _ may. then-holds (check_body head length) _ P
     (λ _ test. said-so (intent_on settings head length route) length said (on-announced settings head length route (needed _ _ may) (needed _ _ test)))))))))
   where

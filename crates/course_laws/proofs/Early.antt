@@ -1,5 +1,5 @@
 -- What a course comes to where no blob failed, beside what was played.
-use Rattle.std.proofs.Common.{◌≡◌, ◌⊎◌, ℕ, zero, suc, Bool, false, inl, inr, List, [], ◌∷◌, ◌++◌, Option, Some, None, IsTrue, refl, sym, subst, ap, ◌∙◌, append_assoc, append-nil}
+use Rattle.std.proofs.Common.{◌≡◌, ◌⊎◌, ℕ, zero, suc, Bool, true, false, inl, inr, List, [], ◌∷◌, ◌++◌, Option, Some, None, IsTrue, refl, sym, subst, ap, ◌∙◌, append_assoc, append-nil}
 use Rattle.std.specs.Prelude.{IsSome}
 use Rattle.std.proofs.lemmas.Bool.{false≢true}
 use Rattle.std.proofs.lemmas.Option.{none-some}
@@ -7,25 +7,28 @@ use Rattle.outside.specs.Faults.{Rose}
 use Rattle.outside.specs.Told.{behind}
 use Rattle.http_wire.specs.Answer.{shown}
 use Rattle.http_wire.specs.declared.answers.Answer.{Answer}
-use Rattle.repo_model.specs.Command.{Command, look, done, may_put, drop_draft, unlist, collect}
+use Rattle.repo_model.specs.Command.{Command, look, done, may_put, drop_draft, unlist, collect, land}
 use Rattle.repo_model.specs.Data.{Blob}
 use Rattle.repo_model.specs.History.{Entry}
-use Rattle.repo_model.specs.Reply.{Reply, file, draft, no_memory, takes_memory}
+use Rattle.repo_model.specs.Reply.{Reply, file, missed, draft, fetches, landed, no_memory, takes_memory}
 use Rattle.repo_model.specs.Settings.{Settings}
 use Rattle.repo_model.specs.State.{State}
 use Rattle.repo_course.specs.Answers.{answer_of, memory_answer}
-use Rattle.repo_course.specs.Course.{Close, Course, Deed, asks, does, says, stops, speaks, rests, send_file, end_of, said_of}
+use Rattle.repo_course.specs.Course.{Close, Course, Deed, asks, does, says, stops, speaks, rests, send_file, fetch, store_fetched, end_of, said_missed, said_of}
+use Rattle.repo_course.specs.declared.fetched.Verdict.{Verdict}
+use Rattle.repo_course.specs.declared.fetched.Verdict.TheVariants as verdict
 use Rattle.repo_course.specs.declared.manner.Manner.{Manner}
 use Rattle.repo_course.specs.declared.outcomes.End.{End}
 use Rattle.repo_course.specs.declared.outcomes.End.TheVariants as stream
 use Rattle.repo_course.specs.declared.said.Said.{Said}
-use Rattle.repo_course.specs.declared.said.Said.TheVariants.{NoMemory}
+use Rattle.repo_course.specs.declared.said.Said.TheVariants.{BlobDiffers, NoMemory}
 use Rattle.repo_course.specs.Serving.{IsFrontOf, Follows, Outside, Says, whole, memory, cut, writes}
 use Rattle.course_laws.specs.AsPlayed.{RowsTold}
-use Rattle.course_laws.specs.Duties.{Keeps, MayAsk, MayDo, Stand, due_after, lent_after, manner_of, stand_after}
+use Rattle.course_laws.specs.Duties.{Keeps, MayAsk, MayDo, Rounds, Stand, due_after, due_planned, lent_after, manner_of, stand_after}
 use Rattle.course_laws.specs.Granted.{file_by}
 use Rattle.course_laws.specs.Faultless.{Played, Scene, due_entry, play, wrote}
 use Rattle.course_laws.proofs.Counts.{Grew, rose-before}
+use Rattle.course_laws.proofs.Fetched.{Fetched}
 
 -- memory was wanted, behind what may stand there then, and that was answered or the sink failed in it; or the source or the sink failed
 abbrev pub Ended : (So : Bool → List ℕ → Type 0) (head_only : Bool) (front part : List ℕ) → Outside → Outside → Option End → Type 0
@@ -52,17 +55,18 @@ pub record Ready (o : Outside) (s : State) (input before : List ℕ) : Type 0 wh
   pub clock : IsSome s.clock
 
 -- the scene is there
-pub record Goes (before : List ℕ) (p : Played (Option End)) (o : Outside) (s : State) : Type 0 where
+pub record Goes (spare : Fetched) (before : List ℕ) (p : Played (Option End)) (o : Outside) (s : State) : Type 0 where
   pub ready : Ready o s p.scene.input (before ++ p.written)
   pub state : s ≡ p.scene.state
+  pub fetched : spare ≡ p.scene.fetched
 
-pub record AsPlayed (before : List ℕ) (p : Played (Option End)) (o : Outside) (s : State) (end : Option End) : Type 0 where
+pub record AsPlayed (spare : Fetched) (before : List ℕ) (p : Played (Option End)) (o : Outside) (s : State) (end : Option End) : Type 0 where
   pub output : o.output ≡ Some (before ++ p.written)
   pub ends : end ≡ p.end
-  pub goes : end ≡ None → Goes before p o s
+  pub goes : end ≡ None → Goes spare before p o s
 
-abbrev pub ComesTo : (Bool → List ℕ → Type 0) → List ℕ → Played (Option End) → Outside → Outside → State → Option End → Type 0
-ComesTo So before p old o s end = AsPlayed before p o s end ⊎ Early So before p.written old o end
+abbrev pub ComesTo : Fetched → (Bool → List ℕ → Type 0) → List ℕ → Played (Option End) → Outside → Outside → State → Option End → Type 0
+ComesTo spare So before p old o s end = AsPlayed spare before p o s end ⊎ Early So before p.written old o end
 
 -- by what may stand in front then
 ended-so : (Then So : Bool → List ℕ → Type 0) (head_only : Bool) (front front' part : List ℕ) (old new : Outside) (end : Option End)
@@ -73,8 +77,8 @@ ended-so Then So head_only front front' part old new end is (inr (inr (inl none,
 ended-so Then So head_only front front' part old new end is (inr (inr (inr begun, w))) = inr (inr (inr (begun.0, is begun.1), w))
 
 -- behind bytes written first
-pub wrote-outcome : (Then So : Bool → List ℕ → Type 0) (before first : List ℕ) (p : Played (Option End)) (old o : Outside) (s : State) (end : Option End)
-    → ((alone : Bool) (front : List ℕ) → Then alone front → So alone (first ++ front)) → ComesTo Then (before ++ first) p old o s end → ComesTo So before (wrote first p) old o s end
+pub wrote-outcome : {spare : Fetched} (Then So : Bool → List ℕ → Type 0) (before first : List ℕ) (p : Played (Option End)) (old o : Outside) (s : State) (end : Option End)
+    → ((alone : Bool) (front : List ℕ) → Then alone front → So alone (first ++ front)) → ComesTo spare Then (before ++ first) p old o s end → ComesTo spare So before (wrote first p) old o s end
 wrote-outcome Then So before first p old o s end grows (inl a) =
     let joined = append_assoc before first p.written in
     inl record {
@@ -83,6 +87,7 @@ wrote-outcome Then So before first p old o s end grows (inl a) =
       goes = λ none. let g = a.goes none in record {
         ready = subst (λ b. Ready o s p.scene.input b) joined g.ready;
         state = g.state;
+        fetched = g.fetched;
       };
     }
 wrote-outcome Then So before first p old o s end grows (inr m) =
@@ -96,8 +101,8 @@ wrote-outcome Then So before first p old o s end grows (inr m) =
     }
 
 -- by what may stand there from where it began
-pub outcome-so : (Then So : Bool → List ℕ → Type 0) (before : List ℕ) (p : Played (Option End)) (old o : Outside) (s : State) (end : Option End)
-    → ((alone : Bool) (front : List ℕ) → Then alone front → So alone front) → ComesTo Then before p old o s end → ComesTo So before p old o s end
+pub outcome-so : {spare : Fetched} (Then So : Bool → List ℕ → Type 0) (before : List ℕ) (p : Played (Option End)) (old o : Outside) (s : State) (end : Option End)
+    → ((alone : Bool) (front : List ℕ) → Then alone front → So alone front) → ComesTo spare Then before p old o s end → ComesTo spare So before p old o s end
 outcome-so Then So before p old o s end is (inl a) = inl a
 outcome-so Then So before p old o s end is (inr m) =
     inr record {
@@ -125,8 +130,8 @@ early-before So before written old mid new end g m = record {
   ];
 }
 
-pub outcome-before : (So : Bool → List ℕ → Type 0) (before : List ℕ) (p : Played (Option End)) (old mid new : Outside) (s : State) (end : Option End) → Grew old mid
-    → ComesTo So before p mid new s end → ComesTo So before p old new s end
+pub outcome-before : {spare : Fetched} (So : Bool → List ℕ → Type 0) (before : List ℕ) (p : Played (Option End)) (old mid new : Outside) (s : State) (end : Option End) → Grew old mid
+    → ComesTo spare So before p mid new s end → ComesTo spare So before p old new s end
 outcome-before So before p old mid new s end g (inl a) = inl a
 outcome-before So before p old mid new s end g (inr m) = inr (early-before So before p.written old mid new end g m)
 
@@ -203,27 +208,51 @@ says-memory So head_only so old new end before written (cut faults all part rose
       (ends, subst (λ n. Rose old.write_faults n) (sym (ap (λ o. o.write_faults) is)) rose),
     )))
 
--- what a reply makes of what is due: it stays, or the reply is to be told
-pub due-moves : (command : Command) (reply : Reply) (due : Option Close) → (due_after command reply due ≡ due) ⊎ (due_after command reply due ≡ Some (speaks (said_of reply)))
-due-moves (look repo path tried) (file lease blob) due = inl refl
-due-moves (may_put place path) (draft n) due = inl refl
-due-moves (done lease) reply due = inl refl
-due-moves (drop_draft n) reply due = inl refl
-due-moves (unlist repo) reply due = inl refl
-due-moves collect reply due = inl refl
-due-moves _ _ due = inr refl
+-- what is said by replies alone
+abbrev pub IsTold : Said → Type 0
+IsTold (BlobDiffers recorded found) = ⊥
+IsTold said = Unit {0}
+
+said-told : (reply : Reply) → IsTold (said_of reply)
+said-told no_memory = tt
+said-told _ = tt
+
+missed-told : (so_far : Verdict) → IsTold (said_missed so_far)
+missed-told (verdict.Unasked of_group) = tt
+missed-told (verdict.Gone of_group) = elim of_group as (λ b. IsTold (said_missed (verdict.Gone b))) [ true ↦ tt | false ↦ tt ]
+missed-told (verdict.First why) = tt
+
+-- what a reply makes of what is due: it stays, or something is to be told
+abbrev pub Moves : Option Close → Option Close → Type 0
+Moves before behind = (behind ≡ before) ⊎ ((what : Said) × (behind ≡ Some (speaks what)) × IsTold what)
+
+planned-moves : (left : ℕ) (due : Option Close) → Moves due (due_planned left due)
+planned-moves zero due = inr (NoMemory, refl, tt)
+planned-moves (suc n) due = inl refl
+
+pub due-moves : (r : Rounds) (command : Command) (reply : Reply) (due : Option Close) → Moves due (due_after r command reply due)
+due-moves r (look repo path tried) (file lease blob) due = inl refl
+due-moves r (look repo path tried) missed due = inr (said_missed r.so_far, refl, missed-told r.so_far)
+due-moves r (look repo path tried) (fetches plan) due = planned-moves r.left due
+due-moves r (may_put place path) (draft n) due = inl refl
+due-moves r (done lease) reply due = inl refl
+due-moves r (drop_draft n) reply due = inl refl
+due-moves r (unlist repo) reply due = inl refl
+due-moves r collect reply due = inl refl
+due-moves r (land plan outcome) landed due = inl refl
+due-moves r command reply due = inr (said_of reply, refl, said-told reply)
 
 -- once something is due it stays so, and no file is lent
 lent-stays : (command : Command) (reply : Reply) (s : Stand) (due : Close) → MayAsk command s → s.due ≡ Some due → (lent : Option Blob) → lent_after command reply lent ≡ lent
 lent-stays (done lease) reply s due may is lent = refl
 lent-stays _ reply s due may is lent = (cc)
 
-pub still-due : (command : Command) (reply : Reply) (s : Stand) (due : Close) → MayAsk command s → s.due ≡ Some due → due_after command reply s.due ≡ Some due
+pub still-due : (command : Command) (reply : Reply) (s : Stand) (due : Close) → MayAsk command s → s.due ≡ Some due → due_after s.rounds command reply s.due ≡ Some due
 still-due (done lease) reply s due may is = is
 still-due _ reply s due may is = (cc)
 
 -- where memory is wanted for a command, that is due
-pub memory-due : (command : Command) (s : Stand) → MayAsk command s → IsTrue (takes_memory command) → due_after command no_memory s.due ≡ Some (speaks NoMemory)
+pub memory-due : (command : Command) (s : Stand) → MayAsk command s → IsTrue (takes_memory command) → due_after s.rounds command no_memory s.due ≡ Some (speaks NoMemory)
 memory-due (done lease) s may can = absurd (false≢true can)
 memory-due (drop_draft n) s may can = absurd (false≢true can)
 memory-due (unlist repo) s may can = absurd may
@@ -232,6 +261,8 @@ memory-due _ s may can = refl
 
 pub nothing-due : (manner : Manner) (deed : Deed) (s : Stand) → MayDo manner deed s → s.due ≡ None
 nothing-due manner (send_file blob own) s may = may.0.0
+nothing-due manner (fetch plan) s may = may.0.0
+nothing-due manner (store_fetched n checked) s may = may.0.0
 nothing-due manner _ s may = may.0
 
 -- an answer is its head alone where those of the course are

@@ -1,25 +1,39 @@
 -- The count of the side whose failure ended a stream rose, and no other count of its sides; and few commands were asked.
-use Rattle.std.proofs.Common.{◌≡◌, ℕ, zero, suc, ◌+◌, ◌*◌, ◌≤◌, Bool, true, false, inl, inr, List, [], ◌∷◌, length, Option, Some, None, Ok, Err, arith, refl, sym, subst, ap, ◌∙◌, length-append, IfOk, Result}
+use Rattle.std.proofs.Common.{◌≡◌, ℕ, zero, suc, ◌+◌, ◌*◌, ◌≤◌, Bool, true, false, cond, inl, inr, List, [], ◌∷◌, length, Option, Some, None, Ok, Err, arith, refl, sym, subst, ap, ◌∙◌, length-append, IfOk, Result}
 use Rattle.std.proofs.lemmas.List.{length-map}
 use Rattle.http_wire.specs.Head.{Head}
-use Rattle.std.specs.Prelude.{◌==◌, if◌then◌else◌}
+use Rattle.std.specs.Option.{option_map_or}
+use Rattle.std.specs.Prelude.{◌==◌, ◌||◌, IsTrue, bytes_eq, find, is_some, max, if◌then◌else◌}
+use Rattle.std.proofs.lemmas.Bool.{false≢true}
+use Rattle.std.proofs.lemmas.Option.{none-some}
+use Rattle.fetch_plan.specs.declared.Outcome.{Outcome as Came}
+use Rattle.fetch_plan.specs.declared.Outcome.TheVariants as came
+use Rattle.fetch_plan.specs.declared.Plan.{Plan}
+use Rattle.outside.specs.declared.faults.BlobFault.TheVariants as unstored
+use Rattle.outside_remote.specs.Exchanges.{Sees}
+use Rattle.remote_fetch.specs.declared.contents.Content.{Content}
+use Rattle.remote_fetch.specs.declared.contents.Content.TheVariants as content
+use Rattle.remote_fetch.specs.declared.fetching.Checked.{Checked}
 use Rattle.http_wire.specs.Answer.{shown}
 use Rattle.http_wire.specs.declared.answers.Answer.{Answer}
 use Rattle.outside.specs.Blobs.{Shelf}
 use Rattle.outside.specs.Faults.{Rose}
-use Rattle.repo_model.specs.Command.{Command}
+use Rattle.repo_model.specs.Command.{Command, group_rule_of, is_known, is_there, proxy_rule_of}
 use Rattle.repo_model.specs.Data.{Blob}
 use Rattle.repo_model.specs.History.{Entry}
 use Rattle.repo_model.specs.Reply.{Reply}
-use Rattle.repo_model.specs.Settings.{Rule, Settings}
+use Rattle.repo_model.specs.Settings.{GroupRule, ProxyRule, Rule, Settings}
 use Rattle.repo_course.specs.Answers.{answer_of, file_answer, memory_answer}
-use Rattle.repo_routes.specs.Intent.{Intent, Judged, cleans as cleans_all}
+use Rattle.repo_routes.specs.Intent.{Intent, Judged, reads as reads_path, cleans as cleans_all}
+use Rattle.repo_routes.specs.Routes.{sort_of}
+use Rattle.repo_routes.specs.declared.intent.Sort.{Sort}
+use Rattle.repo_routes.specs.declared.intent.Sort.TheVariants as sorts
 use Rattle.repo_routes.specs.Judge.{IsIntent, intent_of, judge, outcome_of}
 use Rattle.repo_routes.proofs.KeptLemmas.{intent-kept}
 use Rattle.repo_routes.specs.declared.judging.Refused.{Refused}
 use Rattle.repo_routes.specs.declared.refusal.Refusal.{Refusal}
 use Rattle.repo_course.specs.declared.outcomes.CleanFault.TheVariants as clean_fault
-use Rattle.repo_course.specs.Course.{Body, Close, Course, Deed, Outcome, Pass, Stored, asks, does, says, stops, speaks, rests, invite, take_body, read_body, send_file, clean_all, end_of, of_fault, of_pass, of_sent}
+use Rattle.repo_course.specs.Course.{Body, Close, Course, Deed, Fetch, Kept, Outcome, Pass, Stored, asks, does, says, stops, speaks, rests, invite, take_body, read_body, send_file, clean_all, fetch, store_fetched, end_of, of_fault, of_pass, of_sent, rounds_of}
 use Rattle.repo_course.specs.declared.manner.Manner.{Manner}
 use Rattle.repo_course.specs.declared.outcomes.Continued.{Continued}
 use Rattle.repo_course.specs.declared.outcomes.Continued.TheVariants as continued
@@ -29,8 +43,8 @@ use Rattle.repo_course.specs.declared.outcomes.Sent.{Sent}
 use Rattle.repo_course.specs.declared.outcomes.Sent.TheVariants as sent
 use Rattle.repo_course.specs.declared.outcomes.Took.{Took}
 use Rattle.repo_course.specs.declared.outcomes.Took.TheVariants as took
-use Rattle.repo_course.specs.Serving.{Continues, Does, Fails, Follows, Opens, clean, torn, failed, refused, unread_head, starved, served, Outside, Reads, Says, whole, memory, cut, SendsAnswer, Serves, Takes, Turn}
-use Rattle.course_laws.specs.Duties.{Keeps, MayAsk, Stand, asked_by, due_after, due_done, duty_of, left_by, most_asked, most_for, stand_after, stand_done}
+use Rattle.repo_course.specs.Serving.{Continues, Does, Fails, Fetches, Stores, Follows, Opens, clean, torn, failed, refused, unread_head, starved, served, Outside, Reads, Says, whole, memory, cut, SendsAnswer, Serves, Takes, Turn}
+use Rattle.course_laws.specs.Duties.{Keeps, MayAsk, Stand, asked_by, due_after, due_done, due_fetched, duty_of, left_by, most_asked, most_for, most_members, most_rounds, stand_after, stand_done, twice}
 use Rattle.course_laws.specs.Endings.{EndsByCause, NoneRose}
 use Rattle.course_laws.proofs.Passes.{passes-few}
 use Rattle.course_laws.proofs.Early.{due-moves, nothing-due, still-due}
@@ -59,8 +73,16 @@ none-then : (old mid new : Outside) → NoneRose old mid → NoneRose mid new �
 none-then old mid new c n = (n.0 ∙ c.0, n.1 ∙ c.1)
 
 -- an outside whose reading and writing sides count as before
-counts : (old new : Outside) {input output : Option (List ℕ)} {blobs : ℕ} {shelf : Shelf}
-    → new ≡ record { input = input; output = output; read_faults = old.read_faults; write_faults = old.write_faults; blob_faults = blobs; shelf = shelf }
+counts : (old new : Outside) {input output : Option (List ℕ)} {blobs : ℕ} {shelf : Shelf} {remote : Sees}
+    → new ≡ record {
+      input = input;
+      output = output;
+      read_faults = old.read_faults;
+      write_faults = old.write_faults;
+      blob_faults = blobs;
+      shelf = shelf;
+      remote = remote;
+    }
     → NoneRose old new
 counts old new is = (ap (λ (o : Outside). o.read_faults) is, ap (λ (o : Outside). o.write_faults) is)
 
@@ -84,14 +106,14 @@ calm_shows : (manner : Manner) (old new : Outside) → NoneRose old new → Show
 calm_shows manner old new n = elim manner.close as (λ b. Shows (if b then Some stream.Closed else None) old new) [ true ↦ n | false ↦ n ]
 
 reply_caused : (command : Command) (reply : Reply) (s : Stand) (old now : Outside) → MayAsk command s → Caused s.due old now
-    → Caused (due_after command reply s.due) old now
+    → Caused (due_after s.rounds command reply s.due) old now
 reply_caused command reply s old now may c = pick s.due refl c
   where
-    pick : (due : Option Close) → s.due ≡ due → Caused due old now → Caused (due_after command reply s.due) old now
+    pick : (due : Option Close) → s.due ≡ due → Caused due old now → Caused (due_after s.rounds command reply s.due) old now
     pick None none n =
-        elim (due-moves command reply s.due) [
+        elim (due-moves s.rounds command reply s.due) [
           | inl stays ↦ subst (λ d. Caused d old now) (sym (stays ∙ none)) n
-          | inr told ↦ subst (λ d. Caused d old now) (sym told) n
+          | inr told ↦ subst (λ d. Caused d old now) (sym told.1) n
         ]
     pick (Some due) is c = subst (λ d. Caused d old now) (sym (still-due command reply s due may is)) c
 
@@ -149,6 +171,25 @@ pass_caused (Err clean_fault.StoreFault) old new n = n
 pass_caused (Err clean_fault.BlobFault) old new n = n
 pass_caused (Err clean_fault.NoMemory) old new n = n
 
+fetches_caused : (plan : Plan) (outcome : Fetch) (old mid new : Outside) → NoneRose old mid → Fetches plan outcome mid new
+    → Caused (due_fetched outcome plan.draft None) old new
+fetches_caused plan None old mid new n t = none-then old mid new n (counts mid new t.2)
+fetches_caused plan (Some outcome) old mid new n t = pick outcome plan.draft
+  where
+    calm : NoneRose old new
+    calm = none-then old mid new n (counts mid new t.2)
+
+    pick : (outcome : Came Content) (under : Option ℕ) → Caused (due_fetched (Some outcome) under None) old new
+    pick (came.Got (content.File checked)) None = calm
+    pick (came.Got (content.File checked)) (Some k) = calm
+    pick _ under = calm
+
+stores_caused : (tells : Type 0) (by_text : List ℕ → Option Close) (number : ℕ) (checked : Checked) (kept : Kept) (old mid new : Outside) → NoneRose old mid
+    → Stores tells number checked kept mid new → Caused (due_done by_text (store_fetched number checked) kept None) old new
+stores_caused tells by_text number checked (Ok blob) old mid new n t = none-then old mid new n (counts mid new t.0)
+stores_caused tells by_text number checked (Err unstored.Failed) old mid new n t = none-then old mid new n (counts mid new t.4)
+stores_caused tells by_text number checked (Err unstored.NoMemory) old mid new n t = none-then old mid new n (counts mid new t.2)
+
 says_shows : (answer memory_said : Answer) (manner : Manner) (end : Option End) (old mid new : Outside) → NoneRose old mid
     → Says answer memory_said (end_of manner) mid new end → Shows end old new
 says_shows answer memory_said manner end old mid new n (whole is ends) =
@@ -186,6 +227,8 @@ module _ (tells : Type 0) where
     deed_caused texts (send_file blob own) result mine old mid new n t =
         sends_caused own.head_only blob own (shown (file_answer blob own)) result old mid new n t.1
     deed_caused texts (clean_all repos) pass mine old mid new n t = pass_caused pass old new (none-then old mid new n (counts mid new t.2))
+    deed_caused texts (fetch plan) outcome mine old mid new n t = fetches_caused plan outcome old mid new n t.1
+    deed_caused texts (store_fetched number checked) kept mine old mid new n t = stores_caused tells by_text number checked kept old mid new n t.1
 
     follows_shows : ((bytes : List ℕ) → IsUnsent (by_text bytes)) → (c : Course) (n : ℕ) (s : Stand) → Keeps by_text manner c n s → (entries : List Entry)
         (old mid new : Outside) (end : Option End) → Caused s.due old mid → Follows tells c entries mid new end → Shows end old new
@@ -229,8 +272,45 @@ module _ (tells : Type 0) where
     follows_few (stops next) n s k entries old new end f = let none = ap length f.0 in omega arith
 
   module _ (settings : Settings) where
+    -- a fetch more, two commands more
+    twice-up : (n m : ℕ) → n ≤ m → twice n ≤ twice m
+    twice-up zero m up = omega arith
+    twice-up (suc n) zero up = absurd (omega (arith, up))
+    twice-up (suc n) (suc m) up = let more = twice-up n m (omega (arith, up)) in omega (arith, more)
+
+    found-few : (groups : List GroupRule) (id : List ℕ) (g : GroupRule) → find (λ (rule : GroupRule). bytes_eq rule.id id) groups ≡ Some g → length g.members ≤ most_members groups
+    found-few [] id g is = absurd (none-some g is)
+    found-few (x ∷ groups) id g is =
+        elim (bytes_eq x.id id) as (λ b. cond b (Some x) (find (λ (rule : GroupRule). bytes_eq rule.id id) groups) ≡ Some g → length g.members ≤ max (length x.members) (most_members groups)) [
+          | true ↦ λ here. let same : x ≡ g = cc in let long = ap (λ (r : GroupRule). length r.members) same in omega (arith, long)
+          | false ↦ λ later. let few = found-few groups id g later in omega (arith, few)
+        ] is
+
+    filled : (proxies : List ProxyRule) (id : List ℕ) → is_some (find (λ (rule : ProxyRule). bytes_eq rule.id id) proxies) ≡ true → 1 ≤ length proxies
+    filled [] id is = absurd (false≢true is)
+    filled (x ∷ proxies) id is = omega arith
+
+    rounds-few : (id : List ℕ) → IsTrue (is_known id settings) → rounds_of (sort_of id settings) ≤ most_rounds settings
+    unfolding sort_of
+    rounds-few id known = pick (is_there id settings) (group_rule_of id settings) refl known
+      where
+        pick : (there : Bool) (group : Option GroupRule) → group_rule_of id settings ≡ group → (there || (is_some (proxy_rule_of id settings) || is_some group)) ≡ true
+            → rounds_of (if there then sorts.Hosted else option_map_or (λ (g : GroupRule). sorts.Group (length g.members)) group sorts.Proxy) ≤ most_rounds settings
+        pick true group is known = omega arith
+        pick false (Some g) is known = let few = found-few settings.groups id g is in omega (arith, few)
+        pick false None is known =
+            let some : is_some (proxy_rule_of id settings) ≡ true = or-false (is_some (proxy_rule_of id settings)) known in
+            let more = filled settings.proxies id some in omega (arith, more)
+          where
+            or-false : (b : Bool) → (b || false) ≡ true → b ≡ true
+            or-false true is = refl
+            or-false false is = is
+
     intent-few : (intent : Intent) → IsIntent settings intent → most_for intent ≤ most_asked settings
     unfolding most_asked
+    intent-few (reads_path repo path of_sort) kept =
+        let few = rounds-few repo kept.0 in
+        let less = twice-up (rounds_of of_sort) (most_rounds settings) (subst (λ (x : Sort). rounds_of x ≤ most_rounds settings) (sym kept.2) few) in omega (arith, less)
     intent-few (cleans_all repos) kept =
         let all = ap length kept ∙ length-map settings.hosted (λ (rule : Rule). rule.id) in omega (arith, all)
     intent-few _ kept = omega arith

@@ -1,21 +1,32 @@
 -- The courses of a stream do what they owe.
-use Rattle.std.proofs.Common.{◌≡◌, ℕ, zero, suc, Bool, true, false, List, [], Option, Some, None, Result, Ok, Err, arith, refl, sym, subst}
+use Rattle.std.proofs.Common.{◌≡◌, ℕ, zero, suc, Bool, true, false, List, [], ◌∷◌, ◌++◌, Option, Some, None, Result, Ok, Err, arith, refl, sym, subst, ap}
+use Rattle.fetch_plan.specs.declared.Outcome.{Outcome as Came}
+use Rattle.fetch_plan.specs.declared.Outcome.TheVariants as came
+use Rattle.fetch_plan.specs.declared.Plan.{Plan}
+use Rattle.outside.specs.declared.faults.BlobFault.TheVariants as unstored
+use Rattle.remote_fetch.specs.declared.contents.Content.{Content}
+use Rattle.remote_fetch.specs.declared.contents.Content.TheVariants as content
+use Rattle.remote_fetch.specs.declared.fetching.Checked.{Checked}
 use Rattle.std.specs.Prelude.{if◌then◌else◌, unwrap_or}
 use Rattle.http_wire.specs.declared.faults.HeadFault.{HeadFault}
 use Rattle.http_wire.specs.declared.faults.HeadFault.TheVariants.{Broken, TooLong}
 use Rattle.mvn_digest.specs.Sides.{read_side}
 use Rattle.mvn_doc.specs.Reading.{reading}
 use Rattle.mvn_metadata.specs.Document.{Document}
-use Rattle.repo_model.specs.Command.{look, may_put}
+use Rattle.repo_model.specs.Command.{look, may_put, land}
 use Rattle.repo_model.specs.Data.{Blob, Place, repository, session}
-use Rattle.repo_model.specs.Reply.{Reply, file, draft, taken, same, relisted, created, no_session, session_full, staged}
+use Rattle.repo_model.specs.Fetched.{Landing, got_file, got_doc}
+use Rattle.repo_model.specs.Reply.{Reply, file, missed, draft, taken, same, relisted, created, no_session, session_full, staged, fetches, landed}
 use Rattle.repo_model.specs.Settings.{Settings}
 use Rattle.repo_routes.specs.Framing.{is_head}
 use Rattle.repo_routes.specs.Intent.{Intent, Judged, reads as reads_path, puts_file, puts_side, puts_document, counts, cleans as cleans_all, opens, commits, aborts}
 use Rattle.repo_routes.specs.Judge.{judge}
 use Rattle.repo_routes.specs.declared.judging.Refused.{Refused}
 use Rattle.repo_course.specs.Answers.{at_end}
-use Rattle.repo_course.specs.Course.{Body, Close, Course, Stored, speaks, rests, answers, asks, says, stops, closes, does, invite, take_body, read_body, after_continue, after_document, after_look, after_may_put, after_put, after_side, after_take, compares, course_for, course_of, cut_off, gives_up, invites, manner_for, notes, of_fault, of_pass, of_sent, refuses_head, said_of, tells, with_unread}
+use Rattle.repo_course.specs.Course.{Body, Close, Course, Fetch, Kept, Stored, speaks, rests, answers, asks, says, stops, closes, does, invite, take_body, read_body, fetch, store_fetched, after_continue, after_fetch, after_land, after_store, fetch_fault, fetched, gives_any_up, is_group, lands, looks, rounds_of, said_missed, stores, with_fault, without_memory, after_document, after_look, after_may_put, after_put, after_side, after_take, compares, course_for, course_of, cut_off, gives_up, invites, manner_for, notes, of_fault, of_pass, of_sent, refuses_head, said_of, tells, with_unread}
+use Rattle.repo_course.specs.declared.fetched.FetchFault.{FetchFault}
+use Rattle.repo_course.specs.declared.fetched.Verdict.{Verdict}
+use Rattle.repo_course.specs.declared.fetched.Verdict.TheVariants as verdict
 use Rattle.repo_course.specs.declared.manner.Manner.{Manner}
 use Rattle.repo_course.specs.declared.outcomes.Continued.{Continued}
 use Rattle.repo_course.specs.declared.outcomes.Continued.TheVariants as continued
@@ -25,7 +36,7 @@ use Rattle.repo_course.specs.declared.outcomes.Took.TheVariants as took
 use Rattle.repo_course.specs.declared.said.Said.TheVariants as said
 use Rattle.repo_course.specs.declared.said.Said.TheVariants.{NoMemory}
 use Rattle.repo_course.specs.Serving.{Opens, clean, torn, failed, refused, unread_head, starved, served, Outside}
-use Rattle.course_laws.specs.Duties.{AnswersDue, Duty, Fulfils, Keeps, Stand, left_by, at_first, by_digest, by_document, duty_of, duty_without_head, for_text, idle, most_for, spends_draft, stand_after, stand_done, to_end}
+use Rattle.course_laws.specs.Duties.{AnswersDue, Duty, Fulfils, Keeps, Stand, left_by, at_first, by_digest, by_document, due_fetched, due_undrawn, duty_of, duty_without_head, for_text, idle, landing_by, looks_most, most_for, twice, spends_draft, stand_after, stand_done, to_end}
 
 -- nothing is held, but for a blob
 abbrev empty : Option ℕ → Bool → Option Blob → Option Blob → Option Close → Stand
@@ -34,6 +45,16 @@ empty unread waits stored lent due = record idle { unread = unread; waits = wait
 -- a draft is held
 abbrev drawn : ℕ → Option ℕ → Bool → Option Blob → Option Close → Stand
 drawn n unread waits stored due = record idle { draft = Some n; unread = unread; waits = waits; stored = stored; due = due }
+
+-- a look is to come, behind which so many fetches may come
+abbrev looking : List ℕ → List ℕ → ℕ → List ℕ → Verdict → Option Blob → Stand
+looking repo path rounds tried so_far stored =
+    record idle { kept = stored; target = Some (repo, path); rounds = record { left = rounds; tried = tried; so_far = so_far } }
+
+-- a plan is to be fetched, stored and landed
+abbrev planned : List ℕ → List ℕ → ℕ → List ℕ → Verdict → Plan → Fetch → Option Blob → Stand
+planned repo path rounds tried so_far plan outcome stored =
+    record (looking repo path (suc rounds) tried so_far stored) { draft = plan.draft; plan = Some plan; came = outcome }
 
 module _ (by_text : List ℕ → Option Close) (manner : Manner) where
   abbrev Owes : Course → ℕ → Stand → Type 0
@@ -51,10 +72,96 @@ module _ (by_text : List ℕ → Option Close) (manner : Manner) where
   tells-keep : (reply : Reply) (n : ℕ) (stored : Option Blob) → Owes (tells manner reply) n (empty None false stored None (Some (speaks (said_of reply))))
   tells-keep reply n stored = closes-keep (speaks (said_of reply)) n stored None
 
-  look-keeps : (repo path : List ℕ) (reply : Reply) → Owes (after_look manner reply) 2 (stand_after (look repo path []) reply idle)
-  look-keeps repo path (file lease blob) =
-      (((refl, (refl, refl, refl)), refl, refl, refl), omega arith, λ result. (refl, λ reply. closes-keep (of_sent manner result) 1 None (Some blob)))
-  look-keeps repo path reply = tells-keep reply 2 None
+  -- an answer where nothing is held, and no body is unread
+  said-keeps : (said : Said) (n : ℕ) (s : Stand) → s.draft ≡ None → s.lease ≡ None → s.unread ≡ None → s.due ≡ Some (speaks said) → Owes (answers manner said) n s
+  said-keeps NoMemory n s given back read due = ((given, back), due, refl)
+  said-keeps said n s given back read due = ((given, back), due, sym (ap (λ (u : Option ℕ). with_unread (unwrap_or u 0) manner) read))
+
+  ends-keep : (due : Close) (n : ℕ) (s : Stand) → s.draft ≡ None → s.lease ≡ None → s.unread ≡ None → s.due ≡ Some due → Owes (closes manner due) n s
+  ends-keep (speaks said) n s given back read due = said-keeps said n s given back read due
+  ends-keep (rests end) n s given back read due = ((given, back), due, λ goes. read)
+
+  -- the same once a draft is given up, where there is one
+  any-up-keeps : (under : Option ℕ) (said : Said) (n : ℕ) (s : Stand) → s.draft ≡ under → s.lease ≡ None → s.unread ≡ None → s.due ≡ Some (speaks said)
+      → Owes (gives_any_up under (answers manner said)) (suc n) s
+  any-up-keeps None said n s given back read due = said-keeps said (suc n) s given back read due
+  any-up-keeps (Some k) said n s given back read due = (given, λ dropped. said-keeps said n (record s { draft = None }) refl back read due)
+
+  module _ (repo path : List ℕ) (rounds : ℕ) (tried : List ℕ) (so_far : Verdict) (plan : Plan) (again : Course) where
+    -- what comes of a fetch lands, and then the path is looked at again
+    land-keeps : (came : Fetch) (stored : Option Blob) (outcome : Landing) → landing_by came stored ≡ Some outcome
+        → Owes again (looks_most rounds) (looking repo path rounds (tried ++ plan.member ∷ []) (with_fault so_far (fetch_fault outcome)) stored)
+        → Owes (lands manner plan again outcome) (suc (looks_most rounds)) (planned repo path rounds tried so_far plan came stored)
+    land-keeps came stored outcome is rest = (((refl, (refl, refl, refl)), refl, refl, is), replies)
+      where
+        replies : (reply : Reply) → Owes (after_land manner plan.draft again reply) (looks_most rounds) (stand_after (land plan outcome) reply (planned repo path rounds tried so_far plan came stored))
+        replies landed = rest
+        replies reply = any-up-keeps plan.draft (said_of reply) (suc (twice rounds)) (stand_after (land plan outcome) reply (planned repo path rounds tried so_far plan came stored)) refl refl refl refl
+
+    -- a file is stored first
+    stores-keep : (checked : Checked) (under : Option ℕ) → plan.draft ≡ under
+        → ((stored : Option Blob) → Owes again (looks_most rounds) (looking repo path rounds (tried ++ plan.member ∷ []) (with_fault so_far None) stored))
+        → Owes (stores manner plan again checked under) (suc (looks_most rounds))
+        (record (planned repo path rounds tried so_far plan (Some (came.Got (content.File checked))) None) { due = due_undrawn under None })
+    stores-keep checked None is rest = ((is, refl), refl, refl)
+    stores-keep checked (Some n) is rest = (((refl, (refl, refl, refl)), is, refl), omega arith, tell)
+      where
+        tell : (kept : Kept) → Owes (after_store manner plan again kept) (suc (looks_most rounds))
+            (stand_done by_text (store_fetched n checked) kept (planned repo path rounds tried so_far plan (Some (came.Got (content.File checked))) None))
+        tell (Ok blob) = land-keeps (Some (came.Got (content.File checked))) (Some blob) (came.Got (got_file blob)) refl (rest (Some blob))
+        tell (Err unstored.Failed) = any-up-keeps plan.draft said.BlobFault (looks_most rounds) _ refl refl refl refl
+        tell (Err unstored.NoMemory) = any-up-keeps plan.draft NoMemory (looks_most rounds) _ refl refl refl refl
+
+  -- one round: a plan is fetched, and what came of it lands
+  module _ (repo path : List ℕ) (rounds : ℕ) (tried : List ℕ) (so_far : Verdict) (plan : Plan) (again : Option FetchFault → Course)
+      (rest : (why : Option FetchFault) (stored : Option Blob) → Keeps by_text manner (again why) (looks_most rounds) (looking repo path rounds (tried ++ plan.member ∷ []) (with_fault so_far why) stored)) where
+    came-keeps : (outcome : Came Content) → Owes (fetched manner plan (again (fetch_fault outcome)) outcome) (suc (looks_most rounds))
+        (record (planned repo path rounds tried so_far plan (Some outcome) None) { due = due_fetched (Some outcome) plan.draft None })
+    came-keeps (came.Got (content.File checked)) = stores-keep repo path rounds tried so_far plan (again None) checked plan.draft refl (rest None)
+    came-keeps (came.Got (content.Doc document)) =
+        land-keeps repo path rounds tried so_far plan (again None) (Some (came.Got (content.Doc document))) None (came.Got (got_doc document)) refl (rest None None)
+    came-keeps came.Gone = land-keeps repo path rounds tried so_far plan (again None) (Some came.Gone) None came.Gone refl (rest None None)
+    came-keeps (came.Refused code) = land-keeps repo path rounds tried so_far plan (again _) (Some (came.Refused code)) None (came.Refused code) refl (rest _ None)
+    came-keeps came.NoChecksum = land-keeps repo path rounds tried so_far plan (again _) (Some came.NoChecksum) None came.NoChecksum refl (rest _ None)
+    came-keeps (came.Differs said found) = land-keeps repo path rounds tried so_far plan (again _) (Some (came.Differs said found)) None (came.Differs said found) refl (rest _ None)
+    came-keeps came.TooLarge = land-keeps repo path rounds tried so_far plan (again _) (Some came.TooLarge) None came.TooLarge refl (rest _ None)
+    came-keeps (came.BadAnswer at) = land-keeps repo path rounds tried so_far plan (again _) (Some (came.BadAnswer at)) None (came.BadAnswer at) refl (rest _ None)
+    came-keeps (came.BadDocument at) = land-keeps repo path rounds tried so_far plan (again _) (Some (came.BadDocument at)) None (came.BadDocument at) refl (rest _ None)
+    came-keeps came.Fault = land-keeps repo path rounds tried so_far plan (again _) (Some came.Fault) None came.Fault refl (rest _ None)
+
+    round-keeps : (stored : Option Blob) → Owes (does (fetch plan) (after_fetch manner plan again)) (suc (looks_most rounds)) (planned repo path rounds tried so_far plan None stored)
+    round-keeps stored = (((refl, (refl, refl, refl)), refl, refl), omega arith, tell)
+      where
+        tell : (outcome : Fetch) → Owes (after_fetch manner plan again outcome) (suc (looks_most rounds)) (stand_done by_text (fetch plan) outcome (planned repo path rounds tried so_far plan None stored))
+        tell None = any-up-keeps plan.draft NoMemory (looks_most rounds) _ refl refl refl refl
+        tell (Some outcome) = came-keeps outcome
+
+  -- what follows the reply to a look, where this follows a plan
+  replies-keep : (repo path tried : List ℕ) (so_far : Verdict) (behind : Plan → Course) (rounds n : ℕ) (stored : Option Blob)
+      → ((plan : Plan) → Owes (behind plan) (suc n) (stand_after (look repo path tried) (fetches plan) (looking repo path rounds tried so_far stored)))
+      → (reply : Reply) → Owes (after_look manner so_far behind reply) (suc n) (stand_after (look repo path tried) reply (looking repo path rounds tried so_far stored))
+  replies-keep repo path tried so_far behind rounds n stored plans (file lease blob) =
+      (((refl, (refl, refl, refl)), refl, refl, refl), omega arith, λ result. (refl, λ reply. ends-keep (of_sent manner result) n _ refl refl refl refl))
+  replies-keep repo path tried so_far behind rounds n stored plans missed =
+      said-keeps (said_missed so_far) (suc n) (stand_after (look repo path tried) missed (looking repo path rounds tried so_far stored)) refl refl refl refl
+  replies-keep repo path tried so_far behind rounds n stored plans (fetches plan) = plans plan
+  replies-keep repo path tried so_far behind rounds n stored plans reply =
+      said-keeps (said_of reply) (suc n) (stand_after (look repo path tried) reply (looking repo path rounds tried so_far stored)) refl refl refl refl
+
+  looks-keep : (rounds : ℕ) (repo path tried : List ℕ) (so_far : Verdict) (stored : Option Blob)
+      → Owes (looks manner rounds repo path tried so_far) (looks_most rounds) (looking repo path rounds tried so_far stored)
+  looks-keep zero repo path tried so_far stored = (
+    ((refl, (refl, refl, refl)), refl, refl, refl, refl),
+    replies-keep repo path tried so_far (λ plan. gives_any_up plan.draft (without_memory manner)) 0 0 stored
+        (λ plan. any-up-keeps plan.draft NoMemory 0 (stand_after (look repo path tried) (fetches plan) (looking repo path 0 tried so_far stored)) refl refl refl refl),
+  )
+  looks-keep (suc rounds) repo path tried so_far stored =
+      let behind : Plan → Course = λ plan. does (fetch plan) (after_fetch manner plan (λ why. looks manner rounds repo path (tried ++ plan.member ∷ []) (with_fault so_far why))) in (
+        ((refl, (refl, refl, refl)), refl, refl, refl, refl),
+        replies-keep repo path tried so_far behind (suc rounds) (looks_most rounds) stored
+            (λ plan. round-keeps repo path rounds tried so_far plan (λ why. looks manner rounds repo path (tried ++ plan.member ∷ []) (with_fault so_far why))
+            (λ why kept. looks-keep rounds repo path (tried ++ plan.member ∷ []) (with_fault so_far why) kept) stored),
+      )
 
   put-keeps : (n : ℕ) (blob : Blob) (reply : Reply) → Owes (after_put n manner reply) 1
       (record (drawn n None false (Some blob) (Some (speaks (said_of reply)))) { draft = if spends_draft reply then None else Some n })
@@ -114,7 +221,8 @@ module _ (by_text : List ℕ → Option Close) (manner : Manner) where
 
 module _ (manner : Manner) where
   for-keeps : (expects : Bool) (intent : Intent) → Keeps (for_text intent) manner (course_for manner expects intent) (most_for intent) (at_first expects intent)
-  for-keeps expects (reads_path repo path) = (((refl, (refl, refl, refl)), refl), look-keeps (for_text (reads_path repo path)) manner repo path)
+  for-keeps expects (reads_path repo path of_sort) =
+      looks-keep (for_text (reads_path repo path of_sort)) manner (rounds_of of_sort) repo path [] (verdict.Unasked (is_group of_sort)) None
   for-keeps expects (puts_file place path count) = ((refl, refl, refl), may_put-keeps (for_text (puts_file place path count)) manner place path count expects)
   for-keeps expects (puts_side place path side count) = small-keeps (for_text (puts_side place path side count)) manner expects count (after_side place path side manner) tell
     where
@@ -164,7 +272,7 @@ opens-keeps settings last old new c (served head rest begins uses is) = subst (F
 
 -- a course that does what it owes answers what is due
 module _ (by_text : List ℕ → Option Close) (manner : Manner) where
-  pub keeps-answers : (c : Course) (n : ℕ) (s : Stand) → Keeps by_text manner c n s → AnswersDue by_text c s.due
+  pub keeps-answers : (c : Course) (n : ℕ) (s : Stand) → Keeps by_text manner c n s → AnswersDue by_text c s.rounds s.due
   keeps-answers (asks command next) zero s k = absurd k
   keeps-answers (asks command next) (suc n) s k = λ reply. keeps-answers (next reply) n (stand_after command reply s) (k.1 reply)
   keeps-answers (does deed next) n s k = λ outcome. keeps-answers (next outcome) (left_by deed n) (stand_done by_text deed outcome s) (k.2 outcome)

@@ -6,11 +6,14 @@ pub mod Yards
 pub mod Passes
 pub mod PassesPlayed
 pub mod LeftBehind
+pub mod Rounds
 pub mod Complete
 pub mod Sendings
 pub mod Takings
 pub mod Counts
 pub mod Told
+pub mod Remotes
+pub mod Fetched
 pub mod Early
 pub mod HeadOnly
 pub mod Unsent
@@ -23,3 +26,6 @@ pub mod Refusals
 pub mod Succeeding
 pub mod ServedActs
 pub mod Granted
+pub mod Landed
+pub mod Origins
+pub mod Verdicts

@@ -19,10 +19,11 @@ use Rattle.repo_course.specs.declared.outcomes.End.TheVariants as stream
 use Rattle.repo_course.specs.declared.outcomes.Took.TheVariants as took
 use Rattle.repo_course.specs.declared.said.Said.{Said}
 use Rattle.repo_course.specs.declared.said.Said.TheVariants.{NoMemory}
-use Rattle.repo_course.specs.Serving.{Follows, IsFrontOf, Outside, Reads, Says, print_of, writes}
+use Rattle.repo_course.specs.Serving.{IsFrontOf, Outside, Reads, Says, print_of, writes}
 use Rattle.course_laws.specs.Duties.{Keeps, Stand}
 use Rattle.course_laws.specs.Faultless.{Scene, body_of, play, taken_body, wrote}
 use Rattle.course_laws.proofs.Counts.{Calm, Grew, not-risen}
+use Rattle.course_laws.proofs.Fetched.{Fetched, FollowsBy, plain}
 use Rattle.course_laws.proofs.Early.{Early, ComesTo, Ready, early-before, ends-due, no-more, outcome-before, plays-due, says-early, says-memory, sink-failed, source-failed, wrote-outcome}
 use Rattle.course_laws.proofs.Unsent.{MayStarve}
 
@@ -46,7 +47,7 @@ pub front-of : (input body : List ℕ) (rest : Option (List ℕ)) → Some input
 front-of input body None is = absurd (cc)
 front-of input body (Some r) is = (r, refl, cc)
 
-blob-is : (blob : Blob) (number : ℕ) (body : List ℕ) → blob.number ≡ number → blob.bytes ≡ Some body → blob.print ≡ print_of body
+pub blob-is : (blob : Blob) (number : ℕ) (body : List ℕ) → blob.number ≡ number → blob.bytes ≡ Some body → blob.print ≡ print_of body
     → record { number = number; bytes = Some body; print = print_of body } ≡ blob
 blob-is blob n body number bytes print = λ i. record { number = sym number i; bytes = sym bytes i; print = sym print i }
 
@@ -75,15 +76,15 @@ IsBlobTold None = Unit {0}
 IsBlobTold (Some blob) = IsSome blob.bytes
 
 abbrev pub InHandTold : Stand → Type 0
-InHandTold s = IsBlobTold s.stored × IsBlobTold s.lent
+InHandTold s = IsBlobTold s.stored × IsBlobTold s.lent × IsBlobTold s.kept
 
 -- a count that rose in the middle would be higher in the end
 pub risen : {P : Type 0} (before faults last : ℕ) → Rose before faults → faults ≤ last → Calm before last → P
 risen before faults last rose le calm = absurd (not-risen before faults rose (let h = calm.0 in omega arith) calm.1)
 
 -- before a course
-abbrev pub at : State → List ℕ → Scene
-at st input = record { state = st; input = input }
+abbrev pub at : State → List ℕ → Fetched → Scene
+at st input coming = record { state = st; input = input; fetched = coming }
 
 -- where memory was wanted for a body nothing is written
 pub unwritten : (count : ℕ) (old mid : Outside) → Reads count (Err took.NoMemory) old mid → mid.output ≡ old.output
@@ -91,26 +92,26 @@ unwritten count old mid (inl still) = ap (λ o. o.output) still
 unwritten count old mid (inr t) = ap (λ o. o.output) t.1.3
 
 -- a deed that asks nothing leaves the entries to what follows it
-pub unasked : (tells : Type 0) (c : Course) (entries mine later : List Entry) (old new : Outside) (end : Option End) → entries ≡ mine ++ later → mine ≡ []
-    → Follows tells c later old new end → Follows tells c entries old new end
-unasked tells c entries mine later old new end parts none f =
-    subst (λ (es : List Entry). Follows tells c es old new end) (sym (parts ∙ ap (λ (es : List Entry). es ++ later) none)) f
+pub unasked : (tells : Type 0) (c : Course) (entries mine later : List Entry) (coming spare : Fetched) (old new : Outside) (end : Option End) → entries ≡ mine ++ later → mine ≡ []
+    → FollowsBy tells c later coming spare old new end → FollowsBy tells c entries coming spare old new end
+unasked tells c entries mine later coming spare old new end parts none f =
+    subst (λ (es : List Entry). FollowsBy tells c es coming spare old new end) (sym (parts ∙ ap (λ (es : List Entry). es ++ later) none)) f
 
 module _ (settings : Settings) (tells : Type 0) (by_text : List ℕ → Option Close) (manner : Manner) where
   -- the course is followed as it is played
   abbrev pub Plays : Course → Type 0
   Plays c = (n : ℕ) (s : Stand) → Keeps by_text manner c n s → InHandTold s → (entries : List Entry) (st : State) → Legal settings st entries
-      → Calm st.faults (end_of settings st entries).faults → (old new : Outside) (end : Option End) (input before : List ℕ) → Ready old st input before
-      → Calm old.blob_faults new.blob_faults → Follows tells c entries old new end
-      → ComesTo (MayStarve manner s) before (play settings c (at st input)) old new (end_of settings st entries) end
+      → Calm st.faults (end_of settings st entries).faults → (old new : Outside) (end : Option End) (input before : List ℕ) (coming spare : Fetched) → Ready old st input before
+      → Calm old.blob_faults new.blob_faults → FollowsBy tells c entries coming spare old new end
+      → ComesTo spare (MayStarve manner s) before (play settings c (at st input coming)) old new (end_of settings st entries) end
 
   -- bytes are written, and the course goes on
   pub wrote-play : (So : Bool → List ℕ → Type 0) (all : List ℕ) (rest : Course) → Plays rest → (n : ℕ) (s : Stand)
       → ((alone : Bool) (front : List ℕ) → MayStarve manner s alone front → So alone (all ++ front)) → Keeps by_text manner rest n s → InHandTold s → (entries : List Entry) (st : State)
-      → Legal settings st entries → Calm st.faults (end_of settings st entries).faults → (old mid new : Outside) (end : Option End) (input before : List ℕ)
-      → Ready old st input before → Calm old.blob_faults new.blob_faults → mid ≡ writes all old → Follows tells rest entries mid new end
-      → ComesTo So before (wrote all (play settings rest (at st input))) old new (end_of settings st entries) end
-  wrote-play So all rest plays n s grows k hand entries st legal calm old mid new end input before ready quiet mid-is follows =
+      → Legal settings st entries → Calm st.faults (end_of settings st entries).faults → (old mid new : Outside) (end : Option End) (input before : List ℕ) (coming spare : Fetched)
+      → Ready old st input before → Calm old.blob_faults new.blob_faults → mid ≡ writes all old → FollowsBy tells rest entries coming spare mid new end
+      → ComesTo spare So before (wrote all (play settings rest (at st input coming))) old new (end_of settings st entries) end
+  wrote-play So all rest plays n s grows k hand entries st legal calm old mid new end input before coming spare ready quiet mid-is follows =
       let o = writes all old in
       let ready' : Ready o st input (before ++ all) = record {
         input_is = ready.input_is;
@@ -118,17 +119,17 @@ module _ (settings : Settings) (tells : Type 0) (by_text : List ℕ → Option C
         rows = ready.rows;
         clock = ready.clock;
       } in
-      wrote-outcome (MayStarve manner s) So before all (play settings rest (at st input)) old new (end_of settings st entries) end grows
-      (outcome-before (MayStarve manner s) (before ++ all) _ old o new _ end (record { reads = omega arith; writes = omega arith; blobs = omega arith })
-      (plays n s k hand entries st legal calm o new end input (before ++ all) ready' quiet
-      (subst (λ m. Follows tells rest entries m new end) mid-is follows)))
+      wrote-outcome (MayStarve manner s) So before all (play settings rest (at st input coming)) old new (end_of settings st entries) end grows
+      (outcome-before (MayStarve manner s) (before ++ all) _ old o new _ end (record { reads = omega arith; writes = omega arith; blobs = omega arith; remote = omega arith })
+      (plays n s k hand entries st legal calm o new end input (before ++ all) coming spare ready' quiet
+      (subst (λ m. FollowsBy tells rest entries coming spare m new end) mid-is follows)))
 
   -- the sink failed, and has taken a front of what was to be written
   pub sink-play : (So : Bool → List ℕ → Type 0) (all more part : List ℕ) (rest : Course) (n : ℕ) (s : Stand) → Keeps by_text manner rest n s → s.due ≡ Some (rests (Some stream.SinkFault)) → (faults : ℕ) (entries : List Entry)
-      (st : State) (old mid new : Outside) (end : Option End) (input before : List ℕ) → Ready old st input before → Rose old.write_faults faults → IsFrontOf part all
-      → mid ≡ writes part (record old { write_faults = faults }) → Follows tells rest entries mid new end → Early So before (all ++ more) old new end
-  sink-play So all more part rest n s k is faults entries st old mid new end input before ready rose front mid-is follows =
-      let last = (ends-due tells by_text manner rest n s (rests (Some stream.SinkFault)) k is entries mid new end follows).0 in
+      (st : State) (old mid new : Outside) (end : Option End) (input before : List ℕ) (coming spare : Fetched) → Ready old st input before → Rose old.write_faults faults → IsFrontOf part all
+      → mid ≡ writes part (record old { write_faults = faults }) → FollowsBy tells rest entries coming spare mid new end → Early So before (all ++ more) old new end
+  sink-play So all more part rest n s k is faults entries st old mid new end input before coming spare ready rose front mid-is follows =
+      let last = (ends-due tells by_text manner rest n s (rests (Some stream.SinkFault)) k is entries mid new end (plain tells rest entries coming spare mid new end follows)).0 in
       no-more So before _ part old new end (front.0 ++ more, ap (λ b. b ++ more) front.1 ∙ append_assoc part front.0 more)
       (ap (λ o. o.output) last.0 ∙ ap (λ o. o.output) mid-is ∙ ap (λ o. behind o part) ready.output_is)
       (sink-failed So part old new end last.1
@@ -136,11 +137,11 @@ module _ (settings : Settings) (tells : Type 0) (by_text : List ℕ → Option C
 
   -- the stream ends inside a body
   pub torn-play : (So : Bool → List ℕ → Type 0) (count : ℕ) (rest : Course) (n : ℕ) (s : Stand) → Keeps by_text manner rest n s → s.due ≡ Some (rests (Some stream.TornRequest)) → (entries : List Entry) (st : State)
-      (old mid new : Outside) (end : Option End) (input before : List ℕ) → Ready old st input before → Reads count (Err took.Torn) old mid
-      → Follows tells rest entries mid new end → ComesTo So before (play settings rest (at st (drop count input))) old new (end_of settings st entries) end
-  torn-play So count rest n s k is entries st old mid new end input before ready cause follows =
-      let last = (ends-due tells by_text manner rest n s (rests (Some stream.TornRequest)) k is entries mid new end follows).0 in
-      let played = plays-due settings by_text manner rest n s (Some stream.TornRequest) k is (at st (drop count input)) in
+      (old mid new : Outside) (end : Option End) (input before : List ℕ) (coming spare : Fetched) → Ready old st input before → Reads count (Err took.Torn) old mid
+      → FollowsBy tells rest entries coming spare mid new end → ComesTo spare So before (play settings rest (at st (drop count input) coming)) old new (end_of settings st entries) end
+  torn-play So count rest n s k is entries st old mid new end input before coming spare ready cause follows =
+      let last = (ends-due tells by_text manner rest n s (rests (Some stream.TornRequest)) k is entries mid new end (plain tells rest entries coming spare mid new end follows)).0 in
+      let played = plays-due settings by_text manner rest n s (Some stream.TornRequest) k is (at st (drop count input) coming) in
       inl record {
         output = ap (λ o. o.output) last.0 ∙ ap (λ o. o.output) cause.1.1 ∙ ready.output_is
             ∙ ap Some (sym (append-nil before) ∙ ap (λ b. before ++ b) (sym played.0));
@@ -153,10 +154,10 @@ module _ (settings : Settings) (tells : Type 0) (by_text : List ℕ → Option C
 
   -- the source fails inside a body
   pub source-play : (So : Bool → List ℕ → Type 0) (count : ℕ) (written : List ℕ) (rest : Course) (n : ℕ) (s : Stand) → Keeps by_text manner rest n s → s.due ≡ Some (rests (Some stream.SourceFault)) → (entries : List Entry)
-      (st : State) (old mid new : Outside) (end : Option End) (input before : List ℕ) → Ready old st input before → Reads count (Err took.SourceFault) old mid
-      → Follows tells rest entries mid new end → Early So before written old new end
-  source-play So count written rest n s k is entries st old mid new end input before ready cause follows =
-      let last = (ends-due tells by_text manner rest n s (rests (Some stream.SourceFault)) k is entries mid new end follows).0 in
+      (st : State) (old mid new : Outside) (end : Option End) (input before : List ℕ) (coming spare : Fetched) → Ready old st input before → Reads count (Err took.SourceFault) old mid
+      → FollowsBy tells rest entries coming spare mid new end → Early So before written old new end
+  source-play So count written rest n s k is entries st old mid new end input before coming spare ready cause follows =
+      let last = (ends-due tells by_text manner rest n s (rests (Some stream.SourceFault)) k is entries mid new end (plain tells rest entries coming spare mid new end follows)).0 in
       no-more So before written [] old new end (_, refl)
       (ap (λ o. o.output) last.0 ∙ ap (λ o. o.output) cause.2.1 ∙ ready.output_is ∙ ap Some (sym (append-nil before)))
       (source-failed So [] old new end last.1
@@ -164,17 +165,17 @@ module _ (settings : Settings) (tells : Type 0) (by_text : List ℕ → Option C
 
   -- memory is wanted, and nothing was written
   pub memory-play : (So : Bool → List ℕ → Type 0) → So manner.head_only [] → (written : List ℕ) (rest : Course) (n : ℕ) (s : Stand) → Keeps by_text manner rest n s → s.due ≡ Some (speaks NoMemory) → (entries : List Entry) (st : State) (old mid new : Outside)
-      (end : Option End) (input before : List ℕ) → Ready old st input before → Grew old mid → mid.output ≡ old.output → Follows tells rest entries mid new end
+      (end : Option End) (input before : List ℕ) (coming spare : Fetched) → Ready old st input before → Grew old mid → mid.output ≡ old.output → FollowsBy tells rest entries coming spare mid new end
       → Early So before written old new end
-  memory-play So so written rest n s k is entries st old mid new end input before ready first kept follows =
-      let said = (ends-due tells by_text manner rest n s (speaks NoMemory) k is entries mid new end follows).0 in
+  memory-play So so written rest n s k is entries st old mid new end input before coming spare ready first kept follows =
+      let said = (ends-due tells by_text manner rest n s (speaks NoMemory) k is entries mid new end (plain tells rest entries coming spare mid new end follows)).0 in
       early-before So before written old mid new end first (says-memory So manner.head_only so mid new end before written said (kept ∙ ready.output_is))
 
   -- an answer at the end of a turn, or nothing written there
-  pub says-play : (So : Bool → List ℕ → Type 0) (said : Said) (own : Manner) → So own.head_only [] → (st : State) (old new : Outside) (end : Option End) (input before : List ℕ) → Ready old st input before
-      → Says (answer_of said own) (memory_answer own.head_only) (manner_end own) old new end
-      → ComesTo So before (play settings (says said own) (at st input)) old new st end
-  says-play So said own so st old new end input before ready said-it =
+  pub says-play : (So : Bool → List ℕ → Type 0) (said : Said) (own : Manner) → So own.head_only [] → (st : State) (old new : Outside) (end : Option End) (input before : List ℕ) (coming spare : Fetched) → Ready old st input before
+      → Says (answer_of said own) (memory_answer own.head_only) (manner_end own) old new end → coming ≡ spare
+      → ComesTo spare So before (play settings (says said own) (at st input coming)) old new st end
+  says-play So said own so st old new end input before coming spare ready said-it left =
       elim (says-early So (answer_of said own) own.head_only so (manner_end own) old new end before said-it ready.output_is) [
         | inl w ↦ inl record {
           output = w.1;
@@ -188,14 +189,15 @@ module _ (settings : Settings) (tells : Type 0) (by_text : List ℕ → Option C
                   clock = ready.clock;
                 });
             state = refl;
+            fetched = sym left;
           };
         }
         | inr m ↦ inr m
       ]
 
-  pub stops-play : (So : Bool → List ℕ → Type 0) (next : Option End) (st : State) (old new : Outside) (end : Option End) (input before : List ℕ) → Ready old st input before
-      → new ≡ old → end ≡ next → ComesTo So before (play settings (stops next) (at st input)) old new st end
-  stops-play So next st old new end input before ready still ends =
+  pub stops-play : (So : Bool → List ℕ → Type 0) (next : Option End) (st : State) (old new : Outside) (end : Option End) (input before : List ℕ) (coming spare : Fetched) → Ready old st input before
+      → new ≡ old → end ≡ next → coming ≡ spare → ComesTo spare So before (play settings (stops next) (at st input coming)) old new st end
+  stops-play So next st old new end input before coming spare ready still ends left =
       let out = ready.output_is ∙ ap Some (sym (append-nil before)) in
       inl record {
         output = ap (λ o. o.output) still ∙ out;
@@ -204,5 +206,6 @@ module _ (settings : Settings) (tells : Type 0) (by_text : List ℕ → Option C
           ready = subst (λ o. Ready o st input (before ++ [])) (sym still)
               (record { input_is = ready.input_is; output_is = out; rows = ready.rows; clock = ready.clock });
           state = refl;
+          fetched = sym left;
         };
       }

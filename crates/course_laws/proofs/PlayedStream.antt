@@ -5,6 +5,7 @@ use Rattle.std.proofs.lemmas.Bool.{false≢true}
 use Rattle.std.proofs.lemmas.Option.{none-some}
 use Rattle.outside.specs.Faults.{Rose}
 use Rattle.http_wire.specs.Answer.{continue_bytes, shown}
+use Rattle.outside_remote.specs.Exchanges.{Sees}
 use Rattle.http_wire.specs.Front.{Front, Clean, Cut, Bad, Whole, front}
 use Rattle.http_wire.specs.Head.{Head}
 use Rattle.repo_model.specs.History.{Entry, Legal, end as end_of}
@@ -19,8 +20,8 @@ use Rattle.repo_course.specs.Course.{Close, Course, speaks, rests, course_of, he
 use Rattle.repo_course.specs.declared.manner.Manner.{Manner}
 use Rattle.repo_course.specs.declared.outcomes.End.{End}
 use Rattle.repo_course.specs.declared.outcomes.End.TheVariants as stream
-use Rattle.repo_course.specs.Serving.{Begins, Follows, IsFrontOf, IsWhole, Opens, clean, torn, failed, refused, unread_head, starved, served, Outside, Serves, Turn}
-use Rattle.course_laws.specs.AsPlayed.{AsksHead, BeginsAt, IsAnswers, IsAsPlayed, in_full, wants_memory, IsPlayedUpTo, unbroken, broken, cut_starved, NoFaults, StoodStill}
+use Rattle.repo_course.specs.Serving.{Begins, IsFrontOf, IsWhole, Opens, clean, torn, failed, refused, unread_head, starved, served, Outside, Serves, Turn}
+use Rattle.course_laws.specs.AsPlayed.{AreFetched, AsksHead, BeginsAt, IsAnswers, IsAsPlayed, in_full, wants_memory, IsPlayedUpTo, unbroken, broken, cut_starved, NoFaults, StoodStill}
 use Rattle.course_laws.specs.Duties.{Duty, Fulfils, Stand, duty_of, to_end}
 use Rattle.course_laws.specs.Faultless.{Played, Scene, play, play_turn, play_stream, then_play}
 use Rattle.course_laws.proofs.Counts.{Calm, Grew, calm-first, calm-then, follows-grew, not-risen, opens-grew, rose-before, serves-grew, turn-grew}
@@ -28,7 +29,9 @@ use Rattle.course_laws.proofs.Early.{ComesTo, Ready, early-before, no-more, outc
 use Rattle.course_laws.proofs.HeadOnly.{judged-head}
 use Rattle.course_laws.proofs.Kept.{duty_at, opens-keeps}
 use Rattle.course_laws.proofs.LeftBehind.{end_append, legal_cut}
+use Rattle.course_laws.proofs.Fetched.{Fetched, FollowsBy, fetched-before, followed-by, plain}
 use Rattle.course_laws.proofs.PlayedActs.{InHandTold}
+use Rattle.course_laws.proofs.Remotes.{goes-on, opens-still, still-goes}
 use Rattle.course_laws.proofs.PlayedCourse.{course-play}
 use Rattle.course_laws.proofs.Told.{faults-grow}
 use Rattle.course_laws.proofs.Unsent.{MayStarve}
@@ -114,156 +117,202 @@ same-Some a b is = cc
 
 -- at first no blob is in hand
 first-in-hand : (judged : Result Judged Refused) (last : Bool) → InHandTold (duty_of judged last).stand
-first-in-hand (Ok request) last = (tt, tt)
-first-in-hand (Err cause) last = (tt, tt)
+first-in-hand (Ok request) last = (tt, tt, tt)
+first-in-hand (Err cause) last = (tt, tt, tt)
 
 module _ (settings : Settings) (tells : Type 0) (witness : tells) where
-  -- what the front of the input asks for
-  abbrev Turned : Bool → Front → State → List ℕ → List ℕ → Outside → Outside → State → Option End → Type 0
-  Turned last f st input before old new st' end = ComesTo (AtTurn f) before (play_turn settings last f (record { state = st; input = input })) old new st' end
+  -- a turn, and a stream, by what its fetches come to
+  abbrev TurnBy : Bool → List Entry → Fetched → Fetched → Outside → Outside → Option End → Type 0
+  TurnBy last entries coming spare old new end =
+      (c : Course) × (mid : Outside) × Opens settings last old mid c × FollowsBy tells c entries coming spare mid new end
 
-  -- a course behind what was read, from where it stands
-  played : (front_is : Front) (duty : Duty) → MayBeAlone front_is duty.manner.head_only → (c : Course) → Fulfils duty c → InHandTold duty.stand → (entries : List Entry) (st : State) → Legal settings st entries
-      → Calm st.faults (end_of settings st entries).faults
-      → (old mid new : Outside) (end : Option End) (input before : List ℕ) → Ready mid st input before → Calm mid.blob_faults new.blob_faults → Grew old mid
-      → Follows tells c entries mid new end → ComesTo (AtTurn front_is) before (play settings c (record { state = st; input = input })) old new (end_of settings st entries) end
-  played front_is duty asks c k hand entries st legal calm old mid new end input before ready quiet g f =
-      outcome-before (AtTurn front_is) before _ old mid new _ end g
-      (outcome-so (MayStarve duty.manner duty.stand) (AtTurn front_is) before _ mid new _ end (at-turn front_is duty.manner asks duty.stand)
-      (course-play settings tells witness duty.by_text duty.manner c duty.most duty.stand k hand entries st legal calm mid new end input before ready quiet f))
+  abbrev ServesBy : ℕ → List Entry → Fetched → Fetched → Outside → Outside → End → Type 0
+  ServesBy zero entries coming spare old new end = (entries ≡ []) × (new ≡ old) × (end ≡ stream.TurnLimit)
+  ServesBy (suc left) entries coming spare old new end =
+      TurnBy (left == 0) entries coming spare old new (Some end)
+      ⊎ ((first rest : List Entry) × (mid : Outside) × (entries ≡ first ++ rest)
+      × (unused : Fetched) × TurnBy (left == 0) first coming unused old mid None × ServesBy left rest unused spare mid new end)
 
-  -- the source alone was read
-  ready-on : (old mid : Outside) (st : State) (input behind before : List ℕ) (rest : Option (List ℕ)) → Ready old st input before → mid ≡ record old { input = rest }
-      → rest ≡ Some behind → Ready mid st behind before
-  ready-on old mid st input behind before rest ready on is = record {
-    input_is = ap (λ o. o.input) on ∙ is;
-    output_is = ap (λ o. o.output) on ∙ ready.output_is;
-    rows = ready.rows;
-    clock = ready.clock;
-  }
+  plain-turn : (last : Bool) (entries : List Entry) (coming spare : Fetched) (old new : Outside) (end : Option End) → TurnBy last entries coming spare old new end
+      → Turn settings tells last entries old new end
+  plain-turn last entries coming spare old new end t = (t.0, t.1, t.2, plain tells t.0 entries coming spare t.1 new end t.3)
 
-  abbrev Plays-so : Front → Course → List ℕ → List ℕ → Outside → Outside → State → State → Option End → Type 0
-  Plays-so f c input before old new st st' end = ComesTo (AtTurn f) before (play settings c (record { state = st; input = input })) old new st' end
+  plain-serves : (n : ℕ) (entries : List Entry) (coming spare : Fetched) (old new : Outside) (end : End) → ServesBy n entries coming spare old new end
+      → Serves settings tells n entries old new end
+  unfolding Serves
+  plain-serves zero entries coming spare old new end t = t
+  plain-serves (suc left) entries coming spare old new end (inl turn) = inl (plain-turn (left == 0) entries coming spare old new (Some end) turn)
+  plain-serves (suc left) entries coming spare old new end (inr t) =
+      inr (t.0, t.1, t.2, t.3, plain-turn (left == 0) t.0 coming t.4 old t.2 None t.5, plain-serves left t.1 t.4 spare t.2 new end t.6)
 
-  served-turn : (last : Bool) (f : Front) (head : Head) (rest : Option (List ℕ)) → IsWhole head rest f
-      → (old new : Outside) (st st' : State) (end : Option End) (input before : List ℕ)
-      → ((behind : List ℕ) → rest ≡ Some behind → Plays-so f (course_of (judge settings head) last) behind before old new st st' end)
-      → Turned last f st input before old new st' end
-  served-turn last Clean head rest comes old new st st' end input before done = absurd comes
-  served-turn last Cut head rest comes old new st st' end input before done = absurd comes
-  served-turn last (Bad fault) head rest comes old new st st' end input before done = absurd comes
-  served-turn last (Whole what behind) head rest comes old new st st' end input before done =
-      subst (λ h. Plays-so (Whole what behind) (course_of (judge settings h) last) behind before old new st st' end) (sym comes.0) (done behind comes.1)
+  module _ (end-seen : Sees) where
+    turn-by : (last : Bool) (entries : List Entry) (old new : Outside) (end : Option End) → Turn settings tells last entries old new end → (spare : Fetched)
+        → AreFetched spare new.remote end-seen → (coming : Fetched) × TurnBy last entries coming spare old new end × AreFetched coming old.remote end-seen
+    turn-by last entries old new end (c, mid, o, f) spare are =
+        let by = followed-by tells end-seen c entries mid new end f spare are in
+        (by.0, (c, mid, o, by.1), fetched-before by.0 old.remote mid.remote end-seen (still-goes old mid (opens-still settings last old mid c o)) by.2)
 
-  turn-play : (last : Bool) (entries : List Entry) (st : State) → Legal settings st entries → Calm st.faults (end_of settings st entries).faults
-      → (old new : Outside) (end : Option End) (input before : List ℕ) → Ready old st input before → Calm old.blob_faults new.blob_faults
-      → Turn settings tells last entries old new end → Turned last (front input) st input before old new (end_of settings st entries) end
-  turn-play last entries st legal calm old new end input before ready quiet (c, mid, o, f) =
-      opened c mid o f (opens-keeps settings last old mid c o) (opens-grew settings last old mid c o) (follows-grew tells c entries mid new end f)
-    where
-      quiet-behind : (mid : Outside) → Grew old mid → Grew mid new → Calm mid.blob_faults new.blob_faults
-      quiet-behind mid g more = calm-then old.blob_faults mid.blob_faults new.blob_faults g.blobs more.blobs quiet
+    serves-by : (n : ℕ) (entries : List Entry) (old new : Outside) (end : End) → Serves settings tells n entries old new end → (spare : Fetched)
+        → AreFetched spare new.remote end-seen → (coming : Fetched) × ServesBy n entries coming spare old new end × AreFetched coming old.remote end-seen
+    unfolding Serves
+    serves-by zero entries old new end t spare are =
+        (spare, t, subst (λ (o : Outside). AreFetched spare o.remote end-seen) t.1 are)
+    serves-by (suc left) entries old new end (inl turn) spare are =
+        let by = turn-by (left == 0) entries old new (Some end) turn spare are in (by.0, inl by.1, by.2)
+    serves-by (suc left) entries old new end (inr t) spare are =
+        let rest = serves-by left t.1 t.2 new end t.5 spare are in
+        let by = turn-by (left == 0) t.0 old t.2 None t.4 rest.0 rest.2 in
+        (by.0, inr (t.0, t.1, t.2, t.3, rest.0, by.1, rest.1), by.2)
 
-      comes : (head : Head) (rest : Option (List ℕ)) → Begins old.input (IsWhole head rest) → IsWhole head rest (front input)
-      comes head rest begins = subst (λ (i : Option (List ℕ)). Begins i (IsWhole head rest)) ready.input_is begins
+  -- one turn, which uses so much of what its fetches come to
+  module _ (coming spare : Fetched) where
+    -- what the front of the input asks for
+    abbrev Turned : Bool → Front → State → List ℕ → List ℕ → Outside → Outside → State → Option End → Type 0
+    Turned last f st input before old new st' end = ComesTo spare (AtTurn f) before (play_turn settings last f (record { state = st; input = input; fetched = coming })) old new st' end
 
-      -- nothing was used, and this course follows
-      at-once : (what : Front) → Begins old.input (λ f. f ≡ what) → (mid : Outside) → mid ≡ old → (due : Close) (c d : Course)
-          → c ≡ d → Fulfils (to_end due (at_end false)) c → Follows tells c entries mid new end → Grew old mid → Grew mid new
-          → ((scene : Scene) → play_turn settings last what scene ≡ play settings d scene)
-          → Turned last (front input) st input before old new (end_of settings st entries) end
-      at-once what begins mid still due c d is k f g more plays =
-          let what-is = subst (λ (i : Option (List ℕ)). Begins i (λ f. f ≡ what)) ready.input_is begins in
-          subst (λ f. Turned last f st input before old new (end_of settings st entries) end) (sym what-is)
-          (subst (λ p. ComesTo (AtTurn what) before p old new (end_of settings st entries) end) (sym (plays (record { state = st; input = input })))
-          (subst (λ d. Plays-so what d input before old new st (end_of settings st entries) end) is
-          (played what (to_end due (at_end false)) (at-once-so what).0 c k (tt, tt) entries st legal calm old mid new end input before (ready-on old mid st input input before old.input ready still ready.input_is)
-          (quiet-behind mid g more) g f)))
+    -- a course behind what was read, from where it stands
+    played : (front_is : Front) (duty : Duty) → MayBeAlone front_is duty.manner.head_only → (c : Course) → Fulfils duty c → InHandTold duty.stand → (entries : List Entry) (st : State) → Legal settings st entries
+        → Calm st.faults (end_of settings st entries).faults
+        → (old mid new : Outside) (end : Option End) (input before : List ℕ) → Ready mid st input before → Calm mid.blob_faults new.blob_faults → Grew old mid
+        → FollowsBy tells c entries coming spare mid new end → ComesTo spare (AtTurn front_is) before (play settings c (record { state = st; input = input; fetched = coming })) old new (end_of settings st entries) end
+    played front_is duty asks c k hand entries st legal calm old mid new end input before ready quiet g f =
+        outcome-before (AtTurn front_is) before _ old mid new _ end g
+        (outcome-so (MayStarve duty.manner duty.stand) (AtTurn front_is) before _ mid new _ end (at-turn front_is duty.manner asks duty.stand)
+        (course-play settings tells witness duty.by_text duty.manner c duty.most duty.stand k hand entries st legal calm mid new end input before coming spare ready quiet f))
 
-      opened : (c : Course) (mid : Outside) (o : Opens settings last old mid c) → Follows tells c entries mid new end → Fulfils (duty_at o) c
-          → Grew old mid → Grew mid new → Turned last (front input) st input before old new (end_of settings st entries) end
-      opened c mid (clean begins still is) f k g more = at-once Clean begins mid still (rests (Some stream.Closed)) c _ is k f g more (λ scene. refl)
-      opened c mid (torn begins still is) f k g more = at-once Cut begins mid still (rests (Some stream.TornRequest)) c _ is k f g more (λ scene. refl)
-      opened c mid (failed faults rose still is) f k g more =
-          let last_is = subst (λ (d : Course). Follows tells d entries mid new end) is f in
-          inr (no-more (AtTurn (front input)) before _ [] old new end (_, refl)
-          (ap (λ o. o.output) last_is.1 ∙ ap (λ o. o.output) still ∙ ready.output_is ∙ ap Some (sym (append-nil before)))
-          (source-failed (AtTurn (front input)) [] old new end last_is.2
-          (subst (λ n. Rose old.read_faults n) (sym (ap (λ o. o.read_faults) last_is.1 ∙ ap (λ o. o.read_faults) still)) rose)))
-      opened c mid (refused fault begins still is) f k g more =
-          at-once (Bad fault) begins mid still (speaks (head_said fault)) c _ is k f g more (λ scene. refl)
-      opened c mid (unread_head begins still is) f k g more =
-          let said = subst (λ (d : Course). Follows tells d entries mid new end) is f in
-          inr (early-before (AtTurn (front input)) before _ old mid new end g (says-memory (AtTurn (front input)) false (at-once-so (front input)) mid new end before _ said.1 (ap (λ o. o.output) still ∙ ready.output_is)))
-      opened c mid (starved head rest begins uses is) f k g more =
-          let said = subst (λ (d : Course). Follows tells d entries mid new end) is f in
-          inr (early-before (AtTurn (front input)) before _ old mid new end g (says-memory (AtTurn (front input)) (is_head head) (asks-head (front input) head rest (comes head rest begins), inl refl) mid new end before _ said.1 (ap (λ o. o.output) uses ∙ ready.output_is)))
-      opened c mid (served head rest begins uses is) f k g more =
-          served-turn last (front input) head rest (comes head rest begins)
-          old new st (end_of settings st entries) end input before
-          (λ behind there.
-          subst (λ d. Plays-so (front input) d behind before old new st (end_of settings st entries) end) is
-          (played (front input) (duty_of (judge settings head) last) (λ alone. asks-head (front input) head rest (comes head rest begins) (sym (judged-head settings head last) ∙ alone)) c k (first-in-hand (judge settings head) last) entries st legal calm old mid new end behind before
-          (ready-on old mid st input behind before rest ready uses there) (quiet-behind mid g more) g f))
+    -- the source alone was read
+    ready-on : (old mid : Outside) (st : State) (input behind before : List ℕ) (rest : Option (List ℕ)) → Ready old st input before → mid ≡ record old { input = rest }
+        → rest ≡ Some behind → Ready mid st behind before
+    ready-on old mid st input behind before rest ready on is = record {
+      input_is = ap (λ o. o.input) on ∙ is;
+      output_is = ap (λ o. o.output) on ∙ ready.output_is;
+      rows = ready.rows;
+      clock = ready.clock;
+    }
 
-  -- the stream ended in this turn
-  last-turn : (left : ℕ) (scene : Scene) (before : List ℕ) (old new : Outside) (st : State) (end : End)
-      → ComesTo (AtTurn (front scene.input)) before (First settings left scene) old new st (Some end) → IsPlayedUpTo settings (suc left) scene before old new end
-  unfolding play_stream IsAnswers
-  last-turn left scene before old new st end (inl a) =
-      unbroken (in_full (subst (λ e. new.output ≡ Some (before ++ (Behind settings left scene e).written)) a.ends a.output)
-      (subst (λ e. end ≡ (Behind settings left scene e).end) a.ends refl))
-  last-turn left scene before old new st end (inr m) =
-      let p = First settings left scene in
-      let more = front-then (play_stream settings left) p.end p.written p.scene in
-      let is-front : IsFrontOf m.front (Behind settings left scene p.end).written = (
-        m.is_front.0 ++ more.0,
-        more.1 ∙ ap (λ b. b ++ more.0) m.is_front.1 ∙ append_assoc m.front m.is_front.0 more.0,
-      ) in
-      let alone : m.part ≡ [] → new.output ≡ Some (before ++ m.front) =
-      λ none. subst (λ b. new.output ≡ Some b) (ap (λ b. before ++ m.front ++ b) none ∙ append-nil (before ++ m.front)) m.output in
-      let begun : (m.front ≡ []) ⊎ (m.front ≡ continue_bytes) → (m.front ≡ []) ⊎ ((m.front ≡ continue_bytes) × IsFrontOf continue_bytes p.written) =
-      λ at. elim at [ inl e ↦ inl e | inr e ↦ inr (e, subst (λ b. IsFrontOf b p.written) e m.is_front) ] in
-      elim m.why [
-        | inl w ↦ unbroken (wants_memory m.front m.head_only is-front
-            (inl (w.2.0, begun w.2.1))
-            (subst (λ b. new.output ≡ Some (before ++ m.front ++ b)) w.0 m.output) (same-Some end stream.Closed w.1))
-        | inr (inl s) ↦ broken m.front is-front (alone s.0) (inl (same-Some end stream.SourceFault s.1.0, s.1.1))
-        | inr (inr s) ↦ elim s.0 [
-          | inl none ↦ broken m.front is-front (alone none) (inr (same-Some end stream.SinkFault s.1.0, s.1.1))
-          | inr cut ↦ cut_starved m.front m.part m.head_only is-front (inl (cut.1.0, begun cut.1.1)) cut.0 m.output (same-Some end stream.SinkFault s.1.0) s.1.1
+    abbrev Plays-so : Front → Course → List ℕ → List ℕ → Outside → Outside → State → State → Option End → Type 0
+    Plays-so f c input before old new st st' end = ComesTo spare (AtTurn f) before (play settings c (record { state = st; input = input; fetched = coming })) old new st' end
+
+    served-turn : (last : Bool) (f : Front) (head : Head) (rest : Option (List ℕ)) → IsWhole head rest f
+        → (old new : Outside) (st st' : State) (end : Option End) (input before : List ℕ)
+        → ((behind : List ℕ) → rest ≡ Some behind → Plays-so f (course_of (judge settings head) last) behind before old new st st' end)
+        → Turned last f st input before old new st' end
+    served-turn last Clean head rest comes old new st st' end input before done = absurd comes
+    served-turn last Cut head rest comes old new st st' end input before done = absurd comes
+    served-turn last (Bad fault) head rest comes old new st st' end input before done = absurd comes
+    served-turn last (Whole what behind) head rest comes old new st st' end input before done =
+        subst (λ h. Plays-so (Whole what behind) (course_of (judge settings h) last) behind before old new st st' end) (sym comes.0) (done behind comes.1)
+
+    turn-play : (last : Bool) (entries : List Entry) (st : State) → Legal settings st entries → Calm st.faults (end_of settings st entries).faults
+        → (old new : Outside) (end : Option End) (input before : List ℕ) → Ready old st input before → Calm old.blob_faults new.blob_faults
+        → TurnBy last entries coming spare old new end → Turned last (front input) st input before old new (end_of settings st entries) end
+    turn-play last entries st legal calm old new end input before ready quiet (c, mid, o, f) =
+        opened c mid o f (opens-keeps settings last old mid c o) (opens-grew settings last old mid c o) (follows-grew tells c entries mid new end (plain tells c entries coming spare mid new end f))
+      where
+        quiet-behind : (mid : Outside) → Grew old mid → Grew mid new → Calm mid.blob_faults new.blob_faults
+        quiet-behind mid g more = calm-then old.blob_faults mid.blob_faults new.blob_faults g.blobs more.blobs quiet
+
+        comes : (head : Head) (rest : Option (List ℕ)) → Begins old.input (IsWhole head rest) → IsWhole head rest (front input)
+        comes head rest begins = subst (λ (i : Option (List ℕ)). Begins i (IsWhole head rest)) ready.input_is begins
+
+        -- nothing was used, and this course follows
+        at-once : (what : Front) → Begins old.input (λ f. f ≡ what) → (mid : Outside) → mid ≡ old → (due : Close) (c d : Course)
+            → c ≡ d → Fulfils (to_end due (at_end false)) c → FollowsBy tells c entries coming spare mid new end → Grew old mid → Grew mid new
+            → ((scene : Scene) → play_turn settings last what scene ≡ play settings d scene)
+            → Turned last (front input) st input before old new (end_of settings st entries) end
+        at-once what begins mid still due c d is k f g more plays =
+            let what-is = subst (λ (i : Option (List ℕ)). Begins i (λ f. f ≡ what)) ready.input_is begins in
+            subst (λ f. Turned last f st input before old new (end_of settings st entries) end) (sym what-is)
+            (subst (λ p. ComesTo spare (AtTurn what) before p old new (end_of settings st entries) end) (sym (plays (record { state = st; input = input; fetched = coming })))
+            (subst (λ d. Plays-so what d input before old new st (end_of settings st entries) end) is
+            (played what (to_end due (at_end false)) (at-once-so what).0 c k (tt, tt, tt) entries st legal calm old mid new end input before (ready-on old mid st input input before old.input ready still ready.input_is)
+            (quiet-behind mid g more) g f)))
+
+        opened : (c : Course) (mid : Outside) (o : Opens settings last old mid c) → FollowsBy tells c entries coming spare mid new end → Fulfils (duty_at o) c
+            → Grew old mid → Grew mid new → Turned last (front input) st input before old new (end_of settings st entries) end
+        opened c mid (clean begins still is) f k g more = at-once Clean begins mid still (rests (Some stream.Closed)) c _ is k f g more (λ scene. refl)
+        opened c mid (torn begins still is) f k g more = at-once Cut begins mid still (rests (Some stream.TornRequest)) c _ is k f g more (λ scene. refl)
+        opened c mid (failed faults rose still is) f k g more =
+            let last_is = subst (λ (d : Course). FollowsBy tells d entries coming spare mid new end) is f in
+            inr (no-more (AtTurn (front input)) before _ [] old new end (_, refl)
+            (ap (λ o. o.output) last_is.1 ∙ ap (λ o. o.output) still ∙ ready.output_is ∙ ap Some (sym (append-nil before)))
+            (source-failed (AtTurn (front input)) [] old new end last_is.2
+            (subst (λ n. Rose old.read_faults n) (sym (ap (λ o. o.read_faults) last_is.1 ∙ ap (λ o. o.read_faults) still)) rose)))
+        opened c mid (refused fault begins still is) f k g more =
+            at-once (Bad fault) begins mid still (speaks (head_said fault)) c _ is k f g more (λ scene. refl)
+        opened c mid (unread_head begins still is) f k g more =
+            let said = subst (λ (d : Course). FollowsBy tells d entries coming spare mid new end) is f in
+            inr (early-before (AtTurn (front input)) before _ old mid new end g (says-memory (AtTurn (front input)) false (at-once-so (front input)) mid new end before _ said.1 (ap (λ o. o.output) still ∙ ready.output_is)))
+        opened c mid (starved head rest begins uses is) f k g more =
+            let said = subst (λ (d : Course). FollowsBy tells d entries coming spare mid new end) is f in
+            inr (early-before (AtTurn (front input)) before _ old mid new end g (says-memory (AtTurn (front input)) (is_head head) (asks-head (front input) head rest (comes head rest begins), inl refl) mid new end before _ said.1 (ap (λ o. o.output) uses ∙ ready.output_is)))
+        opened c mid (served head rest begins uses is) f k g more =
+            served-turn last (front input) head rest (comes head rest begins)
+            old new st (end_of settings st entries) end input before
+            (λ behind there.
+            subst (λ d. Plays-so (front input) d behind before old new st (end_of settings st entries) end) is
+            (played (front input) (duty_of (judge settings head) last) (λ alone. asks-head (front input) head rest (comes head rest begins) (sym (judged-head settings head last) ∙ alone)) c k (first-in-hand (judge settings head) last) entries st legal calm old mid new end behind before
+            (ready-on old mid st input behind before rest ready uses there) (quiet-behind mid g more) g f))
+
+    -- the stream ended in this turn
+    last-turn : (left : ℕ) (scene : Scene) (before : List ℕ) (old new : Outside) (st : State) (end : End)
+        → ComesTo spare (AtTurn (front scene.input)) before (First settings left scene) old new st (Some end) → IsPlayedUpTo settings (suc left) scene before old new end
+    unfolding play_stream IsAnswers
+    last-turn left scene before old new st end (inl a) =
+        unbroken (in_full (subst (λ e. new.output ≡ Some (before ++ (Behind settings left scene e).written)) a.ends a.output)
+        (subst (λ e. end ≡ (Behind settings left scene e).end) a.ends refl))
+    last-turn left scene before old new st end (inr m) =
+        let p = First settings left scene in
+        let more = front-then (play_stream settings left) p.end p.written p.scene in
+        let is-front : IsFrontOf m.front (Behind settings left scene p.end).written = (
+          m.is_front.0 ++ more.0,
+          more.1 ∙ ap (λ b. b ++ more.0) m.is_front.1 ∙ append_assoc m.front m.is_front.0 more.0,
+        ) in
+        let alone : m.part ≡ [] → new.output ≡ Some (before ++ m.front) =
+        λ none. subst (λ b. new.output ≡ Some b) (ap (λ b. before ++ m.front ++ b) none ∙ append-nil (before ++ m.front)) m.output in
+        let begun : (m.front ≡ []) ⊎ (m.front ≡ continue_bytes) → (m.front ≡ []) ⊎ ((m.front ≡ continue_bytes) × IsFrontOf continue_bytes p.written) =
+        λ at. elim at [ inl e ↦ inl e | inr e ↦ inr (e, subst (λ b. IsFrontOf b p.written) e m.is_front) ] in
+        elim m.why [
+          | inl w ↦ unbroken (wants_memory m.front m.head_only is-front
+              (inl (w.2.0, begun w.2.1))
+              (subst (λ b. new.output ≡ Some (before ++ m.front ++ b)) w.0 m.output) (same-Some end stream.Closed w.1))
+          | inr (inl s) ↦ broken m.front is-front (alone s.0) (inl (same-Some end stream.SourceFault s.1.0, s.1.1))
+          | inr (inr s) ↦ elim s.0 [
+            | inl none ↦ broken m.front is-front (alone none) (inr (same-Some end stream.SinkFault s.1.0, s.1.1))
+            | inr cut ↦ cut_starved m.front m.part m.head_only is-front (inl (cut.1.0, begun cut.1.1)) cut.0 m.output (same-Some end stream.SinkFault s.1.0) s.1.1
+          ]
         ]
-      ]
 
-  -- the stream goes on behind this turn
-  next-turn : (left : ℕ) (scene : Scene) (before : List ℕ) (old mid new : Outside) (st : State) (end : End) → Grew old mid
-      → ComesTo (AtTurn (front scene.input)) before (First settings left scene) old mid st None
-      → ((input before' : List ℕ) → Ready mid st input before' → IsPlayedUpTo settings left (record { state = st; input = input }) before' mid new end)
-      → IsPlayedUpTo settings (suc left) scene before old new end
-  next-turn left scene before old mid new st end grows (inl a) rest =
-      let p = First settings left scene in
-      let g = a.goes refl in
-      let done = rest p.scene.input (before ++ p.written) g.ready in
-      wrote-upto settings left scene a.ends before old new end
-      (upto-before settings left p.scene (before ++ p.written) old mid new end grows
-      (subst (λ s. IsPlayedUpTo settings left (record { state = s; input = p.scene.input }) (before ++ p.written) mid new end) g.state done))
-  next-turn left scene before old mid new st end grows (inr m) rest =
-      elim m.why [
-        | inl w ↦ absurd (none-some stream.Closed w.1)
-        | inr (inl s) ↦ absurd (none-some stream.SourceFault s.1.0)
-        | inr (inr s) ↦ absurd (none-some stream.SinkFault s.1.0)
-      ]
+    -- the stream goes on behind this turn
+    next-turn : (left : ℕ) (scene : Scene) (before : List ℕ) (old mid new : Outside) (st : State) (end : End) → Grew old mid
+        → ComesTo spare (AtTurn (front scene.input)) before (First settings left scene) old mid st None
+        → ((input before' : List ℕ) → Ready mid st input before' → IsPlayedUpTo settings left (record { state = st; input = input; fetched = spare }) before' mid new end)
+        → IsPlayedUpTo settings (suc left) scene before old new end
+    next-turn left scene before old mid new st end grows (inl a) rest =
+        let p = First settings left scene in
+        let g = a.goes refl in
+        let done = rest p.scene.input (before ++ p.written) g.ready in
+        wrote-upto settings left scene a.ends before old new end
+        (upto-before settings left p.scene (before ++ p.written) old mid new end grows
+        (subst (λ (x : Scene). IsPlayedUpTo settings left x (before ++ p.written) mid new end)
+        (λ i. record { state = g.state i; input = p.scene.input; fetched = g.fetched i }) done))
+    next-turn left scene before old mid new st end grows (inr m) rest =
+        elim m.why [
+          | inl w ↦ absurd (none-some stream.Closed w.1)
+          | inr (inl s) ↦ absurd (none-some stream.SourceFault s.1.0)
+          | inr (inr s) ↦ absurd (none-some stream.SinkFault s.1.0)
+        ]
 
   stream-play : (n : ℕ) (entries : List Entry) (st : State) → Legal settings st entries → Calm st.faults (end_of settings st entries).faults
-      → (old new : Outside) (end : End) (input before : List ℕ) → Ready old st input before → Calm old.blob_faults new.blob_faults
-      → Serves settings tells n entries old new end → IsPlayedUpTo settings n (record { state = st; input = input }) before old new end
-  unfolding Serves play_stream
-  stream-play zero entries st legal calm old new end input before ready quiet t =
+      → (old new : Outside) (end : End) (input before : List ℕ) (coming spare : Fetched) → Ready old st input before → Calm old.blob_faults new.blob_faults
+      → ServesBy n entries coming spare old new end → IsPlayedUpTo settings n (record { state = st; input = input; fetched = coming }) before old new end
+  unfolding play_stream
+  stream-play zero entries st legal calm old new end input before coming spare ready quiet t =
       unbroken (in_full (ap (λ o. o.output) t.1 ∙ ready.output_is ∙ ap Some (sym (append-nil before))) t.2)
-  stream-play (suc left) entries st legal calm old new end input before ready quiet (inl turn) =
-      last-turn left (record { state = st; input = input }) before old new (end_of settings st entries) end
-      (turn-play (left == 0) entries st legal calm old new (Some end) input before ready quiet turn)
-  stream-play (suc left) entries st legal calm old new end input before ready quiet (inr t) =
+  stream-play (suc left) entries st legal calm old new end input before coming spare ready quiet (inl turn) =
+      last-turn coming spare left (record { state = st; input = input; fetched = coming }) before old new (end_of settings st entries) end
+      (turn-play coming spare (left == 0) entries st legal calm old new (Some end) input before ready quiet turn)
+  stream-play (suc left) entries st legal calm old new end input before coming spare ready quiet (inr t) =
       let all = subst (λ (es : List Entry). Legal settings st es) t.3 legal in
       let cut = legal_cut tells settings st t.0 t.1 all in
       let mid-state = end_of settings st t.0 in
@@ -272,21 +321,26 @@ module _ (settings : Settings) (tells : Type 0) (witness : tells) where
       let up = faults-grow settings t.0 st cut.0 in
       let more = faults-grow settings t.1 mid-state cut.1 in
       let mid = t.2 in
-      let first = turn-grew tells settings (left == 0) t.0 old mid None t.4 in
-      let later = serves-grew tells settings left t.1 mid new end t.5 in
-      next-turn left (record { state = st; input = input }) before old mid new mid-state end first
-      (turn-play (left == 0) t.0 st cut.0 (calm-first st.faults mid-state.faults (end_of settings mid-state t.1).faults more calm-all) old mid None input before ready
-      (calm-first old.blob_faults mid.blob_faults new.blob_faults later.blobs quiet) t.4)
+      let first = turn-grew tells settings (left == 0) t.0 old mid None (plain-turn (left == 0) t.0 coming t.4 old mid None t.5) in
+      let later = serves-grew tells settings left t.1 mid new end (plain-serves left t.1 t.4 spare mid new end t.6) in
+      next-turn coming t.4 left (record { state = st; input = input; fetched = coming }) before old mid new mid-state end first
+      (turn-play coming t.4 (left == 0) t.0 st cut.0 (calm-first st.faults mid-state.faults (end_of settings mid-state t.1).faults more calm-all) old mid None input before ready
+      (calm-first old.blob_faults mid.blob_faults new.blob_faults later.blobs quiet) t.5)
       (λ input' before' ready'.
-      stream-play left t.1 mid-state cut.1 (calm-then st.faults mid-state.faults (end_of settings mid-state t.1).faults up more calm-all) mid new end input' before' ready'
-      (calm-then old.blob_faults mid.blob_faults new.blob_faults first.blobs later.blobs quiet) t.5)
+      stream-play left t.1 mid-state cut.1 (calm-then st.faults mid-state.faults (end_of settings mid-state t.1).faults up more calm-all) mid new end input' before' t.4 spare ready'
+      (calm-then old.blob_faults mid.blob_faults new.blob_faults first.blobs later.blobs quiet) t.6)
 
   pub stream-upto : (n : ℕ) (entries : List Entry) (st : State) → Legal settings st entries → StoodStill st.faults (end_of settings st entries).faults
       → (old new : Outside) (end : End) (input before : List ℕ) → BeginsAt st input before old → StoodStill old.blob_faults new.blob_faults
-      → Serves settings tells n entries old new end → IsPlayedUpTo settings n (record { state = st; input = input }) before old new end
+      → Serves settings tells n entries old new end
+      → (coming : Fetched) × AreFetched coming old.remote new.remote × IsPlayedUpTo settings n (record { state = st; input = input; fetched = coming }) before old new end
   stream-upto n entries st legal records old new end input before begins calm served_so =
-      stream-play n entries st legal (calm-of records) old new end input before
-      (record { input_is = begins.input_is; output_is = begins.output_is; rows = begins.rows; clock = begins.clock }) (calm-of calm) served_so
+      let by = serves-by new.remote n entries old new end served_so [] (goes-on new.remote) in (
+        by.0,
+        by.2,
+        stream-play n entries st legal (calm-of records) old new end input before by.0 []
+            (record { input_is = begins.input_is; output_is = begins.output_is; rows = begins.rows; clock = begins.clock }) (calm-of calm) by.1,
+      )
     where
       calm-of : {a b : ℕ} → StoodStill a b → Calm a b
       calm-of stood = (let h = stood.0 in omega arith, let h = stood.0 in let k = stood.1 in omega arith)
@@ -308,7 +362,8 @@ unbroken-is settings n scene before old new end calm (cut_starved written part h
 
 pub as-played : (settings : Settings) (tells : Type 0) → tells → (n : ℕ) (entries : List Entry) (st : State) → Legal settings st entries
     → StoodStill st.faults (end_of settings st entries).faults → (old new : Outside) (end : End) (input before : List ℕ) → BeginsAt st input before old
-    → NoFaults old new → Serves settings tells n entries old new end → IsAsPlayed settings n (record { state = st; input = input }) before new.output end
+    → NoFaults old new → Serves settings tells n entries old new end
+    → (coming : Fetched) × AreFetched coming old.remote new.remote × IsAsPlayed settings n (record { state = st; input = input; fetched = coming }) before new.output end
 as-played settings tells told n entries st legal records old new end input before begins calm served_so =
-    unbroken-is settings n (record { state = st; input = input }) before old new end calm
-    (stream-upto settings tells told n entries st legal records old new end input before begins calm.blobs served_so)
+    let by = stream-upto settings tells told n entries st legal records old new end input before begins calm.blobs served_so in
+    (by.0, by.1, unbroken-is settings n (record { state = st; input = input; fetched = by.0 }) before old new end calm by.2)

@@ -5,4 +5,4 @@ use Rattle.course_laws.proofs.OnLiterals.{course_laws_on_literals}
 
 pub put_and_get : IsAnswered (put_abc ++ last_get) (created_201 ++ abc_200)
 unfolding course_laws_on_literals
-put_and_get settings clock = (refl, refl)
+put_and_get settings clock fetched = (refl, refl)

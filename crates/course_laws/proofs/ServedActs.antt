@@ -1,29 +1,30 @@
 -- What single acts of a course that nothing refuses write and read, where no count rose.
-use Rattle.std.proofs.Common.{◌≡◌, ◌⊎◌, inl, inr, ℕ, ◌<◌, Bool, true, List, [], ◌++◌, length, Option, Some, arith, refl, sym, subst, ap, ◌∙◌}
+use Rattle.std.proofs.Common.{◌≡◌, ◌⊎◌, inl, inr, ℕ, zero, suc, ◌<◌, Bool, true, List, [], ◌++◌, length, Option, Some, arith, refl, sym, subst, ap, ◌∙◌}
 use Rattle.std.specs.Prelude.{IfSome, if◌then◌else◌}
 use Rattle.outside.specs.Blobs.{Shelf}
 use Rattle.outside.specs.Faults.{Rose}
 use Rattle.outside.specs.Told.{behind}
+use Rattle.outside_remote.specs.Exchanges.{Sees}
 use Rattle.outside.proofs.ToldLemmas.{behind-behind}
 use Rattle.http_wire.specs.Answer.{shown}
 use Rattle.http_wire.specs.Front.{front}
 use Rattle.http_wire.specs.declared.answers.Answer.{Answer}
-use Rattle.repo_model.specs.Command.{Command, done, drop_draft, unlist, collect}
+use Rattle.repo_model.specs.Command.{Command, look, done, drop_draft, unlist, collect}
 use Rattle.repo_model.specs.Data.{Blob}
 use Rattle.repo_model.specs.History.{Entry}
-use Rattle.repo_model.specs.Reply.{Reply, no_memory}
+use Rattle.repo_model.specs.Reply.{Reply, fetches, no_memory}
 use Rattle.repo_course.specs.Answers.{answer_of, file_answer, full_answer, memory_answer}
-use Rattle.repo_course.specs.Course.{Close, Course, Deed, Outcome, does, speaks, rests, said_of}
+use Rattle.repo_course.specs.Course.{Close, Course, Deed, Outcome, does, speaks, rests}
 use Rattle.repo_course.specs.declared.manner.Manner.{Manner}
 use Rattle.repo_course.specs.declared.outcomes.End.{End}
 use Rattle.repo_course.specs.declared.outcomes.End.TheVariants as stream
 use Rattle.repo_course.specs.declared.said.Said.{Said}
 use Rattle.repo_course.specs.declared.said.Said.TheVariants as said
 use Rattle.repo_course.specs.Serving.{Follows, Outside, Says, whole, memory, cut, writes}
-use Rattle.course_laws.specs.Duties.{MayAsk, Stand, due_after}
-use Rattle.course_laws.specs.Granted.{BodyIsTaken, Grants, IsGood, IsServed, IsSuccess, answered, sent as file_sent, differs, file_cut, starved}
+use Rattle.course_laws.specs.Duties.{MayAsk, Rounds, Stand, due_after, due_planned}
+use Rattle.course_laws.specs.Granted.{BodyIsTaken, Grants, HasRound, IsGood, IsMore, IsServed, IsSuccess, answered, sent as file_sent, differs, file_cut, starved}
 use Rattle.course_laws.proofs.Counts.{Calm, Grew, calm-first, calm-then, deed-grew, follows-grew}
-use Rattle.course_laws.proofs.Early.{SaysMemory, due-moves}
+use Rattle.course_laws.proofs.Early.{IsTold, SaysMemory, due-moves}
 use Rattle.course_laws.proofs.PlayedActs.{risen}
 
 -- no count rose
@@ -94,22 +95,22 @@ module _ (manner : Manner) where
   -- seen from before bytes that were written first
   pub wrote-served : (first left : List ℕ) (answer : Option Close) (lent : Option Blob) (old mid new : Outside) (end : Option End) → mid ≡ writes first old
       → IsServed manner [] left answer lent mid new end → IsServed manner first left answer lent old new end
-  wrote-served first left answer lent old mid new end mid-is (answered said kept is success wrote ends) =
+  wrote-served first left answer lent old mid new end mid-is (answered said kept asked is success wrote ends) =
       let all = shown (answer_of said manner) in
-      answered said kept is success
-      (wrote ∙ ap (λ (m : Outside). writes all (record m { input = Some left; shelf = kept })) mid-is ∙ writes-writes first all (record old { input = Some left; shelf = kept })) ends
-  wrote-served first left answer lent old mid new end mid-is (file_sent blob bytes kept is told wrote ends) =
+      answered said kept asked is success
+      (wrote ∙ ap (λ (m : Outside). writes all (record m { input = Some left; shelf = kept; remote = asked })) mid-is ∙ writes-writes first all (record old { input = Some left; shelf = kept; remote = asked })) ends
+  wrote-served first left answer lent old mid new end mid-is (file_sent blob bytes kept asked is told wrote ends) =
       let all = shown (file_answer blob manner) ++ (if manner.head_only then [] else bytes) in
-      file_sent blob bytes kept is told
-      (wrote ∙ ap (λ (m : Outside). writes all (record m { input = Some left; shelf = kept })) mid-is ∙ writes-writes first all (record old { input = Some left; shelf = kept })) ends
-  wrote-served first left answer lent old mid new end mid-is (differs blob recorded found kept is bodied other wrote ends) =
+      file_sent blob bytes kept asked is told
+      (wrote ∙ ap (λ (m : Outside). writes all (record m { input = Some left; shelf = kept; remote = asked })) mid-is ∙ writes-writes first all (record old { input = Some left; shelf = kept; remote = asked })) ends
+  wrote-served first left answer lent old mid new end mid-is (differs blob recorded found kept asked is bodied other wrote ends) =
       let all = shown (answer_of (said.BlobDiffers recorded found) manner) in
-      differs blob recorded found kept is bodied other
-      (wrote ∙ ap (λ (m : Outside). writes all (record m { input = Some left; shelf = kept })) mid-is ∙ writes-writes first all (record old { input = Some left; shelf = kept })) ends
-  wrote-served first left answer lent old mid new end mid-is (file_cut blob recorded found bytes part kept is bodied other print front wrote ends) =
+      differs blob recorded found kept asked is bodied other
+      (wrote ∙ ap (λ (m : Outside). writes all (record m { input = Some left; shelf = kept; remote = asked })) mid-is ∙ writes-writes first all (record old { input = Some left; shelf = kept; remote = asked })) ends
+  wrote-served first left answer lent old mid new end mid-is (file_cut blob recorded found bytes part kept asked is bodied other print front wrote ends) =
       let all = shown (file_answer blob manner) ++ part in
-      file_cut blob recorded found bytes part kept is bodied other print front
-      (wrote ∙ ap (λ (m : Outside). writes all (record m { input = Some left; shelf = kept })) mid-is ∙ writes-writes first all (record old { input = Some left; shelf = kept })) ends
+      file_cut blob recorded found bytes part kept asked is bodied other print front
+      (wrote ∙ ap (λ (m : Outside). writes all (record m { input = Some left; shelf = kept; remote = asked })) mid-is ∙ writes-writes first all (record old { input = Some left; shelf = kept; remote = asked })) ends
   wrote-served first left answer lent old mid new end mid-is (starved part head_only to_head which output ends) =
       let said = shown (memory_answer head_only) in
       let none : part ≡ [] = elim which [ inl e ↦ e | inr e ↦ e ] in
@@ -117,21 +118,21 @@ module _ (manner : Manner) where
       (output ∙ ap (λ p. behind mid.output (p ++ said)) none ∙ ap (λ (m : Outside). behind m.output said) mid-is ∙ behind-behind old.output first said) ends
 
   -- seen from before bytes that were read, and stored or not
-  pub read-served : (invited left : List ℕ) (answer : Option Close) (lent : Option Blob) (old mid new : Outside) (rest : Option (List ℕ)) (end : Option End) (shelf : Shelf)
-      → mid ≡ record old { input = rest; shelf = shelf } → IsServed manner invited left answer lent mid new end → IsServed manner invited left answer lent old new end
-  read-served invited left answer lent old mid new rest end shelf mid-is (answered said kept is success wrote ends) =
-      answered said kept is success
-      (wrote ∙ ap (λ (m : Outside). writes (invited ++ shown (answer_of said manner)) (record m { input = Some left; shelf = kept })) mid-is) ends
-  read-served invited left answer lent old mid new rest end shelf mid-is (file_sent blob bytes kept is told wrote ends) =
-      file_sent blob bytes kept is told
-      (wrote ∙ ap (λ (m : Outside). writes (invited ++ (shown (file_answer blob manner) ++ (if manner.head_only then [] else bytes))) (record m { input = Some left; shelf = kept })) mid-is) ends
-  read-served invited left answer lent old mid new rest end shelf mid-is (differs blob recorded found kept is bodied other wrote ends) =
-      differs blob recorded found kept is bodied other
-      (wrote ∙ ap (λ (m : Outside). writes (invited ++ shown (answer_of (said.BlobDiffers recorded found) manner)) (record m { input = Some left; shelf = kept })) mid-is) ends
-  read-served invited left answer lent old mid new rest end shelf mid-is (file_cut blob recorded found bytes part kept is bodied other print front wrote ends) =
-      file_cut blob recorded found bytes part kept is bodied other print front
-      (wrote ∙ ap (λ (m : Outside). writes (invited ++ (shown (file_answer blob manner) ++ part)) (record m { input = Some left; shelf = kept })) mid-is) ends
-  read-served invited left answer lent old mid new rest end shelf mid-is (starved part head_only to_head which output ends) =
+  pub read-served : (invited left : List ℕ) (answer : Option Close) (lent : Option Blob) (old mid new : Outside) (rest : Option (List ℕ)) (end : Option End) (shelf : Shelf) (remote : Sees)
+      → mid ≡ record old { input = rest; shelf = shelf; remote = remote } → IsServed manner invited left answer lent mid new end → IsServed manner invited left answer lent old new end
+  read-served invited left answer lent old mid new rest end shelf remote mid-is (answered said kept asked is success wrote ends) =
+      answered said kept asked is success
+      (wrote ∙ ap (λ (m : Outside). writes (invited ++ shown (answer_of said manner)) (record m { input = Some left; shelf = kept; remote = asked })) mid-is) ends
+  read-served invited left answer lent old mid new rest end shelf remote mid-is (file_sent blob bytes kept asked is told wrote ends) =
+      file_sent blob bytes kept asked is told
+      (wrote ∙ ap (λ (m : Outside). writes (invited ++ (shown (file_answer blob manner) ++ (if manner.head_only then [] else bytes))) (record m { input = Some left; shelf = kept; remote = asked })) mid-is) ends
+  read-served invited left answer lent old mid new rest end shelf remote mid-is (differs blob recorded found kept asked is bodied other wrote ends) =
+      differs blob recorded found kept asked is bodied other
+      (wrote ∙ ap (λ (m : Outside). writes (invited ++ shown (answer_of (said.BlobDiffers recorded found) manner)) (record m { input = Some left; shelf = kept; remote = asked })) mid-is) ends
+  read-served invited left answer lent old mid new rest end shelf remote mid-is (file_cut blob recorded found bytes part kept asked is bodied other print front wrote ends) =
+      file_cut blob recorded found bytes part kept asked is bodied other print front
+      (wrote ∙ ap (λ (m : Outside). writes (invited ++ (shown (file_answer blob manner) ++ part)) (record m { input = Some left; shelf = kept; remote = asked })) mid-is) ends
+  read-served invited left answer lent old mid new rest end shelf remote mid-is (starved part head_only to_head which output ends) =
       starved part head_only to_head which (output ∙ ap (λ (m : Outside). behind m.output (part ++ shown (memory_answer head_only))) mid-is) ends
 
   -- memory was wanted, and that is answered
@@ -142,7 +143,7 @@ module _ (manner : Manner) where
       starved [] head_only to_head (inl refl) (ap (λ o. o.output) so.0 ∙ ap (λ out. behind out (shown (memory_answer head_only))) kept) so.1
 
 -- a command for which memory was wanted ends by that, but for one that only gives back
-wants-memory : (command : Command) (s : Stand) → MayAsk command s → Grants command no_memory ⊎ (due_after command no_memory s.due ≡ Some (speaks said.NoMemory))
+wants-memory : (command : Command) (s : Stand) → MayAsk command s → Grants command no_memory ⊎ (due_after s.rounds command no_memory s.due ≡ Some (speaks said.NoMemory))
 wants-memory (done lease) s may = inl tt
 wants-memory (drop_draft n) s may = inl tt
 wants-memory (unlist repo) s may = absurd may
@@ -150,10 +151,10 @@ wants-memory collect s may = absurd may
 wants-memory _ s may = inr refl
 
 pub granted-or-starved : (command : Command) (e : Entry) (s : Stand) → e.command ≡ command → MayAsk command s → Grants e.command e.reply ⊎ (e.reply ≡ no_memory)
-    → Grants command e.reply ⊎ (due_after command e.reply s.due ≡ Some (speaks said.NoMemory))
+    → Grants command e.reply ⊎ (due_after s.rounds command e.reply s.due ≡ Some (speaks said.NoMemory))
 granted-or-starved command e s is may (inl granted) = inl (subst (λ c. Grants c e.reply) is granted)
 granted-or-starved command e s is may (inr none) =
-    subst (λ (r : Reply). Grants command r ⊎ (due_after command r s.due ≡ Some (speaks said.NoMemory))) (sym none) (wants-memory command s may)
+    subst (λ (r : Reply). Grants command r ⊎ (due_after s.rounds command r s.due ≡ Some (speaks said.NoMemory))) (sym none) (wants-memory command s may)
 
 -- an answer that the replies came to
 abbrev pub IsPlain : Option Close → Type 0
@@ -161,16 +162,23 @@ IsPlain (Some (speaks (said.BlobDiffers recorded found))) = ⊥
 IsPlain (Some (rests end)) = ⊥
 IsPlain due = Unit {0}
 
-said-plain : (reply : Reply) → IsPlain (Some (speaks (said_of reply)))
-said-plain no_memory = tt
-said-plain _ = tt
+told-plain : (what : Said) → IsTold what → IsPlain (Some (speaks what))
+told-plain (said.BlobDiffers recorded found) told = told
+told-plain _ told = tt
 
-pub reply-plain : (command : Command) (reply : Reply) (due : Option Close) → IsPlain due → IsPlain (due_after command reply due)
-reply-plain command reply due plain =
-    elim (due-moves command reply due) [
+pub reply-plain : (r : Rounds) (command : Command) (reply : Reply) (due : Option Close) → IsPlain due → IsPlain (due_after r command reply due)
+reply-plain r command reply due plain =
+    elim (due-moves r command reply due) [
       | inl stays ↦ subst IsPlain (sym stays) plain
-      | inr told ↦ subst IsPlain (sym told) (said-plain reply)
+      | inr told ↦ subst IsPlain (sym told.1) (told-plain told.0 told.2)
     ]
+
+-- a reply that is granted comes where its course goes on, or counts as want of memory
+pub granted-goes : (command : Command) (reply : Reply) (s : Stand) → MayAsk command s → Grants command reply
+    → HasRound s.rounds command reply ⊎ (due_after s.rounds command reply s.due ≡ Some (speaks said.NoMemory))
+granted-goes (look repo path tried) (fetches plan) s may granted =
+    elim s.rounds.left as (λ left. IsMore left ⊎ (due_planned left s.due ≡ Some (speaks said.NoMemory))) [ zero ↦ inr refl | suc n ↦ inl tt ]
+granted-goes command reply s may granted = inl tt
 
 pub plain-success : (manner : Manner) (is_cut : Bool) (what : Said) → IsGood manner is_cut (speaks what) → IsPlain (Some (speaks what)) → IsSuccess (full_answer what).status
 plain-success manner is_cut (said.BlobDiffers recorded found) good plain = absurd plain

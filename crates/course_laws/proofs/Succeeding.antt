@@ -1,17 +1,17 @@
 -- A course that does what it owes succeeds where nothing refuses it and no deed fails.
 use Rattle.std.proofs.Common.{◌≡◌, ℕ, zero, suc, Bool, false, List, Option, Some, None, Ok, refl, sym, subst, ap, ◌∙◌}
 use Rattle.std.proofs.lemmas.Bool.{false≢true}
-use Rattle.repo_model.specs.Command.{Command, look, done, may_put, put, put_side, put_doc, drop_draft, open_session, stage, commit, abort, unlist, collect, status}
-use Rattle.repo_model.specs.Reply.{Reply, file, text, doc, draft, same, relisted, created, agreed, noted, opened, staged, ended, counts as counts_reply}
+use Rattle.repo_model.specs.Command.{Command, look, done, may_put, put, put_side, put_doc, drop_draft, open_session, stage, commit, abort, unlist, collect, status, land}
+use Rattle.repo_model.specs.Reply.{Reply, file, text, doc, draft, same, relisted, created, agreed, noted, opened, staged, ended, counts as counts_reply, fetches, landed}
 use Rattle.repo_routes.specs.Intent.{Judged}
-use Rattle.repo_course.specs.Course.{Close, Course, Deed, Outcome, asks, does, says, stops, speaks, invite, take_body, read_body, send_file, clean_all, course_of, end_of, manner_for}
+use Rattle.repo_course.specs.Course.{Close, Course, Deed, Outcome, asks, does, says, stops, speaks, invite, take_body, read_body, send_file, clean_all, fetch, store_fetched, course_of, end_of, manner_for}
 use Rattle.repo_course.specs.declared.manner.Manner.{Manner}
 use Rattle.repo_course.specs.declared.outcomes.Continued.TheVariants as continued
 use Rattle.repo_course.specs.declared.outcomes.Sent.TheVariants as sent
 use Rattle.repo_course.specs.declared.said.Said.{Said}
 use Rattle.repo_course.specs.declared.said.Said.TheVariants.{NoMemory}
-use Rattle.course_laws.specs.Duties.{Keeps, MayAsk, MayDo, Stand, at_first, due_after, due_done, for_text, left_by, manner_of, stand_after, stand_done, to_clean_done, unread_done, waits_done}
-use Rattle.course_laws.specs.Granted.{Goes, Grants, IsGood, Succeeds, cut_by}
+use Rattle.course_laws.specs.Duties.{Keeps, MayAsk, MayDo, Stand, at_first, due_after, due_done, due_fetched, due_planned, for_text, left_by, manner_of, stand_after, stand_done, to_clean_done, unread_done, waits_done}
+use Rattle.course_laws.specs.Granted.{Goes, Grants, HasRound, IsGood, IsMore, Succeeds, cut_by}
 use Rattle.course_laws.proofs.Kept.{judged-keeps}
 
 module _ (by_text : List ℕ → Option Close) (manner : Manner) where
@@ -20,28 +20,36 @@ module _ (by_text : List ℕ → Option Close) (manner : Manner) where
   Fine is_cut None unread to_clean waits = Unit {0}
   Fine is_cut (Some close) unread to_clean waits = IsGood manner is_cut close × ((unread ≡ None) × (to_clean ≡ None) × (waits ≡ false))
 
-  reply-fine : (is_cut : Bool) (c : Command) (reply : Reply) (s : Stand) → MayAsk c s → Grants c reply → Fine is_cut s.due s.unread s.to_clean s.waits
-      → Fine is_cut (due_after c reply s.due) s.unread s.to_clean s.waits
-  reply-fine is_cut (look repo path tried) (file lease blob) s may granted fine = fine
-  reply-fine is_cut (look repo path tried) (text bytes) s may granted fine = (tt, may.0.1)
-  reply-fine is_cut (look repo path tried) (doc bytes digests) s may granted fine = (tt, may.0.1)
-  reply-fine is_cut (done lease) reply s may granted fine = fine
-  reply-fine is_cut (may_put place path) (draft n) s may granted fine = fine
-  reply-fine is_cut (put repo path n blob) created s may granted fine = (tt, may.0.1)
-  reply-fine is_cut (put repo path n blob) same s may granted fine = (tt, may.0.1)
-  reply-fine is_cut (put repo path n blob) relisted s may granted fine = (tt, may.0.1)
-  reply-fine is_cut (put_side place path digest) agreed s may granted fine = (tt, may.1)
-  reply-fine is_cut (put_doc place path) noted s may granted fine = (tt, may.1)
-  reply-fine is_cut (drop_draft n) reply s may granted fine = fine
-  reply-fine is_cut (open_session repo) (opened n) s may granted fine = (tt, may.1)
-  reply-fine is_cut (stage at path n blob) staged s may granted fine = (tt, may.0.1)
-  reply-fine is_cut (stage at path n blob) same s may granted fine = (tt, may.0.1)
-  reply-fine is_cut (commit n) (ended result) s may granted fine = (tt, may.1)
-  reply-fine is_cut (abort n) (ended result) s may granted fine = (tt, may.1)
-  reply-fine is_cut status (counts_reply files fading cached documents sessions) s may granted fine = (tt, may.1)
-  reply-fine is_cut (unlist repo) reply s may granted fine = absurd may
-  reply-fine is_cut collect reply s may granted fine = absurd may
-  reply-fine is_cut _ _ s may granted fine = absurd (false≢true granted)
+  -- a plan that may be fetched makes nothing due
+  planned-fine : (is_cut : Bool) (left : ℕ) (due : Option Close) (unread : Option ℕ) (to_clean : Option (List (List ℕ))) (waits : Bool) → IsMore left
+      → Fine is_cut due unread to_clean waits → Fine is_cut (due_planned left due) unread to_clean waits
+  planned-fine is_cut zero due unread to_clean waits more fine = absurd more
+  planned-fine is_cut (suc n) due unread to_clean waits more fine = fine
+
+  reply-fine : (is_cut : Bool) (c : Command) (reply : Reply) (s : Stand) → MayAsk c s → Grants c reply → HasRound s.rounds c reply → Fine is_cut s.due s.unread s.to_clean s.waits
+      → Fine is_cut (due_after s.rounds c reply s.due) s.unread s.to_clean s.waits
+  reply-fine is_cut (look repo path tried) (file lease blob) s may granted more fine = fine
+  reply-fine is_cut (look repo path tried) (text bytes) s may granted more fine = (tt, may.0.1)
+  reply-fine is_cut (look repo path tried) (doc bytes digests) s may granted more fine = (tt, may.0.1)
+  reply-fine is_cut (done lease) reply s may granted more fine = fine
+  reply-fine is_cut (may_put place path) (draft n) s may granted more fine = fine
+  reply-fine is_cut (put repo path n blob) created s may granted more fine = (tt, may.0.1)
+  reply-fine is_cut (put repo path n blob) same s may granted more fine = (tt, may.0.1)
+  reply-fine is_cut (put repo path n blob) relisted s may granted more fine = (tt, may.0.1)
+  reply-fine is_cut (put_side place path digest) agreed s may granted more fine = (tt, may.1)
+  reply-fine is_cut (put_doc place path) noted s may granted more fine = (tt, may.1)
+  reply-fine is_cut (drop_draft n) reply s may granted more fine = fine
+  reply-fine is_cut (open_session repo) (opened n) s may granted more fine = (tt, may.1)
+  reply-fine is_cut (stage at path n blob) staged s may granted more fine = (tt, may.0.1)
+  reply-fine is_cut (stage at path n blob) same s may granted more fine = (tt, may.0.1)
+  reply-fine is_cut (commit n) (ended result) s may granted more fine = (tt, may.1)
+  reply-fine is_cut (abort n) (ended result) s may granted more fine = (tt, may.1)
+  reply-fine is_cut status (counts_reply files fading cached documents sessions) s may granted more fine = (tt, may.1)
+  reply-fine is_cut (unlist repo) reply s may granted more fine = absurd may
+  reply-fine is_cut collect reply s may granted more fine = absurd may
+  reply-fine is_cut (look repo path tried) (fetches plan) s may granted more fine = planned-fine is_cut s.rounds.left s.due s.unread s.to_clean s.waits more fine
+  reply-fine is_cut (land plan outcome) landed s may granted more fine = fine
+  reply-fine is_cut _ _ s may granted more fine = absurd (false≢true granted)
 
   going : (is_cut : Bool) (due : Option Close) (unread : Option ℕ) (to_clean : Option (List (List ℕ))) (waits : Bool) → due ≡ None → Fine is_cut due unread to_clean waits
   going is_cut due unread to_clean waits is = subst (λ d. Fine is_cut d unread to_clean waits) (sym is) tt
@@ -55,6 +63,9 @@ module _ (by_text : List ℕ → Option Close) (manner : Manner) where
   deed-fine is_cut (send_file blob own) (sent.BlobDiffers recorded found) s may goes fine = (tt, may.0.1)
   deed-fine is_cut (send_file blob own) (sent.CutDiffers recorded found) s may goes fine = (refl, may.0.1)
   deed-fine is_cut (clean_all repos) (Ok did) s may goes fine = (tt, (may.1, refl, may.3))
+  deed-fine is_cut (fetch plan) outcome s may goes fine =
+      going is_cut (due_fetched outcome plan.draft s.due) s.unread s.to_clean s.waits (subst (λ d. due_fetched outcome plan.draft d ≡ None) (sym may.0.0) goes)
+  deed-fine is_cut (store_fetched n checked) (Ok blob) s may goes fine = going is_cut s.due s.unread s.to_clean s.waits may.0.0
   deed-fine is_cut _ _ s may goes fine = absurd goes
 
   pub own-is : (is_cut : Bool) (said : Said) → IsGood manner is_cut (speaks said) → manner_of said None manner ≡ manner
@@ -65,7 +76,7 @@ module _ (by_text : List ℕ → Option Close) (manner : Manner) where
   keeps-succeeds is_cut (asks command next) zero s k fine = absurd k
   keeps-succeeds is_cut (asks command next) (suc n) s k fine = (
     k.0,
-    λ reply granted. keeps-succeeds is_cut (next reply) n (stand_after command reply s) (k.1 reply) (reply-fine is_cut command reply s k.0 granted fine),
+    λ reply granted more. keeps-succeeds is_cut (next reply) n (stand_after command reply s) (k.1 reply) (reply-fine is_cut command reply s k.0 granted more fine),
   )
   keeps-succeeds is_cut (does deed next) n s k fine = (
     k.0,

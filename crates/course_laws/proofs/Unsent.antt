@@ -29,7 +29,7 @@ MayStand s written = IsUnsent s.due × ((written ≡ []) ⊎ ((s.waits ≡ true)
 abbrev pub MayStarve : Manner → Stand → Bool → List ℕ → Type 0
 MayStarve manner s alone written = (alone ≡ manner.head_only) × MayStand s written
 
-pub reply-unsent : (command : Command) (reply : Reply) (s : Stand) → MayAsk command s → IsUnsent (due_after command reply s.due) → IsUnsent s.due
+pub reply-unsent : (command : Command) (reply : Reply) (s : Stand) → MayAsk command s → IsUnsent (due_after s.rounds command reply s.due) → IsUnsent s.due
 reply-unsent command reply s may un = pick s.due refl
   where
     pick : (due : Option Close) → s.due ≡ due → IsUnsent due

@@ -1,21 +1,28 @@
 -- What a course holds stands in the yard beside what stood before it, entry by entry.
 use Rattle.std.proofs.Common.{◌≡◌, ◌≢◌, ◌⊎◌, ℕ, ◌<◌, ◌≤◌, ◌==◌, ◌||◌, ◌&&◌, Bool, true, false, not, if◌then◌else◌, List, [], ◌∷◌, ◌++◌, filter, Option, Some, None, inl, inr, ap, arith, refl, sym, subst, ◌∙◌, IsTrue}
-use Rattle.std.specs.Prelude.{nat_lt}
+use Rattle.std.specs.Prelude.{is_some, nat_lt, Result, Ok, Err}
 use Rattle.std.specs.List.{AllByRecursion}
 use Rattle.std.proofs.lemmas.Bool.{false≢true}
 use Rattle.std.proofs.lemmas.Bool.Decides.{eqb_tells}
-use Rattle.repo_model.specs.Command.{Command, done, drop_draft, is_file_path, is_fit, is_parcel, meets, rule_of}
+use Rattle.fetch_plan.specs.declared.Outcome.TheVariants as came
+use Rattle.mvn_coords.specs.Kind.{kind}
+use Rattle.mvn_coords.specs.declared.fault.PathFault.{PathFault}
+use Rattle.mvn_coords.specs.declared.kind.Kind.{Kind}
+use Rattle.mvn_coords.specs.declared.kind.Kind.TheVariants.{File, FileSide, Doc, DocSide}
+use Rattle.mvn_metadata.specs.Document.{Document}
+use Rattle.repo_model.specs.Command.{Command, done, drop_draft, is_file_path, is_fit, is_landing, is_parcel, meets, proxy_rule_of, rule_of}
 use Rattle.repo_model.specs.Data.{Blob, Phase, Row, Session, Staged, fading, listed}
 use Rattle.repo_model.specs.Deploy.{deliver_again, deliver_at, deliver_all, discard_all}
-use Rattle.repo_model.specs.Effect.{Effect, delivers, discards, relists, opens, ends, drops, with_effect, with_effects, yard_after}
+use Rattle.repo_model.specs.Effect.{Effect, delivers, discards, relists, opens, ends, drops, caches, clears_mark, marks_missing, with_effect, with_effects, yard_after}
+use Rattle.repo_model.specs.Fetched.{Landing, got_file, got_doc}
 use Rattle.repo_model.specs.History.{Entry, Fits, IsReply, due, wants_memory, failed, after, commits, ticked}
 use Rattle.repo_model.specs.Paths.{takes}
 use Rattle.repo_model.specs.Reply.{Reply, is_free, no_draft, no_memory, store_fault, takes_memory}
 use Rattle.repo_model.specs.Settings.{Settings}
-use Rattle.repo_model.specs.State.{Lease, State, Yard, is_among, number_end, row_at, rows_of}
-use Rattle.repo_model.specs.Turn.{Turn, turn}
+use Rattle.repo_model.specs.State.{Lease, State, Yard, files_of, is_among, number_end, row_at, rows_of}
+use Rattle.repo_model.specs.Turn.{Turn, gives_draft_up, is_drawn, lands, lands_file, turn}
 use Rattle.repo_laws.proofs.Answered.{free-none, no-free, state-determined}
-use Rattle.repo_laws.proofs.Cases.{Case, lends_file, takes_back, gives_draft, not_drawn, makes_row, has_same, lists_again, has_other, gives_up, gives_nothing_up, opens_one, stage_not_drawn, stage_nowhere, stages_one, stage_full, stage_same, stage_other, deploys, aborts, unlists_nothing, unlists, collects, turn-case}
+use Rattle.repo_laws.proofs.Cases.{Case, lends_file, takes_back, gives_draft, not_drawn, makes_row, has_same, lists_again, has_other, gives_up, gives_nothing_up, opens_one, stage_not_drawn, stage_nowhere, stages_one, stage_full, stage_same, stage_other, deploys, aborts, unlists_nothing, unlists, collects, plans_file, plans_document, lands_one, lands_late, turn-case}
 use Rattle.course_laws.proofs.Alls.{all-flat, all-joined, all-mapped}
 use Rattle.course_laws.specs.LeftBehind.{IsDrawn, NumbersAreBelow}
 use Rattle.course_laws.specs.Duties.{MayAsk, Stand, draft_after, lease_after, stand_after}
@@ -147,6 +154,11 @@ module _ (before : Yard) where
   Goes c s st t = Holding before (draft_after c t.reply s.draft) (lease_after c t.reply s.lease) (with_effects st t.effects).yard × (t.reply ≢ no_draft)
 
   module _ (settings : Settings) (s : Stand) (st : State) (h : Holds s st.yard) where
+    -- what an effect does to the yard goes by the yard alone
+    effects-yard : (es : List Effect) (u v : State) → u.yard ≡ v.yard → (with_effects u es).yard ≡ (with_effects v es).yard
+    effects-yard [] u v is = is
+    effects-yard (e ∷ es) u v is = effects-yard es (with_effect u e) (with_effect v e) (ap (yard_after e) is)
+
     own-draft : (n : ℕ) → s.draft ≡ Some n → is_among n st.yard.drafts ≡ true
     own-draft n is = own-there n st.yard (subst (λ d. OwnDraft before d st.yard.drafts) is h.drafts)
 
@@ -216,6 +228,80 @@ module _ (before : Yard) where
           (all-joined IsStill (discard_all x) _ (all-mapped IsStill (λ (item : Staged). discards x.number item.path item.blob.number) (λ item. tt) x.staged) (tt, tt)) h,
       λ is. cc,
     )
+    case-goes now c t (plans_file repo path tried member rule at more seen) may can =
+        let next = st.yard.next_draft in (
+          record {
+            drafts = (
+              λ drawn. ap (λ ns. ns ++ next ∷ []) (subst (λ d. OwnDraft before d st.yard.drafts) may.2 h.drafts drawn),
+              h.next_draft,
+              stands_last next st.yard.drafts,
+            );
+            leases = h.leases;
+            next_draft = let here = h.next_draft in omega arith;
+            next_lease = h.next_lease;
+          },
+          λ is. cc,
+        )
+    case-goes now c t (plans_document repo path tried member rule at seen) may can = (
+      record {
+        drafts = subst (λ d. OwnDraft before d st.yard.drafts) may.2 h.drafts;
+        leases = h.leases;
+        next_draft = h.next_draft;
+        next_lease = h.next_lease;
+      },
+      λ is. cc,
+    )
+    case-goes now c t (lands_one plan outcome drawn) may can =
+        (lands-hold outcome (and-second (is_some (proxy_rule_of plan.proxy settings)) (is_landing (kind plan.path) plan.draft outcome) can), λ is. cc)
+      where
+        and-second : (a b : Bool) → IsTrue (a && b) → IsTrue b
+        and-second true b is = is
+        and-second false b is = absurd (false≢true is)
+
+        -- the draft of the plan is given up, where there is one
+        up-held : (under : Option ℕ) → s.draft ≡ under → (later : Yard) → later ≡ (with_effects st (gives_draft_up under)).yard → Holding before None s.lease later
+        up-held None is later same = subst (λ (y : Yard). Holding before None s.lease y) (sym same) (subst (λ d. Holding before d s.lease st.yard) is h)
+        up-held (Some n) is later same =
+            subst (λ (y : Yard). Holding before None s.lease y) (sym same) (given-up s n st.yard (with_effects st (drops n ∷ [])).yard is h refl refl refl refl)
+
+        none-held : (under : Option ℕ) → s.draft ≡ under → under ≡ None → Holding before None s.lease st.yard
+        none-held under is none = subst (λ d. Holding before d s.lease st.yard) (is ∙ none) h
+
+        file-held : (k : Result Kind PathFault) (under : Option ℕ) (blob : Blob) → s.draft ≡ under → IsTrue (is_landing k under (came.Got (got_file blob))) → (moment : ℕ)
+            → Holding before None s.lease (with_effects st (caches plan.proxy plan.path blob moment ∷ clears_mark plan.proxy plan.path ∷ [])).yard
+        file-held (Ok (File c)) (Some n) blob is fits moment =
+            given-up s n st.yard _ is h (ap (λ k. filter (λ m. not (m == k)) st.yard.drafts) (number-is true n blob fits)) refl refl refl
+        file-held (Ok (File c)) None blob is fits moment = absurd (false≢true fits)
+        file-held (Ok (Doc d)) None blob is fits moment = absurd (false≢true fits)
+        file-held (Ok (Doc d)) (Some n) blob is fits moment = absurd (false≢true fits)
+        file-held (Ok (FileSide c side)) under blob is fits moment = absurd (false≢true fits)
+        file-held (Ok (DocSide d side)) under blob is fits moment = absurd (false≢true fits)
+        file-held (Err fault) under blob is fits moment = absurd (false≢true fits)
+
+        document-undrawn : (k : Result Kind PathFault) (under : Option ℕ) (document : Document) → IsTrue (is_landing k under (came.Got (got_doc document))) → under ≡ None
+        document-undrawn (Ok (Doc d)) None document fits = refl
+        document-undrawn (Ok (File c)) (Some n) document fits = absurd (false≢true fits)
+        document-undrawn (Ok (File c)) None document fits = refl
+        document-undrawn (Ok (Doc d)) (Some n) document fits = absurd (false≢true fits)
+        document-undrawn (Ok (FileSide c side)) under document fits = absurd (false≢true fits)
+        document-undrawn (Ok (DocSide d side)) under document fits = absurd (false≢true fits)
+        document-undrawn (Err fault) under document fits = absurd (false≢true fits)
+
+        row-held : (blob : Blob) (found : Option Row) → IsTrue (is_landing (kind plan.path) plan.draft (came.Got (got_file blob)))
+            → Holding before None s.lease (with_effects st (lands_file plan blob now found)).yard
+        row-held blob None fits = file-held (kind plan.path) plan.draft blob may.2 fits now
+        row-held blob (Some row) fits = up-held plan.draft may.2 _ (effects-yard (gives_draft_up plan.draft) (with_effect st (clears_mark plan.proxy plan.path)) st refl)
+
+        lands-hold : (outcome : Landing) → IsTrue (is_landing (kind plan.path) plan.draft outcome) → Holding before None s.lease (with_effects st (lands st now plan outcome)).yard
+        lands-hold (came.Got (got_file blob)) fits = row-held blob (row_at plan.path (files_of plan.proxy st)) fits
+        lands-hold (came.Got (got_doc document)) fits = none-held plan.draft may.2 (document-undrawn (kind plan.path) plan.draft document fits)
+        lands-hold came.Gone fits = up-held plan.draft may.2 _ (effects-yard (gives_draft_up plan.draft) (with_effect st (marks_missing plan.proxy plan.path now)) st refl)
+        lands-hold outcome fits = up-held plan.draft may.2 _ refl
+    case-goes now c t (lands_late plan outcome late) may can = absurd (not-late plan.draft may.2 late)
+      where
+        not-late : (under : Option ℕ) → s.draft ≡ under → is_drawn under st.yard.drafts ≡ false → ⊥
+        not-late None is late = false≢true (sym late)
+        not-late (Some n) is late = false≢true (sym late ∙ own-draft n is)
     case-goes now c t (unlists_nothing repo) may can = absurd may
     case-goes now c t (unlists repo hosted is) may can = absurd may
     case-goes now c t collects may can = absurd may
@@ -235,11 +321,6 @@ module _ (before : Yard) where
         never true is = cc
         never false is = cc
     fault-goes now _ can = h
-
-    -- what an effect does to the yard goes by the yard alone
-    effects-yard : (es : List Effect) (u v : State) → u.yard ≡ v.yard → (with_effects u es).yard ≡ (with_effects v es).yard
-    effects-yard [] u v is = is
-    effects-yard (e ∷ es) u v is = effects-yard es (with_effect u e) (with_effect v e) (ap (yard_after e) is)
 
     -- each entry of a command that the course may ask leaves the yard as the course says
     abbrev So : Entry → Reply → Yard → Type 0

@@ -1,10 +1,15 @@
 -- What a stream has written beside what is played where nothing fails: all of it, or up to where the source, the sink or memory failed.
-use Rattle.std.specs.Prelude.{◌≡◌, ◌⊎◌, ℕ, zero, suc, ◌<◌, ◌==◌, Bool, true, List, [], ◌++◌, Option, Some, None, IsSome}
+use Rattle.std.specs.Prelude.{◌≡◌, ◌⊎◌, ℕ, zero, suc, ◌<◌, ◌==◌, Bool, true, List, [], ◌∷◌, ◌++◌, Option, Some, None, IsSome}
 use Rattle.std.specs.List.{AllByRecursion}
+use Rattle.fetch_plan.specs.declared.Outcome.{Outcome as Came}
+use Rattle.fetch_plan.specs.declared.Plan.{Plan}
 use Rattle.outside.specs.Faults.{Rose, last_count}
+use Rattle.outside_remote.specs.Exchanges.{Sees}
+use Rattle.remote_fetch.specs.Fetching.{IsFetched}
+use Rattle.remote_fetch.specs.declared.contents.Content.{Content}
 use Rattle.http_wire.specs.Answer.{continue_bytes, shown}
 use Rattle.http_wire.specs.Front.{Front, Whole, front}
-use Rattle.repo_model.specs.Data.{Hosted, Row, Session, Staged}
+use Rattle.repo_model.specs.Data.{Hosted, Proxy, Row, Session, Staged}
 use Rattle.repo_model.specs.Settings.{Settings}
 use Rattle.repo_model.specs.State.{State}
 use Rattle.repo_routes.specs.Framing.{is_head}
@@ -13,12 +18,21 @@ use Rattle.repo_course.specs.declared.outcomes.End.{End}
 use Rattle.repo_course.specs.declared.outcomes.End.TheVariants as stream
 use Rattle.repo_course.specs.Serving.{IsFrontOf, Outside}
 use Rattle.course_laws.specs.Faultless.{Scene, play_stream, play_turn}
+use Rattle.course_laws.specs.Landed.{GoesOn}
 
--- the bytes of each file's blob are told, of those in sessions too
+-- the bytes of each file's blob are told, of those in sessions and of those that proxies keep too
 abbrev pub RowsTold : State → Type 0
 RowsTold s =
     AllByRecursion (λ (h : Hosted). AllByRecursion (λ (row : Row). IsSome row.blob.bytes) h.rows) s.hosted
     × AllByRecursion (λ (x : Session). AllByRecursion (λ (file : Staged). IsSome file.blob.bytes) x.staged) s.sessions
+    × AllByRecursion (λ (p : Proxy). AllByRecursion (λ (row : Row). IsSome row.blob.bytes) p.files) s.proxies
+
+-- These are what fetches came to, one after another, each by exchanges that lie behind those of the one before it; there may be others
+-- between them.
+abbrev pub AreFetched : List (Came Content) → Sees → Sees → Type 0
+AreFetched [] old new = GoesOn old new
+AreFetched (outcome ∷ more) old new =
+    (plan : Plan) × (before behind_it : Sees) × GoesOn old before × IsFetched plan outcome before behind_it × AreFetched more behind_it new
 
 -- the count stood still, and not because it is at the end of its type
 abbrev pub StoodStill : ℕ → ℕ → Type 0

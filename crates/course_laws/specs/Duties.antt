@@ -1,24 +1,43 @@
 -- What a course owes, step by step: the draft and the lease that it holds, the body and the pass that it has not done, the one
 -- answer that it gives and how the stream ends behind it, and the commands that it may still ask.
-use Rattle.std.specs.Prelude.{◌≡◌, ℕ, zero, suc, ◌+◌, ◌≤◌, max, length, Bool, true, false, if◌then◌else◌, List, Option, Some, None, IsSome, Result, Ok, Err, unwrap_or}
+use Rattle.std.specs.Prelude.{◌≡◌, ℕ, zero, suc, ◌+◌, ◌≤◌, max, min, length, Bool, true, false, if◌then◌else◌, List, [], ◌∷◌, ◌++◌, Option, Some, None, IsSome, Result, Ok, Err, unwrap_or}
+use Rattle.std.specs.Option.{option_map}
+use Rattle.fetch_plan.specs.declared.Outcome.{Outcome as Came}
+use Rattle.fetch_plan.specs.declared.Outcome.TheVariants as came
+use Rattle.fetch_plan.specs.declared.Plan.{Plan}
 use Rattle.http_wire.specs.declared.faults.HeadFault.{HeadFault}
 use Rattle.mvn_digest.specs.Sides.{read_side}
 use Rattle.mvn_doc.specs.Reading.{reading}
 use Rattle.mvn_metadata.specs.Document.{Document}
-use Rattle.repo_model.specs.Command.{Command, look, done, may_put, put, put_side, put_doc, drop_draft, open_session, stage, commit, abort, unlist, collect, status}
+use Rattle.remote_fetch.specs.declared.contents.Content.{Content}
+use Rattle.remote_fetch.specs.declared.contents.Content.TheVariants as content
+use Rattle.repo_model.specs.Command.{Command, look, done, may_put, put, put_side, put_doc, drop_draft, open_session, stage, commit, abort, unlist, collect, status, land}
 use Rattle.repo_model.specs.Data.{Blob}
-use Rattle.repo_model.specs.Reply.{Reply, file, draft, taken, same, relisted, created, no_session, session_full, staged}
-use Rattle.repo_model.specs.Settings.{Settings}
+use Rattle.repo_model.specs.Fetched.{Landing, got_file, got_doc}
+use Rattle.repo_model.specs.Reply.{Reply, file, missed, draft, taken, same, relisted, created, no_session, session_full, staged, fetches, landed}
+use Rattle.repo_model.specs.Settings.{GroupRule, Settings}
 use Rattle.repo_routes.specs.Intent.{Intent, Judged, reads as reads_path, puts_file, puts_side, puts_document, counts, cleans as cleans_all, opens, commits, aborts}
 use Rattle.repo_routes.specs.declared.judging.Refused.{Refused}
+use Rattle.repo_course.specs.declared.fetched.Verdict.{Verdict}
+use Rattle.repo_course.specs.declared.fetched.Verdict.TheVariants as verdict
 use Rattle.repo_course.specs.Answers.{at_end}
-use Rattle.repo_course.specs.Course.{Close, Course, Deed, Outcome, asks, does, says, stops, speaks, rests, invite, take_body, read_body, send_file, clean_all, head_said, manner_for, manner_refused, of_fault, of_pass, of_sent, said_of, with_unread}
+use Rattle.repo_course.specs.Course.{Close, Course, Deed, Fetch, Outcome, asks, does, says, stops, speaks, rests, invite, take_body, read_body, send_file, clean_all, fetch, store_fetched, fetch_fault, head_said, is_group, manner_for, manner_refused, of_fault, of_pass, of_sent, of_store, rounds_of, said_missed, said_of, with_fault, with_unread}
 use Rattle.repo_course.specs.declared.manner.Manner.{Manner}
 use Rattle.repo_course.specs.declared.outcomes.Continued.TheVariants as continued
 use Rattle.repo_course.specs.declared.outcomes.End.TheVariants as stream
 use Rattle.repo_course.specs.declared.outcomes.Took.TheVariants as took
 use Rattle.repo_course.specs.declared.said.Said.{Said}
 use Rattle.repo_course.specs.declared.said.Said.TheVariants as said
+
+-- how often something may still be fetched for a look, which members were tried for it, and what their fetches came to
+pub record Rounds : Type 0 where
+  pub left : ℕ
+  pub tried : List ℕ
+  pub so_far : Verdict
+
+-- nothing is looked for
+abbrev pub no_rounds : Rounds
+no_rounds = record { left = 0; tried = []; so_far = verdict.Unasked false }
 
 -- where a course stands
 pub record Stand : Type 0 where
@@ -35,16 +54,38 @@ pub record Stand : Type 0 where
   pub waits : Bool
   -- the repositories that are to be passed over
   pub to_clean : Option (List (List ℕ))
+  -- what is looked at: the repository and the path
+  pub target : Option (List ℕ × List ℕ)
+  -- what is to be fetched, and then landed; what came of it, once it was fetched; and a file of it, once it is stored
+  pub plan : Option Plan
+  pub came : Fetch
+  pub kept : Option Blob
+  -- what the look that is made has behind it, and may have before it
+  pub rounds : Rounds
   -- how it must end, once that is known
   pub due : Option Close
 
 -- nothing is held, and nothing is to be done
 abbrev pub idle : Stand
-idle = record { draft = None; lease = None; stored = None; lent = None; unread = None; waits = false; to_clean = None; due = None }
+idle = record {
+  draft = None;
+  lease = None;
+  stored = None;
+  lent = None;
+  unread = None;
+  waits = false;
+  to_clean = None;
+  target = None;
+  plan = None;
+  came = None;
+  kept = None;
+  rounds = no_rounds;
+  due = None;
+}
 
 -- the length of the body that comes with what is asked for
 abbrev pub body_length : Intent → Option ℕ
-body_length (reads_path repo path) = None
+body_length (reads_path repo path of_sort) = None
 body_length (puts_file place path count) = Some count
 body_length (puts_side place path side count) = Some count
 body_length (puts_document place path count) = Some count
@@ -67,12 +108,24 @@ abbrev pub repos_of : Intent → Option (List (List ℕ))
 repos_of (cleans_all repos) = Some repos
 repos_of intent = None
 
+-- what is looked at for what is asked for
+abbrev pub target_of : Intent → Option (List ℕ × List ℕ)
+target_of (reads_path repo path of_sort) = Some (repo, path)
+target_of intent = None
+
+-- what is looked at may be fetched as often as its repository has members to be asked
+abbrev pub rounds_for : Intent → Rounds
+rounds_for (reads_path repo path of_sort) = record { left = rounds_of of_sort; tried = []; so_far = verdict.Unasked (is_group of_sort) }
+rounds_for intent = no_rounds
+
 -- before the first step of what is asked for, where the client waits before its body or not
 abbrev pub at_first : Bool → Intent → Stand
 at_first expects intent = record idle {
   unread = body_length intent;
   waits = is_awaited (body_length intent) expects;
   to_clean = repos_of intent;
+  target = target_of intent;
+  rounds = rounds_for intent;
 }
 
 -- the replies behind which the draft of a blob that is put or staged is used up, or was given up in that turn
@@ -92,6 +145,8 @@ draft_after (may_put place path) (draft n) held = Some n
 draft_after (put repo path n blob) reply held = if spends_draft reply then None else held
 draft_after (stage at path n blob) reply held = if spends_draft reply then None else held
 draft_after (drop_draft n) reply held = None
+draft_after (look repo path tried) (fetches plan) held = plan.draft
+draft_after (land plan outcome) landed held = None
 draft_after command reply held = held
 
 abbrev pub lease_after : Command → Reply → Option ℕ → Option ℕ
@@ -103,22 +158,58 @@ abbrev pub lent_after : Command → Reply → Option Blob → Option Blob
 lent_after (look repo path tried) (file lease blob) lent = Some blob
 lent_after command reply lent = lent
 
--- a reply is answered, but for a file, a draft, what only gives back, and the commands of a pass
-abbrev pub due_after : Command → Reply → Option Close → Option Close
-due_after (look repo path tried) (file lease blob) due = due
-due_after (may_put place path) (draft n) due = due
-due_after (done lease) reply due = due
-due_after (drop_draft n) reply due = due
-due_after (unlist repo) reply due = due
-due_after collect reply due = due
-due_after command reply due = Some (speaks (said_of reply))
+-- what is planned is landed once
+abbrev pub plan_after : Command → Reply → Option Plan → Option Plan
+plan_after (look repo path tried) (fetches plan) planned = Some plan
+plan_after (land plan outcome) reply planned = None
+plan_after command reply planned = planned
+
+abbrev pub came_after : Command → Fetch → Fetch
+came_after (look repo path tried) came = None
+came_after (land plan outcome) came = None
+came_after command came = came
+
+-- behind a landing one fetch less may come, its member was tried, and what came of it counts
+abbrev pub one_less : ℕ → ℕ
+one_less zero = zero
+one_less (suc n) = n
+
+abbrev pub rounds_after : Command → Rounds → Rounds
+rounds_after (land plan outcome) r = record {
+  left = one_less r.left;
+  tried = r.tried ++ plan.member ∷ [];
+  so_far = with_fault r.so_far (fetch_fault outcome);
+}
+rounds_after command r = r
+
+-- where no fetch may come any more a plan counts as want of memory
+abbrev pub due_planned : ℕ → Option Close → Option Close
+due_planned zero due = Some (speaks said.NoMemory)
+due_planned (suc n) due = due
+
+-- A reply is answered, but for a file, a draft, a plan, what has landed, what only gives back, and the commands of a pass. That nothing
+-- is there is answered by what was fetched.
+abbrev pub due_after : Rounds → Command → Reply → Option Close → Option Close
+due_after r (look repo path tried) (file lease blob) due = due
+due_after r (look repo path tried) missed due = Some (speaks (said_missed r.so_far))
+due_after r (look repo path tried) (fetches plan) due = due_planned r.left due
+due_after r (may_put place path) (draft n) due = due
+due_after r (done lease) reply due = due
+due_after r (drop_draft n) reply due = due
+due_after r (unlist repo) reply due = due
+due_after r collect reply due = due
+due_after r (land plan outcome) landed due = due
+due_after r command reply due = Some (speaks (said_of reply))
 
 abbrev pub stand_after : Command → Reply → Stand → Stand
 stand_after command reply s = record s {
   draft = draft_after command reply s.draft;
   lease = lease_after command reply s.lease;
   lent = lent_after command reply s.lent;
-  due = due_after command reply s.due;
+  plan = plan_after command reply s.plan;
+  came = came_after command s.came;
+  rounds = rounds_after command s.rounds;
+  due = due_after s.rounds command reply s.due;
 }
 
 -- the body is read and the pass made, where there is one, and nobody waits
@@ -129,10 +220,29 @@ IsReady s = (s.unread ≡ None) × (s.to_clean ≡ None) × (s.waits ≡ false)
 abbrev pub IsFree : Stand → Type 0
 IsFree s = (s.due ≡ None) × IsReady s
 
+-- what lands of a fetch, with the file that was stored, if it was: a file as that, and all else as it came
+abbrev pub landing_of : Came Content → Option Blob → Option Landing
+landing_of (came.Got (content.File checked)) kept = option_map (λ (blob : Blob). came.Got (got_file blob)) kept
+landing_of (came.Got (content.Doc document)) stored = Some (came.Got (got_doc document))
+landing_of came.Gone stored = Some came.Gone
+landing_of (came.Refused code) stored = Some (came.Refused code)
+landing_of came.NoChecksum stored = Some came.NoChecksum
+landing_of (came.Differs said found) stored = Some (came.Differs said found)
+landing_of came.TooLarge stored = Some came.TooLarge
+landing_of (came.BadAnswer at) stored = Some (came.BadAnswer at)
+landing_of (came.BadDocument at) stored = Some (came.BadDocument at)
+landing_of came.Fault stored = Some came.Fault
+
+abbrev pub landing_by : Fetch → Option Blob → Option Landing
+landing_by None stored = None
+landing_by (Some outcome) stored = landing_of outcome stored
+
 -- What it must hold to ask a command: once an end is due it only gives back, and but for a draft it asks behind its body. The
--- commands of a pass are asked by the pass.
+-- commands of a pass are asked by the pass. What lands is what came of the plan's own fetch; and a look is at
+-- the path that is asked for, and names the members that were tried.
 abbrev pub MayAsk : Command → Stand → Type 0
-MayAsk (look repo path tried) s = IsFree s × (s.lease ≡ None)
+MayAsk (look repo path tried) s =
+    IsFree s × (s.lease ≡ None) × (s.draft ≡ None) × (tried ≡ s.rounds.tried) × (s.target ≡ Some (repo, path))
 MayAsk (done lease) s = s.lease ≡ Some lease
 MayAsk (may_put place path) s = (s.due ≡ None) × (s.draft ≡ None) × (s.to_clean ≡ None)
 MayAsk (put repo path n blob) s = IsFree s × (s.draft ≡ Some n) × (s.stored ≡ Some blob)
@@ -146,18 +256,23 @@ MayAsk (abort n) s = IsFree s
 MayAsk (unlist repo) s = ⊥
 MayAsk collect s = ⊥
 MayAsk status s = IsFree s
+MayAsk (land plan outcome) s =
+    IsFree s × (s.plan ≡ Some plan) × (s.draft ≡ plan.draft) × (landing_by s.came s.kept ≡ Some outcome)
 
 abbrev pub HoldsNothing : Stand → Type 0
 HoldsNothing s = (s.draft ≡ None) × (s.lease ≡ None)
 
 -- What it must hold for a deed: the body is invited where the client waits for that, and read by its length; the file that was lent
--- is sent in the manner of the request, and under its lease; and the pass goes over the repositories that are asked for.
+-- is sent in the manner of the request, and under its lease; the pass goes over the repositories that are asked for; and what is planned is
+-- fetched, of which a file is stored under the draft.
 abbrev pub MayDo : Manner → Deed → Stand → Type 0
 MayDo manner invite s = (s.due ≡ None) × (s.waits ≡ true)
 MayDo manner (take_body n count) s = (s.due ≡ None) × (s.waits ≡ false) × (s.unread ≡ Some count) × (s.draft ≡ Some n)
 MayDo manner (read_body count) s = (s.due ≡ None) × (s.waits ≡ false) × (s.unread ≡ Some count)
 MayDo manner (send_file blob own) s = IsFree s × (s.lent ≡ Some blob) × IsSome s.lease × (own ≡ manner)
 MayDo manner (clean_all repos) s = (s.due ≡ None) × (s.unread ≡ None) × (s.to_clean ≡ Some repos) × (s.waits ≡ false) × HoldsNothing s
+MayDo manner (fetch plan) s = IsFree s × (s.plan ≡ Some plan) × (s.draft ≡ plan.draft)
+MayDo manner (store_fetched n checked) s = IsFree s × (s.draft ≡ Some n) × (s.came ≡ Some (came.Got (content.File checked)))
 
 -- how many commands it asks at most, and how many may follow it
 abbrev pub asked_by : Deed → ℕ
@@ -188,6 +303,25 @@ abbrev pub to_clean_done : Deed → Option (List (List ℕ)) → Option (List (L
 to_clean_done (clean_all repos) asked = None
 to_clean_done deed asked = asked
 
+abbrev pub came_done : (deed : Deed) → Outcome deed → Fetch → Fetch
+came_done (fetch plan) outcome came = outcome
+came_done deed outcome came = came
+
+abbrev pub kept_done : (deed : Deed) → Outcome deed → Option Blob → Option Blob
+kept_done (fetch plan) outcome kept = None
+kept_done (store_fetched n checked) (Ok blob) kept = Some blob
+kept_done deed outcome kept = kept
+
+-- a file that was fetched under no draft counts as want of memory
+abbrev pub due_undrawn : Option ℕ → Option Close → Option Close
+due_undrawn None due = Some (speaks said.NoMemory)
+due_undrawn (Some n) due = due
+
+abbrev pub due_fetched : Fetch → Option ℕ → Option Close → Option Close
+due_fetched None under due = Some (speaks said.NoMemory)
+due_fetched (Some (came.Got (content.File checked))) under due = due_undrawn under due
+due_fetched (Some outcome) under due = due
+
 -- a deed that fails is answered, or ends the stream; and so does what the bytes of a small body say, where they are refused
 abbrev pub due_done : (List ℕ → Option Close) → (deed : Deed) → Outcome deed → Option Close → Option Close
 due_done by_text invite continued.Written due = due
@@ -198,6 +332,9 @@ due_done by_text (read_body count) (Ok bytes) due = by_text bytes
 due_done by_text (read_body count) (Err fault) due = Some (of_fault fault)
 due_done by_text (send_file blob own) result due = Some (of_sent own result)
 due_done by_text (clean_all repos) pass due = Some (of_pass pass)
+due_done by_text (fetch plan) outcome due = due_fetched outcome plan.draft due
+due_done by_text (store_fetched n checked) (Ok blob) due = due
+due_done by_text (store_fetched n checked) (Err why) due = Some (of_store why)
 
 abbrev pub stand_done : (List ℕ → Option Close) → (deed : Deed) → Outcome deed → Stand → Stand
 stand_done by_text deed outcome s = record s {
@@ -205,6 +342,8 @@ stand_done by_text deed outcome s = record s {
   unread = unread_done deed outcome s.unread;
   waits = waits_done deed s.waits;
   to_clean = to_clean_done deed s.to_clean;
+  came = came_done deed outcome s.came;
+  kept = kept_done deed outcome s.kept;
   due = due_done by_text deed outcome s.due;
 }
 
@@ -228,11 +367,12 @@ Keeps by_text manner (stops end) n s = HoldsNothing s × (s.due ≡ Some (rests 
 
 -- The course answers what is due, and only that, whatever is replied and however its deeds end; and where nothing is due to be said it
 -- says nothing.
-abbrev pub AnswersDue : (List ℕ → Option Close) → Course → Option Close → Type 0
-AnswersDue by_text (asks command next) due = (reply : Reply) → AnswersDue by_text (next reply) (due_after command reply due)
-AnswersDue by_text (does deed next) due = (outcome : Outcome deed) → AnswersDue by_text (next outcome) (due_done by_text deed outcome due)
-AnswersDue by_text (says said own) due = due ≡ Some (speaks said)
-AnswersDue by_text (stops end) due = due ≡ Some (rests end)
+abbrev pub AnswersDue : (List ℕ → Option Close) → Course → Rounds → Option Close → Type 0
+AnswersDue by_text (asks command next) r due =
+    (reply : Reply) → AnswersDue by_text (next reply) (rounds_after command r) (due_after r command reply due)
+AnswersDue by_text (does deed next) r due = (outcome : Outcome deed) → AnswersDue by_text (next outcome) r (due_done by_text deed outcome due)
+AnswersDue by_text (says said own) r due = due ≡ Some (speaks said)
+AnswersDue by_text (stops end) r due = due ≡ Some (rests end)
 
 -- a side file that says no digest is refused, and a text that is no document, by its first fault
 abbrev pub by_digest : Option (List ℕ) → Option Close
@@ -248,13 +388,31 @@ for_text (puts_side place path side count) bytes = by_digest (read_side side byt
 for_text (puts_document place path count) bytes = by_document (reading bytes)
 for_text intent bytes = None
 
+-- how many commands come with a look behind which so many fetches may come, at most: itself, two for each fetch, and one that gives back
+abbrev pub twice : ℕ → ℕ
+twice zero = zero
+twice (suc n) = suc (suc (twice n))
+
+abbrev pub looks_most : ℕ → ℕ
+looks_most rounds = suc (suc (twice rounds))
+
 -- how many commands come with what is asked for at most, and with any request under these settings
 abbrev pub most_for : Intent → ℕ
+most_for (reads_path repo path of_sort) = looks_most (rounds_of of_sort)
 most_for (cleans_all repos) = length repos + 1
 most_for intent = 3
 
+-- the most members of a group
+abbrev pub most_members : List GroupRule → ℕ
+most_members [] = 0
+most_members (g ∷ groups) = max (length g.members) (most_members groups)
+
+-- how many fetches may come with a look, at most
+abbrev pub most_rounds : Settings → ℕ
+most_rounds settings = max (min 1 (length settings.proxies)) (most_members settings.groups)
+
 unfoldable pub most_asked : Settings → ℕ
-most_asked settings = max 3 (length settings.hosted + 1)
+most_asked settings = max (max 3 (length settings.hosted + 1)) (looks_most (most_rounds settings))
 
 -- what a course owes from its beginning
 pub record Duty : Type 0 where

@@ -1,19 +1,20 @@
 -- How a request is answered that nothing refuses, neither its head, nor a reply to its commands, nor what its body says.
-use Rattle.std.specs.Prelude.{◌≡◌, ◌⊎◌, ℕ, ◌≤◌, Bool, true, false, ◌&&◌, IsTrue, if◌then◌else◌, List, [], ◌∷◌, ◌++◌, length, take, drop, Option, Some, None, Ok, Err}
+use Rattle.std.specs.Prelude.{◌≡◌, ◌⊎◌, ℕ, zero, suc, ◌≤◌, Bool, true, false, ◌&&◌, IsTrue, if◌then◌else◌, List, [], ◌∷◌, ◌++◌, length, take, drop, Option, Some, None, Ok, Err}
 use Rattle.std.specs.List.{AllByRecursion}
 use Rattle.outside.specs.Blobs.{Shelf}
 use Rattle.outside.specs.Told.{IsWhereTold, behind}
+use Rattle.outside_remote.specs.Exchanges.{Sees}
 use Rattle.http_wire.specs.Answer.{continue_bytes, shown}
 use Rattle.http_wire.specs.declared.answers.Status.{Status}
 use Rattle.http_wire.specs.declared.answers.Status.TheVariants as status_code
-use Rattle.repo_model.specs.Command.{Command, done, drop_draft}
+use Rattle.repo_model.specs.Command.{Command, look, done, drop_draft}
 use Rattle.repo_model.specs.declared.print.Print.{Print}
 use Rattle.repo_model.specs.Data.{Blob}
 use Rattle.repo_model.specs.History.{Entry}
-use Rattle.repo_model.specs.Reply.{Reply, can_get, file, text, doc, missed, given_back, kind_refused, draft, no_draft, taken, same, relisted, created, not_there, differs as digest_differs, agreed, noted, dropped, no_session, sessions_full, opened, session_full, staged, offends, missing_pom, ended, unlisted, collected, counts as counts_reply, spent, no_memory, store_fault}
+use Rattle.repo_model.specs.Reply.{Reply, can_get, fetches, blocked, negative, never_asked, landed, file, text, doc, missed, given_back, kind_refused, draft, no_draft, taken, same, relisted, created, not_there, differs as digest_differs, agreed, noted, dropped, no_session, sessions_full, opened, session_full, staged, offends, missing_pom, ended, unlisted, collected, counts as counts_reply, spent, no_memory, store_fault}
 use Rattle.repo_routes.specs.Intent.{Intent, Judged, cleans as cleans_all}
 use Rattle.repo_course.specs.Answers.{answer_of, file_answer, full_answer, memory_answer}
-use Rattle.repo_course.specs.Course.{Close, Course, Deed, Outcome, asks, does, says, stops, speaks, rests, invite, take_body, read_body, send_file, clean_all, end_of, manner_for, of_pass}
+use Rattle.repo_course.specs.Course.{Close, Course, Deed, Outcome, asks, does, says, stops, speaks, rests, invite, take_body, read_body, send_file, clean_all, fetch, store_fetched, end_of, manner_for, of_pass}
 use Rattle.repo_course.specs.Serving.{IsCut, IsOtherContent, Outside, print_of, writes}
 use Rattle.repo_course.specs.declared.manner.Manner.{Manner}
 use Rattle.repo_course.specs.declared.outcomes.Continued.TheVariants as continued
@@ -22,7 +23,7 @@ use Rattle.repo_course.specs.declared.outcomes.End.TheVariants as stream
 use Rattle.repo_course.specs.declared.outcomes.Sent.TheVariants as sending
 use Rattle.repo_course.specs.declared.said.Said.{Said}
 use Rattle.repo_course.specs.declared.said.Said.TheVariants.{BlobDiffers}
-use Rattle.course_laws.specs.Duties.{IsReady, MayAsk, MayDo, Stand, at_first, body_length, due_after, for_text, lent_after, stand_after, stand_done}
+use Rattle.course_laws.specs.Duties.{IsReady, MayAsk, MayDo, Rounds, Stand, at_first, body_length, due_after, due_fetched, for_text, lent_after, rounds_after, rounds_for, stand_after, stand_done}
 use Rattle.course_laws.specs.Faultless.{done_by}
 
 -- 200 or 201
@@ -64,6 +65,11 @@ is_granted (counts_reply files fading cached documents sessions) = true
 is_granted spent = false
 is_granted no_memory = false
 is_granted store_fault = false
+is_granted (fetches plan) = true
+is_granted blocked = false
+is_granted negative = false
+is_granted never_asked = false
+is_granted landed = true
 
 -- The command gets what it asks for. To give back is never refused.
 abbrev pub Grants : Command → Reply → Type 0
@@ -74,6 +80,15 @@ Grants command reply = IsTrue (can_get command reply && is_granted reply)
 -- each command gets that, or memory was wanted for it
 abbrev pub AllGranted : List Entry → Type 0
 AllGranted entries = AllByRecursion (λ (e : Entry). Grants e.command e.reply ⊎ (e.reply ≡ no_memory)) entries
+
+-- a plan comes only where a fetch may still come
+abbrev pub IsMore : ℕ → Type 0
+IsMore zero = ⊥
+IsMore (suc n) = Unit {0}
+
+abbrev pub HasRound : Rounds → Command → Reply → Type 0
+HasRound r (look repo path tried) (fetches plan) = IsMore r.left
+HasRound r command reply = Unit {0}
 
 -- the deed does not fail, and a body is refused by nothing that it says; a blob may have another content than was recorded
 abbrev pub Goes : (List ℕ → Option Close) → (deed : Deed) → Outcome deed → Type 0
@@ -92,6 +107,9 @@ Goes by_text (send_file blob own) sending.SinkFault = ⊥
 Goes by_text (send_file blob own) sending.NoMemory = ⊥
 Goes by_text (clean_all repos) (Ok did) = Unit {0}
 Goes by_text (clean_all repos) (Err fault) = ⊥
+Goes by_text (fetch plan) outcome = due_fetched outcome plan.draft None ≡ None
+Goes by_text (store_fetched n checked) (Ok blob) = Unit {0}
+Goes by_text (store_fetched n checked) (Err why) = ⊥
 
 -- whether the last file that was sent is cut
 abbrev pub cut_by : (deed : Deed) → Outcome deed → Bool → Bool
@@ -110,7 +128,8 @@ IsGood manner is_cut (rests end) = end ≡ (if is_cut then Some stream.Closed el
 -- that was lent; a pass goes over the repositories that are asked for. And it ends well: as is due for that, and in this manner.
 abbrev pub Succeeds : (List ℕ → Option Close) → Manner → Bool → Course → Stand → Type 0
 Succeeds by_text manner is_cut (asks command next) s =
-    MayAsk command s × ((reply : Reply) → Grants command reply → Succeeds by_text manner is_cut (next reply) (stand_after command reply s))
+    MayAsk command s
+    × ((reply : Reply) → Grants command reply → HasRound s.rounds command reply → Succeeds by_text manner is_cut (next reply) (stand_after command reply s))
 Succeeds by_text manner is_cut (does deed next) s =
     MayDo manner deed s
     × ((outcome : Outcome deed) → Goes by_text deed outcome
@@ -119,9 +138,9 @@ Succeeds by_text manner is_cut (says said own) s = IsReady s × (s.due ≡ Some 
 Succeeds by_text manner is_cut (stops end) s = IsReady s × (s.due ≡ Some (rests end)) × IsGood manner is_cut (rests end)
 
 -- what the replies of these entries came to
-abbrev pub answer_by : List Entry → Option Close → Option Close
-answer_by [] due = due
-answer_by (e ∷ entries) due = answer_by entries (due_after e.command e.reply due)
+abbrev pub answer_by : Rounds → List Entry → Option Close → Option Close
+answer_by r [] due = due
+answer_by r (e ∷ entries) due = answer_by (rounds_after e.command r) entries (due_after r e.command e.reply due)
 
 abbrev pub file_by : List Entry → Option Blob → Option Blob
 file_by [] lent = lent
@@ -130,7 +149,7 @@ file_by (e ∷ entries) lent = file_by entries (lent_after e.command e.reply len
 -- what is due for what is asked for: what the replies came to, or what the pass of these entries did
 abbrev pub due_by : Intent → List Entry → Option Close
 due_by (cleans_all repos) entries = Some (of_pass (Ok (done_by entries)))
-due_by intent entries = answer_by entries None
+due_by intent entries = answer_by (rounds_for intent) entries None
 
 -- a body of this length came whole, and nothing that it says is refused
 abbrev pub BodyIsTaken : (List ℕ → Option Close) → Option ℕ → List ℕ → Type 0
@@ -156,21 +175,22 @@ AreBytesOf manner blob bytes = IsWhereTold blob.bytes bytes × (manner.head_only
 -- What came to the sink and was used of the input, which is told: the invitation and the answer, whole; or the invitation and the
 -- file, whole, or the head of its answer alone; or, where its blob has another content than was recorded, the answer that says
 -- so, or the head and a front of what was found, behind which the stream ends; or, where memory was wanted, the answer that says so,
--- its head alone to HEAD only, in front of which the invitation stands or nothing. Of the blobs that are told this says nothing.
+-- its head alone to HEAD only, in front of which the invitation stands or nothing. Of the blobs that are told, and of the remotes, this
+-- says nothing.
 pub data IsServed (manner : Manner) (invited : List ℕ) (left : List ℕ) (answer : Option Close) (lent : Option Blob) (old new : Outside)
     (end : Option End) : Type 0 where
-  answered : (said : Said) (kept : Shelf) → answer ≡ Some (speaks said) → IsSuccess (full_answer said).status
-      → new ≡ writes (invited ++ shown (answer_of said manner)) (record old { input = Some left; shelf = kept })
+  answered : (said : Said) (kept : Shelf) (asked : Sees) → answer ≡ Some (speaks said) → IsSuccess (full_answer said).status
+      → new ≡ writes (invited ++ shown (answer_of said manner)) (record old { input = Some left; shelf = kept; remote = asked })
       → end ≡ end_of manner → IsServed manner invited left answer lent old new end
-  sent : (blob : Blob) (bytes : List ℕ) (kept : Shelf) → lent ≡ Some blob → AreBytesOf manner blob bytes
-      → new ≡ writes (invited ++ file_shown manner blob bytes) (record old { input = Some left; shelf = kept })
+  sent : (blob : Blob) (bytes : List ℕ) (kept : Shelf) (asked : Sees) → lent ≡ Some blob → AreBytesOf manner blob bytes
+      → new ≡ writes (invited ++ file_shown manner blob bytes) (record old { input = Some left; shelf = kept; remote = asked })
       → end ≡ end_of manner → IsServed manner invited left answer lent old new end
-  differs : (blob : Blob) (recorded found : Print) (kept : Shelf) → lent ≡ Some blob → manner.head_only ≡ false → IsOtherContent blob recorded found
-      → new ≡ writes (invited ++ shown (answer_of (BlobDiffers recorded found) manner)) (record old { input = Some left; shelf = kept })
+  differs : (blob : Blob) (recorded found : Print) (kept : Shelf) (asked : Sees) → lent ≡ Some blob → manner.head_only ≡ false → IsOtherContent blob recorded found
+      → new ≡ writes (invited ++ shown (answer_of (BlobDiffers recorded found) manner)) (record old { input = Some left; shelf = kept; remote = asked })
       → end ≡ end_of manner → IsServed manner invited left answer lent old new end
-  file_cut : (blob : Blob) (recorded found : Print) (bytes part : List ℕ) (kept : Shelf) → lent ≡ Some blob → manner.head_only ≡ false
+  file_cut : (blob : Blob) (recorded found : Print) (bytes part : List ℕ) (kept : Shelf) (asked : Sees) → lent ≡ Some blob → manner.head_only ≡ false
       → IsOtherContent blob recorded found → found ≡ print_of bytes → IsCut blob bytes part
-      → new ≡ writes (invited ++ (shown (file_answer blob manner) ++ part)) (record old { input = Some left; shelf = kept })
+      → new ≡ writes (invited ++ (shown (file_answer blob manner) ++ part)) (record old { input = Some left; shelf = kept; remote = asked })
       → end ≡ Some stream.Closed → IsServed manner invited left answer lent old new end
   starved : (part : List ℕ) (head_only : Bool) → (head_only ≡ true → manner.head_only ≡ true) → (part ≡ []) ⊎ (part ≡ invited)
       → new.output ≡ behind old.output (part ++ shown (memory_answer head_only))

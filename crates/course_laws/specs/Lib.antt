@@ -7,3 +7,5 @@ pub mod AsPlayed
 pub mod Worked
 pub mod Refusals
 pub mod Granted
+pub mod Landed
+pub mod Verdicts

@@ -1,28 +1,45 @@
 //! What follows for served streams. No function here has code: its contract is the law.
-ghost use Rattle.std.specs.Prelude.{◌≡◌, ◌≢◌, ℕ, ◌*◌, ◌≤◌, Bool, false, length, List, ◌++◌, [], Option, Some, Result, Ok, Err, IfOk, IfErr};
+ghost use Rattle.std.specs.Prelude.{◌≡◌, ◌≢◌, ◌↔◌, ◌⊎◌, if◌then◌else◌, ℕ, ◌*◌, ◌≤◌, Bool, false, length, List, ◌++◌, ◌∷◌, [], Option, Some, None, Result, Ok, Err, IfOk, IfErr};
 ghost use Rattle.std.specs.List.{AllByRecursion};
+ghost use Rattle.fetch_plan.specs.declared.Outcome.{Outcome as Came};
+ghost use Rattle.fetch_plan.specs.declared.Outcome.TheVariants as came;
+ghost use Rattle.fetch_plan.specs.declared.Plan.{Plan};
+ghost use Rattle.outside.specs.Faults.{Rose};
 ghost use Rattle.outside.specs.Moments.{Moments};
+ghost use Rattle.remote_fetch.specs.declared.contents.Content.{Content};
 ghost use Rattle.http_wire.specs.declared.faults.HeadFault.{HeadFault};
 ghost use Rattle.http_wire.specs.Front.{Whole, front};
 ghost use Rattle.http_wire.specs.Head.{Head};
 ghost use Rattle.repo_routes.specs.Framing as framing;
 ghost use Rattle.repo_routes.specs.Intent.{Judged};
-ghost use Rattle.repo_routes.specs.Judge.{judge};
+ghost use Rattle.repo_routes.specs.Judge.{IsJudged, judge};
 ghost use Rattle.repo_routes.specs.declared.judging.Refused.{Refused};
-ghost use Rattle.repo_course.specs.Course.{course_of, refuses_head};
+ghost use Rattle.http_wire.specs.declared.answers.Status.TheVariants as status;
+ghost use Rattle.repo_course.specs.Answers.{fetch_status};
+ghost use Rattle.repo_course.specs.Course.{course_of, fetch_fault, refuses_head, said_missed};
+ghost use Rattle.repo_course.specs.declared.fetched.FetchFault.{FetchFault};
+ghost use Rattle.repo_course.specs.declared.fetched.FetchFault.TheVariants as unfetched;
+ghost use Rattle.repo_course.specs.declared.fetched.Verdict.TheVariants as verdict;
+ghost use Rattle.repo_course.specs.declared.said.Said.TheVariants as said;
 ghost use Rattle.repo_course.specs.declared.outcomes.End.{End};
 ghost use Rattle.repo_course.specs.Serving.{AllTell, Outside, Serves, Turn};
 ghost use Rattle.repo_model.specs.History.{Entry, Legal, end};
-ghost use Rattle.repo_model.specs.Reply.{no_draft};
+ghost use Rattle.repo_model.specs.Command.{land, look};
+ghost use Rattle.repo_model.specs.Data.{Blob};
+ghost use Rattle.repo_model.specs.Reply.{file, no_draft};
 ghost use Rattle.repo_model.specs.Settings.{Settings};
 ghost use Rattle.repo_model.specs.State.{State, opening};
-ghost use Rattle.course_laws.specs.AsPlayed.{BeginsAt, IsAsPlayed, IsPlayedUpTo, NoFaults, RowsTold, StoodStill};
+ghost use Rattle.repo_laws.specs.Laws.{AnyByRecursion};
+ghost use Rattle.repo_laws.specs.Looks.{IsAsked};
+ghost use Rattle.course_laws.specs.AsPlayed.{AreFetched, BeginsAt, IsAsPlayed, IsPlayedUpTo, NoFaults, RowsTold, StoodStill};
 ghost use Rattle.course_laws.specs.Complete.{IsComplete};
 ghost use Rattle.course_laws.specs.Duties.{AnswersDue, Fulfils, duty_of, duty_without_head, length_of, most_asked};
 ghost use Rattle.course_laws.specs.Endings.{EndsByCause};
 ghost use Rattle.course_laws.specs.Granted.{AllGranted, ComesWhole, IsAnsweredFor, Succeeds};
+ghost use Rattle.course_laws.specs.Landed.{AllLandWhatCame, HasOrigin};
 ghost use Rattle.course_laws.specs.LeftBehind.{IsDrawn, LeavesNothing};
 ghost use Rattle.course_laws.specs.Refusals.{IsRefusedBy};
+ghost use Rattle.course_laws.specs.Verdicts.{with_faults};
 ghost use Rattle.course_laws.specs.Worked.{IsAnswered, abc_200, created_201, last_get, put_abc};
 
 use outside::Held;
@@ -34,16 +51,16 @@ pub fn ends_have_their_causes<H: Held>()
         Serves settings (AllTell H.bytes) n entries old new ending → EndsByCause ending old new }
 {}
 
-/// A stream of at most `n` requests makes at most `n` times the commands of one: three, or where that is more one for each
-/// hosted repository and one more.
+/// A stream of at most `n` requests makes at most `n` times the commands of one: three; or where that is more one for each hosted
+/// repository and one more; or two, and two more for a proxy, or for each member of the greatest group.
 pub fn calls_are_few<H: Held>()
     ensures { (settings : Settings) (n : ℕ) (entries : List Entry) (old new : Outside) (ending : End) →
         Serves settings (AllTell H.bytes) n entries old new ending → length entries ≤ most_asked settings * n }
 {}
 
-/// A stream that is served alone leaves no draft and no lease behind: each draft that a course was given was put or given
-/// up, and each lease was given back, on every way out. The drafts and leases that stood before, of other callers, stand as
-/// they did.
+/// A stream that is served alone leaves no draft and no lease behind: each draft that a course was given was put,
+/// landed or given up, and each lease was given back, on every way out. The drafts and leases that stood before, of other
+/// callers, stand as they did.
 pub fn nothing_is_left_behind<H: Held>()
     ensures { (settings : Settings) (n : ℕ) (entries : List Entry) (start : State) (old new : Outside) (ending : End) → IsDrawn start.yard
         → Legal settings start entries → Serves settings (AllTell H.bytes) n entries old new ending → LeavesNothing start.yard (end settings start entries).yard }
@@ -55,15 +72,42 @@ pub fn own_drafts_are_there<H: Held>()
         → Legal settings start entries → Serves settings (AllTell H.bytes) n entries old new ending → AllByRecursion (λ (e : Entry). e.reply ≢ no_draft) entries }
 {}
 
-/// Each course of a request, and each refusal, has an answer for each reply that its commands can get: unless memory was
-/// wanted, it does not end in want of memory.
+/// What a stream lands is what it fetched: each landing is of a plan for which exchanges with the remote were made in the stream, and
+/// with what they came to; a file is the one that was stored, with the bytes that were fetched.
+pub fn landings_are_fetched<H: Held>()
+    ensures { (settings : Settings) (n : ℕ) (entries : List Entry) (old new : Outside) (ending : End) →
+        Serves settings (AllTell H.bytes) n entries old new ending → AllLandWhatCame old.remote new.remote entries }
+{}
+
+/// Where a turn lands that its fetch was a fault, the count of the remote's faults rose in it, or stands at the end of its type.
+pub fn remote_faults_are_counted<H: Held>()
+    ensures { (settings : Settings) (last : Bool) (entries : List Entry) (old new : Outside) (ending : Option End) →
+        Turn settings (AllTell H.bytes) last entries old new ending →
+        AnyByRecursion (λ e. (plan : Plan) × (e.command ≡ land plan came.Fault)) entries → Rose old.remote.faults new.remote.faults }
+{}
+
+/// Each file that a stream answers, which is served alone, is a row of a hosted repository that was asked; or it is of a proxy that was
+/// asked, which kept it before the stream, or for which it was fetched in it: its bytes came whole, and a side file of the remote said
+/// their digest.
+pub fn answered_files_were_fetched<H: Held>()
+    ensures { (settings : Settings) (n : ℕ) (start : State) (before later : List Entry) (e : Entry) (old new : Outside) (ending : End)
+        (id path tried : List ℕ) (lease : ℕ) (blob : Blob) →
+        Legal settings start (before ++ e ∷ later) → Serves settings (AllTell H.bytes) n (before ++ e ∷ later) old new ending →
+        e.command ≡ look id path tried → e.reply ≡ file lease blob →
+        (one : List ℕ) × IsAsked settings id one × HasOrigin start (end settings start before) one path blob old.remote new.remote }
+{}
+
+/// Each course of a request, and each refusal, has an answer for each reply that its commands can get in a state in order, and for
+/// all that its deeds can come to: unless memory was wanted, it does not end in want of memory. So a plan never comes where nothing
+/// may be fetched any more.
 pub fn courses_are_complete()
-    ensures requests { (settings : Settings) (judged : Result Judged Refused) (last : Bool) → IsComplete settings (course_of judged last) }
+    ensures requests { (settings : Settings) (judged : Result Judged Refused) (last : Bool) → IfOk judged (IsJudged settings) → IsComplete settings (course_of judged last) }
     ensures no_heads { (settings : Settings) (fault : HeadFault) → IsComplete settings (refuses_head fault) }
 {}
 
 /// Each course of a request, and each refusal, does what it owes, whatever is replied and however its deeds end: a request asks
-/// at most three commands, or for a pass one for each repository and one more, and a refusal none; it puts its draft or gives it
+/// at most three commands, or for a read two and two more for each fetch, or for a pass one for each repository and one more, and a
+/// refusal none; it puts its draft or gives it
 /// up, gives its lease back and holds it while a file is sent; it invites its body where the client waits for that, reads it by
 /// its length, once, and asks nothing but a draft before; a pass goes over the repositories that are asked for. It ends once, as is
 /// due for what its commands and deeds came to: with an answer in the manner of the request, which closes the connection where
@@ -78,9 +122,24 @@ pub fn courses_keep_their_duties()
 /// whatever is replied and however the deeds end.
 pub fn answers_have_their_causes()
     ensures requests { (judged : Result Judged Refused) (last : Bool) →
-        let duty = duty_of judged last in AnswersDue duty.by_text (course_of judged last) duty.stand.due }
+        let duty = duty_of judged last in AnswersDue duty.by_text (course_of judged last) duty.stand.rounds duty.stand.due }
     ensures no_heads { (fault : HeadFault) →
-        let duty = duty_without_head fault in AnswersDue duty.by_text (refuses_head fault) duty.stand.due }
+        let duty = duty_without_head fault in AnswersDue duty.by_text (refuses_head fault) duty.stand.rounds duty.stand.due }
+{}
+
+/// Where nothing is there, a read says what its fetches came to: the first fault, of all that were made; or where none had one, that the
+/// remote has nothing there, or for a group that nothing is there; so it does where none was made. No fault is told of a fetch where
+/// the remote gave what was asked for, or has nothing there, and 504 just where the fetch was a fault.
+pub fn first_faults_are_said()
+    ensures first { (of_group : Bool) (before more : List (Option FetchFault)) (why : FetchFault) →
+        AllByRecursion (λ (x : Option FetchFault). x ≡ None) before →
+        said_missed (with_faults (verdict.Unasked of_group) (before ++ Some why ∷ more)) ≡ said.NotFetched why }
+    ensures gone { (of_group : Bool) (whys : List (Option FetchFault)) → whys ≢ [] → AllByRecursion (λ (x : Option FetchFault). x ≡ None) whys →
+        said_missed (with_faults (verdict.Unasked of_group) whys) ≡ (if of_group then said.NotThere else said.RemoteGone) }
+    ensures unasked { (of_group : Bool) → said_missed (verdict.Unasked of_group) ≡ said.NotThere }
+    ensures faultless { (o : Came Content) → (fetch_fault o ≡ None) ↔ ((o ≡ came.Gone) ⊎ ((what : Content) × (o ≡ came.Got what))) }
+    ensures faults { (o : Came Content) → (fetch_fault o ≡ Some unfetched.Fault) ↔ (o ≡ came.Fault) }
+    ensures status { (why : FetchFault) → (fetch_status why ≡ status.GatewayTimeout) ↔ (why ≡ unfetched.Fault) }
 {}
 
 /// A request of a served stream whose head is refused asks nothing, and its answer says why, unless memory was wanted, which
@@ -104,8 +163,9 @@ pub fn courses_succeed()
 /// A request of a served stream that nothing refuses, neither its head, nor a reply to its commands, nor what its body says, and
 /// whose body came whole, gets its answer of 200 or 201, whole, where no count of the stream and the blobs rose, unless the blob
 /// of a file, which tells no bytes, has others than were recorded, which is then answered, or ends the stream behind the head and
-/// a front of them; or unless memory was wanted, by a command or for what is read or sent; then that is answered, by a head alone
-/// only to HEAD, behind a draft that was given up too. No more of the input is used than the head and the body. The input is told.
+/// a front of them, whole pieces of 65,536; or unless memory was wanted, by a command or for what is read or sent; then that is
+/// answered, by a head alone only to HEAD, behind a draft that was given up too. No more of the input is used than the head and
+/// the body. The input is told.
 pub fn granted_requests_are_answered<H: Held>()
     ensures { (settings : Settings) (last : Bool) (entries : List Entry) (old new : Outside) (ending : Option End) (input rest : List ℕ)
         (head : Head) (request : Judged) →
@@ -124,18 +184,19 @@ pub fn bodies_are_whole()
 {}
 
 /// Where no blob failed, and the records did not, a stream that is served alone has taken what is played from the machine's
-/// state and the input, up to some place: all of it, or up to where the source or the sink failed, by which it ended, or up
-/// to where memory was wanted. Only the answer that says so may stand behind that, or a front of it where the sink failed in
-/// it; it stands behind the whole answers of the requests before, and maybe `100 Continue`, and is a head alone only where the
-/// next request is a HEAD. The blobs tell their bytes, and so do the files that stand there, the clock, the input and the
-/// output.
+/// state, the input and what its fetches came to, one after another, up to some place: all of it, or up to where the source or
+/// the sink failed, by which it ended, or up to where memory was wanted. Only the answer that says so may stand behind that, or a
+/// front of it where the sink failed in it; it stands behind the whole answers of the requests before, and maybe `100 Continue`,
+/// and is a head alone only where the next request is a HEAD. The blobs tell their bytes, and so do the files that stand there,
+/// the clock, the input and the output.
 pub fn broken_is_a_front<H: Held>()
     ensures { (settings : Settings) → AllTell H.bytes →
         (n : ℕ) (entries : List Entry) (start : State) (old new : Outside) (ending : End) (input before : List ℕ) →
         Legal settings start entries → StoodStill start.faults (end settings start entries).faults →
         BeginsAt start input before old → StoodStill old.blob_faults new.blob_faults →
         Serves settings (AllTell H.bytes) n entries old new ending →
-        IsPlayedUpTo settings n (record { state = start; input = input }) before old new ending }
+        (fetched : List (Came Content)) × AreFetched fetched old.remote new.remote
+        × IsPlayedUpTo settings n (record { state = start; input = input; fetched = fetched }) before old new ending }
 {}
 
 /// Where nothing failed, such a stream has taken exactly what is played, and ended as that does; or the whole answers of the
@@ -147,7 +208,8 @@ pub fn faultless_is_played<H: Held>()
         Legal settings start entries → StoodStill start.faults (end settings start entries).faults →
         BeginsAt start input before old → NoFaults old new →
         Serves settings (AllTell H.bytes) n entries old new ending →
-        IsAsPlayed settings n (record { state = start; input = input }) before new.output ending }
+        (fetched : List (Came Content)) × AreFetched fetched old.remote new.remote
+        × IsAsPlayed settings n (record { state = start; input = input; fetched = fetched }) before new.output ending }
 {}
 
 /// Before its first turn a repository has no files, so each file that stands there is told.

@@ -6,8 +6,9 @@
 mod laws;
 
 pub use laws::{
-    answers_have_their_causes, bodies_are_whole, broken_is_a_front, calls_are_few,
-    courses_are_complete, courses_keep_their_duties, courses_succeed, ends_have_their_causes,
-    faultless_is_played, first_files_are_told, granted_requests_are_answered,
-    nothing_is_left_behind, own_drafts_are_there, refusals_are_answered, worked_exchange,
+    answered_files_were_fetched, answers_have_their_causes, bodies_are_whole, broken_is_a_front,
+    calls_are_few, courses_are_complete, courses_keep_their_duties, courses_succeed,
+    ends_have_their_causes, faultless_is_played, first_faults_are_said, first_files_are_told,
+    granted_requests_are_answered, landings_are_fetched, nothing_is_left_behind,
+    own_drafts_are_there, refusals_are_answered, remote_faults_are_counted, worked_exchange,
 };

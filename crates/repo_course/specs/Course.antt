@@ -1,5 +1,8 @@
 -- The course of a request: the commands and the acts that it makes, one after another as their results come, and its answer.
-use Rattle.std.specs.Prelude.{ℕ, Bool, true, false, ◌||◌, nat_lt, if◌then◌else◌, List, [], Option, Some, None, Result, Ok, Err}
+use Rattle.std.specs.Prelude.{ℕ, zero, suc, Bool, true, false, ◌||◌, nat_lt, if◌then◌else◌, List, [], ◌∷◌, ◌++◌, Option, Some, None, Result, Ok, Err}
+use Rattle.fetch_plan.specs.declared.Outcome.{Outcome as Came}
+use Rattle.fetch_plan.specs.declared.Outcome.TheVariants as came
+use Rattle.fetch_plan.specs.declared.Plan.{Plan}
 use Rattle.http_wire.specs.declared.faults.HeadFault.{HeadFault}
 use Rattle.http_wire.specs.declared.faults.HeadFault.TheVariants.{Broken, TooLong}
 use Rattle.http_wire.specs.Head.{Head}
@@ -8,14 +11,26 @@ use Rattle.mvn_digest.specs.Hex.{hex_text}
 use Rattle.mvn_digest.specs.Sides.{read_side}
 use Rattle.mvn_doc.specs.Reading.{reading}
 use Rattle.mvn_metadata.specs.Document.{Document}
+use Rattle.outside.specs.declared.faults.BlobFault.{BlobFault}
+use Rattle.outside.specs.declared.faults.BlobFault.TheVariants as unstored
 use Rattle.repo_model.specs.Data.{Blob, Place, repository, session}
-use Rattle.repo_model.specs.Command.{Command, look, done, may_put, put, put_side, put_doc, drop_draft, open_session, stage, commit, abort, status}
-use Rattle.repo_model.specs.Reply.{Reply, file, text, doc, missed, given_back, kind_refused, draft, no_draft, taken, same, relisted, created, not_there, differs, agreed, noted, dropped, counts, no_session, sessions_full, opened, session_full, staged, offends, missing_pom, ended, unlisted, collected, spent, no_memory, store_fault}
+use Rattle.remote_fetch.specs.declared.contents.Content.{Content}
+use Rattle.remote_fetch.specs.declared.contents.Content.TheVariants as content
+use Rattle.remote_fetch.specs.declared.fetching.Checked.{Checked}
+use Rattle.repo_model.specs.Command.{Command, look, done, may_put, put, put_side, put_doc, drop_draft, open_session, stage, commit, abort, status, land}
+use Rattle.repo_model.specs.Fetched.{Landing, got_file, got_doc}
+use Rattle.repo_model.specs.Reply.{Reply, file, text, doc, missed, given_back, kind_refused, draft, no_draft, taken, same, relisted, created, not_there, differs, agreed, noted, dropped, counts, no_session, sessions_full, opened, session_full, staged, offends, missing_pom, ended, unlisted, collected, spent, no_memory, store_fault, fetches, blocked, negative, never_asked, landed}
 use Rattle.repo_routes.specs.Framing.{is_head}
 use Rattle.repo_routes.specs.Intent as judged
 use Rattle.repo_routes.specs.Intent.{Intent, Judged}
+use Rattle.repo_routes.specs.declared.intent.Sort.{Sort}
+use Rattle.repo_routes.specs.declared.intent.Sort.TheVariants as sorts
 use Rattle.repo_routes.specs.declared.judging.Refused.{Refused}
 use Rattle.repo_course.specs.Answers.{at_end}
+use Rattle.repo_course.specs.declared.fetched.FetchFault.{FetchFault}
+use Rattle.repo_course.specs.declared.fetched.FetchFault.TheVariants as unfetched
+use Rattle.repo_course.specs.declared.fetched.Verdict.{Verdict}
+use Rattle.repo_course.specs.declared.fetched.Verdict.TheVariants as verdict
 use Rattle.repo_course.specs.declared.manner.Manner.{Manner}
 use Rattle.repo_course.specs.declared.outcomes.CleanFault.{CleanFault}
 use Rattle.repo_course.specs.declared.outcomes.CleanFault.TheVariants as clean
@@ -43,6 +58,14 @@ Body = Result (List ℕ) Took
 abbrev pub Pass : Type 0
 Pass = Result Cleaned CleanFault
 
+-- what comes of a fetch; nothing where memory was wanted
+abbrev pub Fetch : Type 0
+Fetch = Option (Came Content)
+
+-- what comes of storing a file that was fetched: a stored blob, or none
+abbrev pub Kept : Type 0
+Kept = Result Blob BlobFault
+
 -- what is done outside the machine between two commands
 pub data Deed : Type 0 where
   -- `100 Continue` is written
@@ -55,6 +78,10 @@ pub data Deed : Type 0 where
   send_file : Blob → Manner → Deed
   -- a pass over these repositories
   clean_all : (repos : List (List ℕ)) → Deed
+  -- a file or a document is fetched of a remote
+  fetch : Plan → Deed
+  -- a file that was fetched is stored under a draft
+  store_fetched : (draft : ℕ) → Checked → Deed
 
 -- what it may come to
 abbrev pub Outcome : Deed → Type 0
@@ -63,6 +90,8 @@ Outcome (take_body number count) = Stored
 Outcome (read_body count) = Body
 Outcome (send_file blob manner) = Sent
 Outcome (clean_all repos) = Pass
+Outcome (fetch plan) = Fetch
+Outcome (store_fetched number checked) = Kept
 
 -- what comes next, and then what follows each result
 pub data Course : Type 0 where
@@ -118,8 +147,18 @@ of_pass (Err clean.StoreFault) = speaks said.StoreFault
 of_pass (Err clean.BlobFault) = speaks said.BlobFault
 of_pass (Err clean.NoMemory) = speaks said.NoMemory
 
+-- what is due for a fetched file that was not stored
+abbrev pub of_store : BlobFault → Close
+of_store unstored.Failed = speaks said.BlobFault
+of_store unstored.NoMemory = speaks said.NoMemory
+
 abbrev pub gives_up : ℕ → Course → Course
 gives_up n course = asks (drop_draft n) (λ reply. course)
+
+-- a draft is given up, where there is one
+abbrev pub gives_any_up : Option ℕ → Course → Course
+gives_any_up None course = course
+gives_any_up (Some n) course = gives_up n course
 
 -- what was to be written first was not, and nothing follows
 abbrev pub cut_off : Course
@@ -172,6 +211,11 @@ said_of (counts files fading cached documents sessions) = said.Counts files fadi
 said_of spent = said.Spent
 said_of no_memory = said.NoMemory
 said_of store_fault = said.StoreFault
+said_of (fetches plan) = said.NoMemory
+said_of blocked = said.Blocked
+said_of negative = said.Negative
+said_of never_asked = said.NeverAsked
+said_of landed = said.NoMemory
 
 -- the draft of a stored blob is used up, or was given up in that turn; behind any other reply it is to be given up
 abbrev pub leaves_draft : Reply → Bool
@@ -206,14 +250,105 @@ leaves_draft (counts files fading cached documents sessions) = true
 leaves_draft spent = true
 leaves_draft no_memory = true
 leaves_draft store_fault = true
+leaves_draft (fetches plan) = true
+leaves_draft blocked = true
+leaves_draft negative = true
+leaves_draft never_asked = true
+leaves_draft landed = true
 
 -- a reply is told
 abbrev pub tells : Manner → Reply → Course
 tells manner reply = answers manner (said_of reply)
 
-abbrev pub after_look : Manner → Reply → Course
-after_look manner (file lease blob) = sends_file manner lease blob
-after_look manner reply = tells manner reply
+-- ---- a look, behind which something may be fetched and looked for again
+
+-- how many fetches may come at a repository of a sort
+abbrev pub rounds_of : Sort → ℕ
+rounds_of sorts.Hosted = 0
+rounds_of sorts.Proxy = 1
+rounds_of (sorts.Group members) = members
+
+abbrev pub is_group : Sort → Bool
+is_group sorts.Hosted = false
+is_group sorts.Proxy = false
+is_group (sorts.Group members) = true
+
+-- why nothing came of a fetch; none where the remote has nothing there, or gave it
+abbrev pub fetch_fault : {A : Type 0} → Came A → Option FetchFault
+fetch_fault (came.Got what) = None
+fetch_fault came.Gone = None
+fetch_fault (came.Refused code) = Some (unfetched.Refused code)
+fetch_fault came.NoChecksum = Some unfetched.NoChecksum
+fetch_fault (came.Differs said found) = Some (unfetched.Differs said found)
+fetch_fault came.TooLarge = Some unfetched.TooLarge
+fetch_fault (came.BadAnswer at) = Some (unfetched.BadAnswer at)
+fetch_fault (came.BadDocument at) = Some (unfetched.BadDocument at)
+fetch_fault came.Fault = Some unfetched.Fault
+
+-- what the fetches come to with one more: the first fault stays
+abbrev pub with_fault : Verdict → Option FetchFault → Verdict
+with_fault (verdict.First why) next = verdict.First why
+with_fault (verdict.Unasked of_group) (Some why) = verdict.First why
+with_fault (verdict.Gone of_group) (Some why) = verdict.First why
+with_fault (verdict.Unasked of_group) None = verdict.Gone of_group
+with_fault (verdict.Gone of_group) None = verdict.Gone of_group
+
+-- what is answered where nothing is there, by what the fetches came to
+abbrev pub said_missed : Verdict → Said
+said_missed (verdict.Unasked of_group) = said.NotThere
+said_missed (verdict.Gone of_group) = if of_group then said.NotThere else said.RemoteGone
+said_missed (verdict.First why) = said.NotFetched why
+
+-- what follows a look, by what the fetches before it came to, and what follows a plan
+abbrev pub after_look : Manner → Verdict → (Plan → Course) → Reply → Course
+after_look manner so_far behind (file lease blob) = sends_file manner lease blob
+after_look manner so_far behind missed = answers manner (said_missed so_far)
+after_look manner so_far behind (fetches plan) = behind plan
+after_look manner so_far behind reply = tells manner reply
+
+-- once a fetch has landed its path is looked at again; where it has not, its draft is given up
+abbrev pub after_land : Manner → Option ℕ → Course → Reply → Course
+after_land manner held again landed = again
+after_land manner held again reply = gives_any_up held (tells manner reply)
+
+abbrev pub lands : Manner → Plan → Course → Landing → Course
+lands manner plan again outcome = asks (land plan outcome) (after_land manner plan.draft again)
+
+-- a fetched file that is stored lands, and the draft of another is given up
+abbrev pub after_store : Manner → Plan → Course → Kept → Course
+after_store manner plan again (Ok blob) = lands manner plan again (came.Got (got_file blob))
+after_store manner plan again (Err why) = gives_any_up plan.draft (closes manner (of_store why))
+
+-- a file is fetched under a draft alone
+abbrev pub stores : Manner → Plan → Course → Checked → Option ℕ → Course
+stores manner plan again checked (Some n) = does (store_fetched n checked) (after_store manner plan again)
+stores manner plan again checked None = without_memory manner
+
+-- a file is stored before it lands, and all else lands as it is
+abbrev pub fetched : Manner → Plan → Course → Came Content → Course
+fetched manner plan again (came.Got (content.File checked)) = stores manner plan again checked plan.draft
+fetched manner plan again (came.Got (content.Doc document)) = lands manner plan again (came.Got (got_doc document))
+fetched manner plan again came.Gone = lands manner plan again came.Gone
+fetched manner plan again (came.Refused code) = lands manner plan again (came.Refused code)
+fetched manner plan again came.NoChecksum = lands manner plan again came.NoChecksum
+fetched manner plan again (came.Differs said found) = lands manner plan again (came.Differs said found)
+fetched manner plan again came.TooLarge = lands manner plan again came.TooLarge
+fetched manner plan again (came.BadAnswer at) = lands manner plan again (came.BadAnswer at)
+fetched manner plan again (came.BadDocument at) = lands manner plan again (came.BadDocument at)
+fetched manner plan again came.Fault = lands manner plan again came.Fault
+
+-- what follows a fetch: it lands, and then comes what follows the fault that it adds, if any
+abbrev pub after_fetch : Manner → Plan → (Option FetchFault → Course) → Fetch → Course
+after_fetch manner plan again None = gives_any_up plan.draft (without_memory manner)
+after_fetch manner plan again (Some outcome) = fetched manner plan (again (fetch_fault outcome)) outcome
+
+-- A look, behind which so many fetches may come, each of a member that is not among those tried. No plan comes where none may.
+abbrev pub looks : Manner → ℕ → (repo path tried : List ℕ) → Verdict → Course
+looks manner zero repo path tried so_far =
+    asks (look repo path tried) (after_look manner so_far (λ plan. gives_any_up plan.draft (without_memory manner)))
+looks manner (suc n) repo path tried so_far =
+    asks (look repo path tried)
+    (after_look manner so_far (λ plan. does (fetch plan) (after_fetch manner plan (λ why. looks manner n repo path (tried ++ plan.member ∷ []) (with_fault so_far why)))))
 
 -- what follows a file's body that was put or staged
 abbrev pub after_put : ℕ → Manner → Reply → Course
@@ -263,7 +398,7 @@ after_document place path manner (Err fault) = closes manner (of_fault fault)
 
 -- the course by what a request asks for, which expects `100 Continue` before its body or not
 abbrev pub course_for : Manner → Bool → Intent → Course
-course_for manner expects (judged.reads repo path) = asks (look repo path []) (after_look manner)
+course_for manner expects (judged.reads repo path sort) = looks manner (rounds_of sort) repo path [] (verdict.Unasked (is_group sort))
 course_for manner expects (judged.puts_file place path length) =
     asks (may_put place path) (after_may_put place path length expects manner)
 course_for manner expects (judged.puts_side place path side length) =

@@ -1,17 +1,19 @@
 //! A course's next act, by what the last one gave.
-ghost use Rattle.std.specs.Prelude.{◌≡◌, ◌<◌, ◌+◌};
+ghost use Rattle.std.specs.Prelude.{◌≡◌, ◌<◌, ◌+◌, ◌*◌};
 ghost use Rattle.mvn_digest.specs.Hex.{hex_text};
 ghost use Rattle.mvn_digest.specs.Sides.{bytes_in};
 ghost use Rattle.repo_model.specs.Command.{done, drop_draft};
 ghost use Rattle.repo_model.specs.Shown.{shown_place, shown_reply};
 ghost use Rattle.repo_course.specs.declared.manner.Manner.{Manner as AnyManner};
-ghost use Rattle.repo_course.specs.Acts.{after_reply, left_of, left_of_body, left_uninvited, rank_after, rank_of};
-ghost use Rattle.repo_course.specs.Course.{after_look, after_may_put, after_put, answers, asks, closes, invites, leaves_draft, of_pass, of_sent, said_of, says, tells, without_memory};
+ghost use Rattle.repo_course.specs.Acts.{after_reply, left_of, left_of_body, left_of_plan, left_uninvited, looks_next, rank_after, rank_of, rounds_left};
+ghost use Rattle.repo_course.specs.Course.{after_land, after_look, after_may_put, after_put, answers, asks, closes, gives_any_up, invites, leaves_draft, of_pass, of_sent, said_of, says, tells, without_memory};
 
-use crate::act::{Act, After, Coming, FileBody};
+use crate::act::{Act, After, Again, Coming, FileBody, Next};
+use crate::fetched::{Verdict, said_missed};
 use crate::manner::Manner;
 use crate::outcomes::{CleanFault, Cleaned, End, Sent, Took};
 use crate::said::Said;
+use fetch_plan::Plan;
 use mvn_coords::Side;
 use mvn_digest::{
     Digest, Digests, MD5_BYTES, SHA1_BYTES, SHA256_BYTES, SHA512_BYTES, SideText, side_text,
@@ -72,8 +74,19 @@ pub(crate) fn give_up<H: Held>(draft: u64, then: After) -> Act<H>
     Act::Ask(Command::Drop { draft }, then)
 }
 
+/// A draft is given up, where there is one, and then this is answered.
+pub(crate) fn give_any_up<H: Held>(manner: Manner, draft: Option<u64>, said: Said) -> Act<H>
+    ensures left { left_of manner result ≡ gives_any_up draft (answers manner said) }
+    ensures rank { rank_of result < 3 }
+{
+    match draft {
+        Some(draft) => give_up(draft, After::Say(said)),
+        None => answer(said, manner),
+    }
+}
+
 /// A digest as text.
-fn digest_text(digest: Digest) -> SideText
+pub(crate) fn digest_text(digest: Digest) -> SideText
     ensures { result ≡ hex_text (bytes_in digest) }
 {
     let none = Digests {
@@ -141,6 +154,10 @@ fn said_of<H: Held>(reply: Reply<H>) -> Said
         | Reply::Unlisted(_)
         | Reply::Collected { .. }
         | Reply::NoMemory => Said::NoMemory,
+        Reply::Blocked => Said::Blocked,
+        Reply::Negative => Said::Negative,
+        Reply::Never => Said::NeverAsked,
+        Reply::Fetch(_) | Reply::Landed => Said::NoMemory,
     }
 }
 
@@ -180,6 +197,7 @@ fn leaves_draft<H: Held>(reply: &Reply<H>) -> bool
         | Reply::Spent
         | Reply::NoMemory
         | Reply::StoreFault => true,
+        Reply::Fetch(_) | Reply::Blocked | Reply::Negative | Reply::Never | Reply::Landed => true,
     }
 }
 
@@ -191,13 +209,63 @@ fn tell<H: Held>(manner: Manner, reply: Reply<H>) -> Act<H>
     answer(said_of(reply), manner)
 }
 
-fn after_look<H: Held>(manner: Manner, reply: Reply<H>) -> Act<H>
-    ensures left { left_of manner result ≡ after_look manner (shown_reply reply) }
-    ensures shorter { rank_of result < 4 }
+/// What follows a plan: it is fetched, where a fetch may come.
+fn after_plan<H: Held>(manner: Manner, so_far: Verdict, again: Option<Again>, plan: Plan) -> Act<H>
+    ensures left { left_of manner result ≡ left_of_plan manner so_far again plan }
+    ensures shorter { rank_of result < 4 * rounds_left again + 5 }
+{
+    match again {
+        Some(again) => Act::Fetch {
+            plan,
+            so_far,
+            again,
+        },
+        None => give_any_up(manner, plan.draft, Said::NoMemory),
+    }
+}
+
+fn after_look<H: Held>(
+    manner: Manner,
+    so_far: Verdict,
+    again: Option<Again>,
+    reply: Reply<H>,
+) -> Act<H>
+    ensures left { left_of manner result ≡ after_look manner so_far (left_of_plan manner so_far again) (shown_reply reply) }
+    ensures shorter { rank_of result < 4 * rounds_left again + 5 }
 {
     match reply {
         Reply::File { lease, parcel } => Act::Send { lease, parcel },
+        Reply::Missed => answer(said_missed(so_far), manner),
+        Reply::Fetch(plan) => after_plan(manner, so_far, again, plan),
         reply => tell(manner, reply),
+    }
+}
+
+/// The next look.
+fn look_again<H: Held>(next: Next) -> Act<H>
+    ensures left { (manner : AnyManner) → left_of manner result ≡ looks_next manner next }
+    ensures rank { rank_of result ≡ 4 * rounds_left next.again + 5 }
+{
+    let Next {
+        repo,
+        path,
+        tried,
+        so_far,
+        again,
+    } = next;
+    Act::Ask(
+        Command::Look { repo, path, tried },
+        After::Look { so_far, again },
+    )
+}
+
+fn after_land<H: Held>(manner: Manner, draft: Option<u64>, next: Next, reply: Reply<H>) -> Act<H>
+    ensures left { left_of manner result ≡ after_land manner draft (looks_next manner next) (shown_reply reply) }
+    ensures shorter { rank_of result < 4 * rounds_left next.again + 6 }
+{
+    match reply {
+        Reply::Landed => look_again(next),
+        reply => give_any_up(manner, draft, said_of(reply)),
     }
 }
 
@@ -258,7 +326,7 @@ pub fn after_reply<H: Held>(manner: Manner, after: After, reply: Reply<H>) -> Ac
     ensures shorter { rank_of result < rank_after after + 1 }
 {
     match after {
-        After::Look => after_look(manner, reply),
+        After::Look { so_far, again } => after_look(manner, so_far, again, reply),
         After::Done(sent) => after_done(manner, sent),
         After::MayPut {
             place,
@@ -271,6 +339,7 @@ pub fn after_reply<H: Held>(manner: Manner, after: After, reply: Reply<H>) -> Ac
         After::Say(said) => answer(said, manner),
         After::SayUnread { said, length } => answer(said, manner.with_unread(length)),
         After::Stop(end) => Act::Stop(Some(end)),
+        After::Land { draft, next } => after_land(manner, draft, next, reply),
     }
 }
 

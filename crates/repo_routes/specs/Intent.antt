@@ -2,11 +2,12 @@
 use Rattle.std.specs.Prelude.{ℕ, Bool, List}
 use Rattle.mvn_coords.specs.declared.fault.Side.{Side}
 use Rattle.repo_model.specs.Data.{Place}
+use Rattle.repo_routes.specs.declared.intent.Sort.{Sort}
 
 -- what a request asks for; a path is decoded, and a length is that of the request's body, in bytes
 pub data Intent : Type 0 where
-  -- GET or HEAD of a file, a document or a side file
-  reads : (repo path : List ℕ) → Intent
+  -- GET or HEAD of a file, a document or a side file, at a repository of this sort
+  reads : (repo path : List ℕ) (sort : Sort) → Intent
   -- PUT of a file, in a repository or in an open session
   puts_file : (place : Place) (path : List ℕ) (length : ℕ) → Intent
   -- PUT of a side file

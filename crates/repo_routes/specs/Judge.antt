@@ -2,7 +2,7 @@
 use Rattle.std.specs.Prelude.{◌≡◌, ℕ, ◌≤◌, Bool, true, false, ◌||◌, not, IsTrue, nat_lt, if◌then◌else◌, List, map, Some, Result, Ok, Err}
 use Rattle.mvn_coords.specs.Kind.{kind}
 use Rattle.http_wire.specs.Head.{Head}
-use Rattle.repo_model.specs.Command.{is_file_path, is_place, is_there, names_document, names_something}
+use Rattle.repo_model.specs.Command.{is_file_path, is_known, is_place, is_there, names_document, names_something}
 use Rattle.repo_model.specs.Data.{repository, session}
 use Rattle.repo_model.specs.Settings.{Rule, Settings}
 use Rattle.repo_routes.specs.declared.refusal.Refusal.{Refusal}
@@ -12,7 +12,7 @@ use Rattle.repo_routes.specs.Framing.{check_host, ends_connection, expects_conti
 use Rattle.repo_routes.specs.Intent.{Intent, Judged, reads, puts_file, puts_side, puts_document, counts, cleans, opens, commits, aborts}
 use Rattle.repo_routes.specs.Numbers.{session_of}
 use Rattle.repo_routes.specs.Paths.{longest_document, longest_side, put_to, read_from, side_of}
-use Rattle.repo_routes.specs.Routes.{Route, in_repository, sessions, in_session, commit, abort, status, clean, check_method, check_repository, route_of}
+use Rattle.repo_routes.specs.Routes.{Route, in_repository, sessions, in_session, commit, abort, status, clean, check_method, check_repository, route_of, sort_of}
 use Rattle.repo_routes.specs.Steps.{◌>>=◌, ◌>>◌, need}
 use Rattle.repo_routes.specs.Target.{target_path}
 
@@ -27,7 +27,7 @@ hosted_ids settings = map (λ (rule : Rule). rule.id) settings.hosted
 -- what is asked for at a path of a repository
 unfoldable pub in_repo : Settings → Head → ℕ → List ℕ → List ℕ → Result Intent Refusal
 in_repo settings head length repo written =
-    if is_put head then put_to settings head length (repository repo) written else read_from head repo written
+    if is_put head then put_to settings head length (repository repo) written else read_from settings head repo written
 
 -- what is put into a session; nothing is read there
 unfoldable pub into_session : Settings → Head → ℕ → List ℕ → List ℕ → Result Intent Refusal
@@ -60,7 +60,7 @@ intent_of settings head = do
   length ← length_of head
   route ← route_of path
   check_repository settings route
-  check_method route head
+  check_method settings route head
   check_body head length
   intent_on settings head length route
 
@@ -98,7 +98,8 @@ judge settings head = outcome_of head (intent_of settings head)
 
 -- what every intent keeps: the repository is there, the path names what the intent says, and the body is not too long
 abbrev pub IsIntent : Settings → Intent → Type 0
-IsIntent settings (reads repo path) = IsTrue (is_there repo settings) × IsTrue (names_something (kind path))
+IsIntent settings (reads repo path sort) =
+    IsTrue (is_known repo settings) × IsTrue (names_something (kind path)) × (sort ≡ sort_of repo settings)
 IsIntent settings (puts_file place path length) =
     IsTrue (is_place place settings) × IsTrue (is_file_path path) × (length ≤ settings.max_file)
 IsIntent settings (puts_side place path side length) =

@@ -17,6 +17,7 @@ use Rattle.repo_routes.specs.declared.paths.Thing.{Thing}
 use Rattle.repo_routes.specs.declared.paths.Thing.TheVariants as thing
 use Rattle.repo_routes.specs.Framing.{is_put}
 use Rattle.repo_routes.specs.Intent.{Intent, reads, puts_file, puts_side, puts_document}
+use Rattle.repo_routes.specs.Routes.{sort_of}
 use Rattle.repo_routes.specs.Steps.{◌>>=◌, ◌>>◌, need}
 
 -- the longest side file and the longest document, in bytes
@@ -78,11 +79,11 @@ put_to settings head length place written = do
   put_at settings place path length what
 
 -- what is read at a path of a repository, as written
-unfoldable pub read_from : Head → List ℕ → List ℕ → Result Intent Refusal
-read_from head repo written = do
+unfoldable pub read_from : Settings → Head → List ℕ → List ℕ → Result Intent Refusal
+read_from settings head repo written = do
   path ← decoded head written
   thing_at head path
-  Ok (reads repo path)
+  Ok (reads repo path (sort_of repo settings))
 
 -- the side that a path is a side file of
 abbrev pub side_of : Result Kind PathFault → Option Side

@@ -4,8 +4,10 @@ use Rattle.std.specs.Option.{ok_or, option_map_or}
 use Rattle.std.specs.List.{after_first, before_first}
 use Rattle.byte_cuts.specs.Cuts.{behind}
 use Rattle.http_wire.specs.Head.{Head}
-use Rattle.repo_model.specs.Command.{is_there}
-use Rattle.repo_model.specs.Settings.{Settings}
+use Rattle.repo_model.specs.Command.{group_rule_of, is_known, is_there}
+use Rattle.repo_model.specs.Settings.{GroupRule, Settings}
+use Rattle.repo_routes.specs.declared.intent.Sort.{Sort}
+use Rattle.repo_routes.specs.declared.intent.Sort.TheVariants as sort
 use Rattle.repo_routes.specs.declared.refusal.Allow.{Allow}
 use Rattle.repo_routes.specs.declared.refusal.Allow.TheVariants.{Post, Read, ReadAndPut}
 use Rattle.repo_routes.specs.declared.refusal.Refusal.{Refusal}
@@ -97,9 +99,16 @@ route_by pattern.Abort path = option_and_then session_route (behind (codes "/api
 route_by pattern.Status path = Some status
 route_by pattern.Clean path = Some clean
 
--- a route names no repository, or one that is there; the id is taken as written
+-- of which sort the repository of an id is: hosted, or a group of so many members, and else a proxy
+unfoldable pub sort_of : List ℕ → Settings → Sort
+sort_of id settings =
+    if is_there id settings then sort.Hosted
+    else option_map_or (λ (g : GroupRule). sort.Group (length g.members)) (group_rule_of id settings) sort.Proxy
+
+-- A route names no repository, or one that is there, which has to be hosted where a session is opened for it; the id is taken as
+-- written.
 abbrev pub has_repository : Settings → Route → Bool
-has_repository settings (in_repository repo written) = is_there repo settings
+has_repository settings (in_repository repo written) = is_known repo settings
 has_repository settings (sessions repo) = is_there repo settings
 has_repository settings (in_session number written) = true
 has_repository settings (commit number) = true
@@ -110,23 +119,23 @@ has_repository settings clean = true
 unfoldable pub check_repository : Settings → Route → Result (Unit {0}) Refusal
 check_repository settings route = need (has_repository settings route) refusal.NoRepository
 
--- the methods of a route
-abbrev pub allowed : Route → Allow
-allowed (in_repository repo written) = ReadAndPut
-allowed (sessions repo) = Post
-allowed (in_session number written) = ReadAndPut
-allowed (commit number) = Post
-allowed (abort number) = Post
-allowed status = Read
-allowed clean = Post
+-- the methods of a route; nothing is put to a proxy or a group
+abbrev pub allowed : Settings → Route → Allow
+allowed settings (in_repository repo written) = if is_there repo settings then ReadAndPut else Read
+allowed settings (sessions repo) = Post
+allowed settings (in_session number written) = ReadAndPut
+allowed settings (commit number) = Post
+allowed settings (abort number) = Post
+allowed settings status = Read
+allowed settings clean = Post
 
 abbrev pub allows : Allow → Head → Bool
 allows Read head = is_read head
 allows ReadAndPut head = is_read head || is_put head
 allows Post head = is_post head
 
-unfoldable pub check_method : Route → Head → Result (Unit {0}) Refusal
-check_method route head = need (allows (allowed route) head) (refusal.Method (allowed route))
+unfoldable pub check_method : Settings → Route → Head → Result (Unit {0}) Refusal
+check_method settings route head = need (allows (allowed settings route) head) (refusal.Method (allowed settings route))
 
 -- the route as the program has it
 abbrev pub shown_route : code.Route → Route

@@ -8,7 +8,7 @@ use Rattle.repo_routes.specs.declared.judging.Refused.{Refused}
 use Rattle.repo_routes.specs.Intent.{Intent, Judged, reads, puts_file, puts_side, puts_document, counts, cleans, opens, commits, aborts}
 
 abbrev pub shown_intent : code.Intent → Intent
-shown_intent (asked.Read repo path) = reads repo path
+shown_intent (asked.Read repo path sort) = reads repo path sort
 shown_intent (asked.PutFile place path length) = puts_file (shown_place place) path length
 shown_intent (asked.PutSide place path side length) = puts_side (shown_place place) path side length
 shown_intent (asked.PutDocument place path length) = puts_document (shown_place place) path length

@@ -5,7 +5,9 @@ use Rattle.mvn_coords.specs.declared.fault.Side.TheVariants.{Sha1}
 use Rattle.http_wire.specs.declared.requests.Field.{Field}
 use Rattle.http_wire.specs.Head.{Head}
 use Rattle.repo_model.specs.Data.{repository, session}
-use Rattle.repo_model.specs.Settings.{Settings, daily}
+use Rattle.repo_model.specs.Settings.{Settings}
+use Rattle.repo_model.specs.declared.update.Update.TheVariants.{Daily}
+use Rattle.repo_routes.specs.declared.intent.Sort.TheVariants as sort
 use Rattle.repo_routes.specs.declared.judging.Refused.{Refused}
 use Rattle.repo_routes.specs.declared.refusal.Allow.TheVariants.{Post, Read, ReadAndPut}
 use Rattle.repo_routes.specs.declared.refusal.Refusal.{Refusal}
@@ -25,7 +27,7 @@ settings = record {
     host = codes "repo.example";
     port = 80;
     prefix = [];
-    update = daily;
+    update = Daily;
     negative_seconds = 3600;
     allow = codes "**" ∷ [];
     block = [];
@@ -82,6 +84,9 @@ pub record RefusesInOrder : Type 0 where
   pub route : judge settings (head (codes "DELETE") (codes "/repository/no/") (length_is (codes "5") ∷ [])) ≡ refusal NoRoute true
   pub repository : judge settings (head (codes "DELETE") (codes "/repository/no/x") (length_is (codes "5") ∷ [])) ≡ refusal NoRepository true
   pub method : judge settings (head (codes "DELETE") (codes "/repository/releases/x") (length_is (codes "5") ∷ [])) ≡ refusal (Method ReadAndPut) true
+  pub put_to_proxy : judge settings (head (codes "PUT") (codes "/repository/central/x") (length_is (codes "99999") ∷ [])) ≡ refusal (Method Read) true
+  pub put_to_group : judge settings (head (codes "PUT") (codes "/repository/all/x") (length_is (codes "99999") ∷ [])) ≡ refusal (Method Read) true
+  pub proxy_body : judge settings (head (codes "GET") (codes "/repository/central/x") (length_is (codes "5") ∷ [])) ≡ refusal UnexpectedBody true
   pub body : judge settings (head (codes "GET") (codes "/repository/releases/x") (length_is (codes "5") ∷ [])) ≡ refusal UnexpectedBody true
   pub clean_body : judge settings (head (codes "POST") (codes "/api/clean") (length_is (codes "5") ∷ [])) ≡ refusal UnexpectedBody true
   pub path : judge settings (head (codes "PUT") (codes "/repository/releases/x") (length_is (codes "99999") ∷ [])) ≡ refusal (BadPath Short) true
@@ -123,16 +128,20 @@ pub record RefusesWithoutBody : Type 0 where
   pub no_session : judge settings (head (codes "GET") (codes "/api/sessions/x/files/x") []) ≡ refusal NoSession false
   pub get_staged : judge settings (head (codes "GET") (codes "/api/sessions/1/files/x") []) ≡ refusal Unread false
   pub head_staged : judge settings (head (codes "HEAD") (codes "/api/sessions/1/files/x") []) ≡ head_refusal Unread false
-  pub proxy : judge settings (head (codes "GET") (codes "/repository/central/x") []) ≡ refusal NoRepository false
-  pub group : judge settings (head (codes "GET") (codes "/repository/all/x") []) ≡ refusal NoRepository false
+  pub of_group : judge settings (head (codes "POST") (codes "/api/repositories/all/sessions") []) ≡ refusal NoRepository false
+  pub proxy : judge settings (head (codes "GET") (codes "/repository/central/x") []) ≡ refusal (NoPath Short) false
+  pub group : judge settings (head (codes "GET") (codes "/repository/all/x") []) ≡ refusal (NoPath Short) false
+  pub post_to_proxy : judge settings (head (codes "POST") (codes "/repository/central/x") []) ≡ refusal (Method Read) false
   pub escape : judge settings (head (codes "GET") (codes "/repository/releases/%zz") []) ≡ refusal (NoPath BadSegment) false
   pub no_text : judge settings (head (codes "GET") (codes "/repository/releases/%ff") []) ≡ refusal (NoPath BadSegment) false
   pub escaped_id : judge settings (head (codes "GET") (codes "/repository/%72eleases/x") []) ≡ refusal NoRepository false
 
 -- what the requests ask for that are not refused
 pub record AsksFor : Type 0 where
-  pub file : judge settings (head (codes "GET") at_jar []) ≡ request (reads (codes "releases") jar)
-  pub no_body : judge settings (head (codes "GET") (codes "http://h/repository/releases/a%2Fb/1/b-1.jar?x") (length_is (codes "0") ∷ [])) ≡ request (reads (codes "releases") jar)
+  pub file : judge settings (head (codes "GET") at_jar []) ≡ request (reads (codes "releases") jar sort.Hosted)
+  pub no_body : judge settings (head (codes "GET") (codes "http://h/repository/releases/a%2Fb/1/b-1.jar?x") (length_is (codes "0") ∷ [])) ≡ request (reads (codes "releases") jar sort.Hosted)
+  pub file_of_proxy : judge settings (head (codes "GET") (codes "/repository/central/a/b/1/b-1.jar") []) ≡ request (reads (codes "central") jar sort.Proxy)
+  pub file_of_group : judge settings (head (codes "GET") (codes "/repository/all/a/b/1/b-1.jar") []) ≡ request (reads (codes "all") jar (sort.Group 1))
   pub status : judge settings (head (codes "GET") (codes "/api/status?x") []) ≡ request counts
   pub clean : judge settings (head (codes "POST") (codes "/api/clean") []) ≡ request (cleans (codes "releases" ∷ []))
   pub clean_without_body : judge settings (head (codes "POST") (codes "http://h/api/clean?x") (length_is (codes "0") ∷ [])) ≡ request (cleans (codes "releases" ∷ []))
@@ -140,8 +149,8 @@ pub record AsksFor : Type 0 where
   pub put_side : judge settings (head (codes "PUT") (at_jar ++ codes ".sha1") (length_is (codes "40") ∷ [])) ≡ request (puts_side (repository (codes "releases")) (jar ++ codes ".sha1") Sha1 40)
   pub put_document : judge settings (head (codes "PUT") (codes "/repository/releases/a/b/maven-metadata.xml") (length_is (codes "2001") ∷ []))
       ≡ request (puts_document (repository (codes "releases")) (codes "a/b/maven-metadata.xml") 2001)
-  pub of_head : judge settings (head (codes "HEAD") at_jar []) ≡ Ok (record { intent = reads (codes "releases") jar; head_only = true; close = false; expects = false })
-  pub old : judge settings (old_head (codes "GET") at_jar) ≡ Ok (record { intent = reads (codes "releases") jar; head_only = false; close = true; expects = false })
+  pub of_head : judge settings (head (codes "HEAD") at_jar []) ≡ Ok (record { intent = reads (codes "releases") jar sort.Hosted; head_only = true; close = false; expects = false })
+  pub old : judge settings (old_head (codes "GET") at_jar) ≡ Ok (record { intent = reads (codes "releases") jar sort.Hosted; head_only = false; close = true; expects = false })
   pub expects : judge settings (head (codes "PUT") at_jar (length_is (codes "1") ∷ field (codes "expect") (codes "100-Continue") ∷ []))
       ≡ Ok (record { intent = puts_file (repository (codes "releases")) jar 1; head_only = false; close = false; expects = true })
   pub expects_nothing : judge settings (head (codes "PUT") at_jar (length_is (codes "0") ∷ field (codes "expect") (codes "100-continue") ∷ []))

@@ -2,14 +2,24 @@ use mvn_coords::Side;
 use repo_model::Place;
 use texts::{Text, Texts};
 
+/// Of which sort a repository is that is read.
+#[derive(Clone, Copy, Debug, PartialEq, Eq)]
+pub enum Sort {
+    Hosted,
+    Proxy,
+    /// A group of so many members.
+    Group(usize),
+}
+
 /// What a request asks for. A path has no escapes, and names something of its kind; a length is that of the body, in
 /// bytes, and no longer than may be put there.
 #[derive(Drop)]
 pub enum Intent {
-    /// GET or HEAD of a file, a document or a side file.
+    /// GET or HEAD of a file, a document or a side file, at a repository of any sort.
     Read {
         repo: Text,
         path: Text,
+        sort: Sort,
     },
     /// PUT of a file, in a repository or in an open deployment session.
     PutFile {

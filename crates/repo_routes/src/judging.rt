@@ -89,7 +89,7 @@ fn in_repo(
     ensures { Gives shown_intent (spec.in_repo settings.now head.now length repo.now written.now) result }
 {
     if !is_put(head) {
-        return read_from(alloc, head, repo, written);
+        return read_from(alloc, settings, head, repo, written);
     }
     let place = Place::Repository(Text::new(alloc, repo)?);
     put_to(alloc, settings, head, length, place, written)
@@ -155,7 +155,7 @@ fn intent_of(
     let length = length_of(head)?;
     let route = routes.route_of(path)?;
     check_repository(settings, route)?;
-    check_method(route, head)?;
+    check_method(settings, route, head)?;
     check_body(head, length)?;
     intent_on(alloc, settings, head, length, route)
 }

@@ -6,7 +6,7 @@ pub fn refusals_in_order()
     ensures { RefusesInOrder }
 {}
 
-/// What a refusal of a request without a body does to its connection, and what HEAD, other letters, other kinds of
+/// What a refusal of a request without a body does to its connection, and what HEAD, other letters, other sorts of
 /// repositories and escapes make of a request.
 pub fn refusals_without_body()
     ensures { RefusesWithoutBody }

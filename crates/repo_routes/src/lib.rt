@@ -18,7 +18,7 @@ mod routes;
 mod target;
 
 pub use framing::is_head;
-pub use intent::Intent;
+pub use intent::{Intent, Sort};
 pub use judging::{Judged, Refused, hosted_ids, judge};
 pub use paths::{LONGEST_DOCUMENT, LONGEST_SIDE};
 pub use refusal::{Allow, Refusal};

@@ -9,6 +9,7 @@ use crate::fault::Fault;
 use crate::framing::is_put;
 use crate::intent::Intent;
 use crate::refusal::Refusal;
+use crate::routes::sort_of;
 use http_wire::Request;
 use mvn_coords::{Kind, PathFault, Side, kind_of};
 use percent_encoding::{DecodeError, percent_decode};
@@ -153,14 +154,16 @@ pub(crate) fn put_to(
 #[tactic(auto, unfolding(crate::specs::Paths::read_from))]
 pub(crate) fn read_from(
     alloc: Global,
+    settings: &Settings,
     head: &Request,
     repo: &str,
     written: &str,
 ) -> Result<Intent, Fault>
-    ensures { Gives shown_intent (spec.read_from head.now repo.now written.now) result }
+    ensures { Gives shown_intent (spec.read_from settings.now head.now repo.now written.now) result }
 {
     let path = decoded(alloc, head, written)?;
     thing_at(head, path.as_str())?;
+    let sort = sort_of(settings, repo);
     let repo = Text::new(alloc, repo)?;
-    Ok(Intent::Read { repo, path })
+    Ok(Intent::Read { repo, path, sort })
 }

@@ -24,7 +24,7 @@ pub enum Refusal {
     BadLength,
     /// The server has no such path.
     NoRoute,
-    /// The settings have no hosted repository of this id.
+    /// The settings have no repository of this id, or no hosted one, for which a session could be opened.
     NoRepository,
     /// The path has these methods, and the request another.
     Method(Allow),

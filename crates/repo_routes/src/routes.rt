@@ -3,16 +3,17 @@ ghost use Rattle.std.specs.Prelude.{◌≡◌, OnOk, List, ℕ, [], bytes_eq};
 ghost use Rattle.std.specs.List.{list_any};
 ghost use Rattle.std.specs.Option.{option_map};
 ghost use Rattle.matchit.specs.Seek.{first};
-ghost use Rattle.repo_model.specs.Command.{is_there};
+ghost use Rattle.repo_model.specs.Command.{group_rule_of, is_known, is_there, proxy_rule_of};
 ghost use Rattle.repo_routes.specs.Routes as spec;
 ghost use Rattle.repo_routes.specs.Steps.{result_shown};
 
 use crate::framing::{is_post, is_put, is_read};
+use crate::intent::Sort;
 use crate::refusal::{Allow, Refusal};
 use byte_cuts::text::{behind, is};
 use http_wire::Request;
 use matchit::{InsertError, Router};
-use repo_config::{HostedRule, Settings};
+use repo_config::{GroupRule, HostedRule, ProxyRule, Settings};
 use std::alloc::{AllocError, Global};
 use std::marker::Model;
 
@@ -185,23 +186,61 @@ fn is_there(settings: &Settings, repo: &str) -> bool
     is_listed(settings.hosted(), repo)
 }
 
-/// The repository that a route names has to be there.
+/// The proxy of this id.
+fn proxy_of<'a>(settings: &'a Settings, repo: &str) -> Option<&'a ProxyRule>
+    ensures { option_map (λ rule. rule.now) result ≡ proxy_rule_of repo.now settings.now }
+{
+    settings.proxies().iter().find(|rule| rule.id() == repo)
+}
+
+/// The group of this id.
+fn group_of<'a>(settings: &'a Settings, repo: &str) -> Option<&'a GroupRule>
+    ensures { option_map (λ rule. rule.now) result ≡ group_rule_of repo.now settings.now }
+{
+    settings.groups().iter().find(|rule| rule.id() == repo)
+}
+
+/// Whether the settings have a repository of any sort of this id.
+fn is_known(settings: &Settings, repo: &str) -> bool
+    ensures { result ≡ is_known repo.now settings.now }
+{
+    is_there(settings, repo)
+        || proxy_of(settings, repo).is_some()
+        || group_of(settings, repo).is_some()
+}
+
+/// Of which sort the repository of this id is, where there is one.
+#[tactic(auto, unfolding(crate::specs::Routes::sort_of))]
+pub(crate) fn sort_of(settings: &Settings, repo: &str) -> Sort
+    ensures { result ≡ spec.sort_of repo.now settings.now }
+{
+    if is_there(settings, repo) {
+        return Sort::Hosted;
+    }
+    match group_of(settings, repo) {
+        Some(group) => Sort::Group(group.members().len()),
+        None => Sort::Proxy,
+    }
+}
+
+/// The repository that a route names has to be there, and has to be hosted where a session is opened for it.
 #[tactic(auto, unfolding(crate::specs::Routes::check_repository))]
 pub(crate) fn check_repository(settings: &Settings, route: Route<'_>) -> Result<(), Refusal>
     ensures { result ≡ spec.check_repository settings.now (spec.shown_route route.entry) }
 {
     match route {
-        Route::InRepository { repo, .. } | Route::Sessions { repo } if !is_there(settings, repo) =>
-            { Err(Refusal::NoRepository) }
+        Route::InRepository { repo, .. } if !is_known(settings, repo) => Err(Refusal::NoRepository),
+        Route::Sessions { repo } if !is_there(settings, repo) => Err(Refusal::NoRepository),
         _ => Ok(()),
     }
 }
 
-/// The methods of a route.
-fn allowed(route: Route<'_>) -> Allow
-    ensures { result ≡ spec.allowed (spec.shown_route route.entry) }
+/// The methods of a route. Nothing is put to a proxy or a group.
+fn allowed(settings: &Settings, route: Route<'_>) -> Allow
+    ensures { result ≡ spec.allowed settings.now (spec.shown_route route.entry) }
 {
     match route {
+        Route::InRepository { repo, .. } if !is_there(settings, repo) => Allow::Read,
         Route::InRepository { .. } | Route::InSession { .. } => Allow::ReadAndPut,
         Route::Status => Allow::Read,
         Route::Sessions { .. } | Route::Commit { .. } | Route::Abort { .. } | Route::Clean => {
@@ -222,10 +261,14 @@ fn allows(allow: Allow, head: &Request) -> bool
 
 /// The request's method has to be one of the route's.
 #[tactic(auto, unfolding(crate::specs::Routes::check_method))]
-pub(crate) fn check_method(route: Route<'_>, head: &Request) -> Result<(), Refusal>
-    ensures { result ≡ spec.check_method (spec.shown_route route.entry) head.now }
+pub(crate) fn check_method(
+    settings: &Settings,
+    route: Route<'_>,
+    head: &Request,
+) -> Result<(), Refusal>
+    ensures { result ≡ spec.check_method settings.now (spec.shown_route route.entry) head.now }
 {
-    let allow = allowed(route);
+    let allow = allowed(settings, route);
     if allows(allow, head) {
         Ok(())
     } else {

@@ -8,6 +8,8 @@ unfolding routes_on_literals
 computed = record {
   file = refl;
   no_body = refl;
+  file_of_proxy = refl;
+  file_of_group = refl;
   status = refl;
   clean = refl;
   clean_without_body = refl;
