@@ -10,7 +10,7 @@ use Rattle.repo_routes.specs.declared.judging.Refused.{Refused}
 use Rattle.repo_course.specs.Course.{Close, Course}
 use Rattle.repo_course.specs.Serving.{Opens, clean, torn, failed, refused, unread_head, starved, served, Outside, Serves, Turn}
 use Rattle.repo_course.specs.declared.outcomes.End.{End}
-use Rattle.course_laws.specs.Duties.{Duty, Fulfils, duty_of}
+use Rattle.course_laws.specs.Duties.{Duty, Fulfils, Rounds, duty_of}
 use Rattle.course_laws.proofs.Counts.{opens-grew}
 use Rattle.course_laws.proofs.Kept.{duty_at, opens-keeps}
 use Rattle.closed_laws.specs.Streams.{AreTurns, Seen}
@@ -58,11 +58,11 @@ module _ (settings : Settings) where
 
   module _ (tells : Type 0) where
     -- the counts of a deed lie behind those before the turn's head too
-    since-head : (by_text : List ℕ → Option Close) (due : Option Close) (steps : List Step) (old mid new : Outside) (close : Close) → NoneFell old mid
-        → Why tells by_text due steps mid new close → Why tells by_text due steps old new close
-    since-head by_text due steps old mid new close grew (by_head is quiet) = by_head is quiet
-    since-head by_text due steps old mid new close grew (by_reply before behind e parts free is quiet later) = by_reply before behind e parts free is quiet later
-    since-head by_text due steps old mid new close grew (by_deed before behind deed outcome mine from seen parts free does_so first rest is quiet later) =
+    since-head : (by_text : List ℕ → Option Close) (r : Rounds) (due : Option Close) (steps : List Step) (old mid new : Outside) (close : Close) → NoneFell old mid
+        → Why tells by_text r due steps mid new close → Why tells by_text r due steps old new close
+    since-head by_text r due steps old mid new close grew (by_head is quiet) = by_head is quiet
+    since-head by_text r due steps old mid new close grew (by_reply before behind e parts free is quiet later) = by_reply before behind e parts free is quiet later
+    since-head by_text r due steps old mid new close grew (by_deed before behind deed outcome mine from seen parts free does_so first rest is quiet later) =
         by_deed before behind deed outcome mine from seen parts free does_so (fell-then old mid from grew first) rest is quiet later
 
     turn-ends : (last : Bool) (entries : List Entry) (old new : Outside) (stop : Option End) → Turn settings tells last entries old new stop
@@ -84,7 +84,7 @@ module _ (settings : Settings) where
           holds = walk.holds;
           close = walk.close;
           due = walk.due;
-          why = since-head duty.by_text duty.stand.due walk.steps old t.1 new walk.close (record { reads = grew.reads; writes = grew.writes; blobs = grew.blobs }) walk.why;
+          why = since-head duty.by_text duty.stand.rounds duty.stand.due walk.steps old t.1 new walk.close (record { reads = grew.reads; writes = grew.writes; blobs = grew.blobs; remote = grew.remote }) walk.why;
           ends = walk.ends;
         }
 

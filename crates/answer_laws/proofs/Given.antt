@@ -1,16 +1,20 @@
 -- Where a turn asks with a draft, an earlier entry of it gave the draft, and none between the two has spent it.
 use Rattle.std.proofs.Common.{◌≡◌, ◌⊎◌, inl, inr, ℕ, zero, suc, ◌==◌, ◌&&◌, not, Bool, true, false, List, [], ◌∷◌, ◌++◌, Option, Some, None, refl, sym, subst, ap, ◌∙◌, append_assoc, IsTrue}
-use Rattle.std.specs.Prelude.{if◌then◌else◌}
+use Rattle.std.specs.Prelude.{if◌then◌else◌, IsSome}
+use Rattle.fetch_plan.specs.declared.Plan.{Plan}
 use Rattle.std.specs.List.{AllByRecursion}
 use Rattle.std.proofs.lemmas.Bool.{false≢true}
 use Rattle.std.proofs.lemmas.Bool.Decides.{eqb_tells}
-use Rattle.repo_model.specs.Command.{Command, may_put, put, stage, drop_draft, unlist, collect}
-use Rattle.repo_model.specs.History.{Entry, Fits}
-use Rattle.repo_model.specs.Reply.{Reply, draft, no_draft, no_memory, store_fault, created, same, relisted, taken, staged, session_full, no_session, is_free, can_get, is_put_reply, is_stage_reply}
+use Rattle.repo_model.specs.Command.{Command, look, may_put, put, stage, drop_draft, unlist, collect, land}
+use Rattle.repo_model.specs.Effect.{Effect}
+use Rattle.repo_model.specs.Fetched.{Landing}
+use Rattle.repo_model.specs.History.{Entry, Fits, IsReply, due as due_reply, wants_memory, failed}
+use Rattle.repo_model.specs.Reply.{Reply, draft, fetches, landed, no_draft, no_memory, store_fault, created, same, relisted, taken, staged, session_full, no_session, is_free, can_get, is_put_reply, is_stage_reply}
 use Rattle.repo_model.specs.Settings.{Settings}
 use Rattle.repo_model.specs.State.{State}
+use Rattle.repo_model.specs.Turn.{is_drawn, lands, says as turn_says, turn}
 use Rattle.repo_laws.proofs.Answered.{reply-can_get}
-use Rattle.repo_laws.specs.Replies.{leaves_drafts, spends, uses_draft}
+use Rattle.repo_laws.specs.Replies.{GivesDraft, is_under, leaves_drafts, spends, uses_draft}
 use Rattle.repo_course.specs.Course.{Close, Course, asks, does, says, stops}
 use Rattle.repo_course.specs.declared.manner.Manner.{Manner}
 use Rattle.repo_course.specs.declared.outcomes.End.{End}
@@ -24,7 +28,7 @@ pub record HasGiven (entries : List Entry) (n : ℕ) : Type 0 where
   pub given : Entry
   pub mine : List Entry
   pub parts : entries ≡ first ++ given ∷ mine
-  pub draft_is : given.reply ≡ draft n
+  pub draft_is : GivesDraft n given.reply
   pub unspent : AllByRecursion (λ (x : Entry). spends n x ≡ false) mine
 
 -- an entry behind these asks with such a draft
@@ -64,11 +68,31 @@ module _ (settings : Settings) where
       pick (inl is) = is.0
       pick (inr is) = absurd (is.1 refl)
 
+  -- what lands under no draft is not told that there is none
+  land-drawn : (e : Entry) → FitsOne e → (plan : Plan) (outcome : Landing) → e.command ≡ land plan outcome → e.reply ≡ no_draft → IsSome plan.draft
+  land-drawn e fits plan outcome is none = by fits.1.reply
+    where
+      under : (drafts : List ℕ) (effects : List Effect) (held : Option ℕ) → no_draft ≡ (if is_drawn held drafts then record { reply = landed; effects = effects } else turn_says no_draft).reply → IsSome held
+      under drafts effects None is-it = absurd (cc)
+      under drafts effects (Some n) is-it = refl
+
+      by : IsReply settings fits.0 e → IsSome plan.draft
+      by (due_reply replied did) =
+          under fits.0.yard.drafts (lands fits.0 e.moment plan outcome) plan.draft (sym none ∙ replied ∙ ap (λ (c : Command). (turn settings fits.0 e.moment c).reply) is)
+      by (wants_memory replied can did) = let no : no_draft ≡ no_memory = sym none ∙ replied in absurd (cc)
+      by (failed replied can rose) = let no : no_draft ≡ store_fault = sym none ∙ replied in absurd (cc)
+
   -- only who holds a draft is told that it is none
-  held-by : (command : Command) (s : Stand) → MayAsk command s → IsTrue (can_get command no_draft) → (n : ℕ) × (s.draft ≡ Some n) × IsTrue (uses_draft n command)
-  held-by (put repo path m blob) s may can = (m, may.1, is-itself m)
-  held-by (stage at path m blob) s may can = (m, may.1, is-itself m)
-  held-by command s may can = absurd (false≢true can)
+  held-by : (command : Command) (s : Stand) → MayAsk command s → IsTrue (can_get command no_draft)
+      → ((plan : Plan) (outcome : Landing) → command ≡ land plan outcome → IsSome plan.draft) → (n : ℕ) × (s.draft ≡ Some n) × IsTrue (uses_draft n command)
+  held-by (put repo path m blob) s may can drawn = (m, may.1, is-itself m)
+  held-by (stage at path m blob) s may can drawn = (m, may.1, is-itself m)
+  held-by (land plan outcome) s may can drawn = pick plan.draft (drawn plan outcome refl) may.2
+    where
+      pick : (under : Option ℕ) → IsSome under → s.draft ≡ under → (n : ℕ) × (s.draft ≡ Some n) × IsTrue (is_under n under)
+      pick None some is = absurd (false≢true some)
+      pick (Some m) some is = (m, is, is-itself m)
+  held-by command s may can drawn = absurd (false≢true can)
 
   -- a reply by which the draft is still held has not spent it
   leaves-put : (reply : Reply) → (is_free reply ≡ true) ⊎ IsTrue (is_put_reply reply) → spends_draft reply ≡ false → leaves_drafts reply ≡ true
@@ -96,7 +120,11 @@ module _ (settings : Settings) where
 
   -- a draft that is held behind an entry was held before it, and the entry has not spent it; or the entry gave it
   abbrev Held : Command → Reply → Stand → ℕ → Type 0
-  Held command reply s n = ((s.draft ≡ Some n) × ((uses_draft n command && not (leaves_drafts reply)) ≡ false)) ⊎ (reply ≡ draft n)
+  Held command reply s n = ((s.draft ≡ Some n) × ((uses_draft n command && not (leaves_drafts reply)) ≡ false)) ⊎ GivesDraft n reply
+
+  -- what has not landed leaves its draft
+  land-held : (n : ℕ) (under held : Option ℕ) → held ≡ Some n → (held ≡ Some n) × ((is_under n under && false) ≡ false)
+  land-held n under held is = (is, elim (is_under n under) as (λ b. (b && false) ≡ false) [ true ↦ refl | false ↦ refl ])
 
   put-held : (m n : ℕ) (held : Option ℕ) (reply : Reply) (b : Bool) → spends_draft reply ≡ b → (spends_draft reply ≡ false → leaves_drafts reply ≡ true)
       → (if b then None else held) ≡ Some n → (held ≡ Some n) × (((m == n) && not (leaves_drafts reply)) ≡ false)
@@ -107,11 +135,18 @@ module _ (settings : Settings) where
   put-held m n held reply true is leaves still = absurd (cc)
 
   held-after : (command : Command) (reply : Reply) (s : Stand) (n : ℕ) → MayAsk command s → CanBe command reply → draft_after command reply s.draft ≡ Some n → Held command reply s n
-  held-after (may_put place path) (draft m) s n may can is = let same : m ≡ n = cc in inr (ap draft same)
+  held-after (may_put place path) (draft m) s n may can is = let same : m ≡ n = cc in inr same
   held-after (may_put place path) reply s n may can is = absurd (let no : s.draft ≡ None = may.1 in cc)
   held-after (put repo path m blob) reply s n may can is = inl (put-held m n s.draft reply (spends_draft reply) refl (leaves-put reply can) is)
   held-after (stage at path m blob) reply s n may can is = inl (put-held m n s.draft reply (spends_draft reply) refl (leaves-staged reply can) is)
   held-after (drop_draft m) reply s n may can is = absurd (cc)
+  held-after (look repo path tried) (fetches plan) s n may can is = inr is
+  held-after (land plan outcome) landed s n may can is = absurd (cc)
+  held-after (land plan outcome) no_draft s n may can is = inl (land-held n plan.draft s.draft is)
+  held-after (land plan outcome) no_memory s n may can is = inl (land-held n plan.draft s.draft is)
+  held-after (land plan outcome) store_fault s n may can is = inl (land-held n plan.draft s.draft is)
+  held-after (land plan outcome) reply s n may (inl free) is = absurd (false≢true free)
+  held-after (land plan outcome) reply s n may (inr can) is = absurd (false≢true can)
   held-after command reply s n may can is = inl (is, refl)
 
   -- among these entries each draft that is held was given
@@ -180,7 +215,7 @@ module _ (settings : Settings) where
     follows-ask (asks command next) (suc n) s k done (e ∷ es) fit given old new end f =
         let may : MayAsk e.command s = subst (λ c. MayAsk c s) (sym f.0) k.0 in
         let further : AreGiven (stand_after command e.reply s) (done ++ e ∷ []) = subst (λ c. AreGiven (stand_after c e.reply s) (done ++ e ∷ [])) f.0 (given-after s e done fit.0 may given) in (
-          (λ none. let held = held-by e.command s may (no-draft-by e fit.0 none) in record { number = held.0; asks = held.2; has = given held.0 held.1 }),
+          (λ none. let held = held-by e.command s may (no-draft-by e fit.0 none) (λ plan outcome is. land-drawn e fit.0 plan outcome is none) in record { number = held.0; asks = held.2; has = given held.0 held.1 }),
           follows-ask (next e.reply) n (stand_after command e.reply s) (k.1 e.reply) (done ++ e ∷ []) es fit.1 further old new end f.1,
         )
     follows-ask (does deed next) n s k done entries fit given old new end f =

@@ -1,42 +1,48 @@
 -- A course that does what it owes is followed by steps of its own, and ends as is due for the head or for just one of them.
 use Rattle.std.proofs.Common.{◌≡◌, ◌⊎◌, inl, inr, ℕ, zero, suc, List, [], ◌∷◌, ◌++◌, Option, Some, None, arith, refl, sym, subst, ap, ◌∙◌}
-use Rattle.repo_model.specs.Command.{Command, look, done, may_put, put, put_side, put_doc, drop_draft, open_session, stage, commit, abort, unlist, collect, status}
+use Rattle.repo_model.specs.Command.{Command, look, done, may_put, put, put_side, put_doc, drop_draft, open_session, stage, commit, abort, unlist, collect, status, land}
 use Rattle.repo_model.specs.History.{Entry}
-use Rattle.repo_model.specs.Reply.{Reply, draft, file}
+use Rattle.repo_model.specs.Reply.{Reply, draft, file, fetches, landed}
 use Rattle.repo_course.specs.Answers.{answer_of, memory_answer}
 use Rattle.repo_course.specs.Course.{Close, Course, Deed, Outcome, asks, does, says, stops, speaks, rests, end_of}
 use Rattle.repo_course.specs.Serving.{Does, Follows, Outside, Says}
 use Rattle.repo_course.specs.declared.manner.Manner.{Manner}
 use Rattle.repo_course.specs.declared.outcomes.End.{End}
-use Rattle.course_laws.specs.Duties.{Duty, HoldsNothing, Keeps, MayAsk, MayDo, Stand, due_after, due_done, left_by, stand_after, stand_done}
+use Rattle.course_laws.specs.Duties.{Duty, HoldsNothing, Keeps, MayAsk, MayDo, Rounds, Stand, due_after, due_done, due_planned, left_by, rounds_after, stand_after, stand_done}
 use Rattle.course_laws.proofs.Counts.{Grew, deed-grew, follows-grew}
 use Rattle.course_laws.proofs.Early.{nothing-due}
 use Rattle.answer_laws.specs.Steps.{Leads, Step, asked, did, made}
 use Rattle.answer_laws.specs.Why.{EndsBy, NoneFell, Why, by_head, by_reply, by_deed}
 
 none-fell : (old new : Outside) → Grew old new → NoneFell old new
-none-fell old new grew = record { reads = grew.reads; writes = grew.writes; blobs = grew.blobs }
+none-fell old new grew = record { reads = grew.reads; writes = grew.writes; blobs = grew.blobs; remote = grew.remote }
 
 pub fell-then : (old mid new : Outside) → NoneFell old mid → NoneFell mid new → NoneFell old new
-fell-then old mid new a b = record { reads = omega arith; writes = omega arith; blobs = omega arith }
+fell-then old mid new a b = record { reads = omega arith; writes = omega arith; blobs = omega arith; remote = omega arith }
 
 still : (o : Outside) → NoneFell o o
-still o = record { reads = omega arith; writes = omega arith; blobs = omega arith }
+still o = record { reads = omega arith; writes = omega arith; blobs = omega arith; remote = omega arith }
 
 module _ (by_text : List ℕ → Option Close) where
   -- what is due behind a step was due before it, and the step makes nothing due; or the step makes it due
-  reply-moves : (command : Command) (reply : Reply) (due : Option Close)
-      → ((due_after command reply due ≡ due) × (due_after command reply None ≡ None)) ⊎ ((close : Close) × (due_after command reply due ≡ Some close) × (due_after command reply None ≡ Some close))
-  reply-moves (look repo path tried) (file lease blob) due = inl (refl, refl)
-  reply-moves (may_put place path) (draft n) due = inl (refl, refl)
-  reply-moves (done lease) reply due = inl (refl, refl)
-  reply-moves (drop_draft n) reply due = inl (refl, refl)
-  reply-moves (unlist repo) reply due = inl (refl, refl)
-  reply-moves collect reply due = inl (refl, refl)
-  reply-moves command reply due = inr (_, refl, refl)
+  reply-moves : (r : Rounds) (command : Command) (reply : Reply) (due : Option Close)
+      → ((due_after r command reply due ≡ due) × (due_after r command reply None ≡ None)) ⊎ ((close : Close) × (due_after r command reply due ≡ Some close) × (due_after r command reply None ≡ Some close))
+  reply-moves r (look repo path tried) (file lease blob) due = inl (refl, refl)
+  reply-moves r (look repo path tried) (fetches plan) due =
+      elim r.left as (λ left. ((due_planned left due ≡ due) × (due_planned left None ≡ None)) ⊎ ((close : Close) × (due_planned left due ≡ Some close) × (due_planned left None ≡ Some close))) [
+        | zero ↦ inr (_, refl, refl)
+        | suc n ↦ inl (refl, refl)
+      ]
+  reply-moves r (may_put place path) (draft n) due = inl (refl, refl)
+  reply-moves r (done lease) reply due = inl (refl, refl)
+  reply-moves r (drop_draft n) reply due = inl (refl, refl)
+  reply-moves r (unlist repo) reply due = inl (refl, refl)
+  reply-moves r collect reply due = inl (refl, refl)
+  reply-moves r (land plan outcome) landed due = inl (refl, refl)
+  reply-moves r command reply due = inr (_, refl, refl)
 
   -- a reply that makes an end due answers a command that is asked before one is
-  free-before : (command : Command) (reply : Reply) (s : Stand) (close : Close) → MayAsk command s → due_after command reply None ≡ Some close → s.due ≡ None
+  free-before : (command : Command) (reply : Reply) (s : Stand) (close : Close) → MayAsk command s → due_after s.rounds command reply None ≡ Some close → s.due ≡ None
   free-before (look repo path tried) reply s close may is = may.0.0
   free-before (done lease) reply s close may is = absurd (cc)
   free-before (may_put place path) reply s close may is = may.0
@@ -51,19 +57,20 @@ module _ (by_text : List ℕ → Option Close) where
   free-before (unlist repo) reply s close may is = absurd may
   free-before collect reply s close may is = absurd may
   free-before status reply s close may is = may.0
+  free-before (land plan outcome) reply s close may is = may.0.0
 
-  abbrev Since : Type 0 → Option Close → List Step → Outside → Outside → Close → Type 0
-  Since tells due steps old new close = Why tells by_text due steps old new close
+  abbrev Since : Type 0 → Rounds → Option Close → List Step → Outside → Outside → Close → Type 0
+  Since tells r due steps old new close = Why tells by_text r due steps old new close
 
   module _ (tells : Type 0) where
     -- one step more before the others
     asked-first : (e : Entry) (s : Stand) (steps : List Step) (old new : Outside) (close : Close) → MayAsk e.command s
-        → Since tells (due_after e.command e.reply s.due) steps old new close → Since tells s.due (asked e ∷ steps) old new close
-    asked-first e s steps old new close may why = pick (reply-moves e.command e.reply s.due) why
+        → Since tells (rounds_after e.command s.rounds) (due_after s.rounds e.command e.reply s.due) steps old new close → Since tells s.rounds s.due (asked e ∷ steps) old new close
+    asked-first e s steps old new close may why = pick (reply-moves s.rounds e.command e.reply s.due) why
       where
-        pick : ((due_after e.command e.reply s.due ≡ s.due) × (due_after e.command e.reply None ≡ None))
-            ⊎ ((close : Close) × (due_after e.command e.reply s.due ≡ Some close) × (due_after e.command e.reply None ≡ Some close))
-            → Since tells (due_after e.command e.reply s.due) steps old new close → Since tells s.due (asked e ∷ steps) old new close
+        pick : ((due_after s.rounds e.command e.reply s.due ≡ s.due) × (due_after s.rounds e.command e.reply None ≡ None))
+            ⊎ ((close : Close) × (due_after s.rounds e.command e.reply s.due ≡ Some close) × (due_after s.rounds e.command e.reply None ≡ Some close))
+            → Since tells (rounds_after e.command s.rounds) (due_after s.rounds e.command e.reply s.due) steps old new close → Since tells s.rounds s.due (asked e ∷ steps) old new close
         pick (inl (same, silent)) (by_head is quiet) = by_head (sym same ∙ is) (silent, quiet)
         pick (inl (same, silent)) (by_reply before behind x parts free is quiet later) =
             by_reply (asked e ∷ before) behind x (ap (λ (l : List Step). asked e ∷ l) parts) (sym same ∙ free) is (silent, quiet) later
@@ -74,15 +81,15 @@ module _ (by_text : List ℕ → Option Close) where
         pick (inr (now, due, makes)) (by_reply before behind x parts free is quiet later) = absurd (cc)
         pick (inr (now, due, makes)) (by_deed before behind deed outcome mine from seen parts free does_so first rest is quiet later) = absurd (cc)
 
-    did-first : (deed : Deed) (outcome : Outcome deed) (mine : List Entry) (due : Option Close) (steps : List Step) (old seen new : Outside) (close : Close) → due ≡ None
+    did-first : (deed : Deed) (outcome : Outcome deed) (mine : List Entry) (r : Rounds) (due : Option Close) (steps : List Step) (old seen new : Outside) (close : Close) → due ≡ None
         → Does tells deed outcome mine old seen → NoneFell old seen → NoneFell seen new
-        → Since tells (due_done by_text deed outcome due) steps seen new close → Since tells due (did deed outcome mine seen ∷ steps) old new close
-    did-first deed outcome mine due steps old seen new close none does_so grew more (by_head is quiet) =
+        → Since tells r (due_done by_text deed outcome due) steps seen new close → Since tells r due (did deed outcome mine seen ∷ steps) old new close
+    did-first deed outcome mine r due steps old seen new close none does_so grew more (by_head is quiet) =
         by_deed [] steps deed outcome mine old seen refl none does_so (still old) more (ap (due_done by_text deed outcome) (sym none) ∙ is) tt quiet
-    did-first deed outcome mine due steps old seen new close none does_so grew more (by_reply before behind x parts free is quiet later) =
+    did-first deed outcome mine r due steps old seen new close none does_so grew more (by_reply before behind x parts free is quiet later) =
         by_reply (did deed outcome mine seen ∷ before) behind x (ap (λ (l : List Step). did deed outcome mine seen ∷ l) parts) none is
         (ap (due_done by_text deed outcome) (sym none) ∙ free, quiet) later
-    did-first deed outcome mine due steps old seen new close none does_so grew more (by_deed before behind other came its from then parts free did_so first rest is quiet later) =
+    did-first deed outcome mine r due steps old seen new close none does_so grew more (by_deed before behind other came its from then parts free did_so first rest is quiet later) =
         by_deed (did deed outcome mine seen ∷ before) behind other came its from then (ap (λ (l : List Step). did deed outcome mine seen ∷ l) parts) none did_so
         (fell-then old seen from grew first) rest is (ap (due_done by_text deed outcome) (sym none) ∙ free, quiet) later
 
@@ -98,7 +105,7 @@ module _ (tells : Type 0) (duty : Duty) where
     pub holds : HoldsNothing stand
     pub close : Close
     pub due : stand.due ≡ Some close
-    pub why : Why tells duty.by_text s.due steps old new close
+    pub why : Why tells duty.by_text s.rounds s.due steps old new close
     pub ends : EndsBy duty.manner stand.unread close finish to new stop
 
   walked-asks : (e : Entry) (next : Reply → Course) (s : Stand) (es : List Entry) (old new : Outside) (stop : Option End) → MayAsk e.command s
@@ -130,7 +137,7 @@ module _ (tells : Type 0) (duty : Duty) where
     holds = rest.holds;
     close = rest.close;
     due = rest.due;
-    why = did-first duty.by_text tells deed outcome mine s.due rest.steps old seen new rest.close (nothing-due duty.manner deed s may) does_so
+    why = did-first duty.by_text tells deed outcome mine s.rounds s.due rest.steps old seen new rest.close (nothing-due duty.manner deed s may) does_so
         (none-fell old seen (deed-grew tells deed outcome mine old seen does_so)) more rest.why;
     ends = rest.ends;
   }

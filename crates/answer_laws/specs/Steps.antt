@@ -4,7 +4,7 @@ use Rattle.repo_model.specs.History.{Entry}
 use Rattle.repo_model.specs.Reply.{Reply}
 use Rattle.repo_course.specs.Course.{Close, Course, Deed, Outcome, asks, does}
 use Rattle.repo_course.specs.Serving.{Does, Outside}
-use Rattle.course_laws.specs.Duties.{Duty, MayAsk, MayDo, Stand, due_after, due_done, stand_after, stand_done}
+use Rattle.course_laws.specs.Duties.{Duty, MayAsk, MayDo, Rounds, Stand, due_after, due_done, rounds_after, stand_after, stand_done}
 
 -- a command by its entry; or a deed, its outcome, the entries of the commands that it asked, and what is seen behind it
 pub data Step : Type 0 where
@@ -17,10 +17,19 @@ made [] = []
 made (asked e ∷ steps) = e ∷ made steps
 made (did deed outcome mine seen ∷ steps) = mine ++ made steps
 
+-- what a look may still come to behind a step, and behind several
+abbrev pub rounds_by : Step → Rounds → Rounds
+rounds_by (asked e) r = rounds_after e.command r
+rounds_by (did deed outcome mine seen) r = r
+
+abbrev pub rounds_behind : List Step → Rounds → Rounds
+rounds_behind [] r = r
+rounds_behind (step ∷ steps) r = rounds_behind steps (rounds_by step r)
+
 -- what is due behind a step, where this was due before it
-abbrev pub due_by : (List ℕ → Option Close) → Step → Option Close → Option Close
-due_by by_text (asked e) due = due_after e.command e.reply due
-due_by by_text (did deed outcome mine seen) due = due_done by_text deed outcome due
+abbrev pub due_by : (List ℕ → Option Close) → Rounds → Step → Option Close → Option Close
+due_by by_text r (asked e) due = due_after r e.command e.reply due
+due_by by_text r (did deed outcome mine seen) due = due_done by_text deed outcome due
 
 -- These are steps of a course, one after another: each is its next one and may be made where it stands, and a deed did what is seen
 -- behind it. They lead from a course, where it stands and what is seen to these.

@@ -3,11 +3,11 @@
 use Rattle.std.specs.Prelude.{◌≡◌, ℕ, ◌≤◌, Bool, false, List, [], ◌∷◌, ◌++◌, Option, Some, None, IsTrue}
 use Rattle.std.specs.List.{AllByRecursion}
 use Rattle.repo_model.specs.History.{Entry, Fits, end}
-use Rattle.repo_model.specs.Reply.{draft, no_draft, is_free}
+use Rattle.repo_model.specs.Reply.{no_draft, is_free}
 use Rattle.repo_model.specs.Settings.{Settings}
 use Rattle.repo_model.specs.State.{State}
 use Rattle.repo_laws.specs.Causes.{Cause}
-use Rattle.repo_laws.specs.Replies.{is_refusal, spends, uses_draft}
+use Rattle.repo_laws.specs.Replies.{GivesDraft, is_refusal, spends, uses_draft}
 use Rattle.repo_routes.specs.Framing.{is_head}
 use Rattle.repo_routes.specs.Judge.{judge}
 use Rattle.repo_course.specs.Answers.{answer_of, at_end, memory_answer}
@@ -17,10 +17,10 @@ use Rattle.repo_course.specs.declared.manner.Manner.{Manner}
 use Rattle.repo_course.specs.declared.outcomes.End.{End}
 use Rattle.repo_course.specs.declared.outcomes.End.TheVariants as stream
 use Rattle.repo_course.specs.declared.said.Said.TheVariants as said
-use Rattle.course_laws.specs.Duties.{Duty, HoldsNothing, Stand, due_after, due_done, duty_of, duty_without_head, manner_of, to_end}
+use Rattle.course_laws.specs.Duties.{Duty, HoldsNothing, Rounds, Stand, due_after, due_done, rounds_after, duty_of, duty_without_head, manner_of, to_end}
 use Rattle.closed_laws.specs.Streams.{Seen}
 use Rattle.answer_laws.specs.Marked.{Mark, entries_of, others_entry, own_entry, own_of}
-use Rattle.answer_laws.specs.Steps.{Leads, Step, asked, did, due_by, made}
+use Rattle.answer_laws.specs.Steps.{Leads, Step, asked, did, due_by, made, rounds_behind, rounds_by}
 
 -- A turn asks with a draft that an earlier one of its own entries was given, and none of the caller's own since then has spent that; an
 -- entry of another has, in the history before it. `past` are the caller's entries before the turn, `done` those of the turn before it.
@@ -30,7 +30,7 @@ pub record IsSpentByAnother (past done : List Entry) (e : Entry) (before : List 
   pub given : Entry
   pub since : List Entry
   pub parts : done ≡ first ++ given ∷ since
-  pub draft_is : given.reply ≡ draft number
+  pub draft_is : GivesDraft number given.reply
   pub asks : IsTrue (uses_draft number e.command)
   pub unspent : AllByRecursion (λ (x : Entry). spends number x ≡ false) since
   pub earlier : List Mark
@@ -49,24 +49,26 @@ pub record NoneFell (old new : Outside) : Type 0 where
   pub reads : old.read_faults ≤ new.read_faults
   pub writes : old.write_faults ≤ new.write_faults
   pub blobs : old.blob_faults ≤ new.blob_faults
+  pub remote : old.remote.faults ≤ new.remote.faults
 
 -- these steps make no end due
-abbrev pub AreSilent : (List ℕ → Option Close) → List Step → Type 0
-AreSilent by_text steps = AllByRecursion (λ (step : Step). due_by by_text step None ≡ None) steps
+abbrev pub AreSilent : (List ℕ → Option Close) → Rounds → List Step → Type 0
+AreSilent by_text r [] = Unit {0}
+AreSilent by_text r (step ∷ steps) = (due_by by_text r step None ≡ None) × AreSilent by_text (rounds_by step r) steps
 
 -- Why an end is due behind the steps of a turn, where this was due for its head: for the head, and no step makes another due; or for
--- just one of the steps, a reply that is answered, or a deed that failed, was the last one or refuses what it read. A deed's counts of
--- faults lie between those before the turn and behind it.
-pub data Why (tells : Type 0) (by_text : List ℕ → Option Close) (due : Option Close) (steps : List Step) (old new : Outside) (close : Close) : Type 0 where
-  by_head : due ≡ Some close → AreSilent by_text steps → Why tells by_text due steps old new close
+-- just one of the steps, a reply that is answered, or a deed that failed, was the last one or refuses what it read. A reply that nothing is
+-- there is answered by what the fetches before it came to. A deed's counts of faults lie between those before the turn and behind it.
+pub data Why (tells : Type 0) (by_text : List ℕ → Option Close) (r : Rounds) (due : Option Close) (steps : List Step) (old new : Outside) (close : Close) : Type 0 where
+  by_head : due ≡ Some close → AreSilent by_text r steps → Why tells by_text r due steps old new close
   by_reply : (before behind : List Step) (e : Entry) → steps ≡ before ++ asked e ∷ behind → due ≡ None
-      → due_after e.command e.reply None ≡ Some close → AreSilent by_text before → AreSilent by_text behind
-      → Why tells by_text due steps old new close
+      → due_after (rounds_behind before r) e.command e.reply None ≡ Some close → AreSilent by_text r before
+      → AreSilent by_text (rounds_after e.command (rounds_behind before r)) behind → Why tells by_text r due steps old new close
   by_deed : (before behind : List Step) (deed : Deed) (outcome : Outcome deed) (mine : List Entry) (from seen : Outside)
       → steps ≡ before ++ did deed outcome mine seen ∷ behind → due ≡ None
       → Does tells deed outcome mine from seen → NoneFell old from → NoneFell seen new
-      → due_done by_text deed outcome None ≡ Some close → AreSilent by_text before → AreSilent by_text behind
-      → Why tells by_text due steps old new close
+      → due_done by_text deed outcome None ≡ Some close → AreSilent by_text r before → AreSilent by_text (rounds_behind before r) behind
+      → Why tells by_text r due steps old new close
 
 -- How a course ends by what is due, where this body is not read: with an answer in the manner of the request, or with none, and then
 -- the connection goes on only where the body was read.
@@ -106,7 +108,7 @@ module _ (settings : Settings) where
     pub holds : HoldsNothing stand
     pub close : Close
     pub due : stand.due ≡ Some close
-    pub why : Why tells (owed opens).by_text (owed opens).stand.due steps old new close
+    pub why : Why tells (owed opens).by_text (owed opens).stand.rounds (owed opens).stand.due steps old new close
     pub ends : EndsBy (owed opens).manner stand.unread close finish to new stop
 
   module _ (tells : Type 0) (start : State) (history : List Mark) where
@@ -121,7 +123,7 @@ module _ (settings : Settings) where
       pub lie : own_of before ≡ past ++ done
       pub follow : own_of behind ≡ later
       pub fits : Fits settings (end settings start (entries_of before)) e
-      pub cause : is_free e.reply ≡ false → IsTrue (is_refusal e.reply) → Cause (end settings start (entries_of before)) e.command e.reply
+      pub cause : is_free e.reply ≡ false → IsTrue (is_refusal e.reply) → Cause settings (end settings start (entries_of before)) e.moment e.command e.reply
       pub spent : e.reply ≡ no_draft → IsSpentByAnother past done e before
 
     -- so does each of a turn's entries, between the caller's before it and behind it

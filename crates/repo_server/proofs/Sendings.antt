@@ -16,7 +16,7 @@ use Rattle.outside.proofs.ReadingLemmas.{finds_same}
 use Rattle.repo_model.specs.declared.print.Print.{Print}
 use Rattle.repo_model.specs.Data.{Blob}
 use Rattle.outside.proofs.ToldLemmas.{behind-behind}
-use Rattle.repo_course.specs.Serving.{IsContentOf, IsContentSoFar, IsCut, IsFrontOf, IsOtherContent, Outside, print_of, writes}
+use Rattle.repo_course.specs.Serving.{ArePieces, IsContentOf, IsContentSoFar, IsCut, IsFrontOf, IsOtherContent, Outside, print_of, writes}
 use Rattle.repo_server.specs.Sending.{IsBeingSent}
 
 empty : (xs : List ℕ) → length xs ≡ 0 → xs ≡ []
@@ -31,8 +31,8 @@ unread-none (Some bytes) count digests = (refl, λ is. absurd (false≢true is))
 module _ (blob : Blob) (old new : ReadingState) (recorded : old.recorded ≡ blob.print.length) (digests : old.digests ≡ blob.print.digests)
     (unread : IsUnread blob.bytes old) (goes : GoesOn blob.bytes old new) where
   -- a piece was given
-  pub being-sent : GivesPiece old new → (new.is_whole ≡ true → IsAll blob.bytes new) → IsBeingSent blob new
-  being-sent gives whole = record {
+  pub being-sent : (old.given < old.recorded → ArePieces old.given) → GivesPiece old new → (new.is_whole ≡ true → IsAll blob.bytes new) → IsBeingSent blob new
+  being-sent before gives whole = record {
     recorded = goes.recorded ∙ recorded;
     digests = goes.digests ∙ digests;
     unread = goes.told_as unread;
@@ -42,8 +42,12 @@ module _ (blob : Blob) (old new : ReadingState) (recorded : old.recorded ≡ blo
     taken = gives.read;
     within = gives.within;
     left = λ off. more_left off gives.looked;
+    pieces = λ left. one-more (before (omega (arith, left, gives.given, goes.recorded))) (gives.full left);
   }
     where
+      one-more : ArePieces old.given → length new.piece ≡ 65536 → ArePieces new.given
+      one-more pieces full = (pieces.0 + 1, omega (arith, pieces.1, full, gives.given))
+
       more_left : new.is_whole ≡ false → ((new.given < length new.message) × (length new.message ≤ new.recorded)) ⊎ IsWhole new → new.given < new.recorded
       more_left off (inl more) = omega (arith, more.0, more.1)
       more_left off (inr all) = absurd (false≢true (sym off ∙ all.is_whole))
@@ -110,14 +114,16 @@ some-bytes None r unread = (r.message, tt, ([], sym (append-nil r.message)))
 some-bytes (Some b) r unread =
     (b, refl, (drop (length r.message) b, sym (take-append-drop (length r.message) b) ∙ ap (λ (xs : List ℕ). xs ++ drop (length r.message) b) unread.0))
 
--- some was written, and less than is recorded
+-- some was written, and less than is recorded: whole pieces
 pub is-cut : (blob : Blob) (r : ReadingState) (bytes : List ℕ) → IsBeingSent blob r → r.is_whole ≡ false → IsFrontOf r.message bytes
     → IsCut blob bytes (take r.given r.message)
 is-cut blob r bytes sent off front =
-    let long = length-take-le r.given r.message sent.taken in (
+    let long = length-take-le r.given r.message sent.taken in
+    let pieces : ArePieces r.given = sent.pieces (sent.left off) in (
       part-front r.given r.message front.0 bytes front.1,
       omega (arith, long, sent.some),
       omega (arith, long, sent.left off, sent.recorded),
+      (pieces.0, long ∙ pieces.1),
     )
 
 -- bytes with this fingerprint, those that are told; or, where none are, fewer than it says

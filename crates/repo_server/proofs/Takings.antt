@@ -20,6 +20,9 @@ use Rattle.repo_course.specs.declared.outcomes.Took.TheVariants as took
 use Rattle.outside.specs.declared.parcels.Parcel.{Parcel}
 use Rattle.outside.specs.declared.stores.Held.{Ghosts}
 use Rattle.repo_course.specs.Acts.{shown_stored}
+use Rattle.repo_course.specs.Course.{Stored}
+use Rattle.repo_course.specs.Meets.{IsStored}
+use Rattle.repo_model.specs.declared.print.Print.{Print}
 use Rattle.repo_course.specs.Serving.{AllTell, Breaks, Fails, HasFirst, IsUsed, Outside, ReadsBody, Takes, UsesFront, with_body}
 use Rattle.repo_server.specs.Taking.{FailsIn, ahead}
 
@@ -263,3 +266,8 @@ pub pen-tells : (blobs : Option Numbered) (first pen : Option (List ℕ)) (body 
     → IfSome blobs (λ _. pen ≡ Some body)
 pen-tells None first pen body tells is = tt
 pen-tells (Some them) first pen body tells is = is ∙ ap (λ (t : Option (List ℕ)). behind t body) tells
+
+-- a body that was taken is stored under its draft, by its length
+pub taken-stored : (tells : Type 0) (draft count : ℕ) (stored : Stored) (old new : Outside) → Takes tells draft count stored old new → IsStored draft count stored
+taken-stored tells draft count (Ok blob) old new t = (t.2, ap (λ (p : Print). p.length) t.3 ∙ t.1.1)
+taken-stored tells draft count (Err fault) old new t = tt

@@ -8,6 +8,7 @@ ghost use Rattle.turn_lock.specs.History.{IsStep};
 ghost use Rattle.turn_lock.specs.Seats.{opening, IsSeatOf};
 
 use outside::{Blobs, Stream, Tells};
+use outside_remote::Remote;
 use repo_config::Settings;
 use repo_course::End;
 use repo_model::{Command, Reply};
@@ -24,6 +25,7 @@ use turn_seats::{Asker, Repository};
 /// all that the seat had seen. The settings are those of the repository.
 pub fn serve_with<
     B: Blobs,
+    R: Remote,
     T: Repository<Call = Command<B::Held>, Reply = Reply<B::Held>>,
     S: Stream,
     W: Wait,
@@ -35,6 +37,7 @@ pub fn serve_with<
     turns: &Turns<T>,
     seat: Seat<T>,
     blobs: &mut B,
+    remote: &mut R,
     stream: &mut S,
 ) -> (Seat<T>, End)
     requires asked { (call : _) → T.sight.asked call ≡ shown_command call }
@@ -44,11 +47,11 @@ pub fn serve_with<
     ensures serves { (held : List ℕ) × (entries : List Entry)
         × Gained T.sight (IsStep T.fixed T.may_ask T.turned) turns.now seat entries result.0
         × Serves settings.now (AllTell B.Held.bytes) 1000 entries
-        (outside ⟦<S as Tells>⟧ [] stream.old (B.faults blobs.old) (B.shelf blobs.old))
-        (outside ⟦<S as Tells>⟧ held stream.new (B.faults blobs.new) (B.shelf blobs.new)) result.1 }
+        (outside ⟦<S as Tells>⟧ [] stream.old (B.faults blobs.old) (B.shelf blobs.old) (R.sees remote.old))
+        (outside ⟦<S as Tells>⟧ held stream.new (B.faults blobs.new) (B.shelf blobs.new) (R.sees remote.new)) result.1 }
 {
     let mut asker = Asker { rt, turns, seat };
-    let end = serve_stream_by(alloc, settings, routes, &mut asker, blobs, stream);
+    let end = serve_stream_by(alloc, settings, routes, &mut asker, blobs, remote, stream);
     let Asker {
         rt: _,
         turns: _,

@@ -9,7 +9,7 @@ use Rattle.outside.specs.declared.readings.Step.{Step}
 use Rattle.outside.specs.declared.readings.Step.TheVariants.{Piece, End, Differs}
 use Rattle.repo_model.specs.declared.print.Print.{Print}
 use Rattle.repo_model.specs.Shown.{shown_parcel}
-use Rattle.repo_course.specs.Serving.{IsFrontOf, IsOtherContent, Outside, outside, writes}
+use Rattle.repo_course.specs.Serving.{ArePieces, IsFrontOf, IsOtherContent, Outside, outside, writes}
 use Rattle.repo_server.proofs.Fronts.{front_of_head}
 use Rattle.repo_server.proofs.Sendings.{all-sent, being-sent, content-so-far, first-unread, front-behind, front-of-front, none-given, other-found, part-on}
 use Rattle.repo_server.proofs.files.send_reading.Goals as goal
@@ -23,10 +23,11 @@ send_rest-requires g c =
     let gives : Gives old new Piece = subst (λ (step : Step). Gives old new step) c.in-Ok-Piece.field-0-is said.gives in
     let out : IsReadOut blob.bytes old new Piece = subst (λ (step : Step). IsReadOut blob.bytes old new step) c.in-Ok-Piece.field-0-is said.told in
     being-sent blob old new (ap (λ (r : ReadingState). r.recorded) c.requires) (ap (λ (r : ReadingState). r.digests) c.requires)
-    (first-unread blob.bytes old blob.print.length blob.print.digests c.requires) said.goes gives out
+    (first-unread blob.bytes old blob.print.length blob.print.digests c.requires) said.goes
+    (λ _. subst (λ (r : ReadingState). ArePieces r.given) (sym c.requires) (0, refl)) gives out
 
 pub returns-in-Ok : goal.returns-in-Ok
-returns-in-Ok g c = λ held.
+returns-in-Ok g c = λ held remote.
     let said = c.in-Ok-Piece.ensures in
     let wrote = c.in-Ok.ensures in
     let old = c.args.reading.now in
@@ -38,7 +39,7 @@ returns-in-Ok g c = λ held.
     let piece = c.piece.ensures ∙ ap (λ (b : List ℕ). b ++ new.piece) (sym zero)
     ∙ part-on blob old new (ap (λ (r : ReadingState). r.recorded) c.requires) (ap (λ (r : ReadingState). r.digests) c.requires)
     (first-unread blob.bytes old blob.print.length blob.print.digests c.requires) said.goes taken gives in
-    c.send_rest.ensures held c.args.head.items (outside g.O.Tells held c.args.sink.now (g.B.Blobs.faults c.args.blobs.now) (g.B.Blobs.shelf c.args.blobs.now))
+    c.send_rest.ensures held c.args.head.items remote (outside g.O.Tells held c.args.sink.now (g.B.Blobs.faults c.args.blobs.now) (g.B.Blobs.shelf c.args.blobs.now) remote)
     (λ i. record {
       input = unread held (wrote.left i);
       output = (wrote.whole ∙ ap (λ (b : List ℕ). behind (g.O.Tells.taken c.args.sink.now) (c.args.head.items ++ b)) piece) i;
@@ -46,10 +47,11 @@ returns-in-Ok g c = λ held.
       write_faults = wrote.cause i;
       blob_faults = said.cause i;
       shelf = said.kept i;
+      remote = remote;
     })
 
 pub returns-in-Ok-Differs : goal.returns-in-Ok-Differs
-returns-in-Ok-Differs g c = λ held.
+returns-in-Ok-Differs g c = λ held remote.
     let said = c.in-Ok-Differs.ensures in
     let old = c.args.reading.now in
     let new = c.next.new.self in
@@ -62,12 +64,12 @@ returns-in-Ok-Differs g c = λ held.
       subst (λ (p : Print). IsOtherContent blob p found) (sym c.recorded.ensures)
           (other-found blob old new (ap (λ (r : ReadingState). r.recorded) c.requires) (ap (λ (r : ReadingState). r.digests) c.requires)
           (first-unread blob.bytes old blob.print.length blob.print.digests c.requires) said.goes n d c.args.parcel.now.described gives.0 gives.1 out),
-      λ i. outside g.O.Tells held c.args.sink.now (said.cause i) (said.kept i),
+      λ i. outside g.O.Tells held c.args.sink.now (said.cause i) (said.kept i) remote,
     )
 
 -- the sink fails in the head or in the first piece
 pub returns-in-Ok-Piece : goal.returns-in-Ok-Piece
-returns-in-Ok-Piece g c = λ held.
+returns-in-Ok-Piece g c = λ held remote.
     let said = c.in-Ok-Piece.ensures in
     let wrote = c.in-Err-write_both.ensures in
     let old = c.args.reading.now in
@@ -97,12 +99,13 @@ returns-in-Ok-Piece g c = λ held.
         write_faults = faults;
         blob_faults = said.cause i;
         shelf = said.kept i;
+        remote = remote;
       },
     )
 
 -- an empty file is its head
 pub returns-in-Ok-write_all : goal.returns-in-Ok-write_all
-returns-in-Ok-write_all g c = λ held.
+returns-in-Ok-write_all g c = λ held remote.
     let said = c.in-Ok-End.ensures in
     let wrote = c.in-Ok-write_all.ensures in
     let old = c.args.reading.now in
@@ -124,11 +127,12 @@ returns-in-Ok-write_all g c = λ held.
         write_faults = wrote.cause i;
         blob_faults = said.cause i;
         shelf = said.kept i;
+        remote = remote;
       },
     )
 
 pub returns-in-Ok-End : goal.returns-in-Ok-End
-returns-in-Ok-End g c = λ held.
+returns-in-Ok-End g c = λ held remote.
     let said = c.in-Ok-End.ensures in
     let wrote = c.in-Err-write_all.ensures in
     let old = c.args.reading.now in
@@ -155,5 +159,6 @@ returns-in-Ok-End g c = λ held.
         write_faults = faults;
         blob_faults = said.cause i;
         shelf = said.kept i;
+        remote = remote;
       },
     )

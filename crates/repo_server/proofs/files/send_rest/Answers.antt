@@ -22,9 +22,9 @@ pieces-preserved g c =
     let blob = shown_parcel {G = g.B.Held.Held} c.args.parcel.now in
     let gives : Gives old new Piece = subst (λ (step : Step). Gives old new step) c.in-Ok-Piece.field-0-is said.gives in
     let out : IsReadOut blob.bytes old new Piece = subst (λ (step : Step). IsReadOut blob.bytes old new step) c.in-Ok-Piece.field-0-is said.told in record {
-      sent = being-sent blob old new kept.sent.recorded kept.sent.digests kept.sent.unread said.goes gives out;
-      written = λ held head before is.
-          wrote-on (outside g.O.Tells held c.pieces.sink (g.B.Blobs.faults c.pieces.blobs) (g.B.Blobs.shelf c.pieces.blobs)) _ before head (take old.given old.message) new.piece _
+      sent = being-sent blob old new kept.sent.recorded kept.sent.digests kept.sent.unread said.goes kept.sent.pieces gives out;
+      written = λ held head remote before is.
+          wrote-on (outside g.O.Tells held c.pieces.sink (g.B.Blobs.faults c.pieces.blobs) (g.B.Blobs.shelf c.pieces.blobs) remote) _ before head (take old.given old.message) new.piece _
           (λ i. record {
             input = unread held (wrote.left i);
             output = (wrote.whole ∙ ap (behind (g.O.Tells.taken c.pieces.sink)) c.piece.ensures) i;
@@ -32,13 +32,14 @@ pieces-preserved g c =
             write_faults = wrote.cause i;
             blob_faults = said.cause i;
             shelf = said.kept i;
+            remote = remote;
           })
-          (kept.written held head before is)
+          (kept.written held head remote before is)
           (part-on blob old new kept.sent.recorded kept.sent.digests kept.sent.unread said.goes kept.sent.taken gives);
     }
 
 pub returns-in-Ok-End : goal.returns-in-Ok-End
-returns-in-Ok-End g c = λ held head before is.
+returns-in-Ok-End g c = λ held head remote before is.
     let kept = c.pieces.invariant in
     let said = c.in-Ok-End.ensures in
     let old = c.pieces.reading in
@@ -48,11 +49,11 @@ returns-in-Ok-End g c = λ held head before is.
     let out : IsReadOut blob.bytes old new End = subst (λ (step : Step). IsReadOut blob.bytes old new step) c.in-Ok-End.field-0-is said.told in (
       take old.given old.message,
       all-sent blob old new kept.sent.recorded kept.sent.digests kept.sent.unread said.goes kept.sent.whole kept.sent.taken gives.0 gives.1 out,
-      (λ i. outside g.O.Tells held c.pieces.sink (said.cause i) (said.kept i)) ∙ kept.written held head before is,
+      (λ i. outside g.O.Tells held c.pieces.sink (said.cause i) (said.kept i) remote) ∙ kept.written held head remote before is,
     )
 
 pub returns-in-Ok-Differs : goal.returns-in-Ok-Differs
-returns-in-Ok-Differs g c = λ held head before is.
+returns-in-Ok-Differs g c = λ held head remote before is.
     let kept = c.pieces.invariant in
     let said = c.in-Ok-Differs.ensures in
     let old = c.pieces.reading in
@@ -70,16 +71,16 @@ returns-in-Ok-Differs g c = λ held head before is.
           (other-found blob old new kept.sent.recorded kept.sent.digests kept.sent.unread said.goes n d c.args.parcel.now.described gives.0 gives.1 out),
       found-is n d new.message gives.0,
       is-cut blob old new.message kept.sent open_yet said.goes.message,
-      (λ i. outside g.O.Tells held c.pieces.sink (said.cause i) (said.kept i)) ∙ kept.written held head before is,
+      (λ i. outside g.O.Tells held c.pieces.sink (said.cause i) (said.kept i) remote) ∙ kept.written held head remote before is,
     )
 
 pub returns-in-Err : goal.returns-in-Err
-returns-in-Err g c = λ held head before is.
+returns-in-Err g c = λ held head remote before is.
     let kept = c.pieces.invariant in
     let said = c.in-Err.ensures in
     let old = c.pieces.reading in
     let blob = shown_parcel {G = g.B.Held.Held} c.args.parcel.now in
-    let so = kept.written held head before is in
+    let so = kept.written held head remote before is in
     let faults = g.B.Blobs.faults c.next.new.blobs in
     let some = some-bytes blob.bytes old kept.sent.unread in
     let open_yet = not-whole old.is_whole (λ whole. err-ends _ _ refl (said.ended whole)) in (
@@ -89,11 +90,11 @@ returns-in-Err g c = λ held head before is.
       subst (λ (k : ℕ). Rose k faults) (ap (λ (o : Outside). o.blob_faults) so) said.cause,
       some.1,
       is-cut blob old some.0 kept.sent open_yet some.2,
-      (λ i. outside g.O.Tells held c.pieces.sink faults (said.kept i)) ∙ ap (λ (o : Outside). record o { blob_faults = faults }) so,
+      (λ i. outside g.O.Tells held c.pieces.sink faults (said.kept i) remote) ∙ ap (λ (o : Outside). record o { blob_faults = faults }) so,
     )
 
 pub returns-in-Err-write_all : goal.returns-in-Err-write_all
-returns-in-Err-write_all g c = λ held head before is.
+returns-in-Err-write_all g c = λ held head remote before is.
     let kept = c.pieces.invariant in
     let said = c.in-Ok-Piece.ensures in
     let wrote = c.in-Err-write_all.ensures in
@@ -103,7 +104,7 @@ returns-in-Err-write_all g c = λ held head before is.
     let gives : Gives old new Piece = subst (λ (step : Step). Gives old new step) c.in-Ok-Piece.field-0-is said.gives in
     let part : List ℕ = take wrote.part.0 new.piece in
     let first : List ℕ = take old.given old.message in
-    let so = kept.written held head before is in
+    let so = kept.written held head remote before is in
     let faults = g.O.Tells.write_faults c.write_all.new.sink in
     let all = part-on blob old new kept.sent.recorded kept.sent.digests kept.sent.unread said.goes kept.sent.taken gives in
     let far = content-so-far blob old new c.args.parcel.now.described (said.goes.told_as kept.sent.unread)
@@ -116,7 +117,7 @@ returns-in-Err-write_all g c = λ held head before is.
       subst (λ (k : ℕ). Rose k faults) (ap (λ (o : Outside). o.write_faults) so) wrote.cause,
       far.1,
       front-behind head (first ++ part) far.0 (front-of-front (first ++ part) (take new.given new.message) far.0 (behind-front first part new.piece wrote.part.0 _ refl all) far.2),
-      wrote-part _ (outside g.O.Tells held c.pieces.sink (g.B.Blobs.faults c.pieces.blobs) (g.B.Blobs.shelf c.pieces.blobs)) before head first part faults
+      wrote-part _ (outside g.O.Tells held c.pieces.sink (g.B.Blobs.faults c.pieces.blobs) (g.B.Blobs.shelf c.pieces.blobs) remote) before head first part faults
           (λ i. record {
             input = unread held (wrote.left i);
             output = given i;
@@ -124,6 +125,7 @@ returns-in-Err-write_all g c = λ held head before is.
             write_faults = faults;
             blob_faults = said.cause i;
             shelf = said.kept i;
+            remote = remote;
           })
           so,
     )
