@@ -5,11 +5,12 @@ use Rattle.std.proofs.lemmas.Bool.{false≢true}
 use Rattle.repo_model.specs.Command.{Command, unlist, collect}
 use Rattle.repo_model.specs.Data.{Blob}
 use Rattle.repo_model.specs.History.{Entry, Fits, Legal, after}
-use Rattle.repo_model.specs.Reply.{Reply, draft, file, is_free, can_get}
+use Rattle.repo_model.specs.Reply.{Reply, draft, file, fetches, is_free, can_get}
 use Rattle.repo_model.specs.Settings.{Settings}
 use Rattle.repo_model.specs.State.{State}
 use Rattle.repo_laws.proofs.Answered.{reply-can_get}
 use Rattle.repo_laws.specs.Laws.{AnyByRecursion}
+use Rattle.repo_laws.specs.Replies.{GivesDraft}
 use Rattle.repo_course.specs.Asking.{LiesIn}
 use Rattle.course_laws.proofs.Passes.{ArePass, IsPassCommand}
 use Rattle.desk_laws.specs.Back.{GiveAllBack, SpendDrafts, ReturnLeases}
@@ -57,19 +58,27 @@ pub none-back : GiveAllBack []
 none-back = record { drafts = tt; leases = tt }
 
 -- a reply that is given by the state is one that the command can get
-pub draft-by : (settings : Settings) (e : Entry) (n : ℕ) → FitsOne settings e → e.reply ≡ draft n → IsTrue (can_get e.command (draft n))
-draft-by settings e n fits is =
-    subst (λ (r : Reply). IsTrue (can_get e.command r)) is (reply-can_get settings fits.0 e fits.1 (subst (λ (r : Reply). is_free r ≡ false) (sym is) refl))
+given-bound : (n : ℕ) (reply : Reply) → GivesDraft n reply → is_free reply ≡ false
+given-bound n (draft m) gives = refl
+given-bound n (fetches plan) gives = refl
+given-bound n reply gives = absurd gives
+
+pub draft-by : (settings : Settings) (e : Entry) (n : ℕ) → FitsOne settings e → GivesDraft n e.reply → IsTrue (can_get e.command e.reply)
+draft-by settings e n fits gives = reply-can_get settings fits.0 e fits.1 (given-bound n e.reply gives)
 
 pub file-by : (settings : Settings) (e : Entry) (n : ℕ) (blob : Blob) → FitsOne settings e → e.reply ≡ file n blob → IsTrue (can_get e.command (file n blob))
 file-by settings e n blob fits is =
     subst (λ (r : Reply). IsTrue (can_get e.command r)) is (reply-can_get settings fits.0 e fits.1 (subst (λ (r : Reply). is_free r ≡ false) (sym is) refl))
 
 -- a pass is given nothing
-pass-no-draft : (command : Command) (n : ℕ) → IsPassCommand command → IsTrue (can_get command (draft n)) → ⊥
-pass-no-draft (unlist repo) n is can = false≢true can
-pass-no-draft collect n is can = false≢true can
-pass-no-draft command n is can = absurd is
+pass-no-draft : (command : Command) (reply : Reply) (n : ℕ) → IsPassCommand command → IsTrue (can_get command reply) → GivesDraft n reply → ⊥
+pass-no-draft (unlist repo) (draft m) n is can gives = false≢true can
+pass-no-draft (unlist repo) (fetches plan) n is can gives = false≢true can
+pass-no-draft (unlist repo) reply n is can gives = gives
+pass-no-draft collect (draft m) n is can gives = false≢true can
+pass-no-draft collect (fetches plan) n is can gives = false≢true can
+pass-no-draft collect reply n is can gives = gives
+pass-no-draft command reply n is can gives = absurd is
 
 pass-no-file : (command : Command) (n : ℕ) (blob : Blob) → IsPassCommand command → IsTrue (can_get command (file n blob)) → ⊥
 pass-no-file (unlist repo) n blob is can = false≢true can
@@ -81,6 +90,6 @@ pass-back settings [] fit pass = none-back
 pass-back settings (e ∷ es) fit pass =
     let rest = pass-back settings es fit.1 pass.1 in
     record {
-      drafts = (λ n is. absurd (pass-no-draft e.command n pass.0 (draft-by settings e n fit.0 is)), rest.drafts);
+      drafts = (λ n gives. absurd (pass-no-draft e.command e.reply n pass.0 (draft-by settings e n fit.0 gives) gives), rest.drafts);
       leases = (λ n blob is. absurd (pass-no-file e.command n blob pass.0 (file-by settings e n blob fit.0 is)), rest.leases);
     }

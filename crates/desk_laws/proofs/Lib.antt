@@ -3,3 +3,4 @@ mod Streams
 mod Servers
 mod Desks
 mod Seats
+mod Fetched

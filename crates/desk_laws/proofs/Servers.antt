@@ -10,11 +10,11 @@ use Rattle.repo_model.specs.Command.{done}
 use Rattle.repo_model.specs.Data.{Blob}
 use Rattle.repo_model.specs.History as machine
 use Rattle.repo_model.specs.History.{Entry}
-use Rattle.repo_model.specs.Reply.{draft, file}
+use Rattle.repo_model.specs.Reply.{file}
 use Rattle.repo_model.specs.Settings.{Settings}
 use Rattle.repo_model.specs.State.{Lease, State, is_among}
 use Rattle.repo_laws.specs.Laws.{AnyByRecursion}
-use Rattle.repo_laws.specs.Replies.{spends}
+use Rattle.repo_laws.specs.Replies.{GivesDraft, spends}
 use Rattle.naming_laws.specs.Left.{IsDraftLeft, IsLeaseLeft}
 use Rattle.naming_laws.proofs.Left.{draft-left, lease-left}
 use Rattle.repo_course.specs.Cleaning.{Store}
@@ -53,7 +53,7 @@ module _ {T C R : Type 0} (as_entry : Call C R T → Entry) where
     pick rest true (inr later) = inr (rest later)
     pick rest false later = inr (rest later)
 
-  is-itself : (n : ℕ) → (n == n) ≡ true
+  pub is-itself : (n : ℕ) → (n == n) ≡ true
   is-itself n = pick (eqb_tells n n)
     where
       pick : ((n == n) ≡ true × (n ≡ n)) ⊎ ((n == n) ≡ false × ((n ≡ n) → ⊥)) → (n == n) ≡ true
@@ -84,7 +84,7 @@ none-of P Q apart [] all any = any
 none-of P Q apart (x ∷ xs) all (inl here) = apart x all.0 here
 none-of P Q apart (x ∷ xs) all (inr later) = none-of P Q apart xs all.1 later
 
-draft-at : (before rest : List Entry) (e : Entry) (n : ℕ) → SpendDrafts (before ++ e ∷ rest) → e.reply ≡ draft n → AnyByRecursion (λ (x : Entry). spends n x ≡ true) rest
+draft-at : (before rest : List Entry) (e : Entry) (n : ℕ) → SpendDrafts (before ++ e ∷ rest) → GivesDraft n e.reply → AnyByRecursion (λ (x : Entry). spends n x ≡ true) rest
 draft-at [] rest e n back is = back.0 n is
 draft-at (b ∷ before) rest e n back is = draft-at before rest e n back.1 is
 
@@ -133,7 +133,7 @@ module _ {L P D T C R : Type 0} (looks : Looks L P D) (settings : Settings) (rul
     (turns : Turns T C R) (first : Seat C R T) (alone : mine first ≡ []) (apart : joined first ≡ []) (under : Settings) (log : List (Call C R T))
     (fit : AllByRecursion (FitsOne under) (map (entry_of rules.sight) log)) where
   -- a seat that has taken no other in is no such caller, or the caller's entries are its own
-  own-of : (seat : Seat C R T) → joined seat ≡ [] → Holds log seat → (k : ℕ) → (times_in k seat ≡ 0) ⊎ (mine seat ≡ entries_by k log)
+  pub own-of : (seat : Seat C R T) → joined seat ≡ [] → Holds log seat → (k : ℕ) → (times_in k seat ≡ 0) ⊎ (mine seat ≡ entries_by k log)
   own-of seat none holds k = pick (eqb_tells (number seat) k)
     where
       pick : ((number seat == k) ≡ true × (number seat ≡ k)) ⊎ ((number seat == k) ≡ false × ((number seat ≡ k) → ⊥))
@@ -196,7 +196,7 @@ module _ {L P D T C R : Type 0} (looks : Looks L P D) (settings : Settings) (rul
           inr (subst GiveAllBack entries (passes-back before.blobs after.blobs kept.passages kept.passes (fit-by k (entries_in kept.passages) entries)))
 
 -- the calls of a history that is legal fit
-all-fit : (settings : Settings) (s : State) (entries : List Entry) → machine.Legal settings s entries → AllByRecursion (FitsOne settings) entries
+pub all-fit : (settings : Settings) (s : State) (entries : List Entry) → machine.Legal settings s entries → AllByRecursion (FitsOne settings) entries
 all-fit settings s [] legal = tt
 all-fit settings s (e ∷ es) legal = ((s, legal.0), all-fit settings (machine.after settings s e) es legal.1)
 

@@ -1,16 +1,16 @@
 -- A stream gives back what it was given, among its own entries.
-use Rattle.std.proofs.Common.{◌≡◌, ◌⊎◌, inl, inr, ℕ, zero, suc, ◌==◌, Bool, true, false, not, ◌&&◌, List, [], ◌∷◌, Option, Some, None, refl, sym, subst, ap, IsTrue}
+use Rattle.std.proofs.Common.{◌≡◌, ◌⊎◌, inl, inr, ℕ, zero, suc, ◌==◌, Bool, true, false, not, ◌&&◌, List, [], ◌∷◌, Option, Some, None, refl, sym, subst, ap, ◌∙◌, IsTrue}
 use Rattle.std.specs.Prelude.{if◌then◌else◌}
 use Rattle.std.specs.List.{AllByRecursion}
 use Rattle.std.proofs.lemmas.Bool.{false≢true}
 use Rattle.std.proofs.lemmas.Bool.Decides.{eqb_tells}
-use Rattle.repo_model.specs.Command.{Command, look, done, may_put, put, stage, drop_draft}
+use Rattle.repo_model.specs.Command.{Command, look, done, may_put, put, stage, drop_draft, land}
 use Rattle.repo_model.specs.Data.{Blob}
 use Rattle.repo_model.specs.History.{Entry}
-use Rattle.repo_model.specs.Reply.{Reply, created, same, relisted, taken, staged, session_full, no_session, draft, dropped, file, can_get}
+use Rattle.repo_model.specs.Reply.{Reply, created, same, relisted, taken, staged, session_full, no_session, draft, dropped, file, fetches, landed, can_get}
 use Rattle.repo_model.specs.Settings.{Settings}
 use Rattle.repo_laws.specs.Laws.{AnyByRecursion}
-use Rattle.repo_laws.specs.Replies.{leaves_drafts, spends, uses_draft}
+use Rattle.repo_laws.specs.Replies.{GivesDraft, is_under, leaves_drafts, spends, uses_draft}
 use Rattle.repo_laws.proofs.Drafts.{draft-dropped}
 use Rattle.repo_course.specs.Course.{Close, Course, asks, does, says, stops}
 use Rattle.repo_course.specs.declared.manner.Manner.{Manner}
@@ -56,6 +56,9 @@ draft-or-spent (stage at path m blob) reply s n may drops is = put-or-spent m n 
 draft-or-spent (drop_draft m) reply s n may drops is =
     let same : m ≡ n = cc in
     inr (subst (λ (r : Reply). ((m == n) && not (leaves_drafts r)) ≡ true) (sym (drops m refl)) (subst (λ k. ((m == k) && true) ≡ true) same (rw (is-itself m) refl)))
+draft-or-spent (look repo path tried) reply s n may drops is = absurd (let no : s.draft ≡ None = may.2 in cc)
+draft-or-spent (land plan outcome) landed s n may drops is =
+    inr (subst (λ (o : Option ℕ). (is_under n o && true) ≡ true) (sym is ∙ may.2) (rw (is-itself n) refl))
 draft-or-spent command reply s n may drops is = inl is
 
 -- so is the lease, or it is given back
@@ -66,9 +69,13 @@ lease-or-returned (done m) reply s n may is = let same : m ≡ n = cc in inr (ap
 lease-or-returned command reply s n may is = inl is
 
 -- what is given is held
-draft-held : (command : Command) (n : ℕ) (held : Option ℕ) → IsTrue (can_get command (draft n)) → draft_after command (draft n) held ≡ Some n
-draft-held (may_put place path) n held can = refl
-draft-held command n held can = absurd (false≢true can)
+draft-held : (command : Command) (reply : Reply) (n : ℕ) (held : Option ℕ) → IsTrue (can_get command reply) → GivesDraft n reply
+    → draft_after command reply held ≡ Some n
+draft-held (may_put place path) (draft m) n held can gives = ap Some gives
+draft-held (look repo path tried) (fetches plan) n held can gives = gives
+draft-held command (draft m) n held can gives = absurd (false≢true can)
+draft-held command (fetches plan) n held can gives = absurd (false≢true can)
+draft-held command reply n held can gives = absurd gives
 
 lease-held : (command : Command) (n : ℕ) (blob : Blob) (held : Option ℕ) → IsTrue (can_get command (file n blob)) → lease_after command (file n blob) held ≡ Some n
 lease-held (look repo path tried) n blob held can = refl
@@ -104,7 +111,7 @@ module _ (settings : Settings) where
         ];
     back = record {
       drafts = (
-        λ n is. rest.draft n (subst (λ (r : Reply). draft_after e.command r s.draft ≡ Some n) (sym is) (draft-held e.command n s.draft (draft-by settings e n fits is))),
+        λ n gives. rest.draft n (draft-held e.command e.reply n s.draft (draft-by settings e n fits gives) gives),
         rest.back.drafts,
       );
       leases = (

@@ -3,14 +3,14 @@ use Rattle.std.specs.Prelude.{◌≡◌, ℕ, true, List, [], ◌∷◌}
 use Rattle.repo_model.specs.Command.{done}
 use Rattle.repo_model.specs.Data.{Blob}
 use Rattle.repo_model.specs.History.{Entry}
-use Rattle.repo_model.specs.Reply.{draft, file}
+use Rattle.repo_model.specs.Reply.{file}
 use Rattle.repo_laws.specs.Laws.{AnyByRecursion}
-use Rattle.repo_laws.specs.Replies.{spends}
+use Rattle.repo_laws.specs.Replies.{GivesDraft, spends}
 
--- each draft that one of these entries gives is put, staged or dropped by a later one
+-- each draft that one of these entries gives, by itself or with what is to be fetched, is put, staged, landed or dropped by a later one
 abbrev pub SpendDrafts : List Entry → Type 0
 SpendDrafts [] = Unit {0}
-SpendDrafts (e ∷ es) = ((n : ℕ) → e.reply ≡ draft n → AnyByRecursion (λ (x : Entry). spends n x ≡ true) es) × SpendDrafts es
+SpendDrafts (e ∷ es) = ((n : ℕ) → GivesDraft n e.reply → AnyByRecursion (λ (x : Entry). spends n x ≡ true) es) × SpendDrafts es
 
 -- each lease that one of them gives with a file is given back by a later one
 abbrev pub ReturnLeases : List Entry → Type 0

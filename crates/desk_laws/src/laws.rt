@@ -1,5 +1,5 @@
 //! What follows for drafts and leases. No function here has code: its contract is the law.
-ghost use Rattle.std.specs.Prelude.{◌≡◌, ℕ, Bool, List, []};
+ghost use Rattle.std.specs.Prelude.{◌≡◌, ℕ, Bool, List, [], map};
 ghost use Rattle.std.specs.List.{AllZip};
 ghost use Rattle.repo_model.specs.History.{Entry};
 ghost use Rattle.repo_model.specs.Settings.{Settings};
@@ -16,13 +16,16 @@ ghost use Rattle.desk_work.specs.Rules.{rules};
 ghost use Rattle.desk_work.specs.Working.{Works};
 ghost use Rattle.desk_laws.specs.Answered.{DeskAnswered};
 ghost use Rattle.desk_laws.specs.Back.{GiveAllBack};
+ghost use Rattle.desk_laws.specs.Fetched.{AreFilesFetched};
+ghost use Rattle.turn_seats.specs.Seated.{entry_of};
 
 use outside::{Blobs, Held, Port, Tells};
+use outside_remote::Remote;
 use turn_lock::Thing;
 use turn_seats::Repository;
 
-/// A stream that is served puts, stages or gives up each draft that it was given, and gives each lease back, by a later entry of its
-/// own, wherever its entries lie in a legal history, also among those of others.
+/// A stream that is served puts, stages, lands or gives up each draft that it was given, and gives each lease back, by a later entry
+/// of its own, wherever its entries lie in a legal history, also among those of others.
 pub fn streams_give_all_back<H: Held>()
     ensures { (settings : Settings) (n : ℕ) (start end : State) (entries : List Entry) (old new : Outside) (ending : End) →
         IsWoven settings start entries end → Serves settings (AllTell H.bytes) n entries old new ending → GiveAllBack entries }
@@ -30,34 +33,45 @@ pub fn streams_give_all_back<H: Held>()
 
 /// Where desks and the cleaner have worked to the end, no draft and no lease is left: none stood as the turns began, and the seat that
 /// was handed in had made no call and had taken no other seat in.
-pub fn servers_leave_nothing<P: Port, B: Blobs, T: Repository>()
-    ensures { (settings : Settings) (turns : _) (seat : _) (old new : Floor (List (Desk P B P.Link B.Held B.Pen))) (thing : T) (calls : ℕ) (failed : Bool) →
-        Works (looks ⟦<P as Port>⟧ ⟦<P::Link as Tells>⟧ ⟦<B as Blobs>⟧ ⟦<B::Held as Held>⟧) (rules ⟦<T as Thing>⟧ T.sight) settings turns seat old new thing calls failed →
+pub fn servers_leave_nothing<P: Port, B: Blobs, R: Remote, T: Repository>()
+    ensures { (settings : Settings) (turns : _) (seat : _) (old new : Floor (List (Desk P B R P.Link B.Held B.Pen))) (thing : T) (calls : ℕ) (failed : Bool) →
+        Works (looks ⟦<P as Port>⟧ ⟦<P::Link as Tells>⟧ ⟦<B as Blobs>⟧ ⟦<B::Held as Held>⟧ ⟦<R as Remote>⟧) (rules ⟦<T as Thing>⟧ T.sight) settings turns seat old new thing calls failed →
         mine seat ≡ [] → joined seat ≡ [] → (T.sight.state (opening turns)).yard.drafts ≡ [] → (T.sight.state (opening turns)).yard.leases ≡ [] →
         ((T.sight.state thing).yard.drafts ≡ []) × ((T.sight.state thing).yard.leases ≡ []) }
+{}
+
+/// Where desks and the cleaner have worked to the end, each file that a look was answered with is a row of a hosted repository that was
+/// asked; or it is of a proxy that was asked, which kept it as the turns began, or for which one of the desks fetched it: its bytes came
+/// whole, and a side file of the remote said their digest. The seat that was handed in had made no call and had taken no other seat in.
+pub fn servers_answer_what_was_fetched<P: Port, B: Blobs, R: Remote, T: Repository>()
+    ensures { (settings : Settings) (turns : _) (seat : _) (old new : Floor (List (Desk P B R P.Link B.Held B.Pen))) (thing : T) (calls : ℕ) (failed : Bool) →
+        (works : Works (looks ⟦<P as Port>⟧ ⟦<P::Link as Tells>⟧ ⟦<B as Blobs>⟧ ⟦<B::Held as Held>⟧ ⟦<R as Remote>⟧) (rules ⟦<T as Thing>⟧ T.sight) settings turns seat old new thing calls failed) →
+        mine seat ≡ [] → joined seat ≡ [] →
+        AreFilesFetched (looks ⟦<P as Port>⟧ ⟦<P::Link as Tells>⟧ ⟦<B as Blobs>⟧ ⟦<B::Held as Held>⟧ ⟦<R as Remote>⟧) (T.sight.settings (opening turns)) (T.sight.state (opening turns))
+        (map (entry_of T.sight) works.ended.log) old.desks new.desks }
 {}
 
 /// Each turn of each connection of each desk ends by its cause, as `streams_are_answered_by_cause` of `answer_laws` says, in the one
 /// history of all desks and the cleaner: in it the calls by the desk's number are just the entries of its connections, one after another,
 /// and where one is told that there is no draft, a call of another number has spent it.
-pub fn desks_are_answered_by_cause<P: Port, B: Blobs, T: Repository>()
-    ensures { (settings : Settings) (turns : _) (seat : _) (old new : Floor (List (Desk P B P.Link B.Held B.Pen))) (thing : T) (calls : ℕ) (failed : Bool) →
-        (works : Works (looks ⟦<P as Port>⟧ ⟦<P::Link as Tells>⟧ ⟦<B as Blobs>⟧ ⟦<B::Held as Held>⟧) (rules ⟦<T as Thing>⟧ T.sight) settings turns seat old new thing calls failed) →
+pub fn desks_are_answered_by_cause<P: Port, B: Blobs, R: Remote, T: Repository>()
+    ensures { (settings : Settings) (turns : _) (seat : _) (old new : Floor (List (Desk P B R P.Link B.Held B.Pen))) (thing : T) (calls : ℕ) (failed : Bool) →
+        (works : Works (looks ⟦<P as Port>⟧ ⟦<P::Link as Tells>⟧ ⟦<B as Blobs>⟧ ⟦<B::Held as Held>⟧ ⟦<R as Remote>⟧) (rules ⟦<T as Thing>⟧ T.sight) settings turns seat old new thing calls failed) →
         T.sight.settings (opening turns) ≡ settings →
-        AllZip (DeskAnswered (looks ⟦<P as Port>⟧ ⟦<P::Link as Tells>⟧ ⟦<B as Blobs>⟧ ⟦<B::Held as Held>⟧) settings T.sight (T.sight.state (opening turns)) works.ended.log) old.desks new.desks }
+        AllZip (DeskAnswered (looks ⟦<P as Port>⟧ ⟦<P::Link as Tells>⟧ ⟦<B as Blobs>⟧ ⟦<B::Held as Held>⟧ ⟦<R as Remote>⟧) settings T.sight (T.sight.state (opening turns)) works.ended.log) old.desks new.desks }
 {}
 
 /// The one history of all desks and the cleaner, and what the seats with which they ended have seen of it, keep the laws of the repository,
 /// as `seats_see_closed_histories` of `seat_laws` says: what a document named is answered, what was given out stays gone, releases stay.
 /// The turns began with settings that name each repository once, and with a sound state, as a repository that was started has.
-pub fn seats_of_servers_see_closed_histories<P: Port, B: Blobs, T: Repository>()
-    ensures whole { (settings : Settings) (turns : _) (seat : _) (old new : Floor (List (Desk P B P.Link B.Held B.Pen))) (thing : T) (calls : ℕ) (failed : Bool) →
-        (works : Works (looks ⟦<P as Port>⟧ ⟦<P::Link as Tells>⟧ ⟦<B as Blobs>⟧ ⟦<B::Held as Held>⟧) (rules ⟦<T as Thing>⟧ T.sight) settings turns seat old new thing calls failed) →
+pub fn seats_of_servers_see_closed_histories<P: Port, B: Blobs, R: Remote, T: Repository>()
+    ensures whole { (settings : Settings) (turns : _) (seat : _) (old new : Floor (List (Desk P B R P.Link B.Held B.Pen))) (thing : T) (calls : ℕ) (failed : Bool) →
+        (works : Works (looks ⟦<P as Port>⟧ ⟦<P::Link as Tells>⟧ ⟦<B as Blobs>⟧ ⟦<B::Held as Held>⟧ ⟦<R as Remote>⟧) (rules ⟦<T as Thing>⟧ T.sight) settings turns seat old new thing calls failed) →
         IsFit T.sight (opening turns) → SeesAll T.sight (opening turns) works.ended.log }
-    ensures cleaner { (settings : Settings) (turns : _) (seat : _) (old new : Floor (List (Desk P B P.Link B.Held B.Pen))) (thing : T) (calls : ℕ) (failed : Bool) →
-        (works : Works (looks ⟦<P as Port>⟧ ⟦<P::Link as Tells>⟧ ⟦<B as Blobs>⟧ ⟦<B::Held as Held>⟧) (rules ⟦<T as Thing>⟧ T.sight) settings turns seat old new thing calls failed) →
+    ensures cleaner { (settings : Settings) (turns : _) (seat : _) (old new : Floor (List (Desk P B R P.Link B.Held B.Pen))) (thing : T) (calls : ℕ) (failed : Bool) →
+        (works : Works (looks ⟦<P as Port>⟧ ⟦<P::Link as Tells>⟧ ⟦<B as Blobs>⟧ ⟦<B::Held as Held>⟧ ⟦<R as Remote>⟧) (rules ⟦<T as Thing>⟧ T.sight) settings turns seat old new thing calls failed) →
         IsFit T.sight (opening turns) → SeesAll T.sight (opening turns) (seen works.cleaning) }
-    ensures desk { (settings : Settings) (turns : _) (seat : _) (old new : Floor (List (Desk P B P.Link B.Held B.Pen))) (thing : T) (calls : ℕ) (failed : Bool) →
-        (works : Works (looks ⟦<P as Port>⟧ ⟦<P::Link as Tells>⟧ ⟦<B as Blobs>⟧ ⟦<B::Held as Held>⟧) (rules ⟦<T as Thing>⟧ T.sight) settings turns seat old new thing calls failed) →
+    ensures desk { (settings : Settings) (turns : _) (seat : _) (old new : Floor (List (Desk P B R P.Link B.Held B.Pen))) (thing : T) (calls : ℕ) (failed : Bool) →
+        (works : Works (looks ⟦<P as Port>⟧ ⟦<P::Link as Tells>⟧ ⟦<B as Blobs>⟧ ⟦<B::Held as Held>⟧ ⟦<R as Remote>⟧) (rules ⟦<T as Thing>⟧ T.sight) settings turns seat old new thing calls failed) →
         IsFit T.sight (opening turns) → (own : _) → Holds works.ended.log own → SeesAll T.sight (opening turns) (seen own) }
 {}

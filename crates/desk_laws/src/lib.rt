@@ -1,6 +1,6 @@
 //! Laws of desks that serve at once and the cleaner beside them: a stream gives back what it was given among its own entries, and so a
-//! server leaves no draft and no lease; each turn of each desk is answered by its cause in the one history; and what their seats have
-//! seen is closed.
+//! server leaves no draft and no lease; each turn of each desk is answered by its cause in the one history; each file that is answered for a
+//! proxy was fetched at a desk, or was kept before; and what their seats have seen is closed.
 //!
 //! No function here has code: its contract is the law.
 #![tactic(auto)]
@@ -8,6 +8,6 @@
 mod laws;
 
 pub use laws::{
-    desks_are_answered_by_cause, seats_of_servers_see_closed_histories, servers_leave_nothing,
-    streams_give_all_back,
+    desks_are_answered_by_cause, seats_of_servers_see_closed_histories,
+    servers_answer_what_was_fetched, servers_leave_nothing, streams_give_all_back,
 };

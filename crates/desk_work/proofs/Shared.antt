@@ -58,12 +58,12 @@ house_shared T C R g t =
     let fields : IsSync (House.the_field T C R g).row = struct_sync (shape (House.the_type T C R g)) (turns_shared T C R g t, (settings_shared, tt)) in
     recorded_sync (House.the_field T C R g).row _ _ (House.the_type T C R g).to_one fields
 
-pub job_crosses : (κ : NamedLft) (P B T L H N C R : RattleType) (g : Ghosts T.Denot C.Denot R.Denot) → IsSend P → IsSend B → IsSend T → IsSend (DeskJob.the_row κ P B T L H N C R g)
-job_crosses κ P B T L H N C R g p b t =
+pub job_crosses : (κ : NamedLft) (P B M T L H N C R : RattleType) (g : Ghosts T.Denot C.Denot R.Denot) → IsSend P → IsSend B → IsSend M → IsSend T → IsSend (DeskJob.the_row κ P B M T L H N C R g)
+job_crosses κ P B M T L H N C R g p b m t =
     let house : IsSend (denote.Ref.ShrRef κ.mir κ.lft (House.the_row T C R g)) = shr_send _ _ _ (house_shared T C R g t) in
-    let fields : IsSend (DeskJob.the_field κ P B T L H N C R g).row =
-    struct_send (shape (DeskJob.the_type κ P B T L H N C R g)) (house, (search (sendable, seat_send, slot_crosses) depth 30, (search sendable depth 30, (search (sendable, crosses) depth 30, tt)))) in
-    recorded_send (DeskJob.the_field κ P B T L H N C R g).row _ _ (DeskJob.the_type κ P B T L H N C R g).to_one fields
+    let fields : IsSend (DeskJob.the_field κ P B M T L H N C R g).row =
+    struct_send (shape (DeskJob.the_type κ P B M T L H N C R g)) (house, (search (sendable, seat_send, slot_crosses) depth 30, (search sendable depth 30, (search (sendable, crosses) depth 30, tt)))) in
+    recorded_send (DeskJob.the_field κ P B M T L H N C R g).row _ _ (DeskJob.the_type κ P B M T L H N C R g).to_one fields
 
 pub cleaner_crosses : (κ : NamedLft) (B Q T H N C R : RattleType) (g : Ghosts T.Denot C.Denot R.Denot) → IsSend B → IsSend Q → IsSend T → IsSend (CleanerJob.the_row κ B Q T H N C R g)
 cleaner_crosses κ B Q T H N C R g b q t =

@@ -8,6 +8,7 @@ ghost use Rattle.turn_lock.specs.History.{IsStep};
 ghost use Rattle.turn_lock.specs.Seats.{opening, IsSeatOf};
 
 use outside::{Blobs, Held, Port, Tells};
+use outside_remote::Remote;
 use repo_config::Settings;
 use repo_model::{Command, Reply};
 use repo_routes::Routes;
@@ -33,6 +34,7 @@ fn or_made(alloc: Global, kept: Option<Routes>) -> Option<Routes> {
 pub fn serve_desk<
     P: Port,
     B: Blobs,
+    R: Remote,
     T: Repository<Call = Command<B::Held>, Reply = Reply<B::Held>>,
     W: Wait,
 >(
@@ -41,13 +43,13 @@ pub fn serve_desk<
     settings: &Settings,
     turns: &Turns<T>,
     mut seat: Seat<T>,
-    desk: &mut Desk<P, B>,
+    desk: &mut Desk<P, B, R>,
 ) -> (Seat<T>, bool)
     requires asked { (call : _) → T.sight.asked call ≡ shown_command call }
     requires answered { (reply : _) → T.sight.answered reply ≡ shown_reply reply }
     requires seat { IsSeatOf (IsStep T.fixed T.may_ask T.turned) turns.now seat }
     requires settings { T.sight.settings (opening turns.now) ≡ settings.now }
-    ensures attended { Attended (looks ⟦<P as Port>⟧ ⟦<P::Link as Tells>⟧ ⟦<B as Blobs>⟧ ⟦<B::Held as Held>⟧) (rules ⟦<T as Thing>⟧ T.sight)
+    ensures attended { Attended (looks ⟦<P as Port>⟧ ⟦<P::Link as Tells>⟧ ⟦<B as Blobs>⟧ ⟦<B::Held as Held>⟧ ⟦<R as Remote>⟧) (rules ⟦<T as Thing>⟧ T.sight)
         settings.now turns.now seat result.0 desk.old desk.new }
     ensures over { IsOver result.1 (P.left desk.new.port) (P.faults desk.old.port) (P.faults desk.new.port) }
 {
@@ -64,6 +66,7 @@ pub fn serve_desk<
                     turns,
                     seat,
                     &mut desk.blobs,
+                    &mut desk.remote,
                     &mut link,
                 );
                 seat = next;

@@ -3,6 +3,7 @@ use crate::cleaner::keep_clean;
 use crate::desk::serve_desk;
 use outside::{Blobs, Held, Port, Tells};
 use outside_pace::Pace;
+use outside_remote::Remote;
 use repo_config::Settings;
 use repo_model::{Command, Reply};
 use run_desks::{Cleaner, Desk};
@@ -21,31 +22,32 @@ pub struct House<T: Thing> {
 
 /// A desk with its seat.
 #[derive(Drop)]
-pub struct DeskJob<'a, P: Port, B: Blobs, T: Thing> {
+pub struct DeskJob<'a, P: Port, B: Blobs, R: Remote, T: Thing> {
     pub house: &'a House<T>,
     pub seat: Seat<T>,
-    pub desk: Desk<P, B>,
+    pub desk: Desk<P, B, R>,
     pub alloc: Global,
 }
 
 impl<
     P: Port + Drop,
     B: Blobs + Drop,
+    R: Remote + Drop,
     T: Repository<Call = Command<B::Held>, Reply = Reply<B::Held>>,
-> Job for DeskJob<'_, P, B, T> {
+> Job for DeskJob<'_, P, B, R, T> {
     ghost use Rattle.desk_work.specs.Rules.{rules};
     ghost use Rattle.desk_work.specs.Working.{DeskServes, IsReady};
     ghost use Rattle.repo_model.specs.Shown.{shown_command, shown_reply};
     ghost use Rattle.run_desks.specs.Seen.{looks};
 
-    type Out = (Seat<T>, (Desk<P, B>, bool));
+    type Out = (Seat<T>, (Desk<P, B, R>, bool));
 
     ghost ready = { λ job. IsReady (rules ⟦<T as Thing>⟧ T.sight) shown_command shown_reply job.house.now.settings job.house.now.turns job.seat };
 
-    ghost gives = { λ job out. DeskServes (looks ⟦<P as Port>⟧ ⟦<P::Link as Tells>⟧ ⟦<B as Blobs>⟧ ⟦<B::Held as Held>⟧) (rules ⟦<T as Thing>⟧ T.sight)
+    ghost gives = { λ job out. DeskServes (looks ⟦<P as Port>⟧ ⟦<P::Link as Tells>⟧ ⟦<B as Blobs>⟧ ⟦<B::Held as Held>⟧ ⟦<R as Remote>⟧) (rules ⟦<T as Thing>⟧ T.sight)
         job.house.now.settings job.house.now.turns job.seat job.desk out };
 
-    fn run<R: Wait>(self, rt: &R) -> (Seat<T>, (Desk<P, B>, bool)) {
+    fn run<W: Wait>(self, rt: &W) -> (Seat<T>, (Desk<P, B, R>, bool)) {
         let DeskJob {
             house,
             seat,
@@ -83,7 +85,7 @@ impl<
     ghost gives = { λ job out. KeptClean (rules ⟦<T as Thing>⟧ T.sight) job.house.now.settings job.house.now.turns job.seat out.0
         (broom ⟦<B as Blobs>⟧ ⟦<Q as Pace>⟧ job.cleaner) (broom ⟦<B as Blobs>⟧ ⟦<Q as Pace>⟧ out.1) };
 
-    fn run<R: Wait>(self, rt: &R) -> (Seat<T>, Cleaner<B, Q>) {
+    fn run<W: Wait>(self, rt: &W) -> (Seat<T>, Cleaner<B, Q>) {
         let CleanerJob {
             house,
             seat,

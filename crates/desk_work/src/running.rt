@@ -12,6 +12,7 @@ use crate::jobs::{CleanerJob, DeskJob, House};
 use crate::seating::seated;
 use outside::{Blobs, Held, Port, Tells};
 use outside_pace::Pace;
+use outside_remote::Remote;
 use repo_model::{Command, Reply};
 use run_desks::{Cleaner, Desk};
 use std::alloc::Global;
@@ -27,15 +28,19 @@ fn run_jobs<
     'a,
     P: Port + Drop + Send,
     B: Blobs + Drop + Send,
+    R: Remote + Drop + Send,
     Q: Pace + Drop + Send,
     T: Repository<Call = Command<B::Held>, Reply = Reply<B::Held>> + Send,
-    R: Threads + Wait + Sync,
+    W: Threads + Wait + Sync,
 >(
-    rt: &R,
-    jobs: Vec<DeskJob<'a, P, B, T>>,
+    rt: &W,
+    jobs: Vec<DeskJob<'a, P, B, R, T>>,
     last: CleanerJob<'a, B, Q, T>,
-    room: Vec<(Seat<T>, (Desk<P, B>, bool))>,
-) -> (Vec<(Seat<T>, (Desk<P, B>, bool))>, (Seat<T>, Cleaner<B, Q>))
+    room: Vec<(Seat<T>, (Desk<P, B, R>, bool))>,
+) -> (
+    Vec<(Seat<T>, (Desk<P, B, R>, bool))>,
+    (Seat<T>, Cleaner<B, Q>),
+)
 where
     P::Link: Send,
     B::Held: Send,
@@ -43,7 +48,7 @@ where
     requires jobs { All (λ job. IsReady (rules ⟦<T as Thing>⟧ T.sight) shown_command shown_reply job.house.now.settings job.house.now.turns job.seat) jobs.items }
     requires last { IsReady (rules ⟦<T as Thing>⟧ T.sight) shown_command shown_reply last.house.now.settings last.house.now.turns last.seat }
     requires room { (room.items ≡ []) × (vec_len jobs ≤ vec_capacity room) }
-    ensures served { AllZip (λ job out. DeskServes (looks ⟦<P as Port>⟧ ⟦<P::Link as Tells>⟧ ⟦<B as Blobs>⟧ ⟦<B::Held as Held>⟧) (rules ⟦<T as Thing>⟧ T.sight)
+    ensures served { AllZip (λ job out. DeskServes (looks ⟦<P as Port>⟧ ⟦<P::Link as Tells>⟧ ⟦<B as Blobs>⟧ ⟦<B::Held as Held>⟧ ⟦<R as Remote>⟧) (rules ⟦<T as Thing>⟧ T.sight)
         job.house.now.settings job.house.now.turns job.seat job.desk out) jobs.entry.items result.0.items }
     ensures cleaned { KeptClean (rules ⟦<T as Thing>⟧ T.sight) last.entry.house.now.settings last.entry.house.now.turns last.entry.seat result.1.0
         (broom ⟦<B as Blobs>⟧ ⟦<Q as Pace>⟧ last.entry.cleaner) (broom ⟦<B as Blobs>⟧ ⟦<Q as Pace>⟧ result.1.1) }
@@ -53,10 +58,10 @@ where
 }
 
 // The desks in their order, in a room that was made before and is empty, and whether a port failed.
-pub fn parted<P: Port + Drop, B: Blobs + Drop>(
-    back: Vec<(Desk<P, B>, bool)>,
-    mut room: Vec<Desk<P, B>>,
-) -> (Vec<Desk<P, B>>, bool)
+pub fn parted<P: Port + Drop, B: Blobs + Drop, R: Remote + Drop>(
+    back: Vec<(Desk<P, B, R>, bool)>,
+    mut room: Vec<Desk<P, B, R>>,
+) -> (Vec<Desk<P, B, R>>, bool)
     requires room { (room.items ≡ []) × (vec_len back ≤ vec_capacity room) }
     ensures desks { result.0.items ≡ map (λ one. one.0) back.items }
     ensures failed { result.1 ≡ list_any (λ one. one.1) back.items }
@@ -74,20 +79,24 @@ pub fn parted<P: Port + Drop, B: Blobs + Drop>(
 pub fn serve_all<
     P: Port + Drop + Send,
     B: Blobs + Drop + Send,
+    R: Remote + Drop + Send,
     Q: Pace + Drop + Send,
     T: Repository<Call = Command<B::Held>, Reply = Reply<B::Held>> + Send,
-    R: Threads + Wait + Sync,
+    W: Threads + Wait + Sync,
 >(
-    rt: &R,
+    rt: &W,
     alloc: Global,
     house: &House<T>,
     mut seat: Seat<T>,
-    desks: Vec<Desk<P, B>>,
+    desks: Vec<Desk<P, B, R>>,
     cleaner: Cleaner<B, Q>,
-    room: Vec<(Seat<T>, (Desk<P, B>, bool))>,
+    room: Vec<(Seat<T>, (Desk<P, B, R>, bool))>,
 ) -> Result<
-    (Vec<(Seat<T>, (Desk<P, B>, bool))>, (Seat<T>, Cleaner<B, Q>)),
-    (Seat<T>, Vec<Desk<P, B>>, Cleaner<B, Q>),
+    (
+        Vec<(Seat<T>, (Desk<P, B, R>, bool))>,
+        (Seat<T>, Cleaner<B, Q>),
+    ),
+    (Seat<T>, Vec<Desk<P, B, R>>, Cleaner<B, Q>),
 >
 where
     P::Link: Send,
@@ -96,7 +105,7 @@ where
     requires ready { IsReady (rules ⟦<T as Thing>⟧ T.sight) shown_command shown_reply house.now.settings house.now.turns seat }
     requires parts { vec_len desks < parts_of seat }
     requires room { (room.items ≡ []) × (vec_len desks ≤ vec_capacity room) }
-    ensures done { IfOk result (λ r. AllZip (DeskDone (looks ⟦<P as Port>⟧ ⟦<P::Link as Tells>⟧ ⟦<B as Blobs>⟧ ⟦<B::Held as Held>⟧) (rules ⟦<T as Thing>⟧ T.sight)
+    ensures done { IfOk result (λ r. AllZip (DeskDone (looks ⟦<P as Port>⟧ ⟦<P::Link as Tells>⟧ ⟦<B as Blobs>⟧ ⟦<B::Held as Held>⟧ ⟦<R as Remote>⟧) (rules ⟦<T as Thing>⟧ T.sight)
         house.now.settings house.now.turns seat) desks.items r.0.items) }
     ensures cleaned { IfOk result (λ r. CleanedBeside (rules ⟦<T as Thing>⟧ T.sight) house.now.settings house.now.turns seat r.1.0
         (broom ⟦<B as Blobs>⟧ ⟦<Q as Pace>⟧ cleaner) (broom ⟦<B as Blobs>⟧ ⟦<Q as Pace>⟧ r.1.1)) }

@@ -6,17 +6,18 @@ ghost use Rattle.turn_lock.specs.Seats.{parts_of, IsSeatOf, Same};
 
 use crate::jobs::{DeskJob, House};
 use outside::{Blobs, Port};
+use outside_remote::Remote;
 use run_desks::Desk;
 use std::alloc::Global;
 use turn_lock::{Seat, Thing};
 
 // A desk with a seat, as a job.
-fn desk_job<P: Port, B: Blobs, T: Thing>(
+fn desk_job<P: Port, B: Blobs, R: Remote, T: Thing>(
     alloc: Global,
     house: &House<T>,
     seat: Seat<T>,
-    desk: Desk<P, B>,
-) -> DeskJob<'_, P, B, T>
+    desk: Desk<P, B, R>,
+) -> DeskJob<'_, P, B, R, T>
     ensures { (result.house.now ≡ house.now) × (result.seat ≡ seat) × (result.desk ≡ desk) }
 {
     DeskJob {
@@ -29,13 +30,13 @@ fn desk_job<P: Port, B: Blobs, T: Thing>(
 
 /// A job for each desk, in their order, each with a seat of one part that is split off, in a room that was made before and is
 /// empty. It takes no memory.
-pub fn seated<'a, P: Port + Drop, B: Blobs + Drop, T: Thing>(
+pub fn seated<'a, P: Port + Drop, B: Blobs + Drop, R: Remote + Drop, T: Thing>(
     alloc: Global,
     house: &'a House<T>,
     seat: &mut Seat<T>,
-    desks: Vec<Desk<P, B>>,
-    mut room: Vec<DeskJob<'a, P, B, T>>,
-) -> Vec<DeskJob<'a, P, B, T>>
+    desks: Vec<Desk<P, B, R>>,
+    mut room: Vec<DeskJob<'a, P, B, R, T>>,
+) -> Vec<DeskJob<'a, P, B, R, T>>
     requires seat { IsSeatOf (IsStep T.fixed T.may_ask T.turned) house.now.turns seat.old }
     requires parts { vec_len desks < parts_of seat.old }
     requires room { (room.items ≡ []) × (vec_len desks ≤ vec_capacity room) }

@@ -13,6 +13,7 @@ use crate::jobs::House;
 use crate::running::{parted, serve_all};
 use outside::{Blobs, Held, Port, Tells};
 use outside_pace::Pace;
+use outside_remote::Remote;
 use repo_config::Settings;
 use repo_model::{Command, Reply};
 use run_desks::{Cleaner, Desk};
@@ -24,9 +25,9 @@ use turn_seats::{Repository, end_all, what_is_seen_is_a_history};
 
 /// What comes of work.
 #[derive(Drop)]
-pub struct Worked<P: Port, B: Blobs, Q: Pace, T> {
+pub struct Worked<P: Port, B: Blobs, R: Remote, Q: Pace, T> {
     /// The desks, in their order.
-    pub desks: Vec<Desk<P, B>>,
+    pub desks: Vec<Desk<P, B, R>>,
     pub cleaner: Cleaner<B, Q>,
     /// The repository as the last call left it.
     pub repository: T,
@@ -39,12 +40,12 @@ pub struct Worked<P: Port, B: Blobs, Q: Pace, T> {
 }
 
 // Nothing was served: all comes back.
-fn refuse<P: Port + Drop, B: Blobs + Drop, Q: Pace + Drop, T: Thing>(
+fn refuse<P: Port + Drop, B: Blobs + Drop, R: Remote + Drop, Q: Pace + Drop, T: Thing>(
     turns: Turns<T>,
     seat: Seat<T>,
-    desks: Vec<Desk<P, B>>,
+    desks: Vec<Desk<P, B, R>>,
     cleaner: Cleaner<B, Q>,
-) -> Worked<P, B, Q, T>
+) -> Worked<P, B, R, Q, T>
     requires seat { IsSeatOf (IsStep T.fixed T.may_ask T.turned) turns seat }
     requires parts { parts_of seat ≡ 2 ^ 64 }
     ensures desks { result.desks.items ≡ desks.items }
@@ -64,14 +65,14 @@ fn refuse<P: Port + Drop, B: Blobs + Drop, Q: Pace + Drop, T: Thing>(
 }
 
 // All was served: the seats are joined, and the history ends.
-fn finish<P: Port + Drop, B: Blobs + Drop, Q: Pace + Drop, T: Thing>(
+fn finish<P: Port + Drop, B: Blobs + Drop, R: Remote + Drop, Q: Pace + Drop, T: Thing>(
     turns: Turns<T>,
     seat: Seat<T>,
-    outs: Vec<(Seat<T>, (Desk<P, B>, bool))>,
+    outs: Vec<(Seat<T>, (Desk<P, B, R>, bool))>,
     cleaner: Cleaner<B, Q>,
-    back: Vec<(Desk<P, B>, bool)>,
-    room: Vec<Desk<P, B>>,
-) -> Worked<P, B, Q, T>
+    back: Vec<(Desk<P, B, R>, bool)>,
+    room: Vec<Desk<P, B, R>>,
+) -> Worked<P, B, R, Q, T>
     requires seat { IsSeatOf (IsStep T.fixed T.may_ask T.turned) turns seat }
     requires others { All (λ out. IsSeatOf (IsStep T.fixed T.may_ask T.turned) turns out.0) outs.items }
     requires parts { parts_of seat + sum_by parts_of (map (λ out. out.0) outs.items) ≡ 2 ^ 64 }
@@ -96,14 +97,14 @@ fn finish<P: Port + Drop, B: Blobs + Drop, Q: Pace + Drop, T: Thing>(
 }
 
 // Rooms for so many desks and what comes back of them.
-fn rooms<P: Port + Drop, B: Blobs + Drop, T: Thing>(
+fn rooms<P: Port + Drop, B: Blobs + Drop, R: Remote + Drop, T: Thing>(
     alloc: Global,
     count: usize,
 ) -> Result<
     (
-        Vec<(Seat<T>, (Desk<P, B>, bool))>,
-        Vec<(Desk<P, B>, bool)>,
-        Vec<Desk<P, B>>,
+        Vec<(Seat<T>, (Desk<P, B, R>, bool))>,
+        Vec<(Desk<P, B, R>, bool)>,
+        Vec<Desk<P, B, R>>,
     ),
     AllocError,
 >
@@ -129,18 +130,19 @@ fn rooms<P: Port + Drop, B: Blobs + Drop, T: Thing>(
 pub fn work<
     P: Port + Drop + Send,
     B: Blobs + Drop + Send,
+    R: Remote + Drop + Send,
     Q: Pace + Drop + Send,
     T: Repository<Call = Command<B::Held>, Reply = Reply<B::Held>> + Send,
-    R: Threads + Wait + Sync,
+    W: Threads + Wait + Sync,
 >(
-    rt: &R,
+    rt: &W,
     alloc: Global,
     settings: Settings,
     turns: Turns<T>,
     seat: Seat<T>,
-    desks: Vec<Desk<P, B>>,
+    desks: Vec<Desk<P, B, R>>,
     cleaner: Cleaner<B, Q>,
-) -> Worked<P, B, Q, T>
+) -> Worked<P, B, R, Q, T>
 where
     P::Link: Send,
     B::Held: Send,
@@ -149,7 +151,7 @@ where
     requires parts { parts_of seat ≡ 2 ^ 64 }
     ensures refused { IsTrue result.refused → (result.desks.items ≡ desks.items) × (result.cleaner ≡ cleaner) × IsFalse result.failed
         × Closes (IsStep T.fixed T.may_ask T.turned) turns seat result.repository result.calls }
-    ensures works { IsFalse result.refused → Works (looks ⟦<P as Port>⟧ ⟦<P::Link as Tells>⟧ ⟦<B as Blobs>⟧ ⟦<B::Held as Held>⟧) (rules ⟦<T as Thing>⟧ T.sight) settings turns seat
+    ensures works { IsFalse result.refused → Works (looks ⟦<P as Port>⟧ ⟦<P::Link as Tells>⟧ ⟦<B as Blobs>⟧ ⟦<B::Held as Held>⟧ ⟦<R as Remote>⟧) (rules ⟦<T as Thing>⟧ T.sight) settings turns seat
         (floor ⟦<B as Blobs>⟧ ⟦<Q as Pace>⟧ desks.items cleaner) (floor ⟦<B as Blobs>⟧ ⟦<Q as Pace>⟧ result.desks.items result.cleaner)
         result.repository result.calls result.failed }
 {

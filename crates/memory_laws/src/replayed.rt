@@ -14,6 +14,7 @@ use outside_memory::{
     FaultScript, MemBlobs, MemHeld, MemLink, MemSink, MemSource, ScriptClock, ScriptPort,
 };
 use outside_pace::ScriptPace;
+use outside_remote::ScriptRemote;
 use repo_run::{Ran, run_once, worked_replay};
 use row_tables::MemRecords;
 use run_desks::{Cleaner, Desk};
@@ -31,7 +32,10 @@ pub fn replay_worked(
     link: MemLink,
     clock: ScriptClock,
     out: &mut MemSink,
-) -> Result<Ran<ScriptPort<MemLink>, MemBlobs, ScriptPace, MemRecords, ScriptClock>, NoMemory>
+) -> Result<
+    Ran<ScriptPort<MemLink>, MemBlobs, ScriptRemote, ScriptPace, MemRecords, ScriptClock>,
+    NoMemory,
+>
     requires words { (asked (map string_bytes words.now)).command ≡ Replay }
     requires input { link.source.left ≡ put_abc ++ last_get }
     requires fresh { link.sink.taken ≡ [] }
@@ -46,7 +50,14 @@ pub fn replay_worked(
     let blobs = MemBlobs::new(alloc, FaultScript::none(alloc));
     let links = vec![in alloc; link]?;
     let port = ScriptPort::new(alloc, links, FaultScript::none(alloc))?;
-    let desks = vec![in alloc; Desk { port, blobs }]?;
+    let remote = ScriptRemote::new(alloc, Vec::new(alloc), Vec::new(alloc));
+    let desks = vec![in alloc;
+        Desk {
+            port,
+            blobs,
+            remote
+        },
+    ]?;
     let cleaner = Cleaner {
         blobs: MemBlobs::new(alloc, FaultScript::none(alloc)),
         pace: ScriptPace::new(alloc, Vec::new(alloc))?,

@@ -5,7 +5,7 @@ use Rattle.std.specs.Prelude.{◌==◌, count_by}
 use Rattle.std.proofs.lemmas.Bool.{eq-eqb, cases_lt}
 use Rattle.repo_model.specs.Settings.{Settings}
 use Rattle.repo_model.specs.State.{State, Lease}
-use Rattle.repo_laws.specs.Laws.{count_of, rows_with, staged_with}
+use Rattle.repo_laws.specs.Laws.{cached_with, count_of, rows_with, staged_with}
 use Rattle.repo_laws.specs.Sound.{IsSound}
 use Rattle.repo_laws.proofs.Counts.{one_if, count-cons}
 use Rattle.course_laws.specs.LeftBehind.{NumbersAreBelow, IsDrawn}
@@ -35,5 +35,5 @@ sound-drawn settings s sound = record {
 } where
   drafts : (n : ℕ) → s.yard.next_draft ≤ n → count_by (λ m. m == n) s.yard.drafts ≡ 0
   drafts n far =
-      let all : count_of n s.yard.drafts + rows_with n s.hosted + staged_with n s.sessions + count_of n s.yard.condemned ≡ 0 = sound.places.later n far in
+      let all : count_of n s.yard.drafts + rows_with n s.hosted + cached_with n s.proxies + staged_with n s.sessions + count_of n s.yard.condemned ≡ 0 = sound.places.later n far in
       omega (arith, all)

@@ -1,11 +1,13 @@
 -- A replay's first connection, from what the server says of the stream: its history, its bytes, its status.
-use Rattle.std.proofs.Common.{◌≡◌, ◌++◌, ℕ, ◌+◌, ◌*◌, ◌≤◌, arith, length, length-append, List, [], Option, Some, None, inl, inr, refl, sym, subst, ap, ◌∙◌}
-use Rattle.std.specs.Prelude.{max, min, map, nat_le}
+use Rattle.std.proofs.Common.{◌≡◌, ◌∷◌, ◌++◌, ℕ, ◌+◌, ◌*◌, ◌≤◌, arith, length, length-append, List, [], Option, Some, None, inl, inr, refl, sym, subst, ap, ◌∙◌}
+use Rattle.std.specs.Prelude.{max, min, map, nat_le, zero, suc, true}
+use Rattle.std.specs.List.{list_all}
 use Rattle.std.proofs.lemmas.Bool.{and_parts, leb-true}
 use Rattle.std.proofs.lemmas.List.{length-map}
-use Rattle.repo_config.specs.Form.{IsSettings}
-use Rattle.repo_config.specs.Names.{ids_of}
-use Rattle.course_laws.specs.Duties.{most_asked}
+use Rattle.repo_config.specs.Form.{IsSettings, is_group_rule}
+use Rattle.repo_config.specs.Keys.{is_member_list}
+use Rattle.repo_config.specs.Names.{ids_of, is_id}
+use Rattle.course_laws.specs.Duties.{looks_most, most_asked, most_members, most_rounds, twice}
 use Rattle.repo_course.specs.Cleaning.{Store}
 use Rattle.outside.specs.Faults.{last_count}
 use Rattle.outside.specs.Moments.{Moments}
@@ -61,6 +63,19 @@ has-status calls TornRequest old new out out' status input input' blobs blobs' e
 has-status calls TurnLimit old new out out' status input input' blobs blobs' ends told = finished calls TurnLimit old new out out' status ends.0 ends.1 told
 
 -- a request of such settings makes at most 65 commands
+twice-is : (n : ℕ) → twice n ≡ n + n
+twice-is zero = refl
+twice-is (suc n) = let rest = twice-is n in omega (arith, rest)
+
+members-few : (groups : List GroupRule) → list_all is_group_rule groups ≡ true → most_members groups ≤ 16
+members-few [] all = omega arith
+members-few (g ∷ groups) all =
+    let each = and_parts (is_group_rule g) (list_all is_group_rule groups) all in
+    let listed = (and_parts (is_id g.id) (is_member_list g.members) each.0).1 in
+    let sizes = (and_parts _ _ (and_parts _ _ listed).0).0 in
+    let here : length g.members ≤ 16 = leb-true (length g.members) 16 (and_parts _ _ sizes).1 in
+    let rest = members-few groups each.1 in omega (arith, here, rest)
+
 most-few : (settings : Settings) → IsSettings settings → most_asked settings ≤ 65
 unfolding most_asked
 most-few settings form =
@@ -72,10 +87,10 @@ most-few settings form =
     let all : count ≡ length (mine ++ proxies) + length groups = length-append (mine ++ proxies) groups in
     let parts : length (mine ++ proxies) ≡ length mine + length proxies = length-append mine proxies in
     let hosted : length mine ≡ length settings.hosted = length-map settings.hosted (λ (rule : Rule). rule.id) in
-    few (length settings.hosted) (omega (arith, ids, all, parts, hosted))
+    few (length settings.hosted) (most_rounds settings) (omega (arith, ids, all, parts, hosted)) (omega (arith, members-few settings.groups form.groups))
   where
-    few : (n : ℕ) → n ≤ 64 → max 3 (n + 1) ≤ 65
-    few n most = omega (arith, most)
+    few : (n rounds : ℕ) → n ≤ 64 → rounds ≤ 16 → max (max 3 (n + 1)) (looks_most rounds) ≤ 65
+    few n rounds most rounds-few = let double = twice-is rounds in omega (arith, most, rounds-few, double)
 
 -- so few calls are all counted
 all-counted : (calls made most : ℕ) → calls ≡ min (0 + made) last_count → made ≤ most * 1000 → most ≤ 65 → calls ≡ made

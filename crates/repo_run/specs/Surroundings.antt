@@ -85,6 +85,7 @@ outside_at input c kit = record {
   write_faults = c.write_faults;
   blob_faults = kit.blobs.faults;
   shelf = kit.blobs.shelf;
+  remote = kit.remote;
 }
 
 -- a connection at a desk with these things

@@ -14,6 +14,7 @@ use crate::replays::replay;
 use crate::words::wanted;
 use outside::{Blobs, Clock, Held, Port, Sink, Source, Tells};
 use outside_pace::Pace;
+use outside_remote::Remote;
 use row_tables::Records;
 use run_desks::{Cleaner, Desk};
 use run_lines::{NO_MEMORY, REFUSED, fault};
@@ -21,18 +22,18 @@ use std::alloc::Global;
 use store_check::check;
 
 /// Does what a command asks for, with one desk and the cleaner.
-fn act<B: Blobs, S: Source, P: Port, Q: Pace, K: Records, C: Clock, O: Sink>(
+fn act<B: Blobs, S: Source, P: Port, R: Remote, Q: Pace, K: Records, C: Clock, O: Sink>(
     alloc: Global,
     command: Action,
     settings: &mut S,
-    desk: &mut Desk<P, B>,
+    desk: &mut Desk<P, B, R>,
     cleaner: &mut Cleaner<B, Q>,
     records: K,
     clock: C,
     out: &mut O,
 ) -> Ended<K, C>
     ensures status { MatchAction command result.status }
-    ensures run { Acts (looks ⟦<P as Port>⟧ ⟦<P::Link as Tells>⟧ ⟦<B as Blobs>⟧ ⟦<B::Held as Held>⟧) command
+    ensures run { Acts (looks ⟦<P as Port>⟧ ⟦<P::Link as Tells>⟧ ⟦<B as Blobs>⟧ ⟦<B::Held as Held>⟧ ⟦<R as Remote>⟧) command
         (view ⟦<S as Tells>⟧ ⟦<B as Blobs>⟧ ⟦<Q as Pace>⟧ ⟦<K as Records>⟧ ⟦<C as Clock>⟧ ⟦<O as Tells>⟧ settings.old desk.old cleaner.old records clock out.old)
         (view ⟦<S as Tells>⟧ ⟦<B as Blobs>⟧ ⟦<Q as Pace>⟧ ⟦<K as Records>⟧ ⟦<C as Clock>⟧ ⟦<O as Tells>⟧ settings.new desk.new cleaner.new result.records result.clock out.new)
         result.status }
@@ -87,19 +88,19 @@ fn act<B: Blobs, S: Source, P: Port, Q: Pace, K: Records, C: Clock, O: Sink>(
 ///
 /// Each failure is one that its object counted. N is a number of calls of the repository, of files or of blobs; END is
 /// `Closed`, `TornRequest` or `TurnLimit`; NAME is the refusal of the settings and KEY the key or the id that it names, if any.
-pub fn run_once<B: Blobs, S: Source, P: Port, Q: Pace, K: Records, C: Clock, O: Sink>(
+pub fn run_once<B: Blobs, S: Source, P: Port, R: Remote, Q: Pace, K: Records, C: Clock, O: Sink>(
     alloc: Global,
     words: &[String],
     settings: &mut S,
-    desks: Vec<Desk<P, B>>,
+    desks: Vec<Desk<P, B, R>>,
     cleaner: Cleaner<B, Q>,
     records: K,
     clock: C,
     out: &mut O,
-) -> Ran<P, B, Q, K, C>
+) -> Ran<P, B, R, Q, K, C>
     requires { 0 < vec_len desks }
     ensures status { MatchAction (asked (map string_bytes words.now)).command result.status }
-    ensures run { Runs (looks ⟦<P as Port>⟧ ⟦<P::Link as Tells>⟧ ⟦<B as Blobs>⟧ ⟦<B::Held as Held>⟧) (asked (map string_bytes words.now)).command
+    ensures run { Runs (looks ⟦<P as Port>⟧ ⟦<P::Link as Tells>⟧ ⟦<B as Blobs>⟧ ⟦<B::Held as Held>⟧ ⟦<R as Remote>⟧) (asked (map string_bytes words.now)).command
         (view ⟦<S as Tells>⟧ ⟦<B as Blobs>⟧ ⟦<Q as Pace>⟧ ⟦<K as Records>⟧ ⟦<C as Clock>⟧ ⟦<O as Tells>⟧ settings.old desks.items cleaner records clock out.old)
         (view ⟦<S as Tells>⟧ ⟦<B as Blobs>⟧ ⟦<Q as Pace>⟧ ⟦<K as Records>⟧ ⟦<C as Clock>⟧ ⟦<O as Tells>⟧ settings.new result.desks.items result.cleaner result.records result.clock out.new)
         result.status }

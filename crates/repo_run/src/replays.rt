@@ -11,6 +11,7 @@ use crate::begun::{begin, refuse_start};
 use crate::ran::Ended;
 use crate::reports::report_first;
 use outside::{Blobs, Clock, Held, Port, Sink, Source, Tells};
+use outside_remote::Remote;
 use repo_config::Settings;
 use repo_core::Core;
 use repo_course::End;
@@ -21,21 +22,28 @@ use run_lines::settings_of;
 use std::alloc::Global;
 
 /// Serves the first stream of the desk's port, if there is one. `None` where the port failed.
-pub fn serve_first<P: Port, B: Blobs, K: Records, C: Clock>(
+pub fn serve_first<P: Port, B: Blobs, R: Remote, K: Records, C: Clock>(
     alloc: Global,
     settings: &Settings,
-    desk: &mut Desk<P, B>,
+    desk: &mut Desk<P, B, R>,
     core: &mut Core<K, C, B::Held>,
 ) -> Option<End>
     requires { core.old.settings ≡ settings.now }
     ensures { ServesFirst (AllTell B.Held.bytes) ⟦<P::Link as Tells>⟧ settings.now
-        (desk_state (looks ⟦<P as Port>⟧ ⟦<P::Link as Tells>⟧ ⟦<B as Blobs>⟧ ⟦<B::Held as Held>⟧) desk.old)
-        (desk_state (looks ⟦<P as Port>⟧ ⟦<P::Link as Tells>⟧ ⟦<B as Blobs>⟧ ⟦<B::Held as Held>⟧) desk.new)
+        (desk_state (looks ⟦<P as Port>⟧ ⟦<P::Link as Tells>⟧ ⟦<B as Blobs>⟧ ⟦<B::Held as Held>⟧ ⟦<R as Remote>⟧) desk.old)
+        (desk_state (looks ⟦<P as Port>⟧ ⟦<P::Link as Tells>⟧ ⟦<B as Blobs>⟧ ⟦<B::Held as Held>⟧ ⟦<R as Remote>⟧) desk.new)
         core.old core.new result }
 {
     match desk.port.next() {
         Ok(Some(mut link)) => {
-            let end = serve_stream(alloc, settings, core, &mut desk.blobs, &mut link);
+            let end = serve_stream(
+                alloc,
+                settings,
+                core,
+                &mut desk.blobs,
+                &mut desk.remote,
+                &mut link,
+            );
             desk.port.back(link);
             Some(end)
         }
@@ -45,17 +53,17 @@ pub fn serve_first<P: Port, B: Blobs, K: Records, C: Clock>(
 }
 
 /// Serves the first connection of the desk by a repository of these settings, and prints how it ended.
-fn serve<P: Port, B: Blobs, K: Records, C: Clock, O: Sink>(
+fn serve<P: Port, B: Blobs, R: Remote, K: Records, C: Clock, O: Sink>(
     alloc: Global,
     settings: &Settings,
-    desk: &mut Desk<P, B>,
+    desk: &mut Desk<P, B, R>,
     records: K,
     clock: C,
     out: &mut O,
 ) -> Ended<K, C>
     ensures { (source source' : File) → Replays (AllTell B.Held.bytes) ⟦<P::Link as Tells>⟧ settings.now
-        (view_of ⟦<K as Records>⟧ ⟦<C as Clock>⟧ ⟦<O as Tells>⟧ source (desk_state (looks ⟦<P as Port>⟧ ⟦<P::Link as Tells>⟧ ⟦<B as Blobs>⟧ ⟦<B::Held as Held>⟧) desk.old) records clock out.old)
-        (view_of ⟦<K as Records>⟧ ⟦<C as Clock>⟧ ⟦<O as Tells>⟧ source' (desk_state (looks ⟦<P as Port>⟧ ⟦<P::Link as Tells>⟧ ⟦<B as Blobs>⟧ ⟦<B::Held as Held>⟧) desk.new) result.records result.clock out.new)
+        (view_of ⟦<K as Records>⟧ ⟦<C as Clock>⟧ ⟦<O as Tells>⟧ source (desk_state (looks ⟦<P as Port>⟧ ⟦<P::Link as Tells>⟧ ⟦<B as Blobs>⟧ ⟦<B::Held as Held>⟧ ⟦<R as Remote>⟧) desk.old) records clock out.old)
+        (view_of ⟦<K as Records>⟧ ⟦<C as Clock>⟧ ⟦<O as Tells>⟧ source' (desk_state (looks ⟦<P as Port>⟧ ⟦<P::Link as Tells>⟧ ⟦<B as Blobs>⟧ ⟦<B::Held as Held>⟧ ⟦<R as Remote>⟧) desk.new) result.records result.clock out.new)
         result.status }
 {
     settings.form();
@@ -81,17 +89,17 @@ fn serve<P: Port, B: Blobs, K: Records, C: Clock, O: Sink>(
 }
 
 /// Reads the settings, and serves by them.
-pub(crate) fn replay<S: Source, P: Port, B: Blobs, K: Records, C: Clock, O: Sink>(
+pub(crate) fn replay<S: Source, P: Port, B: Blobs, R: Remote, K: Records, C: Clock, O: Sink>(
     alloc: Global,
     settings: &mut S,
-    desk: &mut Desk<P, B>,
+    desk: &mut Desk<P, B, R>,
     records: K,
     clock: C,
     out: &mut O,
 ) -> Ended<K, C>
     ensures { ReplaysBy (AllTell B.Held.bytes) ⟦<P::Link as Tells>⟧
-        (view_of ⟦<K as Records>⟧ ⟦<C as Clock>⟧ ⟦<O as Tells>⟧ (source_seen ⟦<S as Tells>⟧ settings.old) (desk_state (looks ⟦<P as Port>⟧ ⟦<P::Link as Tells>⟧ ⟦<B as Blobs>⟧ ⟦<B::Held as Held>⟧) desk.old) records clock out.old)
-        (view_of ⟦<K as Records>⟧ ⟦<C as Clock>⟧ ⟦<O as Tells>⟧ (source_seen ⟦<S as Tells>⟧ settings.new) (desk_state (looks ⟦<P as Port>⟧ ⟦<P::Link as Tells>⟧ ⟦<B as Blobs>⟧ ⟦<B::Held as Held>⟧) desk.new) result.records result.clock out.new)
+        (view_of ⟦<K as Records>⟧ ⟦<C as Clock>⟧ ⟦<O as Tells>⟧ (source_seen ⟦<S as Tells>⟧ settings.old) (desk_state (looks ⟦<P as Port>⟧ ⟦<P::Link as Tells>⟧ ⟦<B as Blobs>⟧ ⟦<B::Held as Held>⟧ ⟦<R as Remote>⟧) desk.old) records clock out.old)
+        (view_of ⟦<K as Records>⟧ ⟦<C as Clock>⟧ ⟦<O as Tells>⟧ (source_seen ⟦<S as Tells>⟧ settings.new) (desk_state (looks ⟦<P as Port>⟧ ⟦<P::Link as Tells>⟧ ⟦<B as Blobs>⟧ ⟦<B::Held as Held>⟧ ⟦<R as Remote>⟧) desk.new) result.records result.clock out.new)
         result.status }
 {
     match settings_of(alloc, settings, out) {

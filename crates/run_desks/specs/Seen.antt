@@ -6,14 +6,17 @@ use Rattle.outside.specs.declared.stores.Held.{Ghosts as Holding}
 use Rattle.outside.specs.declared.tells.Tells.{Ghosts as Telling}
 use Rattle.outside_pace.specs.declared.pace.Pace.{Ghosts as Pacing}
 use Rattle.outside_pace.specs.Pauses.{Pauses}
+use Rattle.outside_remote.specs.Exchanges.{Sees}
+use Rattle.outside_remote.specs.declared.remote.Remote.{Ghosts as Fetching}
 use Rattle.repo_course.specs.Cleaning.{Store, store}
 use Rattle.repo_course.specs.Serving.{AllTell, Outside, outside}
 use Rattle.run_desks.specs.declared.objects.Cleaner.{Cleaner}
 use Rattle.run_desks.specs.declared.objects.Desk.{Desk}
 
--- what a desk's own things tell: its store of blobs
+-- what a desk's own things tell: its store of blobs, and the remotes
 pub record Kit : Type 0 where
   pub blobs : Store
+  pub remote : Sees
 
 -- the same with other blobs
 abbrev pub with_blobs : Store → Kit → Kit
@@ -33,20 +36,20 @@ pub record Looks (L P D : Type 0) : Type 1 where
 abbrev pub store_seen : {B H N : Type 0} → Storing B H N → B → Store
 store_seen stores blobs = store (stores.shelf blobs) (stores.faults blobs)
 
-abbrev pub looks : {P B L H N : Type 0} → Listening P L → Telling L → Storing B H N → Holding H → Looks L P (Desk P B L H N)
-looks ports links stores held = record {
+abbrev pub looks : {P B R L H N : Type 0} → Listening P L → Telling L → Storing B H N → Holding H → Fetching R → Looks L P (Desk P B R L H N)
+looks ports links stores held remotes = record {
   link = links;
   left = ports.left;
   given_back = ports.given_back;
   faults = ports.faults;
   port = λ desk. desk.port;
-  kit = λ desk. record { blobs = store_seen stores desk.blobs };
+  kit = λ desk. record { blobs = store_seen stores desk.blobs; remote = remotes.sees desk.remote };
   tells = AllTell held.bytes;
 }
 
 -- what is seen while a connection is served with these things, of which these bytes are held
 abbrev pub around : {L P D : Type 0} → Looks L P D → List ℕ → L → Kit → Outside
-around looks held link kit = outside looks.link held link kit.blobs.faults kit.blobs.shelf
+around looks held link kit = outside looks.link held link kit.blobs.faults kit.blobs.shelf kit.remote
 
 -- the cleaner: the pauses that its timer tells, and its blobs
 pub record Broom : Type 0 where

@@ -10,6 +10,7 @@ ghost use Rattle.run_serve.specs.Running.{ByWords, MatchRun, RunsBy};
 use crate::serving::serve;
 use outside::{Blobs, Clock, Held, Port, Sink, Source, Tells};
 use outside_pace::Pace;
+use outside_remote::Remote;
 use repo_core::Core;
 use repo_run::{Action, Ran, run_once, wanted};
 use row_tables::Records;
@@ -27,30 +28,31 @@ use turn_seats::Repository;
 pub fn run<
     P: Port + Drop + Send,
     B: Blobs + Drop + Send,
+    R: Remote + Drop + Send,
     Q: Pace + Drop + Send,
     K: Records + Send,
     C: Clock + Send,
     S: Source,
     O: Sink,
-    R: Threads + Wait + Sync,
+    W: Threads + Wait + Sync,
 >(
-    rt: &R,
+    rt: &W,
     alloc: Global,
     words: &[String],
     settings: &mut S,
-    desks: Vec<Desk<P, B>>,
+    desks: Vec<Desk<P, B, R>>,
     cleaner: Cleaner<B, Q>,
     records: K,
     clock: C,
     out: &mut O,
-) -> Ran<P, B, Q, K, C>
+) -> Ran<P, B, R, Q, K, C>
 where
     P::Link: Send,
     B::Held: Send,
     B::Pen: Send,
     requires desks { 0 < vec_len desks }
     ensures status { MatchRun (asked (map string_bytes words.now)).command result.status }
-    ensures run { RunsBy (looks ⟦<P as Port>⟧ ⟦<P::Link as Tells>⟧ ⟦<B as Blobs>⟧ ⟦<B::Held as Held>⟧)
+    ensures run { RunsBy (looks ⟦<P as Port>⟧ ⟦<P::Link as Tells>⟧ ⟦<B as Blobs>⟧ ⟦<B::Held as Held>⟧ ⟦<R as Remote>⟧)
         (rules ⟦<Core<K, C, B::Held> as Thing>⟧ ⟦<Core<K, C, B::Held> as Repository>⟧.sight) (asked (map string_bytes words.now)).command
         (view ⟦<S as Tells>⟧ ⟦<B as Blobs>⟧ ⟦<Q as Pace>⟧ ⟦<K as Records>⟧ ⟦<C as Clock>⟧ ⟦<O as Tells>⟧ settings.old desks.items cleaner records clock out.old)
         (view ⟦<S as Tells>⟧ ⟦<B as Blobs>⟧ ⟦<Q as Pace>⟧ ⟦<K as Records>⟧ ⟦<C as Clock>⟧ ⟦<O as Tells>⟧ settings.new result.desks.items result.cleaner result.records result.clock out.new)

@@ -10,6 +10,7 @@ use crate::calls::tell_work;
 use desk_work::{Worked, work};
 use outside::{Blobs, Clock, Held, Port, Sink, Source, Tells};
 use outside_pace::Pace;
+use outside_remote::Remote;
 use repo_config::Settings;
 use repo_core::Core;
 use repo_run::{Ran, begin, refuse_start};
@@ -26,26 +27,27 @@ use turn_seats::Repository;
 fn serve_core<
     P: Port + Drop + Send,
     B: Blobs + Drop + Send,
+    R: Remote + Drop + Send,
     Q: Pace + Drop + Send,
     K: Records + Send,
     C: Clock + Send,
     O: Sink,
-    R: Threads + Wait + Sync,
+    W: Threads + Wait + Sync,
 >(
-    rt: &R,
+    rt: &W,
     alloc: Global,
     settings: Settings,
     core: Core<K, C, B::Held>,
-    desks: Vec<Desk<P, B>>,
+    desks: Vec<Desk<P, B, R>>,
     cleaner: Cleaner<B, Q>,
     out: &mut O,
-) -> Ran<P, B, Q, K, C>
+) -> Ran<P, B, R, Q, K, C>
 where
     P::Link: Send,
     B::Held: Send,
     B::Pen: Send,
     requires settings { core.settings ≡ settings }
-    ensures serves { (source : File) → ServesWith (looks ⟦<P as Port>⟧ ⟦<P::Link as Tells>⟧ ⟦<B as Blobs>⟧ ⟦<B::Held as Held>⟧)
+    ensures serves { (source : File) → ServesWith (looks ⟦<P as Port>⟧ ⟦<P::Link as Tells>⟧ ⟦<B as Blobs>⟧ ⟦<B::Held as Held>⟧ ⟦<R as Remote>⟧)
         (rules ⟦<Core<K, C, B::Held> as Thing>⟧ ⟦<Core<K, C, B::Held> as Repository>⟧.sight) settings core (floor ⟦<B as Blobs>⟧ ⟦<Q as Pace>⟧ desks.items cleaner) (output_seen ⟦<O as Tells>⟧ out.old)
         (view_of ⟦<K as Records>⟧ ⟦<C as Clock>⟧ ⟦<O as Tells>⟧ source (floor ⟦<B as Blobs>⟧ ⟦<Q as Pace>⟧ result.desks.items result.cleaner) result.records result.clock out.new)
         result.status }
@@ -87,27 +89,28 @@ where
 fn serve_by<
     P: Port + Drop + Send,
     B: Blobs + Drop + Send,
+    R: Remote + Drop + Send,
     Q: Pace + Drop + Send,
     K: Records + Send,
     C: Clock + Send,
     O: Sink,
-    R: Threads + Wait + Sync,
+    W: Threads + Wait + Sync,
 >(
-    rt: &R,
+    rt: &W,
     alloc: Global,
     settings: Settings,
-    desks: Vec<Desk<P, B>>,
+    desks: Vec<Desk<P, B, R>>,
     cleaner: Cleaner<B, Q>,
     records: K,
     clock: C,
     out: &mut O,
-) -> Ran<P, B, Q, K, C>
+) -> Ran<P, B, R, Q, K, C>
 where
     P::Link: Send,
     B::Held: Send,
     B::Pen: Send,
     requires desks { 0 < vec_len desks }
-    ensures serves { (source source' : File) → ServesBy (looks ⟦<P as Port>⟧ ⟦<P::Link as Tells>⟧ ⟦<B as Blobs>⟧ ⟦<B::Held as Held>⟧)
+    ensures serves { (source source' : File) → ServesBy (looks ⟦<P as Port>⟧ ⟦<P::Link as Tells>⟧ ⟦<B as Blobs>⟧ ⟦<B::Held as Held>⟧ ⟦<R as Remote>⟧)
         (rules ⟦<Core<K, C, B::Held> as Thing>⟧ ⟦<Core<K, C, B::Held> as Repository>⟧.sight) settings
         (view_of ⟦<K as Records>⟧ ⟦<C as Clock>⟧ ⟦<O as Tells>⟧ source (floor ⟦<B as Blobs>⟧ ⟦<Q as Pace>⟧ desks.items cleaner) records clock out.old)
         (view_of ⟦<K as Records>⟧ ⟦<C as Clock>⟧ ⟦<O as Tells>⟧ source' (floor ⟦<B as Blobs>⟧ ⟦<Q as Pace>⟧ result.desks.items result.cleaner) result.records result.clock out.new)
@@ -148,28 +151,29 @@ where
 pub fn serve<
     P: Port + Drop + Send,
     B: Blobs + Drop + Send,
+    R: Remote + Drop + Send,
     Q: Pace + Drop + Send,
     K: Records + Send,
     C: Clock + Send,
     S: Source,
     O: Sink,
-    R: Threads + Wait + Sync,
+    W: Threads + Wait + Sync,
 >(
-    rt: &R,
+    rt: &W,
     alloc: Global,
     settings: &mut S,
-    desks: Vec<Desk<P, B>>,
+    desks: Vec<Desk<P, B, R>>,
     cleaner: Cleaner<B, Q>,
     records: K,
     clock: C,
     out: &mut O,
-) -> Ran<P, B, Q, K, C>
+) -> Ran<P, B, R, Q, K, C>
 where
     P::Link: Send,
     B::Held: Send,
     B::Pen: Send,
     requires desks { 0 < vec_len desks }
-    ensures serves { Serves (looks ⟦<P as Port>⟧ ⟦<P::Link as Tells>⟧ ⟦<B as Blobs>⟧ ⟦<B::Held as Held>⟧)
+    ensures serves { Serves (looks ⟦<P as Port>⟧ ⟦<P::Link as Tells>⟧ ⟦<B as Blobs>⟧ ⟦<B::Held as Held>⟧ ⟦<R as Remote>⟧)
         (rules ⟦<Core<K, C, B::Held> as Thing>⟧ ⟦<Core<K, C, B::Held> as Repository>⟧.sight)
         (view ⟦<S as Tells>⟧ ⟦<B as Blobs>⟧ ⟦<Q as Pace>⟧ ⟦<K as Records>⟧ ⟦<C as Clock>⟧ ⟦<O as Tells>⟧ settings.old desks.items cleaner records clock out.old)
         (view ⟦<S as Tells>⟧ ⟦<B as Blobs>⟧ ⟦<Q as Pace>⟧ ⟦<K as Records>⟧ ⟦<C as Clock>⟧ ⟦<O as Tells>⟧ settings.new result.desks.items result.cleaner result.records result.clock out.new)

@@ -32,7 +32,7 @@ use Rattle.repo_run.specs.FirstConnection.{Makes}
 use Rattle.turn_lock.specs.declared.view.Entry.{Entry as Call}
 use Rattle.turn_lock.specs.History as calls
 use Rattle.turn_seats.specs.Seated.{Sight, entry_of}
-use Rattle.settings_laws.proofs.Apart.{named-apart}
+use Rattle.settings_laws.proofs.Apart.{named-apart, proxies-apart}
 use Rattle.served_laws.specs.Runs.{CompletesTold, IsClosed, RecordsTables}
 
 same-tables : (tables : Option Tables) → tables ≡ option_map (λ t. with_items t []) tables
@@ -82,7 +82,7 @@ module _ (settings : Settings) (records : Recorded) (old cleared : Store) (clock
   pub begun-sound : IsSound settings core.state
   begun-sound =
       subst (IsSound settings) (sym begins.starts.state)
-      (started-sound settings begins.starts.tells begins.starts.stored clock records.faults begins.tables apart whole-order whole-range)
+      (started-sound settings begins.starts.tells begins.starts.stored clock records.faults begins.tables apart (proxies-apart settings begins.form) whole-order whole-range)
 
   pub begun-closed : (history : List Entry) → Legal settings core.state history → IsClosed settings core.state history
   begun-closed history legal = record {

@@ -24,6 +24,7 @@ ghost use Rattle.served_laws.specs.Shown.{ConnectionShows, DesksShow};
 ghost use Rattle.served_laws.specs.Worked.{document_asked, empty, file_looked, release_put, release_row};
 
 use outside::{Blobs, Clock, Held, Port, Tells};
+use outside_remote::Remote;
 use repo_core::Core;
 use row_tables::Records;
 use turn_lock::Thing;
@@ -35,11 +36,11 @@ use turn_seats::Repository;
 /// whose entries stand there; and each turn whose first entry looks at such a file in time, on whichever desk, shows the 200 with the
 /// file's bytes and both checksums, whole, or an alternative with its cause; so for its side files. What the history recorded is
 /// what the records tell in the end, where they tell.
-pub fn servers_serve_named_files<P: Port, B: Blobs, K: Records, C: Clock>()
-    ensures { (settings : Settings) (old new : View (Floor (List (Desk P B P.Link B.Held B.Pen)))) (status : ℕ) →
-        ServesBy (looks ⟦<P as Port>⟧ ⟦<P::Link as Tells>⟧ ⟦<B as Blobs>⟧ ⟦<B::Held as Held>⟧)
+pub fn servers_serve_named_files<P: Port, B: Blobs, R: Remote, K: Records, C: Clock>()
+    ensures { (settings : Settings) (old new : View (Floor (List (Desk P B R P.Link B.Held B.Pen)))) (status : ℕ) →
+        ServesBy (looks ⟦<P as Port>⟧ ⟦<P::Link as Tells>⟧ ⟦<B as Blobs>⟧ ⟦<B::Held as Held>⟧ ⟦<R as Remote>⟧)
         (rules ⟦<Core<K, C, B::Held> as Thing>⟧ ⟦<Core<K, C, B::Held> as Repository>⟧.sight) settings old new status →
-        ServerShows (looks ⟦<P as Port>⟧ ⟦<P::Link as Tells>⟧ ⟦<B as Blobs>⟧ ⟦<B::Held as Held>⟧) settings old new }
+        ServerShows (looks ⟦<P as Port>⟧ ⟦<P::Link as Tells>⟧ ⟦<B as Blobs>⟧ ⟦<B::Held as Held>⟧ ⟦<R as Remote>⟧) settings old new }
 {}
 
 /// So is it of the connection that a replay serves, whose entries are the whole history.
@@ -55,12 +56,12 @@ pub fn replays_serve_named_files<H: Held>()
 /// that looks there in time; so does each turn of a connection that is served alone. The tables that the earlier run left are those
 /// over which the next one begins, once its start has completed them, each next run begins no earlier than the one before it ended, and what was being committed at a
 /// stop counts as an entry of its run, or as none.
-pub fn later_runs_serve_named_files<P: Port, B: Blobs>()
-    ensures desks { (settings : Settings) (tables : Tables) (earlier : Run) (between : List Run) (later : Run) (desks back : List (Desk P B P.Link B.Held B.Pen)) →
+pub fn later_runs_serve_named_files<P: Port, B: Blobs, R: Remote>()
+    ensures desks { (settings : Settings) (tables : Tables) (earlier : Run) (between : List Run) (later : Run) (desks back : List (Desk P B R P.Link B.Held B.Pen)) →
         AreNamedApart settings.hosted → IsSound settings earlier.start → InOrder tables → Holds tables earlier.start → Legal settings earlier.start earlier.entries →
         Follow settings (with_items tables (told settings earlier.start earlier.entries)) (end settings earlier.start earlier.entries).last (between ++ later ∷ []) →
-        DesksShow (looks ⟦<P as Port>⟧ ⟦<P::Link as Tells>⟧ ⟦<B as Blobs>⟧ ⟦<B::Held as Held>⟧) (ShowsWhatWasNamed settings later.start) settings later.entries desks back →
-        DesksShow (looks ⟦<P as Port>⟧ ⟦<P::Link as Tells>⟧ ⟦<B as Blobs>⟧ ⟦<B::Held as Held>⟧) (ShowsWhatWasNamedIn settings earlier.start earlier.entries later.start) settings later.entries desks back }
+        DesksShow (looks ⟦<P as Port>⟧ ⟦<P::Link as Tells>⟧ ⟦<B as Blobs>⟧ ⟦<B::Held as Held>⟧ ⟦<R as Remote>⟧) (ShowsWhatWasNamed settings later.start) settings later.entries desks back →
+        DesksShow (looks ⟦<P as Port>⟧ ⟦<P::Link as Tells>⟧ ⟦<B as Blobs>⟧ ⟦<B::Held as Held>⟧ ⟦<R as Remote>⟧) (ShowsWhatWasNamedIn settings earlier.start earlier.entries later.start) settings later.entries desks back }
     ensures alone { (settings : Settings) (tables : Tables) (earlier : Run) (between : List Run) (later : Run) (old new : Outside) (ending : End) →
         AreNamedApart settings.hosted → IsSound settings earlier.start → InOrder tables → Holds tables earlier.start → Legal settings earlier.start earlier.entries →
         Follow settings (with_items tables (told settings earlier.start earlier.entries)) (end settings earlier.start earlier.entries).last (between ++ later ∷ []) →
@@ -71,14 +72,14 @@ pub fn later_runs_serve_named_files<P: Port, B: Blobs>()
 /// So of two servers under the same settings, the later one over the records that the earlier one gave back, where these tell their
 /// tables: each desk of the later one shows what a document of the earlier one named, in time, where no entry of it is earlier than
 /// the end of the other.
-pub fn restarted_servers_serve_named_files<P: Port, B: Blobs, K: Records, C: Clock>()
-    ensures { (settings : Settings) (tables : Tables) (old new later_old later_new : View (Floor (List (Desk P B P.Link B.Held B.Pen)))) (status later_status : ℕ) →
+pub fn restarted_servers_serve_named_files<P: Port, B: Blobs, R: Remote, K: Records, C: Clock>()
+    ensures { (settings : Settings) (tables : Tables) (old new later_old later_new : View (Floor (List (Desk P B R P.Link B.Held B.Pen)))) (status later_status : ℕ) →
         old.records.tables ≡ Some tables → later_old.records.tables ≡ new.records.tables →
-        ServesBy (looks ⟦<P as Port>⟧ ⟦<P::Link as Tells>⟧ ⟦<B as Blobs>⟧ ⟦<B::Held as Held>⟧)
+        ServesBy (looks ⟦<P as Port>⟧ ⟦<P::Link as Tells>⟧ ⟦<B as Blobs>⟧ ⟦<B::Held as Held>⟧ ⟦<R as Remote>⟧)
         (rules ⟦<Core<K, C, B::Held> as Thing>⟧ ⟦<Core<K, C, B::Held> as Repository>⟧.sight) settings old new status →
-        ServesBy (looks ⟦<P as Port>⟧ ⟦<P::Link as Tells>⟧ ⟦<B as Blobs>⟧ ⟦<B::Held as Held>⟧)
+        ServesBy (looks ⟦<P as Port>⟧ ⟦<P::Link as Tells>⟧ ⟦<B as Blobs>⟧ ⟦<B::Held as Held>⟧ ⟦<R as Remote>⟧)
         (rules ⟦<Core<K, C, B::Held> as Thing>⟧ ⟦<Core<K, C, B::Held> as Repository>⟧.sight) settings later_old later_new later_status →
-        RestartShows (looks ⟦<P as Port>⟧ ⟦<P::Link as Tells>⟧ ⟦<B as Blobs>⟧ ⟦<B::Held as Held>⟧) settings old new later_old later_new }
+        RestartShows (looks ⟦<P as Port>⟧ ⟦<P::Link as Tells>⟧ ⟦<B as Blobs>⟧ ⟦<B::Held as Held>⟧ ⟦<R as Remote>⟧) settings old new later_old later_new }
 {}
 
 /// A worked case of what these laws speak of: a release is put, the document of its versions, which is answered next, names it, and

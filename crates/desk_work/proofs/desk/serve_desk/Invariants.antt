@@ -9,5 +9,5 @@ invariant-loop g l = record {
   next : (goal.iterator-loop g).can_next l.iterator';
   finite : (goal.iterator-loop g).is_finite l.iterator';
   port : g.P.Port.faults l.desk.port ≡ g.P.Port.faults l.fn.desk.port;
-  so_far : Attended (looks g.P.Port g.P.Link.Tells g.B.Blobs g.B.Held.Held) (rules g.T.Thing g.T.Repository.sight) l.fn.settings l.fn.turns l.fn.seat l.seat l.fn.desk l.desk;
+  so_far : Attended (looks g.P.Port g.P.Link.Tells g.B.Blobs g.B.Held.Held g.R.Remote) (rules g.T.Thing g.T.Repository.sight) l.fn.settings l.fn.turns l.fn.seat l.seat l.fn.desk l.desk;
 }

@@ -8,6 +8,7 @@ pub run_beside-requires-send-A : goal.run_beside-requires-send-A
 run_beside-requires-send-A g c κs within =
     let p = c.type_bounds.send-P in
     let b = c.type_bounds.send-B in
+    let m = c.type_bounds.send-R in
     let t = c.type_bounds.send-T in
     search (sendable, job_crosses) depth 60
 
@@ -15,6 +16,7 @@ pub run_beside-requires-send-A-Out : goal.run_beside-requires-send-A-Out
 run_beside-requires-send-A-Out g c κs within =
     let p = c.type_bounds.send-P in
     let b = c.type_bounds.send-B in
+    let m = c.type_bounds.send-R in
     let t = c.type_bounds.send-T in
     search (sendable, crosses, token_crosses) depth 60
 

@@ -12,4 +12,4 @@ run_jobs-requires-clause-jobs g c κs within =
 pub returns-clause-done : goal.returns-clause-done
 returns-clause-done g c =
     rw (← c.seated-jobs.ensures.desks) (jobs_done (rules g.T.Thing g.T.Repository.sight) (λ house. house.turns) (λ house. house.settings) c.args.house.now (λ job. job.house.now) (λ job. job.seat) c.args.seat
-    (looks g.P.Port g.P.Link.Tells g.B.Blobs g.B.Held.Held) (λ job. job.desk) c.seated-jobs.result.items c.run_jobs.result.0.items c.seated-jobs.ensures.jobs c.run_jobs.ensures.served)
+    (looks g.P.Port g.P.Link.Tells g.B.Blobs g.B.Held.Held g.R.Remote) (λ job. job.desk) c.seated-jobs.result.items c.run_jobs.result.0.items c.seated-jobs.ensures.jobs c.run_jobs.ensures.served)

@@ -15,6 +15,6 @@ taken settings n scene written end is ends output ending (wants_memory front hea
 
 pub returns : goal.returns
 returns g c settings old new moments ending calls replayed fresh told calm =
-    let worked = put_and_get settings (Some moments) in
-    taken _ _ _ _ _ worked.0 worked.1 new.place.connection.taken ending
-    (replayed.faultless fresh moments (put_abc ++ last_get) [] told (record { reads = calm.reads; writes = calm.writes; blobs = calm.blobs }))
+    let played = replayed.faultless fresh moments (put_abc ++ last_get) [] told (record { reads = calm.reads; writes = calm.writes; blobs = calm.blobs }) in
+    let worked = put_and_get settings (Some moments) played.0 in
+    taken _ _ _ _ _ worked.0 worked.1 new.place.connection.taken ending played.2

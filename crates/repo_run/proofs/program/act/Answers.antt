@@ -12,7 +12,7 @@ returns-in-Check-clause-run g c =
     let desk = c.args.desk.now in
     let looked = c.check-status.ensures in
     let kept = ap (λ shelf. desk_of (g.P.Port.left desk.port) (g.P.Port.given_back desk.port) (g.P.Port.faults desk.port)
-    (record { blobs = store shelf (g.B.Blobs.faults c.check-status.new.blobs) })) looked.kept in
+    (record { blobs = store shelf (g.B.Blobs.faults c.check-status.new.blobs); remote = g.R.Remote.sees desk.remote })) looked.kept in
     rw c.in-Check.is ((looked.checks, kept, looked.tables, refl), refl)
 
 pub returns-in-Clean-clause-run : goal.returns-in-Clean-clause-run

@@ -18,4 +18,4 @@ pub returns-in-Err-clause-run : goal.returns-in-Err-clause-run
 returns-in-Err-clause-run g c =
     let old = view g.S.Tells g.B.Blobs g.Q.Pace g.K.Records g.C.Clock g.O.Tells c.args.settings.now c.args.desks.items c.args.cleaner c.args.records c.args.clock c.args.out.now in
     first-same c.args.desks.items _ (subst (λ (n : ℕ). 0 < n) c.args.desks.ok.0 c.requires)
-    (λ desk. starved-run (looks g.P.Port g.P.Link.Tells g.B.Blobs g.B.Held.Held) _ (at_desk desk old) (output_seen g.O.Tells c.fault-status.new.out) _ c.fault-status.ensures.prints c.fault-status.ensures.status)
+    (λ desk. starved-run (looks g.P.Port g.P.Link.Tells g.B.Blobs g.B.Held.Held g.R.Remote) _ (at_desk desk old) (output_seen g.O.Tells c.fault-status.new.out) _ c.fault-status.ensures.prints c.fault-status.ensures.status)

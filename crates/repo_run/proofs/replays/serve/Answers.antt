@@ -9,7 +9,7 @@ use Rattle.repo_run.proofs.replays.serve.Goals as goal
 
 pub returns : goal.returns
 returns g c source source' =
-    let seen = looks g.P.Port g.P.Link.Tells g.B.Blobs g.B.Held.Held in
+    let seen = looks g.P.Port g.P.Link.Tells g.B.Blobs g.B.Held.Held g.R.Remote in
     let out = output_seen g.O.Tells c.args.out.now in
     let out' = output_seen g.O.Tells c.report_first-status.new.out in
     replays (AllTell g.B.Held.Held.bytes) c.args.settings.now c.form.ensures g.P.Link.Tells

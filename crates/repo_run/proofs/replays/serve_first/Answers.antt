@@ -13,7 +13,7 @@ returns-in-Ok-Some g c =
     let taken = rw c.in-Ok-Some.field-0-is at next.given in
     let s = c.serve_stream-end.ensures.serves in
     one_served c.in-Ok-Some.link c.serve_stream-end.new.stream (g.P.Port.left c.next.new.self) s.0
-    (record { blobs = store_seen g.B.Blobs c.serve_stream-end.new.blobs }) c.serve_stream-end.result s.1 taken
+    (record { blobs = store_seen g.B.Blobs c.serve_stream-end.new.blobs; remote = g.R.Remote.sees c.serve_stream-end.new.remote }) c.serve_stream-end.result s.1 taken
     (same_desk _ _ _ _ _ _ _ back.left (back.given_back ∙ ap (λ t. behind t (c.serve_stream-end.new.stream ∷ [])) next.given_back) (back.faults ∙ next.cause))
     s.2 s.4 refl
 

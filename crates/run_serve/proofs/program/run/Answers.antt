@@ -22,7 +22,7 @@ returns-clause-run g c =
     either _ _ _
     (unread (unread-source old.source old.out out' _ c.fault-status.ensures.prints c.fault-status.ensures.status) refl (refl, refl) refl)
     (first-same c.args.desks.items _ (subst (λ (n : ℕ). 0 < n) c.args.desks.ok.0 c.requires.desks)
-    (λ desk. starved-run (looks g.P.Port g.P.Link.Tells g.B.Blobs g.B.Held.Held) _ (at_desk desk old) out' _ c.fault-status.ensures.prints c.fault-status.ensures.status))
+    (λ desk. starved-run (looks g.P.Port g.P.Link.Tells g.B.Blobs g.B.Held.Held g.R.Remote) _ (at_desk desk old) out' _ c.fault-status.ensures.prints c.fault-status.ensures.status))
 
 pub returns-clause-pace : goal.returns-clause-pace
 returns-clause-pace g c = either _ _ _ tt refl

@@ -7,7 +7,7 @@ use Rattle.served_laws.proofs.laws.later_runs_serve_named_files.Goals as goal
 
 pub returns-clause-desks : goal.returns-clause-desks
 returns-clause-desks g c settings tables earlier between later desks back apart sound order holds legal follow shown =
-    desks-again (looks g.P.Port g.P.Link.Tells g.B.Blobs g.B.Held.Held) settings (ShowsWhatWasNamedIn settings earlier.start earlier.entries later.start) later.entries
+    desks-again (looks g.P.Port g.P.Link.Tells g.B.Blobs g.B.Held.Held g.R.Remote) settings (ShowsWhatWasNamedIn settings earlier.start earlier.entries later.start) later.entries
     (λ before more rest e from turn is parts turned.
     shows-later settings apart tables earlier between later sound order holds legal follow (AllTell g.B.Held.Held.bytes) before more rest e from turn is parts turned)
     _ desks back shown

@@ -29,7 +29,7 @@ returns-clause-named c =
       parts = refl;
       directory = artifact;
       served = served;
-      answers = (artifact_document, [], refl, refl, is, refl);
+      answers = (releases, artifact_document, [], refl, inl refl, refl, is, refl);
       names = inl refl;
       in_time = omega arith;
     }
