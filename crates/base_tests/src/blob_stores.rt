@@ -3,7 +3,7 @@ ghost use Rattle.std.specs.Prelude.{◌≡◌};
 ghost use Rattle.mvn_digest.specs.Digests.{digests_of as digests_in};
 
 use mvn_digest::{Digests, Hashes, Known};
-use outside::{BlobFault, Blobs, CheckFault, Parcel, Piece, adopt_checked};
+use outside::{BlobFault, Blobs, CheckFault, Piece, adopt_checked};
 use outside_memory::{FaultScript, MemBlobs, WrongBlobs, read_whole, store_whole};
 use outside_system::FolderBlobs;
 use std::alloc::{AllocError, Global};
@@ -17,7 +17,7 @@ const NUMBERED: &str = "base_tests_numbered";
 const MISSING: &str = "base_tests_missing";
 
 /// The digests of a body.
-pub fn digests_of(bytes: &[u8]) -> Digests
+fn digests_of(bytes: &[u8]) -> Digests
     ensures { result ≡ digests_in bytes.now }
 {
     let mut hashes = Hashes::new();
@@ -146,17 +146,6 @@ fn a_missing_folder_fails(rt: HostRuntime) -> Result<(), Fail> {
     let missed = misses(&mut blobs);
     assert!(rt; missed);
     Ok(())
-}
-
-/// The parcel of a body, stored under 1 where something else may be read.
-pub fn stored<B: Blobs>(blobs: &mut B, body: &[u8]) -> Result<Parcel<B::Held>, BlobFault> {
-    let held = store_whole(blobs, 1, body)?;
-    Ok(Parcel {
-        blob: 1,
-        held,
-        length: body.len() as u64,
-        digests: digests_of(body),
-    })
 }
 
 // What a checked look at `abc` finds in place of it.

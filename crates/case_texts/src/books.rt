@@ -2,13 +2,24 @@
 use crate::entries::Entry;
 use crate::escapes::written;
 use crate::reading::CaseFault;
+use crate::words::number_of;
 use std::alloc::{AllocError, Global};
 
 /// A text and its name.
 #[derive(Drop)]
-struct Named {
-    name: String,
-    text: String,
+pub(crate) struct Named {
+    pub(crate) name: String,
+    pub(crate) text: String,
+}
+
+/// The text with a name.
+pub(crate) fn text_with<'a>(all: &'a [Named], name: &str) -> Option<&'a str> {
+    for named in all {
+        if named.name.as_str() == name {
+            return Some(named.text.as_str());
+        }
+    }
+    None
 }
 
 /// The texts that were named so far.
@@ -26,20 +37,20 @@ struct Times {
 
 const ONCE: Times = Times { first: 1, last: 1 };
 
-fn number_of(word: &str) -> Result<u64, CaseFault> {
-    word.parse::<u64>().map_err(|_| CaseFault::Number)
+fn number_in(word: &str) -> Result<u64, CaseFault> {
+    number_of(word).ok_or(CaseFault::Number)
 }
 
 /// `N` or `A..B`.
 fn times_of(word: &str) -> Result<Times, CaseFault> {
     match word.split_once("..") {
         Some((first, last)) => Ok(Times {
-            first: number_of(first)?,
-            last: number_of(last)?,
+            first: number_in(first)?,
+            last: number_in(last)?,
         }),
         None => Ok(Times {
             first: 1,
-            last: number_of(word)?,
+            last: number_in(word)?,
         }),
     }
 }
@@ -72,14 +83,8 @@ impl Book {
         }
     }
 
-    /// The text with a name.
     fn text(&self, name: &str) -> Option<&str> {
-        for named in &self.texts {
-            if named.name.as_str() == name {
-                return Some(named.text.as_str());
-            }
-        }
-        None
+        text_with(&self.texts, name)
     }
 
     /// Names the text of an entry.

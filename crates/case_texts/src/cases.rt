@@ -1,15 +1,12 @@
 // A run of the program as plain values: what comes in, what fails, and what has to be answered.
+use crate::failures::Object;
 use std::alloc::{AllocError, Global};
 use std::mem;
 
-/// Which call of each object fails, if one does, and the room of both sinks.
+/// The call of an object that fails, if one does, and the room of both sinks.
 #[derive(Clone, Copy)]
 pub struct Script {
-    pub settings: Option<u64>,
-    pub port: Option<u64>,
-    pub reads: Option<u64>,
-    pub blobs: Option<u64>,
-    pub records: Option<u64>,
+    pub failing: Option<(Object, u64)>,
     pub room: usize,
     pub line_room: usize,
 }
@@ -17,24 +14,24 @@ pub struct Script {
 impl Script {
     /// Nothing fails.
     pub const PLAIN: Script = Script {
-        settings: None,
-        port: None,
-        reads: None,
-        blobs: None,
-        records: None,
+        failing: None,
         room: 500_000,
         line_room: 100,
     };
 
     /// Whether nothing fails, and both sinks have room.
     pub fn is_plain(self) -> bool {
-        self.settings.is_none()
-            && self.port.is_none()
-            && self.reads.is_none()
-            && self.blobs.is_none()
-            && self.records.is_none()
+        self.failing.is_none()
             && self.room >= Script::PLAIN.room
             && self.line_room >= Script::PLAIN.line_room
+    }
+
+    /// The call of this object that fails, if one does.
+    pub fn call_of(self, object: Object) -> Option<u64> {
+        match self.failing {
+            Some((failing, call)) if failing == object => Some(call),
+            _ => None,
+        }
     }
 }
 

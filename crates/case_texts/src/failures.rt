@@ -1,9 +1,9 @@
 // What a run of which one call fails has to come to.
-use crate::cases::{Case, Script};
+use crate::cases::Case;
 use crate::went::{Went, alike};
 
 /// What the program stands on, of which a call may fail.
-#[derive(Clone, Copy)]
+#[derive(Clone, Copy, PartialEq, Eq)]
 pub enum Object {
     Settings,
     Port,
@@ -23,14 +23,12 @@ impl Object {
 
     /// The object with this name.
     pub(crate) fn of(name: &str) -> Option<Object> {
-        match name {
-            "settings" => Some(Object::Settings),
-            "port" => Some(Object::Port),
-            "reads" => Some(Object::Reads),
-            "blobs" => Some(Object::Blobs),
-            "records" => Some(Object::Records),
-            _ => None,
+        for object in Object::ALL {
+            if object.name() == name {
+                return Some(object);
+            }
         }
+        None
     }
 
     pub fn name(self) -> &'static str {
@@ -41,19 +39,6 @@ impl Object {
             Object::Blobs => "blobs",
             Object::Records => "records",
         }
-    }
-
-    /// The script in which this call of the object fails too.
-    pub fn failing_at(self, call: u64, script: Script) -> Script {
-        let mut script = script;
-        match self {
-            Object::Settings => script.settings = Some(call),
-            Object::Port => script.port = Some(call),
-            Object::Reads => script.reads = Some(call),
-            Object::Blobs => script.blobs = Some(call),
-            Object::Records => script.records = Some(call),
-        }
-        script
     }
 }
 

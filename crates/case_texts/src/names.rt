@@ -1,19 +1,12 @@
 // Names that stand for texts in the steps of cases.
-use crate::books::Book;
+use crate::books::{Book, Named, text_with};
 use crate::entries::Entry;
 use crate::reading::CaseFault;
 use std::alloc::{AllocError, Global};
 
-/// A name and its text.
-#[derive(Drop)]
-struct Named {
-    name: String,
-    text: String,
-}
-
 /// The names so far.
 #[derive(Drop)]
-pub struct Names {
+pub(crate) struct Names {
     book: Book,
     all: Vec<Named>,
 }
@@ -24,24 +17,15 @@ fn text_of(alloc: Global, bytes: &[u8]) -> Result<String, CaseFault> {
 }
 
 impl Names {
-    pub fn new(alloc: Global) -> Names {
+    pub(crate) fn new(alloc: Global) -> Names {
         Names {
             book: Book::new(alloc),
             all: Vec::new(alloc),
         }
     }
 
-    fn has(&self, name: &str) -> bool {
-        for named in &self.all {
-            if named.name.as_str() == name {
-                return true;
-            }
-        }
-        false
-    }
-
     fn push(&mut self, alloc: Global, name: &str, text: String) -> Result<(), CaseFault> {
-        if self.has(name) {
+        if text_with(&self.all, name).is_some() {
             return Err(CaseFault::Text);
         }
         let name: String = String::from_str(alloc, name)?;
@@ -77,12 +61,11 @@ impl Names {
 
     /// What a word stands for.
     fn meaning<'a>(&'a self, word: &'a str) -> &'a str {
-        for named in &self.all {
-            if named.name.as_str() == word {
-                return named.text.as_str();
-            }
+        match text_with(&self.all, word) {
+            Some(text) => text,
+            None if word == "-" => "",
+            None => word,
         }
-        if word == "-" { "" } else { word }
     }
 
     /// The words of a text, each as what it stands for.

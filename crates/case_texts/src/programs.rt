@@ -1,11 +1,33 @@
-// Programs over files of cases of steps.
+// Programs over files of cases.
 use crate::names::Names;
+use crate::reading::Refusal;
 use crate::steps::{Steps, Told, follow};
+use std::alloc::Global;
 use std::io::Read;
-use std::rt::Files;
-use std::{fs, io};
+use std::process::ExitCode;
+use std::rt::{Env, Files};
+use std::{env, fs, io};
 
-/// Prints how a case went. Whether nothing else was told than what has to be.
+/// What judges the cases of files, one after the other. What a file names counts in the files behind it.
+pub trait Judge {
+    /// How the cases of a text go.
+    fn judge(&mut self, alloc: Global, text: &str) -> Result<Vec<Told>, Refusal>;
+}
+
+/// The names so far, and what takes the steps of cases.
+#[derive(Drop)]
+struct Follower<S: Steps + Drop> {
+    names: Names,
+    steps: S,
+}
+
+impl<S: Steps + Drop> Judge for Follower<S> {
+    fn judge(&mut self, alloc: Global, text: &str) -> Result<Vec<Told>, Refusal> {
+        follow(alloc, &mut self.names, &mut self.steps, text)
+    }
+}
+
+/// Prints how a case went. Whether it went as it has to.
 fn report(rt: &impl Print, told: &Told) -> io::Result<bool> {
     let name: &str = told.name.as_str();
     match &told.wrong {
@@ -20,15 +42,14 @@ fn report(rt: &impl Print, told: &Told) -> io::Result<bool> {
     }
 }
 
-/// Follows the cases of a text. Whether all go as they have to.
-fn follow_text<S: Steps>(
+/// Judges the cases of a text. Whether all go as they have to.
+fn judge_text<J: Judge>(
     rt: &(impl AllocGlobal + Print),
-    names: &mut Names,
-    steps: &mut S,
+    judge: &mut J,
     from: &str,
     text: &str,
 ) -> io::Result<bool> {
-    let cases: Vec<Told> = match follow(rt.alloc(), names, steps, text) {
+    let cases: Vec<Told> = match judge.judge(rt.alloc(), text) {
         Ok(cases) => cases,
         Err(refusal) => {
             let line = refusal.line;
@@ -44,22 +65,44 @@ fn follow_text<S: Steps>(
     Ok(all)
 }
 
-/// Follows the cases of steps of these files, or of the standard input where there is none, and prints `ok NAME` for each that goes
-/// as it has to, and the first difference of the others. Whether all do. Names that a file says count in the files behind it.
-pub fn follow_files<S: Steps>(
+/// Judges the cases of these files, or of the standard input where there is none. Whether all go as they have to.
+fn judge_files<J: Judge>(
     rt: &(impl AllocGlobal + Files + Input + Print),
-    steps: &mut S,
+    judge: &mut J,
     files: &[String],
 ) -> io::Result<bool> {
-    let mut names: Names = Names::new(rt.alloc());
     if files.is_empty() {
         let text: String = io::read_to_string(rt.alloc(), rt.reader())?;
-        return follow_text(rt, &mut names, steps, "input", text.as_str());
+        return judge_text(rt, judge, "input", text.as_str());
     }
     let mut all = true;
     for file in files {
         let text: String = fs::read_to_string(rt, file.as_str())?;
-        all = follow_text(rt, &mut names, steps, file.as_str(), text.as_str())? && all;
+        all = judge_text(rt, judge, file.as_str(), text.as_str())? && all;
     }
     Ok(all)
+}
+
+/// A program that judges the cases of the files that its words name, or of the standard input where there is none, and prints `ok NAME`
+/// for each that goes as it has to, and how the others go wrong. Its status is 0 where all go as they have to, and 1 where one does not
+/// or a file is refused.
+pub fn run_judge<J: Judge>(
+    rt: &(impl AllocGlobal + Env + Files + Input + Print),
+    judge: &mut J,
+) -> io::Result<ExitCode> {
+    let files: Vec<String> = env::args(rt)?.skip(1).collect(rt.alloc())?;
+    Ok(if judge_files(rt, judge, files.as_slice())? {
+        ExitCode::SUCCESS
+    } else {
+        ExitCode::FAILURE
+    })
+}
+
+/// The same for cases of steps, each followed to the first step of which something else is told than what has to be.
+pub fn run_steps<S: Steps + Drop>(
+    rt: &(impl AllocGlobal + Env + Files + Input + Print),
+    steps: S,
+) -> io::Result<ExitCode> {
+    let names: Names = Names::new(rt.alloc());
+    run_judge(rt, &mut Follower { names, steps })
 }

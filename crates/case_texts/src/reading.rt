@@ -8,7 +8,7 @@ use crate::cases::{Case, Pieces, Stored};
 use crate::entries::{EntriesFault, Entry, read_entries};
 use crate::escapes::{WrittenFault, push_line, written};
 use crate::failures::Object;
-use crate::keys::Key;
+use crate::words;
 use std::alloc::{AllocError, Global};
 use std::fmt;
 
@@ -83,21 +83,18 @@ impl From<EntriesFault> for Refusal {
     }
 }
 
+/// The number that a word is.
+fn number_in(word: &str) -> Result<u64, CaseFault> {
+    words::number_of(word).ok_or(CaseFault::Number)
+}
+
 /// What one number says.
 fn number_of(entry: &Entry) -> Result<u64, CaseFault> {
-    entry
-        .rest
-        .as_str()
-        .parse::<u64>()
-        .map_err(|_| CaseFault::Number)
+    number_in(entry.rest.as_str())
 }
 
 fn size_of(entry: &Entry) -> Result<usize, CaseFault> {
-    entry
-        .rest
-        .as_str()
-        .parse::<usize>()
-        .map_err(|_| CaseFault::Number)
+    usize::try_from(number_of(entry)?).map_err(|_| CaseFault::Number)
 }
 
 /// Which call of an object fails.
@@ -105,11 +102,8 @@ fn set_failing(case: &mut Case, entry: &Entry) -> Result<(), CaseFault> {
     let Some((object, call)) = entry.rest.split_once(' ') else {
         return Err(CaseFault::Number);
     };
-    let call: u64 = call.parse::<u64>().map_err(|_| CaseFault::Number)?;
-    match Object::of(object) {
-        Some(object) => case.script = object.failing_at(call, case.script),
-        None => return Err(CaseFault::Word),
-    }
+    let object: Object = Object::of(object).ok_or(CaseFault::Word)?;
+    case.script.failing = Some((object, number_in(call)?));
     Ok(())
 }
 
@@ -145,8 +139,7 @@ fn stored_of(alloc: Global, entry: &Entry) -> Result<Stored, CaseFault> {
 fn blobs_of(alloc: Global, entry: &Entry) -> Result<Vec<u64>, CaseFault> {
     let mut blobs: Vec<u64> = Vec::new(alloc);
     for word in entry.rest.split_whitespace() {
-        let blob: u64 = word.parse::<u64>().map_err(|_| CaseFault::Number)?;
-        blobs.push(blob).map_err(AllocError::from)?;
+        blobs.push(number_in(word)?).map_err(AllocError::from)?;
     }
     Ok(blobs)
 }
@@ -158,60 +151,52 @@ fn line_of(alloc: Global, entry: &Entry) -> Result<Vec<u8>, CaseFault> {
     Ok(line)
 }
 
-/// What an entry without lines of text says of a case.
-fn set_value(
-    alloc: Global,
-    book: &Book,
-    case: &mut Case,
-    key: Key,
-    entry: &Entry,
-) -> Result<(), CaseFault> {
-    match key {
-        Key::Words => case.words = words_of(alloc, entry)?,
-        Key::Moment => case.moment = number_of(entry)?,
-        Key::Step => case.step = number_of(entry)?,
-        Key::Lost => case.lost.push(number_of(entry)?).map_err(AllocError::from)?,
-        Key::Fails => set_failing(case, entry)?,
-        Key::Room => case.script.room = size_of(entry)?,
-        Key::LineRoom => case.script.line_room = size_of(entry)?,
-        Key::Pieces => case.pieces = pieces_of(entry)?,
-        Key::Line => case.last.line = line_of(alloc, entry)?,
-        Key::NoLine => case.last.line = Vec::new(alloc),
-        Key::Next => case.begin_next(alloc)?,
-        Key::Blobs => case.blobs = Some(blobs_of(alloc, entry)?),
-        Key::Status => case.status = entry
-            .rest
-            .as_str()
-            .parse::<u8>()
-            .map_err(|_| CaseFault::Number)?,
+/// What an entry says of a case by a number.
+fn set_number(case: &mut Case, entry: &Entry) -> Result<(), CaseFault> {
+    match entry.key.as_str() {
+        "moment" => case.moment = number_of(entry)?,
+        "step" => case.step = number_of(entry)?,
+        "lost" => case.lost.push(number_of(entry)?).map_err(AllocError::from)?,
+        "room" => case.script.room = size_of(entry)?,
+        "line-room" => case.script.line_room = size_of(entry)?,
+        "status" => case.status = u8::try_from(number_of(entry)?).map_err(|_| CaseFault::Number)?,
         _ => return Err(CaseFault::Word),
     }
     Ok(())
 }
 
+/// What an entry without lines of text says of a case.
+fn set_value(alloc: Global, case: &mut Case, entry: &Entry) -> Result<(), CaseFault> {
+    match entry.key.as_str() {
+        "words" => case.words = words_of(alloc, entry)?,
+        "fails" => set_failing(case, entry)?,
+        "pieces" => case.pieces = pieces_of(entry)?,
+        "line" => case.last.line = line_of(alloc, entry)?,
+        "no-line" => case.last.line = Vec::new(alloc),
+        "next" => case.begin_next(alloc)?,
+        "blobs" => case.blobs = Some(blobs_of(alloc, entry)?),
+        _ => return set_number(case, entry),
+    }
+    Ok(())
+}
+
 /// What an entry says of a case.
-fn set(
-    alloc: Global,
-    book: &Book,
-    case: &mut Case,
-    key: Key,
-    entry: &Entry,
-) -> Result<(), CaseFault> {
-    match key {
-        Key::Send => book.push_parts(&mut case.last.input, entry),
-        Key::Answer => book.push_parts(&mut case.last.answers, entry),
-        Key::Before => book.push_parts(&mut case.before, entry),
-        Key::Given => book.push_parts(&mut case.given, entry),
-        Key::Settings => {
+fn set(alloc: Global, book: &Book, case: &mut Case, entry: &Entry) -> Result<(), CaseFault> {
+    match entry.key.as_str() {
+        "send" => book.push_parts(&mut case.last.input, entry),
+        "answer" => book.push_parts(&mut case.last.answers, entry),
+        "before" => book.push_parts(&mut case.before, entry),
+        "given" => book.push_parts(&mut case.given, entry),
+        "settings" => {
             case.settings.clear();
             book.push_parts(&mut case.settings, entry)
         }
-        Key::Stored => {
+        "stored" => {
             let stored = stored_of(alloc, entry)?;
             Ok(case.stored.push(stored).map_err(AllocError::from)?)
         }
         _ if !entry.text.is_empty() => Err(CaseFault::NoPlace),
-        _ => set_value(alloc, book, case, key, entry),
+        _ => set_value(alloc, case, entry),
     }
 }
 
@@ -234,17 +219,18 @@ fn add(
     cases: &mut Vec<Case>,
     entry: &Entry,
 ) -> Result<(), CaseFault> {
-    match Key::of(entry.key.as_str()) {
-        None => Err(CaseFault::Word),
-        Some(Key::Text) => book.name(alloc, entry),
-        Some(Key::Case) => {
+    match entry.key.as_str() {
+        "text" => book.name(alloc, entry),
+        "case" => {
             let case = begun(alloc, book, entry)?;
             Ok(cases.push(case).map_err(AllocError::from)?)
         }
-        Some(key) => match cases.last_mut() {
-            Some(case) => set(alloc, book, case, key, entry),
-            None => Err(CaseFault::NoCase),
-        },
+        _ => set(
+            alloc,
+            book,
+            cases.last_mut().ok_or(CaseFault::NoCase)?,
+            entry,
+        ),
     }
 }
 

@@ -4,13 +4,16 @@ use crate::names::Names;
 use crate::reading::{CaseFault, Refusal};
 use std::alloc::{AllocError, Global};
 
+/// What is told of a step; nothing where it is none.
+pub type Tale = Result<Option<String>, AllocError>;
+
 /// What takes the steps of cases.
 pub trait Steps {
     /// Begins a case: of the case before it nothing is left.
     fn begin(&mut self, alloc: Global) -> Result<(), AllocError>;
 
-    /// Takes a step that these words say: what is told of it.
-    fn step(&mut self, alloc: Global, words: &[String]) -> Result<String, AllocError>;
+    /// Takes the step of a word and of those behind it: what is told of it. Nothing where they are no step.
+    fn step(&mut self, alloc: Global, key: &str, words: &[String]) -> Tale;
 }
 
 /// How a case went: the first step of which something else was told, if there is one.
@@ -18,6 +21,22 @@ pub trait Steps {
 pub struct Told {
     pub name: String,
     pub wrong: Option<String>,
+}
+
+/// What is told of the step that these words are.
+fn take_words<S: Steps>(
+    alloc: Global,
+    steps: &mut S,
+    words: &[String],
+) -> Result<String, AllocError> {
+    let told: Option<String> = match words {
+        [key, rest @ ..] => steps.step(alloc, key.as_str(), rest)?,
+        [] => None,
+    };
+    match told {
+        Some(told) => Ok(told),
+        None => String::from_str(alloc, "no step"),
+    }
 }
 
 /// How something else was told of a step than what has to be, if it was.
@@ -32,7 +51,7 @@ fn difference<S: Steps>(
     let step: String = format!(in alloc; "{key} {rest}")?;
     let words: Vec<String> = names.words(alloc, step.as_str())?;
     let want: String = names.spelled(alloc, want)?;
-    let told: String = steps.step(alloc, words.as_slice())?;
+    let told: String = take_words(alloc, steps, words.as_slice())?;
     if told.as_str() == want.as_str() {
         return Ok(None);
     }
@@ -86,7 +105,7 @@ fn take<S: Steps>(
 }
 
 /// How the cases of a text go, by the names so far, to which those of the text are added.
-pub fn follow<S: Steps>(
+pub(crate) fn follow<S: Steps>(
     alloc: Global,
     names: &mut Names,
     steps: &mut S,

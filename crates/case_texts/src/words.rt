@@ -33,6 +33,17 @@ pub fn bytes_of(alloc: Global, words: &[String]) -> Result<Vec<u8>, AllocError> 
     Ok(bytes)
 }
 
+/// The bytes that the words stand for, one behind the other, by the same escapes. Where a word has another one, none from there on.
+pub fn run_together(alloc: Global, words: &[String]) -> Result<Vec<u8>, AllocError> {
+    let mut bytes: Vec<u8> = Vec::new(alloc);
+    for word in words {
+        if push_line(&mut bytes, word.as_bytes(), b"", 1).is_err() {
+            break;
+        }
+    }
+    Ok(bytes)
+}
+
 /// Bytes as they are written in a step: those that are no visible ASCII as `\x` and two digits.
 pub fn shown(alloc: Global, bytes: &[u8]) -> Result<String, AllocError> {
     let mut text: String = String::new(alloc);

@@ -5,6 +5,7 @@ use mvn_digest::Hashes;
 use outside::Parcel;
 use outside_memory::{FaultScript, MemBlobs, MemHeld, store_whole};
 use repo_core::{Command, Place};
+use repo_model::Numbers;
 use std::alloc::{AllocError, Global};
 use texts::Text;
 
@@ -55,6 +56,7 @@ impl Maker {
         Ok(Command::Look {
             repo: self.repo()?,
             path: Text::new(self.alloc, path)?,
+            tried: Numbers::from_vec(Vec::new(self.alloc)),
         })
     }
 

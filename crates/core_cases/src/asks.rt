@@ -5,6 +5,8 @@ use mvn_digest::Digest;
 #[derive(Clone, Copy)]
 pub(crate) enum Ask<'a> {
     Look(&'a str, &'a str),
+    // where the remotes of these members were tried already
+    LookAgain(&'a str, &'a str, &'a [String]),
     Done(u64),
     MayPut(&'a str, &'a str),
     Put(&'a str, &'a str, u64, &'a [u8]),
@@ -22,4 +24,6 @@ pub(crate) enum Ask<'a> {
     Abort(u64),
     StageSide(u64, &'a str, Digest),
     StageDoc(u64, &'a str),
+    // what came of a fetch: of which proxy and path, under which draft, and in which words
+    Land(&'a str, &'a str, Option<u64>, &'a [String]),
 }

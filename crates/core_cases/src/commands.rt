@@ -1,11 +1,14 @@
 // Commands of plain values.
 use crate::asks::Ask;
 use crate::faults::WorldFault;
+use crate::fetched::land;
+use crate::steps::numbers_of;
 use ids::Id;
 use mvn_digest::{Digest, Hashes};
 use outside::Parcel;
 use outside_memory::{MemBlobs, MemHeld, store_whole};
 use repo_core::{Command, Place};
+use repo_model::Numbers;
 use std::alloc::Global;
 use texts::Text;
 
@@ -32,10 +35,11 @@ fn place_at(alloc: Global, repo: &str) -> Result<Place, WorldFault> {
     Ok(Place::Repository(Text::new(alloc, repo)?))
 }
 
-fn look(alloc: Global, repo: &str, path: &str) -> Result<MemCommand, WorldFault> {
+fn look(alloc: Global, repo: &str, path: &str, tried: &[String]) -> Result<MemCommand, WorldFault> {
+    let tried = Numbers::from_vec(numbers_of(alloc, tried)?);
     let repo = Text::new(alloc, repo)?;
     let path = Text::new(alloc, path)?;
-    Ok(Command::Look { repo, path })
+    Ok(Command::Look { repo, path, tried })
 }
 
 fn unlist(alloc: Global, repo: &str) -> Result<MemCommand, WorldFault> {
@@ -119,7 +123,8 @@ pub(crate) fn command_of(
     ask: Ask<'_>,
 ) -> Result<MemCommand, WorldFault> {
     match ask {
-        Ask::Look(repo, path) => look(alloc, repo, path),
+        Ask::Look(repo, path) => look(alloc, repo, path, &[]),
+        Ask::LookAgain(repo, path, tried) => look(alloc, repo, path, tried),
         Ask::Done(lease) => Ok(Command::Done { lease }),
         Ask::Drop(draft) => Ok(Command::Drop { draft }),
         Ask::MayPut(repo, _) | Ask::PutSide(repo, _, _) | Ask::PutDoc(repo, _) => {
@@ -135,6 +140,7 @@ pub(crate) fn command_of(
         Ask::Collect => Ok(Command::Collect),
         Ask::Status => Ok(Command::Status),
         Ask::Open(repo) => open(alloc, repo),
+        Ask::Land(proxy, path, draft, words) => land(alloc, blobs, proxy, path, draft, words),
         _ => session_command_of(alloc, blobs, ask),
     }
 }

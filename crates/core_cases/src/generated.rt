@@ -86,25 +86,60 @@ fn counted((files, refused): Counts, answer: &str) -> Counts {
     (files, refused)
 }
 
+/// The core and the plain machine, which are given the same commands, and how they answered.
+#[derive(Drop)]
+struct Pair {
+    numbers: Numbers,
+    plain: Plain,
+    world: World,
+    counts: Counts,
+}
+
+impl Pair {
+    /// Both before the first command, and what the core's start was told.
+    fn new(alloc: Global) -> Result<(Pair, String), WorldFault> {
+        let mut world: World = World::new(alloc, &[])?;
+        let started: String = world.start(MIXED.as_bytes(), 1_700_000_000, 1)?;
+        let plain: Plain = Plain::new(alloc);
+        let numbers: Numbers = Numbers(1);
+        let counts: Counts = (0, 0);
+        let pair = Pair {
+            numbers,
+            plain,
+            world,
+            counts,
+        };
+        Ok((pair, started))
+    }
+
+    /// Gives both one command more. Whether they answer alike.
+    fn go(&mut self) -> Result<bool, WorldFault> {
+        let ask: Ask<'static> = self.numbers.next_ask(&self.plain.drafts);
+        let want: String = self.plain.turn(ask)?;
+        self.counts = counted(self.counts, want.as_str());
+        let told: String = self.world.ask(ask)?;
+        Ok(told.as_str() == want.as_str())
+    }
+
+    /// The first of so many commands that the core answers otherwise.
+    fn first_other(&mut self, count: u64) -> Result<Option<u64>, WorldFault> {
+        for n in 0..count {
+            if !self.go()? {
+                return Ok(Some(n));
+            }
+        }
+        Ok(None)
+    }
+}
+
 // The first of so many commands that the core answers otherwise, and the counts.
 fn compared(alloc: Global, count: u64) -> Result<(Option<u64>, Counts), WorldFault> {
-    let mut plain: Plain = Plain::new(alloc);
-    let mut numbers: Numbers = Numbers(1);
-    let mut world: World = World::new(alloc, &[])?;
-    let started: String = world.start(MIXED.as_bytes(), 1_700_000_000, 1)?;
-    let mut counts: Counts = (0, 0);
+    let (mut pair, started) = Pair::new(alloc)?;
     if started.as_str() != "started" {
-        return Ok((Some(0), counts));
+        return Ok((Some(0), pair.counts));
     }
-    for n in 0..count {
-        let ask: Ask<'static> = numbers.next_ask(&plain.drafts);
-        let want: String = plain.turn(ask)?;
-        counts = counted(counts, want.as_str());
-        if world.ask(ask)?.as_str() != want.as_str() {
-            return Ok((Some(n), counts));
-        }
-    }
-    Ok((None, counts))
+    let other = pair.first_other(count)?;
+    Ok((other, pair.counts))
 }
 
 /// What is told of so many generated commands: `alike` where the core answers each as the plain machine does, and many files were

@@ -6,6 +6,7 @@
 mod asks;
 mod commands;
 mod faults;
+mod fetched;
 mod generated;
 mod plain;
 mod replies;
@@ -13,11 +14,10 @@ mod steps;
 mod worlds;
 
 use crate::worlds::World;
-use case_texts::{Steps, follow_files};
+use case_texts::{Steps, Tale, run_steps};
 use std::alloc::{AllocError, Global};
+use std::io;
 use std::process::ExitCode;
-use std::rt::{Env, Files};
-use std::{env, io};
 
 impl Steps for World {
     fn begin(&mut self, alloc: Global) -> Result<(), AllocError> {
@@ -25,27 +25,14 @@ impl Steps for World {
         Ok(())
     }
 
-    fn step(&mut self, alloc: Global, words: &[String]) -> Result<String, AllocError> {
-        match self.take(alloc, words) {
-            Ok(told) => Ok(told),
-            Err(fault) => format!(in alloc; "{fault}"),
+    fn step(&mut self, alloc: Global, key: &str, words: &[String]) -> Tale {
+        match self.take(alloc, key, words) {
+            Ok(told) => Ok(Some(told)),
+            Err(fault) => Ok(Some(format!(in alloc; "{fault}")?)),
         }
     }
 }
 
-/// Follows the cases of the files that the words name. Whether all go as they have to.
-fn follow_all(rt: &(impl AllocGlobal + Env + Files + Input + Print)) -> io::Result<bool> {
-    let files: Vec<String> = env::args(rt)?.skip(1).collect(rt.alloc())?;
-    let Ok(mut world) = World::new(rt.alloc(), &[]) else {
-        return Ok(false);
-    };
-    follow_files(rt, &mut world, files.as_slice())
-}
-
 fn main(rt: HostRuntime) -> io::Result<ExitCode> {
-    Ok(if follow_all(&rt)? {
-        ExitCode::SUCCESS
-    } else {
-        ExitCode::FAILURE
-    })
+    run_steps(&rt, World::new(rt.alloc(), &[]).map_err(|_| AllocError)?)
 }

@@ -1,5 +1,6 @@
 // What a core replies, in words.
 use crate::faults::WorldFault;
+use fetch_plan::Plan;
 use mvn_coords::Side;
 use mvn_digest::{Digest, Digests, Hashes, side_text};
 use outside_memory::MemHeld;
@@ -80,6 +81,10 @@ fn word_of(reply: &Reply<MemHeld>) -> &'static str {
         Reply::StoreFault => "store-fault",
         Reply::Spent => "spent",
         Reply::NoMemory => "no-memory",
+        Reply::Blocked => "blocked",
+        Reply::Negative => "negative",
+        Reply::Never => "never",
+        Reply::Landed => "landed",
         _ => "",
     }
 }
@@ -127,6 +132,22 @@ fn both_of(alloc: Global, kept: &Print, sent: &Print) -> Result<String, WorldFau
     Ok(format!(in alloc; "{kept} {sent}")?)
 }
 
+/// What is to be fetched: at which proxy and member, of which remote, which path, under which draft, and how long it may be.
+fn plan_of(alloc: Global, plan: &Plan) -> Result<String, WorldFault> {
+    let proxy: &str = plan.proxy.as_str();
+    let host: &str = plan.host.as_str();
+    let prefix: &str = plan.prefix.as_str();
+    let path: &str = plan.path.as_str();
+    let draft: String = match plan.draft {
+        Some(draft) => format!(in alloc; "{draft}")?,
+        None => text_of(alloc, "no-draft")?,
+    };
+    Ok(format!(in alloc;
+        "fetch {proxy} {} {host}:{}{prefix} {path} {draft} {}",
+        plan.member, plan.port, plan.limit
+    )?)
+}
+
 /// A reply, in words.
 pub(crate) fn told(alloc: Global, reply: &Reply<MemHeld>) -> Result<String, WorldFault> {
     match reply {
@@ -152,6 +173,7 @@ pub(crate) fn told(alloc: Global, reply: &Reply<MemHeld>) -> Result<String, Worl
             let text: String = bytes_of(alloc, text.as_bytes())?;
             Ok(format!(in alloc; "text {text}")?)
         }
+        Reply::Fetch(plan) => plan_of(alloc, plan),
         Reply::Doc { text, digests } => document_of(alloc, text.as_slice(), digests),
         Reply::Differs { said, kept } => {
             let said: String = digest_of(alloc, said)?;

@@ -9,11 +9,13 @@ use mvn_digest::{Digest, read_side};
 use repo_model::Item;
 use std::alloc::{AllocError, Global};
 
-fn number_of(word: &str) -> Result<u64, WorldFault> {
+/// The number that a word is.
+pub(crate) fn number_of(word: &str) -> Result<u64, WorldFault> {
     word.parse::<u64>().map_err(|_| WorldFault::NoStep)
 }
 
-fn numbers_of(alloc: Global, words: &[String]) -> Result<Vec<u64>, WorldFault> {
+/// The numbers that words are.
+pub(crate) fn numbers_of(alloc: Global, words: &[String]) -> Result<Vec<u64>, WorldFault> {
     let mut numbers: Vec<u64> = Vec::new(alloc);
     for word in words {
         numbers
@@ -23,8 +25,16 @@ fn numbers_of(alloc: Global, words: &[String]) -> Result<Vec<u64>, WorldFault> {
     Ok(numbers)
 }
 
+/// The draft that a word is; none where it is `no-draft`.
+fn draft_of(word: &str) -> Result<Option<u64>, WorldFault> {
+    if word == "no-draft" {
+        return Ok(None);
+    }
+    Ok(Some(number_of(word)?))
+}
+
 /// The digest that `sha1:` or `md5:` and small digits say.
-fn said_by(word: &str) -> Result<Digest, WorldFault> {
+pub(crate) fn said_by(word: &str) -> Result<Digest, WorldFault> {
     let read = match word.split_once(':') {
         Some(("sha1", digits)) => read_side(digits.as_bytes(), Side::Sha1),
         Some(("md5", digits)) => read_side(digits.as_bytes(), Side::Md5),
@@ -36,12 +46,18 @@ fn said_by(word: &str) -> Result<Digest, WorldFault> {
 }
 
 /// The command at a repository that these words are.
-fn ask_of(words: &[String]) -> Result<Ask<'_>, WorldFault> {
-    let [word, rest @ ..] = words else {
-        return Err(WorldFault::NoStep);
-    };
-    match (word.as_str(), rest) {
+fn ask_of<'a>(key: &str, words: &'a [String]) -> Result<Ask<'a>, WorldFault> {
+    match (key, words) {
         ("look", [repo, path]) => Ok(Ask::Look(repo.as_str(), path.as_str())),
+        ("look-again", [repo, path, tried @ ..]) => {
+            Ok(Ask::LookAgain(repo.as_str(), path.as_str(), tried))
+        }
+        ("land", [proxy, path, draft, words @ ..]) => Ok(Ask::Land(
+            proxy.as_str(),
+            path.as_str(),
+            draft_of(draft.as_str())?,
+            words,
+        )),
         ("may-put", [repo, path]) => Ok(Ask::MayPut(repo.as_str(), path.as_str())),
         ("put", [repo, path, draft, bytes]) => Ok(Ask::Put(
             repo.as_str(),
@@ -129,11 +145,13 @@ fn stages_all(world: &mut World, session: u64, count: u64) -> Result<bool, World
 }
 
 /// What is told of a world while no core runs, or of the blobs.
-fn seen(world: &mut World, alloc: Global, words: &[String]) -> Result<Option<String>, WorldFault> {
-    let [word, rest @ ..] = words else {
-        return Ok(None);
-    };
-    match (word.as_str(), rest) {
+fn seen(
+    world: &mut World,
+    alloc: Global,
+    key: &str,
+    words: &[String],
+) -> Result<Option<String>, WorldFault> {
+    match (key, words) {
         ("ended", []) => {
             let (calls, moment) = world.ended();
             Ok(Some(format!(in alloc; "{calls} {moment}")?))
@@ -174,12 +192,10 @@ fn seen(world: &mut World, alloc: Global, words: &[String]) -> Result<Option<Str
 fn started(
     world: &mut World,
     alloc: Global,
+    key: &str,
     words: &[String],
 ) -> Result<Option<String>, WorldFault> {
-    let [word, rest @ ..] = words else {
-        return Ok(None);
-    };
-    match (word.as_str(), rest) {
+    match (key, words) {
         ("start", [settings, at, step]) => Ok(Some(world.start(
             settings.as_bytes(),
             number_of(at.as_str())?,
@@ -197,12 +213,10 @@ fn started(
 fn done_beside(
     world: &mut World,
     alloc: Global,
+    key: &str,
     words: &[String],
 ) -> Result<Option<String>, WorldFault> {
-    let [word, rest @ ..] = words else {
-        return Ok(None);
-    };
-    match (word.as_str(), rest) {
+    match (key, words) {
         ("stop", []) => world.stop()?,
         ("records-fail", failing) => world.fail_at(numbers_of(alloc, failing)?.as_slice())?,
         ("blobs-fail", failing) => {
@@ -219,12 +233,10 @@ fn done_beside(
 fn judged(
     world: &mut World,
     alloc: Global,
+    key: &str,
     words: &[String],
 ) -> Result<Option<String>, WorldFault> {
-    let [word, rest @ ..] = words else {
-        return Ok(None);
-    };
-    let is_so: bool = match (word.as_str(), rest) {
+    let is_so: bool = match (key, words) {
         ("borrow", [repo, path]) => world.borrow(repo.as_str(), path.as_str())?,
         ("open-all", [repo, count]) => {
             opens_all(world, alloc, repo.as_str(), number_of(count.as_str())?)?
@@ -234,27 +246,32 @@ fn judged(
             number_of(session.as_str())?,
             number_of(count.as_str())?,
         )?,
-        ("fits", ask) => world.fits(ask_of(ask)?)?,
+        ("fits", [word, rest @ ..]) => world.fits(ask_of(word.as_str(), rest)?)?,
         _ => return Ok(None),
     };
     Ok(Some(yes_or_no(alloc, is_so)?))
 }
 
 impl World {
-    /// Takes a step that these words say: what is told of it.
-    pub(crate) fn take(&mut self, alloc: Global, words: &[String]) -> Result<String, WorldFault> {
-        if let Some(told) = started(self, alloc, words)? {
+    /// Takes the step of a word and of those behind it: what is told of it.
+    pub(crate) fn take(
+        &mut self,
+        alloc: Global,
+        key: &str,
+        words: &[String],
+    ) -> Result<String, WorldFault> {
+        if let Some(told) = started(self, alloc, key, words)? {
             return Ok(told);
         }
-        if let Some(told) = done_beside(self, alloc, words)? {
+        if let Some(told) = done_beside(self, alloc, key, words)? {
             return Ok(told);
         }
-        if let Some(told) = judged(self, alloc, words)? {
+        if let Some(told) = judged(self, alloc, key, words)? {
             return Ok(told);
         }
-        match seen(self, alloc, words)? {
+        match seen(self, alloc, key, words)? {
             Some(told) => Ok(told),
-            None => self.ask(ask_of(words)?),
+            None => self.ask(ask_of(key, words)?),
         }
     }
 }

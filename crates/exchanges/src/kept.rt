@@ -2,11 +2,12 @@
 // that those that call them at the forms in memory carry no facts.
 use crate::objects::{
     GivenDesk, MemDesk, MemPort, Store, clock_of, failing_at, give, listed, port_of, records_of,
-    store_of, went_of, written_on,
+    silent, store_of, went_of, written_on,
 };
-use case_texts::{Case, Link, Went};
+use case_texts::{Case, Link, Object, Went};
 use outside::{Blobs, Clock, Port};
 use outside_memory::{MemBlobs, MemHeld, ScriptClock, WrongBlobs, WrongHeld};
+use outside_remote::{Remote, ScriptRemote};
 use repo_config::{Settings, read};
 use repo_core::Core;
 use repo_course::End;
@@ -31,9 +32,9 @@ fn begun<K: Records + Drop, B: Blobs, C: Clock + Drop>(
 }
 
 /// Serves the first connection of a desk by the settings of the core. How it ended, if the port gave it.
-fn serve<P: Port, B: Blobs, K: Records, C: Clock>(
+fn serve<P: Port, B: Blobs, R: Remote, K: Records, C: Clock>(
     alloc: Global,
-    desk: &mut Desk<P, B>,
+    desk: &mut Desk<P, B, R>,
     core: &mut Core<K, C, B::Held>,
 ) -> Result<Option<End>, AllocError> {
     let settings: Settings = core.settings().copied(alloc)?;
@@ -94,7 +95,12 @@ impl Kept {
     ) -> Result<(Kept, Went), AllocError> {
         let Kept { mut core, blobs } = self;
         let port: MemPort = port_of(alloc, link.input.as_slice(), case.script, most)?;
-        let mut desk: MemDesk = Desk { port, blobs };
+        let remote: ScriptRemote = silent(alloc);
+        let mut desk: MemDesk = Desk {
+            port,
+            blobs,
+            remote,
+        };
         let end: Option<End> = serve(alloc, &mut desk, &mut core)?;
         let line: Vec<u8> = line_of(alloc, core.calls(), end)?;
         let (went, blobs) = went_of(alloc, desk, line, 0)?;
@@ -112,7 +118,10 @@ pub(crate) struct Given {
 impl Given {
     /// A core over nothing. Nothing where it does not start.
     pub(crate) fn new(alloc: Global, case: &Case) -> Result<Option<Given>, AllocError> {
-        let mut blobs = WrongBlobs::new(alloc, failing_at(alloc, case.script.blobs)?);
+        let mut blobs = WrongBlobs::new(
+            alloc,
+            failing_at(alloc, case.script.call_of(Object::Blobs))?,
+        );
         let records: MemRecords = records_of(alloc, case.script)?;
         let Some(settings) = read(alloc, case.settings.as_slice()).ok() else {
             return Ok(None);
@@ -132,7 +141,12 @@ impl Given {
         } = self;
         give(&mut blobs, case);
         let port: MemPort = port_of(alloc, case.last.input.as_slice(), case.script, most)?;
-        let mut desk: GivenDesk = Desk { port, blobs };
+        let remote: ScriptRemote = silent(alloc);
+        let mut desk: GivenDesk = Desk {
+            port,
+            blobs,
+            remote,
+        };
         let end: Option<End> = serve(alloc, &mut desk, &mut core)?;
         let line: Vec<u8> = line_of(alloc, core.calls(), end)?;
         given_went(alloc, desk, line)

@@ -1,22 +1,23 @@
 // What a run is given, in memory. No function here says what it gives, so that who calls several of them carries no facts.
 ghost use Rattle.std.specs.Prelude.{◌<◌, IfOk, vec_len};
 
-use case_texts::{Case, Script, Stored, Went};
+use case_texts::{Case, Object, Script, Stored, Went};
 use outside::{Blobs, Duplex};
 use outside_memory::{
     FaultScript, MemBlobs, MemLink, MemSink, MemSource, ScriptClock, ScriptPort, WrongBlobs,
     store_whole,
 };
 use outside_pace::ScriptPace;
+use outside_remote::ScriptRemote;
 use row_tables::MemRecords;
 use run_desks::{Cleaner, Desk};
 use std::alloc::{AllocError, Global};
 
 pub(crate) type MemPort = ScriptPort<MemLink>;
 
-pub(crate) type MemDesk = Desk<MemPort, MemBlobs>;
+pub(crate) type MemDesk = Desk<MemPort, MemBlobs, ScriptRemote>;
 
-pub(crate) type GivenDesk = Desk<MemPort, WrongBlobs>;
+pub(crate) type GivenDesk = Desk<MemPort, WrongBlobs, ScriptRemote>;
 
 pub(crate) type MemCleaner = Cleaner<MemBlobs, ScriptPace>;
 
@@ -53,7 +54,7 @@ fn link_of(
     script: Script,
     most: usize,
 ) -> Result<MemLink, AllocError> {
-    let source: MemSource = source_of(alloc, input, most, script.reads)?;
+    let source: MemSource = source_of(alloc, input, most, script.call_of(Object::Reads))?;
     let sink: MemSink = sink_of(alloc, script.room)?;
     Ok(Duplex { source, sink })
 }
@@ -65,9 +66,14 @@ pub(crate) fn port_of(
     script: Script,
     most: usize,
 ) -> Result<MemPort, AllocError> {
-    let faults: FaultScript = failing_at(alloc, script.port)?;
+    let faults: FaultScript = failing_at(alloc, script.call_of(Object::Port))?;
     let links: Vec<MemLink> = vec![in alloc; link_of(alloc, input, script, most)?]?;
     Ok(ScriptPort::new(alloc, links, faults)?)
+}
+
+/// A remote that gives no answer.
+pub(crate) fn silent(alloc: Global) -> ScriptRemote {
+    ScriptRemote::new(alloc, Vec::new(alloc), Vec::new(alloc))
 }
 
 /// The one desk of a run.
@@ -78,7 +84,14 @@ pub(crate) fn desks_of(
 ) -> Result<Vec<MemDesk>, AllocError>
     ensures { IfOk result (λ desks. 0 < vec_len desks) }
 {
-    Ok(vec![in alloc; Desk { port, blobs }]?)
+    let remote: ScriptRemote = silent(alloc);
+    Ok(vec![in alloc;
+        Desk {
+            port,
+            blobs,
+            remote
+        },
+    ]?)
 }
 
 /// What was written on the connection that was given back to a port.
@@ -98,7 +111,11 @@ pub(crate) fn went_of(
 ) -> Result<(Went, MemBlobs), AllocError> {
     let answers: Vec<u8> = Vec::from_slice(alloc, written_on(&desk.port))?;
     let blob_faults: u64 = desk.blobs.faults();
-    let Desk { port: _, blobs } = desk;
+    let Desk {
+        port: _,
+        blobs,
+        remote: _,
+    } = desk;
     let went = Went {
         answers,
         line,
@@ -158,7 +175,7 @@ pub(crate) fn ends_of(alloc: Global, case: &Case, script: Script) -> Result<Ends
         alloc,
         case.settings.as_slice(),
         1_000_000,
-        script.settings,
+        script.call_of(Object::Settings),
     )?;
     let out: MemSink = sink_of(alloc, script.line_room)?;
     Ok(Ends { settings, out })
@@ -195,7 +212,10 @@ fn remove(blobs: &mut MemBlobs, blob: u64) {
 
 /// What is there before all runs of a case.
 pub(crate) fn store_of(alloc: Global, case: &Case, script: Script) -> Result<Store, AllocError> {
-    let mut blobs: MemBlobs = MemBlobs::new(alloc, failing_at(alloc, script.blobs)?);
+    let mut blobs: MemBlobs = MemBlobs::new(
+        alloc,
+        failing_at(alloc, script.call_of(Object::Blobs))?,
+    );
     for stored in &case.stored {
         put(&mut blobs, stored);
     }
@@ -205,7 +225,7 @@ pub(crate) fn store_of(alloc: Global, case: &Case, script: Script) -> Result<Sto
 
 /// Records without a row.
 pub(crate) fn records_of(alloc: Global, script: Script) -> Result<MemRecords, AllocError> {
-    Ok(MemRecords::new(alloc, numbers_of(alloc, script.records)?))
+    Ok(MemRecords::new(alloc, numbers_of(alloc, script.call_of(Object::Records))?))
 }
 
 /// The first blob gives what a case says.

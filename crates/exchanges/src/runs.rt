@@ -9,24 +9,25 @@ use case_texts::{Case, Script, Went};
 use outside::{Blobs, Clock, Port, Sink, Source};
 use outside_memory::{MemBlobs, MemSink, ScriptClock};
 use outside_pace::{Pace, ScriptPace};
+use outside_remote::{Remote, ScriptRemote};
 use repo_run::{Ran, run_once};
 use row_tables::{MemRecords, Records};
 use run_desks::{Cleaner, Desk};
 use std::alloc::{AllocError, Global};
 
-type MemRan = Ran<MemPort, MemBlobs, ScriptPace, MemRecords, ScriptClock>;
+type MemRan = Ran<MemPort, MemBlobs, ScriptRemote, ScriptPace, MemRecords, ScriptClock>;
 
 /// A run of which nothing is known: what it wrote is compared byte for byte.
-fn run_plainly<B: Blobs, S: Source, P: Port, Q: Pace, K: Records, C: Clock, O: Sink>(
+fn run_plainly<B: Blobs, S: Source, P: Port, R: Remote, Q: Pace, K: Records, C: Clock, O: Sink>(
     alloc: Global,
     words: &[String],
     settings: &mut S,
-    desks: Vec<Desk<P, B>>,
+    desks: Vec<Desk<P, B, R>>,
     cleaner: Cleaner<B, Q>,
     records: K,
     clock: C,
     out: &mut O,
-) -> Ran<P, B, Q, K, C>
+) -> Ran<P, B, R, Q, K, C>
     requires { 0 < vec_len desks }
 {
     run_once(alloc, words, settings, desks, cleaner, records, clock, out)

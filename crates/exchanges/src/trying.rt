@@ -83,7 +83,11 @@ fn failed_run(
     object: Object,
     call: u64,
 ) -> Result<Option<Went>, AllocError> {
-    let script: Script = object.failing_at(call, case.script);
+    let failing = Some((object, call));
+    let script = Script {
+        failing,
+        ..case.script
+    };
     match run_of(alloc, case, script, 1_000_000)? {
         Some(went) if went.is_as_said(case) && went.blob_faults == 0 => Ok(None),
         ran => Ok(ran),

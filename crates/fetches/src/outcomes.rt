@@ -1,5 +1,6 @@
-//! Plans, and what comes of them, as the rows write it.
+//! Plans, and what comes of them, as the steps write it.
 
+use case_texts::{copied, shown};
 use fetch_plan::{Outcome, Plan};
 use mvn_coords::Side;
 use mvn_digest::{Digest, Hashes};
@@ -29,25 +30,16 @@ pub fn plan(alloc: Global, is_file: bool, limit: u64) -> Result<Plan, AllocError
     })
 }
 
-// The bytes of text as text.
-fn shown(bytes: &[u8]) -> &str {
-    str::from_utf8(bytes).unwrap_or("no text")
-}
-
-// The written text of a document, `/` being LF.
-fn document(alloc: Global, written: &[u8]) -> Result<String, AllocError> {
-    let mut line = String::from_str(alloc, "document ")?;
-    for part in shown(written).split('\n') {
-        line.push_str(part)?;
-        line.push_str("/")?;
-    }
-    Ok(line)
-}
-
 fn content(alloc: Global, content: &Content) -> Result<String, AllocError> {
     match content {
-        Content::File(checked) => Ok(format!(in alloc; "got {}", shown(checked.bytes.as_slice()))?),
-        Content::Doc(doc) => document(alloc, write(alloc, doc)?.as_slice()),
+        Content::File(checked) => {
+            let text: String = shown(alloc, checked.bytes.as_slice())?;
+            format!(in alloc; "got {text}")
+        }
+        Content::Doc(doc) => {
+            let text: String = shown(alloc, write(alloc, doc)?.as_slice())?;
+            format!(in alloc; "document {text}")
+        }
     }
 }
 
@@ -75,16 +67,16 @@ fn letter(digest: &Digest) -> &'static str {
 pub fn outcome(alloc: Global, outcome: &Outcome<Content>) -> Result<String, AllocError> {
     let text = match outcome {
         Outcome::Got(got) => content(alloc, got)?,
-        Outcome::Gone => String::from_str(alloc, "gone")?,
+        Outcome::Gone => copied(alloc, "gone")?,
         Outcome::Refused(status) => format!(in alloc; "refused {}", *status)?,
-        Outcome::NoChecksum => String::from_str(alloc, "no-checksum")?,
+        Outcome::NoChecksum => copied(alloc, "no-checksum")?,
         Outcome::Differs { said, found } => {
             format!(in alloc; "differs {} {}", letter(said), letter(found))?
         }
-        Outcome::TooLarge => String::from_str(alloc, "too-large")?,
+        Outcome::TooLarge => copied(alloc, "too-large")?,
         Outcome::BadAnswer { at } => format!(in alloc; "bad-answer {}", *at)?,
         Outcome::BadDocument { at } => format!(in alloc; "bad-document {}", *at)?,
-        Outcome::Fault => String::from_str(alloc, "fault")?,
+        Outcome::Fault => copied(alloc, "fault")?,
     };
     Ok(text)
 }

@@ -1,9 +1,9 @@
 // A real folder, whose opening is watched: what is synced of it, and what a stopped store left in it.
 use crate::noted::{Noted, Notes};
-use data_folder::{blobs_in, open_disk};
+use data_folder::{FolderDisk, blobs_in, open_disk};
 use outside::Blobs;
 use record_disk::Disk;
-use std::fs;
+use std::fs::{self, File};
 use std::io::ErrorKind;
 use std::test::Fail;
 
@@ -164,5 +164,37 @@ fn contents_that_may_not_be_written_are_refused(rt: HostRuntime) -> Result<(), F
     assert!(rt; opens_unwritable(&rt, ErrorKind::StorageFull)?);
     assert!(rt; opens_unwritable(&rt, ErrorKind::QuotaExceeded)?);
     fs::remove_dir_all(&rt, "folder_tests_writes")?;
+    Ok(())
+}
+
+// Whether a disk begins with these bytes.
+fn gives(disk: &mut FolderDisk<File>, bytes: [u8; 3]) -> bool {
+    let mut buffer = [0; 3];
+    disk.read(0, &mut buffer).is_ok() && buffer == bytes
+}
+
+// A folder is made and locked: nobody else has its records meanwhile, and they are there for the next one.
+#[test]
+fn a_folder_is_made_and_locked(rt: HostRuntime) -> Result<(), Fail> {
+    let folder = "folder_tests_locked";
+    let _ = fs::remove_dir_all(&rt, folder);
+    let mut first = open_disk(&rt, folder)?;
+    assert!(rt; first.write_at(0, b"abc").is_ok() && first.sync().is_ok());
+    let mut second = open_disk(&rt, folder)?;
+    assert!(rt; second.size().is_err() && second.sync().is_err());
+    drop(first);
+    let mut third = open_disk(&rt, folder)?;
+    assert!(rt; gives(&mut third, *b"abc"));
+    fs::remove_dir_all(&rt, folder)?;
+    Ok(())
+}
+
+#[test]
+fn a_file_is_no_folder(rt: HostRuntime) -> Result<(), Fail> {
+    fs::write(&rt, "folder_tests_file", "abc")?;
+    let mut disk = open_disk(&rt, "folder_tests_file")?;
+    let refused = disk.size().is_err();
+    fs::remove_file(&rt, "folder_tests_file")?;
+    assert!(rt; refused);
     Ok(())
 }

@@ -77,6 +77,16 @@ fn a_small_file_is_opened_once_and_read_twice(rt: HostRuntime) -> Result<(), Fai
     Ok(())
 }
 
+// The file was closed at its end. It is opened again for two reads, and closed when it is removed.
+const AGAIN: &str = "look at pieces_whole/7
+open pieces_whole/7
+read pieces_whole/7
+read pieces_whole/7
+remove pieces_whole/7
+remove pieces_whole/7.part
+look at pieces_whole/7
+";
+
 // Read again from the end to the front, and removed while the file is open.
 fn reads_backwards<B: Blobs>(blobs: &mut B, held: &B::Held) -> Result<bool, BlobFault> {
     let mut last = [0; 2];
@@ -98,9 +108,11 @@ fn a_body_in_pieces_is_synced_and_then_named(rt: HostRuntime) -> Result<(), Fail
     let whole = reads_abcde(&mut blobs, &held)?;
     let read = notes.take();
     let backwards = reads_backwards(&mut blobs, &held)?;
+    let again = notes.take();
     fs::remove_dir_all(&rt, "pieces_whole")?;
     assert_eq!(rt; written.as_str(), WRITTEN);
     assert_eq!(rt; read.as_str(), READ);
+    assert_eq!(rt; again.as_str(), AGAIN);
     assert!(rt; whole && backwards && blobs.faults() == 1);
     Ok(())
 }

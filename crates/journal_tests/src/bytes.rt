@@ -1,14 +1,12 @@
-// Journals with literal bytes, over a disk in memory.
+// What commits make of the file of a journal over a disk in memory, byte for byte.
 ghost use Rattle.std.specs.Prelude.{◌≡◌, None};
 ghost use Rattle.record_journal.specs.Journal.{tables_of, IsReady};
 
 use crate::images::disk_of;
-use crate::starts::{
-    MemJournal, NEW, ONE_SESSION, add, fits, journal_of, last_session, open, over,
-};
+use crate::starts::{MemJournal, NEW, ONE_SESSION, add, open, over};
 use record_disk::DiskScript;
-use row_tables::{CommitFault, LoadFault};
-use std::alloc::{AllocError, Global};
+use row_tables::CommitFault;
+use std::alloc::Global;
 use std::test::Fail;
 
 // The change that opens session 1, and the empty one.
@@ -23,13 +21,6 @@ const DEPLOYED: &[u8] =
 // The file of it: 8 bytes of magic, a gate, 4 bytes of length, a payload of 202 and the closed gate.
 const DEPLOYED_FILE: &[u8] =
     b"MVNROWS1\x01\0\0\0\xca\x02\0\0\0\x01\x01\0\x08releases\0\x1corg/acme/lib/1.0/lib-1.0.jar\0\0\0\0\0\0\0\x01\0\0\0\0\0\0\0\x03\xa9\x99\x3e\x36\x47\x06\x81\x6a\xba\x3e\x25\x71\x78\x50\xc2\x6c\x9c\xd0\xd8\x9d\x90\x01\x50\x98\x3c\xd2\x4f\xb0\xd6\x96\x3f\x7d\x28\xe1\x7f\x72\xba\x78\x16\xbf\x8f\x01\xcf\xea\x41\x41\x40\xde\x5d\xae\x22\x23\xb0\x03\x61\xa3\x96\x17\x7a\x9c\xb4\x10\xff\x61\xf2\x00\x15\xad\xdd\xaf\x35\xa1\x93\x61\x7a\xba\xcc\x41\x73\x49\xae\x20\x41\x31\x12\xe6\xfa\x4e\x89\xa9\x7e\xa2\x0a\x9e\xee\xe6\x4b\x55\xd3\x9a\x21\x92\x99\x2a\x27\x4f\xc1\xa8\x36\xba\x3c\x23\xa3\xfe\xeb\xbd\x45\x4d\x44\x23\x64\x3c\xe8\x0e\x2a\x9a\xc9\x4f\xa5\x4c\xa4\x9f\0\0\0\0\x65\xe0\x71\xc0\0";
-
-// The same in the first version, without SHA-256 and SHA-512: a payload of 106.
-const OLD_FILE: &[u8] =
-    b"MVNROWS1\x01\0\0\0\x6a\x01\0\0\0\x01\x01\0\x08releases\0\x1corg/acme/lib/1.0/lib-1.0.jar\0\0\0\0\0\0\0\x01\0\0\0\0\0\0\0\x03\xa9\x99\x3e\x36\x47\x06\x81\x6a\xba\x3e\x25\x71\x78\x50\xc2\x6c\x9c\xd0\xd8\x9d\x90\x01\x50\x98\x3c\xd2\x4f\xb0\xd6\x96\x3f\x7d\x28\xe1\x7f\x72\0\0\0\0\x65\xe0\x71\xc0\0";
-
-// The file of one session in the first version.
-const OLD_SESSION: [u8; 28] = *b"MVNROWS1\x01\0\0\0\x0e\x01\0\0\0\x01\x07\0\0\0\0\0\0\0\x01\0";
 
 // What a read of the file gives.
 fn file_of(journal: &MemJournal) -> &[u8] {
@@ -89,171 +80,5 @@ fn an_empty_change_undoes_a_frame(rt: HostRuntime) -> Result<(), Fail> {
     let first = (OPENED, Some(CommitFault::Failed), ONE_SESSION.as_slice());
     let second = (EMPTY, None, NEW.as_slice());
     assert!(rt; both_commit(rt.alloc(), &[8], &first, &second)?);
-    Ok(())
-}
-
-// Whether the deployed file fits what a start over this file finds.
-fn is_new_to(alloc: Global, file: &[u8]) -> Result<bool, Fail> {
-    let mut tables = open(alloc, &mut journal_of(alloc, file, u64::MAX)?)?;
-    Ok(fits(alloc, &mut tables, DEPLOYED)?)
-}
-
-// A start finds the row, in either version: the same file does not fit.
-#[test]
-fn a_deployed_file_is_found_by_a_start(rt: HostRuntime) -> Result<(), Fail> {
-    assert!(rt; is_new_to(rt.alloc(), b"")?);
-    assert!(rt; !is_new_to(rt.alloc(), DEPLOYED_FILE)?);
-    assert!(rt; !is_new_to(rt.alloc(), OLD_FILE)?);
-    Ok(())
-}
-
-// What a load comes to.
-#[derive(Clone, Copy)]
-enum Loaded {
-    // to this last session, and it leaves this file
-    To(u8, &'static [u8]),
-    // it is refused, and leaves the file as it was
-    Refused(LoadFault),
-}
-
-// A file, and what its load comes to.
-type Load = (&'static [u8], Loaded);
-
-fn is_loaded(alloc: Global, file: &[u8], want: Loaded) -> Result<bool, AllocError> {
-    let mut journal = journal_of(alloc, file, u64::MAX)?;
-    match (open(alloc, &mut journal), want) {
-        (Ok(tables), Loaded::To(last, left)) => {
-            Ok(last_session(alloc, tables)? == last && file_of(&journal) == left)
-        }
-        (Err(fault), Loaded::Refused(reason)) => Ok(fault == reason && file_of(&journal) == file),
-        _ => Ok(false),
-    }
-}
-
-// The first of these files whose load comes to something else.
-fn first_other(alloc: Global, loads: &[Load]) -> Result<Option<usize>, AllocError> {
-    for (n, (file, want)) in loads.iter().enumerate() {
-        if !is_loaded(alloc, file, *want)? {
-            return Ok(Some(n));
-        }
-    }
-    Ok(None)
-}
-
-static OF_9_BYTES: [Load; 5] = [
-    (b"", Loaded::To(0, &NEW)),
-    (b"anything!", Loaded::To(0, &NEW)),
-    (b"MVNROWS1", Loaded::To(0, &NEW)),
-    (b"MVNROWS1\x01", Loaded::To(0, &NEW)),
-    (b"MVNROWS1\0", Loaded::To(0, &NEW)),
-];
-
-#[test]
-fn a_file_of_9_bytes_is_new(rt: HostRuntime) -> Result<(), Fail> {
-    assert_eq!(rt; first_other(rt.alloc(), &OF_9_BYTES)?, None);
-    Ok(())
-}
-
-// Behind the frame of session 1: nothing, an open gate, a closed one with bytes behind it, another byte. What stands behind
-// the frame is cut off, and its gate is closed.
-static OF_ONE_FRAME: [Load; 7] = [
-    (
-        b"MVNROWS1\x01\0\0\0\x0e\x02\0\0\0\x01\x07\0\0\0\0\0\0\0\x01",
-        Loaded::To(1, &ONE_SESSION),
-    ),
-    (
-        b"MVNROWS1\x01\0\0\0\x0e\x02\0\0\0\x01\x07\0\0\0\0\0\0\0\x01\x01",
-        Loaded::To(1, &ONE_SESSION),
-    ),
-    (
-        b"MVNROWS1\x01\0\0\0\x0e\x02\0\0\0\x01\x07\0\0\0\0\0\0\0\x01\0",
-        Loaded::To(1, &ONE_SESSION),
-    ),
-    (
-        b"MVNROWS1\x01\0\0\0\x0e\x02\0\0\0\x01\x07\0\0\0\0\0\0\0\x01\0\x01\0\0",
-        Loaded::To(1, &ONE_SESSION),
-    ),
-    (
-        b"MVNROWS1\x01\0\0\0\x0e\x02\0\0\0\x01\x07\0\0\0\0\0\0\0\x01\x02xyz",
-        Loaded::To(1, &ONE_SESSION),
-    ),
-    (
-        b"MVNROWS1\x01\0\0\0\x0e\x01\0\0\0\x01\x07\0\0\0\0\0\0\0\x01",
-        Loaded::To(1, &OLD_SESSION),
-    ),
-    (b"MVNROWS1\0xyz", Loaded::To(0, &NEW)),
-];
-
-#[test]
-fn the_end_of_a_file_is_mended(rt: HostRuntime) -> Result<(), Fail> {
-    assert_eq!(rt; first_other(rt.alloc(), &OF_ONE_FRAME)?, None);
-    Ok(())
-}
-
-static OF_ANOTHER: [Load; 2] = [
-    (b"MVNROWS2\0\0", Loaded::Refused(LoadFault::NotOurs)),
-    (b"mvnrows1\0\0", Loaded::Refused(LoadFault::NotOurs)),
-];
-
-#[test]
-fn another_beginning_is_refused(rt: HostRuntime) -> Result<(), Fail> {
-    assert_eq!(rt; first_other(rt.alloc(), &OF_ANOTHER)?, None);
-    Ok(())
-}
-
-// Cut short in its length, and in its payload; longer than its change; a tag that the first version does not know, of which the
-// second reads an id; and an unknown version.
-static OF_BAD_FRAMES: [Load; 7] = [
-    (
-        b"MVNROWS1\x01\0\0",
-        Loaded::Refused(LoadFault::Row { frame: 0, at: 0 }),
-    ),
-    (
-        b"MVNROWS1\x01\0\0\0\x05\x01\0\0\0",
-        Loaded::Refused(LoadFault::Row { frame: 0, at: 0 }),
-    ),
-    (
-        b"MVNROWS1\x01\0\0\0\x05\x01\0\0\0\0\x01\0\0\0\x05\x01\0\0\0",
-        Loaded::Refused(LoadFault::Row { frame: 1, at: 0 }),
-    ),
-    (
-        b"MVNROWS1\x01\0\0\0\x06\x01\0\0\0\0\0\0",
-        Loaded::Refused(LoadFault::Row { frame: 0, at: 0 }),
-    ),
-    (
-        b"MVNROWS1\x01\0\0\0\x0e\x01\0\0\0\x01\x09\0\0\0\0\0\0\0\x01\0",
-        Loaded::Refused(LoadFault::Row { frame: 0, at: 5 }),
-    ),
-    (
-        b"MVNROWS1\x01\0\0\0\x0e\x02\0\0\0\x01\x09\0\0\0\0\0\0\0\x01\0",
-        Loaded::Refused(LoadFault::Row { frame: 0, at: 6 }),
-    ),
-    (
-        b"MVNROWS1\x01\0\0\0\x05\x01\0\0\0\0\x01\0\0\0\x01\x03\0",
-        Loaded::Refused(LoadFault::Row { frame: 1, at: 0 }),
-    ),
-];
-
-#[test]
-fn frames_that_do_not_read_are_refused(rt: HostRuntime) -> Result<(), Fail> {
-    assert_eq!(rt; first_other(rt.alloc(), &OF_BAD_FRAMES)?, None);
-    Ok(())
-}
-
-// A session that is opened twice, in one change and in two.
-static OF_MISFITS: [Load; 2] = [
-    (
-        b"MVNROWS1\x01\0\0\0\x17\x01\0\0\0\x02\x07\0\0\0\0\0\0\0\x01\x07\0\0\0\0\0\0\0\x01\0",
-        Loaded::Refused(LoadFault::Row { frame: 0, at: 14 }),
-    ),
-    (
-        b"MVNROWS1\x01\0\0\0\x0e\x01\0\0\0\x01\x07\0\0\0\0\0\0\0\x01\x01\0\0\0\x0e\x01\0\0\0\x01\x07\0\0\0\0\0\0\0\x01\0",
-        Loaded::Refused(LoadFault::Row { frame: 1, at: 5 }),
-    ),
-];
-
-#[test]
-fn changes_that_do_not_fit_are_refused(rt: HostRuntime) -> Result<(), Fail> {
-    assert_eq!(rt; first_other(rt.alloc(), &OF_MISFITS)?, None);
     Ok(())
 }

@@ -133,49 +133,14 @@ fn may_leave(alloc: Global, disk: &MemDisk, files: &[u8]) -> Result<bool, AllocE
     Ok(text.as_slice() == files)
 }
 
-#[derive(Clone, Copy)]
-enum Call {
-    Cut(u64),
-    Sync,
-    Write(u64, &'static [u8]),
-}
-
-fn makes(disk: &mut MemDisk, call: Call) -> bool {
-    match call {
-        Call::Cut(size) => disk.cut(size).is_ok(),
-        Call::Sync => disk.sync().is_ok(),
-        Call::Write(at, bytes) => disk.write_at(at, bytes).is_ok(),
-    }
-}
-
 // A cut that is synced leaves one file, and a write over its end any of these.
-static OF_A_WRITE: [(Call, &[u8]); 3] = [
-    (Call::Cut(2), b"ab,abcd,"),
-    (Call::Sync, b"ab,"),
-    (
-        Call::Write(1, b"xy"),
-        b"axy,ab,a\0\0,a\x01\x01,a\xff\xff,ax,ax\0,ax\x01,ax\xff,axy,axy,axy,axy,",
-    ),
-];
-
-// The first of these calls behind which a crash may leave other files.
-fn first_other(
-    alloc: Global,
-    disk: &mut MemDisk,
-    calls: &[(Call, &[u8])],
-) -> Result<Option<usize>, AllocError> {
-    for (n, (call, files)) in calls.iter().enumerate() {
-        if !makes(disk, *call) || !may_leave(alloc, disk, files)? {
-            return Ok(Some(n));
-        }
-    }
-    Ok(None)
-}
-
 #[test]
 fn a_write_is_torn(rt: HostRuntime) -> Result<(), Fail> {
     let alloc = rt.alloc();
     let mut disk = disk_of(alloc, b"abcd", DiskScript::none(alloc))?;
-    assert_eq!(rt; first_other(alloc, &mut disk, &OF_A_WRITE)?, None);
+    assert!(rt; disk.cut(2).is_ok() && may_leave(alloc, &disk, b"ab,abcd,")?);
+    assert!(rt; disk.sync().is_ok() && may_leave(alloc, &disk, b"ab,")?);
+    let torn = b"axy,ab,a\0\0,a\x01\x01,a\xff\xff,ax,ax\0,ax\x01,ax\xff,axy,axy,axy,axy,";
+    assert!(rt; disk.write_at(1, b"xy").is_ok() && may_leave(alloc, &disk, torn)?);
     Ok(())
 }

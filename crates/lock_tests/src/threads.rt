@@ -8,7 +8,7 @@ use std::sync::Wait;
 use std::test::*;
 use std::thread::Threads;
 use thread_jobs::{Job, run_all};
-use turn_lock::{Note, Seat, Thing, Turns, close, join_all, split_many};
+use turn_lock::{Note, Seat, Thing, Turns, close};
 
 // A call adds, and is told the sum before it.
 #[derive(Drop)]
@@ -265,106 +265,4 @@ fn a_note_goes_from_one_thread_to_another(rt: HostRuntime) -> Result<(), Fail> {
     let (counter, calls) = end(turns, (one.0, one.1.note), (two.0, two.1.note));
     assert_eq!(rt; (told, counter.sum, calls), ((0, 5), 6, 2));
     Ok(())
-}
-
-#[test]
-fn four_threads_count_a_thousand_times(rt: HostRuntime) -> Result<(), Fail> {
-    for _ in 0..1000 {
-        assert_eq!(rt; four_count(&rt, rt.alloc())?, (66, 12, 12));
-    }
-    Ok(())
-}
-
-// Four threads count up three times each. Gives the sum of the answers, the count and the number of calls.
-fn four_count<R: Threads + Wait + Sync>(
-    rt: &R,
-    alloc: Global,
-) -> Result<(u64, u64, u64), AllocError> {
-    let Ok((turns, seat)) = Turns::begin(alloc, Counter { sum: 0 }) else {
-        return Err(AllocError);
-    };
-    let (seat, answered) = four_call(rt, alloc, &turns, seat)?;
-    let (counter, calls) = close(turns, seat);
-    Ok((answered, counter.sum, calls))
-}
-
-// Four seats call three times each, at once. Gives the seat with all parts, and the sum of the answers.
-fn four_call<T: Thing<Call = u64, Reply = u64> + Send, R: Threads + Wait + Sync>(
-    rt: &R,
-    alloc: Global,
-    turns: &Turns<T>,
-    mut seat: Seat<T>,
-) -> Result<(Seat<T>, u64), AllocError>
-    requires seat { IsSeatOf (IsStep T.fixed T.may_ask T.turned) turns.now seat }
-    requires parts { parts_of seat ≡ 2 ^ 64 }
-    requires call { T.may_ask (T.fixed (opening turns.now)) 1 }
-    ensures seat { IfOk result (λ r. IsSeatOf (IsStep T.fixed T.may_ask T.turned) turns.now r.0) }
-    ensures parts { IfOk result (λ r. parts_of r.0 ≡ 2 ^ 64) }
-{
-    let seats = split_many(turns, &mut seat, 3, Vec::with_capacity(alloc, 3)?);
-    let jobs = callers(turns, &mut seat, seats, Vec::with_capacity(alloc, 3)?);
-    let heard = seat.note(turns);
-    let last = thrice(turns, seat, heard);
-    let (outs, (mut seat, own)) = all_call(rt, jobs, last, Vec::with_capacity(alloc, 3)?);
-    let told = join_all(turns, &mut seat, outs, Vec::with_capacity(alloc, 3)?);
-    let Told { note, sum } = own;
-    seat.learn(turns, note);
-    let others = learn_all(turns, &mut seat, told);
-    Ok((seat, sum.wrapping_add(others)))
-}
-
-// Makes each of these seats a caller, which hears a note of the first seat.
-fn callers<'a, T: Thing<Call = u64, Reply = u64>>(
-    turns: &'a Turns<T>,
-    seat: &mut Seat<T>,
-    mut seats: Vec<Seat<T>>,
-    mut room: Vec<Caller<'a, u64, T>>,
-) -> Vec<Caller<'a, u64, T>>
-    requires seat { IsSeatOf (IsStep T.fixed T.may_ask T.turned) turns.now seat.old }
-    requires seats { All (λ other. IsSeatOf (IsStep T.fixed T.may_ask T.turned) turns.now other) seats.items }
-    requires parts { vec_len seats < parts_of seat.old }
-    requires call { T.may_ask (T.fixed (opening turns.now)) 1 }
-    requires room { (room.items ≡ []) × (vec_len seats ≤ vec_capacity room) }
-    ensures seat { IsSeatOf (IsStep T.fixed T.may_ask T.turned) turns.now seat.new }
-    ensures left { parts_of seat.new + vec_len seats ≡ parts_of seat.old }
-    ensures jobs { All (λ d. (d.turns.now ≡ turns.now) × IsSeatOf (IsStep T.fixed T.may_ask T.turned) turns.now d.seat × IsNoteOf (IsStep T.fixed T.may_ask T.turned) turns.now d.heard × (d.call ≡ 1)) result.items }
-    ensures parts { sum_by (λ d. parts_of d.seat) result.items ≡ sum_by parts_of seats.items }
-    ensures len { vec_len result ≡ vec_len seats }
-{
-    while let Some(other) = seats.pop() {
-        let heard = seat.note(turns);
-        room.push_reserved(thrice(turns, other, heard));
-    }
-    room
-}
-
-// Takes in the notes, and adds up what came with them.
-fn learn_all<T: Thing>(turns: &Turns<T>, seat: &mut Seat<T>, mut told: Vec<Told<Note<T>>>) -> u64
-    requires seat { IsSeatOf (IsStep T.fixed T.may_ask T.turned) turns.now seat.old }
-    requires notes { All (λ one. IsNoteOf (IsStep T.fixed T.may_ask T.turned) turns.now one.note) told.items }
-    ensures seat { IsSeatOf (IsStep T.fixed T.may_ask T.turned) turns.now seat.new }
-    ensures parts { parts_of seat.new ≡ parts_of seat.old + vec_len told }
-{
-    let mut all: u64 = 0;
-    while let Some(Told { note, sum }) = told.pop() {
-        seat.learn(turns, note);
-        all = all.wrapping_add(sum);
-    }
-    all
-}
-
-fn thrice<T: Thing<Call = u64, Reply = u64>>(
-    turns: &Turns<T>,
-    seat: Seat<T>,
-    heard: Note<T>,
-) -> Caller<'_, u64, T>
-    ensures { (result.turns.now ≡ turns.now) × (result.seat ≡ seat) × (result.heard ≡ heard) × (result.call ≡ 1) }
-{
-    Caller {
-        turns,
-        seat,
-        heard,
-        call: 1,
-        times: 3,
-    }
 }

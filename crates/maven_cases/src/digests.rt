@@ -1,5 +1,5 @@
 // Digests of messages, and the texts of side files.
-use case_texts::{bytes_of, copied, text_of};
+use case_texts::{Tale, bytes_of, copied, text_of};
 use mvn_coords::Side;
 use mvn_digest::{Digest, Digests, Hashes, read_side, side_text};
 use std::alloc::{AllocError, Global};
@@ -15,7 +15,7 @@ fn digests_of(pieces: &[String]) -> Digests {
 
 const SIDES: [Side; 4] = [Side::Sha1, Side::Md5, Side::Sha256, Side::Sha512];
 
-fn word_of(side: Side) -> &'static str {
+pub(crate) fn word_of(side: Side) -> &'static str {
     match side {
         Side::Sha1 => "sha1",
         Side::Md5 => "md5",
@@ -70,11 +70,7 @@ fn told_read(alloc: Global, text: &[u8]) -> Result<String, AllocError> {
 }
 
 /// What is told of a step about digests.
-pub(crate) fn told(
-    alloc: Global,
-    key: &str,
-    words: &[String],
-) -> Result<Option<String>, AllocError> {
+pub(crate) fn told(alloc: Global, key: &str, words: &[String]) -> Tale {
     Ok(Some(match (key, words) {
         ("digests", pieces) => told_digests(alloc, &digests_of(pieces))?,
         ("digest", [side, message @ ..]) => {

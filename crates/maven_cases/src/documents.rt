@@ -1,5 +1,5 @@
 // Documents: read, made step by step, settled, merged and written.
-use case_texts::{bytes_of, copied, text_of};
+use case_texts::{Tale, bytes_of, copied, text_of};
 use group_view::merged;
 use mvn_coords::{Build, Dir, Kind, Stamp, is_artifact, is_version_directory, kind_of};
 use mvn_doc::{DocFault, read, write};
@@ -242,7 +242,7 @@ impl Documents {
     }
 
     /// What is read, merged or written in a step.
-    fn written(&mut self, key: &str, words: &[String]) -> Result<Option<String>, AllocError> {
+    fn written(&mut self, key: &str, words: &[String]) -> Tale {
         Ok(Some(match (key, words) {
             ("document", _) => {
                 let text: Vec<u8> = bytes_of(self.alloc, words)?;
@@ -265,11 +265,7 @@ impl Documents {
     }
 
     /// What is told of a step about documents.
-    pub(crate) fn told(
-        &mut self,
-        key: &str,
-        words: &[String],
-    ) -> Result<Option<String>, AllocError> {
+    pub(crate) fn told(&mut self, key: &str, words: &[String]) -> Tale {
         if let Some(told) = self.written(key, words)? {
             return Ok(Some(told));
         }

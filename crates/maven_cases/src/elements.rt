@@ -1,5 +1,5 @@
 // The elements of texts, and where texts are refused.
-use case_texts::{bytes_of, copied, shown};
+use case_texts::{Tale, bytes_of, copied, shown};
 use std::alloc::{AllocError, Global};
 use xml_subset::{Element, XmlFault, outline};
 
@@ -41,11 +41,7 @@ fn told_outline(alloc: Global, text: &[u8], last_alone: bool) -> Result<String, 
 }
 
 /// What is told of a step about elements.
-pub(crate) fn told(
-    alloc: Global,
-    key: &str,
-    words: &[String],
-) -> Result<Option<String>, AllocError> {
+pub(crate) fn told(alloc: Global, key: &str, words: &[String]) -> Tale {
     Ok(Some(match key {
         "elements" => told_outline(alloc, bytes_of(alloc, words)?.as_slice(), false)?,
         "last-element" => told_outline(alloc, bytes_of(alloc, words)?.as_slice(), true)?,

@@ -1,5 +1,5 @@
 // Members of a group: whose turn it is.
-use case_texts::copied;
+use case_texts::{Tale, copied};
 use group_view::{Stance, Turn, next};
 use std::alloc::{AllocError, Global};
 
@@ -35,11 +35,7 @@ fn told_turns(alloc: Global, letters: &str) -> Result<String, AllocError> {
 }
 
 /// What is told of a step about the members of a group.
-pub(crate) fn told(
-    alloc: Global,
-    key: &str,
-    words: &[String],
-) -> Result<Option<String>, AllocError> {
+pub(crate) fn told(alloc: Global, key: &str, words: &[String]) -> Tale {
     match (key, words) {
         ("turns", [letters]) => Ok(Some(told_turns(alloc, letters.as_str())?)),
         _ => Ok(None),

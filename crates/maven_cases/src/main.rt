@@ -15,14 +15,13 @@ mod values;
 mod versions;
 
 use crate::documents::Documents;
-use case_texts::{Steps, follow_files};
+use case_texts::{Steps, Tale, run_steps};
 use std::alloc::{AllocError, Global};
+use std::io;
 use std::process::ExitCode;
-use std::rt::{Env, Files};
-use std::{env, io};
 
 /// What is told of a step about paths, versions, digests, elements, values or members of a group.
-fn told(alloc: Global, key: &str, words: &[String]) -> Result<Option<String>, AllocError> {
+fn told(alloc: Global, key: &str, words: &[String]) -> Tale {
     if let Some(told) = paths::told(alloc, key, words)? {
         return Ok(Some(told));
     }
@@ -47,31 +46,14 @@ impl Steps for Documents {
         Ok(())
     }
 
-    fn step(&mut self, alloc: Global, words: &[String]) -> Result<String, AllocError> {
-        let [key, rest @ ..] = words else {
-            return String::from_str(alloc, "no step");
-        };
-        if let Some(told) = told(alloc, key.as_str(), rest)? {
-            return Ok(told);
-        }
-        match self.told(key.as_str(), rest).map_err(|_| AllocError)? {
-            Some(told) => Ok(told),
-            None => String::from_str(alloc, "no step"),
+    fn step(&mut self, alloc: Global, key: &str, words: &[String]) -> Tale {
+        match told(alloc, key, words)? {
+            Some(told) => Ok(Some(told)),
+            None => self.told(key, words),
         }
     }
 }
 
-/// Follows the cases of the files that the words name. Whether all go as they have to.
-fn follow_all(rt: &(impl AllocGlobal + Env + Files + Input + Print)) -> io::Result<bool> {
-    let files: Vec<String> = env::args(rt)?.skip(1).collect(rt.alloc())?;
-    let mut documents = Documents::new(rt.alloc());
-    follow_files(rt, &mut documents, files.as_slice())
-}
-
 fn main(rt: HostRuntime) -> io::Result<ExitCode> {
-    Ok(if follow_all(&rt)? {
-        ExitCode::SUCCESS
-    } else {
-        ExitCode::FAILURE
-    })
+    run_steps(&rt, Documents::new(rt.alloc()))
 }

@@ -1,8 +1,9 @@
 // Paths and what they name.
+use crate::digests::word_of;
 use crate::generated_paths::told_of_generated;
 use crate::plain_paths::{Said, line};
-use case_texts::{copied, joined, number_of};
-use mvn_coords::{Build, Coord, Dir, Kind, Side, Stamp, kind_of, path_of};
+use case_texts::{Tale, copied, joined, number_of};
+use mvn_coords::{Build, Coord, Dir, Kind, Stamp, kind_of, path_of};
 use std::alloc::{AllocError, Global};
 
 fn build_text(alloc: Global, build: Option<Build>) -> Result<String, AllocError> {
@@ -40,21 +41,12 @@ fn document_line(alloc: Global, d: &Dir<'_>, side: &str) -> Result<String, Alloc
     }
 }
 
-fn side_name(side: Side) -> &'static str {
-    match side {
-        Side::Sha1 => "sha1",
-        Side::Md5 => "md5",
-        Side::Sha256 => "sha256",
-        Side::Sha512 => "sha512",
-    }
-}
-
 fn kind_line(alloc: Global, kind: &Kind<'_>) -> Result<String, AllocError> {
     match kind {
         Kind::File(c) => file_line(alloc, c, ""),
-        Kind::FileSide(c, side) => file_line(alloc, c, side_name(*side)),
+        Kind::FileSide(c, side) => file_line(alloc, c, word_of(*side)),
         Kind::Doc(d) => document_line(alloc, d, ""),
-        Kind::DocSide(d, side) => document_line(alloc, d, side_name(*side)),
+        Kind::DocSide(d, side) => document_line(alloc, d, word_of(*side)),
     }
 }
 
@@ -124,11 +116,7 @@ fn told_order(first: &str, second: &str) -> &'static str {
 }
 
 /// What is told of a step about paths.
-pub(crate) fn told(
-    alloc: Global,
-    key: &str,
-    words: &[String],
-) -> Result<Option<String>, AllocError> {
+pub(crate) fn told(alloc: Global, key: &str, words: &[String]) -> Tale {
     Ok(Some(match (key, words) {
         ("path", _) => told_kind(alloc, joined(alloc, words)?.as_str())?,
         ("coordinates", _) => told_line(alloc, joined(alloc, words)?.as_str())?,

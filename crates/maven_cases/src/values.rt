@@ -1,8 +1,8 @@
 // What fits as a value of a document.
-use case_texts::{copied, yes_or_no};
+use case_texts::{Tale, copied, yes_or_no};
 use mvn_coords::{is_artifact, is_version_directory};
 use mvn_metadata::{is_base, is_base_version, is_classifier, is_extension, is_group};
-use std::alloc::{AllocError, Global};
+use std::alloc::Global;
 
 fn fits(value: &str, text: &str) -> bool {
     match value {
@@ -18,11 +18,7 @@ fn fits(value: &str, text: &str) -> bool {
 }
 
 /// What is told of a step about values.
-pub(crate) fn told(
-    alloc: Global,
-    key: &str,
-    words: &[String],
-) -> Result<Option<String>, AllocError> {
+pub(crate) fn told(alloc: Global, key: &str, words: &[String]) -> Tale {
     Ok(match (key, words) {
         ("fits", [value, text]) => {
             Some(copied(alloc, yes_or_no(fits(value.as_str(), text.as_str())))?)

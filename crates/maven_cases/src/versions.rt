@@ -1,6 +1,6 @@
 // Maven's version order: pairs, lists and generated pairs, which a plain program orders too.
 use crate::plain_versions;
-use case_texts::{copied, joined};
+use case_texts::{Tale, copied, joined};
 use mvn_version::{Version, compare};
 use std::alloc::{AllocError, Global};
 use std::cmp::Ordering;
@@ -101,11 +101,7 @@ fn sorted(alloc: Global, texts: &[String]) -> Result<String, AllocError> {
 }
 
 /// What is told of a step about versions.
-pub(crate) fn told(
-    alloc: Global,
-    key: &str,
-    words: &[String],
-) -> Result<Option<String>, AllocError> {
+pub(crate) fn told(alloc: Global, key: &str, words: &[String]) -> Tale {
     Ok(Some(match (key, words) {
         ("versions", [left, right]) => {
             copied(alloc, told_order(alloc, left.as_str(), right.as_str())?)?

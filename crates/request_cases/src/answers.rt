@@ -1,8 +1,8 @@
 // Answers in their bytes.
-use case_texts::{number_of, text_of};
+use case_texts::{Tale, number_of, text_of};
 use mvn_coords::Side;
-use mvn_digest::{Digests, Hashes, side_text};
-use repo_course::{Manner, Said, rendered};
+use mvn_digest::{Digest, Digests, Hashes, side_text};
+use repo_course::{FetchFault, Manner, Said, rendered};
 use repo_model::{Print, SessionResult};
 use std::alloc::{AllocError, Global};
 use texts::Bytes;
@@ -75,6 +75,33 @@ fn said_of_contents(alloc: Global, words: &[String]) -> Result<Option<Said>, All
     }))
 }
 
+/// What is said of a fetch that gave nothing.
+fn said_of_fetch(words: &[String]) -> Option<Said> {
+    let [word, rest @ ..] = words else {
+        return None;
+    };
+    let why = match (word.as_str(), rest) {
+        ("refused", [status]) => {
+            FetchFault::Refused(u16::try_from(number_of(status.as_str())?).ok()?)
+        }
+        ("no-checksum", []) => FetchFault::NoChecksum,
+        ("differs", [said, found]) => FetchFault::Differs {
+            said: Digest::Sha1(digests_of(said.as_bytes()).sha1),
+            found: Digest::Sha1(digests_of(found.as_bytes()).sha1),
+        },
+        ("too-large", []) => FetchFault::TooLarge,
+        ("bad-answer", [at]) => FetchFault::BadAnswer {
+            at: number_of(at.as_str())?,
+        },
+        ("bad-document", [at]) => FetchFault::BadDocument {
+            at: number_of(at.as_str())?,
+        },
+        ("fault", []) => FetchFault::Fault,
+        _ => return None,
+    };
+    Some(Said::NotFetched(why))
+}
+
 fn said_of(alloc: Global, words: &[String]) -> Result<Option<Said>, AllocError> {
     let [word, rest @ ..] = words else {
         return Ok(None);
@@ -84,6 +111,11 @@ fn said_of(alloc: Global, words: &[String]) -> Result<Option<Said>, AllocError> 
         ("spent", []) => Some(Said::Spent),
         ("same", []) => Some(Said::Same),
         ("relisted", []) => Some(Said::Relisted),
+        ("blocked", []) => Some(Said::Blocked),
+        ("negative", []) => Some(Said::Negative),
+        ("never", []) => Some(Said::NeverAsked),
+        ("remote-gone", []) => Some(Said::RemoteGone),
+        ("fetch", why) => said_of_fetch(why),
         ("deployed", [count]) => Some(Said::Ended(SessionResult::Done(number_of(
             count.as_str(),
         ).unwrap_or(0)))),
@@ -93,11 +125,7 @@ fn said_of(alloc: Global, words: &[String]) -> Result<Option<Said>, AllocError> 
 }
 
 /// What is told of a step about answers.
-pub(crate) fn told(
-    alloc: Global,
-    key: &str,
-    words: &[String],
-) -> Result<Option<String>, AllocError> {
+pub(crate) fn told(alloc: Global, key: &str, words: &[String]) -> Tale {
     let (true, [manner, said @ ..]) = (key == "answer", words) else {
         return Ok(None);
     };

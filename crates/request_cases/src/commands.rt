@@ -1,5 +1,5 @@
 // Words of the command line.
-use case_texts::copied;
+use case_texts::{Tale, copied};
 use command_words::{Wanted, WordsFault, read_words};
 use std::alloc::{AllocError, Global};
 use texts::Text;
@@ -42,11 +42,7 @@ fn read_plainly(alloc: Global, words: &[String]) -> Result<Wanted, WordsFault> {
 }
 
 /// What is told of a step about the command line.
-pub(crate) fn told(
-    alloc: Global,
-    key: &str,
-    words: &[String],
-) -> Result<Option<String>, AllocError> {
+pub(crate) fn told(alloc: Global, key: &str, words: &[String]) -> Tale {
     if key != "command" {
         return Ok(None);
     }

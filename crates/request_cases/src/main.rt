@@ -9,14 +9,13 @@ mod patterns;
 mod requests;
 mod settings;
 
-use case_texts::{Steps, copied, follow_files};
+use case_texts::{Steps, Tale, copied, run_steps};
 use std::alloc::{AllocError, Global};
+use std::io;
 use std::process::ExitCode;
-use std::rt::{Env, Files};
-use std::{env, io};
 
 /// What is told of a step about the command line, patterns, requests or answers.
-fn told(alloc: Global, key: &str, words: &[String]) -> Result<Option<String>, AllocError> {
+fn told(alloc: Global, key: &str, words: &[String]) -> Tale {
     if let Some(told) = commands::told(alloc, key, words)? {
         return Ok(Some(told));
     }
@@ -37,12 +36,7 @@ struct Middle {
 
 impl Middle {
     /// What is told of a step about settings, or of the middle.
-    fn told(
-        &mut self,
-        alloc: Global,
-        key: &str,
-        words: &[String],
-    ) -> Result<Option<String>, AllocError> {
+    fn told(&mut self, alloc: Global, key: &str, words: &[String]) -> Tale {
         match (key, words) {
             ("middle", [text]) => {
                 self.text = copied(alloc, text.as_str())?;
@@ -59,33 +53,15 @@ impl Steps for Middle {
         Ok(())
     }
 
-    fn step(&mut self, alloc: Global, words: &[String]) -> Result<String, AllocError> {
-        let [key, rest @ ..] = words else {
-            return copied(alloc, "no step");
-        };
-        if let Some(told) = told(alloc, key.as_str(), rest)? {
-            return Ok(told);
-        }
-        match self.told(alloc, key.as_str(), rest)? {
-            Some(told) => Ok(told),
-            None => copied(alloc, "no step"),
+    fn step(&mut self, alloc: Global, key: &str, words: &[String]) -> Tale {
+        match told(alloc, key, words)? {
+            Some(told) => Ok(Some(told)),
+            None => self.told(alloc, key, words),
         }
     }
 }
 
-/// Follows the cases of the files that the words name. Whether all go as they have to.
-fn follow_all(rt: &(impl AllocGlobal + Env + Files + Input + Print)) -> io::Result<bool> {
-    let files: Vec<String> = env::args(rt)?.skip(1).collect(rt.alloc())?;
-    let mut middle = Middle {
-        text: String::new(rt.alloc()),
-    };
-    follow_files(rt, &mut middle, files.as_slice())
-}
-
 fn main(rt: HostRuntime) -> io::Result<ExitCode> {
-    Ok(if follow_all(&rt)? {
-        ExitCode::SUCCESS
-    } else {
-        ExitCode::FAILURE
-    })
+    let text: String = String::new(rt.alloc());
+    run_steps(&rt, Middle { text })
 }

@@ -1,5 +1,5 @@
 // Patterns of paths. Each call is made in a small function of its own, so that what it promises is not carried through the others.
-use case_texts::{copied, joined, yes_or_no};
+use case_texts::{Tale, copied, joined, yes_or_no};
 use path_patterns::{PatternFault, Patterns, is_let_through, is_pattern};
 use std::alloc::{AllocError, Global};
 
@@ -60,11 +60,7 @@ fn told_added(alloc: Global, path: &str, texts: &[String]) -> Result<String, All
 }
 
 /// What is told of a step about patterns.
-pub(crate) fn told(
-    alloc: Global,
-    key: &str,
-    words: &[String],
-) -> Result<Option<String>, AllocError> {
+pub(crate) fn told(alloc: Global, key: &str, words: &[String]) -> Tale {
     Ok(Some(match (key, words) {
         ("match", [path, texts @ ..]) => told_match(alloc, path.as_str(), texts)?,
         ("through", [path, lists @ ..]) => {

@@ -1,12 +1,12 @@
 // What request heads are judged to, in words.
-use case_texts::{copied, joined};
+use case_texts::{Tale, copied, joined};
 use http_wire::Wire;
 use mvn_coords::Side;
 use outside_memory::{FaultScript, MemSource};
 use repo_config::Settings;
 use repo_model::Place;
 use repo_routes::{
-    Allow, Intent, Judged, LONGEST_DOCUMENT, LONGEST_SIDE, Refusal, Refused, Routes, judge,
+    Allow, Intent, Judged, LONGEST_DOCUMENT, LONGEST_SIDE, Refusal, Refused, Routes, Sort, judge,
 };
 use std::alloc::{AllocError, Global};
 use texts::Text;
@@ -77,9 +77,13 @@ fn intent_words(alloc: Global, intent: &Intent) -> Result<String, AllocError> {
     match intent {
         Intent::Status => String::from_str(alloc, "Status"),
         Intent::Clean(repos) => clean_words(alloc, repos.as_slice()),
-        Intent::Read { repo, path } => {
+        Intent::Read { repo, path, sort } => {
             let (repo, path) = (repo.as_str(), path.as_str());
-            format!(in alloc; "Read {repo} {path}")
+            match sort {
+                Sort::Hosted => format!(in alloc; "Read {repo} {path}"),
+                Sort::Proxy => format!(in alloc; "Read proxy {repo} {path}"),
+                Sort::Group(members) => format!(in alloc; "Read group of {members} {repo} {path}"),
+            }
         }
         Intent::PutFile {
             place,
@@ -194,11 +198,7 @@ fn told_request(alloc: Global, text: &str) -> Result<String, AllocError> {
 }
 
 /// What is told of a step about requests.
-pub(crate) fn told(
-    alloc: Global,
-    key: &str,
-    words: &[String],
-) -> Result<Option<String>, AllocError> {
+pub(crate) fn told(alloc: Global, key: &str, words: &[String]) -> Tale {
     Ok(Some(match (key, words) {
         ("request", _) => told_request(alloc, joined(alloc, words)?.as_str())?,
         ("limits", []) => format!(in alloc; "{LONGEST_SIDE} {LONGEST_DOCUMENT}")?,

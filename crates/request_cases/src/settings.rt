@@ -1,7 +1,8 @@
 // Texts of settings, and what they are read as or refused for. The settings are read in a small function of its own, so that what that
 // promises is not carried through the others.
-use case_texts::{bytes_of, copied, yes_or_no};
-use repo_config::{GroupRule, HostedRule, ProxyRule, Settings, SettingsFault, Update};
+use case_texts::{Tale, bytes_of, copied, yes_or_no};
+use repo_config::{GroupRule, HostedRule, ProxyRule, Settings, SettingsFault};
+use repo_model::Update;
 use std::alloc::{AllocError, Global};
 use texts::Text;
 
@@ -141,12 +142,7 @@ fn spelled(alloc: Global, words: &[String], middle: &str) -> Result<Vec<u8>, All
 }
 
 /// What is told of a step about settings, by the text that `@` stands for.
-pub(crate) fn told(
-    alloc: Global,
-    middle: &str,
-    key: &str,
-    words: &[String],
-) -> Result<Option<String>, AllocError> {
+pub(crate) fn told(alloc: Global, middle: &str, key: &str, words: &[String]) -> Tale {
     Ok(Some(match (key, words) {
         ("settings", _) => told_answer(alloc, spelled(alloc, words, middle)?.as_slice())?,
         ("whole", _) => told_whole(alloc, spelled(alloc, words, middle)?.as_slice())?,

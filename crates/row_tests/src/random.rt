@@ -1,10 +1,35 @@
 // 10,000 changes of random fields: read and written again, cut at every place, and with each byte changed. The tests share
 // them out, since each test has a time of its own.
-use crate::parts::{DOCUMENT, MD5, RELEASE, SHA1, SIZE, SNAPSHOT, WRITTEN};
 use repo_rows::{RowFault, put, take};
 use std::alloc::{AllocError, Global};
 use std::process::Abort;
 use std::test::Fail;
+
+// A place in a repository r: a release's file, a snapshot's, and the document of its artifact.
+const RELEASE: &[u8] = b"\0\x01r\0\x1corg/acme/lib/1.0/lib-1.0.jar";
+
+const SNAPSHOT: &[u8] = b"\0\x01r\0\x37org/acme/lib/1.1-SNAPSHOT/lib-1.1-20240229.235959-1.jar";
+
+const DOCUMENT: &[u8] = b"\0\x01r\0\x1forg/acme/lib/maven-metadata.xml";
+
+// SHA-1 and MD5 of `abc`.
+const SHA1: &[u8] =
+    b"\xa9\x99\x3e\x36\x47\x06\x81\x6a\xba\x3e\x25\x71\x78\x50\xc2\x6c\x9c\xd0\xd8\x9d";
+
+const MD5: &[u8] = b"\x90\x01\x50\x98\x3c\xd2\x4f\xb0\xd6\x96\x3f\x7d\x28\xe1\x7f\x72";
+
+// SHA-256 and SHA-512 of `abc` (FIPS 180-4's examples).
+const SHA256: &[u8] =
+    b"\xba\x78\x16\xbf\x8f\x01\xcf\xea\x41\x41\x40\xde\x5d\xae\x22\x23\xb0\x03\x61\xa3\x96\x17\x7a\x9c\xb4\x10\xff\x61\xf2\x00\x15\xad";
+
+const SHA512: &[u8] =
+    b"\xdd\xaf\x35\xa1\x93\x61\x7a\xba\xcc\x41\x73\x49\xae\x20\x41\x31\x12\xe6\xfa\x4e\x89\xa9\x7e\xa2\x0a\x9e\xee\xe6\x4b\x55\xd3\x9a\x21\x92\x99\x2a\x27\x4f\xc1\xa8\x36\xba\x3c\x23\xa3\xfe\xeb\xbd\x45\x4d\x44\x23\x64\x3c\xe8\x0e\x2a\x9a\xc9\x4f\xa5\x4c\xa4\x9f";
+
+// The written document of org/acme/lib, and its length in 4 bytes.
+const WRITTEN: &[u8] =
+    b"<?xml version=\"1.0\" encoding=\"UTF-8\"?>\n<metadata modelVersion=\"1.1.0\">\n  <groupId>org.acme</groupId>\n  <artifactId>lib</artifactId>\n  <versioning>\n    <latest>1.1-SNAPSHOT</latest>\n    <versions>\n      <version>1.1-SNAPSHOT</version>\n    </versions>\n    <lastUpdated>20240229120000</lastUpdated>\n  </versioning>\n</metadata>\n";
+
+const SIZE: &[u8] = b"\0\0\x01\x44";
 
 // Numbers that look random (the generator of Knuth's MMIX).
 #[derive(Drop)]
@@ -75,11 +100,11 @@ fn push_item(made: &mut Made, numbers: &mut Numbers) -> Result<(), AllocError> {
     let count = numbers.next().to_be_bytes();
     let moment = (numbers.next() % 253_402_207_201).to_be_bytes();
     let place = place_of(numbers.next());
-    let tag = (numbers.next() % 8 + 1) as u8;
+    let tag = (numbers.next() % 9 + 1) as u8;
     match tag {
         1 | 5 => {
             made.push_place(tag, place)?;
-            made.push(&[&number, &count, SHA1, MD5, &moment])
+            made.push(&[&number, &count, SHA1, MD5, SHA256, SHA512, &moment])
         }
         2 | 3 => {
             made.push_place(tag, place)?;
@@ -91,15 +116,19 @@ fn push_item(made: &mut Made, numbers: &mut Numbers) -> Result<(), AllocError> {
             made.push(&[&moment, SIZE, WRITTEN])
         }
         7 => made.push(&[&[tag], &number]),
+        9 => {
+            made.push_place(tag, place)?;
+            made.push(&[SHA256, SHA512])
+        }
         _ => made.push(&[&[tag], &number, b"\x01", &count]),
     }
 }
 
-// A random change of up to 5 items.
+// A random change of the second version, of up to 5 items.
 fn change_by(alloc: Global, numbers: &mut Numbers) -> Result<Made, AllocError> {
     let count = (numbers.next() % 6) as u8;
     let mut made = Made::new(alloc);
-    made.push(&[&[1], &[0, 0, 0, count]])?;
+    made.push(&[&[2], &[0, 0, 0, count]])?;
     for _ in 0..count {
         push_item(&mut made, numbers)?;
     }
@@ -122,14 +151,15 @@ fn taken_again(alloc: Global, bytes: &[u8]) -> Result<Became, AllocError> {
         Err(RowFault::BadField { at }) => return Ok(Became::Refused(at)),
         Err(RowFault::NoMemory) => return Err(AllocError),
     };
+    if !change.is_whole() {
+        return Ok(Became::Other);
+    }
     let mut again = Vec::new(alloc);
     put(alloc, &change, &mut again)?;
-    match bytes.get(..size) {
-        // The second version is written, and the bytes behind its number are the same.
-        Some([_, front @ ..]) if again.as_slice().split_first() == Some((&2, front)) => {
-            Ok(Became::Same(size))
-        }
-        _ => Ok(Became::Other),
+    if bytes.get(..size) == Some(again.as_slice()) {
+        Ok(Became::Same(size))
+    } else {
+        Ok(Became::Other)
     }
 }
 

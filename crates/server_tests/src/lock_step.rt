@@ -1,7 +1,7 @@
 // A stream in lock step: its second request comes only once the answer to the first was taken whole.
 ghost use Rattle.std.specs.Prelude.{◌≡◌};
 
-use crate::cores::{opened, settings};
+use crate::cores::{opened, settings, silent};
 use crate::literals::{ABC_LAST, CREATED, GET_LAST, PUT_ABC};
 use outside::{Failed, Sink, Source, Stream, Tells};
 use outside_memory::{FaultScript, MemBlobs};
@@ -94,7 +94,15 @@ fn an_answer_is_written_before_the_next_request_comes(rt: HostRuntime) -> Result
         right: true,
         faults: 0,
     };
-    let end = serve_stream(alloc, &settings, &mut core, &mut blobs, &mut stream);
+    let mut remote = silent(alloc);
+    let end = serve_stream(
+        alloc,
+        &settings,
+        &mut core,
+        &mut blobs,
+        &mut remote,
+        &mut stream,
+    );
     assert_eq!(rt; end, End::Closed);
     assert_eq!(rt; stream.taken, CREATED.len() + ABC_LAST.len());
     assert!(rt; stream.right);

@@ -1,19 +1,8 @@
 use outside::Clock;
-use outside_pace::{Pace, Running, ScriptPace, SleepingPace};
+use outside_pace::{Pace, Running, SleepingPace};
 use outside_system::SystemClock;
 use std::test::Fail;
 use std::time::Instant;
-
-// A list of answers is given in order, and behind it no pause is kept.
-#[test]
-fn listed_answers(rt: HostRuntime) -> Result<(), Fail> {
-    let mut pace = ScriptPace::new(rt.alloc(), vec![in rt.alloc(); true, false]?)?;
-    assert!(rt; pace.pause(60));
-    assert!(rt; !pace.pause(61));
-    assert!(rt; !pace.pause(62));
-    assert_eq!(rt; pace.kept(), [60, 61].as_slice());
-    Ok(())
-}
 
 // A sleeping timer waits as long as a port is running.
 #[test]

@@ -37,7 +37,11 @@ fn a_server_is_over_its_folder(rt: HostRuntime) -> Result<(), Fail> {
     } = server_over(&rt, &rt, folder)?;
     assert_eq!(rt; desks.len(), 4);
     for desk in desks {
-        let Desk { port: _, mut blobs } = desk;
+        let Desk {
+            port: _,
+            mut blobs,
+            remote: _,
+        } = desk;
         assert!(rt; lists_all(&mut blobs)?);
     }
     let Cleaner { mut blobs, pace: _ } = cleaner;

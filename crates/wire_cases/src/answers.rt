@@ -1,5 +1,5 @@
 // The bytes of answers.
-use case_texts::{bytes_of, number_of, text_of};
+use case_texts::{Tale, bytes_of, number_of, text_of};
 use http_wire::{
     Answer, Content, NO_MEMORY, Status, continue_answer, no_memory_answer, no_memory_head, render,
 };
@@ -75,11 +75,7 @@ fn prepared(name: &str) -> &'static [u8] {
 }
 
 /// What is told of a step about answers.
-pub(crate) fn told(
-    alloc: Global,
-    key: &str,
-    words: &[String],
-) -> Result<Option<String>, AllocError> {
+pub(crate) fn told(alloc: Global, key: &str, words: &[String]) -> Tale {
     Ok(Some(match (key, words) {
         ("answer", [status, content, length, methods, close, body @ ..]) => told_answer(
             alloc,

@@ -1,6 +1,6 @@
 // Bodies of more than one piece, and bodies that are announced and don't come.
 use crate::streams::{source_of, word_of};
-use case_texts::{copied, number_of, yes_or_no};
+use case_texts::{Tale, copied, number_of, yes_or_no};
 use http_wire::{Wire, WireFault};
 use outside_memory::MemSource;
 use std::alloc::{AllocError, Global};
@@ -153,11 +153,7 @@ fn number_in(word: &String) -> u64 {
 }
 
 /// What is told of a step about bodies.
-pub(crate) fn told(
-    alloc: Global,
-    key: &str,
-    words: &[String],
-) -> Result<Option<String>, AllocError> {
+pub(crate) fn told(alloc: Global, key: &str, words: &[String]) -> Tale {
     Ok(Some(match (key, words) {
         ("body", [length, most]) => copied(
             alloc,

@@ -1,6 +1,6 @@
 // What requests say of their fields.
 use crate::streams::source_of;
-use case_texts::{bytes_of, copied, text_of};
+use case_texts::{Tale, bytes_of, copied, text_of};
 use http_wire::{BodyLength, Request, Wire};
 use std::alloc::{AllocError, Global};
 
@@ -37,11 +37,7 @@ fn told_fields(alloc: Global, request: &Request) -> Result<String, AllocError> {
 }
 
 /// What is told of a step about fields.
-pub(crate) fn told(
-    alloc: Global,
-    key: &str,
-    words: &[String],
-) -> Result<Option<String>, AllocError> {
+pub(crate) fn told(alloc: Global, key: &str, words: &[String]) -> Tale {
     if key != "fields" {
         return Ok(None);
     }

@@ -10,56 +10,34 @@ mod generated;
 mod plain;
 mod streams;
 
-use case_texts::{Steps, copied, follow_files};
+use case_texts::{Steps, Tale, run_steps};
 use std::alloc::{AllocError, Global};
+use std::io;
 use std::process::ExitCode;
-use std::rt::{Env, Files};
-use std::{env, io};
 
 /// Steps of which none changes what comes behind it.
 #[derive(Drop)]
 struct Wires;
-
-/// What is told of a step.
-fn told(alloc: Global, key: &str, words: &[String]) -> Result<Option<String>, AllocError> {
-    if let Some(told) = streams::told(alloc, key, words)? {
-        return Ok(Some(told));
-    }
-    if let Some(told) = fields::told(alloc, key, words)? {
-        return Ok(Some(told));
-    }
-    if let Some(told) = bodies::told(alloc, key, words)? {
-        return Ok(Some(told));
-    }
-    answers::told(alloc, key, words)
-}
 
 impl Steps for Wires {
     fn begin(&mut self, _alloc: Global) -> Result<(), AllocError> {
         Ok(())
     }
 
-    fn step(&mut self, alloc: Global, words: &[String]) -> Result<String, AllocError> {
-        let [key, rest @ ..] = words else {
-            return copied(alloc, "no step");
-        };
-        match told(alloc, key.as_str(), rest)? {
-            Some(told) => Ok(told),
-            None => copied(alloc, "no step"),
+    fn step(&mut self, alloc: Global, key: &str, words: &[String]) -> Tale {
+        if let Some(told) = streams::told(alloc, key, words)? {
+            return Ok(Some(told));
         }
+        if let Some(told) = fields::told(alloc, key, words)? {
+            return Ok(Some(told));
+        }
+        if let Some(told) = bodies::told(alloc, key, words)? {
+            return Ok(Some(told));
+        }
+        answers::told(alloc, key, words)
     }
 }
 
-/// Follows the cases of the files that the words name. Whether all go as they have to.
-fn follow_all(rt: &(impl AllocGlobal + Env + Files + Input + Print)) -> io::Result<bool> {
-    let files: Vec<String> = env::args(rt)?.skip(1).collect(rt.alloc())?;
-    follow_files(rt, &mut Wires, files.as_slice())
-}
-
 fn main(rt: HostRuntime) -> io::Result<ExitCode> {
-    Ok(if follow_all(&rt)? {
-        ExitCode::SUCCESS
-    } else {
-        ExitCode::FAILURE
-    })
+    run_steps(&rt, Wires)
 }

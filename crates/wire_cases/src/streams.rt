@@ -1,7 +1,7 @@
 // Streams, and what the calls of a wire give of them.
 use crate::generated::told_of_generated;
 use crate::plain;
-use case_texts::{bytes_of, copied, number_of, text_of, yes_or_no};
+use case_texts::{Tale, bytes_of, copied, number_of, text_of, yes_or_no};
 use http_wire::{HeadFault, Request, Wire, WireFault};
 use outside_memory::{FaultScript, MemSource};
 use std::alloc::{AllocError, Global};
@@ -119,11 +119,7 @@ fn source_by(
 }
 
 /// What is told of a step about streams.
-pub(crate) fn told(
-    alloc: Global,
-    key: &str,
-    words: &[String],
-) -> Result<Option<String>, AllocError> {
+pub(crate) fn told(alloc: Global, key: &str, words: &[String]) -> Tale {
     Ok(Some(match (key, words) {
         ("calls", [calls, most, fails_at, bytes @ ..]) => {
             let source = source_by(alloc, most.as_str(), fails_at.as_str(), bytes)?;

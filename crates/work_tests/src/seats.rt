@@ -10,7 +10,7 @@ use outside::{Blobs, Clock, Parcel};
 use outside_memory::{FaultScript, MemBlobs, MemHeld, ScriptClock, store_whole};
 use repo_config::Settings;
 use repo_core::Core;
-use repo_model::{Command, Place, Reply};
+use repo_model::{Command, Numbers, Place, Reply};
 use repo_run::begin;
 use row_tables::{MemRecords, Records};
 use std::alloc::{AllocError, Global};
@@ -137,7 +137,8 @@ fn may_put(alloc: Global) -> Result<Command<MemHeld>, AllocError> {
 fn look(alloc: Global) -> Result<Command<MemHeld>, AllocError> {
     let repo = text_of(alloc, "releases")?;
     let path = text_of(alloc, PATH)?;
-    Ok(Command::Look { repo, path })
+    let tried = Numbers::from_vec(Vec::new(alloc));
+    Ok(Command::Look { repo, path, tried })
 }
 
 // The bytes `abc`, stored under the first draft.

@@ -6,6 +6,7 @@ use outside::{Blobs, Clock, Duplex, Port, Sink, Source};
 use outside_meeting::HeldBlobs;
 use outside_memory::{FaultScript, MemBlobs, MemLink, MemSink, MemSource, ScriptClock, ScriptPort};
 use outside_pace::{Pace, ScriptPace};
+use outside_remote::{Remote, ScriptRemote};
 use repo_run::Ran;
 use row_tables::{MemRecords, Records};
 use run_desks::{Cleaner, Desk};
@@ -18,33 +19,34 @@ use std::thread::Threads;
 
 type MemPort = ScriptPort<MemLink>;
 
-type HeldDesk = Desk<MemPort, HeldBlobs>;
+type HeldDesk = Desk<MemPort, HeldBlobs, ScriptRemote>;
 
 type HeldCleaner = Cleaner<HeldBlobs, ScriptPace>;
 
-type HeldRan = Ran<MemPort, HeldBlobs, ScriptPace, MemRecords, ScriptClock>;
+type HeldRan = Ran<MemPort, HeldBlobs, ScriptRemote, ScriptPace, MemRecords, ScriptClock>;
 
 // A run of which nothing is known: what it came to is compared.
 fn run_plainly<
     P: Port + Drop + Send,
     B: Blobs + Drop + Send,
+    R: Remote + Drop + Send,
     Q: Pace + Drop + Send,
     K: Records + Send,
     C: Clock + Send,
     S: Source,
     O: Sink,
-    R: Threads + Wait + Sync,
+    W: Threads + Wait + Sync,
 >(
-    rt: &R,
+    rt: &W,
     alloc: Global,
     words: &[String],
     settings: &mut S,
-    desks: Vec<Desk<P, B>>,
+    desks: Vec<Desk<P, B, R>>,
     cleaner: Cleaner<B, Q>,
     records: K,
     clock: C,
     out: &mut O,
-) -> Ran<P, B, Q, K, C>
+) -> Ran<P, B, R, Q, K, C>
 where
     P::Link: Send,
     B::Held: Send,
@@ -101,7 +103,12 @@ fn desk_of(
 ) -> Result<HeldDesk, AllocError> {
     let port = port_of(alloc, inputs, failing)?;
     let blobs = twin.member()?;
-    Ok(Desk { port, blobs })
+    let remote = ScriptRemote::new(alloc, Vec::new(alloc), Vec::new(alloc));
+    Ok(Desk {
+        port,
+        blobs,
+        remote,
+    })
 }
 
 // The desks of a case, whose blobs are twins of this one.
