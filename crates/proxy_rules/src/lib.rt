@@ -7,8 +7,10 @@ mod landed;
 mod proxy;
 mod rule;
 mod settling;
+mod subjects;
 
 pub use landed::Landed;
 pub use path_patterns::{PatternFault, Patterns};
 pub use proxy::Proxy;
 pub use rule::Rule;
+pub use subjects::subject_of;

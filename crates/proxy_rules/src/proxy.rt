@@ -7,7 +7,7 @@ ghost use Rattle.mvn_metadata.specs.Written as written;
 ghost use Rattle.repo_model.specs.Command.{is_landing, longest_landed, names_document};
 ghost use Rattle.repo_model.specs.Effect.{clears_mark, keeps_doc, new_row, recorded, with_kept, with_mark, with_row};
 ghost use Rattle.repo_model.specs.History.{latest_moment};
-ghost use Rattle.repo_model.specs.Proxies.{decided, kept_at, settled_at, step_out};
+ghost use Rattle.repo_model.specs.Proxies.{decided, kept_at, settled_at, step_out, subject_of};
 ghost use Rattle.repo_model.specs.Shown.{outcome_map, shown_got, shown_parcel};
 ghost use Rattle.repo_model.specs.State.{is_proxy, new_proxy, number_end, row_at};
 ghost use Rattle.repo_model.specs.Turn.{lands_file};
@@ -20,6 +20,7 @@ use crate::keeping::{keep_document, keep_file};
 use crate::landed::Landed;
 use crate::rule::Rule;
 use crate::settling::settled;
+use crate::subjects::subject_of;
 use fetch_plan::{Outcome, Plan};
 use mvn_coords::{Kind, kind_of};
 use mvn_digest::Digests;
@@ -105,13 +106,14 @@ impl<H: Held> Proxy<H> {
         self.rule.id.as_str() == id
     }
 
-    /// What it does about the path of a file or a document at a moment, in seconds since 1970 in UTC, where its remote was tried
-    /// already or not. A file that it keeps is answered, and so is a document that need not be asked for again. Else the remote is
-    /// asked, unless it was tried, the rule says never, or it had nothing there a short time ago; then a document that is kept is
-    /// answered, however old. Of a side file the path of its file or document is asked for. It takes no memory.
+    /// What it does about a path at a moment, in seconds since 1970 in UTC, where its remote was tried already or not. A side file is
+    /// judged by the path of its file or document. A file that it keeps is answered, and so is a document that need not be asked for
+    /// again. Else the remote is asked, unless it was tried, the rule says never, or it had nothing there a short time ago; then a
+    /// document that is kept is answered, however old. It takes no memory.
     pub fn decide(&self, path: &str, now: u64, tried: bool) -> Step
-        ensures { result ≡ decided self.now now tried path.now }
+        ensures { result ≡ decided self.now now tried (subject_of path.now (kind path.now)) }
     {
+        let path = subject_of(path);
         if !is_let_through(&self.rule.allow, &self.rule.block, path) {
             return Step::Blocked;
         }

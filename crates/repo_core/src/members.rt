@@ -2,7 +2,6 @@
 ghost use Rattle.std.specs.Prelude.{◌≡◌, IfOk};
 ghost use Rattle.mvn_coords.specs.Kind.{kind};
 ghost use Rattle.mvn_coords.specs.Layout.{Coordinates, Directory};
-ghost use Rattle.mvn_coords.specs.Path.{suffix_of};
 ghost use Rattle.group_laws.specs.Seen.{stance_of};
 ghost use Rattle.hosted_repo.specs.Seens.{is_of_document, shown_seen};
 ghost use Rattle.repo_model.specs.Proxies.{kept_at, subject_of};
@@ -13,7 +12,6 @@ ghost use Rattle.repo_core.specs.Looks.{HasGoods, IsStance, document_kind, file_
 use crate::hosted::repo_at;
 use crate::looked::{Asked, Goods, Looked};
 use crate::proxies::proxy_at;
-use byte_cuts::text::before;
 use group_view::Stance;
 use hosted_repo::{DocText, Hosted, Seen};
 use mvn_coords::{Dir, Kind, Side, kind_of};
@@ -21,33 +19,10 @@ use mvn_digest::{Hashes, side_text};
 use mvn_doc::write;
 use mvn_metadata::Doc;
 use outside::{Held, NoMemory};
-use proxy_rules::Proxy;
+use proxy_rules::{Proxy, subject_of};
 use repo_model::Step;
 use row_tables::copied_document;
 use std::alloc::Global;
-
-// The end of a side file's path.
-fn suffix_of(side: Side) -> &'static str
-    ensures { result.now ≡ suffix_of side }
-{
-    match side {
-        Side::Sha1 => ".sha1",
-        Side::Md5 => ".md5",
-        Side::Sha256 => ".sha256",
-        Side::Sha512 => ".sha512",
-    }
-}
-
-/// The path of the file or document that a path names, also by the path of its side file.
-pub fn subject_of(path: &str) -> &str
-    ensures { result.now ≡ subject_of path.now (kind path.now) }
-{
-    match kind_of(path) {
-        Ok(Kind::FileSide(c, _)) => c.path(),
-        Ok(Kind::DocSide(_, side)) => before(suffix_of(side), path).unwrap_or(path),
-        Ok(Kind::File(_) | Kind::Doc(_)) | Err(_) => path,
-    }
-}
 
 // Whether a path names a file or a side file of one.
 fn is_of_file(path: &str) -> bool
@@ -146,7 +121,7 @@ pub fn seen_by_proxy<'a, H: Held>(
 {
     let path = subject_of(asked.path);
     Ok(
-        match proxy.decide(path, asked.moment, asked.has_tried(member)) {
+        match proxy.decide(asked.path, asked.moment, asked.has_tried(member)) {
             Step::Serve => served_by(alloc, proxy, path, asked.path)?,
             Step::Fetch => Looked::Fetch {
                 member,
@@ -196,11 +171,7 @@ pub fn seen_by_member<'a, H: Held>(
 fn stance_of_proxy<H: Held>(proxy: &Proxy<H>, member: u64, asked: &Asked<'_>) -> Stance
     ensures { result ≡ stance_of (proxy_seen member proxy.now asked.now.moment asked.now.tried.now asked.now.path.now (kind asked.now.path.now)) }
 {
-    match proxy.decide(
-        subject_of(asked.path),
-        asked.moment,
-        asked.has_tried(member),
-    ) {
+    match proxy.decide(asked.path, asked.moment, asked.has_tried(member)) {
         Step::Serve => Stance::Serve,
         Step::Fetch => Stance::Fetch,
         Step::Missed | Step::Blocked | Step::Negative | Step::Never => Stance::Pass,
@@ -242,20 +213,20 @@ pub fn stance_of_member<H: Held>(
     }
 }
 
-// The document that a proxy serves at a path, copied, where its remote was tried already or not.
+// The document that a proxy serves of a path, which may be its side file's, copied, where its remote was tried already or not.
 fn document_of_proxy<H: Held>(
     alloc: Global,
     proxy: &Proxy<H>,
-    at: &str,
+    path: &str,
     moment: u64,
     tried: bool,
 ) -> Result<Option<Doc>, NoMemory>
-    ensures { IfOk result (λ doc. doc ≡ proxy_document proxy.now moment tried at.now) }
+    ensures { IfOk result (λ doc. doc ≡ proxy_document proxy.now moment tried (subject_of path.now (kind path.now))) }
 {
-    if proxy.decide(at, moment, tried) != Step::Serve {
+    if proxy.decide(path, moment, tried) != Step::Serve {
         return Ok(None);
     }
-    let Some(doc) = proxy.document(at) else {
+    let Some(doc) = proxy.document(subject_of(path)) else {
         return Ok(None);
     };
     // Its contract says that a document has its form.
@@ -282,7 +253,7 @@ pub fn document_of_member<H: Held>(
         Some(proxy) => document_of_proxy(
             alloc,
             proxy,
-            subject_of(asked.path),
+            asked.path,
             asked.moment,
             asked.has_tried(member),
         ),

@@ -15,5 +15,5 @@ returns-in-Serve g c =
     let k = kind asked.path.now in
     let at = subject_of asked.path.now k in
     let tried = is_among c.args.member asked.tried.now in
-    let decides : decided p asked.moment tried at ≡ Serve = rw (← c.subject_of.ensures, ← c.has_tried.ensures) (sym c.decide.ensures ∙ c.in-Serve.is) in
+    let decides : decided p asked.moment tried at ≡ Serve = rw (← c.has_tried.ensures) (sym c.decide.ensures ∙ c.in-Serve.is) in
     sym (ap (λ step. stance_of (stepped c.args.member p at k step)) decides ∙ serves-so p asked.moment tried asked.path.now k refl decides)
