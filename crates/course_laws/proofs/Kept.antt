@@ -130,7 +130,7 @@ module _ (by_text : List ℕ → Option Close) (manner : Manner) where
     came-keeps came.Fault = land-keeps repo path rounds tried so_far plan (again _) (Some came.Fault) None came.Fault refl (rest _ None)
 
     round-keeps : (stored : Option Blob) → Owes (does (fetch plan) (after_fetch manner plan again)) (suc (looks_most rounds)) (planned repo path rounds tried so_far plan None stored)
-    round-keeps stored = (((refl, (refl, refl, refl)), refl, refl), omega arith, tell)
+    round-keeps stored = (((refl, (refl, refl, refl)), refl, refl, refl), omega arith, tell)
       where
         tell : (outcome : Fetch) → Owes (after_fetch manner plan again outcome) (suc (looks_most rounds)) (stand_done by_text (fetch plan) outcome (planned repo path rounds tried so_far plan None stored))
         tell None = any-up-keeps plan.draft NoMemory (looks_most rounds) _ refl refl refl refl
@@ -151,13 +151,13 @@ module _ (by_text : List ℕ → Option Close) (manner : Manner) where
   looks-keep : (rounds : ℕ) (repo path tried : List ℕ) (so_far : Verdict) (stored : Option Blob)
       → Owes (looks manner rounds repo path tried so_far) (looks_most rounds) (looking repo path rounds tried so_far stored)
   looks-keep zero repo path tried so_far stored = (
-    ((refl, (refl, refl, refl)), refl, refl, refl, refl),
+    ((refl, (refl, refl, refl)), refl, refl, refl, refl, refl),
     replies-keep repo path tried so_far (λ plan. gives_any_up plan.draft (without_memory manner)) 0 0 stored
         (λ plan. any-up-keeps plan.draft NoMemory 0 (stand_after (look repo path tried) (fetches plan) (looking repo path 0 tried so_far stored)) refl refl refl refl),
   )
   looks-keep (suc rounds) repo path tried so_far stored =
       let behind : Plan → Course = λ plan. does (fetch plan) (after_fetch manner plan (λ why. looks manner rounds repo path (tried ++ plan.member ∷ []) (with_fault so_far why))) in (
-        ((refl, (refl, refl, refl)), refl, refl, refl, refl),
+        ((refl, (refl, refl, refl)), refl, refl, refl, refl, refl),
         replies-keep repo path tried so_far behind (suc rounds) (looks_most rounds) stored
             (λ plan. round-keeps repo path rounds tried so_far plan (λ why. looks manner rounds repo path (tried ++ plan.member ∷ []) (with_fault so_far why))
             (λ why kept. looks-keep rounds repo path (tried ++ plan.member ∷ []) (with_fault so_far why) kept) stored),

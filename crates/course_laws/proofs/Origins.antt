@@ -1,6 +1,5 @@
 -- A file that a stream answers was fetched, or was there before; and a landing of a fault is of a fetch that raised the remote's count.
-use Rattle.std.proofs.Common.{◌≡◌, ◌⊎◌, inl, inr, ℕ, ◌≤◌, List, [], ◌∷◌, ◌++◌, Option, Some, None, refl, subst, ap, arith}
-use Rattle.std.specs.List.{AllByRecursion}
+use Rattle.std.proofs.Common.{◌≡◌, ◌⊎◌, inl, inr, ℕ, ◌≤◌, List, [], ◌∷◌, ◌++◌, Option, Some, None, refl, subst, arith}
 use Rattle.fetch_plan.specs.declared.Outcome.{Outcome as Came}
 use Rattle.fetch_plan.specs.declared.Outcome.TheVariants as came
 use Rattle.fetch_plan.specs.declared.Plan.{Plan}
@@ -11,13 +10,13 @@ use Rattle.remote_fetch.specs.Got.{HasFetchCause}
 use Rattle.remote_fetch.specs.declared.contents.Content.{Content}
 use Rattle.remote_fetch.specs.declared.contents.Content.TheVariants as content
 use Rattle.remote_fetch.proofs.Causes.{fetch-cause, fetch-got}
-use Rattle.repo_model.specs.Command.{Command, land, look}
+use Rattle.repo_model.specs.Command.{land, look}
 use Rattle.repo_model.specs.Data.{Blob}
-use Rattle.repo_model.specs.Fetched.{Landing, got_file}
+use Rattle.repo_model.specs.Fetched.{got_file}
 use Rattle.repo_model.specs.History.{Entry, Legal, end}
 use Rattle.repo_model.specs.Reply.{file}
 use Rattle.repo_model.specs.Settings.{Settings}
-use Rattle.repo_model.specs.State.{State, files_of, rows_of}
+use Rattle.repo_model.specs.State.{State, rows_of}
 use Rattle.repo_laws.specs.Laws.{AnyByRecursion}
 use Rattle.repo_laws.specs.Looks.{IsAsked, IsRowOf}
 use Rattle.repo_laws.specs.Proxied.{LandsFile, WasLanded}

@@ -31,7 +31,7 @@ use Rattle.course_laws.proofs.Kept.{duty_at, opens-keeps}
 use Rattle.course_laws.proofs.LeftBehind.{end_append, legal_cut}
 use Rattle.course_laws.proofs.Fetched.{Fetched, FollowsBy, fetched-before, followed-by, plain}
 use Rattle.course_laws.proofs.PlayedActs.{InHandTold}
-use Rattle.course_laws.proofs.Remotes.{goes-on, opens-still, still-goes}
+use Rattle.course_laws.proofs.Remotes.{opens-still}
 use Rattle.course_laws.proofs.PlayedCourse.{course-play}
 use Rattle.course_laws.proofs.Told.{faults-grow}
 use Rattle.course_laws.proofs.Unsent.{MayStarve}
@@ -150,7 +150,7 @@ module _ (settings : Settings) (tells : Type 0) (witness : tells) where
         → AreFetched spare new.remote end-seen → (coming : Fetched) × TurnBy last entries coming spare old new end × AreFetched coming old.remote end-seen
     turn-by last entries old new end (c, mid, o, f) spare are =
         let by = followed-by tells end-seen c entries mid new end f spare are in
-        (by.0, (c, mid, o, by.1), fetched-before by.0 old.remote mid.remote end-seen (still-goes old mid (opens-still settings last old mid c o)) by.2)
+        (by.0, (c, mid, o, by.1), fetched-before by.0 old.remote mid.remote end-seen (opens-still settings last old mid c o) by.2)
 
     serves-by : (n : ℕ) (entries : List Entry) (old new : Outside) (end : End) → Serves settings tells n entries old new end → (spare : Fetched)
         → AreFetched spare new.remote end-seen → (coming : Fetched) × ServesBy n entries coming spare old new end × AreFetched coming old.remote end-seen
@@ -335,7 +335,7 @@ module _ (settings : Settings) (tells : Type 0) (witness : tells) where
       → Serves settings tells n entries old new end
       → (coming : Fetched) × AreFetched coming old.remote new.remote × IsPlayedUpTo settings n (record { state = st; input = input; fetched = coming }) before old new end
   stream-upto n entries st legal records old new end input before begins calm served_so =
-      let by = serves-by new.remote n entries old new end served_so [] (goes-on new.remote) in (
+      let by = serves-by new.remote n entries old new end served_so [] refl in (
         by.0,
         by.2,
         stream-play n entries st legal (calm-of records) old new end input before by.0 []

@@ -1,5 +1,5 @@
 -- What is seen of the remotes goes on: exchanges are added, and none is lost.
-use Rattle.std.proofs.Common.{◌≡◌, ◌⊎◌, ◌≤◌, ℕ, zero, suc, Bool, List, [], ◌∷◌, ◌++◌, inl, inr, Option, Some, None, Result, Ok, Err, refl, sym, subst, ap, ◌∙◌, append-nil, arith}
+use Rattle.std.proofs.Common.{◌≡◌, ◌⊎◌, ◌≤◌, ℕ, zero, suc, Bool, List, [], ◌∷◌, ◌++◌, inl, inr, Option, Some, None, Ok, Err, refl, sym, subst, ap, ◌∙◌, append-nil, arith}
 use Rattle.std.specs.Prelude.{◌==◌}
 use Rattle.fetch_plan.specs.declared.Outcome.{Outcome as Came}
 use Rattle.fetch_plan.specs.declared.Outcome.TheVariants as came
@@ -56,7 +56,7 @@ Still old new = new.remote ≡ old.remote
 pub still-goes : (old new : Outside) → Still old new → GoesOn old.remote new.remote
 still-goes old new is = subst (GoesOn old.remote) (sym is) (goes-on old.remote)
 
-continues-still : (result : Continued) (old new : Outside) → Continues result old new → Still old new
+pub continues-still : (result : Continued) (old new : Outside) → Continues result old new → Still old new
 continues-still continued.Written old new t = ap (λ (o : Outside). o.remote) t
 continues-still continued.SinkFault old new t = ap (λ (o : Outside). o.remote) t.4
 
@@ -66,11 +66,11 @@ fails-still count gone took.SourceFault old new t = ap (λ (o : Outside). o.remo
 fails-still count gone (took.BlobFault unread) old new t = ap (λ (o : Outside). o.remote) t.4.2
 fails-still count gone took.NoMemory old new t = ap (λ (o : Outside). o.remote) t.1.2
 
-takes-still : (tells : Type 0) (number count : ℕ) (stored : Stored) (old new : Outside) → Takes tells number count stored old new → Still old new
+pub takes-still : (tells : Type 0) (number count : ℕ) (stored : Stored) (old new : Outside) → Takes tells number count stored old new → Still old new
 takes-still tells number count (Ok blob) old new t = ap (λ (o : Outside). o.remote) t.1.3
 takes-still tells number count (Err fault) old new t = fails-still count t.0 fault (record old { shelf = t.1 }) new t.3
 
-reads-still : (count : ℕ) (body : Body) (old new : Outside) → Reads count body old new → Still old new
+pub reads-still : (count : ℕ) (body : Body) (old new : Outside) → Reads count body old new → Still old new
 reads-still count (Ok body) old new t = ap (λ (o : Outside). o.remote) t.3
 reads-still count (Err took.Torn) old new t = ap (λ (o : Outside). o.remote) t.1.1
 reads-still count (Err took.SourceFault) old new t = ap (λ (o : Outside). o.remote) t.2.1
@@ -78,7 +78,7 @@ reads-still count (Err (took.BlobFault unread)) old new t = absurd t
 reads-still count (Err took.NoMemory) old new (inl t) = ap (λ (o : Outside). o.remote) t
 reads-still count (Err took.NoMemory) old new (inr t) = ap (λ (o : Outside). o.remote) t.1.3
 
-sends-still : (only : Bool) (blob : Blob) (head : List ℕ) (result : Sent) (old new : Outside) → SendsAnswer only blob head result old new → Still old new
+pub sends-still : (only : Bool) (blob : Blob) (head : List ℕ) (result : Sent) (old new : Outside) → SendsAnswer only blob head result old new → Still old new
 sends-still only blob head sent.Whole old new t = ap (λ (o : Outside). o.remote) (sent-whole only blob head old new t).2
 sends-still only blob head sent.BlobFault old new t = ap (λ (o : Outside). o.remote) (not-sent only blob head old new t).3
 sends-still only blob head (sent.BlobDiffers recorded found) old new t = ap (λ (o : Outside). o.remote) (other-found only blob head recorded found old new t).2
@@ -87,12 +87,12 @@ sends-still only blob head sent.CutFault old new t = ap (λ (o : Outside). o.rem
 sends-still only blob head (sent.CutDiffers recorded found) old new t = ap (λ (o : Outside). o.remote) (cut-by-other only blob head recorded found old new t).6
 sends-still only blob head sent.NoMemory old new t = ap (λ (o : Outside). o.remote) (sent-nothing only blob head old new t)
 
-stores-still : (tells : Type 0) (number : ℕ) (checked : Checked) (kept : Kept) (old new : Outside) → Stores tells number checked kept old new → Still old new
+pub stores-still : (tells : Type 0) (number : ℕ) (checked : Checked) (kept : Kept) (old new : Outside) → Stores tells number checked kept old new → Still old new
 stores-still tells number checked (Ok blob) old new t = ap (λ (o : Outside). o.remote) t.0
 stores-still tells number checked (Err unstored.Failed) old new t = ap (λ (o : Outside). o.remote) t.4
 stores-still tells number checked (Err unstored.NoMemory) old new t = ap (λ (o : Outside). o.remote) t.2
 
-says-still : (answer memory_said : Answer) (next : Option End) (old new : Outside) (end : Option End) → Says answer memory_said next old new end → Still old new
+pub says-still : (answer memory_said : Answer) (next : Option End) (old new : Outside) (end : Option End) → Says answer memory_said next old new end → Still old new
 says-still answer memory_said next old new end (whole is ends) = ap (λ (o : Outside). o.remote) is
 says-still answer memory_said next old new end (memory is ends) = ap (λ (o : Outside). o.remote) is
 says-still answer memory_said next old new end (cut faults all part rose which front is ends) = ap (λ (o : Outside). o.remote) is

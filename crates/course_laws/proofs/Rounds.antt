@@ -1,9 +1,9 @@
 -- Members that were tried, each once and each below their number, are no more than there are.
 use native.Mathlib.Omega.{arith}
-use Rattle.std.proofs.Common.{◌≡◌, ℕ, ◌++◌, ◌+◌, ◌<◌, ◌≤◌, Bool, true, false, not, cond, ◌||◌, zero, suc, List, [], ◌∷◌, length, refl, sym, ◌∙◌, ap, subst, eqb-true}
+use Rattle.std.proofs.Common.{◌≡◌, ℕ, ◌++◌, ◌+◌, ◌<◌, ◌≤◌, true, false, not, cond, zero, suc, List, [], ◌∷◌, length, refl, sym, ◌∙◌, ap, subst, eqb-true}
 use Rattle.std.specs.Prelude.{◌==◌, filter}
 use Rattle.std.specs.List.{AllByRecursion}
-use Rattle.std.proofs.lemmas.Bool.{false≢true, eq-eqb, ne_eqb, or_parts, or_from}
+use Rattle.std.proofs.lemmas.Bool.{false≢true, eq-eqb, or_parts, or_from}
 use Rattle.repo_model.specs.State.{is_among}
 
 -- each of them once

@@ -1,5 +1,5 @@
 -- What comes of a body that is not taken, as of one that is not read.
-use Rattle.std.proofs.Common.{◌≡◌, ◌<◌, ℕ, List, [], ◌++◌, length, Option, Some, None, Err, arith, sym, subst, ap, ◌∙◌, length-append}
+use Rattle.std.proofs.Common.{◌≡◌, ◌<◌, ℕ, List, ◌++◌, length, Option, Some, None, Err, arith, sym, subst, ap, ◌∙◌, length-append}
 use Rattle.std.specs.Prelude.{IfSome}
 use Rattle.outside.specs.Told.{IsAtEnd, in_front}
 use Rattle.repo_course.specs.declared.outcomes.Took.TheVariants as took

@@ -1,5 +1,5 @@
 -- The first fault of several fetches is what they come to.
-use Rattle.std.proofs.Common.{◌≡◌, ◌≢◌, ◌⊎◌, inl, inr, ◌↔◌, ℕ, Bool, List, [], ◌∷◌, ◌++◌, Option, Some, None, refl, sym, subst, ap, ◌∙◌}
+use Rattle.std.proofs.Common.{◌≡◌, ◌≢◌, ◌⊎◌, inl, inr, ◌↔◌, Bool, List, [], ◌∷◌, ◌++◌, Option, Some, None, refl, sym, subst, ap, ◌∙◌}
 use Rattle.std.specs.List.{AllByRecursion}
 use Rattle.fetch_plan.specs.declared.Outcome.{Outcome as Came}
 use Rattle.fetch_plan.specs.declared.Outcome.TheVariants as came
@@ -8,7 +8,6 @@ use Rattle.repo_course.specs.Answers.{fetch_status}
 use Rattle.repo_course.specs.Course.{fetch_fault, with_fault}
 use Rattle.repo_course.specs.declared.fetched.FetchFault.{FetchFault}
 use Rattle.repo_course.specs.declared.fetched.FetchFault.TheVariants as unfetched
-use Rattle.repo_course.specs.declared.fetched.Verdict.{Verdict}
 use Rattle.repo_course.specs.declared.fetched.Verdict.TheVariants as verdict
 use Rattle.course_laws.specs.Verdicts.{with_faults}
 

@@ -5,6 +5,7 @@ use Rattle.fetch_plan.specs.declared.Outcome.{Outcome as Came}
 use Rattle.fetch_plan.specs.declared.Plan.{Plan}
 use Rattle.outside.specs.Faults.{Rose, last_count}
 use Rattle.outside_remote.specs.Exchanges.{Sees}
+use Rattle.remote_fetch.specs.Exchanged.{Reaches}
 use Rattle.remote_fetch.specs.Fetching.{IsFetched}
 use Rattle.remote_fetch.specs.declared.contents.Content.{Content}
 use Rattle.http_wire.specs.Answer.{continue_bytes, shown}
@@ -14,11 +15,11 @@ use Rattle.repo_model.specs.Settings.{Settings}
 use Rattle.repo_model.specs.State.{State}
 use Rattle.repo_routes.specs.Framing.{is_head}
 use Rattle.repo_course.specs.Answers.{memory_answer}
+use Rattle.repo_course.specs.Course.{Fetch}
 use Rattle.repo_course.specs.declared.outcomes.End.{End}
 use Rattle.repo_course.specs.declared.outcomes.End.TheVariants as stream
 use Rattle.repo_course.specs.Serving.{IsFrontOf, Outside}
 use Rattle.course_laws.specs.Faultless.{Scene, play_stream, play_turn}
-use Rattle.course_laws.specs.Landed.{GoesOn}
 
 -- the bytes of each file's blob are told, of those in sessions and of those that proxies keep too
 abbrev pub RowsTold : State → Type 0
@@ -27,12 +28,16 @@ RowsTold s =
     × AllByRecursion (λ (x : Session). AllByRecursion (λ (file : Staged). IsSome file.blob.bytes) x.staged) s.sessions
     × AllByRecursion (λ (p : Proxy). AllByRecursion (λ (row : Row). IsSome row.blob.bytes) p.files) s.proxies
 
--- These are what fetches came to, one after another, each by exchanges that lie behind those of the one before it; there may be others
--- between them.
-abbrev pub AreFetched : List (Came Content) → Sees → Sees → Type 0
-AreFetched [] old new = GoesOn old new
-AreFetched (outcome ∷ more) old new =
-    (plan : Plan) × (before behind_it : Sees) × GoesOn old before × IsFetched plan outcome before behind_it × AreFetched more behind_it new
+-- What a fetch came to by what was seen of the remote before it and behind it. Where memory was wanted for it at most three exchanges
+-- were made, and where it was wanted for what follows, the fetch was made.
+abbrev pub IsFetch : Fetch → Sees → Sees → Type 0
+IsFetch (Some outcome) old new = (plan : Plan) × IsFetched plan outcome old new
+IsFetch None old new = Reaches 3 old new ⊎ ((plan : Plan) × (outcome : Came Content) × IsFetched plan outcome old new)
+
+-- These are what all fetches came to, one after another, and of the remote nothing else was seen.
+abbrev pub AreFetched : List Fetch → Sees → Sees → Type 0
+AreFetched [] old new = new ≡ old
+AreFetched (came ∷ more) old new = (mid : Sees) × IsFetch came old mid × AreFetched more mid new
 
 -- the count stood still, and not because it is at the end of its type
 abbrev pub StoodStill : ℕ → ℕ → Type 0

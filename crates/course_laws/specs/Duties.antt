@@ -239,10 +239,10 @@ landing_by (Some outcome) stored = landing_of outcome stored
 
 -- What it must hold to ask a command: once an end is due it only gives back, and but for a draft it asks behind its body. The
 -- commands of a pass are asked by the pass. What lands is what came of the plan's own fetch; and a look is at
--- the path that is asked for, and names the members that were tried.
+-- the path that is asked for, names the members that were tried, and comes once what was planned has landed.
 abbrev pub MayAsk : Command → Stand → Type 0
 MayAsk (look repo path tried) s =
-    IsFree s × (s.lease ≡ None) × (s.draft ≡ None) × (tried ≡ s.rounds.tried) × (s.target ≡ Some (repo, path))
+    IsFree s × (s.lease ≡ None) × (s.draft ≡ None) × (tried ≡ s.rounds.tried) × (s.target ≡ Some (repo, path)) × (s.plan ≡ None)
 MayAsk (done lease) s = s.lease ≡ Some lease
 MayAsk (may_put place path) s = (s.due ≡ None) × (s.draft ≡ None) × (s.to_clean ≡ None)
 MayAsk (put repo path n blob) s = IsFree s × (s.draft ≡ Some n) × (s.stored ≡ Some blob)
@@ -264,14 +264,14 @@ HoldsNothing s = (s.draft ≡ None) × (s.lease ≡ None)
 
 -- What it must hold for a deed: the body is invited where the client waits for that, and read by its length; the file that was lent
 -- is sent in the manner of the request, and under its lease; the pass goes over the repositories that are asked for; and what is planned is
--- fetched, of which a file is stored under the draft.
+-- fetched once, of which a file is stored under the draft.
 abbrev pub MayDo : Manner → Deed → Stand → Type 0
 MayDo manner invite s = (s.due ≡ None) × (s.waits ≡ true)
 MayDo manner (take_body n count) s = (s.due ≡ None) × (s.waits ≡ false) × (s.unread ≡ Some count) × (s.draft ≡ Some n)
 MayDo manner (read_body count) s = (s.due ≡ None) × (s.waits ≡ false) × (s.unread ≡ Some count)
 MayDo manner (send_file blob own) s = IsFree s × (s.lent ≡ Some blob) × IsSome s.lease × (own ≡ manner)
 MayDo manner (clean_all repos) s = (s.due ≡ None) × (s.unread ≡ None) × (s.to_clean ≡ Some repos) × (s.waits ≡ false) × HoldsNothing s
-MayDo manner (fetch plan) s = IsFree s × (s.plan ≡ Some plan) × (s.draft ≡ plan.draft)
+MayDo manner (fetch plan) s = IsFree s × (s.plan ≡ Some plan) × (s.draft ≡ plan.draft) × (s.came ≡ None)
 MayDo manner (store_fetched n checked) s = IsFree s × (s.draft ≡ Some n) × (s.came ≡ Some (came.Got (content.File checked)))
 
 -- how many commands it asks at most, and how many may follow it

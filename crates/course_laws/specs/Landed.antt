@@ -1,5 +1,5 @@
 -- What a stream lands is what it fetched: each landing is of an exchange with the remote that was made before it.
-use Rattle.std.specs.Prelude.{◌≡◌, ◌⊎◌, ◌≤◌, ℕ, List, Option, Some, None}
+use Rattle.std.specs.Prelude.{◌≡◌, ◌⊎◌, ◌≤◌, ℕ, List, Option, Some}
 use Rattle.std.specs.List.{AllByRecursion}
 use Rattle.fetch_plan.specs.declared.Outcome.{Outcome as Came}
 use Rattle.fetch_plan.specs.declared.Outcome.TheVariants as came

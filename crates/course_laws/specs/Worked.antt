@@ -1,11 +1,10 @@
 -- A worked exchange with an empty repository: a file is put and read (RFC 9112, sections 3 and 4; RFC 9110, section 9.3; the digests of `abc` are those of FIPS 180 and RFC 1321).
 use Rattle.std.specs.Prelude.{◌≡◌, ℕ, true, false, List, [], ◌∷◌, ◌++◌, Option, codes}
-use Rattle.fetch_plan.specs.declared.Outcome.{Outcome as Came}
 use Rattle.outside.specs.Moments.{Moments}
-use Rattle.remote_fetch.specs.declared.contents.Content.{Content}
 use Rattle.repo_model.specs.Settings.{Rule, Settings}
 use Rattle.repo_course.specs.declared.outcomes.End.TheVariants.{Closed}
 use Rattle.repo_course.specs.Answers.{line}
+use Rattle.repo_course.specs.Course.{Fetch}
 use Rattle.course_laws.specs.Faultless.{first_scene, play_stream}
 
 -- a repository that takes releases, and one that takes snapshots and keeps one of each
@@ -22,7 +21,7 @@ worked_settings settings = record settings { max_file = 16777216; hosted = relea
 -- from an empty repository the stream is answered so, and closed, whatever the clock tells and fetches would come to
 abbrev pub IsAnswered : List ℕ → List ℕ → Type 0
 IsAnswered input output =
-    (settings : Settings) (clock : Option Moments) (fetched : List (Came Content)) →
+    (settings : Settings) (clock : Option Moments) (fetched : List Fetch) →
     let played = play_stream (worked_settings settings) 1000 (first_scene (worked_settings settings) clock input fetched) in
     (played.written ≡ output) × (played.end ≡ Closed)
 

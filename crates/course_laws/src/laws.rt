@@ -16,7 +16,7 @@ ghost use Rattle.repo_routes.specs.Judge.{IsJudged, judge};
 ghost use Rattle.repo_routes.specs.declared.judging.Refused.{Refused};
 ghost use Rattle.http_wire.specs.declared.answers.Status.TheVariants as status;
 ghost use Rattle.repo_course.specs.Answers.{fetch_status};
-ghost use Rattle.repo_course.specs.Course.{course_of, fetch_fault, refuses_head, said_missed};
+ghost use Rattle.repo_course.specs.Course.{Fetch, course_of, fetch_fault, refuses_head, said_missed};
 ghost use Rattle.repo_course.specs.declared.fetched.FetchFault.{FetchFault};
 ghost use Rattle.repo_course.specs.declared.fetched.FetchFault.TheVariants as unfetched;
 ghost use Rattle.repo_course.specs.declared.fetched.Verdict.TheVariants as verdict;
@@ -195,7 +195,7 @@ pub fn broken_is_a_front<H: Held>()
         Legal settings start entries → StoodStill start.faults (end settings start entries).faults →
         BeginsAt start input before old → StoodStill old.blob_faults new.blob_faults →
         Serves settings (AllTell H.bytes) n entries old new ending →
-        (fetched : List (Came Content)) × AreFetched fetched old.remote new.remote
+        (fetched : List Fetch) × AreFetched fetched old.remote new.remote
         × IsPlayedUpTo settings n (record { state = start; input = input; fetched = fetched }) before old new ending }
 {}
 
@@ -208,7 +208,7 @@ pub fn faultless_is_played<H: Held>()
         Legal settings start entries → StoodStill start.faults (end settings start entries).faults →
         BeginsAt start input before old → NoFaults old new →
         Serves settings (AllTell H.bytes) n entries old new ending →
-        (fetched : List (Came Content)) × AreFetched fetched old.remote new.remote
+        (fetched : List Fetch) × AreFetched fetched old.remote new.remote
         × IsAsPlayed settings n (record { state = start; input = input; fetched = fetched }) before new.output ending }
 {}
 

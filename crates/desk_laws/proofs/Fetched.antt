@@ -1,8 +1,7 @@
 -- Each file that a proxy of a server answers was fetched at one of its desks, or was kept at the start.
-use Rattle.std.proofs.Common.{◌≡◌, ◌⊎◌, inl, inr, ℕ, ◌+◌, ◌==◌, Bool, true, false, cond, List, [], ◌∷◌, ◌++◌, map, All, refl, sym, subst, ap, ◌∙◌, zero-add, arith}
+use Rattle.std.proofs.Common.{◌≡◌, ◌⊎◌, inl, inr, ℕ, ◌+◌, ◌==◌, Bool, true, false, cond, List, [], ◌∷◌, ◌++◌, map, All, sym, subst, ap, ◌∙◌, zero-add, arith}
 use Rattle.std.specs.Prelude.{sum_by}
 use Rattle.std.specs.List.{AllByRecursion, AllZip}
-use Rattle.std.proofs.lemmas.Bool.Decides.{eqb_tells}
 use Rattle.std.proofs.lemmas.List.Elements.{All-head, All-tail}
 use Rattle.std.proofs.lemmas.List.Sums.{sum_by-cons}
 use Rattle.outside_remote.specs.Exchanges.{Sees}
@@ -28,9 +27,9 @@ use Rattle.turn_lock.specs.declared.view.Entry.{Entry as Call}
 use Rattle.turn_lock.specs.declared.turns.Turns.{Turns}
 use Rattle.turn_lock.specs.declared.seat.SeatToken.{SeatToken as Seat}
 use Rattle.turn_lock.specs.History.{entries_by}
-use Rattle.turn_lock.specs.Seats.{joined, mine, number, opening}
+use Rattle.turn_lock.specs.Seats.{joined, mine, opening}
 use Rattle.turn_seats.specs.Ending.{Holds, times_in}
-use Rattle.turn_seats.specs.Seated.{Sight, entry_of}
+use Rattle.turn_seats.specs.Seated.{entry_of}
 use Rattle.desk_work.specs.Passages.{Passage, PassesThrough, entries_in}
 use Rattle.desk_work.specs.Visits.{Attends, Visit, entries_of}
 use Rattle.desk_work.specs.Rules.{Rules}

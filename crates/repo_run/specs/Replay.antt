@@ -1,17 +1,16 @@
 -- A replay: settings are read, a repository of these is opened over what is recorded and stored, and the first connection of a desk is served by it and given back.
 use Rattle.std.specs.List.{AllByRecursion}
 use Rattle.std.specs.Prelude.{◌≡◌, ◌≢◌, ◌⊎◌, ℕ, List, [], ◌∷◌, length, Option, Some, None, Ok, Err}
-use Rattle.fetch_plan.specs.declared.Outcome.{Outcome as Came}
 use Rattle.outside.specs.declared.tells.Tells.{Ghosts as Telling}
 use Rattle.outside.specs.Faults.{Rose}
 use Rattle.outside.specs.Moments.{Moments}
 use Rattle.outside.specs.Told.{behind, in_front, IsAtEnd}
-use Rattle.remote_fetch.specs.declared.contents.Content.{Content}
 use Rattle.repo_model.specs.Reply.{no_draft}
 use Rattle.repo_model.specs.History.{Entry, Legal, end}
 use Rattle.repo_core.specs.Whole.{Whole}
 use Rattle.repo_core.specs.declared.faults.StartFault.{StartFault}
 use Rattle.repo_course.specs.Cleaning.{Store}
+use Rattle.repo_course.specs.Course.{Fetch}
 use Rattle.run_desks.specs.Seen.{Kit, with_blobs}
 use Rattle.repo_course.specs.declared.outcomes.End.{End}
 use Rattle.repo_course.specs.declared.outcomes.End.TheVariants.{Closed, SourceFault, SinkFault}
@@ -60,12 +59,12 @@ pub record IsReplayed (tells : Type 0) (settings : Settings) (old new : View Ser
   -- Over nothing, where no blob failed, what was taken is what is answered if nothing fails, up to some place
   pub played : IsFresh old.records new.records old.place.kit.blobs → (moments : Moments) (input before : List ℕ) → AllTold tells old.clock old.place.connection moments input before
       → StoodStill old.place.kit.blobs.faults new.place.kit.blobs.faults
-      → (fetched : List (Came Content)) × AreFetched fetched old.place.kit.remote new.place.kit.remote
+      → (fetched : List Fetch) × AreFetched fetched old.place.kit.remote new.place.kit.remote
       × IsPlayedUpTo settings 1000 (first_scene settings (Some moments) input fetched) before (outside_of old.place) (outside_with held new.place) ending
   -- and all of it where nothing failed
   pub faultless : IsFresh old.records new.records old.place.kit.blobs → (moments : Moments) (input before : List ℕ) → AllTold tells old.clock old.place.connection moments input before
       → NoFaults (outside_of old.place) (outside_with held new.place)
-      → (fetched : List (Came Content)) × AreFetched fetched old.place.kit.remote new.place.kit.remote
+      → (fetched : List Fetch) × AreFetched fetched old.place.kit.remote new.place.kit.remote
       × IsAsPlayed settings 1000 (first_scene settings (Some moments) input fetched) before new.place.connection.taken ending
 
 -- a stream is over: its line, or the part of it that was printed, or that there was no memory for it
