@@ -1,4 +1,5 @@
 mod Found
 mod Fronts
 mod Outlasting
+mod OutlastingFiles
 mod Again

@@ -20,7 +20,14 @@ IsStored shelf r = (those : List (ℕ × List ℕ)) × (bytes : List ℕ) × (sh
 abbrev pub AreStored : Shelf → List RecordedRow → Type 0
 AreStored shelf rows = AllByRecursion (IsStored shelf) rows
 
--- a row with this number and this fingerprint is recorded at a path
+-- among these rows one of a path has the number and the fingerprint of this one
+abbrev pub IsAmongRecorded : List ℕ → Row → List RecordedRow → Type 0
+IsAmongRecorded repo row rows =
+    (kept : Row) × (recorded_at repo row.path rows ≡ Some kept) × (kept.blob.number ≡ row.blob.number) × (kept.blob.print ≡ row.blob.print)
+
+-- so are a file of a hosted repository, and one that a proxy keeps, recorded
 abbrev pub IsRecordedAs : List ℕ → Row → Tables → Type 0
-IsRecordedAs repo row t =
-    (kept : Row) × (recorded_at repo row.path t.hosted ≡ Some kept) × (kept.blob.number ≡ row.blob.number) × (kept.blob.print ≡ row.blob.print)
+IsRecordedAs repo row t = IsAmongRecorded repo row t.hosted
+
+abbrev pub IsCachedAs : List ℕ → Row → Tables → Type 0
+IsCachedAs id row t = IsAmongRecorded id row t.cached

@@ -10,14 +10,14 @@ ghost use Rattle.repo_model.specs.Restart.{started};
 ghost use Rattle.repo_model.specs.Data.{Blob, Row};
 ghost use Rattle.repo_model.specs.History.{Entry, Legal, end};
 ghost use Rattle.repo_model.specs.Settings.{Settings};
-ghost use Rattle.repo_model.specs.State.{State, row_at, rows_of};
+ghost use Rattle.repo_model.specs.State.{State, files_of, row_at, rows_of};
 ghost use Rattle.repo_model.specs.Tables.{RecordedRow, Tables};
 ghost use Rattle.blob_audit.specs.Damages.{AreDamaged};
 ghost use Rattle.repo_laws.specs.Closed.{GivesFile};
 ghost use Rattle.repo_laws.specs.Holds.{Holds, InOrder, told, with_items};
 ghost use Rattle.repo_laws.specs.InRange.{InRange, Completes, IsSameBlob};
 ghost use Rattle.repo_laws.specs.Sound.{AreNamedApart, AreProxiesApart, IsSound};
-ghost use Rattle.stop_laws.specs.Found.{AreStored, IsRecordedAs, KeepsBlobs};
+ghost use Rattle.stop_laws.specs.Found.{AreStored, IsCachedAs, IsRecordedAs, KeepsBlobs};
 ghost use Rattle.stop_laws.specs.Stops.{AreNoCollects, IsFrontOf, IsLeft};
 
 /// A start over a store that keeps what it acknowledged finds none of these files damaged, where each of them names a blob that
@@ -39,6 +39,13 @@ pub fn rows_outlast_stops()
     ensures { (settings : Settings) (s : State) (t u : Tables) (entries : List Entry) (repo : List ℕ) (row : Row)
         → AreNamedApart settings.hosted → IsSound settings s → InOrder t → Holds t s → Legal settings s entries → AreNoCollects entries
         → row_at row.path (rows_of repo s) ≡ Some row → IsLeft settings s t entries u → IsRecordedAs repo row u }
+{}
+
+/// A file that a proxy keeps is recorded so in whatever a start may find behind a stop at any later moment.
+pub fn kept_files_outlast_stops()
+    ensures { (settings : Settings) (s : State) (t u : Tables) (entries : List Entry) (id : List ℕ) (row : Row)
+        → AreNamedApart settings.hosted → IsSound settings s → InOrder t → Holds t s → Legal settings s entries
+        → row_at row.path (files_of id s) ≡ Some row → IsLeft settings s t entries u → IsCachedAs id row u }
 {}
 
 /// A start over tables in which a file is recorded, once it has completed them, and then any entries without a Collect: who looks there is
