@@ -1,5 +1,5 @@
 //! Items that are committed, at most 1,000 in one change, beside the tables that they are applied to.
-ghost use Rattle.std.specs.Prelude.{◌≡◌, ◌++◌, List, Ok, false, drop, min, length, take, IfOk, IfSome, OnOk, OnErr};
+ghost use Rattle.std.specs.Prelude.{◌≡◌, ◌+◌, ◌++◌, List, Ok, false, drop, min, length, reverse, take, IfOk, IfSome, OnOk, OnErr};
 ghost use Rattle.std.specs.List.{AllByRecursion};
 ghost use Rattle.std.specs.Option.{option_map};
 ghost use Rattle.ordered_rows.specs.Recording.{IsShort};
@@ -10,12 +10,33 @@ ghost use Rattle.row_tables.specs.Records.{HasCommitCause};
 
 use repo_model::Item;
 use row_tables::{ApplyFault, Change, CommitFault, Records, Tables};
-use std::alloc::Global;
+use std::alloc::{AllocError, Global};
 
 /// A change has at most so many items.
 const MOST_ITEMS: usize = 1_000;
 
-// Applies the first 1,000 items to the tables and commits them as one change, and gives the rest.
+// The same items, from the last one to the first.
+fn turned(items: Vec<Item>) -> Vec<Item>
+    ensures { reverse result.items ≡ items.items }
+{
+    let mut turned = items;
+    turned.reverse();
+    turned
+}
+
+// Takes the first items, at most 1,000, of some that stand from the last one to the first, so that no other item is moved.
+fn take_first(items: &mut Vec<Item>) -> Result<Vec<Item>, AllocError>
+    ensures first { IfOk result (λ first. first.items ≡ take (min 1000 (length items.old.items)) (reverse items.old.items)) }
+    ensures rest { OnOk result (reverse items.new.items ≡ drop (min 1000 (length items.old.items)) (reverse items.old.items)) }
+    ensures fewer { OnOk result (length items.new.items + min 1000 (length items.old.items) ≡ length items.old.items) }
+{
+    let count = MOST_ITEMS.min(items.len());
+    let first = items.split_off(items.len() - count)?;
+    Ok(turned(first))
+}
+
+// Of items that stand from the last one to the first, applies the first 1,000 to the tables and commits them as one change, and
+// gives the rest.
 fn commit_first<K: Records>(
     alloc: Global,
     records: &mut K,
@@ -24,20 +45,20 @@ fn commit_first<K: Records>(
 ) -> Result<Vec<Item>, CommitFault>
     requires ready { K.ready records.old }
     requires told { IfSome (K.tables records.old) (λ told. tables.old ≡ told) }
-    requires short { AllByRecursion IsShort items.items }
-    requires fit { applied tables.old items.items ≡ Ok (with_items tables.old items.items) }
-    ensures rest { IfOk result (λ rest. rest.items ≡ drop (min 1000 (length items.items)) items.items) }
-    ensures tables { OnOk result (tables.new ≡ with_items tables.old (take (min 1000 (length items.items)) items.items)) }
+    requires short { AllByRecursion IsShort (reverse items.items) }
+    requires fit { applied tables.old (reverse items.items) ≡ Ok (with_items tables.old (reverse items.items)) }
+    ensures rest { IfOk result (λ rest. reverse rest.items ≡ drop (min 1000 (length items.items)) (reverse items.items)) }
+    ensures fewer { IfOk result (λ rest. length rest.items + min 1000 (length items.items) ≡ length items.items) }
+    ensures tables { OnOk result (tables.new ≡ with_items tables.old (take (min 1000 (length items.items)) (reverse items.items))) }
     ensures recorded { OnOk result (K.tables records.new ≡ option_map (λ _. tables.new) (K.tables records.old)) }
     ensures untold { OnErr result (K.tables records.new ≡ K.tables records.old) }
     ensures cause { HasCommitCause (K.faults records.old) (K.faults records.new) result }
     ensures settled { OnOk result (K.unsettled records.new ≡ false) }
     ensures ready { K.ready records.new }
 {
-    let mut items = items;
-    let count = MOST_ITEMS.min(items.len());
-    let rest = items.split_off(count)?;
-    let change = Change::of(items);
+    let mut rest = items;
+    let first = take_first(&mut rest)?;
+    let change = Change::of(first);
     match tables.apply(alloc, &change) {
         Ok(()) => {}
         Err(ApplyFault::NoMemory) => return Err(CommitFault::NoMemory),
@@ -67,7 +88,7 @@ pub fn commit_all<K: Records>(
     ensures settled { K.unsettled records.old ≡ false → OnOk result (K.unsettled records.new ≡ false) }
     ensures ready { K.ready records.new }
 {
-    let mut rest = items;
+    let mut rest = turned(items);
     while !rest.is_empty() {
         rest = commit_first(alloc, records, tables, rest)?;
     }

@@ -1,19 +1,20 @@
-use Rattle.std.proofs.Common.{[], length, min, drop, refl, sym, ap, ◌∙◌, subst, arith}
-use Rattle.std.proofs.lemmas.List.{append-nil, length-drop, nil_from_length}
+use Rattle.std.proofs.Common.{◌≡◌, Ok, length, min, refl, sym, ap, ◌∙◌, subst}
+use Rattle.std.specs.Prelude.{reverse}
 use Rattle.std.specs.List.{AllByRecursion}
 use Rattle.std.specs.Option.{option_map}
 use Rattle.outside.proofs.ToldLemmas.{on_err}
 use Rattle.ordered_rows.specs.Recording.{IsShort}
+use Rattle.repo_model.specs.Tables.{applied}
 use Rattle.row_tables.specs.Applying.{with_items}
-use Rattle.row_completion.proofs.Chunks.{none-yet, rest-fit-so, short-rest, some-more, told-alike, told-first, told-twice}
+use Rattle.row_completion.proofs.Chunks.{Left, none-yet, rest-fit-so, short-rest, some-more, told-alike, told-first, told-twice}
 use Rattle.row_completion.proofs.recording.commit_all.Goals as goal
 
 pub loop-alloc-init : goal.loop-alloc-init
 loop-alloc-init g c = record {
-  left = none-yet c.args.tables.now c.args.items.items;
+  left = subst (λ them. Left c.args.tables.now c.args.tables.now c.args.items.items them) (sym c.turned-rest.ensures) (none-yet c.args.tables.now c.args.items.items);
   told = told-first (g.K.Records.tables c.args.records.now) c.args.tables.now c.requires.told;
-  short = c.requires.short;
-  fit = c.requires.fit;
+  short = subst (AllByRecursion IsShort) (sym c.turned-rest.ensures) c.requires.short;
+  fit = subst (λ them. applied c.args.tables.now them ≡ Ok (with_items c.args.tables.now them)) (sym c.turned-rest.ensures) c.requires.fit;
   count = refl;
   settled = λ is. is;
   ready = c.requires.ready;
@@ -27,18 +28,19 @@ pub returns-in_err-rest-clause-front : goal.returns-in_err-rest-clause-front
 returns-in_err-rest-clause-front g c =
     let left = c.loop-alloc.invariant.left in
     on_err c.from_residual.result
-    (left.front, c.loop-alloc.rest.items, left.parts, c.in_err-rest.ensures.untold ∙ c.loop-alloc.invariant.told ∙ ap (λ t. option_map (λ u. t) (g.K.Records.tables c.args.records.now)) left.tables)
+    (left.front, reverse c.loop-alloc.rest.items, left.parts, c.in_err-rest.ensures.untold ∙ c.loop-alloc.invariant.told ∙ ap (λ t. option_map (λ u. t) (g.K.Records.tables c.args.records.now)) left.tables)
 
 pub loop-alloc-preserved : goal.loop-alloc-preserved
 loop-alloc-preserved g c =
     let old = c.loop-alloc.invariant in
-    let rest = c.loop-alloc.rest.items in
+    let count = min 1000 (length c.loop-alloc.rest.items) in
+    let rest = reverse c.loop-alloc.rest.items in
     let made = c.in_ok-rest.ensures in
     record {
-      left = some-more (min 1000 (length rest)) c.args.tables.now c.loop-alloc.tables c.commit_first.new.tables c.args.items.items rest _ old.left made.tables made.rest;
+      left = some-more count c.args.tables.now c.loop-alloc.tables c.commit_first.new.tables c.args.items.items rest _ old.left made.tables made.rest;
       told = told-twice (g.K.Records.tables c.args.records.now) (g.K.Records.tables c.loop-alloc.records) (g.K.Records.tables c.commit_first.new.records) c.loop-alloc.tables c.commit_first.new.tables old.told made.recorded;
-      short = subst (AllByRecursion IsShort) (sym made.rest) (short-rest (min 1000 (length rest)) rest old.short);
-      fit = rest-fit-so (min 1000 (length rest)) rest _ c.loop-alloc.tables c.commit_first.new.tables made.tables made.rest old.fit;
+      short = subst (AllByRecursion IsShort) (sym made.rest) (short-rest count rest old.short);
+      fit = rest-fit-so count rest _ c.loop-alloc.tables c.commit_first.new.tables made.tables made.rest old.fit;
       count = made.cause ∙ old.count;
       settled = λ is. made.settled;
       ready = c.commit_first.ensures.ready;

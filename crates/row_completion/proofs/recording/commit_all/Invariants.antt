@@ -1,5 +1,6 @@
--- The first items are committed and the tables have them; the rest are short and fit.
+-- The first items are committed and the tables have them; the rest, which stand from the last to the first, are short and fit.
 use Rattle.std.proofs.Common.{◌≡◌, false, Ok, length}
+use Rattle.std.specs.Prelude.{reverse}
 use Rattle.std.specs.List.{AllByRecursion}
 use Rattle.std.specs.Option.{option_map}
 use Rattle.repo_model.specs.Tables.{applied}
@@ -10,10 +11,10 @@ use Rattle.row_completion.proofs.recording.commit_all.Given as goal
 
 abbrev pub invariant-loop-alloc : goal.invariant-loop-alloc
 invariant-loop-alloc g l = record {
-  left : Left l.fn.tables l.tables l.fn.items.items l.rest.items;
+  left : Left l.fn.tables l.tables l.fn.items.items (reverse l.rest.items);
   told : g.K.Records.tables l.records ≡ option_map (λ u. l.tables) (g.K.Records.tables l.fn.records);
-  short : AllByRecursion IsShort l.rest.items;
-  fit : applied l.tables l.rest.items ≡ Ok (with_items l.tables l.rest.items);
+  short : AllByRecursion IsShort (reverse l.rest.items);
+  fit : applied l.tables (reverse l.rest.items) ≡ Ok (with_items l.tables (reverse l.rest.items));
   count : g.K.Records.faults l.records ≡ g.K.Records.faults l.fn.records;
   settled : g.K.Records.unsettled l.fn.records ≡ false → g.K.Records.unsettled l.records ≡ false;
   ready : g.K.Records.ready l.records;
