@@ -1,4 +1,5 @@
 //! Runs over a folder.
+use crate::runs::status_of_run;
 use crate::stock::{cleaner_over, desks_with};
 use data_folder::{ReportingDisk, blobs_in, open_disk};
 use outside::NoMemory;
@@ -6,7 +7,6 @@ use outside_memory::MemLink;
 use outside_system::{SystemClock, WriterSink, file_source};
 use record_journal::Journal;
 use repo_run::Wanted;
-use run_serve::run;
 use std::sync::Wait;
 use std::thread::Threads;
 
@@ -26,18 +26,15 @@ pub fn status_over_folder<R: Threads + Wait + Sync>(
     let records = Journal::new(ReportingDisk::new(open_disk(rt, folder)?, rt.clone()?));
     let clock = SystemClock::new(rt.clone()?);
     let mut out = WriterSink::new(rt.stdout());
-    Ok(
-        run(
-            threads,
-            alloc,
-            words,
-            &mut settings,
-            desks,
-            cleaner,
-            records,
-            clock,
-            &mut out,
-        )
-        .status,
-    )
+    Ok(status_of_run(
+        threads,
+        alloc,
+        words,
+        &mut settings,
+        desks,
+        cleaner,
+        records,
+        clock,
+        &mut out,
+    ))
 }

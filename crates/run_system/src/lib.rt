@@ -4,6 +4,7 @@
 mod folder;
 mod memory;
 mod places;
+mod runs;
 mod server;
 mod status;
 mod stock;

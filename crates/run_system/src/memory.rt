@@ -1,11 +1,11 @@
 //! Runs in memory.
+use crate::runs::status_of_run;
 use crate::stock::{cleaner_over, desks_with};
 use outside::{NoMemory, Source, Stream};
 use outside_memory::{FaultScript, MemBlobs, ScriptClock};
 use outside_system::WriterSink;
 use repo_run::Wanted;
 use row_tables::MemRecords;
-use run_serve::run;
 use std::alloc::Global;
 use std::sync::Wait;
 use std::thread::Threads;
@@ -29,10 +29,7 @@ pub fn status_in_memory<R: Threads + Wait + Sync, S: Source, L: Stream + Drop + 
     let records = MemRecords::new(alloc, Vec::new(alloc));
     let clock = ScriptClock::stepping(alloc, wanted.at, wanted.step);
     let mut out = WriterSink::new(rt.stderr());
-    Ok(
-        run(
-            threads, alloc, words, settings, desks, cleaner, records, clock, &mut out,
-        )
-        .status,
-    )
+    Ok(status_of_run(
+        threads, alloc, words, settings, desks, cleaner, records, clock, &mut out,
+    ))
 }
