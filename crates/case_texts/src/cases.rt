@@ -99,6 +99,10 @@ pub struct Case {
     pub before: Vec<u8>,
     /// The blobs that are gone behind it.
     pub lost: Vec<u64>,
+    /// What the remote answers, exchange by exchange; behind them it fails.
+    pub remote: Vec<Vec<u8>>,
+    /// How many exchanges are made with it, where the case says it.
+    pub exchanges: Option<u64>,
     pub script: Script,
     pub pieces: Pieces,
     /// The connections that one core serves before the last one. Where there are any, no run of the program is made, and the line
@@ -126,6 +130,8 @@ impl Case {
             given: Vec::new(alloc),
             before: Vec::new(alloc),
             lost: Vec::new(alloc),
+            remote: Vec::new(alloc),
+            exchanges: None,
             script: Script::PLAIN,
             pieces: Pieces::WholeAndBytes,
             earlier: Vec::new(alloc),

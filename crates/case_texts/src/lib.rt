@@ -22,6 +22,8 @@
 //! | `given ..` | what the first blob gives when it is read, in place of what is stored |
 //! | `before ..` | what an earlier run is sent, over the same records and blobs |
 //! | `lost N` | a blob that is gone behind it |
+//! | `remote ..` | what the remote answers to the next exchange with it |
+//! | `exchanges N` | how many exchanges are made with it |
 //! | `fails OBJECT N` | the call of an object that fails, counted from 0: of the `settings`, the `port`, the `reads` of the input, the `blobs`, the `records` |
 //! | `room N`, `line-room N` | how much the connection takes, and the line |
 //! | `pieces whole`, `blocks`, `bytes` | the input in one piece and byte by byte; in pieces of 4,096 bytes; byte by byte alone |

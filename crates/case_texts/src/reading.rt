@@ -151,11 +151,19 @@ fn line_of(alloc: Global, entry: &Entry) -> Result<Vec<u8>, CaseFault> {
     Ok(line)
 }
 
+/// What the remote answers to one exchange.
+fn answer_of(alloc: Global, book: &Book, entry: &Entry) -> Result<Vec<u8>, CaseFault> {
+    let mut answer: Vec<u8> = Vec::new(alloc);
+    book.push_parts(&mut answer, entry)?;
+    Ok(answer)
+}
+
 /// What an entry says of a case by a number.
 fn set_number(case: &mut Case, entry: &Entry) -> Result<(), CaseFault> {
     match entry.key.as_str() {
         "moment" => case.moment = number_of(entry)?,
         "step" => case.step = number_of(entry)?,
+        "exchanges" => case.exchanges = Some(number_of(entry)?),
         "lost" => case.lost.push(number_of(entry)?).map_err(AllocError::from)?,
         "room" => case.script.room = size_of(entry)?,
         "line-room" => case.script.line_room = size_of(entry)?,
@@ -190,6 +198,10 @@ fn set(alloc: Global, book: &Book, case: &mut Case, entry: &Entry) -> Result<(),
         "settings" => {
             case.settings.clear();
             book.push_parts(&mut case.settings, entry)
+        }
+        "remote" => {
+            let answer = answer_of(alloc, book, entry)?;
+            Ok(case.remote.push(answer).map_err(AllocError::from)?)
         }
         "stored" => {
             let stored = stored_of(alloc, entry)?;

@@ -13,6 +13,8 @@ pub struct Went {
     pub status: u8,
     /// How many calls of the blobs have failed.
     pub blob_faults: u64,
+    /// How many exchanges were made with the remote.
+    pub exchanges: u64,
     /// The numbers of the blobs that it leaves. Nothing where they can not be listed.
     pub blobs: Option<Vec<u64>>,
 }
@@ -90,11 +92,25 @@ fn wrong_status(alloc: Global, case: &Case, went: &Went) -> Result<Option<String
     Ok(Some(format!(in alloc; "status: wanted {want}, given {given}")?))
 }
 
-/// How a run differs from its case, in answers, line or status, the first of them that does. Nothing where it does not.
+/// How the number of exchanges differs from what a case says. Nothing where it says none, or it does not.
+fn wrong_exchanges(alloc: Global, case: &Case, went: &Went) -> Result<Option<String>, AllocError> {
+    let given: u64 = went.exchanges;
+    match case.exchanges {
+        Some(want) if want != given => {
+            Ok(Some(format!(in alloc; "exchanges: wanted {want}, given {given}")?))
+        }
+        _ => Ok(None),
+    }
+}
+
+/// How a run differs from its case, in answers, line, status or exchanges, the first of them that does. Nothing where it does not.
 pub fn wrong_run(alloc: Global, case: &Case, went: &Went) -> Result<Option<String>, AllocError> {
-    match wrong_link(alloc, &case.last, went)? {
+    if let Some(told) = wrong_link(alloc, &case.last, went)? {
+        return Ok(Some(told));
+    }
+    match wrong_status(alloc, case, went)? {
         Some(told) => Ok(Some(told)),
-        None => wrong_status(alloc, case, went),
+        None => wrong_exchanges(alloc, case, went),
     }
 }
 

@@ -2,7 +2,7 @@
 // that those that call them at the forms in memory carry no facts.
 use crate::objects::{
     GivenDesk, MemDesk, MemPort, Store, clock_of, failing_at, give, listed, port_of, records_of,
-    silent, store_of, went_of, written_on,
+    remote_of, silent, store_of, went_of, written_on,
 };
 use case_texts::{Case, Link, Object, Went};
 use outside::{Blobs, Clock, Port};
@@ -59,11 +59,12 @@ fn line_of(alloc: Global, calls: u64, end: Option<End>) -> Result<Vec<u8>, Alloc
     Ok(format!(in alloc; "calls {calls} end {end}\n")?.into_bytes())
 }
 
-/// A core that runs, and its blobs.
+/// A core that runs, its blobs, and its remote.
 #[derive(Drop)]
 pub(crate) struct Kept {
     core: MemCore,
     blobs: MemBlobs,
+    remote: ScriptRemote,
 }
 
 impl Kept {
@@ -74,8 +75,13 @@ impl Kept {
             return Ok(None);
         };
         let clock: ScriptClock = clock_of(alloc, case);
+        let remote: ScriptRemote = remote_of(alloc, case)?;
         match begun(alloc, &settings, records, &mut blobs, clock) {
-            Some(core) => Ok(Some(Kept { core, blobs })),
+            Some(core) => Ok(Some(Kept {
+                core,
+                blobs,
+                remote,
+            })),
             None => Ok(None),
         }
     }
@@ -93,9 +99,12 @@ impl Kept {
         link: &Link,
         most: usize,
     ) -> Result<(Kept, Went), AllocError> {
-        let Kept { mut core, blobs } = self;
+        let Kept {
+            mut core,
+            blobs,
+            remote,
+        } = self;
         let port: MemPort = port_of(alloc, link.input.as_slice(), case.script, most)?;
-        let remote: ScriptRemote = silent(alloc);
         let mut desk: MemDesk = Desk {
             port,
             blobs,
@@ -103,8 +112,13 @@ impl Kept {
         };
         let end: Option<End> = serve(alloc, &mut desk, &mut core)?;
         let line: Vec<u8> = line_of(alloc, core.calls(), end)?;
-        let (went, blobs) = went_of(alloc, desk, line, 0)?;
-        Ok((Kept { core, blobs }, went))
+        let (went, blobs, remote) = went_of(alloc, desk, line, 0)?;
+        let kept = Kept {
+            core,
+            blobs,
+            remote,
+        };
+        Ok((kept, went))
     }
 }
 
@@ -161,6 +175,7 @@ fn given_went(alloc: Global, desk: GivenDesk, line: Vec<u8>) -> Result<Went, All
         line,
         status: 0,
         blob_faults: desk.blobs.faults(),
+        exchanges: 0,
         blobs: None,
     })
 }

@@ -12,6 +12,7 @@ use outside_remote::ScriptRemote;
 use row_tables::MemRecords;
 use run_desks::{Cleaner, Desk};
 use std::alloc::{AllocError, Global};
+use texts::Bytes;
 
 pub(crate) type MemPort = ScriptPort<MemLink>;
 
@@ -76,15 +77,24 @@ pub(crate) fn silent(alloc: Global) -> ScriptRemote {
     ScriptRemote::new(alloc, Vec::new(alloc), Vec::new(alloc))
 }
 
+/// The remote of a case.
+pub(crate) fn remote_of(alloc: Global, case: &Case) -> Result<ScriptRemote, AllocError> {
+    let mut answers: Vec<Bytes> = Vec::new(alloc);
+    for answer in &case.remote {
+        answers.push(Bytes::new(alloc, answer.as_slice())?)?;
+    }
+    Ok(ScriptRemote::new(alloc, answers, Vec::new(alloc)))
+}
+
 /// The one desk of a run.
 pub(crate) fn desks_of(
     alloc: Global,
     port: MemPort,
     blobs: MemBlobs,
+    remote: ScriptRemote,
 ) -> Result<Vec<MemDesk>, AllocError>
     ensures { IfOk result (λ desks. 0 < vec_len desks) }
 {
-    let remote: ScriptRemote = silent(alloc);
     Ok(vec![in alloc;
         Desk {
             port,
@@ -102,28 +112,29 @@ pub(crate) fn written_on(port: &MemPort) -> &[u8] {
     }
 }
 
-/// What a desk came to with its one connection, and its blobs.
+/// What a desk came to with its one connection, its blobs and its remote.
 pub(crate) fn went_of(
     alloc: Global,
     desk: MemDesk,
     line: Vec<u8>,
     status: u8,
-) -> Result<(Went, MemBlobs), AllocError> {
+) -> Result<(Went, MemBlobs, ScriptRemote), AllocError> {
     let answers: Vec<u8> = Vec::from_slice(alloc, written_on(&desk.port))?;
     let blob_faults: u64 = desk.blobs.faults();
     let Desk {
         port: _,
         blobs,
-        remote: _,
+        remote,
     } = desk;
     let went = Went {
         answers,
         line,
         status,
         blob_faults,
+        exchanges: remote.made().len() as u64,
         blobs: None,
     };
-    Ok((went, blobs))
+    Ok((went, blobs, remote))
 }
 
 /// A word and a number behind it.

@@ -3,7 +3,7 @@ ghost use Rattle.std.specs.Prelude.{◌<◌, vec_len};
 
 use crate::objects::{
     Ends, MemCleaner, MemDesk, MemPort, Store, cleaner_of, clock_of, desks_of, ends_of, listed,
-    lose, port_of, replay_of, store_of, went_of, words_of,
+    lose, port_of, remote_of, replay_of, silent, store_of, went_of, words_of,
 };
 use case_texts::{Case, Script, Went};
 use outside::{Blobs, Clock, Port, Sink, Source};
@@ -53,18 +53,19 @@ fn over_of(alloc: Global, ran: MemRan, out: &MemSink) -> Result<Option<Over>, Al
     let Some(desk) = desks.pop() else {
         return Ok(None);
     };
-    let (went, blobs) = went_of(alloc, desk, line, status)?;
+    let (went, blobs, _) = went_of(alloc, desk, line, status)?;
     let store = Store { blobs, records };
     Ok(Some(Over { went, store }))
 }
 
-/// Runs the program with these words over a store, on one desk with this port.
+/// Runs the program with these words over a store, on one desk with this port and this remote.
 fn run_over(
     alloc: Global,
     case: &Case,
     words: &[String],
     store: Store,
     port: MemPort,
+    remote: ScriptRemote,
     ends: Ends,
 ) -> Result<Option<Over>, AllocError> {
     let Ends {
@@ -74,7 +75,7 @@ fn run_over(
     let Store { blobs, records } = store;
     let cleaner: MemCleaner = cleaner_of(alloc)?;
     let clock: ScriptClock = clock_of(alloc, case);
-    let desks: Vec<MemDesk> = desks_of(alloc, port, blobs)?;
+    let desks: Vec<MemDesk> = desks_of(alloc, port, blobs, remote)?;
     let ran: MemRan = run_plainly(
         alloc,
         words,
@@ -101,7 +102,15 @@ fn store_behind(alloc: Global, case: &Case, script: Script) -> Result<Option<Sto
     let plain: Script = Script::PLAIN;
     let port: MemPort = port_of(alloc, case.before.as_slice(), plain, BLOCK)?;
     let ends: Ends = ends_of(alloc, case, plain)?;
-    match run_over(alloc, case, words.as_slice(), store, port, ends)? {
+    match run_over(
+        alloc,
+        case,
+        words.as_slice(),
+        store,
+        port,
+        silent(alloc),
+        ends,
+    )? {
         Some(over) if over.went.status == 0 => Ok(Some(over.store)),
         _ => Ok(None),
     }
@@ -121,8 +130,9 @@ pub(crate) fn run_of(
     lose(&mut store.blobs, case);
     let words: Vec<String> = words_of(alloc, case)?;
     let port: MemPort = port_of(alloc, case.last.input.as_slice(), script, most)?;
+    let remote: ScriptRemote = remote_of(alloc, case)?;
     let ends: Ends = ends_of(alloc, case, script)?;
-    let Some(over) = run_over(alloc, case, words.as_slice(), store, port, ends)? else {
+    let Some(over) = run_over(alloc, case, words.as_slice(), store, port, remote, ends)? else {
         return Ok(None);
     };
     let Over {

@@ -13,6 +13,7 @@ no_settings = record { grace = 0; clean = 0; max_file = 0; hosted = []; proxies 
 abbrev pub idle : State
 idle = record {
   hosted = [];
+  proxies = [];
   sessions = [];
   yard = record { drafts = []; leases = []; condemned = []; next_draft = 1; next_lease = 1; next_session = 1 };
   last = 0;

@@ -1,5 +1,5 @@
-//! Tests of `turn_seats`, of `run_serve` and of what it stands on: seats that ask through the trait, and servers over objects in
-//! memory. They stand apart from these, since a crate is proved once more with its tests.
+//! Tests of `turn_seats`, of `run_serve` and of what it stands on: seats that ask through the trait, servers over objects in memory,
+//! and a stream whose client waits for each answer. They stand apart from these, since a crate is proved once more with its tests.
 #![tactic(auto)]
 
 #[cfg(test)]
@@ -10,6 +10,8 @@ mod idle;
 mod idle_seats;
 #[cfg(test)]
 mod literals;
+#[cfg(test)]
+mod lock_step;
 #[cfg(test)]
 mod meetings;
 #[cfg(test)]

@@ -22,7 +22,7 @@ use turn_seats::Repository;
 
 const PATH: &str = "org/acme/lib/1.0/lib-1.0.jar";
 
-type MemCore = Core<MemRecords, ScriptClock, MemHeld>;
+pub type MemCore = Core<MemRecords, ScriptClock, MemHeld>;
 
 type Commands = (Command<MemHeld>, Command<MemHeld>, Command<MemHeld>);
 
@@ -88,7 +88,7 @@ fn ask_by_two<T: Repository<Call = Command<MemHeld>, Reply = Reply<MemHeld>>, W:
 }
 
 // The settings that a text says. Where the text stood here, what is known of them would be computed.
-fn settings_of(alloc: Global, text: &str) -> Option<Settings> {
+pub fn settings_of(alloc: Global, text: &str) -> Option<Settings> {
     match repo_config::read(alloc, text.as_bytes()) {
         Ok(settings) => Some(settings),
         Err(_) => None,
@@ -112,7 +112,7 @@ fn begun<K: Records + Drop, B: Blobs, C: Clock + Drop>(
 }
 
 // A repository over nothing.
-fn core_of(alloc: Global, settings: &Settings, blobs: &mut MemBlobs) -> Option<MemCore>
+pub fn core_of(alloc: Global, settings: &Settings, blobs: &mut MemBlobs) -> Option<MemCore>
     ensures { IfSome result (λ core. core.settings ≡ settings.now) }
 {
     let records = MemRecords::new(alloc, Vec::new(alloc));

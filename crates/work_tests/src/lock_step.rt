@@ -1,13 +1,28 @@
 // A stream in lock step: its second request comes only once the answer to the first was taken whole.
 ghost use Rattle.std.specs.Prelude.{◌≡◌};
 
-use crate::cores::{opened, settings, silent};
-use crate::literals::{ABC_LAST, CREATED, GET_LAST, PUT_ABC};
+use crate::literals::SETTINGS;
+use crate::seats::{core_of, settings_of};
 use outside::{Failed, Sink, Source, Stream, Tells};
 use outside_memory::{FaultScript, MemBlobs};
+use outside_remote::ScriptRemote;
+use repo_config::Settings;
 use repo_course::End;
 use repo_server::serve_stream;
+use std::alloc::Global;
 use std::test::Fail;
+
+const PUT_ABC: &str =
+    "PUT /repository/releases/org/acme/lib/1.0/lib-1.0.jar HTTP/1.1\r\nHost: x\r\nContent-Length: 3\r\n\r\nabc";
+
+const GET_LAST: &str =
+    "GET /repository/releases/org/acme/lib/1.0/lib-1.0.jar HTTP/1.1\r\nHost: x\r\nConnection: close\r\n\r\n";
+
+const CREATED: &str =
+    "HTTP/1.1 201 Created\r\nContent-Type: text/plain\r\nContent-Length: 8\r\n\r\ncreated\n";
+
+const ABC_LAST: &str =
+    "HTTP/1.1 200 OK\r\nContent-Type: application/octet-stream\r\nContent-Length: 3\r\nX-Checksum-SHA1: a9993e364706816aba3e25717850c26c9cd0d89d\r\nX-Checksum-MD5: 900150983cd24fb0d6963f7d28e17f72\r\nConnection: close\r\n\r\nabc";
 
 /// Gives a PUT and then a GET, each in one read, and fails where one is asked for too early.
 #[derive(Drop)]
@@ -82,28 +97,27 @@ impl Sink for LockStep {
 
 impl Stream for LockStep {}
 
+// How the stream ends, served by a repository over nothing; nothing where there is none.
+fn end_of(alloc: Global, settings: &Settings, stream: &mut LockStep) -> Option<End> {
+    let mut blobs = MemBlobs::new(alloc, FaultScript::none(alloc));
+    let mut core = core_of(alloc, settings, &mut blobs)?;
+    let mut remote = ScriptRemote::new(alloc, Vec::new(alloc), Vec::new(alloc));
+    Some(serve_stream(alloc, settings, &mut core, &mut blobs, &mut remote, stream))
+}
+
 #[test]
 fn an_answer_is_written_before_the_next_request_comes(rt: HostRuntime) -> Result<(), Fail> {
     let alloc = rt.alloc();
-    let settings = settings(alloc)?;
-    let mut blobs = MemBlobs::new(alloc, FaultScript::none(alloc));
-    let mut core = opened(alloc, &settings, &mut blobs)?;
+    let Some(settings) = settings_of(alloc, SETTINGS) else {
+        return Err("no settings")?;
+    };
     let mut stream = LockStep {
         given: 0,
         taken: 0,
         right: true,
         faults: 0,
     };
-    let mut remote = silent(alloc);
-    let end = serve_stream(
-        alloc,
-        &settings,
-        &mut core,
-        &mut blobs,
-        &mut remote,
-        &mut stream,
-    );
-    assert_eq!(rt; end, End::Closed);
+    assert_eq!(rt; end_of(alloc, &settings, &mut stream), Some(End::Closed));
     assert_eq!(rt; stream.taken, CREATED.len() + ABC_LAST.len());
     assert!(rt; stream.right);
     Ok(())
