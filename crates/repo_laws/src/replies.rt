@@ -29,8 +29,8 @@ pub fn giving_up_is_never_refused()
 {}
 
 /// A command that is refused changes nothing but the moment, and gives up the blob that was sent for nothing: where the path
-/// has a file of another content, and, of a staged file, where no session is open or no more files may be staged. Rows change
-/// only where the reply says so.
+/// has a file of another content, and, of a staged file, where no session is open or no more files may be staged. Rows of hosted
+/// repositories change only where the reply says so.
 pub fn refusals_change_nothing()
     ensures refused { (settings : Settings) (old : State) (e : Entry) → Fits settings old e → is_refusal e.reply ≡ true
         → after settings old e ≡ with_effects (ticked old e.moment e.faults) (given_up e.command e.reply) }

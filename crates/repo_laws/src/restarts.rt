@@ -18,7 +18,7 @@ ghost use Rattle.repo_laws.specs.Closed.{named, AnswersDocument};
 ghost use Rattle.repo_laws.specs.InRange.{InRange, IsItemInRange, Completes, IsFoundSince, Run, Follow, AnsweredOn};
 
 /// The state that a start makes from tables in order and in range stands for them and is sound. Its rows are the recorded ones,
-/// with the bytes that the store tells, of the repositories that the settings name, and no others. The next draft is above each
+/// with the bytes that the store tells, of the hosted repositories that the settings name, and no others. The next draft is above each
 /// number below 2^63 of a blob in the store. Over empty tables it is the opening state.
 pub fn starts_stand_for_tables()
     ensures stands { (settings : Settings) (tells : ℕ → Option (List ℕ)) (stored : List ℕ) (clock : Option Moments) (faults : ℕ) (t : Tables)
