@@ -1,10 +1,14 @@
-"""What the scripts of this folder share: a server that runs over a folder, files that are known by their number, and figures."""
+"""What the scripts of this folder share: a server that runs over a folder, a remote repository, files that are known by their number, and
+figures."""
 
+import functools
 import hashlib
+import http.server
 import os
 import socket
 import subprocess
 import sys
+import threading
 import time
 
 HERE = os.path.dirname(os.path.abspath(__file__))
@@ -38,6 +42,43 @@ def begin(program, settings, data, port, through=()):
     server = subprocess.Popen([*through, program, "serve", settings, data, str(port)], stderr=subprocess.PIPE)
     wait_for(port, server)
     return server
+
+
+def copy_of_debian(folder):
+    """Copies the repository of Debian's packages, and writes the SHA-1 of each file beside it."""
+    os.makedirs(folder)
+    subprocess.run(["cp", "-rL", "/usr/share/maven-repo/.", folder], check=True)
+    for at, _, names in os.walk(folder):
+        for name in names:
+            write_side(os.path.join(at, name))
+
+
+def write_side(path):
+    with open(path, "rb") as file, open(path + ".sha1", "w", encoding="ascii") as side:
+        side.write(hashlib.sha1(file.read()).hexdigest())
+
+
+class Remote:
+    """A plain server of a folder's files, which keeps the paths that it was asked for, and can be stopped."""
+
+    def __init__(self, folder):
+        self.folder, self.port, self.asked, self.server = folder, free_port(), [], None
+
+    def start(self):
+        class Handler(http.server.SimpleHTTPRequestHandler):
+            def log_request(handler, *_):
+                self.asked.append(handler.path)
+
+            def log_message(handler, *_):
+                pass
+
+        handler = functools.partial(Handler, directory=self.folder)
+        self.server = http.server.ThreadingHTTPServer(("127.0.0.1", self.port), handler)
+        threading.Thread(target=self.server.serve_forever, daemon=True).start()
+
+    def stop(self):
+        self.server.shutdown()
+        self.server.server_close()
 
 
 def body_of(seed, length):
