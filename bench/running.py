@@ -1,10 +1,11 @@
-"""What the scripts of this folder share: a server that runs over a folder, a remote repository, files that are known by their number, and
-figures."""
+"""What the scripts of this folder share: a server that runs over a folder, nginx, clients that ask often, a remote repository, files that
+are known by their number, and figures."""
 
 import functools
 import hashlib
 import http.server
 import os
+import re
 import socket
 import subprocess
 import sys
@@ -14,6 +15,26 @@ import time
 HERE = os.path.dirname(os.path.abspath(__file__))
 PROGRAM = os.path.join(HERE, "..", "crates", "mvnrepod", "out", "mvnrepod")
 DIGESTS = os.path.join(HERE, "..", "crates", "digest_bench", "out", "digest_bench")
+
+NGINX = """
+worker_processes 4;
+pid {room}/nginx.pid;
+error_log {room}/nginx.log;
+daemon off;
+events {{ worker_connections 768; }}
+http {{
+    sendfile on;
+    tcp_nopush on;
+    access_log off;
+    types {{ application/octet-stream jar; }}
+    client_body_temp_path {room}/temp;
+    proxy_temp_path {room}/temp;
+    fastcgi_temp_path {room}/temp;
+    uwsgi_temp_path {room}/temp;
+    scgi_temp_path {room}/temp;
+    {servers}
+}}
+"""
 
 
 def free_port():
@@ -44,9 +65,45 @@ def begin(program, settings, data, port, through=()):
     return server
 
 
+def begin_nginx(room, port, servers):
+    """nginx with these blocks of servers, one of which listens to the port; what it writes lies in the folder `room`."""
+    os.chmod(room, 0o755)
+    os.makedirs(os.path.join(room, "temp"), exist_ok=True)
+    text = os.path.join(room, "nginx.conf")
+    with open(text, "w", encoding="ascii") as it:
+        it.write(NGINX.format(room=room, servers=servers))
+    nginx = subprocess.Popen(["nginx", "-p", room, "-c", text], stderr=subprocess.PIPE)
+    wait_for(port, nginx)
+    return nginx
+
+
+def build_asks(room):
+    """Compiles asks.c into a folder."""
+    subprocess.run(["cc", "-O2", "-D_GNU_SOURCE", "-pthread", "-o", os.path.join(room, "asks"), os.path.join(HERE, "asks.c")], check=True)
+
+
+def asked_often(room, port, method, path, links, seconds, file, pause=0):
+    """What asks.c says: answers, wrong ones, seconds, and the longest wait."""
+    words = [os.path.join(room, "asks"), str(port), path, method, str(links), str(seconds), str(pause), file]
+    said = subprocess.run(words, capture_output=True, check=False).stdout.decode()
+    if not said:
+        sys.exit(f"{method} {path} at port {port}: no answer")
+    answers, wrong, spent, longest = said.split()
+    return int(answers), int(wrong), float(spent), float(longest)
+
+
+def got_often(port, path, links, seconds):
+    """How many GETs a second are answered, by wrk."""
+    words = ["wrk", "-t", str(min(links, 2)), "-c", str(links), "-d", f"{seconds}s", "--timeout", "10s", f"http://127.0.0.1:{port}{path}"]
+    said = subprocess.run(words, capture_output=True, check=True).stdout.decode()
+    if "Non-2xx" in said or "Socket errors" in said:
+        sys.exit(f"GET {path} over {links} at port {port}:\n{said}")
+    return float(re.search(r"Requests/sec:\s*([0-9.]+)", said)[1])
+
+
 def copy_of_debian(folder):
     """Copies the repository of Debian's packages, and writes the SHA-1 of each file beside it."""
-    os.makedirs(folder)
+    os.makedirs(folder, exist_ok=True)
     subprocess.run(["cp", "-rL", "/usr/share/maven-repo/.", folder], check=True)
     for at, _, names in os.walk(folder):
         for name in names:
