@@ -1,9 +1,13 @@
-//! Tests of `turn_seats`, of `run_serve` and of what it stands on: seats that ask through the trait, servers over objects in memory,
-//! and a stream whose client waits for each answer. They stand apart from these, since a crate is proved once more with its tests.
+//! Tests of `turn_seats`, of `run_serve` and of what it stands on: seats that ask through the trait, servers over objects in memory
+//! and over a folder, and a stream whose client waits for each answer. They stand apart from these, since a crate is proved once more with its tests.
 #![tactic(auto)]
 
 #[cfg(test)]
 mod cases;
+#[cfg(test)]
+mod folder_servers;
+#[cfg(test)]
+mod folders;
 #[cfg(test)]
 mod idle;
 #[cfg(test)]
@@ -20,3 +24,5 @@ mod seats;
 mod servers;
 #[cfg(test)]
 mod serving;
+#[cfg(test)]
+mod stock;

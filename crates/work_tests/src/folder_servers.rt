@@ -27,7 +27,7 @@ fn server_over<'a, R: Wait>(
 // Its clock is the system's, and its desks, its cleaner and its records are over the folder of its words.
 #[test]
 fn a_server_is_over_its_folder(rt: HostRuntime) -> Result<(), Fail> {
-    let folder = "system_tests_serve";
+    let folder = "work_tests_serve";
     make_folder(&rt, folder)?;
     let Server {
         desks,

@@ -12,7 +12,7 @@ use std::thread::Threads;
 // is removed, and nothing else.
 #[test]
 fn a_cleaning_goes_by_the_clock_of_the_system(rt: HostRuntime) -> Result<(), Fail> {
-    let folder = "system_tests_clean";
+    let folder = "work_tests_clean";
     make_folder(&rt, folder)?;
     let status = status_over(&rt, &rt, "clean", folder)?;
     let mut journal = Journal::new(open_disk(&rt, folder)?);
@@ -29,7 +29,7 @@ fn a_cleaning_goes_by_the_clock_of_the_system(rt: HostRuntime) -> Result<(), Fai
 // A check names what is damaged in the folder of its words.
 #[test]
 fn a_check_looks_at_its_folder(rt: HostRuntime) -> Result<(), Fail> {
-    let folder = "system_tests_check";
+    let folder = "work_tests_check";
     make_folder(&rt, folder)?;
     assert_eq!(rt; status_over(&rt, &rt, "check", folder)?, 0);
     put(&rt, folder, "blobs/2", b"abd")?;
@@ -54,11 +54,11 @@ fn all_refuse<R: Threads + Wait + Sync>(
 
 #[test]
 fn contents_without_records_are_refused(rt: HostRuntime) -> Result<(), Fail> {
-    let folder = "system_tests_alone";
+    let folder = "work_tests_alone";
     make_folder(&rt, folder)?;
     put(&rt, folder, "rows", b"")?;
     assert!(rt; all_refuse(&rt, &rt, folder)?);
-    fs::remove_file(&rt, "system_tests_alone/rows")?;
+    fs::remove_file(&rt, "work_tests_alone/rows")?;
     assert!(rt; all_refuse(&rt, &rt, folder)?);
     fs::remove_dir_all(&rt, folder)?;
     Ok(())
