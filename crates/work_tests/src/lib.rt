@@ -1,5 +1,6 @@
 //! Tests of `turn_seats`, of `run_serve` and of what it stands on: seats that ask through the trait, servers over objects in memory
-//! and over a folder, and a stream whose client waits for each answer. They stand apart from these, since a crate is proved once more with its tests.
+//! and over a folder, and a stream whose client waits for each answer. They stand apart from these, since a crate is proved once
+//! more with its tests.
 #![tactic(auto)]
 
 #[cfg(test)]
