@@ -43,16 +43,32 @@ def free_port():
         return it.getsockname()[1]
 
 
+def has_socket(pid, links):
+    """Whether a process, or one that it has begun, has one of these sockets open."""
+    try:
+        with open(f"/proc/{pid}/task/{pid}/children", encoding="ascii") as it:
+            pids = [pid, *map(int, it.read().split())]
+        return any(os.readlink(f"/proc/{each}/fd/{it}") in links for each in pids for it in os.listdir(f"/proc/{each}/fd"))
+    except OSError:
+        # A file was closed, or the process has ended, since it was listed.
+        return False
+
+
+def listens(port, pid):
+    """Whether it is this process that listens to the port, and not another one to which the system has given it meanwhile."""
+    with open("/proc/net/tcp", encoding="ascii") as it:
+        rows = [row.split() for row in it]
+    return has_socket(pid, {f"socket:[{row[9]}]" for row in rows if row[3] == "0A" and row[1].endswith(f":{port:04X}")})
+
+
 def wait_for(port, process):
-    """Waits until the port is listened to, and ends the script where the process has ended before."""
+    """Waits until the process listens to the port, and ends the script where it has ended before."""
     for _ in range(2000):
-        try:
-            socket.create_connection(("127.0.0.1", port), timeout=1).close()
+        if listens(port, process.pid):
             return
-        except OSError:
-            if process.poll() is not None:
-                sys.exit(f"the server ended with {process.returncode}: {process.stderr.read().decode()}")
-            time.sleep(0.005)
+        if process.poll() is not None:
+            sys.exit(f"the server ended with {process.returncode}: {process.stderr.read().decode()}")
+        time.sleep(0.005)
     sys.exit("the server does not listen")
 
 
@@ -60,7 +76,7 @@ def begin(program, settings, data, port, through=()):
     """A server over the folder `data`, which listens; it is started by the words of `through`, where there are some."""
     if not os.access(program, os.X_OK):
         sys.exit(f"no program at {program}; --help says how it is built")
-    server = subprocess.Popen([*through, program, "serve", settings, data, str(port)], stderr=subprocess.PIPE)
+    server = subprocess.Popen([*through, os.path.abspath(program), "serve", settings, data, str(port)], stderr=subprocess.PIPE)
     wait_for(port, server)
     return server
 
@@ -93,12 +109,16 @@ def asked_often(room, port, method, path, links, seconds, file, pause=0):
 
 
 def got_often(port, path, links, seconds):
-    """How many GETs a second are answered, by wrk."""
-    words = ["wrk", "-t", str(min(links, 2)), "-c", str(links), "-d", f"{seconds}s", "--timeout", "10s", f"http://127.0.0.1:{port}{path}"]
-    said = subprocess.run(words, capture_output=True, check=True).stdout.decode()
-    if "Non-2xx" in said or "Socket errors" in said:
-        sys.exit(f"GET {path} over {links} at port {port}:\n{said}")
-    return float(re.search(r"Requests/sec:\s*([0-9.]+)", said)[1])
+    """How many GETs a second are answered, by wrk, and for how many seconds it asked: for longer where none was answered in the time."""
+    for _ in range(6):
+        words = ["wrk", "-t", str(min(links, 2)), "-c", str(links), "-d", f"{seconds}s", "--timeout", "10s", f"http://127.0.0.1:{port}{path}"]
+        said = subprocess.run(words, capture_output=True, check=True).stdout.decode()
+        if "Non-2xx" in said or "Socket errors" in said:
+            break
+        if rate := float(re.search(r"Requests/sec:\s*([0-9.]+)", said)[1]):
+            return rate, seconds
+        seconds *= 2
+    sys.exit(f"GET {path} over {links} at port {port}:\n{said}")
 
 
 def copy_of_debian(folder):
@@ -116,15 +136,15 @@ def write_side(path):
 
 
 class Remote:
-    """A plain server of a folder's files, which keeps the paths that it was asked for, and can be stopped."""
+    """A plain server of a folder's files, which keeps the paths that it was asked for, each with its status, and can be stopped."""
 
     def __init__(self, folder):
         self.folder, self.port, self.asked, self.server = folder, free_port(), [], None
 
     def start(self):
         class Handler(http.server.SimpleHTTPRequestHandler):
-            def log_request(handler, *_):
-                self.asked.append(handler.path)
+            def log_request(handler, code="-", *_):
+                self.asked.append((handler.path, int(code)))
 
             def log_message(handler, *_):
                 pass

@@ -83,6 +83,15 @@ fn judge_files<J: Judge>(
     Ok(all)
 }
 
+/// The status of a program of which all cases go as they have to, or not.
+fn status_of(all: bool) -> ExitCode {
+    if all {
+        ExitCode::SUCCESS
+    } else {
+        ExitCode::FAILURE
+    }
+}
+
 /// A program that judges the cases of the files that its words name, or of the standard input where there is none, and prints `ok NAME`
 /// for each that goes as it has to, and how the others go wrong. Its status is 0 where all go as they have to, and 1 where one does not
 /// or a file is refused.
@@ -91,11 +100,7 @@ pub fn run_judge<J: Judge>(
     judge: &mut J,
 ) -> io::Result<ExitCode> {
     let files: Vec<String> = env::args(rt)?.skip(1).collect(rt.alloc())?;
-    Ok(if judge_files(rt, judge, files.as_slice())? {
-        ExitCode::SUCCESS
-    } else {
-        ExitCode::FAILURE
-    })
+    Ok(status_of(judge_files(rt, judge, files.as_slice())?))
 }
 
 /// The same for cases of steps, each followed to the first step of which something else is told than what has to be.
@@ -105,4 +110,37 @@ pub fn run_steps<S: Steps + Drop>(
 ) -> io::Result<ExitCode> {
     let names: Names = Names::new(rt.alloc());
     run_judge(rt, &mut Follower { names, steps })
+}
+
+/// The words before `--steps`, and those behind it; nothing behind it where it is none of them.
+fn parted(words: &[String]) -> (&[String], Option<&[String]>) {
+    let mut rest: &[String] = words;
+    for place in 0..words.len() {
+        let [word, behind @ ..] = rest else {
+            break;
+        };
+        if word.as_str() == "--steps" {
+            return (words.get(..place).unwrap_or(&[]), Some(behind));
+        }
+        rest = behind;
+    }
+    (words, None)
+}
+
+/// A program that judges the cases of the files that its words name, and follows cases of steps in those that stand behind the word
+/// `--steps`. Its status is 0 where all go as they have to.
+pub fn run_both<J: Judge, S: Steps + Drop>(
+    rt: &(impl AllocGlobal + Env + Files + Input + Print),
+    judge: &mut J,
+    steps: S,
+) -> io::Result<ExitCode> {
+    let files: Vec<String> = env::args(rt)?.skip(1).collect(rt.alloc())?;
+    let (cases, behind) = parted(files.as_slice());
+    let judged: bool = judge_files(rt, judge, cases)?;
+    let Some(behind) = behind else {
+        return Ok(status_of(judged));
+    };
+    let names: Names = Names::new(rt.alloc());
+    let followed: bool = judge_files(rt, &mut Follower { names, steps }, behind)?;
+    Ok(status_of(judged && followed))
 }

@@ -31,24 +31,29 @@ pub(crate) fn parcel_of(
     })
 }
 
+/// A text of which nothing is known.
+pub(crate) fn text_of(alloc: Global, text: &str) -> Result<Text, WorldFault> {
+    Ok(Text::new(alloc, text)?)
+}
+
 fn place_at(alloc: Global, repo: &str) -> Result<Place, WorldFault> {
-    Ok(Place::Repository(Text::new(alloc, repo)?))
+    Ok(Place::Repository(text_of(alloc, repo)?))
 }
 
 fn look(alloc: Global, repo: &str, path: &str, tried: &[String]) -> Result<MemCommand, WorldFault> {
     let tried = Numbers::from_vec(numbers_of(alloc, tried)?);
-    let repo = Text::new(alloc, repo)?;
-    let path = Text::new(alloc, path)?;
+    let repo = text_of(alloc, repo)?;
+    let path = text_of(alloc, path)?;
     Ok(Command::Look { repo, path, tried })
 }
 
 fn unlist(alloc: Global, repo: &str) -> Result<MemCommand, WorldFault> {
-    let repo = Id::from_text(Text::new(alloc, repo)?);
+    let repo = Id::from_text(text_of(alloc, repo)?);
     Ok(Command::Unlist { repo })
 }
 
 fn open(alloc: Global, repo: &str) -> Result<MemCommand, WorldFault> {
-    let repo = Text::new(alloc, repo)?;
+    let repo = text_of(alloc, repo)?;
     Ok(Command::Open { repo })
 }
 
@@ -58,8 +63,8 @@ fn put(
     path: &str,
     parcel: Parcel<MemHeld>,
 ) -> Result<MemCommand, WorldFault> {
-    let repo = Text::new(alloc, repo)?;
-    let path = Text::new(alloc, path)?;
+    let repo = text_of(alloc, repo)?;
+    let path = text_of(alloc, path)?;
     Ok(Command::Put {
         repo,
         path,
@@ -75,7 +80,7 @@ pub(crate) fn stage(
     path: &str,
     parcel: Parcel<MemHeld>,
 ) -> Result<MemCommand, WorldFault> {
-    let path = Text::new(alloc, path)?;
+    let path = text_of(alloc, path)?;
     Ok(Command::Stage {
         session,
         path,
@@ -86,7 +91,7 @@ pub(crate) fn stage(
 
 /// The command that asks for a draft.
 pub(crate) fn may_put(alloc: Global, place: Place, path: &str) -> Result<MemCommand, WorldFault> {
-    let path = Text::new(alloc, path)?;
+    let path = text_of(alloc, path)?;
     Ok(Command::MayPut { place, path })
 }
 
@@ -96,12 +101,12 @@ fn put_side(
     path: &str,
     said: Digest,
 ) -> Result<MemCommand, WorldFault> {
-    let path = Text::new(alloc, path)?;
+    let path = text_of(alloc, path)?;
     Ok(Command::PutSide { place, path, said })
 }
 
 fn put_doc(alloc: Global, place: Place, path: &str) -> Result<MemCommand, WorldFault> {
-    let path = Text::new(alloc, path)?;
+    let path = text_of(alloc, path)?;
     Ok(Command::PutDoc { place, path })
 }
 

@@ -1,5 +1,5 @@
 // What came of a fetch, in words.
-use crate::commands::parcel_of;
+use crate::commands::{parcel_of, text_of};
 use crate::faults::WorldFault;
 use crate::steps::{number_of, said_by};
 use fetch_plan::{Outcome, Plan};
@@ -8,19 +8,18 @@ use outside_memory::{MemBlobs, MemHeld};
 use repo_core::Command;
 use repo_model::Got;
 use std::alloc::Global;
-use texts::Text;
 
 type MemOutcome = Outcome<Got<MemHeld>>;
 
 /// The plan of a proxy's remote in the cases.
 fn plan_of(alloc: Global, proxy: &str, path: &str, draft: Option<u64>) -> Result<Plan, WorldFault> {
     Ok(Plan {
-        proxy: Text::new(alloc, proxy)?,
+        proxy: text_of(alloc, proxy)?,
         member: 0,
-        host: Text::new(alloc, "repo.test")?,
+        host: text_of(alloc, "repo.test")?,
         port: 8080,
-        prefix: Text::new(alloc, "/m2")?,
-        path: Text::new(alloc, path)?,
+        prefix: text_of(alloc, "/m2")?,
+        path: text_of(alloc, path)?,
         draft,
         limit: 1000,
     })

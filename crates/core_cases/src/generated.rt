@@ -4,7 +4,7 @@ ghost use Rattle.std.specs.Prelude.{◌<◌};
 use crate::asks::Ask;
 use crate::faults::WorldFault;
 use crate::plain::{Plain, takes};
-use crate::worlds::World;
+use crate::worlds::{Cores, World};
 use std::alloc::Global;
 
 static REPOS: [&str; 3] = ["releases", "mixed", "snapshots"];
@@ -88,30 +88,14 @@ fn counted((files, refused): Counts, answer: &str) -> Counts {
 
 /// The core and the plain machine, which are given the same commands, and how they answered.
 #[derive(Drop)]
-struct Pair {
+struct Pair<W: Cores + Drop> {
     numbers: Numbers,
     plain: Plain,
-    world: World,
+    world: W,
     counts: Counts,
 }
 
-impl Pair {
-    /// Both before the first command, and what the core's start was told.
-    fn new(alloc: Global) -> Result<(Pair, String), WorldFault> {
-        let mut world: World = World::new(alloc, &[])?;
-        let started: String = world.start(MIXED.as_bytes(), 1_700_000_000, 1)?;
-        let plain: Plain = Plain::new(alloc);
-        let numbers: Numbers = Numbers(1);
-        let counts: Counts = (0, 0);
-        let pair = Pair {
-            numbers,
-            plain,
-            world,
-            counts,
-        };
-        Ok((pair, started))
-    }
-
+impl<W: Cores + Drop> Pair<W> {
     /// Gives both one command more. Whether they answer alike.
     fn go(&mut self) -> Result<bool, WorldFault> {
         let ask: Ask<'static> = self.numbers.next_ask(&self.plain.drafts);
@@ -132,12 +116,23 @@ impl Pair {
     }
 }
 
-// The first of so many commands that the core answers otherwise, and the counts.
-fn compared(alloc: Global, count: u64) -> Result<(Option<u64>, Counts), WorldFault> {
-    let (mut pair, started) = Pair::new(alloc)?;
+// The first of so many commands that the core of a new world answers otherwise, and the counts.
+fn compared<W: Cores + Drop>(
+    alloc: Global,
+    world: W,
+    count: u64,
+) -> Result<(Option<u64>, Counts), WorldFault> {
+    let mut world = world;
+    let started: String = world.start(MIXED.as_bytes(), 1_700_000_000, 1)?;
     if started.as_str() != "started" {
-        return Ok((Some(0), pair.counts));
+        return Ok((Some(0), (0, 0)));
     }
+    let mut pair = Pair {
+        numbers: Numbers(1),
+        plain: Plain::new(alloc),
+        world,
+        counts: (0, 0),
+    };
     let other = pair.first_other(count)?;
     Ok((other, pair.counts))
 }
@@ -145,7 +140,7 @@ fn compared(alloc: Global, count: u64) -> Result<(Option<u64>, Counts), WorldFau
 /// What is told of so many generated commands: `alike` where the core answers each as the plain machine does, and many files were
 /// given and many refused.
 pub(crate) fn told_of_generated(alloc: Global, count: u64) -> Result<&'static str, WorldFault> {
-    match compared(alloc, count)? {
+    match compared(alloc, World::new(alloc, &[])?, count)? {
         (None, (200.., 200..)) => Ok("alike"),
         (None, _) => Ok("too few files"),
         (Some(_), _) => Ok("other"),

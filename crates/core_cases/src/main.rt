@@ -13,6 +13,7 @@ mod replies;
 mod steps;
 mod worlds;
 
+use crate::steps::take;
 use crate::worlds::World;
 use case_texts::{Steps, Tale, run_steps};
 use std::alloc::{AllocError, Global};
@@ -26,7 +27,7 @@ impl Steps for World {
     }
 
     fn step(&mut self, alloc: Global, key: &str, words: &[String]) -> Tale {
-        match self.take(alloc, key, words) {
+        match take(self, alloc, key, words) {
             Ok(told) => Ok(Some(told)),
             Err(fault) => Ok(Some(format!(in alloc; "{fault}")?)),
         }

@@ -3,7 +3,7 @@ use crate::asks::Ask;
 use crate::faults::WorldFault;
 use crate::generated::told_of_generated;
 use crate::replies::digest_of;
-use crate::worlds::World;
+use crate::worlds::Cores;
 use mvn_coords::Side;
 use mvn_digest::{Digest, read_side};
 use repo_model::Item;
@@ -124,7 +124,12 @@ fn told_item(alloc: Global, item: Option<&Item>) -> Result<String, WorldFault> {
 }
 
 /// Whether so many sessions are opened, which have the numbers from 1 on.
-fn opens_all(world: &mut World, alloc: Global, repo: &str, count: u64) -> Result<bool, WorldFault> {
+fn opens_all<W: Cores>(
+    world: &mut W,
+    alloc: Global,
+    repo: &str,
+    count: u64,
+) -> Result<bool, WorldFault> {
     for number in 1..count.saturating_add(1) {
         let want: String = format!(in alloc; "session {number}")?;
         if world.ask(Ask::Open(repo))?.as_str() != want.as_str() {
@@ -135,7 +140,7 @@ fn opens_all(world: &mut World, alloc: Global, repo: &str, count: u64) -> Result
 }
 
 /// Whether so many files are staged, their drafts having the numbers from 1 on.
-fn stages_all(world: &mut World, session: u64, count: u64) -> Result<bool, WorldFault> {
+fn stages_all<W: Cores>(world: &mut W, session: u64, count: u64) -> Result<bool, WorldFault> {
     for number in 1..count.saturating_add(1) {
         if !world.stages(session, number)? {
             return Ok(false);
@@ -145,8 +150,8 @@ fn stages_all(world: &mut World, session: u64, count: u64) -> Result<bool, World
 }
 
 /// What is told of a world while no core runs, or of the blobs.
-fn seen(
-    world: &mut World,
+fn seen<W: Cores>(
+    world: &mut W,
     alloc: Global,
     key: &str,
     words: &[String],
@@ -189,8 +194,8 @@ fn seen(
 }
 
 /// Starts, in words: by a moment and a step, or at moments.
-fn started(
-    world: &mut World,
+fn started<W: Cores>(
+    world: &mut W,
     alloc: Global,
     key: &str,
     words: &[String],
@@ -210,8 +215,8 @@ fn started(
 }
 
 /// What is done beside commands, in words.
-fn done_beside(
-    world: &mut World,
+fn done_beside<W: Cores>(
+    world: &mut W,
     alloc: Global,
     key: &str,
     words: &[String],
@@ -219,9 +224,7 @@ fn done_beside(
     match (key, words) {
         ("stop", []) => world.stop()?,
         ("records-fail", failing) => world.fail_at(numbers_of(alloc, failing)?.as_slice())?,
-        ("blobs-fail", failing) => {
-            *world = World::new(alloc, numbers_of(alloc, failing)?.as_slice())?;
-        }
+        ("blobs-fail", failing) => world.renew(numbers_of(alloc, failing)?.as_slice())?,
         ("store", [blob, bytes]) => world.store(number_of(blob.as_str())?, bytes.as_bytes())?,
         ("remove", [blob]) => world.remove(number_of(blob.as_str())?)?,
         _ => return Ok(None),
@@ -230,8 +233,8 @@ fn done_beside(
 }
 
 /// What is asked and answered by yes or no.
-fn judged(
-    world: &mut World,
+fn judged<W: Cores>(
+    world: &mut W,
     alloc: Global,
     key: &str,
     words: &[String],
@@ -252,26 +255,24 @@ fn judged(
     Ok(Some(yes_or_no(alloc, is_so)?))
 }
 
-impl World {
-    /// Takes the step of a word and of those behind it: what is told of it.
-    pub(crate) fn take(
-        &mut self,
-        alloc: Global,
-        key: &str,
-        words: &[String],
-    ) -> Result<String, WorldFault> {
-        if let Some(told) = started(self, alloc, key, words)? {
-            return Ok(told);
-        }
-        if let Some(told) = done_beside(self, alloc, key, words)? {
-            return Ok(told);
-        }
-        if let Some(told) = judged(self, alloc, key, words)? {
-            return Ok(told);
-        }
-        match seen(self, alloc, key, words)? {
-            Some(told) => Ok(told),
-            None => self.ask(ask_of(key, words)?),
-        }
+/// Takes the step of a word and of those behind it: what is told of it.
+pub(crate) fn take<W: Cores>(
+    world: &mut W,
+    alloc: Global,
+    key: &str,
+    words: &[String],
+) -> Result<String, WorldFault> {
+    if let Some(told) = started(world, alloc, key, words)? {
+        return Ok(told);
+    }
+    if let Some(told) = done_beside(world, alloc, key, words)? {
+        return Ok(told);
+    }
+    if let Some(told) = judged(world, alloc, key, words)? {
+        return Ok(told);
+    }
+    match seen(world, alloc, key, words)? {
+        Some(told) => Ok(told),
+        None => world.ask(ask_of(key, words)?),
     }
 }

@@ -52,7 +52,68 @@ fn end_of<K: Records, C: Clock, H: Held>(core: Core<K, C, H>) -> (u64, K, C) {
 
 // Settings of which nothing is known.
 fn settings_of(alloc: Global, text: &[u8]) -> Result<Settings, WorldFault> {
-    read(alloc, text).map_err(|_| WorldFault::Settings)
+    match read(alloc, text) {
+        Ok(settings) => Ok(settings),
+        Err(_) => Err(WorldFault::Settings),
+    }
+}
+
+// The parcel of a file that is given.
+fn parcel_in<H: Held>(reply: Option<Reply<H>>) -> Option<Parcel<H>> {
+    match reply {
+        Some(Reply::File { lease: _, parcel }) => Some(parcel),
+        _ => None,
+    }
+}
+
+/// Cores over memory, one after the other. The steps of a case know no more of a world, so that what a core promises is not carried
+/// through them.
+pub(crate) trait Cores {
+    /// Begins again: nothing is recorded or stored, and no core runs. The calls of the store with these numbers fail; the first has the
+    /// number 0.
+    fn renew(&mut self, failing: &[u64]) -> Result<(), WorldFault>;
+
+    /// A start by a clock from this moment, each so many seconds after the one before: what it came to.
+    fn start(&mut self, settings: &[u8], at: u64, step: u64) -> Result<String, WorldFault>;
+
+    /// A start by a clock that stands at the first of these moments and tells the others, of which the last is repeated: what it came to.
+    fn start_at(&mut self, settings: &[u8], moments: &[u64]) -> Result<String, WorldFault>;
+
+    /// Ends the core that runs.
+    fn stop(&mut self) -> Result<(), WorldFault>;
+
+    /// How many calls the core had that was ended last, and what its clock then told.
+    fn ended(&self) -> (u64, u64);
+
+    /// The items that are recorded, while no core runs.
+    fn items(&self) -> Result<&[Item], WorldFault>;
+
+    /// New records, of which these calls fail.
+    fn fail_at(&mut self, failing: &[u64]) -> Result<(), WorldFault>;
+
+    /// The blobs that were removed from the store, in their order, and those that are there.
+    fn told_blobs(&mut self) -> Result<String, WorldFault>;
+
+    /// Stores bytes past the core.
+    fn store(&mut self, blob: u64, bytes: &[u8]) -> Result<(), WorldFault>;
+
+    /// Removes a blob past the core.
+    fn remove(&mut self, blob: u64) -> Result<(), WorldFault>;
+
+    /// Whether a command meets its condition.
+    fn fits(&mut self, ask: Ask<'_>) -> Result<bool, WorldFault>;
+
+    /// The reply to a command, in words; `unfit` where it does not meet its condition.
+    fn ask(&mut self, ask: Ask<'_>) -> Result<String, WorldFault>;
+
+    /// Keeps the parcel of a file that is there; whether there is one.
+    fn borrow(&mut self, repo: &str, path: &str) -> Result<bool, WorldFault>;
+
+    /// The bytes of the parcel that is kept.
+    fn read(&mut self) -> Result<Vec<u8>, WorldFault>;
+
+    /// Whether a session gives the draft of a number at a path of its own, and takes a file without bytes there.
+    fn stages(&mut self, session: u64, number: u64) -> Result<bool, WorldFault>;
 }
 
 impl World {
@@ -91,85 +152,12 @@ impl World {
         told_start(self.alloc, &self.start_by(settings, clock))
     }
 
-    /// A start by a clock from this moment, each so many seconds after the one before: what it came to.
-    pub(crate) fn start(
-        &mut self,
-        settings: &[u8],
-        at: u64,
-        step: u64,
-    ) -> Result<String, WorldFault> {
-        let clock = ScriptClock::stepping(self.alloc, at, step);
-        self.start_with(settings, clock)
-    }
-
-    /// A start by a clock that stands at the first of these moments and tells the others, of which the last is repeated: what it came to.
-    pub(crate) fn start_at(
-        &mut self,
-        settings: &[u8],
-        moments: &[u64],
-    ) -> Result<String, WorldFault> {
-        let [first, rest @ ..] = moments else {
-            return Err(WorldFault::NoStep);
-        };
-        let clock = ScriptClock::listed(*first, Vec::from_slice(self.alloc, rest)?);
-        self.start_with(settings, clock)
-    }
-
-    /// Ends the core that runs.
-    pub(crate) fn stop(&mut self) -> Result<(), WorldFault> {
-        let Some(core) = self.core.take() else {
-            return Err(WorldFault::NoCore);
-        };
-        let (calls, records, mut clock) = end_of(core);
-        self.records = records;
-        self.ended = (calls, clock.now());
-        Ok(())
-    }
-
     // That no core runs.
     fn is_ended(&self) -> Result<(), WorldFault> {
         match self.core {
             Some(_) => Err(WorldFault::Runs),
             None => Ok(()),
         }
-    }
-
-    /// How many calls the core had that was ended last, and what its clock then told.
-    pub(crate) fn ended(&self) -> (u64, u64) {
-        self.ended
-    }
-
-    /// The items that are recorded, while no core runs.
-    pub(crate) fn items(&self) -> Result<&[Item], WorldFault> {
-        self.is_ended()?;
-        Ok(self.records.items())
-    }
-
-    /// New records, of which these calls fail.
-    pub(crate) fn fail_at(&mut self, failing: &[u64]) -> Result<(), WorldFault> {
-        self.is_ended()?;
-        let failing = Vec::from_slice(self.alloc, failing)?;
-        self.records = MemRecords::new(self.alloc, failing);
-        Ok(())
-    }
-
-    /// The blobs that were removed from the store, in their order, and those that are there.
-    pub(crate) fn told_blobs(&mut self) -> Result<String, WorldFault> {
-        let listed = self.blobs.list()?;
-        let removed: String = numbers_of(self.alloc, self.blobs.removed())?;
-        let there: String = numbers_of(self.alloc, listed.as_slice())?;
-        Ok(format!(in self.alloc; "removed:{removed} there:{there}")?)
-    }
-
-    /// Stores bytes past the core.
-    pub(crate) fn store(&mut self, blob: u64, bytes: &[u8]) -> Result<(), WorldFault> {
-        store_whole(&mut self.blobs, blob, bytes)?;
-        Ok(())
-    }
-
-    /// Removes a blob past the core.
-    pub(crate) fn remove(&mut self, blob: u64) -> Result<(), WorldFault> {
-        Ok(self.blobs.remove(blob)?)
     }
 
     fn reply_to(
@@ -189,41 +177,6 @@ impl World {
         }
     }
 
-    /// Whether a command meets its condition.
-    pub(crate) fn fits(&mut self, ask: Ask<'_>) -> Result<bool, WorldFault> {
-        let command = command_of(self.alloc, &mut self.blobs, ask)?;
-        match &self.core {
-            Some(core) => Ok(is_fit(core, &command)),
-            None => Err(WorldFault::NoCore),
-        }
-    }
-
-    /// The reply to a command, in words; `unfit` where it does not meet its condition.
-    pub(crate) fn ask(&mut self, ask: Ask<'_>) -> Result<String, WorldFault> {
-        let command = command_of(self.alloc, &mut self.blobs, ask)?;
-        self.told_reply(command)
-    }
-
-    /// Keeps the parcel of a file that is there; whether there is one.
-    pub(crate) fn borrow(&mut self, repo: &str, path: &str) -> Result<bool, WorldFault> {
-        let command = command_of(self.alloc, &mut self.blobs, Ask::Look(repo, path))?;
-        match self.reply_to(command)? {
-            Some(Reply::File { lease: _, parcel }) => {
-                self.borrowed = Some(parcel);
-                Ok(true)
-            }
-            _ => Ok(false),
-        }
-    }
-
-    /// The bytes of the parcel that is kept.
-    pub(crate) fn read(&mut self) -> Result<Vec<u8>, WorldFault> {
-        match &self.borrowed {
-            Some(parcel) => Ok(read_whole(self.alloc, &mut self.blobs, &parcel.held)?),
-            None => Err(WorldFault::NoStep),
-        }
-    }
-
     // Whether a session gives the draft of this number at a path.
     fn gives(&mut self, session: u64, path: &str, draft: u64) -> Result<bool, WorldFault> {
         let asked = may_put(self.alloc, Place::Session(session), path)?;
@@ -237,9 +190,101 @@ impl World {
         let sent = stage(self.alloc, session, path, parcel)?;
         Ok(self.told_reply(sent)?.as_str() == "staged")
     }
+}
 
-    /// Whether a session gives the draft of a number at a path of its own, and takes a file without bytes there.
-    pub(crate) fn stages(&mut self, session: u64, number: u64) -> Result<bool, WorldFault> {
+impl Cores for World {
+    fn renew(&mut self, failing: &[u64]) -> Result<(), WorldFault> {
+        *self = World::new(self.alloc, failing)?;
+        Ok(())
+    }
+
+    fn start(&mut self, settings: &[u8], at: u64, step: u64) -> Result<String, WorldFault> {
+        let clock = ScriptClock::stepping(self.alloc, at, step);
+        self.start_with(settings, clock)
+    }
+
+    fn start_at(&mut self, settings: &[u8], moments: &[u64]) -> Result<String, WorldFault> {
+        let [first, rest @ ..] = moments else {
+            return Err(WorldFault::NoStep);
+        };
+        let clock = ScriptClock::listed(*first, Vec::from_slice(self.alloc, rest)?);
+        self.start_with(settings, clock)
+    }
+
+    fn stop(&mut self) -> Result<(), WorldFault> {
+        let Some(core) = self.core.take() else {
+            return Err(WorldFault::NoCore);
+        };
+        let (calls, records, mut clock) = end_of(core);
+        self.records = records;
+        self.ended = (calls, clock.now());
+        Ok(())
+    }
+
+    fn ended(&self) -> (u64, u64) {
+        self.ended
+    }
+
+    fn items(&self) -> Result<&[Item], WorldFault> {
+        self.is_ended()?;
+        Ok(self.records.items())
+    }
+
+    fn fail_at(&mut self, failing: &[u64]) -> Result<(), WorldFault> {
+        self.is_ended()?;
+        let failing = Vec::from_slice(self.alloc, failing)?;
+        self.records = MemRecords::new(self.alloc, failing);
+        Ok(())
+    }
+
+    fn told_blobs(&mut self) -> Result<String, WorldFault> {
+        let listed = self.blobs.list()?;
+        let removed: String = numbers_of(self.alloc, self.blobs.removed())?;
+        let there: String = numbers_of(self.alloc, listed.as_slice())?;
+        Ok(format!(in self.alloc; "removed:{removed} there:{there}")?)
+    }
+
+    fn store(&mut self, blob: u64, bytes: &[u8]) -> Result<(), WorldFault> {
+        store_whole(&mut self.blobs, blob, bytes)?;
+        Ok(())
+    }
+
+    fn remove(&mut self, blob: u64) -> Result<(), WorldFault> {
+        Ok(self.blobs.remove(blob)?)
+    }
+
+    fn fits(&mut self, ask: Ask<'_>) -> Result<bool, WorldFault> {
+        let command = command_of(self.alloc, &mut self.blobs, ask)?;
+        match &self.core {
+            Some(core) => Ok(is_fit(core, &command)),
+            None => Err(WorldFault::NoCore),
+        }
+    }
+
+    fn ask(&mut self, ask: Ask<'_>) -> Result<String, WorldFault> {
+        let command = command_of(self.alloc, &mut self.blobs, ask)?;
+        self.told_reply(command)
+    }
+
+    fn borrow(&mut self, repo: &str, path: &str) -> Result<bool, WorldFault> {
+        let command = command_of(self.alloc, &mut self.blobs, Ask::Look(repo, path))?;
+        match parcel_in(self.reply_to(command)?) {
+            Some(parcel) => {
+                self.borrowed = Some(parcel);
+                Ok(true)
+            }
+            None => Ok(false),
+        }
+    }
+
+    fn read(&mut self) -> Result<Vec<u8>, WorldFault> {
+        match &self.borrowed {
+            Some(parcel) => Ok(read_whole(self.alloc, &mut self.blobs, &parcel.held)?),
+            None => Err(WorldFault::NoStep),
+        }
+    }
+
+    fn stages(&mut self, session: u64, number: u64) -> Result<bool, WorldFault> {
         let path = format!(in self.alloc; "g/a/{number}/a-{number}.pom")?;
         Ok(self.gives(session, &path, number)? && self.takes(session, &path, number)?)
     }

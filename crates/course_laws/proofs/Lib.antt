@@ -13,6 +13,7 @@ pub mod Takings
 pub mod Counts
 pub mod Told
 pub mod Remotes
+pub mod Planned
 pub mod Fetched
 pub mod Early
 pub mod HeadOnly

@@ -3,6 +3,7 @@ use Rattle.std.proofs.Common.{◌≡◌, ◌⊎◌, ℕ, zero, suc, Bool, true, 
 use Rattle.std.specs.Prelude.{◌==◌}
 use Rattle.std.proofs.lemmas.Bool.{false≢true}
 use Rattle.std.proofs.lemmas.Option.{none-some}
+use Rattle.fetch_plan.specs.declared.Plan.{Plan}
 use Rattle.outside.specs.Faults.{Rose}
 use Rattle.http_wire.specs.Answer.{continue_bytes, shown}
 use Rattle.outside_remote.specs.Exchanges.{Sees}
@@ -21,7 +22,7 @@ use Rattle.repo_course.specs.declared.manner.Manner.{Manner}
 use Rattle.repo_course.specs.declared.outcomes.End.{End}
 use Rattle.repo_course.specs.declared.outcomes.End.TheVariants as stream
 use Rattle.repo_course.specs.Serving.{Begins, IsFrontOf, IsWhole, Opens, clean, torn, failed, refused, unread_head, starved, served, Outside, Serves, Turn}
-use Rattle.course_laws.specs.AsPlayed.{AreFetched, AsksHead, BeginsAt, IsAnswers, IsAsPlayed, in_full, wants_memory, IsPlayedUpTo, unbroken, broken, cut_starved, NoFaults, StoodStill}
+use Rattle.course_laws.specs.AsPlayed.{AreFetched, plans_of, AsksHead, BeginsAt, IsAnswers, IsAsPlayed, in_full, wants_memory, IsPlayedUpTo, unbroken, broken, cut_starved, NoFaults, StoodStill}
 use Rattle.course_laws.specs.Duties.{Duty, Fulfils, Stand, duty_of, to_end}
 use Rattle.course_laws.specs.Faultless.{Played, Scene, play, play_turn, play_stream, then_play}
 use Rattle.course_laws.proofs.Counts.{Calm, Grew, calm-first, calm-then, follows-grew, not-risen, opens-grew, rose-before, serves-grew, turn-grew}
@@ -29,8 +30,9 @@ use Rattle.course_laws.proofs.Early.{ComesTo, Ready, early-before, no-more, outc
 use Rattle.course_laws.proofs.HeadOnly.{judged-head}
 use Rattle.course_laws.proofs.Kept.{duty_at, opens-keeps}
 use Rattle.course_laws.proofs.LeftBehind.{end_append, legal_cut}
-use Rattle.course_laws.proofs.Fetched.{Fetched, FollowsBy, fetched-before, followed-by, plain}
+use Rattle.course_laws.proofs.Fetched.{Fetched, FollowsBy, IsLast, fetched-before, followed-by, plain, plans-joined}
 use Rattle.course_laws.proofs.PlayedActs.{InHandTold}
+use Rattle.course_laws.proofs.Planned.{opens-plan}
 use Rattle.course_laws.proofs.Remotes.{opens-still}
 use Rattle.course_laws.proofs.PlayedCourse.{course-play}
 use Rattle.course_laws.proofs.Told.{faults-grow}
@@ -146,23 +148,29 @@ module _ (settings : Settings) (tells : Type 0) (witness : tells) where
       inr (t.0, t.1, t.2, t.3, plain-turn (left == 0) t.0 coming t.4 old t.2 None t.5, plain-serves left t.1 t.4 spare t.2 new end t.6)
 
   module _ (end-seen : Sees) where
-    turn-by : (last : Bool) (entries : List Entry) (old new : Outside) (end : Option End) → Turn settings tells last entries old new end → (spare : Fetched)
-        → AreFetched spare new.remote end-seen → (coming : Fetched) × TurnBy last entries coming spare old new end × AreFetched coming old.remote end-seen
-    turn-by last entries old new end (c, mid, o, f) spare are =
-        let by = followed-by tells end-seen c entries mid new end f spare are in
-        (by.0, (c, mid, o, by.1), fetched-before by.0 old.remote mid.remote end-seen (opens-still settings last old mid c o) by.2)
+    turn-by : (last : Bool) (entries : List Entry) (old new : Outside) (end : Option End) → Turn settings tells last entries old new end → (later : List Plan) (spare : Fetched)
+        → IsLast later spare end → AreFetched later spare new.remote end-seen
+        → (coming : Fetched) × TurnBy last entries coming spare old new end × AreFetched (plans_of entries ++ later) coming old.remote end-seen
+    turn-by last entries old new end (c, mid, o, f) later spare ends are =
+        let by = followed-by tells end-seen c entries mid new end f [] (opens-plan settings last old mid c o) later spare ends are in
+        (by.0, (c, mid, o, by.1), fetched-before (plans_of entries ++ later) by.0 old.remote mid.remote end-seen (opens-still settings last old mid c o) by.2)
 
-    serves-by : (n : ℕ) (entries : List Entry) (old new : Outside) (end : End) → Serves settings tells n entries old new end → (spare : Fetched)
-        → AreFetched spare new.remote end-seen → (coming : Fetched) × ServesBy n entries coming spare old new end × AreFetched coming old.remote end-seen
+    -- behind the end nothing is fetched
+    serves-by : (n : ℕ) (entries : List Entry) (old new : Outside) (end : End) → Serves settings tells n entries old new end
+        → new.remote ≡ end-seen → (coming : Fetched) × ServesBy n entries coming [] old new end × AreFetched (plans_of entries) coming old.remote end-seen
     unfolding Serves
-    serves-by zero entries old new end t spare are =
-        (spare, t, subst (λ (o : Outside). AreFetched spare o.remote end-seen) t.1 are)
-    serves-by (suc left) entries old new end (inl turn) spare are =
-        let by = turn-by (left == 0) entries old new (Some end) turn spare are in (by.0, inl by.1, by.2)
-    serves-by (suc left) entries old new end (inr t) spare are =
-        let rest = serves-by left t.1 t.2 new end t.5 spare are in
-        let by = turn-by (left == 0) t.0 old t.2 None t.4 rest.0 rest.2 in
-        (by.0, inr (t.0, t.1, t.2, t.3, rest.0, by.1, rest.1), by.2)
+    serves-by zero entries old new end t is =
+        ([], t, subst (λ (ps : List Plan). AreFetched ps [] old.remote end-seen) (sym (ap plans_of t.0)) (omega arith, sym is ∙ ap (λ (o : Outside). o.remote) t.1))
+    serves-by (suc left) entries old new end (inl turn) is =
+        let by = turn-by (left == 0) entries old new (Some end) turn [] [] (inr (refl, refl)) (omega arith, sym is) in
+        (by.0, inl by.1, subst (λ (ps : List Plan). AreFetched ps by.0 old.remote end-seen) (append-nil (plans_of entries)) by.2)
+    serves-by (suc left) entries old new end (inr t) is =
+        let rest = serves-by left t.1 t.2 new end t.5 is in
+        let by = turn-by (left == 0) t.0 old t.2 None t.4 (plans_of t.1) rest.0 (inl refl) rest.2 in (
+          by.0,
+          inr (t.0, t.1, t.2, t.3, rest.0, by.1, rest.1),
+          subst (λ (ps : List Plan). AreFetched ps by.0 old.remote end-seen) (sym (ap plans_of t.3 ∙ plans-joined t.0 t.1)) by.2,
+        )
 
   -- one turn, which uses so much of what its fetches come to
   module _ (coming spare : Fetched) where
@@ -333,9 +341,9 @@ module _ (settings : Settings) (tells : Type 0) (witness : tells) where
   pub stream-upto : (n : ℕ) (entries : List Entry) (st : State) → Legal settings st entries → StoodStill st.faults (end_of settings st entries).faults
       → (old new : Outside) (end : End) (input before : List ℕ) → BeginsAt st input before old → StoodStill old.blob_faults new.blob_faults
       → Serves settings tells n entries old new end
-      → (coming : Fetched) × AreFetched coming old.remote new.remote × IsPlayedUpTo settings n (record { state = st; input = input; fetched = coming }) before old new end
+      → (coming : Fetched) × AreFetched (plans_of entries) coming old.remote new.remote × IsPlayedUpTo settings n (record { state = st; input = input; fetched = coming }) before old new end
   stream-upto n entries st legal records old new end input before begins calm served_so =
-      let by = serves-by new.remote n entries old new end served_so [] refl in (
+      let by = serves-by new.remote n entries old new end served_so refl in (
         by.0,
         by.2,
         stream-play n entries st legal (calm-of records) old new end input before by.0 []
@@ -363,7 +371,7 @@ unbroken-is settings n scene before old new end calm (cut_starved written part h
 pub as-played : (settings : Settings) (tells : Type 0) → tells → (n : ℕ) (entries : List Entry) (st : State) → Legal settings st entries
     → StoodStill st.faults (end_of settings st entries).faults → (old new : Outside) (end : End) (input before : List ℕ) → BeginsAt st input before old
     → NoFaults old new → Serves settings tells n entries old new end
-    → (coming : Fetched) × AreFetched coming old.remote new.remote × IsAsPlayed settings n (record { state = st; input = input; fetched = coming }) before new.output end
+    → (coming : Fetched) × AreFetched (plans_of entries) coming old.remote new.remote × IsAsPlayed settings n (record { state = st; input = input; fetched = coming }) before new.output end
 as-played settings tells told n entries st legal records old new end input before begins calm served_so =
     let by = stream-upto settings tells told n entries st legal records old new end input before begins calm.blobs served_so in
     (by.0, by.1, unbroken-is settings n (record { state = st; input = input; fetched = by.0 }) before old new end calm by.2)

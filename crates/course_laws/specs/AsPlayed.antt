@@ -1,6 +1,6 @@
 -- What a stream has written beside what is played where nothing fails: all of it, or up to where the source, the sink or memory failed.
-use Rattle.std.specs.Prelude.{◌≡◌, ◌⊎◌, ℕ, zero, suc, ◌<◌, ◌==◌, Bool, true, List, [], ◌∷◌, ◌++◌, Option, Some, None, IsSome}
-use Rattle.std.specs.List.{AllByRecursion}
+use Rattle.std.specs.Prelude.{◌≡◌, ◌⊎◌, ℕ, zero, suc, ◌<◌, ◌≤◌, ◌==◌, Bool, true, List, [], ◌∷◌, ◌++◌, length, Option, Some, None, IsSome}
+use Rattle.std.specs.List.{AllByRecursion, flat_map}
 use Rattle.fetch_plan.specs.declared.Outcome.{Outcome as Came}
 use Rattle.fetch_plan.specs.declared.Plan.{Plan}
 use Rattle.outside.specs.Faults.{Rose, last_count}
@@ -10,7 +10,10 @@ use Rattle.remote_fetch.specs.Fetching.{IsFetched}
 use Rattle.remote_fetch.specs.declared.contents.Content.{Content}
 use Rattle.http_wire.specs.Answer.{continue_bytes, shown}
 use Rattle.http_wire.specs.Front.{Front, Whole, front}
+use Rattle.repo_model.specs.Command.{Command, look}
 use Rattle.repo_model.specs.Data.{Hosted, Proxy, Row, Session, Staged}
+use Rattle.repo_model.specs.History.{Entry}
+use Rattle.repo_model.specs.Reply.{Reply, fetches}
 use Rattle.repo_model.specs.Settings.{Settings}
 use Rattle.repo_model.specs.State.{State}
 use Rattle.repo_routes.specs.Framing.{is_head}
@@ -28,16 +31,27 @@ RowsTold s =
     × AllByRecursion (λ (x : Session). AllByRecursion (λ (file : Staged). IsSome file.blob.bytes) x.staged) s.sessions
     × AllByRecursion (λ (p : Proxy). AllByRecursion (λ (row : Row). IsSome row.blob.bytes) p.files) s.proxies
 
--- What a fetch came to by what was seen of the remote before it and behind it. Where memory was wanted for it at most three exchanges
--- were made, and where it was wanted for what follows, the fetch was made.
-abbrev pub IsFetch : Fetch → Sees → Sees → Type 0
-IsFetch (Some outcome) old new = (plan : Plan) × IsFetched plan outcome old new
-IsFetch None old new = Reaches 3 old new ⊎ ((plan : Plan) × (outcome : Came Content) × IsFetched plan outcome old new)
+-- the plan that a look was answered
+abbrev pub planned_by : Command → Reply → List Plan
+planned_by (look repo path tried) (fetches plan) = plan ∷ []
+planned_by command reply = []
 
--- These are what all fetches came to, one after another, and of the remote nothing else was seen.
-abbrev pub AreFetched : List Fetch → Sees → Sees → Type 0
-AreFetched [] old new = new ≡ old
-AreFetched (came ∷ more) old new = (mid : Sees) × IsFetch came old mid × AreFetched more mid new
+-- the plans that the looks among these entries were answered, in their order
+abbrev pub plans_of : List Entry → List Plan
+plans_of entries = flat_map (λ (e : Entry). planned_by e.command e.reply) entries
+
+-- What the fetch of a plan came to by what was seen of the remote before it and behind it. Where memory was wanted for it at most three
+-- exchanges were made, and where it was wanted for what follows, the fetch was made.
+abbrev pub IsFetch : Plan → Fetch → Sees → Sees → Type 0
+IsFetch plan (Some outcome) old new = IsFetched plan outcome old new
+IsFetch plan None old new = Reaches 3 old new ⊎ ((outcome : Came Content) × IsFetched plan outcome old new)
+
+-- These plans were fetched, one after another, and came to this, and of the remote nothing else was seen. Only the last of them may be
+-- left, by a look behind which no fetch may come any more.
+abbrev pub AreFetched : List Plan → List Fetch → Sees → Sees → Type 0
+AreFetched plans [] old new = (length plans ≤ 1) × (new ≡ old)
+AreFetched [] (came ∷ more) old new = ⊥
+AreFetched (plan ∷ plans) (came ∷ more) old new = (mid : Sees) × IsFetch plan came old mid × AreFetched plans more mid new
 
 -- the count stood still, and not because it is at the end of its type
 abbrev pub StoodStill : ℕ → ℕ → Type 0

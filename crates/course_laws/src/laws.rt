@@ -31,7 +31,7 @@ ghost use Rattle.repo_model.specs.Settings.{Settings};
 ghost use Rattle.repo_model.specs.State.{State, opening};
 ghost use Rattle.repo_laws.specs.Laws.{AnyByRecursion};
 ghost use Rattle.repo_laws.specs.Looks.{IsAsked};
-ghost use Rattle.course_laws.specs.AsPlayed.{AreFetched, BeginsAt, IsAsPlayed, IsPlayedUpTo, NoFaults, RowsTold, StoodStill};
+ghost use Rattle.course_laws.specs.AsPlayed.{AreFetched, plans_of, BeginsAt, IsAsPlayed, IsPlayedUpTo, NoFaults, RowsTold, StoodStill};
 ghost use Rattle.course_laws.specs.Complete.{IsComplete};
 ghost use Rattle.course_laws.specs.Duties.{AnswersDue, Fulfils, duty_of, duty_without_head, length_of, most_asked};
 ghost use Rattle.course_laws.specs.Endings.{EndsByCause};
@@ -184,8 +184,9 @@ pub fn bodies_are_whole()
 {}
 
 /// Where no blob failed, and the records did not, a stream that is served alone has taken what is played from the machine's
-/// state, the input and what its fetches came to, one after another, up to some place: all of it, or up to where the source or
-/// the sink failed, by which it ended, or up to where memory was wanted. Only the answer that says so may stand behind that, or a
+/// state, the input and what its fetches came to, up to some place: all of it, or up to where the source or the sink failed, by
+/// which it ended, or up to where memory was wanted. Its fetches are of the plans that its looks were answered, one for each, in
+/// their order; only the last plan may be left. Only the answer that says that memory was wanted may stand behind that place, or a
 /// front of it where the sink failed in it; it stands behind the whole answers of the requests before, and maybe `100 Continue`,
 /// and is a head alone only where the next request is a HEAD. The blobs tell their bytes, and so do the files that stand there,
 /// the clock, the input and the output.
@@ -195,20 +196,20 @@ pub fn broken_is_a_front<H: Held>()
         Legal settings start entries → StoodStill start.faults (end settings start entries).faults →
         BeginsAt start input before old → StoodStill old.blob_faults new.blob_faults →
         Serves settings (AllTell H.bytes) n entries old new ending →
-        (fetched : List Fetch) × AreFetched fetched old.remote new.remote
+        (fetched : List Fetch) × AreFetched (plans_of entries) fetched old.remote new.remote
         × IsPlayedUpTo settings n (record { state = start; input = input; fetched = fetched }) before old new ending }
 {}
 
 /// Where nothing failed, such a stream has taken exactly what is played, and ended as that does; or the whole answers of the
 /// first requests, maybe `100 Continue` of the next, and the answer that says that memory was wanted, its head alone only to
-/// HEAD, and it was closed.
+/// HEAD, and it was closed. Its fetches are of the plans of its looks, as above.
 pub fn faultless_is_played<H: Held>()
     ensures { (settings : Settings) → AllTell H.bytes →
         (n : ℕ) (entries : List Entry) (start : State) (old new : Outside) (ending : End) (input before : List ℕ) →
         Legal settings start entries → StoodStill start.faults (end settings start entries).faults →
         BeginsAt start input before old → NoFaults old new →
         Serves settings (AllTell H.bytes) n entries old new ending →
-        (fetched : List Fetch) × AreFetched fetched old.remote new.remote
+        (fetched : List Fetch) × AreFetched (plans_of entries) fetched old.remote new.remote
         × IsAsPlayed settings n (record { state = start; input = input; fetched = fetched }) before new.output ending }
 {}
 

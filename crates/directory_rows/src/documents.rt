@@ -32,7 +32,7 @@ fn is_version(version: Option<&str>, directory: &str) -> bool
 }
 
 /// Whether a file stands in a directory: in this snapshot directory, or in any version directory of the artifact.
-fn is_in(dir: &Dir<'_>, c: &Coord<'_>) -> bool
+pub fn is_in(dir: &Dir<'_>, c: &Coord<'_>) -> bool
     ensures { result ≡ stands_in dir.now (Some c.now) }
 {
     c.group() == dir.group() && c.artifact() == dir.artifact() && is_version(dir.version(), c.dir())
@@ -88,7 +88,7 @@ fn with_build_of(alloc: Global, doc: Doc, c: &Coord<'_>) -> Result<Doc, NoMemory
 }
 
 /// The document with a file, accepted at a moment.
-fn with_file(alloc: Global, doc: Doc, c: &Coord<'_>, accepted: u64) -> Result<Doc, NoMemory>
+pub fn with_file(alloc: Global, doc: Doc, c: &Coord<'_>, accepted: u64) -> Result<Doc, NoMemory>
     requires { accepted ≤ latest_moment }
     ensures { IfOk result (λ d. d ≡ record doc { listing = with_coordinates accepted (Some c.now) doc.listing }) }
 {

@@ -6,6 +6,6 @@ mod dues;
 mod rule;
 mod walk;
 
-pub use documents::document_of;
+pub use documents::{document_of, is_in, with_file};
 pub use dues::{MOST_ROWS, due_paths};
 pub use rule::Rule;

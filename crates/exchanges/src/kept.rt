@@ -136,7 +136,7 @@ impl Given {
             alloc,
             failing_at(alloc, case.script.call_of(Object::Blobs))?,
         );
-        let records: MemRecords = records_of(alloc, case.script)?;
+        let records: MemRecords = records_of(alloc, case.script.call_of(Object::Records))?;
         let Some(settings) = read(alloc, case.settings.as_slice()).ok() else {
             return Ok(None);
         };

@@ -33,7 +33,7 @@ pub(crate) fn failing_at(alloc: Global, call: Option<u64>) -> Result<FaultScript
 }
 
 /// A source of these bytes, so many at most a read, of which one fails, if there is such a call.
-fn source_of(
+pub(crate) fn source_of(
     alloc: Global,
     bytes: &[u8],
     most: usize,
@@ -44,7 +44,7 @@ fn source_of(
 }
 
 /// A sink with this room.
-fn sink_of(alloc: Global, room: usize) -> Result<MemSink, AllocError> {
+pub(crate) fn sink_of(alloc: Global, room: usize) -> Result<MemSink, AllocError> {
     Ok(MemSink::new(alloc, room, FaultScript::none(alloc))?)
 }
 
@@ -173,29 +173,9 @@ pub(crate) fn words_of(alloc: Global, case: &Case) -> Result<Vec<String>, AllocE
     Ok(words)
 }
 
-/// Where a run reads its settings, and where it prints its line.
-#[derive(Drop)]
-pub(crate) struct Ends {
-    pub(crate) settings: MemSource,
-    pub(crate) out: MemSink,
-}
-
-/// The settings of a case, and the sink of its line.
-pub(crate) fn ends_of(alloc: Global, case: &Case, script: Script) -> Result<Ends, AllocError> {
-    let settings: MemSource = source_of(
-        alloc,
-        case.settings.as_slice(),
-        1_000_000,
-        script.call_of(Object::Settings),
-    )?;
-    let out: MemSink = sink_of(alloc, script.line_room)?;
-    Ok(Ends { settings, out })
-}
-
-/// A cleaner that is never asked.
-pub(crate) fn cleaner_of(alloc: Global) -> Result<MemCleaner, AllocError> {
+/// A cleaner with these blobs, which waits for nothing.
+pub(crate) fn cleaner_of(alloc: Global, blobs: MemBlobs) -> Result<MemCleaner, AllocError> {
     let pace: ScriptPace = ScriptPace::new(alloc, Vec::new(alloc))?;
-    let blobs: MemBlobs = MemBlobs::new(alloc, FaultScript::none(alloc));
     Ok(Cleaner { blobs, pace })
 }
 
@@ -221,22 +201,29 @@ fn remove(blobs: &mut MemBlobs, blob: u64) {
     let _ = blobs.remove(blob);
 }
 
-/// What is there before all runs of a case.
-pub(crate) fn store_of(alloc: Global, case: &Case, script: Script) -> Result<Store, AllocError> {
-    let mut blobs: MemBlobs = MemBlobs::new(
-        alloc,
-        failing_at(alloc, script.call_of(Object::Blobs))?,
-    );
-    for stored in &case.stored {
+/// These blobs, in a store of which this call fails, if there is one.
+pub(crate) fn blobs_of(
+    alloc: Global,
+    all: &[Stored],
+    failing: Option<u64>,
+) -> Result<MemBlobs, AllocError> {
+    let mut blobs: MemBlobs = MemBlobs::new(alloc, failing_at(alloc, failing)?);
+    for stored in all {
         put(&mut blobs, stored);
     }
-    let records: MemRecords = records_of(alloc, script)?;
+    Ok(blobs)
+}
+
+/// What is there before all runs of a case.
+pub(crate) fn store_of(alloc: Global, case: &Case, script: Script) -> Result<Store, AllocError> {
+    let blobs: MemBlobs = blobs_of(alloc, case.stored.as_slice(), script.call_of(Object::Blobs))?;
+    let records: MemRecords = records_of(alloc, script.call_of(Object::Records))?;
     Ok(Store { blobs, records })
 }
 
-/// Records without a row.
-pub(crate) fn records_of(alloc: Global, script: Script) -> Result<MemRecords, AllocError> {
-    Ok(MemRecords::new(alloc, numbers_of(alloc, script.call_of(Object::Records))?))
+/// Records without a row, of which this call fails, if there is one.
+pub(crate) fn records_of(alloc: Global, failing: Option<u64>) -> Result<MemRecords, AllocError> {
+    Ok(MemRecords::new(alloc, numbers_of(alloc, failing)?))
 }
 
 /// The first blob gives what a case says.

@@ -1,92 +1,67 @@
-// Runs of the program over memory.
-ghost use Rattle.std.specs.Prelude.{◌<◌, vec_len};
-
+// Runs of the program by cases.
 use crate::objects::{
-    Ends, MemCleaner, MemDesk, MemPort, Store, cleaner_of, clock_of, desks_of, ends_of, listed,
-    lose, port_of, remote_of, replay_of, silent, store_of, went_of, words_of,
+    MemDesk, MemPort, Store, blobs_of, cleaner_of, clock_of, desks_of, listed, lose, port_of,
+    remote_of, replay_of, silent, sink_of, source_of, store_of, went_of, words_of,
 };
-use case_texts::{Case, Script, Went};
-use outside::{Blobs, Clock, Port, Sink, Source};
-use outside_memory::{MemBlobs, MemSink, ScriptClock};
-use outside_pace::{Pace, ScriptPace};
-use outside_remote::{Remote, ScriptRemote};
-use repo_run::{Ran, run_once};
-use row_tables::{MemRecords, Records};
-use run_desks::{Cleaner, Desk};
+use crate::over::{Beside, Over, run_over};
+use case_texts::{Case, Object, Script, Went};
+use outside_memory::MemBlobs;
+use outside_remote::ScriptRemote;
+use row_tables::MemRecords;
 use std::alloc::{AllocError, Global};
-
-type MemRan = Ran<MemPort, MemBlobs, ScriptRemote, ScriptPace, MemRecords, ScriptClock>;
-
-/// A run of which nothing is known: what it wrote is compared byte for byte.
-fn run_plainly<B: Blobs, S: Source, P: Port, R: Remote, Q: Pace, K: Records, C: Clock, O: Sink>(
-    alloc: Global,
-    words: &[String],
-    settings: &mut S,
-    desks: Vec<Desk<P, B, R>>,
-    cleaner: Cleaner<B, Q>,
-    records: K,
-    clock: C,
-    out: &mut O,
-) -> Ran<P, B, R, Q, K, C>
-    requires { 0 < vec_len desks }
-{
-    run_once(alloc, words, settings, desks, cleaner, records, clock, out)
-}
 
 /// What a run came to, and what it leaves behind.
 #[derive(Drop)]
-struct Over {
+struct Left {
     went: Went,
     store: Store,
 }
 
-/// What a run came to. Nothing where it has no desk.
-fn over_of(alloc: Global, ran: MemRan, out: &MemSink) -> Result<Option<Over>, AllocError> {
-    let line: Vec<u8> = Vec::from_slice(alloc, out.bytes())?;
-    let Ran {
-        status,
-        mut desks,
+/// What a run came to, and what it leaves.
+fn left_of(alloc: Global, over: Over, records: MemRecords) -> Result<Left, AllocError> {
+    let line: Vec<u8> = Vec::from_slice(alloc, over.out.bytes())?;
+    let Over {
+        desk,
         cleaner: _,
-        records,
-        clock: _,
-    } = ran;
-    let Some(desk) = desks.pop() else {
-        return Ok(None);
-    };
+        out: _,
+        status,
+    } = over;
     let (went, blobs, _) = went_of(alloc, desk, line, status)?;
     let store = Store { blobs, records };
-    Ok(Some(Over { went, store }))
+    Ok(Left { went, store })
+}
+
+/// The settings of a case, its clock, a sink for its line, and a cleaner that is never asked.
+fn beside_of(alloc: Global, case: &Case, script: Script) -> Result<Beside, AllocError> {
+    let none: MemBlobs = blobs_of(alloc, &[], None)?;
+    Ok(Beside {
+        settings: source_of(
+            alloc,
+            case.settings.as_slice(),
+            1_000_000,
+            script.call_of(Object::Settings),
+        )?,
+        cleaner: cleaner_of(alloc, none)?,
+        clock: clock_of(alloc, case),
+        out: sink_of(alloc, script.line_room)?,
+    })
 }
 
 /// Runs the program with these words over a store, on one desk with this port and this remote.
-fn run_over(
+fn run_on(
     alloc: Global,
-    case: &Case,
     words: &[String],
     store: Store,
     port: MemPort,
     remote: ScriptRemote,
-    ends: Ends,
-) -> Result<Option<Over>, AllocError> {
-    let Ends {
-        mut settings,
-        mut out,
-    } = ends;
+    beside: Beside,
+) -> Result<Option<Left>, AllocError> {
     let Store { blobs, records } = store;
-    let cleaner: MemCleaner = cleaner_of(alloc)?;
-    let clock: ScriptClock = clock_of(alloc, case);
     let desks: Vec<MemDesk> = desks_of(alloc, port, blobs, remote)?;
-    let ran: MemRan = run_plainly(
-        alloc,
-        words,
-        &mut settings,
-        desks,
-        cleaner,
-        records,
-        clock,
-        &mut out,
-    );
-    over_of(alloc, ran, &out)
+    match run_over(alloc, words, desks, beside, records) {
+        Some((over, records)) => Ok(Some(left_of(alloc, over, records)?)),
+        None => Ok(None),
+    }
 }
 
 /// The greatest pieces of an earlier run.
@@ -101,17 +76,9 @@ fn store_behind(alloc: Global, case: &Case, script: Script) -> Result<Option<Sto
     let words: Vec<String> = replay_of(alloc, case)?;
     let plain: Script = Script::PLAIN;
     let port: MemPort = port_of(alloc, case.before.as_slice(), plain, BLOCK)?;
-    let ends: Ends = ends_of(alloc, case, plain)?;
-    match run_over(
-        alloc,
-        case,
-        words.as_slice(),
-        store,
-        port,
-        silent(alloc),
-        ends,
-    )? {
-        Some(over) if over.went.status == 0 => Ok(Some(over.store)),
+    let beside: Beside = beside_of(alloc, case, plain)?;
+    match run_on(alloc, words.as_slice(), store, port, silent(alloc), beside)? {
+        Some(left) if left.went.status == 0 => Ok(Some(left.store)),
         _ => Ok(None),
     }
 }
@@ -131,14 +98,14 @@ pub(crate) fn run_of(
     let words: Vec<String> = words_of(alloc, case)?;
     let port: MemPort = port_of(alloc, case.last.input.as_slice(), script, most)?;
     let remote: ScriptRemote = remote_of(alloc, case)?;
-    let ends: Ends = ends_of(alloc, case, script)?;
-    let Some(over) = run_over(alloc, case, words.as_slice(), store, port, remote, ends)? else {
+    let beside: Beside = beside_of(alloc, case, script)?;
+    let Some(left) = run_on(alloc, words.as_slice(), store, port, remote, beside)? else {
         return Ok(None);
     };
-    let Over {
+    let Left {
         mut went,
         mut store,
-    } = over;
+    } = left;
     went.blobs = listed(&mut store.blobs);
     Ok(Some(went))
 }

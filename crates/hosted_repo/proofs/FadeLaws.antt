@@ -13,13 +13,13 @@ use Rattle.mvn_digest.specs.Sides.{side_text}
 use Rattle.repo_model.specs.Data as plain
 use Rattle.repo_model.specs.Document.{is_listed}
 use Rattle.repo_model.specs.Effect.{fade, fades, rows_after}
-use Rattle.repo_model.specs.Paths.{file_at, is_build, is_snapshot_path}
+use Rattle.repo_model.specs.Paths.{FadesRightly, file_at, is_build, is_snapshot_path}
 use Rattle.repo_model.specs.Purge.{due_rows, is_due_at, is_due_build, most_rows}
 use Rattle.repo_model.specs.Settings.{Rule}
 use Rattle.repo_model.specs.State.{change_where, is_row, row_at}
 use Rattle.repo_model.specs.Turn.{Seen, is_file, is_text, or_nothing, seen_at}
 use Rattle.directory_rows.specs.Dues.{is_due_row}
-use Rattle.hosted_repo.specs.Releases.{AllFadeRightly, FadesRightly}
+use Rattle.hosted_repo.specs.Releases.{AllFadeRightly}
 use Rattle.ordered_rows.specs.Rows.{rows_after_all}
 use Rattle.hosted_repo.specs.Seens.{is_of_document}
 use Rattle.ordered_rows.proofs.EachRow.{each-changed}

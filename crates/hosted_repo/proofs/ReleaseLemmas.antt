@@ -6,9 +6,9 @@ use Rattle.repo_model.specs.Data as plain
 use Rattle.repo_model.specs.Data.{Staged, Session}
 use Rattle.repo_model.specs.Deploy.{deliver_at, deliver_again}
 use Rattle.repo_model.specs.Effect.{Effect, list_again, new_row, with_row}
-use Rattle.repo_model.specs.Paths.{is_snapshot_path}
+use Rattle.repo_model.specs.Paths.{FadesRightly, is_snapshot_path}
 use Rattle.repo_model.specs.State.{change_where, is_row, row_at}
-use Rattle.hosted_repo.specs.Releases.{AllFadeRightly, FadesRightly}
+use Rattle.hosted_repo.specs.Releases.{AllFadeRightly}
 use Rattle.ordered_rows.specs.Rows.{rows_after_all}
 use Rattle.ordered_rows.proofs.EachRow.{each-changed, each-with}
 use Rattle.hosted_delivery.proofs.DeliveryLemmas.{effects_by}

@@ -1,3 +1,4 @@
+pub mod Delivered
 pub mod Expired
 pub mod Fades
 pub mod Puts

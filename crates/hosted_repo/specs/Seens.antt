@@ -13,7 +13,7 @@ abbrev pub shown_seen : {X : Type 0} {G : Ghosts X} → Option (Seen X G) → tu
 shown_seen None = turn.is_nothing
 shown_seen (Some (got.File parcel)) = turn.is_file (shown_parcel parcel.now)
 shown_seen (Some (got.Text text)) = turn.is_text text
-shown_seen (Some (got.Doc doc)) = turn.is_doc doc.text.items
+shown_seen (Some (got.Doc doc)) = turn.is_doc doc.text
 
 -- whether a path names a document or its side file
 abbrev pub is_of_document : Result Kind PathFault → Bool

@@ -8,7 +8,7 @@ ghost use Rattle.repo_model.specs.Deploy.{offence, without_pom};
 ghost use Rattle.repo_model.specs.Document.{document};
 ghost use Rattle.repo_model.specs.Effect.{list_again, new_row, recorded, with_row};
 ghost use Rattle.repo_model.specs.History.{latest_moment};
-ghost use Rattle.repo_model.specs.Paths.{takes_file, file_in, is_snapshot_path};
+ghost use Rattle.repo_model.specs.Paths.{FadesRightly, file_in, is_snapshot_path, takes_file};
 ghost use Rattle.repo_model.specs.Prints.{recorded_print};
 ghost use Rattle.repo_model.specs.Purge.{due_rows, expired_of, fade_all, most_rows};
 ghost use Rattle.repo_model.specs.Reply.{created, is_free, relisted};
@@ -23,20 +23,23 @@ ghost use Rattle.hosted_repo.specs.Expired.{blob_of};
 ghost use Rattle.ordered_rows.specs.Recording.{FitWhereTold, HasReplyCause, IsRemoved};
 ghost use Rattle.row_tables.specs.Records.{HasCommitCause};
 ghost use Rattle.directory_rows.specs.Rules.{shown_rule};
-ghost use Rattle.hosted_repo.specs.Releases.{FadesRightly};
-ghost use Rattle.hosted_repo.specs.Restored.{kept_row};
+ghost use Rattle.hosted_repo.specs.Releases.{FadesAt};
+ghost use Rattle.hosted_repo.specs.Releases.{AllFadeRightly};
+ghost use Rattle.kept_docs.specs.Kept.{AreOf};
+ghost use Rattle.ordered_rows.specs.Rows.{AreFiles};
 ghost use Rattle.ordered_rows.specs.Rows.{fades, shown_at, rows_after_all};
 ghost use Rattle.hosted_repo.specs.Puts.{shown_put, put_turn, GivesBack};
 ghost use Rattle.hosted_repo.specs.Seens.{shown_seen, is_of_document};
 
 use crate::put::Put;
 use crate::seen::Seen;
-use crate::{looks, purge, storing};
-use directory_rows::{MOST_ROWS, Rule, document_of, due_paths};
-use hosted_delivery::{PutAll, deliver, judge};
+use crate::{delivering, looks, purge, storing};
+use directory_rows::{MOST_ROWS, Rule, due_paths};
+use hosted_delivery::{PutAll, judge};
+use kept_docs::Docs;
 use mvn_coords::{Dir, Kind};
 use mvn_metadata::Doc;
-use ordered_rows::{CountedRows, Phase, Row, Standing, find, print_of, sizes, standing};
+use ordered_rows::{CountedRows, Row, Standing, find, print_of, sizes, standing};
 use outside::{Held, NoMemory, Parcel};
 use repo_model::{Item, Numbers};
 use row_tables::{Change, CommitFault, Records};
@@ -45,12 +48,13 @@ use std::collections::BTreeMap;
 use std::marker::Model;
 
 /// A hosted repository: its rule and its rows, each path once and the path of a file, in byte order of path. Only rows of
-/// snapshots are unlisted.
+/// snapshots are unlisted. Of each directory with a visible row its document is kept, as it is written.
 #[derive(Drop)]
 pub struct Hosted<H: Held> {
     alloc: Global,
     rule: Rule,
     rows: CountedRows<H>,
+    docs: Docs,
 }
 
 impl<H: Held> Model for Hosted<H> {
@@ -66,8 +70,14 @@ impl<H: Held> Model for Hosted<H> {
     ghost use Rattle.hosted_repo.specs.Releases.{AllFadeRightly};
     ghost use Rattle.ordered_rows.specs.Rows.{AreFiles};
     ghost use Rattle.row_tables.specs.Items.{is_id};
+    ghost use Rattle.kept_docs.specs.Kept.{AreOf};
 
-    ghost invariant = { λ h. record { named : IsTrue (is_id h.rule.id); files : AreFiles h.rows; fading : AllFadeRightly h.rows } };
+    ghost invariant = { λ h. record {
+      named : IsTrue (is_id h.rule.id);
+      files : AreFiles h.rows;
+      fading : AllFadeRightly h.rows;
+      kept : AreOf h.docs h.rows;
+    } };
 }
 
 impl<H: Held> Hosted<H> {
@@ -76,10 +86,13 @@ impl<H: Held> Hosted<H> {
         requires { IsTrue (is_id rule.id) }
         ensures { result ≡ new_hosted (shown_rule rule) }
     {
+        let rows = CountedRows::new(alloc);
+        let docs = Docs::new(alloc);
         Hosted {
             alloc,
             rule,
-            rows: CountedRows::new(alloc),
+            rows,
+            docs,
         }
     }
 
@@ -104,12 +117,13 @@ impl<H: Held> Hosted<H> {
         self.rule.takes(kind)
     }
 
-    /// What it has at a path. Only a document or its side file takes memory.
+    /// What it has at a path. Of a document a share is given, and no memory is taken; that fails only where its text has too many
+    /// shares to count.
     pub fn look(&self, path: &str) -> Result<Option<Seen<'_, H>>, NoMemory>
         ensures seen { IfOk result (λ s. shown_seen s ≡ seen_at self.now.rows path.now (kind path.now)) }
         ensures room { OnErr result (is_of_document (kind path.now) ≡ true) }
     {
-        looks::look_at(self.alloc, &self.rows, path)
+        looks::look_at(&self.rows, &self.docs, path)
     }
 
     /// The row at a path.
@@ -179,7 +193,16 @@ impl<H: Held> Hosted<H> {
     {
         sizes(parcel.digests);
         let id = &self.rule.id;
-        match storing::create(self.alloc, &mut self.rows, records, id, path, &parcel, now) {
+        match storing::create(
+            self.alloc,
+            &mut self.rows,
+            &mut self.docs,
+            records,
+            id,
+            path,
+            &parcel,
+            now,
+        ) {
             Ok(()) => Put::Created,
             Err(CommitFault::Failed) => Put::StoreFault(parcel),
             Err(CommitFault::NoMemory) => Put::NoMemory(parcel),
@@ -198,6 +221,7 @@ impl<H: Held> Hosted<H> {
         requires ready { K.ready records.old }
         requires path { IsTrue (is_file_path path.now) }
         requires snapshot { is_snapshot_path path.now ≡ true }
+        requires faded { FadesAt path.now self.old.rows }
         requires fits { FitWhereTold (K.tables records.old) (Relisted self.old.rule.id path.now now ∷ []) }
         ensures reply { (shown_put result ≡ relisted) ⊎ IsTrue (is_free (shown_put result)) }
         ensures rows { self.new ≡ (if is_free (shown_put result) then self.old
@@ -209,7 +233,15 @@ impl<H: Held> Hosted<H> {
         ensures parcel { GivesBack result parcel }
     {
         let id = &self.rule.id;
-        match storing::relist(self.alloc, &mut self.rows, records, id, path, now) {
+        match storing::relist(
+            self.alloc,
+            &mut self.rows,
+            &mut self.docs,
+            records,
+            id,
+            path,
+            now,
+        ) {
             Ok(()) => Put::Relisted(parcel),
             Err(CommitFault::Failed) => Put::StoreFault(parcel),
             Err(CommitFault::NoMemory) => Put::NoMemory(parcel),
@@ -250,7 +282,16 @@ impl<H: Held> Hosted<H> {
             return answer;
         }
         let id = &self.rule.id;
-        match deliver(self.alloc, &mut self.rows, records, id, staged, also, now) {
+        match delivering::deliver_all(
+            self.alloc,
+            &mut self.rows,
+            &mut self.docs,
+            records,
+            id,
+            staged,
+            also,
+            now,
+        ) {
             Ok(blobs) => PutAll::Done {
                 count: staged.len() as u64,
                 blobs: Numbers::from_vec(blobs),
@@ -260,36 +301,31 @@ impl<H: Held> Hosted<H> {
         }
     }
 
-    /// Takes up a row that is recorded, as it was kept: so a repository starts. Only a snapshot's is unlisted. Nothing is recorded
-    /// anew. Where memory is wanting the parcel comes back and nothing is changed.
-    pub fn restore(
-        &mut self,
-        path: &str,
-        parcel: Parcel<H>,
-        accepted: u64,
-        phase: Phase,
-    ) -> Result<(), Parcel<H>>
-        requires path { IsTrue (is_file_path path.now) }
-        requires free { row_at path.now self.old.rows ≡ None }
-        requires moment { accepted ≤ latest_moment }
-        requires fading { FadesRightly (kept_row path.now (shown_parcel parcel) accepted phase) }
-        ensures ok { OnOk result (self.new ≡ record self.old { rows = with_row (kept_row path.now (shown_parcel parcel) accepted phase) self.old.rows }) }
-        ensures err { OnErr result (self.new ≡ self.old) }
-        ensures back { IfErr result (λ back. back ≡ parcel) }
+    /// A repository of these parts: rows at paths of files, of which only snapshots' are unlisted, and the documents of their
+    /// directories.
+    pub(crate) fn of_parts(alloc: Global, rule: Rule, rows: CountedRows<H>, docs: Docs) -> Hosted<H>
+        requires named { IsTrue (is_id rule.id) }
+        requires files { AreFiles rows }
+        requires fading { AllFadeRightly rows }
+        requires kept { AreOf docs rows }
+        ensures { result ≡ record { rule = shown_rule rule; rows = rows } }
     {
-        let row = Row {
-            parcel,
-            accepted,
-            phase,
-        };
-        self.rows.add(self.alloc, path, row)
+        Hosted {
+            alloc,
+            rule,
+            rows,
+            docs,
+        }
     }
 
-    /// The document of a directory, from its visible rows; none where there are none.
+    /// A copy of the document of a directory, which has its visible rows; none where there are none.
     pub fn document(&self, dir: &Dir<'_>) -> Result<Option<Doc>, NoMemory>
         ensures { IfOk result (λ d. d ≡ document dir.now self.now.rows) }
     {
-        document_of(self.alloc, &self.rows, dir)
+        match self.docs.get(dir) {
+            Some(kept) => Ok(Some(kept.doc.copied(self.alloc)?)),
+            None => Ok(None),
+        }
     }
 
     /// How many rows it has, and how many of them are unlisted.
@@ -329,7 +365,14 @@ impl<H: Held> Hosted<H> {
         ensures answered { (path : List ℕ) → is_of_document (kind path) ≡ false
             → seen_at self.new.rows path (kind path) ≡ seen_at self.old.rows path (kind path) }
     {
-        purge::unlist_rows(self.alloc, &mut self.rows, records, &self.rule, now)
+        purge::unlist_rows(
+            self.alloc,
+            &mut self.rows,
+            &mut self.docs,
+            records,
+            &self.rule,
+            now,
+        )
     }
 
     /// The first rows whose grace period, in seconds, is over at a moment, in byte order of path: what `drop_expired` takes

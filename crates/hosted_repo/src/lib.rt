@@ -1,7 +1,9 @@
 //! A hosted repository: its rows, what they answer, and what changes them, which is recorded first.
 #![tactic(auto)]
 
+mod builder;
 mod changes;
+mod delivering;
 mod hosted;
 mod looks;
 mod purge;
@@ -9,6 +11,7 @@ mod put;
 mod seen;
 mod storing;
 
+pub use builder::HostedBuilder;
 pub use changes::change_of;
 pub use directory_rows::Rule;
 pub use hosted::Hosted;

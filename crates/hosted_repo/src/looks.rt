@@ -1,50 +1,36 @@
-//! Looks at the rows of a repository.
+//! Looks at the rows of a repository, and at the documents that are kept of them.
 ghost use Rattle.std.specs.Prelude.{◌≡◌, IfOk, OnErr, true};
-ghost use Rattle.std.specs.Option.{option_map};
 ghost use Rattle.mvn_coords.specs.Kind.{kind};
-ghost use Rattle.mvn_digest.specs.Digests.{digests_of};
-ghost use Rattle.repo_model.specs.Turn.{seen_at, document_text};
+ghost use Rattle.mvn_metadata.specs.Written as form;
+ghost use Rattle.repo_model.specs.Turn.{seen_at};
+ghost use Rattle.kept_docs.specs.Kept.{AreOf};
 ghost use Rattle.hosted_repo.specs.Seens.{shown_seen, is_of_document};
 
 use crate::seen::{DocText, Seen};
-use directory_rows::document_of;
-use mvn_coords::{Dir, Kind, Side, kind_of};
-use mvn_digest::{Digests, Hashes, side_text};
-use mvn_doc::write;
+use kept_docs::Docs;
+use mvn_coords::{Kind, kind_of};
+use mvn_digest::side_text;
 use ordered_rows::{CountedRows, find};
 use outside::{Held, NoMemory};
-use std::alloc::Global;
+use written_docs::WrittenDoc;
 
-fn digests_of(text: &[u8]) -> Digests
-    ensures { result ≡ digests_of text.now }
+/// A share of a document's text, with its digests.
+fn share_of(kept: &WrittenDoc) -> Result<DocText, NoMemory>
+    ensures { IfOk result (λ shown. shown.text ≡ form.text kept.now.doc) }
 {
-    let mut hashes = Hashes::new();
-    hashes.update(text);
-    hashes.finish()
+    Ok(DocText {
+        text: kept.text.share()?,
+        digests: kept.digests,
+    })
 }
 
-/// The written document of a directory, with its digests.
-fn written_of<H: Held>(
-    alloc: Global,
-    rows: &CountedRows<H>,
-    dir: &Dir<'_>,
-) -> Result<Option<DocText>, NoMemory>
-    ensures { IfOk result (λ t. option_map (λ d. d.text.items) t ≡ document_text dir.now rows.now) }
-{
-    let Some(doc) = document_of(alloc, rows, dir)? else {
-        return Ok(None);
-    };
-    let text = write(alloc, &doc)?;
-    let digests = digests_of(text.as_slice());
-    Ok(Some(DocText { text, digests }))
-}
-
-/// What the rows have at a path. Only a document or its side file takes memory.
+/// What the rows have at a path. Of a document a share is given; it fails only where its text has too many to count.
 pub fn look_at<'a, H: Held>(
-    alloc: Global,
     rows: &'a CountedRows<H>,
+    docs: &Docs,
     path: &str,
 ) -> Result<Option<Seen<'a, H>>, NoMemory>
+    requires { AreOf docs.now rows.now }
     ensures seen { IfOk result (λ s. shown_seen s ≡ seen_at rows.now path.now (kind path.now)) }
     ensures room { OnErr result (is_of_document (kind path.now) ≡ true) }
 {
@@ -57,12 +43,12 @@ pub fn look_at<'a, H: Held>(
             Some(row) => Ok(Some(Seen::Text(side_text(&row.parcel.digests, side)))),
             None => Ok(None),
         },
-        Ok(Kind::Doc(dir)) => match written_of(alloc, rows, &dir)? {
-            Some(doc) => Ok(Some(Seen::Doc(doc))),
+        Ok(Kind::Doc(dir)) => match docs.get(&dir) {
+            Some(kept) => Ok(Some(Seen::Doc(share_of(kept)?))),
             None => Ok(None),
         },
-        Ok(Kind::DocSide(dir, side)) => match written_of(alloc, rows, &dir)? {
-            Some(doc) => Ok(Some(Seen::Text(side_text(&doc.digests, side)))),
+        Ok(Kind::DocSide(dir, side)) => match docs.get(&dir) {
+            Some(kept) => Ok(Some(Seen::Text(side_text(&kept.digests, side)))),
             None => Ok(None),
         },
         Err(_) => Ok(None),

@@ -1,5 +1,16 @@
 //! The purge of snapshots in two phases: rows are unlisted, and gone once their grace period is over.
-ghost use Rattle.std.specs.Prelude.{◌≡◌, ◌≢◌, ◌++◌, ℕ, [], List, length, map, filter, take, IfOk, OnOk, OnErr, string_bytes};
+ghost use Rattle.std.specs.Prelude.{◌≡◌, ◌≢◌, ◌≤◌, ◌++◌, ℕ, [], List, None, length, map, filter, take, IfOk, IsTrue, OnOk, OnErr, string_bytes};
+ghost use Rattle.std.specs.List.{All};
+ghost use Rattle.mvn_coords.specs.Layout.{Directory, text_of_directory};
+ghost use Rattle.mvn_coords.specs.Path.{IsDirectory};
+ghost use Rattle.repo_model.specs.Document.{document};
+ghost use Rattle.repo_model.specs.History.{latest_moment};
+ghost use Rattle.row_tables.specs.Items.{are_of};
+ghost use Rattle.row_tables.specs.declared.version.Version.TheVariants.{Second};
+ghost use Rattle.kept_docs.specs.Kept.{AreOf, AreSame, kept_at};
+ghost use Rattle.kept_docs.specs.Drafted.{AreRight, draft_at};
+ghost use Rattle.kept_docs.specs.Placed.{HasRoom, WillBeOf};
+ghost use Rattle.hosted_repo.specs.Fades.{AreApartFrom, accepted_at, accepted_of, listed_back};
 ghost use Rattle.repo_model.specs.Effect.{expires, recorded};
 ghost use Rattle.repo_model.specs.Purge.{due_rows, fade_all};
 ghost use Rattle.row_tables.specs.Commits.{tables_with};
@@ -14,7 +25,8 @@ ghost use Rattle.directory_rows.specs.Rules.{shown_rule};
 
 use crate::changes::{fade_change, removals};
 use directory_rows::{Rule, due_paths};
-use ordered_rows::{CountedRows, Row, is_before};
+use kept_docs::{Docs, Drafts, Page, prepared};
+use ordered_rows::{CountedRows, Row, find, is_before};
 use outside::{Held, NoMemory};
 use row_tables::{Change, CommitFault, Records};
 use std::alloc::Global;
@@ -37,15 +49,104 @@ pub fn fade_all<H: Held>(rows: &mut CountedRows<H>, paths: &[String], moment: u6
     }
 }
 
+// When the row at a path was accepted; 0 where there is none.
+fn moment_at<H: Held>(rows: &BTreeMap<String, Row<H>>, path: &str) -> u64
+    ensures moment { result ≡ accepted_of (shown_rows rows.now.entries) path.now }
+    ensures late { result ≤ latest_moment }
+{
+    match find(rows, path) {
+        Some(row) => row.accepted,
+        None => 0,
+    }
+}
+
+// When each row at some paths was accepted.
+fn moments_of<H: Held>(
+    alloc: Global,
+    rows: &BTreeMap<String, Row<H>>,
+    paths: &[String],
+) -> Result<Vec<u64>, NoMemory>
+    ensures moments { IfOk result (λ moments. moments.items ≡ accepted_at (shown_rows rows.now.entries) paths.now) }
+    ensures late { IfOk result (λ moments. All (λ moment. moment ≤ latest_moment) moments.items) }
+{
+    let mut moments = Vec::new(alloc);
+    for path in paths {
+        let moment = moment_at(rows, path.as_str());
+        moments.push(moment)?;
+    }
+    Ok(moments)
+}
+
+// Lists the rows at some paths again, each accepted at its moment.
+fn list_back<H: Held>(rows: &mut CountedRows<H>, paths: &[String], moments: &[u64])
+    requires many { length moments.now ≡ length paths.now }
+    requires late { All (λ moment. moment ≤ latest_moment) moments.now }
+    ensures { rows.new ≡ listed_back paths.now moments.now rows.old }
+{
+    for (i, path) in paths.iter().enumerate() {
+        rows.list_again(path.as_str(), moments[i]);
+    }
+}
+
+// The documents of the directories of files at some paths, as the rows have them.
+fn drafts_of<H: Held>(
+    alloc: Global,
+    rows: &CountedRows<H>,
+    paths: &[String],
+) -> Result<Drafts, NoMemory>
+    ensures right { IfOk result (λ drafts. AreRight drafts rows.now) }
+    ensures walked { IfOk result (λ drafts. (d : Directory) → IsDirectory d → draft_at (text_of_directory d) drafts ≡ None → AreApartFrom d paths.now) }
+{
+    let mut drafts = Drafts::new(alloc);
+    for path in paths {
+        drafts.walk(alloc, rows, path.as_str())?;
+    }
+    Ok(drafts)
+}
+
+// The documents once the rows at some paths fade, written, and their change, recorded. Until they are placed no document changes.
+fn record_faded<H: Held, K: Records>(
+    alloc: Global,
+    rows: &CountedRows<H>,
+    docs: &mut Docs,
+    records: &mut K,
+    paths: &[String],
+    change: &Change,
+) -> Result<Vec<Page>, CommitFault>
+    requires ready { K.ready records.old }
+    requires whole { IsTrue (are_of Second change.now) }
+    requires fits { FitWhereTold (K.tables records.old) change.now }
+    requires docs { (d : Directory) → IsDirectory d → AreApartFrom d paths.now → kept_at (text_of_directory d) docs.old ≡ document d rows.now }
+    ensures same { AreSame docs.old docs.new }
+    ensures room { IfOk result (λ pages. HasRoom docs.new pages.items) }
+    ensures pages { IfOk result (λ pages. WillBeOf docs.new pages.items rows.now) }
+    ensures tables { OnOk result (K.tables records.new ≡ tables_with change.now (K.tables records.old)) }
+    ensures untold { OnErr result (K.tables records.new ≡ K.tables records.old) }
+    ensures cause { HasCommitCause (K.faults records.old) (K.faults records.new) result }
+    ensures ready { K.ready records.new }
+{
+    let drafts = drafts_of(alloc, rows, paths)?;
+    let pages = prepared(alloc, docs, drafts)?;
+    match records.commit(alloc, change) {
+        Ok(()) => Ok(pages),
+        Err(fault) => {
+            docs.give_up(pages.as_slice());
+            Err(fault)
+        }
+    }
+}
+
 /// Unlists the rows of a repository that are to fade at a moment, once that is recorded, and gives how many. Where that fails
 /// nothing is changed.
 pub fn unlist_rows<H: Held, K: Records>(
     alloc: Global,
     rows: &mut CountedRows<H>,
+    docs: &mut Docs,
     records: &mut K,
     rule: &Rule,
     now: u64,
 ) -> Result<u64, CommitFault>
+    requires docs { AreOf docs.old rows.old }
     requires ready { K.ready records.old }
     requires change { IsChange (recorded (fade_all (hosted_of rule.now rows.old) now)) }
     requires fits { FitWhereTold (K.tables records.old) (recorded (fade_all (hosted_of rule.now rows.old) now)) }
@@ -55,6 +156,7 @@ pub fn unlist_rows<H: Held, K: Records>(
     ensures tables { OnOk result (K.tables records.new
         ≡ tables_with (recorded (fade_all (hosted_of rule.now rows.old) now)) (K.tables records.old)) }
     ensures err { OnErr result (rows.new ≡ rows.old) }
+    ensures docs { AreOf docs.new rows.new }
     ensures untold { OnErr result (K.tables records.new ≡ K.tables records.old) }
     ensures cause { HasCommitCause (K.faults records.old) (K.faults records.new) result }
     ensures asked { result ≡ Err CommitFault.Failed → recorded (fade_all (hosted_of rule.now rows.old) now) ≢ [] }
@@ -64,10 +166,21 @@ pub fn unlist_rows<H: Held, K: Records>(
     if paths.is_empty() {
         return Ok(0);
     }
+    // Its contract says that each path stands once.
+    let _len = rows.map().len();
     let change = fade_change(alloc, &rule.id, &paths, now)?;
-    records.commit(alloc, &change)?;
+    let moments = moments_of(alloc, rows.map(), &paths)?;
     fade_all(rows, &paths, now);
-    Ok(paths.len() as u64)
+    match record_faded(alloc, rows, docs, records, &paths, &change) {
+        Ok(pages) => {
+            docs.place(pages);
+            Ok(paths.len() as u64)
+        }
+        Err(fault) => {
+            list_back(rows, &paths, &moments);
+            Err(fault)
+        }
+    }
 }
 
 /// The first rows that are unlisted since before a moment, at most so many. Where none fades no row is looked at.

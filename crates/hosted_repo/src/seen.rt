@@ -5,6 +5,7 @@ ghost use Rattle.mvn_digest.specs.Digests.{digests_of};
 
 use mvn_digest::{Digests, SideText};
 use outside::{Held, Parcel};
+use shared_bytes::SharedBytes;
 
 /// What a repository has at a path: a file's blob, lent; the text of a side file; or the written document of a directory, with
 /// its digests.
@@ -15,10 +16,10 @@ pub enum Seen<'a, H: Held> {
     Doc(DocText),
 }
 
-/// A written document and its digests.
+/// A written document, which may have other shares, and its digests.
 #[derive(Drop)]
 pub struct DocText {
-    pub text: Vec<u8>,
+    pub text: SharedBytes,
     pub digests: Digests,
-    pub ghost described: { digests ≡ digests_of text.items } by { Prim.hlevel props },
+    pub ghost described: { digests ≡ digests_of text } by { Prim.hlevel props },
 }

@@ -1,4 +1,5 @@
-//! Rows that are recorded and then stored: room first, then the commit, and the change last, as it is seen from outside.
+//! Rows that are recorded and then stored: room and the documents first, then the commit, and the change last, as it is seen from
+//! outside.
 ghost use Rattle.std.specs.Prelude.{◌≡◌, ◌≤◌, ◌∷◌, [], None, OnOk, OnErr};
 ghost use Rattle.repo_model.specs.declared.item.Item.TheVariants.{HostedPut, Relisted};
 ghost use Rattle.repo_model.specs.Effect.{list_again, new_row, with_row};
@@ -10,8 +11,11 @@ ghost use Rattle.row_tables.specs.Commits.{tables_with};
 ghost use Rattle.row_tables.specs.Items.{IsChange};
 ghost use Rattle.row_tables.specs.Records.{HasCommitCause};
 ghost use Rattle.ordered_rows.specs.Recording.{FitWhereTold};
+ghost use Rattle.kept_docs.specs.Kept.{AreOf};
+ghost use Rattle.hosted_repo.specs.Releases.{FadesAt};
 
 use crate::changes::{put_change, relist_change};
+use kept_docs::{Docs, prepared_row};
 use ordered_rows::{CountedRows, Phase, Row, print_of};
 use outside::{Held, Parcel};
 use row_tables::{CommitFault, Records};
@@ -22,12 +26,14 @@ use texts::Text;
 pub fn create<H: Held, K: Records>(
     alloc: Global,
     rows: &mut CountedRows<H>,
+    docs: &mut Docs,
     records: &mut K,
     repo: &Text,
     path: &str,
     parcel: &Parcel<H>,
     accepted: u64,
 ) -> Result<(), CommitFault>
+    requires docs { AreOf docs.old rows.old }
     requires free { row_at path.now rows.old ≡ None }
     requires moment { accepted ≤ latest_moment }
     requires ready { K.ready records.old }
@@ -35,6 +41,7 @@ pub fn create<H: Held, K: Records>(
     requires fits { FitWhereTold (K.tables records.old) (HostedPut repo.now path.now parcel.now.blob (recorded_print (shown_print parcel.now)) accepted ∷ []) }
     ensures ok { OnOk result (rows.new ≡ with_row (new_row path.now (shown_parcel parcel.now) accepted) rows.old) }
     ensures err { OnErr result (rows.new ≡ rows.old) }
+    ensures docs { AreOf docs.new rows.new }
     ensures recorded { OnOk result (K.tables records.new
         ≡ tables_with (HostedPut repo.now path.now parcel.now.blob (recorded_print (shown_print parcel.now)) accepted ∷ []) (K.tables records.old)) }
     ensures untold { OnErr result (K.tables records.new ≡ K.tables records.old) }
@@ -47,14 +54,18 @@ pub fn create<H: Held, K: Records>(
         accepted,
         phase: Phase::Listed,
     };
+    let pages = prepared_row(alloc, docs, path, accepted)?;
     // The row makes its own room, and goes again where it is not recorded.
     let Ok(()) = rows.add(alloc, path, row) else {
+        docs.give_up(pages.as_slice());
         return Err(CommitFault::NoMemory);
     };
     if let Err(fault) = records.commit(alloc, &change) {
         rows.remove(path);
+        docs.give_up(pages.as_slice());
         return Err(fault);
     }
+    docs.place(pages);
     Ok(())
 }
 
@@ -62,24 +73,35 @@ pub fn create<H: Held, K: Records>(
 pub fn relist<H: Held, K: Records>(
     alloc: Global,
     rows: &mut CountedRows<H>,
+    docs: &mut Docs,
     records: &mut K,
     repo: &Text,
     path: &str,
     accepted: u64,
 ) -> Result<(), CommitFault>
+    requires docs { AreOf docs.old rows.old }
+    requires faded { FadesAt path.now rows.old }
     requires moment { accepted ≤ latest_moment }
     requires ready { K.ready records.old }
     requires change { IsChange (Relisted repo.now path.now accepted ∷ []) }
     requires fits { FitWhereTold (K.tables records.old) (Relisted repo.now path.now accepted ∷ []) }
     ensures ok { OnOk result (rows.new ≡ change_where (is_row path.now) (list_again accepted) rows.old) }
     ensures err { OnErr result (rows.new ≡ rows.old) }
+    ensures docs { AreOf docs.new rows.new }
     ensures recorded { OnOk result (K.tables records.new ≡ tables_with (Relisted repo.now path.now accepted ∷ []) (K.tables records.old)) }
     ensures untold { OnErr result (K.tables records.new ≡ K.tables records.old) }
     ensures cause { HasCommitCause (K.faults records.old) (K.faults records.new) result }
     ensures ready { K.ready records.new }
 {
+    // Its contract says that each path stands once.
+    let _len = rows.map().len();
     let change = relist_change(alloc, repo, path, accepted)?;
-    records.commit(alloc, &change)?;
+    let pages = prepared_row(alloc, docs, path, accepted)?;
+    if let Err(fault) = records.commit(alloc, &change) {
+        docs.give_up(pages.as_slice());
+        return Err(fault);
+    }
     rows.list_again(path, accepted);
+    docs.place(pages);
     Ok(())
 }

@@ -58,11 +58,15 @@ pub struct Answer {
     pub body: Bytes,
 }
 
+/// How many bytes are made room for beside a body, so that the head of most answers is written without asking for more memory.
+const HEAD_ROOM: usize = 256;
+
 /// The bytes of the answer: its head and its body.
 pub fn render(alloc: Global, answer: &Answer) -> Result<Bytes, AllocError>
     ensures ok { IfOk result (λ bytes. bytes ≡ shown answer.now) }
 {
-    let mut bytes = Vec::new(alloc);
+    let room = answer.body.as_slice().len().saturating_add(HEAD_ROOM);
+    let mut bytes = Vec::with_capacity(alloc, room)?;
     push_head(&mut bytes, answer)?;
     bytes.extend_from_slice(answer.body.as_slice())?;
     Ok(Bytes::from_vec(bytes))

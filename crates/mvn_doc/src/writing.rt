@@ -10,6 +10,7 @@ use crate::sheet::Sheet;
 use crate::sizes::text_size;
 use mvn_coords::{Build, Stamp};
 use mvn_metadata::{Doc, Entries, Listing, NoMemory, Pair, SnapshotBuild, Versions};
+use mvn_version::Version;
 use std::alloc::Global;
 use texts::Text;
 
@@ -161,11 +162,20 @@ fn version_lines(out: &mut Sheet, versions: &Versions)
     close_line(out, "    ", "versions");
 }
 
+/// The line of a version, in three pieces: a document may have many thousands.
+fn version_line(out: &mut Sheet, version: &Version)
+    ensures { Adds out.old out.new (written.version_line version.now) }
+{
+    out.word("      <version>");
+    out.word(version.as_str());
+    out.word("</version>\n");
+}
+
 fn each_version(out: &mut Sheet, versions: &Versions)
     ensures { Adds out.old out.new (flat_map written.version_line versions.now) }
 {
     for version in versions.iter() {
-        element(out, "      ", "version", version.as_str().as_bytes());
+        version_line(out, version);
     }
 }
 

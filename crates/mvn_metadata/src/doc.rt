@@ -1,6 +1,7 @@
 //! The document of a directory.
 ghost use Rattle.std.specs.Prelude.{◌≡◌, IfOk, IsTrue};
 ghost use Rattle.std.specs.Option.{option_copied};
+ghost use Rattle.mvn_metadata.specs.Form.{is_listing};
 ghost use Rattle.mvn_metadata.specs.Document.{joined, latest_time, merged, newest_build, nothing, with_build, with_update, with_version};
 
 use crate::pair::compare_builds;
@@ -79,6 +80,28 @@ fn copied_bytes(alloc: Global, bytes: &Option<Bytes>) -> Result<Option<Bytes>, N
     }
 }
 
+/// Another copy of what a document lists, which shares its versions.
+fn copied_listing(alloc: Global, listing: &Listing) -> Result<Listing, NoMemory>
+    requires { IsTrue (is_listing listing.now) }
+    ensures { IfOk result (λ l. l ≡ listing.now) }
+{
+    match listing {
+        Listing::Artifact { versions, updated } => Ok(Listing::Artifact {
+            versions: versions.copied()?,
+            updated: *updated,
+        }),
+        Listing::Snapshot {
+            base,
+            newest,
+            entries,
+        } => Ok(Listing::Snapshot {
+            base: base.copied(alloc)?,
+            newest: *newest,
+            entries: entries.copied(alloc)?,
+        }),
+    }
+}
+
 /// Nothing of the same kind.
 fn nothing(alloc: Global, listing: &Listing) -> Result<Listing, NoMemory>
     ensures { IfOk result (λ l. l ≡ nothing listing.now) }
@@ -111,7 +134,7 @@ fn joined(alloc: Global, listing: Listing, other: &Listing) -> Result<Listing, N
                 updated: later,
             },
         ) => {
-            versions.add_all(alloc, others)?;
+            versions.add_all(others)?;
             let updated = latest_time(updated, *later);
             Ok(Listing::Artifact { versions, updated })
         }
@@ -218,6 +241,17 @@ impl Doc {
             group,
             artifact,
             listing,
+        })
+    }
+
+    /// Another copy of the document, which shares its versions.
+    pub fn copied(&self, alloc: Global) -> Result<Doc, NoMemory>
+        ensures { IfOk result (λ d. d ≡ self.now) }
+    {
+        Ok(Doc {
+            group: copied_bytes(alloc, &self.group)?,
+            artifact: copied(alloc, &self.artifact)?,
+            listing: copied_listing(alloc, &self.listing)?,
         })
     }
 

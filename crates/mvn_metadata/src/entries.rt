@@ -1,8 +1,9 @@
 //! The entries of a snapshot directory's document.
-ghost use Rattle.std.specs.Prelude.{◌≡◌, ◌↔◌, ◌++◌, [], IsTrue, OnOk, OnErr, bytes_eq, codes, filter};
+ghost use Rattle.std.specs.Prelude.{◌≡◌, ◌↔◌, ◌++◌, [], IfOk, IsTrue, OnOk, OnErr, bytes_eq, codes, filter};
 ghost use Rattle.mvn_metadata.specs.Document.{is_of};
 ghost use Rattle.mvn_metadata.specs.Merge.{is_newer, with_entries, with_entry};
 ghost use Rattle.mvn_metadata.specs.Order.{pair_cmp};
+ghost use Rattle.std.specs.FinMap.Entries.{is_sorted};
 ghost use Rattle.std.specs.Map.{lookup};
 ghost use Rattle.std.specs.BTreeMap.{is_at};
 
@@ -70,6 +71,16 @@ impl Entries {
             self.add(pair.copied(alloc)?, snapshot.copied(alloc)?)?;
         }
         Ok(())
+    }
+
+    /// Another copy of the entries.
+    pub(crate) fn copied(&self, alloc: Global) -> Result<Entries, NoMemory>
+        requires { IsTrue (is_sorted pair_cmp self.now) }
+        ensures { IfOk result (λ e. e ≡ self.now) }
+    {
+        let mut copies = Entries::new(alloc);
+        copies.add_all(alloc, self)?;
+        Ok(copies)
     }
 
     /// Keeps the entries of a version directory.

@@ -1,5 +1,5 @@
 //! The versions that a document lists.
-ghost use Rattle.std.specs.Prelude.{◌≡◌, ◌↔◌, [], IsTrue, OnOk, OnErr};
+ghost use Rattle.std.specs.Prelude.{◌≡◌, ◌↔◌, [], IfOk, IsTrue, OnOk, OnErr};
 ghost use Rattle.std.specs.Option.{option_copied};
 ghost use Rattle.mvn_metadata.specs.Document.{is_snapshot, latest, release};
 ghost use Rattle.std.specs.BTreeSet.{insert_key};
@@ -46,14 +46,22 @@ impl Versions {
         Ok(())
     }
 
-    /// Adds each of the versions. On an `Err` some may have been added.
-    pub(crate) fn add_all(&mut self, alloc: Global, versions: &Versions) -> Result<(), NoMemory>
+    /// Adds each of the versions, which are shared. On an `Err` some may have been added.
+    pub(crate) fn add_all(&mut self, versions: &Versions) -> Result<(), NoMemory>
         ensures { OnOk result (self.new ≡ with_versions self.old versions.now) }
     {
         for version in versions.set.iter() {
-            self.add(version.copied(alloc)?)?;
+            self.add(version.clone()?)?;
         }
         Ok(())
+    }
+
+    /// Another copy of the versions, which shares each of them.
+    pub(crate) fn copied(&self) -> Result<Versions, NoMemory>
+        ensures { IfOk result (λ v. v ≡ self.now) }
+    {
+        let set = self.set.clone()?;
+        Ok(Versions { set })
     }
 
     /// Whether there are no versions.

@@ -36,30 +36,6 @@ pub struct Element {
     pub text: Vec<u8>,
 }
 
-impl Element {
-    /// Another copy of the element.
-    fn copied(&self, alloc: Global) -> Result<Element, AllocError>
-        ensures { IfOk result (λ e. shown e ≡ shown self.now) }
-    {
-        Ok(Element {
-            rank: self.rank,
-            digits: self.digits,
-            text: Vec::from_slice(alloc, &self.text)?,
-        })
-    }
-}
-
-/// Another copy of elements.
-pub fn copied(alloc: Global, elements: &[Element]) -> Result<Vec<Element>, AllocError>
-    ensures { IfOk result (λ v. map shown v.items ≡ map shown elements.now) }
-{
-    let mut copies = Vec::with_capacity(alloc, elements.len())?;
-    for element in elements {
-        copies.push(element.copied(alloc)?)?;
-    }
-    Ok(copies)
-}
-
 fn is_number(text: &[u8]) -> bool
     ensures { result ≡ is_number text.now }
 {

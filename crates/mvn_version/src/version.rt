@@ -1,40 +1,52 @@
 //! Versions and their order.
 
-ghost use Rattle.std.specs.Prelude.{◌≡◌, IfOk, bytes_eq};
+ghost use Rattle.std.specs.Prelude.{◌≡◌, IfOk, bytes_eq, map};
 ghost use Rattle.std.proofs.Common.{refl};
 ghost use Rattle.std.specs.Cmp.{partial_equiv_from_equiv, po};
 ghost use Rattle.std.specs.Cmp.Lexicographic.{nat_list_eq_equiv};
 ghost use Rattle.std.specs.Ordering.{as_partial_cmp};
+ghost use Rattle.mvn_version.specs.Element.{shown};
+ghost use Rattle.mvn_version.specs.Key.{key};
 ghost use Rattle.mvn_version.specs.Laws.{bytes_eq_ties, list_cmp_total};
-ghost use Rattle.mvn_version.specs.Order.{list_cmp, version_cmp};
+ghost use Rattle.mvn_version.specs.Order.{ended, list_cmp, version_cmp};
 
-use crate::element::{Element, copied, elements};
+use crate::element::{Element, elements};
 use crate::token::{folded, tokens};
 use std::alloc::{AllocError, Global};
 use std::cmp::Ordering;
 use std::marker::Model;
+use std::sync::Arc;
 
 /// There was no memory left.
 pub type NoMemory = AllocError;
 
-/// A version: a text, kept as it is, and its key. Contracts see the bytes of the text, so `==` is that of texts.
+/// A text and the elements of its key.
 #[derive(Debug, Drop)]
-pub struct Version {
+struct Parsed {
     text: String,
     elements: Vec<Element>,
 }
 
+/// A version: a text, kept as it is, and its key, which clones of it share. Contracts see the bytes of the text, so `==`
+/// is that of texts.
+#[derive(Debug, Drop)]
+pub struct Version {
+    parsed: Arc<Parsed, Global>,
+}
+
 impl Model for Version {
     ghost use Rattle.std.specs.Prelude.{◌≡◌, ℕ, List, map, string_bytes};
+    ghost use Rattle.std.specs.Arc.{arc_value};
     ghost use Rattle.mvn_version.specs.Element.{shown};
     ghost use Rattle.mvn_version.specs.Key.{key};
     ghost use Rattle.mvn_version.specs.Order.{ended};
 
     ghost Value = { List ℕ };
 
-    ghost view = { λ v. string_bytes v.text };
+    ghost view = { λ v. string_bytes (arc_value v.parsed).text };
 
-    ghost invariant = { λ v. map shown v.elements.items ≡ ended (key (string_bytes v.text)) };
+    ghost invariant = { λ v. map shown (arc_value v.parsed).elements.items
+        ≡ ended (key (string_bytes (arc_value v.parsed).text)) };
 }
 
 impl Version {
@@ -46,23 +58,31 @@ impl Version {
         let tokens = tokens(alloc, &folded)?;
         let elements = elements(alloc, &tokens)?;
         let text = String::from_str(alloc, text)?;
-        Ok(Version { text, elements })
-    }
-
-    /// Another copy of the version, whose text is not parsed anew.
-    pub fn copied(&self, alloc: Global) -> Result<Version, NoMemory>
-        ensures { IfOk result (λ v. v ≡ self.now) }
-    {
-        let elements = copied(alloc, &self.elements)?;
-        let text = String::from_str(alloc, self.text.as_str())?;
-        Ok(Version { text, elements })
+        let parsed = Arc::new(alloc, Parsed { text, elements })?;
+        Ok(Version { parsed })
     }
 
     /// The text that the version was parsed from.
     pub fn as_str(&self) -> &str
         ensures { result.now ≡ self.now }
     {
-        self.text.as_str()
+        self.parsed.text.as_str()
+    }
+
+    fn elements(&self) -> &[Element]
+        ensures { map shown result.now ≡ ended (key self.now) }
+    {
+        self.parsed.elements.as_slice()
+    }
+}
+
+/// The same version, which shares its text and its key. It fails only where there are too many to count.
+impl Clone for Version {
+    ghost is_clone = { λ v w. w ≡ v };
+
+    fn clone(&self) -> Result<Version, NoMemory> {
+        let parsed = Arc::try_clone(&self.parsed)?;
+        Ok(Version { parsed })
     }
 }
 
@@ -71,7 +91,7 @@ impl Version {
 pub fn compare(left: &Version, right: &Version) -> Ordering
     ensures { result ≡ version_cmp left.now right.now }
 {
-    left.elements.as_slice().cmp(right.elements.as_slice())
+    left.elements().cmp(right.elements())
 }
 
 impl PartialEq for Version {

@@ -107,9 +107,9 @@ impl<R: Net> Door<R> {
         self.ended.load(Ordering::SeqCst) != 0
     }
 
-    /// Whether this is the first time that this is asked.
+    /// Whether this is the first time that this is asked. Later ones write nothing that other desks read.
     pub fn is_first(&self) -> bool {
-        self.announced.swap(1, Ordering::SeqCst) == 0
+        self.announced.load(Ordering::SeqCst) == 0 && self.announced.swap(1, Ordering::SeqCst) == 0
     }
 
     /// Waits until there is something to do, at most for the time of a patrol.

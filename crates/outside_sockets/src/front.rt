@@ -67,6 +67,9 @@ impl Front {
                     break;
                 }
                 looked = looked.saturating_add(1);
+                if head.passes(*byte) {
+                    continue;
+                }
                 match head.with(*byte) {
                     Reach::Open(next) => head = next,
                     Reach::Whole(length) => body = Some(length),

@@ -76,6 +76,11 @@ impl Head {
         })
     }
 
+    /// Whether this byte makes nothing else of it: one inside a line that says no length.
+    pub fn passes(self, byte: u8) -> bool {
+        matches!(self.line, Line::Other) && byte != b'\n'
+    }
+
     /// What this byte makes of it.
     pub fn with(self, byte: u8) -> Reach {
         match (self.line, byte) {

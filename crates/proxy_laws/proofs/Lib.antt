@@ -4,3 +4,5 @@ pub mod Deciding
 pub mod Planning
 pub mod Answering
 pub mod Again
+mod Landings
+pub mod Serving

@@ -1,6 +1,9 @@
 //! The laws of what proxies keep.
-ghost use Rattle.std.specs.Prelude.{◌≡◌, ℕ, List, ◌∷◌, ◌++◌, Option, Some, IsTrue, option_map};
-ghost use Rattle.std.specs.List.{list_any};
+ghost use Rattle.std.specs.Prelude.{◌≡◌, ◌≢◌, ℕ, List, ◌∷◌, ◌++◌, Option, Some, Ok, IsTrue, option_map};
+ghost use Rattle.std.specs.List.{AllByRecursion, list_any};
+ghost use Rattle.mvn_coords.specs.Kind.{kind};
+ghost use Rattle.mvn_coords.specs.Layout.{Coordinates};
+ghost use Rattle.mvn_coords.specs.declared.kind.Kind.TheVariants.{File};
 ghost use Rattle.fetch_plan.specs.declared.Plan.{Plan};
 ghost use Rattle.outside.specs.Moments.{Moments};
 ghost use Rattle.repo_model.specs.Settings.{Settings};
@@ -9,15 +12,17 @@ ghost use Rattle.repo_model.specs.State.{State, is_proxy, opening, row_at, files
 ghost use Rattle.repo_model.specs.Proxies.{kept_at};
 ghost use Rattle.repo_model.specs.Effect.{Effect, new_row, with_effect};
 ghost use Rattle.repo_model.specs.May.{May};
-ghost use Rattle.repo_model.specs.Reply.{fetches};
+ghost use Rattle.repo_model.specs.Reply.{fetches, landed};
 ghost use Rattle.repo_model.specs.Tables.{Tables};
 ghost use Rattle.repo_model.specs.Restart.{started};
 ghost use Rattle.repo_model.specs.History.{Entry, Fits, Legal, after, end};
+ghost use Rattle.repo_laws.specs.Closed.{Answers};
 ghost use Rattle.repo_laws.specs.Files.{documents_in};
 ghost use Rattle.repo_laws.specs.Laws.{without_bytes};
 ghost use Rattle.repo_laws.specs.Holds.{InOrder, Holds};
 ghost use Rattle.repo_laws.specs.Proxied.{LandsFile};
 ghost use Rattle.repo_laws.specs.Sound.{AreNamedApart, IsSound};
+ghost use Rattle.proxy_laws.specs.Asked.{AsksFirst, LetsThrough};
 ghost use Rattle.proxy_laws.specs.Limits.{KeepLimits, kept_first};
 
 /// A file that a proxy keeps stays there, with every field the same: behind each effect that may be done, and behind an entry and
@@ -30,6 +35,23 @@ pub fn kept_files_stay()
     ensures history { (settings : Settings) (start : State) (entries : List Entry) (id path : List ℕ) (row : Row) → AreNamedApart settings.hosted
         → IsSound settings start → Legal settings start entries → row_at path (files_of id start) ≡ Some row
         → row_at path (files_of id (end settings start entries)) ≡ Some row }
+{}
+
+/// A file that a proxy keeps, and that its patterns let through, is answered to each look there at the proxy, or at a group in which
+/// it comes first, and the text of its digest to a look at a side file of it; or memory is wanting, or no lease is left.
+pub fn kept_files_are_answered()
+    ensures { (settings : Settings) (old : State) (e : Entry) (asked id path : List ℕ) (row : Row) (c : Coordinates) → IsSound settings old
+        → Fits settings old e → LetsThrough settings id path → AsksFirst settings asked id → kind path ≡ Ok (File c)
+        → row_at path (files_of id old) ≡ Some row → Answers asked path row.blob old e }
+{}
+
+/// What proxies keep, files, documents and marks, changes only by an entry that is answered that a fetch has landed: each other
+/// one leaves all of it, and so does a legal history without one.
+pub fn proxies_change_by_landings()
+    ensures entry { (settings : Settings) (old : State) (e : Entry) → Fits settings old e → e.reply ≢ landed
+        → (after settings old e).proxies ≡ old.proxies }
+    ensures history { (settings : Settings) (start : State) (entries : List Entry) → Legal settings start entries
+        → AllByRecursion (λ (e : Entry). e.reply ≢ landed) entries → (end settings start entries).proxies ≡ start.proxies }
 {}
 
 /// A file that lands is kept from then on, unless its proxy keeps one at the path: that one stays.

@@ -11,6 +11,7 @@ pub use decisions::{
     proxies_say_what_they_decide,
 };
 pub use keeping::{
-    kept_files_stay, landed_files_are_kept, landed_files_are_not_fetched_again,
-    proxies_keep_their_limits, restarts_keep_what_proxies_keep,
+    kept_files_are_answered, kept_files_stay, landed_files_are_kept,
+    landed_files_are_not_fetched_again, proxies_change_by_landings, proxies_keep_their_limits,
+    restarts_keep_what_proxies_keep,
 };

@@ -1,6 +1,6 @@
 -- What is recorded of what a proxy keeps makes a change.
 use native.Mathlib.Omega.{arith}
-use Rattle.std.proofs.Common.{◌≡◌, ℕ, ◌+◌, ◌<◌, ◌≤◌, Bool, true, false, cond, ◌&&◌, List, [], ◌∷◌, ◌++◌, length, Option, Some, None, Result, Ok, Err, refl, sym, ◌∙◌, ap, eqb, ltb, leb, length-append, bytes_eq}
+use Rattle.std.proofs.Common.{◌≡◌, ℕ, ◌+◌, ◌<◌, ◌≤◌, Bool, true, false, cond, List, [], ◌∷◌, ◌++◌, length, Option, Some, None, Result, Ok, Err, refl, sym, ◌∙◌, ap, eqb, ltb, leb, length-append, bytes_eq}
 use Rattle.std.specs.Prelude.{IfSome, codes, is_some}
 use Rattle.std.specs.Int.{w16, w32, w64, to_be_bytes}
 use Rattle.std.specs.List.{flat_map}
@@ -24,7 +24,7 @@ use Rattle.repo_model.specs.Prints.{recorded_print}
 use Rattle.repo_model.specs.State.{number_end}
 use Rattle.repo_model.specs.declared.item.Item.TheVariants.{CachedDoc, CachedFile}
 use Rattle.repo_model.specs.declared.print.Print.{Print}
-use Rattle.row_tables.specs.Items.{IsChange, directory_at, directory_in, document_bytes, is_count, is_file_path, is_id, is_item, is_kept_at, is_kept_in, is_moment, is_number, item_bytes, place_bytes, text_bytes}
+use Rattle.row_tables.specs.Items.{IsChange, directory_at, directory_in, document_bytes, is_count, is_file_path, is_id, is_item, is_kept_in, is_number, item_bytes, place_bytes, text_bytes}
 use Rattle.ordered_rows.specs.Recording.{IsShort}
 use Rattle.ordered_rows.proofs.ChangeLemmas.{AreDigests, change-of, moment-so, put-short}
 
@@ -152,16 +152,3 @@ document-change id path checked document d named is late form =
   where
     id-size : (name : List ℕ) → is_id name ≡ true → length name ≤ 64
     id-size name h = leb-true (length name) 64 (and_parts (leb (length name) 64) _ (and_parts (ltb 0 (length name)) _ h).1).0
-
--- a document that is kept has its form
-kept-document : (o : Option Directory) (d : Document) → is_kept_in o d ≡ true → is_document d ≡ true
-kept-document None d is = absurd (false≢true is)
-kept-document (Some directory) d is = (and_parts _ _ is).0
-
--- a document that makes a change has its form
-pub recorded-document : (id path : List ℕ) (checked : ℕ) (document : Document) → IsChange (CachedDoc id path checked document ∷ []) → is_document document ≡ true
-recorded-document id path checked document change =
-    let item = (and_parts (is_item (CachedDoc id path checked document)) true change.form).0 in
-    let placed = (and_parts (is_id id) (is_some (directory_at path) && (is_moment checked && is_kept_at path document)) item).1 in
-    let timed = (and_parts (is_some (directory_at path)) (is_moment checked && is_kept_at path document) placed).1 in
-    kept-document (directory_at path) document (and_parts (is_moment checked) (is_kept_at path document) timed).1

@@ -7,7 +7,7 @@ ghost use Rattle.row_tables.specs.Items.{IsChange};
 use mvn_metadata::Doc;
 use outside::NoMemory;
 use repo_model::{Item, Print};
-use row_tables::{Change, copied_document};
+use row_tables::Change;
 use std::alloc::Global;
 use texts::Text;
 
@@ -60,7 +60,7 @@ pub fn document_change(
 {
     let repo = proxy.copied(alloc)?;
     let path = Text::new(alloc, path)?;
-    let document = copied_document(alloc, document)?;
+    let document = document.copied(alloc)?;
     change_of(
         alloc,
         Item::CachedDoc {

@@ -22,6 +22,9 @@ mod PurgeLemmas
 mod PurgeTurns
 mod PutReplies
 mod SessionNumbers
+mod ShelfChanges
+mod ShelfLemmas
+mod ShelfLooks
 mod SideLemmas
 mod StagedLemmas
 mod StartLemmas

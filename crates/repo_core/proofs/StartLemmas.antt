@@ -19,7 +19,7 @@ use Rattle.repo_model.specs.State.{State, is_among, number_end, opening}
 use Rattle.repo_model.specs.Tables.{Tables, RecordedRow, no_tables}
 use Rattle.repo_laws.specs.Holds.{InOrder, StandsFor}
 use Rattle.repo_laws.specs.InRange.{InRange, IsRowInRange}
-use Rattle.repo_laws.specs.Laws.{FadesRightly}
+use Rattle.repo_model.specs.Paths.{FadesRightly}
 use Rattle.repo_laws.specs.Sound.{IsSound}
 use Rattle.repo_laws.proofs.HoldingLists.{all-join, all-split}
 use Rattle.repo_laws.proofs.Lists.{all-then}

@@ -1,4 +1,5 @@
 pub mod Hosted
+pub mod Changes
 pub mod Looks
 pub mod Numbers
 pub mod Turn
@@ -6,6 +7,7 @@ pub mod Whole
 pub mod CoreTurn
 pub mod Proxies
 pub mod Purge
+pub mod Shelves
 pub mod Stock
 pub mod Deploys
 pub mod Start

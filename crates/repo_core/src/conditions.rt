@@ -1,5 +1,5 @@
 //! The conditions of commands: what their places and paths name.
-ghost use Rattle.std.specs.Prelude.{◌≡◌, Ok, Some, None, is_some, true};
+ghost use Rattle.std.specs.Prelude.{◌≡◌, Ok, Some, None, bytes_eq, is_some, position, true};
 ghost use Rattle.std.specs.Option.{option_map};
 ghost use Rattle.mvn_coords.specs.Kind.{kind};
 ghost use Rattle.mvn_coords.specs.Layout.{Coordinates, Directory};
@@ -96,11 +96,18 @@ fn is_proxy(settings: &Settings, id: &str) -> bool
     proxy_of(settings, id).is_some()
 }
 
-/// The rule of a group.
-pub fn group_of<'a>(settings: &'a Settings, id: &str) -> Option<&'a GroupRule>
+// The rule of a group.
+fn group_of<'a>(settings: &'a Settings, id: &str) -> Option<&'a GroupRule>
     ensures { option_map (λ rule. rule.now) result ≡ spec.group_rule_of id.now settings.now }
 {
     settings.groups().iter().find(|rule| rule.id() == id)
+}
+
+/// The place of a group among the groups.
+pub fn group_place(settings: &Settings, id: &str) -> Option<usize>
+    ensures { result ≡ position (λ rule. bytes_eq rule.id id.now) settings.now.groups }
+{
+    settings.groups().iter().position(|rule| rule.id() == id)
 }
 
 // Whether a repository of any kind has the id.

@@ -14,6 +14,7 @@ ghost use Rattle.repo_core.specs.Whole.{IsOrderly};
 
 use crate::machine::Machine;
 use crate::proxies;
+use crate::shelves::{changed_by_landing, forget, is_of_document};
 use blob_yard::Yard;
 use fetch_plan::{Outcome, Plan};
 use outside::{Clock, Held};
@@ -86,7 +87,12 @@ impl<C: Clock, H: Held> Machine<C, H> {
         if !is_drawn(&self.yard, plan.draft) {
             return Reply::NoDraft;
         }
+        let of_document = is_of_document(&outcome);
         let did = proxies::land(&mut self.proxies, records, &plan, outcome, self.last);
+        forget(
+            &mut self.shelves,
+            &changed_by_landing(plan.path.as_str(), of_document, did),
+        );
         settle_landed(&mut self.yard, plan.draft, did);
         reply_of_landed(did)
     }

@@ -19,6 +19,7 @@ mod purges;
 mod puts;
 mod repository;
 mod session_turns;
+mod shelves;
 mod starting;
 mod thing;
 mod turn;

@@ -8,59 +8,73 @@ ghost use Rattle.repo_core.specs.Hosted.{AreInUse};
 ghost use Rattle.repo_core.specs.Looks.{HasGoods, IsLendable, shown_looked};
 ghost use Rattle.repo_core.specs.Numbers.{yard_looked};
 ghost use Rattle.repo_core.specs.Proxies.{AreCachedInUse};
+ghost use Rattle.repo_core.specs.Shelves.{AreShelved};
 ghost use Rattle.repo_core.specs.Turn.{IsDueOr};
 
-use crate::conditions::group_of;
+use crate::conditions::group_place;
 use crate::groups::seen_in_group;
 use crate::hosted::repo_at;
 use crate::looked::{Asked, Goods, Looked};
 use crate::members::{seen_by_member, seen_by_repo};
 use crate::plans::plan_fetch;
 use blob_yard::{DrawFault, Yard};
+use group_view::Shelf;
 use hosted_repo::Seen;
 use outside::{Held, NoMemory, Parcel};
 use repo_config::Settings;
 use repo_model::Reply;
 use std::alloc::Global;
-use texts::Bytes;
 
 // What the repository of an id has at a path: a hosted one, a group, or a proxy.
 fn look_at<'a, H: Held>(
     alloc: Global,
     settings: &Settings,
     goods: &Goods<'a, H>,
+    shelves: &mut Vec<Shelf>,
     id: &str,
     asked: &Asked<'a>,
 ) -> Result<Looked<'a, H>, NoMemory>
-    ensures { (s : State) → HasGoods s goods.now.repos.now goods.now.proxies.now → IfOk result (λ l. shown_looked l
+    requires shelved { AreShelved settings.now.groups goods.now.repos.now goods.now.proxies.now shelves.old.items }
+    ensures seen { (s : State) → HasGoods s goods.now.repos.now goods.now.proxies.now → IfOk result (λ l. shown_looked l
         ≡ look_at settings.now s asked.now.moment id.now asked.now.tried.now asked.now.path.now) }
+    ensures shelved { AreShelved settings.now.groups goods.now.repos.now goods.now.proxies.now shelves.new.items }
 {
     if let Some(repo) = repo_at(goods.repos, id) {
         return seen_by_repo(repo, asked.path);
     }
-    match group_of(settings, id) {
-        Some(group) => seen_in_group(alloc, goods, group.members(), asked),
+    match group_place(settings, id) {
+        Some(place) => seen_in_group(
+            alloc,
+            goods,
+            &mut shelves[place],
+            settings.groups()[place].members(),
+            asked,
+        ),
         None => seen_by_member(alloc, goods, 0, id, asked),
     }
 }
 
-/// What is at a path of the repository of an id. The blob of a file is lent, and what is to be fetched of a remote is planned.
+/// What is at a path of the repository of an id. The blob of a file is lent, what is to be fetched of a remote is planned, and a
+/// document of a group that is made is put on its shelf.
 pub fn look<H: Held>(
     alloc: Global,
     settings: &Settings,
     goods: &Goods<'_, H>,
+    shelves: &mut Vec<Shelf>,
     yard: &mut Yard,
     id: &str,
     asked: &Asked<'_>,
 ) -> Reply<H>
+    requires shelved { AreShelved settings.now.groups goods.now.repos.now goods.now.proxies.now shelves.old.items }
     requires used { AreInUse yard.old.kept goods.now.repos.now }
     requires cached { AreCachedInUse yard.old.kept goods.now.proxies.now }
     ensures reply { (s : State) → HasGoods s goods.now.repos.now goods.now.proxies.now → IsDueOr
         (shows settings.now yard.old.yard (look_at settings.now s asked.now.moment id.now asked.now.tried.now asked.now.path.now)).reply
         (shown_reply result) }
     ensures yard { yard.new ≡ record yard.old { yard = yard_looked (shown_reply result) yard.old.yard } }
+    ensures shelved { AreShelved settings.now.groups goods.now.repos.now goods.now.proxies.now shelves.new.items }
 {
-    match look_at(alloc, settings, goods, id, asked) {
+    match look_at(alloc, settings, goods, shelves, id, asked) {
         Ok(looked) => answer(alloc, settings, yard, looked),
         Err(_) => Reply::NoMemory,
     }
@@ -81,7 +95,7 @@ fn answer<H: Held>(
         Looked::Here(Seen::File(parcel)) => lend(settings, yard, parcel),
         Looked::Here(Seen::Text(text)) => Reply::Text(text),
         Looked::Here(Seen::Doc(doc)) => Reply::Doc {
-            text: Bytes::from_vec(doc.text),
+            text: doc.text,
             digests: doc.digests,
         },
         Looked::Nothing => Reply::Missed,

@@ -8,9 +8,11 @@ use crate::looks::look;
 use crate::proxies::counts_kept;
 use crate::purges::{Gone, condemn_all, drop_expired, expiring};
 use crate::puts::{compare_side, reply_of, settle};
+use crate::shelves::{changed_by_put, changed_by_unlist, forget};
 use crate::turn::next_moment;
 use blob_yard::{DrawFault, Yard};
 use deploy_session::Sessions;
+use group_view::Shelf;
 use hosted_repo::Hosted;
 use mvn_digest::Digest;
 use outside::{Clock, Held, Parcel};
@@ -20,23 +22,26 @@ use repo_model::{Command, Numbers, Place, Reply};
 use row_tables::{CommitFault, Records};
 use std::marker::Model;
 
-/// Hosted repositories with their rows, proxies with what they keep, the numbers of blobs, the sessions, and the last moment.
+/// Hosted repositories with their rows, proxies with what they keep, a shelf for each group, the numbers of blobs, the sessions, and the
+/// last moment.
 #[derive(Drop)]
 pub struct Stock<H: Held> {
     pub repos: Vec<Hosted<H>>,
     pub proxies: Vec<Proxy<H>>,
+    pub shelves: Vec<Shelf>,
     pub yard: Yard,
     pub sessions: Sessions<H>,
     pub last: u64,
 }
 
-/// Hosted repositories with their rows, proxies with what they keep, the numbers of blobs, the sessions, a clock, the settings, and
-/// how many calls there were.
+/// Hosted repositories with their rows, proxies with what they keep, a shelf for each group with documents of its members, the numbers
+/// of blobs, the sessions, a clock, the settings, and how many calls there were.
 #[derive(Drop)]
 pub struct Machine<C: Clock, H: Held> {
     settings: Settings,
     pub(crate) repos: Vec<Hosted<H>>,
     pub(crate) proxies: Vec<Proxy<H>>,
+    pub(crate) shelves: Vec<Shelf>,
     pub(crate) yard: Yard,
     pub(crate) sessions: Sessions<H>,
     pub(crate) last: u64,
@@ -54,6 +59,7 @@ impl<C: Clock, H: Held> Model for Machine<C, H> {
     ghost use Rattle.repo_core.specs.Hosted.{rules_of, AreInUse};
     ghost use Rattle.repo_core.specs.Deploys.{AreStagedInUse};
     ghost use Rattle.repo_core.specs.Proxies.{AreCachedInUse, proxy_rules_of};
+    ghost use Rattle.repo_core.specs.Shelves.{AreShelved};
 
     ghost view = { λ c. record {
       settings = c.settings;
@@ -77,6 +83,7 @@ impl<C: Clock, H: Held> Model for Machine<C, H> {
       proxy_rules : proxy_rules_of c.proxies.items ≡ c.settings.proxies;
       staged : AreStagedInUse c.yard.kept c.sessions.sessions;
       numbers : c.yard.yard.next_session ≡ c.sessions.next;
+      shelved : AreShelved c.settings.groups c.repos.items c.proxies.items c.shelves.items;
     } };
 }
 
@@ -99,6 +106,7 @@ impl<C: Clock, H: Held> Machine<C, H> {
     ghost use Rattle.repo_core.specs.Hosted.{AreInUse, rules_of};
     ghost use Rattle.repo_core.specs.Proxies.{AreCachedInUse, proxy_rules_of};
     ghost use Rattle.repo_core.specs.Purge.{shares};
+    ghost use Rattle.repo_core.specs.Shelves.{AreShelved};
     ghost use Rattle.repo_core.specs.Stock.{state_of};
     ghost use Rattle.repo_core.specs.Turn.{IsSettled, IsSettledBy, MayRecord, Recorded, Turned};
     ghost use Rattle.repo_core.specs.Whole.{IsOrderly, counting};
@@ -112,6 +120,7 @@ impl<C: Clock, H: Held> Machine<C, H> {
         requires proxy_rules { proxy_rules_of stock.proxies.items ≡ settings.proxies }
         requires staged { AreStagedInUse stock.yard.kept stock.sessions.sessions }
         requires numbers { stock.yard.yard.next_session ≡ stock.sessions.next }
+        requires shelved { AreShelved settings.groups stock.repos.items stock.proxies.items stock.shelves.items }
         ensures settings { result.settings ≡ settings }
         ensures state { result.state ≡ state_of stock (C.moments clock) }
         ensures calls { result.calls ≡ 0 }
@@ -119,6 +128,7 @@ impl<C: Clock, H: Held> Machine<C, H> {
         let Stock {
             repos,
             proxies,
+            shelves,
             yard,
             sessions,
             last,
@@ -127,6 +137,7 @@ impl<C: Clock, H: Held> Machine<C, H> {
             settings,
             repos,
             proxies,
+            shelves,
             yard,
             sessions,
             last,
@@ -185,6 +196,7 @@ impl<C: Clock, H: Held> Machine<C, H> {
             settings: _,
             repos: _,
             proxies: _,
+            shelves: _,
             yard: _,
             sessions: _,
             last: _,
@@ -260,7 +272,15 @@ impl<C: Clock, H: Held> Machine<C, H> {
             tried,
             path,
         };
-        look(alloc, &self.settings, &goods, &mut self.yard, repo, &asked)
+        look(
+            alloc,
+            &self.settings,
+            &goods,
+            &mut self.shelves,
+            &mut self.yard,
+            repo,
+            &asked,
+        )
     }
 
     fn may_put(&mut self, repo: &str, path: &str) -> Reply<H>
@@ -295,6 +315,7 @@ impl<C: Clock, H: Held> Machine<C, H> {
             return Reply::NoDraft;
         }
         let outcome = put(&mut self.repos, records, repo, path, parcel, self.last);
+        forget(&mut self.shelves, &changed_by_put(path, &outcome));
         settle(&mut self.yard, draft, &outcome);
         reply_of(outcome)
     }
@@ -320,7 +341,9 @@ impl<C: Clock, H: Held> Machine<C, H> {
         ensures turn { Recorded self.old self.new (unlist repo.now) (shown_reply result) (K.tables records.old) (K.tables records.new) (K.faults records.old) (K.faults records.new) }
         ensures ready { K.ready records.new }
     {
-        match unlist(&mut self.repos, records, repo, self.last) {
+        let did = unlist(&mut self.repos, records, repo, self.last);
+        forget(&mut self.shelves, &changed_by_unlist(did));
+        match did {
             Ok(count) => Reply::Unlisted(count),
             Err(row_tables::CommitFault::Failed) => Reply::StoreFault,
             Err(row_tables::CommitFault::NoMemory) => Reply::NoMemory,

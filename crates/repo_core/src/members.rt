@@ -15,14 +15,14 @@ use crate::proxies::proxy_at;
 use group_view::Stance;
 use hosted_repo::{DocText, Hosted, Seen};
 use mvn_coords::{Dir, Kind, Side, kind_of};
-use mvn_digest::{Hashes, side_text};
-use mvn_doc::write;
+use mvn_digest::side_text;
 use mvn_metadata::Doc;
 use outside::{Held, NoMemory};
 use proxy_rules::{Proxy, subject_of};
 use repo_model::Step;
-use row_tables::copied_document;
+use shared_bytes::SharedBytes;
 use std::alloc::Global;
+use written_docs::WrittenDoc;
 
 // Whether a path names a file or a side file of one.
 fn is_of_file(path: &str) -> bool
@@ -38,22 +38,20 @@ pub fn is_of_document(path: &str) -> bool
     matches!(kind_of(path), Ok(Kind::Doc(_) | Kind::DocSide(_, _)))
 }
 
-/// A document as it is asked for: its text, or that of a side file.
+/// A document that is written, as it is asked for: a share of its text, or the text of a side file.
 pub fn document_shown<'a, H: Held>(
-    alloc: Global,
-    doc: &Doc,
+    written: &WrittenDoc,
     side: Option<Side>,
 ) -> Result<Seen<'a, H>, NoMemory>
-    ensures { (d : Directory) → IfOk result (λ seen. shown_seen (Some seen) ≡ document_shown (Ok (document_kind d side)) doc.now) }
+    ensures { (d : Directory) → IfOk result (λ seen. shown_seen (Some seen) ≡ document_shown (Ok (document_kind d side)) written.now.doc) }
 {
-    let text = write(alloc, doc)?;
-    let mut hashes = Hashes::new();
-    hashes.update(text.as_slice());
-    let digests = hashes.finish();
-    Ok(match side {
-        Some(side) => Seen::Text(side_text(&digests, side)),
-        None => Seen::Doc(DocText { text, digests }),
-    })
+    match side {
+        Some(side) => Ok(Seen::Text(side_text(&written.digests, side))),
+        None => Ok(Seen::Doc(DocText {
+            text: written.text.share()?,
+            digests: written.digests,
+        })),
+    }
 }
 
 // The file that a proxy keeps at a path, or the text of a side file of it.
@@ -83,10 +81,8 @@ fn served_document<'a, H: Held>(
     if let Some(side) = side {
         return Ok(Looked::Here(Seen::Text(side_text(&digests, side))));
     }
-    let mut copy = Vec::new(alloc);
-    copy.extend_from_slice(text)?;
     Ok(Looked::Here(Seen::Doc(DocText {
-        text: copy,
+        text: SharedBytes::new(alloc, text)?,
         digests,
     })))
 }
@@ -229,9 +225,7 @@ fn document_of_proxy<H: Held>(
     let Some(doc) = proxy.document(subject_of(path)) else {
         return Ok(None);
     };
-    // Its contract says that a document has its form.
-    let _listing = doc.listing();
-    Ok(Some(copied_document(alloc, doc)?))
+    Ok(Some(doc.copied(alloc)?))
 }
 
 /// The document of a directory that the member of a group at this place serves, which has this id.

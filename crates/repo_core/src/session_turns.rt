@@ -4,6 +4,7 @@ use crate::deploys::{
     settle_begun, settle_staged,
 };
 use crate::machine::Machine;
+use crate::shelves::{changed_by_commit, forget};
 use deploy_session::{Abort, Begin, Commit, Stage};
 use mvn_digest::Digest;
 use outside::{Clock, Held, Parcel};
@@ -109,6 +110,7 @@ impl<C: Clock, H: Held> Machine<C, H> {
             number,
             self.last,
         );
+        forget(&mut self.shelves, &changed_by_commit(&did));
         condemn_over(&mut self.yard, &did);
         did
     }

@@ -16,6 +16,7 @@ ghost use Rattle.blob_audit.specs.Damages.{IsFirstDamaged};
 ghost use Rattle.row_completion.specs.Completion.{IsComplete, IsDigested, IsDigestedWhereTold};
 ghost use Rattle.repo_core.specs.Hosted.{AreInUse};
 ghost use Rattle.repo_core.specs.Proxies.{AreCachedInUse};
+ghost use Rattle.repo_core.specs.Shelves.{AreShelved};
 ghost use Rattle.repo_core.specs.Start.{AreCompleted, AreLoaded, Starts};
 ghost use Rattle.repo_core.specs.StartFaults.{HasStartCause, IsUnread, OnDamage, RefusesAs};
 ghost use Rattle.repo_core.specs.Stock.{state_of};
@@ -25,6 +26,7 @@ use crate::faults::StartFault;
 use crate::loading::load;
 use crate::machine::{Machine, Stock};
 use crate::repository::Core;
+use crate::shelves::empty_shelves;
 use blob_yard::Yard;
 use deploy_session::Sessions;
 use outside::{Blobs, Clock};
@@ -33,7 +35,7 @@ use repo_restart::{RestoreFault, restore};
 use row_tables::{Records, Tables};
 use std::alloc::Global;
 
-// Rows, documents, numbers and sessions, by what is recorded.
+// Rows, documents, numbers and sessions, by what is recorded; the shelves are empty.
 fn stock_of<B: Blobs>(
     alloc: Global,
     settings: &Settings,
@@ -48,18 +50,21 @@ fn stock_of<B: Blobs>(
     ensures kept { IfOk result (λ stock. AreInUse stock.yard.kept stock.repos.items) }
     ensures cached { IfOk result (λ stock. AreCachedInUse stock.yard.kept stock.proxies.items) }
     ensures numbers { IfOk result (λ stock. stock.yard.yard.next_session ≡ stock.sessions.next) }
+    ensures shelved { IfOk result (λ stock. AreShelved settings.now.groups stock.repos.items stock.proxies.items stock.shelves.items) }
     ensures damaged { restoring.OnDamage result (λ damage.
         IsFirstDamaged (B.shelf blobs.old) (all_rows tables.now) damage × (B.shelf blobs.new ≡ B.shelf blobs.old)) }
     ensures shelf { OnErr result (ClearsFront (blobs_named tables.now) (B.shelf blobs.old) (B.shelf blobs.new)) }
     ensures cause { HasRestoreCause (B.faults blobs.old) (B.faults blobs.new) result }
 {
     let sessions = Sessions::start(alloc, tables)?;
+    let shelves = empty_shelves(alloc, settings.groups())?;
     let restored = restore(alloc, settings.hosted(), settings.proxies(), tables, blobs)?;
     let next = restored.next;
     let yard = Yard::start(alloc, &restored.named, next, sessions.next_number())?;
     Ok(Stock {
         repos: restored.repos,
         proxies: restored.proxies,
+        shelves,
         yard,
         sessions,
         last: tables.greatest_moment(),

@@ -14,7 +14,7 @@ use Rattle.repo_model.specs.History.{latest_moment}
 use Rattle.repo_model.specs.State.{number_end}
 use Rattle.repo_laws.specs.Holds.{InOrder, row_cmp, document_cmp, session_cmp}
 use Rattle.repo_laws.specs.InRange.{InRange, IsRowInRange, AreCompleted, none, same, given, Completes, IsRowSince, IsFoundSince, IsSameBlob}
-use Rattle.repo_laws.specs.Laws.{FadesRightly}
+use Rattle.repo_model.specs.Paths.{FadesRightly}
 use Rattle.repo_laws.proofs.Counts.{one_if, count-cons}
 
 -- what further digests leave of a row, they leave of all

@@ -6,7 +6,8 @@ use Rattle.repo_model.specs.Data.{Hosted}
 use Rattle.repo_model.specs.Settings.{Rule, Settings}
 use Rattle.repo_model.specs.State.{State, opening, new_hosted, row_at, rows_of}
 use Rattle.repo_model.specs.History.{Entry, Fits, after, Legal, end}
-use Rattle.repo_laws.specs.Laws.{FadesRightly, FadingAreSnapshots, KeepsReleases}
+use Rattle.repo_laws.specs.Laws.{FadingAreSnapshots, KeepsReleases}
+use Rattle.repo_model.specs.Paths.{FadesRightly}
 use Rattle.repo_laws.specs.Sound.{AreNamedApart, Sound}
 use Rattle.repo_laws.proofs.Releases.{releases-kept, rightly-kept}
 use Rattle.repo_laws.proofs.Histories.{entry-keeps, sound-entry}

@@ -11,14 +11,14 @@ use Rattle.repo_model.specs.declared.item.Item.{Item}
 use Rattle.repo_model.specs.declared.item.Item.TheVariants.{HostedPut, Faded, Relisted, Removed, CachedFile, CachedDoc, SessionOpened, SessionEnded, Digested}
 use Rattle.repo_model.specs.declared.print.Recorded.{Recorded}
 use Rattle.repo_model.specs.Data.{listed, fading, Staged, Session}
-use Rattle.repo_model.specs.Paths.{is_snapshot_path}
+use Rattle.repo_model.specs.Paths.{FadesRightly, is_snapshot_path}
 use Rattle.repo_model.specs.Settings.{Settings}
 use Rattle.repo_model.specs.State.{State, change_where, is_open_at, is_staged, number_end}
 use Rattle.repo_model.specs.Effect.{Effect, draws, drops, creates, stages, delivers, discards, relists, fades, expires, forgets, lends, returns, opens, ends, list_again, fade, with_effect, items_of, recorded, caches, keeps_doc, marks_missing, clears_mark}
 use Rattle.repo_model.specs.May.{May, AllMay}
 use Rattle.repo_model.specs.Tables.{Tables, RecordedRow, RecordedDocument, RecordedSession, no_tables, place_cmp, is_recorded, recorded_at, recorded_row, with_document, is_session, is_listed_row, change_recorded, digested, lacks_at, names_blob, item_on, fits_on, applied}
 use Rattle.repo_model.specs.History.{Entry, Legal, latest_moment, ticked, effects_of, after}
-use Rattle.repo_laws.specs.Laws.{FadesRightly, staged_with, places_of}
+use Rattle.repo_laws.specs.Laws.{staged_with, places_of}
 use Rattle.repo_laws.specs.Sound.{AreNamedApart, Sound, OnePlace, IsSound}
 use Rattle.repo_laws.specs.Holds.{IsUpTo, AreUpTo, with_items, told}
 use Rattle.repo_laws.specs.InRange.{IsRowInRange, InRange, IsItemInRange}

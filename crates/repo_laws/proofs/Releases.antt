@@ -9,11 +9,11 @@ use Rattle.std.specs.Ordering.{nat_cmp, match_ordering}
 use Rattle.std.specs.declared.cmp.Ordering.TheVariants.{Less, Equal, Greater}
 use Rattle.std.specs.Cmp.Lexicographic.{slice_cmp}
 use Rattle.repo_model.specs.Data.{Blob, Row, listed, fading, Hosted}
-use Rattle.repo_model.specs.Paths.{is_snapshot_path}
+use Rattle.repo_model.specs.Paths.{FadesRightly, is_snapshot_path}
 use Rattle.repo_model.specs.State.{State, change_where, change_first, is_row, is_repository, row_at, rows_of}
 use Rattle.repo_model.specs.Effect.{Effect, draws, drops, creates, stages, delivers, discards, relists, fades, expires, forgets, lends, returns, opens, ends, caches, keeps_doc, marks_missing, clears_mark, with_row, new_row, list_again, fade, without_row, with_effect, with_effects}
 use Rattle.repo_model.specs.May.{May, AllMay}
-use Rattle.repo_laws.specs.Laws.{FadesRightly, FadingAreSnapshots, KeepsReleases}
+use Rattle.repo_laws.specs.Laws.{FadingAreSnapshots, KeepsReleases}
 use Rattle.repo_laws.proofs.Rows.{rows_in, rows-changed}
 
 pub same_path : (a b : List ℕ) → bytes_eq a b ≡ true → a ≡ b

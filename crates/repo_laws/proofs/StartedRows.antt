@@ -16,7 +16,8 @@ use Rattle.repo_model.specs.Command.{is_there}
 use Rattle.repo_model.specs.Tables.{Tables, RecordedRow, RecordedSession, names_blob, recorded_at}
 use Rattle.repo_model.specs.History.{latest_moment}
 use Rattle.repo_model.specs.Restart.{with_bytes, is_of, recorded_of, hosted_from, session_from, sessions_from, greatest_session, greatest_number, blobs_named, started}
-use Rattle.repo_laws.specs.Laws.{FadesRightly, rows_with, places_of}
+use Rattle.repo_laws.specs.Laws.{rows_with, places_of}
+use Rattle.repo_model.specs.Paths.{FadesRightly}
 use Rattle.repo_laws.specs.Numbered.{NumbersApart}
 use Rattle.repo_laws.specs.Sound.{AreNamedApart, AreByPath, IsInOrder, OnePlace, IsSound}
 use Rattle.repo_laws.specs.Holds.{session_cmp, named_in, InOrder}

@@ -11,7 +11,7 @@ use Rattle.repo_model.specs.Settings.{Settings}
 use Rattle.repo_model.specs.State.{State, number_end}
 use Rattle.repo_model.specs.Tables.{Tables, RecordedRow, RecordedDocument, RecordedSession, digested}
 use Rattle.repo_model.specs.History.{Entry, latest_moment, Legal}
-use Rattle.repo_laws.specs.Laws.{FadesRightly}
+use Rattle.repo_model.specs.Paths.{FadesRightly}
 use Rattle.repo_laws.specs.Sound.{IsSound}
 use Rattle.repo_laws.specs.Holds.{IsUpTo, StandsFor, with_items, told}
 use Rattle.repo_laws.specs.Closed.{AnswersUpTo}

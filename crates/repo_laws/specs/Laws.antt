@@ -2,17 +2,13 @@
 use Rattle.std.specs.Prelude.{◌≡◌, ℕ, ◌+◌, ◌≤◌, ◌==◌, ◌⊎◌, true, false, List, [], ◌∷◌, find, None, Some, sum_by, count_by}
 use Rattle.std.specs.List.{AllByRecursion}
 use Rattle.repo_model.specs.Data.{Blob, Row, Phase, listed, fading, Hosted, Proxy, Session, Staged}
-use Rattle.repo_model.specs.Paths.{is_snapshot_path}
+use Rattle.repo_model.specs.Paths.{FadesRightly, is_snapshot_path}
 use Rattle.repo_model.specs.State.{State, Lease, row_at, rows_of, is_staged}
 
 -- one of them has a property
 abbrev pub AnyByRecursion : {X : Type 0} → (X → Type 0) → List X → Type 0
 AnyByRecursion P [] = ⊥
 AnyByRecursion P (x ∷ xs) = P x ⊎ AnyByRecursion P xs
-
--- a row that fades is a snapshot's
-abbrev pub FadesRightly : Row → Type 0
-FadesRightly row = (since : ℕ) → row.phase ≡ fading since → is_snapshot_path row.path ≡ true
 
 abbrev pub FadingAreSnapshots : State → Type 0
 FadingAreSnapshots s = AllByRecursion (λ (h : Hosted). AllByRecursion FadesRightly h.rows) s.hosted

@@ -5,7 +5,8 @@ use crate::session::SessionResult;
 use fetch_plan::Plan;
 use mvn_digest::{Digest, Digests, SideText};
 use outside::{Held, Parcel};
-use texts::{Bytes, Text};
+use shared_bytes::SharedBytes;
+use texts::Text;
 
 /// What the repository answers.
 #[derive(Drop)]
@@ -17,9 +18,9 @@ pub enum Reply<H: Held> {
     },
     /// The text of the side file.
     Text(SideText),
-    /// The document of the directory as it is written, and its digests.
+    /// A share of the document of the directory as it is written, and its digests.
     Doc {
-        text: Bytes,
+        text: SharedBytes,
         digests: Digests,
     },
     /// There is nothing at the path.

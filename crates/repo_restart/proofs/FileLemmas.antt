@@ -19,7 +19,7 @@ use Rattle.blob_audit.specs.Order.{File}
 use Rattle.blob_audit.specs.declared.damages.Damaged.{Damaged}
 use Rattle.blob_audit.specs.declared.order.RecordedFile.{RecordedFile}
 use Rattle.repo_laws.specs.Holds.{row_cmp}
-use Rattle.repo_laws.specs.Laws.{FadesRightly}
+use Rattle.repo_model.specs.Paths.{FadesRightly}
 use Rattle.repo_laws.specs.Files.{files_in}
 use Rattle.repo_laws.specs.Sound.{AreNamedApart, AreProxiesApart}
 use Rattle.repo_restart.specs.declared.faults.RestoreFault.{RestoreFault}

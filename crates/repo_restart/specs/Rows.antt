@@ -11,7 +11,7 @@ use Rattle.repo_model.specs.State.{new_proxy}
 use Rattle.repo_model.specs.Tables.{AreComplete, RecordedDocument, RecordedRow, Tables}
 use Rattle.row_tables.specs.Items.{is_file_path, is_id}
 use Rattle.repo_laws.specs.Holds.{document_cmp, named_in, row_cmp}
-use Rattle.repo_laws.specs.Laws.{FadesRightly}
+use Rattle.repo_model.specs.Paths.{FadesRightly}
 use Rattle.blob_audit.specs.Order.{File}
 
 -- rows that rise strictly, each with a blob of its own and with all its digests, at paths of files, none later than the latest

@@ -11,7 +11,7 @@ use Rattle.repo_model.specs.State.{change_first, is_proxy, is_repository, row_at
 use Rattle.repo_model.specs.Tables.{RecordedDocument, RecordedRow}
 use Rattle.repo_model.specs.declared.print.Print.{Print}
 use Rattle.row_tables.specs.Items.{is_file_path}
-use Rattle.hosted_repo.specs.Releases.{FadesRightly}
+use Rattle.repo_model.specs.Paths.{FadesRightly}
 use Rattle.repo_laws.specs.Files.{files_in}
 use Rattle.blob_audit.specs.Damages.{IsFound, IsWhole}
 use Rattle.blob_audit.specs.Order.{File}

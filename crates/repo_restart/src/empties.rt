@@ -5,7 +5,7 @@ ghost use Rattle.repo_model.specs.State.{new_hosted};
 ghost use Rattle.directory_rows.specs.Rules.{shown_rule};
 ghost use Rattle.row_tables.specs.Items.{is_id};
 
-use hosted_repo::{Hosted, Rule};
+use hosted_repo::{HostedBuilder, Rule};
 use outside::{Held, NoMemory};
 use repo_config::HostedRule;
 use std::alloc::Global;
@@ -25,13 +25,16 @@ fn rule_of(alloc: Global, told: &HostedRule) -> Result<Rule, NoMemory>
 }
 
 /// The hosted repositories of the settings, without rows.
-pub fn empty_repos<H: Held>(alloc: Global, rules: &[HostedRule]) -> Result<Vec<Hosted<H>>, NoMemory>
+pub fn empty_repos<H: Held>(
+    alloc: Global,
+    rules: &[HostedRule],
+) -> Result<Vec<HostedBuilder<H>>, NoMemory>
     requires { AllByRecursion (λ rule. IsTrue (is_id rule.id)) rules.now }
     ensures { IfOk result (λ repos. repos.items ≡ map new_hosted rules.now) }
 {
     let mut repos = Vec::new(alloc);
     for rule in rules {
-        repos.push(Hosted::new(alloc, rule_of(alloc, rule)?))?;
+        repos.push(HostedBuilder::new(alloc, rule_of(alloc, rule)?))?;
     }
     Ok(repos)
 }

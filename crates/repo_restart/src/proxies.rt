@@ -17,7 +17,7 @@ use crate::taking::proxy_place;
 use outside::{Held, NoMemory};
 use proxy_rules::{Proxy, Rule};
 use repo_config::ProxyRule;
-use row_tables::{KeptDocument, Place, Tables, copied_document};
+use row_tables::{KeptDocument, Place, Tables};
 use std::alloc::Global;
 use texts::Text;
 
@@ -62,9 +62,7 @@ fn take_document<H: Held>(
     let Some(index) = proxy_place(proxies, place.0.as_str()) else {
         return Ok(());
     };
-    // Its contract says that a document has its form.
-    let _listing = kept.document.listing();
-    let doc = copied_document(alloc, &kept.document)?;
+    let doc = kept.document.copied(alloc)?;
     proxies[index].restore_document(place.1.as_str(), doc, kept.checked)?;
     Ok(())
 }

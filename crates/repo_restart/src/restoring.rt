@@ -13,8 +13,8 @@ use crate::faults::RestoreFault;
 use crate::proxies::empty_proxies;
 use crate::taking::take_file;
 use blob_audit::RecordedFile;
-use hosted_repo::Hosted;
-use outside::{Blobs, Held, Piece};
+use hosted_repo::{Hosted, HostedBuilder};
+use outside::{Blobs, Held, NoMemory, Piece};
 use proxy_rules::Proxy;
 use repo_config::{HostedRule, ProxyRule};
 use std::alloc::Global;
@@ -24,6 +24,20 @@ use std::alloc::Global;
 pub struct Goods<H: Held> {
     pub repos: Vec<Hosted<H>>,
     pub proxies: Vec<Proxy<H>>,
+}
+
+// The repositories with all their documents, each written once.
+fn built<H: Held>(
+    alloc: Global,
+    builders: Vec<HostedBuilder<H>>,
+) -> Result<Vec<Hosted<H>>, NoMemory>
+    ensures { IfOk result (λ repos. repos.items ≡ builders.items) }
+{
+    let mut repos = Vec::new(alloc);
+    for builder in builders {
+        repos.push(builder.build()?)?;
+    }
+    Ok(repos)
 }
 
 /// The repositories and proxies of these rules with the recorded files, each of which is looked at once, in this order and in the
@@ -54,5 +68,6 @@ pub fn restored<B: Blobs>(
     for file in files {
         take_file(alloc, blobs, &mut repos, &mut proxies, file, &mut room)?;
     }
+    let repos = built(alloc, repos)?;
     Ok(Goods { repos, proxies })
 }

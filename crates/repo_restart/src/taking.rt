@@ -6,7 +6,7 @@ ghost use Rattle.repo_model.specs.History.{latest_moment};
 ghost use Rattle.repo_model.specs.Prints.{print_in};
 ghost use Rattle.repo_model.specs.Shown.{shown_print};
 ghost use Rattle.repo_model.specs.State.{is_proxy, is_repository, row_at};
-ghost use Rattle.hosted_repo.specs.Releases.{FadesRightly};
+ghost use Rattle.repo_model.specs.Paths.{FadesRightly};
 ghost use Rattle.repo_laws.specs.Files.{files_in};
 ghost use Rattle.ordered_rows.specs.Rows as rows;
 ghost use Rattle.row_tables.specs.Items.{is_file_path};
@@ -18,7 +18,7 @@ ghost use Rattle.repo_restart.specs.Taking.{CanTake, TakesFile, rows_in, with_ca
 
 use crate::faults::RestoreFault;
 use blob_audit::{Found, RecordedFile, damage_of, look_at};
-use hosted_repo::{Hosted, Phase};
+use hosted_repo::{HostedBuilder, Phase};
 use outside::{Blobs, Held, NoMemory, Parcel, Piece};
 use proxy_rules::Proxy;
 use row_tables::RowPhase;
@@ -35,7 +35,7 @@ fn phase_of(phase: RowPhase) -> Phase
 }
 
 // The place of the repository of an id.
-fn place_of<H: Held>(repos: &[Hosted<H>], id: &str) -> Option<usize>
+fn place_of<H: Held>(repos: &[HostedBuilder<H>], id: &str) -> Option<usize>
     ensures { result ≡ position (is_repository id.now) repos.now }
 {
     repos.iter().position(|repo| repo.has_id(id))
@@ -43,7 +43,7 @@ fn place_of<H: Held>(repos: &[Hosted<H>], id: &str) -> Option<usize>
 
 // The row of a hosted file comes back with its blob, to the repository of its id. Where there is none the blob is let go.
 fn take_row<H: Held>(
-    repos: &mut Vec<Hosted<H>>,
+    repos: &mut Vec<HostedBuilder<H>>,
     file: &RecordedFile<'_>,
     parcel: Parcel<H>,
 ) -> Result<(), NoMemory>
@@ -102,7 +102,7 @@ fn take_cached<H: Held>(
 
 // Takes up a file with its blob.
 fn take_parcel<H: Held>(
-    repos: &mut Vec<Hosted<H>>,
+    repos: &mut Vec<HostedBuilder<H>>,
     proxies: &mut Vec<Proxy<H>>,
     file: &RecordedFile<'_>,
     parcel: Parcel<H>,
@@ -125,7 +125,7 @@ fn take_parcel<H: Held>(
 pub fn take_file<B: Blobs>(
     alloc: Global,
     blobs: &mut B,
-    repos: &mut Vec<Hosted<B::Held>>,
+    repos: &mut Vec<HostedBuilder<B::Held>>,
     proxies: &mut Vec<Proxy<B::Held>>,
     file: &RecordedFile<'_>,
     room: &mut Piece,

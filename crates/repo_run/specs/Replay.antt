@@ -15,7 +15,7 @@ use Rattle.run_desks.specs.Seen.{Kit, with_blobs}
 use Rattle.repo_course.specs.declared.outcomes.End.{End}
 use Rattle.repo_course.specs.declared.outcomes.End.TheVariants.{Closed, SourceFault, SinkFault}
 use Rattle.repo_course.specs.Serving.{Serves}
-use Rattle.course_laws.specs.AsPlayed.{AreFetched, IsAsPlayed, IsPlayedUpTo, NoFaults, StoodStill}
+use Rattle.course_laws.specs.AsPlayed.{AreFetched, IsAsPlayed, IsPlayedUpTo, NoFaults, StoodStill, plans_of}
 use Rattle.course_laws.specs.Endings.{EndsByCause}
 use Rattle.course_laws.specs.Faultless.{first_scene}
 use Rattle.repo_model.specs.Settings.{Settings}
@@ -59,12 +59,12 @@ pub record IsReplayed (tells : Type 0) (settings : Settings) (old new : View Ser
   -- Over nothing, where no blob failed, what was taken is what is answered if nothing fails, up to some place
   pub played : IsFresh old.records new.records old.place.kit.blobs → (moments : Moments) (input before : List ℕ) → AllTold tells old.clock old.place.connection moments input before
       → StoodStill old.place.kit.blobs.faults new.place.kit.blobs.faults
-      → (fetched : List Fetch) × AreFetched fetched old.place.kit.remote new.place.kit.remote
+      → (fetched : List Fetch) × AreFetched (plans_of entries) fetched old.place.kit.remote new.place.kit.remote
       × IsPlayedUpTo settings 1000 (first_scene settings (Some moments) input fetched) before (outside_of old.place) (outside_with held new.place) ending
   -- and all of it where nothing failed
   pub faultless : IsFresh old.records new.records old.place.kit.blobs → (moments : Moments) (input before : List ℕ) → AllTold tells old.clock old.place.connection moments input before
       → NoFaults (outside_of old.place) (outside_with held new.place)
-      → (fetched : List Fetch) × AreFetched fetched old.place.kit.remote new.place.kit.remote
+      → (fetched : List Fetch) × AreFetched (plans_of entries) fetched old.place.kit.remote new.place.kit.remote
       × IsAsPlayed settings 1000 (first_scene settings (Some moments) input fetched) before new.place.connection.taken ending
 
 -- a stream is over: its line, or the part of it that was printed, or that there was no memory for it

@@ -4,6 +4,7 @@ use mvn_coords::Side;
 use mvn_digest::{Digest, Digests, Hashes, side_text};
 use repo_course::{FetchFault, Manner, Said, rendered};
 use repo_model::{Print, SessionResult};
+use shared_bytes::SharedBytes;
 use std::alloc::{AllocError, Global};
 use texts::Bytes;
 
@@ -68,7 +69,7 @@ fn said_of_contents(alloc: Global, words: &[String]) -> Result<Option<Said>, All
             found: print_of(found.as_bytes()),
         },
         [word, text] if word.as_str() == "document" => Said::Doc {
-            text: Bytes::new(alloc, text.as_bytes())?,
+            text: SharedBytes::new(alloc, text.as_bytes())?,
             digests: digests_of(text.as_bytes()),
         },
         _ => return Ok(None),

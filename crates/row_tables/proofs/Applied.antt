@@ -1,31 +1,17 @@
 -- Items applied one after the other, as a loop does.
-use Rattle.std.proofs.Common.{◌≡◌, ℕ, suc, ◌+◌, ◌<◌, ◌≤◌, Bool, true, false, cond, ◌&&◌, IsTrue, List, [], ◌∷◌, ◌++◌, length, get_or, take, drop, Option, Some, None, Ok, Err, refl, sym, ◌∙◌, ap, subst, drop-cons, take-suc, add-one}
+use Rattle.std.proofs.Common.{◌≡◌, ℕ, suc, ◌+◌, ◌<◌, ◌≤◌, Bool, true, false, cond, ◌&&◌, IsTrue, List, [], ◌∷◌, ◌++◌, length, get_or, take, drop, Ok, Err, refl, sym, ◌∙◌, ap, subst, drop-cons, take-suc, add-one}
 use Rattle.std.proofs.lemmas.List.{drop_all}
-use Rattle.mvn_coords.specs.Layout.{Directory}
-use Rattle.mvn_metadata.specs.Document.{Document}
-use Rattle.mvn_metadata.specs.Form.{is_document}
 use Rattle.repo_model.specs.declared.item.Item.{Item}
-use Rattle.repo_model.specs.declared.item.Item.TheVariants.{CachedDoc}
 use Rattle.repo_model.specs.Tables.{Tables, no_tables, fits_on, item_on, applied_from, applied}
 use Rattle.row_tables.specs.Recorded.{AreRecorded}
 use Rattle.std.specs.List.{list_all}
 use Rattle.row_tables.specs.Applying.{with_items}
-use Rattle.row_tables.specs.Items.{is_id, is_moment, is_item, is_kept_in, directory_at}
-use Rattle.std.specs.Prelude.{is_some}
+use Rattle.row_tables.specs.Items.{is_item}
 
 both : (x y : Bool) → x && y ≡ true → (x ≡ true) × (y ≡ true)
 both true true is = (refl, refl)
 both true false is = absurd cc
 both false y is = absurd cc
-
-kept_document : (o : Option Directory) (d : Document) → is_kept_in o d ≡ true → is_document d ≡ true
-kept_document None d is = absurd cc
-kept_document (Some directory) d is = (both (is_document d) _ is).0
-
--- the document of an item has its form
-pub item_document : (repo path : List ℕ) (checked : ℕ) (d : Document) → IsTrue (is_item (CachedDoc repo path checked d)) → IsTrue (is_document d)
-item_document repo path checked d form =
-    kept_document (directory_at path) d (both (is_moment checked) _ (both (is_some (directory_at path)) _ (both (is_id repo) _ form).1).1).1
 
 with_items-push : (t : Tables) (items : List Item) (item : Item) → with_items t (items ++ item ∷ []) ≡ item_on (with_items t items) item
 with_items-push t [] item = refl

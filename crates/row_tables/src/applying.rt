@@ -1,14 +1,12 @@
 //! How items are applied to the tables.
 ghost use Rattle.std.specs.Prelude.{◌≡◌, IsTrue, IfOk, OnErr};
 ghost use Rattle.std.specs.List.{list_all};
-ghost use Rattle.mvn_metadata.specs.Form.{is_document};
 ghost use Rattle.repo_model.specs.Tables.{fits_on, item_on};
 ghost use Rattle.row_tables.specs.Applying.{Tried, Applies};
 ghost use Rattle.row_tables.specs.Items.{IsHosted, is_item};
 ghost use Rattle.repo_model.specs.declared.item.Item.TheVariants.{CachedDoc, Digested};
 
 use crate::change::Change;
-use crate::copies::copied_document;
 use crate::documents::KeptDocument;
 use crate::faults::ApplyFault;
 use crate::files::{FileRow, RowPhase};
@@ -42,13 +40,12 @@ impl Tables {
         checked: u64,
         document: &Doc,
     ) -> Result<bool, AllocError>
-        requires { IsTrue (is_document document.now) }
         ensures ok { IfOk result (Tried (fits_on self.old (CachedDoc repo.now path.now checked document.now))
             (item_on self.old (CachedDoc repo.now path.now checked document.now)) self.old self.new) }
         ensures err { OnErr result (self.new ≡ self.old) }
     {
         let place = new_place(alloc, repo, path)?;
-        let document = copied_document(alloc, document)?;
+        let document = document.copied(alloc)?;
         self.keep(place, KeptDocument { checked, document })?;
         Ok(true)
     }

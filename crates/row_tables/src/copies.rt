@@ -1,23 +1,10 @@
 //! Copies of items and of what they hold.
 ghost use Rattle.std.specs.Prelude.{◌≡◌, IsTrue, IfOk};
 ghost use Rattle.std.specs.List.{list_all};
-ghost use Rattle.mvn_metadata.specs.Form.{is_document};
 ghost use Rattle.row_tables.specs.Items.{IsHosted, is_item};
 
-use mvn_metadata::laws::merge_laws;
-use mvn_metadata::{Doc, merge};
 use repo_model::Item;
 use std::alloc::{AllocError, Global};
-use std::slice::from_ref;
-
-/// Another copy of a document.
-pub fn copied_document(alloc: Global, document: &Doc) -> Result<Doc, AllocError>
-    requires { IsTrue (is_document document.now) }
-    ensures { IfOk result (λ d. d ≡ document.now) }
-{
-    merge_laws();
-    merge(alloc, from_ref(document))
-}
 
 // Another copy of an item of a hosted repository.
 fn copied_hosted(alloc: Global, item: &Item) -> Result<Item, AllocError>
@@ -88,7 +75,7 @@ pub fn copied_item(alloc: Global, item: &Item) -> Result<Item, AllocError>
             repo: repo.copied(alloc)?,
             path: path.copied(alloc)?,
             checked: *checked,
-            document: copied_document(alloc, document)?,
+            document: document.copied(alloc)?,
         },
         Item::SessionOpened(number) => Item::SessionOpened(*number),
         Item::SessionEnded { session, result } => Item::SessionEnded {

@@ -16,7 +16,6 @@ mod tables;
 mod version;
 
 pub use change::Change;
-pub use copies::copied_document;
 pub use documents::KeptDocument;
 pub use faults::{ApplyFault, CommitFault, LoadFault};
 pub use files::{FileRow, Place, RowPhase};

@@ -1,10 +1,14 @@
-//! Tests of the connections over TCP, on the loopback interface, and of the timers.
+//! Tests of the connections over TCP, on the loopback interface, of fetches from servers there, and of the timers.
 #![tactic(auto)]
 
 #[cfg(test)]
 mod accepting;
 #[cfg(test)]
+mod answers;
+#[cfg(test)]
 mod connections;
+#[cfg(test)]
+mod servers;
 #[cfg(test)]
 mod stand_in;
 #[cfg(test)]

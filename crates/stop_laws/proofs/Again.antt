@@ -29,7 +29,7 @@ use Rattle.naming_laws.proofs.Kept.{history-stays}
 use Rattle.stop_laws.specs.Found.{IsRecordedAs}
 use Rattle.stop_laws.specs.Stops.{AreNoCollects}
 
-cut : (settings : Settings) (before : List Entry) (e : Entry) (rest : List Entry) (s : State) → Legal settings s (before ++ e ∷ rest)
+pub cut : (settings : Settings) (before : List Entry) (e : Entry) (rest : List Entry) (s : State) → Legal settings s (before ++ e ∷ rest)
     → Legal settings s before × Fits settings (end settings s before) e
 cut settings [] e rest s legal = (tt, legal.0)
 cut settings (b ∷ before) e rest s legal = let r = cut settings before e rest (after settings s b) legal.1 in ((legal.0, r.0), r.1)

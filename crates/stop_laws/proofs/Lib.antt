@@ -3,3 +3,4 @@ mod Fronts
 mod Outlasting
 mod OutlastingFiles
 mod Again
+mod AgainFiles

@@ -13,7 +13,8 @@ ghost use Rattle.repo_model.specs.Settings.{Settings};
 ghost use Rattle.repo_model.specs.State.{State, files_of, row_at, rows_of};
 ghost use Rattle.repo_model.specs.Tables.{RecordedRow, Tables};
 ghost use Rattle.blob_audit.specs.Damages.{AreDamaged};
-ghost use Rattle.repo_laws.specs.Closed.{GivesFile};
+ghost use Rattle.proxy_laws.specs.Asked.{AsksFirst, LetsThrough};
+ghost use Rattle.repo_laws.specs.Closed.{Answers, GivesFile};
 ghost use Rattle.repo_laws.specs.Holds.{Holds, InOrder, told, with_items};
 ghost use Rattle.repo_laws.specs.InRange.{InRange, Completes, IsSameBlob};
 ghost use Rattle.repo_laws.specs.Sound.{AreNamedApart, AreProxiesApart, IsSound};
@@ -57,4 +58,16 @@ pub fn starts_answer_what_is_recorded()
         → kind row.path ≡ Ok (File c) → IsRecordedAs repo row u → Legal settings (started settings tells stored clock faults whole) (before ++ e ∷ rest)
         → AreNoCollects before → e.command ≡ look repo row.path tried
         → (kept : Blob) × IsSameBlob kept row.blob × GivesFile (end settings (started settings tells stored clock faults whole) before) kept e.reply }
+{}
+
+/// A start over tables in which a file of a proxy is recorded, once it has completed them, and then any entries, also where a Collect is
+/// among them: who looks there, at the proxy or at a group in which it comes first, is given the file, with the number and the
+/// fingerprint that were recorded, and at a side file of it the text of its digest; or memory is wanting, or no lease is left. The
+/// settings still name the proxy, and its patterns let the path through.
+pub fn starts_answer_kept_files()
+    ensures { (settings : Settings) (u : Tables) (tells : ℕ → Option (List ℕ)) (stored : List ℕ) (clock : Option Moments) (faults : ℕ) (before : List Entry) (e : Entry)
+        (rest : List Entry) (asked id : List ℕ) (row : Row) (c : Coordinates) (whole : Tables) → AreNamedApart settings.hosted → AreProxiesApart settings.proxies → InOrder u → InRange u → Completes u whole
+        → LetsThrough settings id row.path → AsksFirst settings asked id → kind row.path ≡ Ok (File c) → IsCachedAs id row u
+        → Legal settings (started settings tells stored clock faults whole) (before ++ e ∷ rest)
+        → (kept : Blob) × IsSameBlob kept row.blob × Answers asked row.path kept (end settings (started settings tells stored clock faults whole) before) e }
 {}

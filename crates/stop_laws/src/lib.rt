@@ -6,6 +6,6 @@
 mod laws;
 
 pub use laws::{
-    kept_blobs_are_whole, kept_files_outlast_stops, rows_outlast_stops,
+    kept_blobs_are_whole, kept_files_outlast_stops, rows_outlast_stops, starts_answer_kept_files,
     starts_answer_what_is_recorded, stops_leave_fronts_of_histories,
 };

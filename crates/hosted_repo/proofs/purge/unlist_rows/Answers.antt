@@ -10,9 +10,19 @@ use Rattle.row_tables.specs.Commits.{tables_with}
 use Rattle.row_tables.specs.Items.{IsChange, are_of}
 use Rattle.row_tables.specs.declared.version.Version.TheVariants.{Second}
 use Rattle.hosted_repo.specs.Fades.{fade_at_paths}
+use Rattle.std.proofs.Common.{◌≤◌}
+use Rattle.std.specs.List.{All}
+use Rattle.repo_model.specs.History.{latest_moment}
 use Rattle.ordered_rows.specs.Recording.{FitWhereTold}
 use Rattle.ordered_rows.specs.Rows.{rows_after_all}
 use Rattle.directory_rows.specs.Rules.{shown_rule}
+use Rattle.repo_model.specs.Document.{document}
+use Rattle.ordered_rows.proofs.Rising.{AreRising, rising-shown}
+use Rattle.ordered_rows.specs.Rows.{shown_rows}
+use Rattle.kept_docs.specs.Kept.{AreOf}
+use Rattle.kept_docs.proofs.KeptLemmas.{placed_of, same_of}
+use Rattle.hosted_repo.specs.Fades.{AreApartFrom, accepted_at, accepted_of, listed_back}
+use Rattle.hosted_repo.proofs.FadeBack.{document-apart, due_visible, faded_back}
 use Rattle.hosted_repo.proofs.FadeLemmas.{faded}
 use Rattle.hosted_repo.proofs.purge.unlist_rows.Goals as goal
 
@@ -75,41 +85,91 @@ fade_change-requires g c =
     let due = due_rows (shown_rule c.args.rule.now) c.args.now c.args.rows.now in
     subst (λ (es : List Effect). IsChange (recorded es)) (sym (ap (fade_at_paths id c.args.now) c.deref.ensures.value ∙ faded id c.args.now c.in_ok-paths.paths.items due c.in_ok-paths.ensures)) c.requires.change
 
-pub commit-requires-clause-whole : goal.commit-requires-clause-whole
-commit-requires-clause-whole g c =
+pub record_faded-requires-clause-whole : goal.record_faded-requires-clause-whole
+record_faded-requires-clause-whole g c =
     subst (λ items. IsTrue (are_of Second items)) (sym c.in_ok-change.ensures) (fading-whole c.args.rule.now.id c.args.now c.deref.result.now)
 
-pub commit-requires-clause-fits : goal.commit-requires-clause-fits
-commit-requires-clause-fits g c =
+pub record_faded-requires-clause-fits : goal.record_faded-requires-clause-fits
+record_faded-requires-clause-fits g c =
     let id = c.args.rule.now.id in
     let due = due_rows (shown_rule c.args.rule.now) c.args.now c.args.rows.now in
     subst (FitWhereTold (g.K.Records.tables c.args.records.now))
     (sym (c.in_ok-change.ensures ∙ ap recorded (ap (fade_at_paths id c.args.now) c.deref.ensures.value ∙ faded id c.args.now c.in_ok-paths.paths.items due c.in_ok-paths.ensures))) c.requires.fits
 
-pub returns-in_err-commit-clause-asked : goal.returns-in_err-commit-clause-asked
-returns-in_err-commit-clause-asked g c failed none =
+pub returns-clause-asked : goal.returns-clause-asked
+returns-clause-asked g c failed none =
     let due = due_rows (shown_rule c.args.rule.now) c.args.now c.args.rows.now in
     let empty = no_paths c.in_ok-paths.paths.items due c.in_ok-paths.ensures (nothing-due c.args.rule.now.id c.args.now due none) in
     let zero : vec_len c.in_ok-paths.paths ≡ 0 = omega (arith, c.in_ok-paths.paths.ok.0, empty) in
     both_ways c.is_empty.result c.if-is_empty.false (c.is_empty.ensures ∙ eq-eqb (vec_len c.in_ok-paths.paths) 0 zero)
 
-pub returns-clause-count : goal.returns-clause-count
-returns-clause-count g c =
+pub returns-in-Ok-clause-count : goal.returns-in-Ok-clause-count
+returns-in-Ok-clause-count g c =
     let due = due_rows (shown_rule c.args.rule.now) c.args.now c.args.rows.now in
     omega (arith, c.len.ensures, c.in_ok-paths.paths.ok.0, as_many c.in_ok-paths.paths.items due c.in_ok-paths.ensures)
 
-pub returns-clause-rows : goal.returns-clause-rows
-returns-clause-rows g c =
+pub returns-in-Ok-clause-rows : goal.returns-in-Ok-clause-rows
+returns-in-Ok-clause-rows g c =
     let id = c.args.rule.now.id in
     let rows = c.args.rows.now in
     let due = due_rows (shown_rule c.args.rule.now) c.args.now rows in
     c.fade_all.ensures id
-    ∙ ap (λ (es : List Effect). rows_after_all es rows) (ap (fade_at_paths id c.args.now) c.deref-2.ensures.value ∙ faded id c.args.now c.in_ok-paths.paths.items due c.in_ok-paths.ensures)
+    ∙ ap (λ (es : List Effect). rows_after_all es rows) (ap (fade_at_paths id c.args.now) c.deref-3.ensures.value ∙ faded id c.args.now c.in_ok-paths.paths.items due c.in_ok-paths.ensures)
 
-pub returns-clause-tables : goal.returns-clause-tables
-returns-clause-tables g c =
+pub returns-in-Ok-clause-tables : goal.returns-in-Ok-clause-tables
+returns-in-Ok-clause-tables g c =
     let id = c.args.rule.now.id in
     let due = due_rows (shown_rule c.args.rule.now) c.args.now c.args.rows.now in
-    c.in_ok-commit.ensures.ok
+    c.in-Ok.ensures.tables
     ∙ ap (λ items. tables_with items (g.K.Records.tables c.args.records.now))
     (c.in_ok-change.ensures ∙ ap recorded (ap (fade_at_paths id c.args.now) c.deref.ensures.value ∙ faded id c.args.now c.in_ok-paths.paths.items due c.in_ok-paths.ensures))
+
+-- the rows once they have faded
+pub record_faded-requires-clause-docs : goal.record_faded-requires-clause-docs
+record_faded-requires-clause-docs g c = λ d is apart.
+    let id = c.args.rule.now.id in
+    let rows = c.args.rows.now in
+    let paths = c.in_ok-paths.paths.items in
+    let there : AreApartFrom d paths = subst (AreApartFrom d) c.deref-4.ensures.value apart in
+    let gone = c.fade_all.ensures id ∙ ap (λ xs. rows_after_all (fade_at_paths id c.args.now xs) rows) c.deref-3.ensures.value in
+    c.requires.docs d is ∙ sym (document-apart d id c.args.now paths rows there) ∙ ap (document d) (sym gone)
+
+pub list_back-requires-clause-many : goal.list_back-requires-clause-many
+list_back-requires-clause-many g c =
+    let paths = c.in_ok-paths.paths.items in
+    let moments = c.deref-in-Err-2.ensures.value ∙ c.in_ok-moments.ensures.moments in
+    ap length moments ∙ length-map c.deref-2.result.now (λ (path : String Global). accepted_of (shown_rows c.map-2.result.now.entries) (string_bytes path))
+    ∙ ap length (c.deref-2.ensures.value ∙ sym c.deref-in-Err.ensures.value)
+
+pub list_back-requires-clause-late : goal.list_back-requires-clause-late
+list_back-requires-clause-late g c = subst (All (λ moment. moment ≤ latest_moment)) (sym c.deref-in-Err-2.ensures.value) c.in_ok-moments.ensures.late
+
+pub returns-in-Ok-clause-docs : goal.returns-in-Ok-clause-docs
+returns-in-Ok-clause-docs g c =
+    placed_of c.record_faded.new.docs c.place.new.self c.in-Ok.pages.items c.fade_all.new.rows c.place.ensures c.in-Ok.ensures.pages
+
+pub returns-clause-err : goal.returns-clause-err
+returns-clause-err g c =
+    let id = c.args.rule.now.id in
+    let rows = c.args.rows.now in
+    let paths = c.in_ok-paths.paths.items in
+    let rising = subst AreRising c.map.ensures (rising-shown c.map.result.now.entries c.len-len.ensures.ordered) in
+    let moments = c.deref-in-Err-2.ensures.value ∙ c.in_ok-moments.ensures.moments ∙ (λ i. accepted_at (c.map-2.ensures i) (c.deref-2.ensures.value i)) in
+    let gone = c.fade_all.ensures id ∙ ap (λ xs. rows_after_all (fade_at_paths id c.args.now xs) rows) c.deref-3.ensures.value in
+    c.list_back.ensures
+    ∙ (λ i. listed_back (c.deref-in-Err.ensures.value i) (moments i) (gone i))
+    ∙ faded_back id c.args.now paths rows rising (due_visible (shown_rule c.args.rule.now) c.args.now rows paths rising c.in_ok-paths.ensures)
+
+pub returns-clause-docs : goal.returns-clause-docs
+returns-clause-docs g c =
+    let id = c.args.rule.now.id in
+    let rows = c.args.rows.now in
+    let paths = c.in_ok-paths.paths.items in
+    let docs = c.record_faded.new.docs in
+    let rising = subst AreRising c.map.ensures (rising-shown c.map.result.now.entries c.len-len.ensures.ordered) in
+    let moments = c.deref-in-Err-2.ensures.value ∙ c.in_ok-moments.ensures.moments ∙ (λ i. accepted_at (c.map-2.ensures i) (c.deref-2.ensures.value i)) in
+    let gone = c.fade_all.ensures id ∙ ap (λ xs. rows_after_all (fade_at_paths id c.args.now xs) rows) c.deref-3.ensures.value in
+    let back = c.list_back.ensures
+    ∙ (λ i. listed_back (c.deref-in-Err.ensures.value i) (moments i) (gone i))
+    ∙ faded_back id c.args.now paths rows rising (due_visible (shown_rule c.args.rule.now) c.args.now rows paths rising c.in_ok-paths.ensures) in
+    subst (AreOf docs) (sym back) (same_of c.args.docs.now docs rows c.record_faded.ensures.same c.requires.docs)

@@ -2,11 +2,7 @@ use Rattle.std.proofs.Common.{[], ◌∷◌, sym, subst}
 use Rattle.mvn_metadata.specs.Document.{Document}
 use Rattle.repo_model.specs.declared.item.Item.TheVariants.{CachedDoc}
 use Rattle.row_tables.specs.Items.{IsChange}
-use Rattle.proxy_rules.proofs.Forms.{recorded-document}
 use Rattle.proxy_rules.proofs.changes.document_change.Goals as goal
-
-pub copied_document-requires : goal.copied_document-requires
-copied_document-requires c = recorded-document c.args.proxy.now c.args.path.now c.args.checked c.args.document.now c.requires
 
 pub change_of-requires : goal.change_of-requires
 change_of-requires c =

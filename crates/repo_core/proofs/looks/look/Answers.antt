@@ -18,9 +18,9 @@ answer-requires g c =
       clock = None;
       faults = 0;
     } in
-    subst (IsLendable c.args.yard.now.kept) (sym (c.in-Ok.ensures s (record { hosted_so = refl; proxies_so = refl })))
+    subst (IsLendable c.args.yard.now.kept) (sym (c.in-Ok.ensures.seen s (record { hosted_so = refl; proxies_so = refl })))
     (look-lendable c.args.yard.now.kept s c.requires.used c.requires.cached c.args.settings.now c.args.asked.now.moment c.args.id.now c.args.asked.now.tried.now c.args.asked.now.path.now)
 
 pub returns-in-Ok-clause-reply : goal.returns-in-Ok-clause-reply
 returns-in-Ok-clause-reply g c = λ s has.
-    subst (λ (seen : Seen). IsDueOr (shows c.args.settings.now c.args.yard.now.yard seen).reply (shown_reply c.answer.result)) (c.in-Ok.ensures s has) c.answer.ensures.reply
+    subst (λ (seen : Seen). IsDueOr (shows c.args.settings.now c.args.yard.now.yard seen).reply (shown_reply c.answer.result)) (c.in-Ok.ensures.seen s has) c.answer.ensures.reply

@@ -1,6 +1,7 @@
-use Rattle.std.proofs.Common.{◌∙◌}
+use Rattle.std.proofs.Common.{◌∙◌, subst}
 use Rattle.outside.proofs.ToldLemmas.{on_err}
 use Rattle.repo_model.specs.Restart.{blobs_named}
+use Rattle.repo_core.specs.Shelves.{AreShelved}
 use Rattle.repo_core.proofs.ItemForms.{ids-so, proxies-so}
 use Rattle.settings_laws.proofs.Apart.{named-apart, proxies-apart}
 use Rattle.repo_core.proofs.StartLemmas.{all-cleared, files-in-use, next-above, next-end, none-cleared, restorable, restored-used}
@@ -8,6 +9,9 @@ use Rattle.repo_core.proofs.starting.stock_of.Goals as goal
 
 pub returns-in_err-sessions-clause-shelf : goal.returns-in_err-sessions-clause-shelf
 returns-in_err-sessions-clause-shelf g c = on_err c.from_residual.result (none-cleared (blobs_named c.args.tables.now) (g.B.Blobs.shelf c.args.blobs.now))
+
+pub returns-in_err-shelves-clause-shelf : goal.returns-in_err-shelves-clause-shelf
+returns-in_err-shelves-clause-shelf g c = on_err c.from_residual-in_err-shelves.result (none-cleared (blobs_named c.args.tables.now) (g.B.Blobs.shelf c.args.blobs.now))
 
 pub restore-requires-clause-ids : goal.restore-requires-clause-ids
 restore-requires-clause-ids g c = rw c.hosted.ensures (ids-so c.args.settings.now.hosted c.requires.form.hosted)
@@ -52,3 +56,8 @@ returns-clause-cached g c =
     let them = c.in_ok-restored.restored in
     files-in-use c.args.tables.now c.in_ok-yard.yard.kept c.deref.result.now (c.deref.ensures.value ∙ made.named) c.in_ok-yard.ensures.kept
     (g.B.Blobs.shelf c.args.blobs.now) c.hosted.result.now c.proxies.result.now them.repos.items them.proxies.items made.repos
+
+pub returns-clause-shelved : goal.returns-clause-shelved
+returns-clause-shelved g c =
+    let them = c.in_ok-restored.restored in
+    subst (λ gs. AreShelved gs them.repos.items them.proxies.items c.in_ok-shelves.shelves.items) c.groups.ensures (c.in_ok-shelves.ensures them.repos.items them.proxies.items)

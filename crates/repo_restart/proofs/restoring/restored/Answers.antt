@@ -70,8 +70,9 @@ pub returns-clause-repos : goal.returns-clause-repos
 returns-clause-repos g c =
     let files = c.args.files.now in
     let far : length files ≤ c.loop-file.file-index = omega (arith, c.loop-file-test.false) in
-    subst (λ (them : List RecordedFile). AreRowsRestored (g.B.Blobs.shelf c.args.blobs.now) (rows_of them) c.args.rules.now c.loop-file.repos.items)
-    (take_all c.loop-file.file-index files far) c.loop-file.invariant.restored
+    subst (AreRowsRestored (g.B.Blobs.shelf c.args.blobs.now) (rows_of files) c.args.rules.now) (sym c.in_ok-repos-2.ensures)
+    (subst (λ (them : List RecordedFile). AreRowsRestored (g.B.Blobs.shelf c.args.blobs.now) (rows_of them) c.args.rules.now c.loop-file.repos.items)
+    (take_all c.loop-file.file-index files far) c.loop-file.invariant.restored)
 
 pub returns-clause-proxies : goal.returns-clause-proxies
 returns-clause-proxies g c =

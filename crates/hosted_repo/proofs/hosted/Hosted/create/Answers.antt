@@ -5,7 +5,8 @@ use Rattle.repo_model.specs.Effect.{new_row}
 use Rattle.repo_model.specs.Prints.{recorded_print}
 use Rattle.repo_model.specs.Shown.{shown_parcel, shown_print}
 use Rattle.ordered_rows.specs.Recording.{FitWhereTold}
-use Rattle.hosted_repo.specs.Releases.{AllFadeRightly, FadesRightly}
+use Rattle.hosted_repo.specs.Releases.{AllFadeRightly}
+use Rattle.repo_model.specs.Paths.{FadesRightly}
 use Rattle.ordered_rows.specs.Rows.{AreFiles, IsFileRow}
 use Rattle.hosted_repo.proofs.FormLemmas.{from-both, puts-change}
 use Rattle.hosted_repo.proofs.ReleaseLemmas.{new-rightly}
@@ -33,4 +34,5 @@ invariant_of-self g c =
       fading = from-both c.create.result c.create.ensures.ok c.create.ensures.err
           (λ made. subst AllFadeRightly (sym made) (each-with FadesRightly new old (new-rightly new.path new.blob new.accepted) c.self.invariant.fading))
           (λ same. subst AllFadeRightly (sym same) c.self.invariant.fading);
+      kept = c.create.ensures.docs;
     }

@@ -1,10 +1,13 @@
 use Rattle.std.proofs.Common.{List, take, sym, ap, ◌∙◌, subst}
 use Rattle.repo_model.specs.Data as plain
+use Rattle.repo_model.specs.Document.{document}
 use Rattle.repo_model.specs.Purge.{expired_of}
 use Rattle.repo_model.specs.Settings.{Rule}
-use Rattle.hosted_repo.specs.Releases.{AllFadeRightly, FadesRightly}
+use Rattle.hosted_repo.specs.Releases.{AllFadeRightly}
+use Rattle.repo_model.specs.Paths.{FadesRightly}
 use Rattle.ordered_rows.specs.Rows.{AreFiles, IsFileRow, rows_after_all, without_first}
 use Rattle.directory_rows.specs.Rules.{shown_rule}
+use Rattle.kept_docs.proofs.Beside.{document_after_first}
 use Rattle.hosted_repo.proofs.Expiry.{dropped}
 use Rattle.ordered_rows.proofs.Rising.{AreRising, rising-shown}
 use Rattle.ordered_rows.proofs.EachRow.{each-left}
@@ -18,6 +21,8 @@ invariant_of-self g c = record {
   named = c.self.invariant.named;
   files = subst AreFiles (sym c.drop_first.ensures) (each-left IsFileRow c.args.count c.saturating_sub.result c.self.inside.rows c.self.invariant.files);
   fading = subst AllFadeRightly (sym c.drop_first.ensures) (each-left FadesRightly c.args.count c.saturating_sub.result c.self.inside.rows c.self.invariant.fading);
+  kept = λ d is.
+      c.self.invariant.kept d is ∙ sym (document_after_first d c.args.count c.saturating_sub.result c.self.inside.rows) ∙ ap (document d) (sym c.drop_first.ensures);
 }
 
 pub returns : goal.returns

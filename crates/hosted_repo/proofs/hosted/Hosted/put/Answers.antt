@@ -11,6 +11,7 @@ use Rattle.repo_model.specs.Turn.{Turn, put_again, put_at}
 use Rattle.ordered_rows.specs.Standings.{standing, standing_by}
 use Rattle.ordered_rows.specs.Recording.{FitWhereTold}
 use Rattle.ordered_rows.specs.declared.standings.Standing.TheVariants as stands
+use Rattle.hosted_repo.specs.Releases.{FadesAt}
 use Rattle.hosted_repo.proofs.ReleaseLemmas.{fading-at}
 use Rattle.hosted_repo.proofs.hosted.Hosted.put.Goals as goal
 
@@ -82,3 +83,11 @@ relist-requires-clause-snapshot g c =
     = ap (λ rs. standing c.print_of.result (row_at path rs)) (sym c.map.ensures) ∙ sym c.standing.ensures ∙ c.in-Unlisted.is in
     let (row, since, found, fades) = unlisted_row c.print_of.result (row_at path rows) faded in
     fading-at path rows row since c.self.invariant.fading found fades
+
+pub relist-requires-clause-faded : goal.relist-requires-clause-faded
+relist-requires-clause-faded g c =
+    let path = c.args.path.now in
+    let rows = c.self.inside.rows in
+    let faded : standing c.print_of.result (row_at path rows) ≡ stands.Unlisted
+    = ap (λ rs. standing c.print_of.result (row_at path rs)) (sym c.map.ensures) ∙ sym c.standing.ensures ∙ c.in-Unlisted.is in
+    subst (λ (h : plain.Hosted). FadesAt path h.rows) c.self.view_is (unlisted_row c.print_of.result (row_at path rows) faded)

@@ -11,8 +11,8 @@ use Rattle.hosted_repo.proofs.FormLemmas.{from-both}
 use Rattle.hosted_repo.proofs.ReleaseLemmas.{rightly-delivered}
 use Rattle.hosted_repo.proofs.hosted.Hosted.put_all.Goals as goal
 
-pub deliver-requires-clause-fits : goal.deliver-requires-clause-fits
-deliver-requires-clause-fits g c =
+pub deliver_all-requires-clause-fits : goal.deliver_all-requires-clause-fits
+deliver_all-requires-clause-fits g c =
     let files = shown_files c.args.staged.now.entries in
     let told = g.K.Records.tables c.args.records.now in
     subst (λ (h : plain.Hosted). (offence h.rows files ≡ None → without_pom h.rows files ≡ None → FitWhereTold told (recorded (deliveries h files c.args.now) ++ c.args.also ∷ [])))
@@ -26,10 +26,11 @@ invariant_of-self g c =
     let files = shown_files c.args.staged.now.entries in
     record {
       named = c.self.invariant.named;
-      files = from-both c.deliver.result c.deliver.ensures.rows c.deliver.ensures.err
+      files = from-both c.deliver_all.result c.deliver_all.ensures.rows c.deliver_all.ensures.err
           (λ made. subst AreFiles (sym made) (files-delivered (session_with c.self.inside.rule.id files) c.args.now rows files rows c.requires.files c.self.invariant.files))
           (λ same. subst AreFiles (sym same) c.self.invariant.files);
-      fading = from-both c.deliver.result c.deliver.ensures.rows c.deliver.ensures.err
+      fading = from-both c.deliver_all.result c.deliver_all.ensures.rows c.deliver_all.ensures.err
           (λ made. subst AllFadeRightly (sym made) (rightly-delivered (session_with c.self.inside.rule.id files) c.args.now rows files rows c.self.invariant.fading))
           (λ same. subst AllFadeRightly (sym same) c.self.invariant.fading);
+      kept = c.deliver_all.ensures.docs;
     }

@@ -4,7 +4,7 @@ use Rattle.repo_model.specs.declared.item.Item.TheVariants.{Relisted}
 use Rattle.repo_model.specs.Effect.{list_again}
 use Rattle.repo_model.specs.State.{is_row}
 use Rattle.ordered_rows.specs.Recording.{FitWhereTold}
-use Rattle.hosted_repo.specs.Releases.{AllFadeRightly}
+use Rattle.hosted_repo.specs.Releases.{AllFadeRightly, FadesAt}
 use Rattle.ordered_rows.specs.Rows.{AreFiles, IsFileRow}
 use Rattle.hosted_repo.proofs.FormLemmas.{from-both, relists-change}
 use Rattle.hosted_repo.proofs.ReleaseLemmas.{rightly-again}
@@ -18,6 +18,9 @@ pub relist-requires-clause-fits : goal.relist-requires-clause-fits
 relist-requires-clause-fits g c =
     subst (λ (h : plain.Hosted). FitWhereTold (g.K.Records.tables c.args.records.now) (Relisted h.rule.id c.args.path.now c.args.now ∷ [])) (sym c.self.view_is) c.requires.fits
 
+pub relist-requires-clause-faded : goal.relist-requires-clause-faded
+relist-requires-clause-faded g c = subst (λ (h : plain.Hosted). FadesAt c.args.path.now h.rows) (sym c.self.view_is) c.requires.faded
+
 pub invariant_of-self : goal.invariant_of-self
 invariant_of-self g c =
     let old = c.self.inside.rows in
@@ -27,4 +30,5 @@ invariant_of-self g c =
           (λ made. subst AreFiles (sym made) (each-changed IsFileRow (is_row c.args.path.now) (list_again c.args.now) (λ r is h. h) old c.self.invariant.files)) (λ same. subst AreFiles (sym same) c.self.invariant.files);
       fading = from-both c.relist.result c.relist.ensures.ok c.relist.ensures.err
           (λ made. subst AllFadeRightly (sym made) (rightly-again c.args.path.now c.args.now old c.self.invariant.fading)) (λ same. subst AllFadeRightly (sym same) c.self.invariant.fading);
+      kept = c.relist.ensures.docs;
     }

@@ -32,6 +32,7 @@ invariant_of-self g c =
       fading = from-both c.unlist_rows.result c.unlist_rows.ensures.rows c.unlist_rows.ensures.err
           (λ made. subst AllFadeRightly (sym made) (rightly_faded h.rule c.args.now h.rows c.self.invariant.fading))
           (λ same. subst AllFadeRightly (sym same) c.self.invariant.fading);
+      kept = c.unlist_rows.ensures.docs;
     }
 
 pub returns-clause-count : goal.returns-clause-count

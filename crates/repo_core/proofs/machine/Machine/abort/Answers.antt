@@ -69,6 +69,7 @@ invariant_of-self g c =
     let yard_is = ap (λ (y : Numbers). y.yard.next_session) c.condemn_left.ensures ∙ ap (λ ns. (condemned_by ns s.yard).next_session) left in
     record {
       moment = c.self.invariant.moment;
+      shelved = c.self.invariant.shelved;
       blobs = subst (λ ns. AreInUse ns s.hosted) (sym kept_is) (subst (AreInUse _) (given-hosted free es s.hosted gives) rows);
       cached = subst (λ ns. AreCachedInUse ns s.proxies) (sym kept_is)
           (end-cached settings.grace s.last s es going may orderly.places kept c.self.invariant.blobs c.self.invariant.staged c.self.invariant.cached free);

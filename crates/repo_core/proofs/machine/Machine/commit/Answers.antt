@@ -18,6 +18,8 @@ use Rattle.repo_core.specs.Purge.{AreKeptOnce, condemned_by, kept_without}
 use Rattle.repo_core.specs.Whole.{Parts}
 use Rattle.repo_core.proofs.DeployTurns.{recorded-by}
 use Rattle.repo_core.proofs.EndTurns.{commit-given, commit-going, commit-rules, end-cached, end-files, end-left, end-once, end-rows, end-yard, known-if, next-if, open-there, rules-if}
+use Rattle.repo_core.specs.Shelves.{AreShelved, HaveForgotten}
+use Rattle.repo_core.proofs.ShelfChanges.{committed-still}
 use Rattle.repo_core.proofs.GarbageLemmas.{garbage_of}
 use Rattle.settings_laws.proofs.Apart.{named-apart}
 use Rattle.repo_core.proofs.machine.Machine.commit.Goals as goal
@@ -79,6 +81,9 @@ invariant_of-self g c =
     let yard_is = ap (λ (y : Numbers). y.yard.next_session) c.condemn_over.ensures ∙ ap (λ ns. (condemned_by ns s.yard).next_session) left in
     record {
       moment = c.self.invariant.moment;
+      shelved = subst (λ hs. AreShelved settings.groups hs s.proxies c.forget.new.shelves.items) (sym c.commit-did.ensures.rows)
+          (committed-still settings.groups s.hosted s.proxies k.sessions n s.last (shown_commit c.commit-did.result) c.self.inside.shelves.items c.forget.new.shelves.items c.commit-did.ensures.reply
+          (subst (λ gone. HaveForgotten gone c.self.inside.shelves.items c.forget.new.shelves.items) c.changed_by_commit.ensures c.forget.ensures) c.self.invariant.shelved);
       blobs = subst (λ ns. AreInUse ns c.commit-did.new.repos.items) (sym kept_is) (subst (AreInUse _) (sym c.commit-did.ensures.rows) rows);
       cached = subst (λ ns. AreCachedInUse ns s.proxies) (sym kept_is)
           (end-cached settings.grace s.last s es going may orderly.places kept c.self.invariant.blobs c.self.invariant.staged c.self.invariant.cached free);

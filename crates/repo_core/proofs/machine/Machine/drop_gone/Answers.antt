@@ -10,6 +10,8 @@ use Rattle.repo_core.specs.Hosted.{AreInUse, rules_of}
 use Rattle.repo_core.specs.Proxies.{AreCachedInUse}
 use Rattle.repo_core.specs.Purge.{AreKeptOnce, condemned_by, dropped_by, kept_without, shares}
 use Rattle.settings_laws.proofs.Apart.{named-apart}
+use Rattle.repo_core.specs.Shelves.{AreShelved}
+use Rattle.repo_core.proofs.ShelfChanges.{dropped-still}
 use Rattle.repo_core.proofs.PurgeLemmas.{dropped-rules, shares-length}
 use Rattle.repo_core.proofs.PurgeTurns.{blobs-at, collected-cached, collected-once, collected-staged, collected-used, counts-at, turned-collected}
 use Rattle.repo_core.proofs.SessionNumbers.{session-condemned}
@@ -49,6 +51,8 @@ invariant_of-self g c =
     let few : length (shares grace last most_rows items) ≤ length items = omega (arith, shares-length grace last most_rows items) in
     record {
       moment = c.self.invariant.moment;
+      shelved = subst (λ hs. AreShelved c.self.inside.settings.groups hs c.self.inside.proxies.items c.self.inside.shelves.items) (sym hosted_so)
+          (dropped-still c.self.inside.settings.groups items c.self.inside.proxies.items grace last (shares grace last most_rows items) c.self.inside.shelves.items orderly.order.rows c.self.invariant.shelved);
       blobs = subst (λ k. AreInUse k c.drop_expired.new.repos.items) (sym kept_so)
           (subst (AreInUse (kept_without (map blob_of (expire_all grace last items)) kept)) (sym hosted_so) (collected-used _ kept orderly c.self.invariant.blobs));
       cached = subst (λ k. AreCachedInUse k c.self.inside.proxies.items) (sym kept_so) (collected-cached _ kept orderly c.self.invariant.cached);

@@ -9,9 +9,13 @@ use Rattle.repo_model.specs.Turn.{Turn, is_drawn}
 use Rattle.repo_laws.specs.Files.{files_in}
 use Rattle.proxy_rules.specs.declared.landed.Landed.TheVariants.{Kept}
 use Rattle.repo_core.specs.Proxies.{landing_in, proxy_rules_of}
+use Rattle.repo_core.specs.Changes.{gone_by_landing, is_of_document}
+use Rattle.repo_core.specs.Shelves.{AreShelved, HaveForgotten, is_gone}
 use Rattle.repo_core.specs.Whole.{Parts}
 use Rattle.repo_core.proofs.ItemForms.{draft-number}
 use Rattle.repo_core.proofs.LandLemmas.{cached-landed, drawn-so, hosted-landed, land-turn, landed-rules, lands-so, proxy-there, recorded-land, staged-landed, there-so}
+use Rattle.repo_core.proofs.ShelfChanges.{landed-still}
+use Rattle.proxy_rules.specs.Landings.{has_failed}
 use Rattle.repo_core.proofs.SessionNumbers.{session-landed}
 use Rattle.repo_core.proofs.machine.Machine.land.Goals as goal
 
@@ -54,8 +58,13 @@ invariant_of-self g c =
     let files = files_in plan.proxy proxies in
     let lands = c.land-did.ensures.lands in
     let fits = lands-so c.args.self.now.settings plan landing c.requires.meets in
+    let changed : is_gone c.changed_by_landing.result ≡ gone_by_landing plan.path (is_of_document landing) (has_failed did) =
+    c.changed_by_landing.ensures ∙ ap (λ p. gone_by_landing p c.is_of_document-of_document.result (has_failed did)) c.as_str.ensures ∙ ap (λ b. gone_by_landing plan.path b (has_failed did)) c.is_of_document-of_document.ensures in
     record {
       moment = c.self.invariant.moment;
+      shelved = subst (λ ps. AreShelved c.self.inside.settings.groups c.self.inside.repos.items ps c.forget.new.shelves.items) (sym lands.proxies)
+          (landed-still c.self.inside.settings.groups c.self.inside.repos.items proxies files c.self.inside.last plan landing (has_failed did) c.self.inside.shelves.items c.forget.new.shelves.items
+          (subst (λ gone. HaveForgotten gone c.self.inside.shelves.items c.forget.new.shelves.items) changed c.forget.ensures) c.self.invariant.shelved);
       blobs = rw c.settle_landed.ensures (hosted-landed plan.draft did kept c.self.inside.repos.items c.self.invariant.blobs);
       cached = rw (lands.proxies, c.settle_landed.ensures) (cached-landed kept proxies c.self.invariant.cached files c.self.inside.last plan landing did fits lands.answered);
       rules = c.self.invariant.rules;

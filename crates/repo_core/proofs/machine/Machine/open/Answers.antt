@@ -33,6 +33,7 @@ invariant_of-self g c =
     let given = due-or-free (begin_turn k repo) r c.begin-begun.ensures.reply in
     record {
       moment = c.self.invariant.moment;
+      shelved = c.self.invariant.shelved;
       blobs = subst (λ ns. AreInUse ns c.self.inside.repos.items) kept_so c.self.invariant.blobs;
       cached = subst (λ ns. AreCachedInUse ns c.self.inside.proxies.items) kept_so c.self.invariant.cached;
       proxy_rules = c.self.invariant.proxy_rules;

@@ -11,12 +11,14 @@ use Rattle.repo_model.specs.Shown.{shown_parcel}
 use Rattle.repo_model.specs.Turn.{Turn}
 use Rattle.row_tables.specs.Items.{is_number}
 use Rattle.repo_core.specs.Hosted.{put_in, rules_of}
+use Rattle.repo_core.specs.Shelves.{AreShelved, HaveForgotten}
 use Rattle.repo_core.specs.Whole.{Parts}
 use Rattle.repo_core.proofs.CachedLemmas.{cached-put}
 use Rattle.repo_core.proofs.DraftLemmas.{fit-so, named-so, put-turn, recorded-put, short-so}
 use Rattle.repo_core.proofs.HostedLemmas.{named-there, rules-kept}
 use Rattle.repo_core.proofs.ItemForms.{draft-number, fit-file}
 use Rattle.repo_core.proofs.SessionNumbers.{session-put}
+use Rattle.repo_core.proofs.ShelfChanges.{put-still}
 use Rattle.repo_core.proofs.StagedLemmas.{staged-put}
 use Rattle.repo_core.proofs.UseLemmas.{put-used}
 use Rattle.repo_core.proofs.machine.Machine.put.Goals as goal
@@ -59,6 +61,10 @@ invariant_of-self g c =
     let used = put-used c.self.inside.yard.kept c.args.repo.now c.args.path.now c.args.draft c.self.inside.last (shown_parcel c.args.parcel) (shown_put c.put-outcome.result) c.self.inside.repos.items c.self.invariant.blobs named in
     record {
       moment = c.self.invariant.moment;
+      shelved = subst (λ hs. AreShelved c.self.inside.settings.groups hs c.self.inside.proxies.items c.forget.new.shelves.items) (sym c.put-outcome.ensures.rows)
+          (put-still c.self.inside.settings.groups c.self.inside.repos.items c.self.inside.proxies.items c.args.repo.now c.args.path.now (shown_parcel c.args.parcel) c.self.inside.last
+          (shown_put c.put-outcome.result) c.self.inside.shelves.items c.forget.new.shelves.items
+          (subst (λ gone. HaveForgotten gone c.self.inside.shelves.items c.forget.new.shelves.items) c.changed_by_put.ensures c.forget.ensures) c.self.invariant.shelved);
       blobs = rw (c.put-outcome.ensures.rows, c.settle.ensures) used;
       cached = rw c.settle.ensures (cached-put c.args.draft (shown_put c.put-outcome.result) c.self.inside.yard.kept c.self.inside.proxies.items c.self.invariant.cached);
       proxy_rules = c.self.invariant.proxy_rules;

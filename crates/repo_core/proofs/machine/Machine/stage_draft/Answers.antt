@@ -38,6 +38,7 @@ invariant_of-self g c =
     let kept_so = sym c.settle_staged.ensures.kept in
     record {
       moment = c.self.invariant.moment;
+      shelved = c.self.invariant.shelved;
       blobs = subst (λ ns. AreInUse ns c.self.inside.repos.items) kept_so (rows-staged n r c.self.inside.yard.kept c.self.inside.repos.items c.self.invariant.blobs);
       cached = subst (λ ns. AreCachedInUse ns c.self.inside.proxies.items) kept_so (cached-staged n r c.self.inside.yard.kept c.self.inside.proxies.items c.self.invariant.cached);
       proxy_rules = c.self.invariant.proxy_rules;

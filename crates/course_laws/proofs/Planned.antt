@@ -1,0 +1,183 @@
+-- The courses of a stream fetch what a look was answered to fetch, at once, and nothing else; or end the stream.
+use Rattle.std.proofs.Common.{◌≡◌, ℕ, zero, suc, Bool, true, false, List, [], ◌∷◌, ◌++◌, Option, Some, None, Result, Ok, Err, refl, sym, subst}
+use Rattle.std.specs.Prelude.{if◌then◌else◌}
+use Rattle.fetch_plan.specs.declared.Outcome.{Outcome as Came}
+use Rattle.fetch_plan.specs.declared.Outcome.TheVariants as came
+use Rattle.fetch_plan.specs.declared.Plan.{Plan}
+use Rattle.mvn_digest.specs.Sides.{read_side}
+use Rattle.mvn_doc.specs.Reading.{reading}
+use Rattle.mvn_metadata.specs.Document.{Document}
+use Rattle.remote_fetch.specs.declared.contents.Content.{Content}
+use Rattle.remote_fetch.specs.declared.contents.Content.TheVariants as content
+use Rattle.remote_fetch.specs.declared.fetching.Checked.{Checked}
+use Rattle.repo_model.specs.Command.{look}
+use Rattle.repo_model.specs.Data.{Place, repository, session}
+use Rattle.repo_model.specs.Fetched.{Landing, got_file, got_doc}
+use Rattle.repo_model.specs.Reply.{Reply, file, missed, draft, fetches, landed}
+use Rattle.repo_model.specs.Settings.{Settings}
+use Rattle.repo_routes.specs.Intent.{Intent, Judged, reads as reads_path, puts_file, puts_side, puts_document, counts, cleans as cleans_all, opens, commits, aborts}
+use Rattle.repo_routes.specs.Judge.{judge}
+use Rattle.repo_routes.specs.declared.judging.Refused.{Refused}
+use Rattle.repo_course.specs.Course.{Body, Close, Course, Deed, Fetch, Kept, Outcome, Stored, speaks, rests, answers, asks, says, stops, closes, does, take_body, read_body, fetch, after_continue, after_fetch, after_land, after_store, fetch_fault, fetched, gives_any_up, is_group, lands, looks, rounds_of, said_missed, stores, with_fault, without_memory, after_document, after_look, after_may_put, after_put, after_side, after_take, behind_fault, compares, course_for, course_of, cut_off, gives_up, invites, leaves_draft, manner_for, notes, of_fault, of_pass, of_sent, of_store, said_of, tells, with_unread}
+use Rattle.repo_course.specs.declared.fetched.FetchFault.{FetchFault}
+use Rattle.repo_course.specs.declared.fetched.Verdict.{Verdict}
+use Rattle.repo_course.specs.declared.fetched.Verdict.TheVariants as verdict
+use Rattle.repo_course.specs.declared.manner.Manner.{Manner}
+use Rattle.repo_course.specs.declared.outcomes.Continued.{Continued}
+use Rattle.repo_course.specs.declared.outcomes.Continued.TheVariants as continued
+use Rattle.repo_course.specs.declared.said.Said.{Said}
+use Rattle.repo_course.specs.declared.said.Said.TheVariants.{NoMemory}
+use Rattle.repo_course.specs.Serving.{Opens, clean, torn, failed, refused, unread_head, starved, served, Outside}
+use Rattle.course_laws.specs.AsPlayed.{planned_by}
+
+-- a course that looks for nothing more, fetches nothing and ends the stream by an answer
+abbrev pub Ends : Course → Type 0
+Ends (asks command next) = (reply : Reply) → (planned_by command reply ≡ []) × Ends (next reply)
+Ends (does deed next) = ⊥
+Ends (says said manner) = manner.close ≡ true
+Ends (stops end) = ⊥
+
+abbrev pub FetchesNone : Deed → Type 0
+FetchesNone (fetch plan) = ⊥
+FetchesNone deed = Unit {0}
+
+-- a course before which these plans are to be fetched
+abbrev pub AsPlanned : List Plan → Course → Type 0
+AsPlanned [] (asks command next) = (reply : Reply) → AsPlanned (planned_by command reply) (next reply)
+AsPlanned [] (does deed next) = FetchesNone deed × ((outcome : Outcome deed) → AsPlanned [] (next outcome))
+AsPlanned [] (says said manner) = Unit {0}
+AsPlanned [] (stops end) = Unit {0}
+AsPlanned (plan ∷ more) (asks command next) = (more ≡ []) × Ends (asks command next)
+AsPlanned (plan ∷ more) (does deed next) = (deed ≡ fetch plan) × ((outcome : Outcome deed) → AsPlanned more (next outcome))
+AsPlanned (plan ∷ more) (says said manner) = (more ≡ []) × Ends (says said manner)
+AsPlanned (plan ∷ more) (stops end) = (more ≡ []) × Ends (stops end)
+
+module _ (manner : Manner) where
+  said-plans : (said : Said) → AsPlanned [] (answers manner said)
+  said-plans NoMemory = tt
+  said-plans said = tt
+
+  closes-plans : (due : Close) → AsPlanned [] (closes manner due)
+  closes-plans (speaks said) = said-plans said
+  closes-plans (rests end) = tt
+
+  tells-plans : (reply : Reply) → AsPlanned [] (tells manner reply)
+  tells-plans reply = said-plans (said_of reply)
+
+any-up-plans : (under : Option ℕ) (c : Course) → AsPlanned [] c → AsPlanned [] (gives_any_up under c)
+any-up-plans None c so = so
+any-up-plans (Some n) c so = λ reply. so
+
+module _ (manner : Manner) where
+  -- a plan where no fetch may come any more
+  unfetched-plans : (plan : Plan) (under : Option ℕ) → AsPlanned (plan ∷ []) (gives_any_up under (without_memory manner))
+  unfetched-plans plan None = (refl, refl)
+  unfetched-plans plan (Some n) = (refl, λ reply. (refl, refl))
+
+  module _ (plan : Plan) where
+    land-plans : (again : Course) → AsPlanned [] again → (outcome : Landing) → AsPlanned [] (lands manner plan again outcome)
+    land-plans again so outcome = replies where
+      replies : (reply : Reply) → AsPlanned [] (after_land manner plan.draft again reply)
+      replies landed = so
+      replies reply = any-up-plans plan.draft (tells manner reply) (tells-plans manner reply)
+
+    stores-plans : (again : Course) → AsPlanned [] again → (checked : Checked) (under : Option ℕ) → AsPlanned [] (stores manner plan again checked under)
+    stores-plans again so checked None = tt
+    stores-plans again so checked (Some n) = (tt, tell) where
+      tell : (kept : Kept) → AsPlanned [] (after_store manner plan again kept)
+      tell (Ok blob) = land-plans again so (came.Got (got_file blob))
+      tell (Err why) = any-up-plans plan.draft (closes manner (of_store why)) (closes-plans manner (of_store why))
+
+    module _ (again : Option FetchFault → Course) (so : (why : Option FetchFault) → AsPlanned [] (again why)) where
+      came-plans : (outcome : Came Content) → AsPlanned [] (fetched manner plan (again (fetch_fault outcome)) outcome)
+      came-plans (came.Got (content.File checked)) = stores-plans (again None) (so None) checked plan.draft
+      came-plans (came.Got (content.Doc document)) = land-plans (again None) (so None) (came.Got (got_doc document))
+      came-plans came.Gone = land-plans (again None) (so None) came.Gone
+      came-plans (came.Refused code) = land-plans (again _) (so _) (came.Refused code)
+      came-plans came.NoChecksum = land-plans (again _) (so _) came.NoChecksum
+      came-plans (came.Differs said found) = land-plans (again _) (so _) (came.Differs said found)
+      came-plans came.TooLarge = land-plans (again _) (so _) came.TooLarge
+      came-plans (came.BadAnswer at) = land-plans (again _) (so _) (came.BadAnswer at)
+      came-plans (came.BadDocument at) = land-plans (again _) (so _) (came.BadDocument at)
+      came-plans came.Fault = land-plans (again _) (so _) came.Fault
+
+      fetch-plans : (outcome : Fetch) → AsPlanned [] (after_fetch manner plan again outcome)
+      fetch-plans None = any-up-plans plan.draft (without_memory manner) tt
+      fetch-plans (Some outcome) = came-plans outcome
+
+  module _ (repo path tried : List ℕ) (so_far : Verdict) (behind : Plan → Course) (so : (plan : Plan) → AsPlanned (plan ∷ []) (behind plan)) where
+    replies-plan : (reply : Reply) → AsPlanned (planned_by (look repo path tried) reply) (after_look manner so_far behind reply)
+    replies-plan (file lease blob) = (tt, λ result reply. closes-plans manner (of_sent manner result))
+    replies-plan missed = said-plans manner (said_missed so_far)
+    replies-plan (fetches plan) = so plan
+    replies-plan reply = said-plans manner (said_of reply)
+
+  looks-plan : (rounds : ℕ) (repo path tried : List ℕ) (so_far : Verdict) → AsPlanned [] (looks manner rounds repo path tried so_far)
+  looks-plan zero repo path tried so_far =
+      replies-plan repo path tried so_far (λ plan. gives_any_up plan.draft (without_memory manner)) (λ plan. unfetched-plans plan plan.draft)
+  looks-plan (suc rounds) repo path tried so_far =
+      let again : Plan → Option FetchFault → Course = λ plan why. looks manner rounds repo path (tried ++ plan.member ∷ []) (with_fault so_far why) in
+      replies-plan repo path tried so_far (λ plan. does (fetch plan) (after_fetch manner plan (again plan)))
+      (λ plan. (refl, fetch-plans plan (again plan) (λ why. looks-plan rounds repo path (tried ++ plan.member ∷ []) (with_fault so_far why))))
+
+  put-plans : (n : ℕ) (reply : Reply) → AsPlanned [] (after_put n manner reply)
+  put-plans n reply =
+      elim (leaves_draft reply) as (λ b. AsPlanned [] (if b then gives_up n (tells manner reply) else tells manner reply)) [
+        | true ↦ λ dropped. tells-plans manner reply
+        | false ↦ tells-plans manner reply
+      ]
+
+  take-plans : (place : Place) (path : List ℕ) (n count : ℕ) (stored : Stored) → AsPlanned [] (after_take place path n count manner stored)
+  take-plans (repository repo) path n count (Ok blob) = put-plans n
+  take-plans (session number) path n count (Ok blob) = put-plans n
+  take-plans place path n count (Err fault) = λ reply. closes-plans (behind_fault count fault manner) (of_fault fault)
+
+  invites-plan : (waits : Bool) (cut body : Course) → AsPlanned [] cut → AsPlanned [] body → AsPlanned [] (invites waits cut body)
+  invites-plan false cut body cuts bodies = bodies
+  invites-plan true cut body cuts bodies = (tt, pick) where
+    pick : (result : Continued) → AsPlanned [] (after_continue cut body result)
+    pick continued.Written = bodies
+    pick continued.SinkFault = cuts
+
+  may_put-plans : (place : Place) (path : List ℕ) (count : ℕ) (waits : Bool) (reply : Reply) → AsPlanned [] (after_may_put place path count waits manner reply)
+  may_put-plans place path count waits (draft n) =
+      invites-plan waits (gives_up n cut_off) (does (take_body n count) (after_take place path n count manner)) (λ reply. tt) (tt, take-plans place path n count)
+  may_put-plans place path count waits reply = said-plans (with_unread count manner) (said_of reply)
+
+  compares-plan : (place : Place) (path : List ℕ) (found : Option (List ℕ)) → AsPlanned [] (compares place path manner found)
+  compares-plan place path (Some digest) = tells-plans manner
+  compares-plan place path None = tt
+
+  notes-plan : (place : Place) (path : List ℕ) (document : Result Document ℕ) → AsPlanned [] (notes place path manner document)
+  notes-plan place path (Ok document) = tells-plans manner
+  notes-plan place path (Err at) = tt
+
+  for-plans : (expects : Bool) (intent : Intent) → AsPlanned [] (course_for manner expects intent)
+  for-plans expects (reads_path repo path sort) = looks-plan (rounds_of sort) repo path [] (verdict.Unasked (is_group sort))
+  for-plans expects (puts_file place path count) = may_put-plans place path count expects
+  for-plans expects (puts_side place path side count) = invites-plan expects cut_off (does (read_body count) (after_side place path side manner)) tt (tt, tell) where
+    tell : (body : Body) → AsPlanned [] (after_side place path side manner body)
+    tell (Ok bytes) = compares-plan place path (read_side side bytes)
+    tell (Err fault) = closes-plans manner (of_fault fault)
+  for-plans expects (puts_document place path count) = invites-plan expects cut_off (does (read_body count) (after_document place path manner)) tt (tt, tell) where
+    tell : (body : Body) → AsPlanned [] (after_document place path manner body)
+    tell (Ok bytes) = notes-plan place path (reading bytes)
+    tell (Err fault) = closes-plans manner (of_fault fault)
+  for-plans expects (cleans_all repos) = (tt, λ pass. closes-plans manner (of_pass pass))
+  for-plans expects counts = tells-plans manner
+  for-plans expects (opens repo) = tells-plans manner
+  for-plans expects (commits n) = tells-plans manner
+  for-plans expects (aborts n) = tells-plans manner
+
+judged-plans : (judged : Result Judged Refused) (last : Bool) → AsPlanned [] (course_of judged last)
+judged-plans (Ok request) last = for-plans (manner_for request last) request.expects request.intent
+judged-plans (Err cause) last = tt
+
+pub opens-plan : (settings : Settings) (last : Bool) (old new : Outside) (c : Course) → Opens settings last old new c → AsPlanned [] c
+opens-plan settings last old new c (clean begins still is) = subst (AsPlanned []) (sym is) tt
+opens-plan settings last old new c (torn begins still is) = subst (AsPlanned []) (sym is) tt
+opens-plan settings last old new c (failed faults rose still is) = subst (AsPlanned []) (sym is) tt
+opens-plan settings last old new c (refused fault begins still is) = subst (AsPlanned []) (sym is) tt
+opens-plan settings last old new c (unread_head begins still is) = subst (AsPlanned []) (sym is) tt
+opens-plan settings last old new c (starved head rest begins uses is) = subst (AsPlanned []) (sym is) tt
+opens-plan settings last old new c (served head rest begins uses is) = subst (AsPlanned []) (sym is) (judged-plans (judge settings head) last)

@@ -1,0 +1,7 @@
+pub mod Moved
+pub mod Beside
+pub mod DraftLemmas
+pub mod Homes
+pub mod KeptLemmas
+pub mod PageLemmas
+pub mod Texts

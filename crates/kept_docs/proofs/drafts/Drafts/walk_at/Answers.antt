@@ -1,0 +1,23 @@
+use Rattle.std.proofs.Common.{ℕ, List, sym, ap, ◌∙◌, subst}
+use Rattle.std.specs.Prelude.{OnOk}
+use Rattle.mvn_coords.specs.Kind.{text_of_kind}
+use Rattle.kept_docs.specs.Drafted.{HasWalked}
+use Rattle.kept_docs.proofs.DraftLemmas.{walked_nowhere}
+use Rattle.kept_docs.proofs.drafts.Drafts.walk_at.Goals as goal
+
+pub returns-in-Ok-Doc : goal.returns-in-Ok-Doc
+returns-in-Ok-Doc g c =
+    subst (λ (t : List ℕ). OnOk c.walk_in.result (HasWalked t c.args.rows.now c.args.self.now c.walk_in.new.self))
+    (ap text_of_kind (sym c.in-Ok-Doc.field-0-is) ∙ c.in-Ok-Doc.ensures.path) c.walk_in.ensures
+
+pub returns-in-Ok-File : goal.returns-in-Ok-File
+returns-in-Ok-File g c = walked_nowhere c.args.document.now c.kind_of.result c.args.rows.now c.args.self.now c.kind_of.ensures.kind (λ e h. cc (h, c.in-Ok-File.is, c.in-Ok-File.field-0-is)) c.requires
+
+pub returns-in-Ok-FileSide : goal.returns-in-Ok-FileSide
+returns-in-Ok-FileSide g c = walked_nowhere c.args.document.now c.kind_of.result c.args.rows.now c.args.self.now c.kind_of.ensures.kind (λ e h. cc (h, c.in-Ok-FileSide.is, c.in-Ok-FileSide.field-0-is)) c.requires
+
+pub returns-in-Ok-DocSide : goal.returns-in-Ok-DocSide
+returns-in-Ok-DocSide g c = walked_nowhere c.args.document.now c.kind_of.result c.args.rows.now c.args.self.now c.kind_of.ensures.kind (λ e h. cc (h, c.in-Ok-DocSide.is, c.in-Ok-DocSide.field-0-is)) c.requires
+
+pub returns-in-Err : goal.returns-in-Err
+returns-in-Err g c = walked_nowhere c.args.document.now c.kind_of.result c.args.rows.now c.args.self.now c.kind_of.ensures.kind (λ e h. cc (h, c.in-Err.is)) c.requires

@@ -1,0 +1,15 @@
+//! The documents of directories, kept as they are written: a visible row adds to those of its directories, and what is written anew
+//! takes the place of the old at once, without memory.
+#![tactic(auto)]
+
+mod docs;
+mod drafts;
+mod laws;
+mod pages;
+mod preparing;
+
+pub use docs::Docs;
+pub use drafts::Drafts;
+pub use laws::document_laws;
+pub use pages::Page;
+pub use preparing::{prepared, prepared_row};
