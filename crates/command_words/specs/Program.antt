@@ -30,6 +30,14 @@ over_data name =
 abbrev pub serve : App
 serve = with_rule (over_data (codes "serve")) (record (new_rule (codes "port")) { required = true; parser = Some (Unsigned 1 65535) })
 
+-- an option with a whole number up to a limit, which is not left out
+abbrev pub required_number : List ℕ → ℕ → Rule
+required_number name most = record (number name most) { required = true }
+
+-- `demo --from N --calls M`
+abbrev pub demo : App
+demo = with_rule (with_rule (without_help (new_app (codes "demo"))) (required_number (codes "from") 65535)) (required_number (codes "calls") 100000)
+
 abbrev pub bare : App
 bare = without_help (new_app (codes "mvnrepod"))
 
@@ -41,4 +49,4 @@ looking =
     (over_data (codes "check")).top
 
 abbrev pub program : App
-program = with_subcommand (with_subcommand looking (over_data (codes "clean")).top) serve.top
+program = with_subcommand (with_subcommand (with_subcommand looking (over_data (codes "clean")).top) serve.top) demo.top

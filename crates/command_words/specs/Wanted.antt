@@ -9,7 +9,7 @@ use Rattle.clap.specs.declared.error.ErrorKind.{ErrorKind}
 use Rattle.clap.specs.declared.error.ErrorKind.TheVariants.{OutOfMemory}
 use Rattle.command_words.specs.Program.{program}
 use Rattle.command_words.specs.declared.wanted.Wanted.{Wanted}
-use Rattle.command_words.specs.declared.wanted.Wanted.TheVariants.{Replay, Check, Clean, Serve}
+use Rattle.command_words.specs.declared.wanted.Wanted.TheVariants.{Replay, Check, Clean, Serve, Demo}
 use Rattle.command_words.specs.declared.wanted.WordsFault.{WordsFault}
 use Rattle.command_words.specs.declared.wanted.WordsFault.TheVariants.{Refused, NoMemory}
 
@@ -33,12 +33,18 @@ check_in rows = Check (text_at (codes "settings") rows) (text_at (codes "data") 
 abbrev pub clean_in : List Row → Wanted
 clean_in rows = Clean (text_at (codes "settings") rows) (text_at (codes "data") rows)
 
--- a number of 16 bits; what is greater is no port
-abbrev pub port_of : ℕ → ℕ
-port_of n = if nat_lt n (2 ^ 16) then n else 0
+-- a number of 16 bits, or of 32; no option has a greater one
+abbrev pub small_of : ℕ → ℕ
+small_of n = if nat_lt n (2 ^ 16) then n else 0
+
+abbrev pub count_of : ℕ → ℕ
+count_of n = if nat_lt n (2 ^ 32) then n else 0
 
 abbrev pub serve_in : List Row → Wanted
-serve_in rows = Serve (text_at (codes "settings") rows) (text_at (codes "data") rows) (port_of (number_at (codes "port") rows))
+serve_in rows = Serve (text_at (codes "settings") rows) (text_at (codes "data") rows) (small_of (number_at (codes "port") rows))
+
+abbrev pub demo_in : List Row → Wanted
+demo_in rows = Demo (small_of (number_at (codes "from") rows)) (count_of (number_at (codes "calls") rows))
 
 abbrev pub wanted_by : Text × List Row → Option Wanted
 wanted_by (name, rows) =
@@ -46,6 +52,7 @@ wanted_by (name, rows) =
     else if bytes_eq name (codes "check") then Some (check_in rows)
     else if bytes_eq name (codes "clean") then Some (clean_in rows)
     else if bytes_eq name (codes "serve") then Some (serve_in rows)
+    else if bytes_eq name (codes "demo") then Some (demo_in rows)
     else None
 
 abbrev pub is_none_of : Kinds → Bool

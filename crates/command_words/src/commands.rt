@@ -16,13 +16,22 @@ const LONGEST_STEP: u64 = 86_400;
 /// The greatest port (RFC 793).
 const LAST_PORT: u64 = 65_535;
 
+/// The greatest number from which a demonstration begins, and the most requests of it.
+const LAST_START: u64 = 65_535;
+
+const MOST_CALLS: u64 = 100_000;
+
 /// The program, with a subcommand for each thing that it does. It has no words for help and its version.
 pub(crate) fn program<'a>(alloc: Global) -> Result<Command<'a>, AllocError>
     ensures { IfOk result (λ command. (app_of command ≡ spec.program) × ((fields_of command).has_globals ≡ false)) }
 {
     let clean = over_data(alloc, "clean")?;
     let serve = serve(alloc)?;
-    looking(alloc)?.subcommand(clean)?.subcommand(serve)
+    let demo = demo(alloc)?;
+    looking(alloc)?
+        .subcommand(clean)?
+        .subcommand(serve)?
+        .subcommand(demo)
 }
 
 /// The program without what changes a folder.
@@ -71,6 +80,16 @@ fn serve<'a>(alloc: Global) -> Result<Command<'a>, AllocError>
     over_data(alloc, "serve")?.arg(port)
 }
 
+fn demo<'a>(alloc: Global) -> Result<Command<'a>, AllocError>
+    ensures { IfOk result (λ command. (app_of command ≡ spec.demo) × ((fields_of command).has_globals ≡ false)) }
+{
+    let from = required_number(alloc, "from", LAST_START);
+    let calls = required_number(alloc, "calls", MOST_CALLS);
+    without_help(Command::new(alloc, "demo"))
+        .arg(from)?
+        .arg(calls)
+}
+
 fn without_help<'a>(command: Command<'a>) -> Command<'a>
     ensures app { app_of result ≡ spec.without_help (app_of command.entry) }
     ensures globals { (fields_of result).has_globals ≡ (fields_of command.entry).has_globals }
@@ -85,5 +104,16 @@ fn number<'a>(alloc: Global, name: &'a str, most: u64) -> Arg<'a>
 {
     Arg::new(alloc, name)
         .long(name)
+        .value_parser(ValueParser::Unsigned(0, most))
+}
+
+/// The same option, which is not left out.
+fn required_number<'a>(alloc: Global, name: &'a str, most: u64) -> Arg<'a>
+    ensures rule { rule_of result ≡ spec.required_number name.entry.now most }
+    ensures local { result.global ≡ false }
+{
+    Arg::new(alloc, name)
+        .long(name)
+        .required(true)
         .value_parser(ValueParser::Unsigned(0, most))
 }

@@ -27,6 +27,11 @@ pub enum Wanted {
         data: Text,
         port: u16,
     },
+    /// To answer so many requests that are made of numbers, the first of them following this one.
+    Demo {
+        from: u16,
+        calls: u32,
+    },
 }
 
 /// Why words ask for nothing.

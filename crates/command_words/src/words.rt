@@ -61,6 +61,9 @@ fn subcommand_in(alloc: Global, name: &str, found: &ArgMatches<'_>) -> Result<Wa
     if name == "serve" {
         return serve_in(alloc, found);
     }
+    if name == "demo" {
+        return Ok(demo_in(found));
+    }
     Err(WordsFault::Refused)
 }
 
@@ -102,8 +105,17 @@ fn serve_in(alloc: Global, found: &ArgMatches<'_>) -> Result<Wanted, WordsFault>
     Ok(Wanted::Serve {
         settings: owned(alloc, text_at(found, "settings"))?,
         data: owned(alloc, text_at(found, "data"))?,
-        port: port_at(found, "port"),
+        port: small_at(found, "port"),
     })
+}
+
+fn demo_in(found: &ArgMatches<'_>) -> Wanted
+    ensures { result ≡ spec.demo_in (rows_of (found_of found.now)) }
+{
+    Wanted::Demo {
+        from: small_at(found, "from"),
+        calls: count_at(found, "calls"),
+    }
 }
 
 fn owned(alloc: Global, text: &str) -> Result<Text, WordsFault>
@@ -134,8 +146,15 @@ fn number_at(found: &ArgMatches<'_>, id: &str) -> u64
     }
 }
 
-fn port_at(found: &ArgMatches<'_>, id: &str) -> u16
-    ensures { result ≡ spec.port_of (spec.number_at id.now (rows_of (found_of found.now))) }
+fn count_at(found: &ArgMatches<'_>, id: &str) -> u32
+    ensures { result ≡ spec.count_of (spec.number_at id.now (rows_of (found_of found.now))) }
+{
+    let number = number_at(found, id);
+    if number < 1 << 32 { number as u32 } else { 0 }
+}
+
+fn small_at(found: &ArgMatches<'_>, id: &str) -> u16
+    ensures { result ≡ spec.small_of (spec.number_at id.now (rows_of (found_of found.now))) }
 {
     let number = number_at(found, id);
     if number < 1 << 16 { number as u16 } else { 0 }

@@ -6,3 +6,6 @@ pub mod Drawn
 pub mod Fresh
 pub mod Starved
 pub mod Reading
+pub mod Tallies
+pub mod Shown
+pub mod Demonstrated

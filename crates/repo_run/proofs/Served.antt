@@ -76,7 +76,7 @@ members-few (g ∷ groups) all =
     let here : length g.members ≤ 16 = leb-true (length g.members) 16 (and_parts _ _ sizes).1 in
     let rest = members-few groups each.1 in omega (arith, here, rest)
 
-most-few : (settings : Settings) → IsSettings settings → most_asked settings ≤ 65
+pub most-few : (settings : Settings) → IsSettings settings → most_asked settings ≤ 65
 unfolding most_asked
 most-few settings form =
     let mine : List (List ℕ) = map (λ (rule : Rule). rule.id) settings.hosted in

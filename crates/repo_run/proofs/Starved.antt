@@ -8,11 +8,14 @@ use Rattle.run_lines.specs.Printing.{Output, Prints}
 use Rattle.run_lines.specs.Reading.{File, Reads}
 use Rattle.store_check.specs.Checking as checking
 use Rattle.repo_run.specs.declared.actions.Action.{Action}
-use Rattle.repo_run.specs.declared.actions.Action.TheVariants.{Replay, Check, Clean, Serve, Nothing}
+use Rattle.repo_run.specs.declared.actions.Action.TheVariants.{Replay, Check, Clean, Serve, Demo, Nothing}
 use Rattle.repo_run.specs.Clean as clean
+use Rattle.repo_run.specs.Demo as demo
 use Rattle.repo_run.specs.Replay.{refused}
 use Rattle.repo_run.specs.Running.{Acts}
 use Rattle.repo_run.specs.Surroundings.{View}
+use Rattle.repo_run.proofs.NotBegun.{not-begun}
+use Rattle.repo_core.specs.declared.faults.StartFault.TheVariants as start
 use Rattle.run_desks.specs.Seen.{Floor, Looks}
 
 -- want of memory says nothing of a source
@@ -30,5 +33,7 @@ starved-run looks Replay old out' status prints is = (refused (unread-source old
 starved-run looks Check old out' status prints is =
     ((checking.refused (unread-source old.source old.out out' status prints is) refl refl, refl, refl, refl), refl)
 starved-run looks Clean old out' status prints is = (clean.refused (unread-source old.source old.out out' status prints is) refl (refl, refl) refl, refl, refl)
+starved-run looks (Demo from calls) old out' status prints is =
+    (demo.not_started start.NoMemory _ (not-begun old.records _) refl refl (prints, is), refl, refl)
 starved-run looks Serve old out' status prints is = (inr (prints, is), refl, refl, (refl, refl), refl)
 starved-run looks Nothing old out' status prints is = (inr (prints, is), refl, refl, (refl, refl), refl)

@@ -6,4 +6,6 @@ pub mod FirstConnection
 pub mod Begun
 pub mod Replay
 pub mod Clean
+pub mod Demo
+pub mod DemoSteps
 pub mod Running

@@ -1,13 +1,14 @@
 -- What a run does that serves no more than one connection, by what its words ask for.
 use Rattle.std.specs.Prelude.{◌≡◌, ◌⊎◌, ℕ, List}
 use Rattle.repo_run.specs.declared.actions.Action.{Action}
-use Rattle.repo_run.specs.declared.actions.Action.TheVariants.{Replay, Check, Clean, Serve, Nothing}
+use Rattle.repo_run.specs.declared.actions.Action.TheVariants.{Replay, Check, Clean, Serve, Demo, Nothing}
 use Rattle.run_desks.specs.Seen.{Floor, Looks, with_blobs}
 use Rattle.run_lines.specs.Lines.{memory_line, words_line}
 use Rattle.run_lines.specs.Printing.{Prints}
 use Rattle.store_check.specs.Checking.{ChecksBy}
 use Rattle.repo_run.specs.Begun.{LeavesRecords}
 use Rattle.repo_run.specs.Clean.{CleansBy}
+use Rattle.repo_run.specs.Demo.{Demonstrates}
 use Rattle.repo_run.specs.Replay.{ReplaysBy}
 use Rattle.repo_run.specs.Surroundings.{DeskState, FirstOnly, View, desk_state, placed}
 
@@ -36,6 +37,9 @@ Acts looks Check old new status =
 Acts looks Clean old new status =
     CleansBy (placed old.place.cleaner.blobs old) (placed new.place.cleaner.blobs new) status
     × (new.place.desks ≡ old.place.desks) × (new.place.cleaner.pauses ≡ old.place.cleaner.pauses)
+Acts looks (Demo from calls) old new status =
+    Demonstrates looks.tells from calls (placed (desk_state looks old.place.desks) old) (placed (desk_state looks new.place.desks) new) status
+    × (new.source ≡ old.source) × (new.place.cleaner ≡ old.place.cleaner)
 Acts looks Serve old new status = RefusesWords old new status
 Acts looks Nothing old new status = RefusesWords old new status
 

@@ -2,7 +2,7 @@
 use Rattle.std.specs.Prelude.{◌≡◌, ◌⊎◌, ℕ}
 use Rattle.outside.specs.Faults.{Rose}
 use Rattle.repo_run.specs.declared.actions.Action.{Action}
-use Rattle.repo_run.specs.declared.actions.Action.TheVariants.{Replay, Check, Clean, Serve, Nothing}
+use Rattle.repo_run.specs.declared.actions.Action.TheVariants.{Replay, Check, Clean, Serve, Demo, Nothing}
 
 -- done, settings that are refused, a store that failed or does not read, a damaged file, input, output or want of memory; and
 -- never 2
@@ -13,11 +13,16 @@ IsStatusOfOpening status = (status ≡ 0) ⊎ ((status ≡ 3) ⊎ ((status ≡ 4
 abbrev pub IsStatusOfCheck : ℕ → Type 0
 IsStatusOfCheck status = (status ≡ 0) ⊎ ((status ≡ 3) ⊎ ((status ≡ 4) ⊎ ((status ≡ 6) ⊎ ((status ≡ 7) ⊎ ((status ≡ 8) ⊎ (status ≡ 9))))))
 
+-- settings are not read, and nothing is that fails but the store, the output and memory
+abbrev pub IsStatusOfDemo : ℕ → Type 0
+IsStatusOfDemo status = (status ≡ 0) ⊎ ((status ≡ 4) ⊎ ((status ≡ 5) ⊎ ((status ≡ 7) ⊎ (status ≡ 8))))
+
 -- by what the words ask for; want of memory may stand in the place of a refusal
 abbrev pub MatchAction : Action → ℕ → Type 0
 MatchAction Replay status = IsStatusOfOpening status
 MatchAction Check status = IsStatusOfCheck status
 MatchAction Clean status = IsStatusOfOpening status
+MatchAction (Demo from calls) status = IsStatusOfDemo status
 MatchAction Serve status = (status ≡ 2) ⊎ (status ≡ 8)
 MatchAction Nothing status = (status ≡ 2) ⊎ (status ≡ 8)
 

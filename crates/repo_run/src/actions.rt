@@ -11,6 +11,8 @@ pub enum Action {
     Clean,
     /// To answer the requests of any number of connections.
     Serve,
+    /// To answer so many requests that are made of numbers, the first of them following this one.
+    Demo { from: u16, calls: u32 },
     /// Nothing: the words are refused.
     Nothing,
 }

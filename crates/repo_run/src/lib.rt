@@ -1,15 +1,17 @@
-//! A run of the program `mvnrepod` that never waits: what its words ask for, a replay, a check or a cleaning, the lines that it
+//! A run of the program `mvnrepod` that never waits: what its words ask for, a replay, a check, a cleaning or a demonstration, the lines that it
 //! prints, and its status.
 #![tactic(auto)]
 
 mod actions;
 mod begun;
 mod cleans;
+mod demo;
 mod laws;
 mod program;
 mod ran;
 mod replays;
 mod reports;
+mod tally;
 mod words;
 
 pub use actions::{Action, Wanted};

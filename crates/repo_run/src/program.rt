@@ -9,6 +9,7 @@ ghost use Rattle.repo_run.specs.Words.{asked};
 
 use crate::actions::Action;
 use crate::cleans::clean;
+use crate::demo::demo;
 use crate::ran::{Ended, Ran};
 use crate::replays::replay;
 use crate::words::wanted;
@@ -51,6 +52,7 @@ fn act<B: Blobs, S: Source, P: Port, R: Remote, Q: Pace, K: Records, C: Clock, O
             }
         }
         Action::Clean => clean(alloc, settings, &mut cleaner.blobs, records, clock, out),
+        Action::Demo { from, calls } => demo(alloc, from, calls, desk, records, clock, out),
         Action::Serve | Action::Nothing => {
             let status = fault(out, b"mvnrepod: words\n", REFUSED);
             Ended {
@@ -68,14 +70,16 @@ fn act<B: Blobs, S: Source, P: Port, R: Remote, Q: Pace, K: Records, C: Clock, O
 /// `replay` reads the settings, opens a repository of them over what is recorded and stored, takes the first connection from
 /// the first desk's port, serves it, at most 1,000 requests, and gives it back. `clean` opens a repository over the cleaner's
 /// blobs and makes one pass over it. `check` looks at each recorded file in the first desk's blobs, once the settings were
-/// read. Other words are refused. `out` takes one line, of a cleaning two, of a check one more for each damaged file, or a front of
-/// these where `out` fails.
+/// read. `demo` opens a repository over the first desk's blobs, under settings of its own, answers requests that are made of numbers,
+/// each over a connection in memory, and asks how many files there are. Other words are refused. `out` takes one line, of a
+/// cleaning two, of a demonstration seven, of a check one more for each damaged file, or a front of these where `out` fails.
 ///
 /// | status | where | line |
 /// |---|---|---|
 /// | 0 | the connection ended, or there was none, and nothing below applies | `calls N end END` |
 /// | 0 | a check, all files being as they were recorded | `checked N` |
 /// | 0 | a cleaning that was made to its end | `unlisted N`, `removed N` |
+/// | 0 | all requests of a demonstration were answered | `requests N`, `ok N`, `created N`, `missing N`, `calls N`, `files N`, `fading N` |
 /// | 2 | the words are refused | `mvnrepod: words` |
 /// | 3 | the settings are refused | `mvnrepod: settings NAME KEY` |
 /// | 4 | the records or the blobs failed, before the port was asked or in a check or a cleaning | `mvnrepod: store` |

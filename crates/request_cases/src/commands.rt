@@ -16,7 +16,7 @@ fn over_folder(
     format!(in alloc; "{name} {settings} {data}")
 }
 
-/// What was read: the settings, the moment and the step of a replay, and the words themselves of others.
+/// What was read: the settings, the moment and the step of a replay, the two numbers of a demonstration, and the words themselves of others.
 fn shown(alloc: Global, wanted: &Wanted) -> Result<String, AllocError> {
     match wanted {
         Wanted::Replay { settings, at, step } => {
@@ -33,6 +33,7 @@ fn shown(alloc: Global, wanted: &Wanted) -> Result<String, AllocError> {
             let folder = over_folder(alloc, "serve", settings, data)?;
             format!(in alloc; "{folder} {port}")
         }
+        Wanted::Demo { from, calls } => format!(in alloc; "demo {from} {calls}"),
     }
 }
 

@@ -62,7 +62,11 @@ where
     match wanted(alloc, words) {
         Ok(wanted) => match wanted.command {
             Action::Serve => serve(rt, alloc, settings, desks, cleaner, records, clock, out),
-            Action::Replay | Action::Check | Action::Clean | Action::Nothing => run_once(
+            Action::Replay
+            | Action::Check
+            | Action::Clean
+            | Action::Demo { .. }
+            | Action::Nothing => run_once(
                 alloc, words, settings, desks, cleaner, records, clock, out,
             ),
         },

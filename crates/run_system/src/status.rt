@@ -1,6 +1,6 @@
 //! Which objects the words have.
 use crate::folder::status_over_folder;
-use crate::memory::status_in_memory;
+use crate::memory::{status_in_memory, status_of_demo};
 use crate::server::status_of_server;
 use outside::{Duplex, NoMemory};
 use outside_memory::{FaultScript, MemLink, MemSource};
@@ -36,6 +36,7 @@ pub fn status_for<R: Threads + Wait + Sync>(
         }
         Action::Check | Action::Clean => status_over_folder(threads, rt, words, wanted),
         Action::Serve => status_of_server(threads, rt, words, wanted),
+        Action::Demo { .. } => status_of_demo(threads, rt, words),
         Action::Nothing => {
             let mut settings = MemSource::new(Vec::new(alloc), 1, FaultScript::none(alloc));
             let links: Vec<MemLink> = Vec::new(alloc);

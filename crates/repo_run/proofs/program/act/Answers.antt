@@ -17,3 +17,6 @@ returns-in-Check-clause-run g c =
 
 pub returns-in-Clean-clause-run : goal.returns-in-Clean-clause-run
 returns-in-Clean-clause-run g c = rw c.in-Clean.is (c.clean.ensures, refl, refl)
+
+pub returns-in-Demo-clause-run : goal.returns-in-Demo-clause-run
+returns-in-Demo-clause-run g c = rw c.in-Demo.is (c.demo.ensures _ _, refl, refl)

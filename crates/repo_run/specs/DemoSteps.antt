@@ -1,0 +1,75 @@
+-- The steps of a demonstration: a request that is answered, all of them, and what is told of them.
+use Rattle.std.specs.Prelude.{◌≡◌, ◌⊎◌, ℕ, ◌+◌, ◌≤◌, Bool, false, if◌then◌else◌, List, [], ◌∷◌, Option, Some, None, Result, Ok, Err, codes}
+use Rattle.outside_memory.specs.Memory.{SinkState}
+use Rattle.outside_remote.specs.Exchanges.{Sees}
+use Rattle.repo_core.specs.CoreTurn.{CoreTurn}
+use Rattle.repo_core.specs.Whole.{Whole}
+use Rattle.repo_course.specs.Cleaning.{Store}
+use Rattle.repo_model.specs.Command.{status}
+use Rattle.repo_model.specs.History.{Entry}
+use Rattle.repo_model.specs.Reply.{counts}
+use Rattle.repo_model.specs.Settings.{Settings}
+use Rattle.run_desks.specs.Seen.{Kit}
+use Rattle.run_lines.specs.Lines.{memory_line}
+use Rattle.run_lines.specs.Printing.{Output, Prints}
+use Rattle.repo_run.specs.declared.tally.Files.{Files}
+use Rattle.repo_run.specs.declared.tally.Tally.{Tally}
+use Rattle.repo_run.specs.Demo.{AreAnswered, IsAnswered, NoneStarved, TellsSummary, has_status, summary, tally_of}
+use Rattle.repo_run.specs.FirstConnection.{Makes}
+
+abbrev pub kit : Store → Sees → Kit
+kit blobs remote = record { blobs = blobs; remote = remote }
+
+abbrev pub more : Bool → ℕ → ℕ
+more has count = count + (if has then 1 else 0)
+
+-- one more answer
+abbrev pub counted : List ℕ → Tally → Tally
+counted answer tally = record {
+  ok = more (has_status (codes "200") answer) tally.ok;
+  created = more (has_status (codes "201") answer) tally.created;
+  missing = more (has_status (codes "404") answer) tally.missing;
+}
+
+-- a request is answered by these turns of the repository
+abbrev pub Answers : Settings → Type 0 → List ℕ → Whole → Whole → Kit → Kit → List ℕ → Type 0
+Answers settings tells request core core' old new answer =
+    (entries : List Entry) × Makes core entries core' × IsAnswered settings tells request entries old new answer
+
+-- it was, and not for want of memory; or memory was wanting before or behind it
+abbrev pub Steps : {E : Type 0} → Settings → Type 0 → List ℕ → Whole → Whole → Kit → Kit → Result SinkState E → Type 0
+Steps settings tells request core core' old new (Ok sink) =
+    Answers settings tells request core core' old new sink.taken × (has_status (codes "507") sink.taken ≡ false)
+Steps settings tells request core core' old new (Err fault) =
+    ((core' ≡ core) × (new ≡ old)) ⊎ ((answer : List ℕ) × Answers settings tells request core core' old new answer)
+
+-- the first n requests are
+abbrev pub Shows : Settings → Type 0 → (from n : ℕ) → Whole → Whole → Kit → Kit → List (List ℕ) → Type 0
+Shows settings tells from n core core' old new answers =
+    (entries : List Entry) × Makes core entries core' × AreAnswered settings tells from n entries old new answers
+
+-- all are, and none for want of memory; or some of them
+abbrev pub ShowsAll : {E : Type 0} → Settings → Type 0 → (from requests : ℕ) → Whole → Whole → Kit → Kit → Result Tally E → Type 0
+ShowsAll settings tells from requests core core' old new (Ok tally) =
+    (answers : List (List ℕ)) × Shows settings tells from requests core core' old new answers × (tally ≡ tally_of answers) × NoneStarved answers
+ShowsAll settings tells from requests core core' old new (Err fault) =
+    (n : ℕ) × (n ≤ requests) × (answers : List (List ℕ)) × Shows settings tells from n core core' old new answers
+
+-- the repository says how many files it has; or memory was wanting
+abbrev pub AsksFiles : Whole → Whole → Option Files → Type 0
+AsksFiles core core' (Some found) =
+    (asked : Entry) × CoreTurn core.settings core asked core' × (asked.command ≡ status)
+    × ((cached documents sessions : ℕ) × (asked.reply ≡ counts found.files found.fading cached documents sessions))
+AsksFiles core core' None = (asked : Entry) × CoreTurn core.settings core asked core' × (asked.command ≡ status)
+
+-- the repository says it and the lines are printed; or the line of want of memory is
+abbrev pub TellsAll : ℕ → Tally → Whole → Whole → Output → Output → ℕ → Type 0
+TellsAll requests tally core core' old new ends =
+    (asked : Entry) × CoreTurn core.settings core asked core' × (asked.command ≡ status)
+    × (((files fading cached documents sessions : ℕ) × (asked.reply ≡ counts files fading cached documents sessions)
+    × TellsSummary (summary requests tally core'.calls files fading) old new ends)
+    ⊎ (Prints memory_line old new × (ends ≡ 8)))
+
+abbrev pub TellsShown : {E : Type 0} → ℕ → Result Tally E → Whole → Whole → Output → Output → ℕ → Type 0
+TellsShown requests (Ok tally) core core' old new ends = TellsAll requests tally core core' old new ends
+TellsShown requests (Err fault) core core' old new ends = (core' ≡ core) × Prints memory_line old new × (ends ≡ 8)
