@@ -8,7 +8,7 @@ use Rattle.repo_routes.specs.Intent.{Judged}
 use Rattle.repo_routes.specs.Judge.{judge}
 use Rattle.repo_routes.specs.declared.judging.Refused.{Refused}
 use Rattle.repo_course.specs.Course.{Close, Course}
-use Rattle.repo_course.specs.Serving.{Opens, clean, torn, failed, refused, unread_head, starved, served, Outside, Serves, Turn}
+use Rattle.repo_course.specs.Serving.{Opens, clean, torn, failed, refused, unread_head, starved, served, Outside, ServesStream, RequestTurn}
 use Rattle.repo_course.specs.declared.outcomes.End.{End}
 use Rattle.course_laws.specs.Duties.{Duty, Fulfils, Rounds, duty_of}
 use Rattle.course_laws.proofs.Counts.{opens-grew}
@@ -65,7 +65,7 @@ module _ (settings : Settings) where
     since-head by_text r due steps old mid new close grew (by_deed before behind deed outcome mine from seen parts free does_so first rest is quiet later) =
         by_deed before behind deed outcome mine from seen parts free does_so (fell-then old mid from grew first) rest is quiet later
 
-    turn-ends : (last : Bool) (entries : List Entry) (old new : Outside) (stop : Option End) → Turn settings tells last entries old new stop
+    turn-ends : (last : Bool) (entries : List Entry) (old new : Outside) (stop : Option End) → RequestTurn settings tells last entries old new stop
         → IsAnsweredByCause settings tells last entries old new stop
     turn-ends last entries old new stop t =
         let duty = owed settings t.2 in
@@ -90,7 +90,7 @@ module _ (settings : Settings) where
 
     module _ (start : State) (history : List Mark) (legal : Legal settings start (entries_of history)) where
       turn-asks : (last : Bool) (entries : List Entry) (old new : Outside) (stop : Option End) → AllByRecursion (FitsOne settings) entries
-          → Turn settings tells last entries old new stop → AllAskWith [] entries
+          → RequestTurn settings tells last entries old new stop → AllAskWith [] entries
       turn-asks last entries old new stop fit t =
           let duty = owed settings t.2 in
           follows-ask settings tells duty.by_text duty.manner t.0 duty.most duty.stand (keeps last old t.1 t.0 t.2) [] entries fit
@@ -103,7 +103,7 @@ module _ (settings : Settings) where
         pub answered : AllAnsweredByCause settings tells start history past rest old turns
 
       turn-first : (last : Bool) (past entries rest : List Entry) (old new : Outside) (stop : Option End) → own_of history ≡ past ++ (entries ++ rest)
-          → Turn settings tells last entries old new stop
+          → RequestTurn settings tells last entries old new stop
           → IsAnsweredByCause settings tells last entries old new stop × AllCaused settings tells start history past [] entries rest
       turn-first last past entries rest old new stop own t =
           let fit = all-cut (FitsOne settings) entries rest (all-behind (FitsOne settings) past (entries ++ rest)
@@ -114,8 +114,8 @@ module _ (settings : Settings) where
           )
 
       pub stream-answered : (n : ℕ) (past entries rest : List Entry) (old new : Outside) (ending : End) → own_of history ≡ past ++ (entries ++ rest)
-          → Serves settings tells n entries old new ending → IsAnswered n past entries rest old new ending
-      unfolding Serves AreTurns
+          → ServesStream settings tells n entries old new ending → IsAnswered n past entries rest old new ending
+      unfolding ServesStream AreTurns
       stream-answered zero past entries rest old new ending own serves =
           record { turns = []; are = (serves.0, serves.1, serves.2); made = serves.0; answered = tt }
       stream-answered (suc left) past entries rest old new ending own (inl turned) =

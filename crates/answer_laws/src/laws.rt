@@ -4,7 +4,7 @@ ghost use Rattle.repo_model.specs.History.{Entry, Legal};
 ghost use Rattle.repo_model.specs.Settings.{Settings};
 ghost use Rattle.repo_model.specs.State.{State};
 ghost use Rattle.repo_course.specs.Asking.{LiesIn};
-ghost use Rattle.repo_course.specs.Serving.{AllTell, Outside, Serves};
+ghost use Rattle.repo_course.specs.Serving.{AllTell, Outside, ServesStream};
 ghost use Rattle.repo_course.specs.declared.outcomes.End.{End};
 ghost use Rattle.closed_laws.specs.Streams.{AreTurns, Seen};
 ghost use Rattle.answer_laws.specs.Marked.{Mark, entries_of, own_entry, own_of};
@@ -22,16 +22,16 @@ use outside::Held;
 /// a legal history; or they are all of it.
 pub fn streams_are_answered_by_cause<H: Held>()
     ensures among { (settings : Settings) (n : ℕ) (start : State) (history : List Mark) (past entries rest : List Entry) (old new : Outside) (ending : End) →
-        Legal settings start (entries_of history) → own_of history ≡ past ++ (entries ++ rest) → Serves settings (AllTell H.bytes) n entries old new ending →
+        Legal settings start (entries_of history) → own_of history ≡ past ++ (entries ++ rest) → ServesStream settings (AllTell H.bytes) n entries old new ending →
         (turns : List Seen) × AreTurns settings (AllTell H.bytes) n turns entries old new ending
         × AllAnsweredByCause settings (AllTell H.bytes) start history past rest old turns }
     ensures lying { (settings : Settings) (n : ℕ) (start : State) (history entries : List Entry) (old new : Outside) (ending : End) →
-        Legal settings start history → LiesIn entries history → Serves settings (AllTell H.bytes) n entries old new ending →
+        Legal settings start history → LiesIn entries history → ServesStream settings (AllTell H.bytes) n entries old new ending →
         (marks : List Mark) × (entries_of marks ≡ history) × (own_of marks ≡ entries)
         × (turns : List Seen) × AreTurns settings (AllTell H.bytes) n turns entries old new ending
         × AllAnsweredByCause settings (AllTell H.bytes) start marks [] [] old turns }
     ensures alone { (settings : Settings) (n : ℕ) (start : State) (entries : List Entry) (old new : Outside) (ending : End) →
-        Legal settings start entries → Serves settings (AllTell H.bytes) n entries old new ending →
+        Legal settings start entries → ServesStream settings (AllTell H.bytes) n entries old new ending →
         (turns : List Seen) × AreTurns settings (AllTell H.bytes) n turns entries old new ending
         × AllAnsweredByCause settings (AllTell H.bytes) start (map own_entry entries) [] [] old turns }
 {}

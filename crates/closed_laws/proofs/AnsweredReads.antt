@@ -25,7 +25,7 @@ use Rattle.repo_course.specs.declared.outcomes.End.{End}
 use Rattle.repo_course.specs.declared.outcomes.Sent.{Sent}
 use Rattle.repo_course.specs.declared.outcomes.Sent.TheVariants as sent
 use Rattle.repo_course.specs.declared.said.Said.TheVariants as said
-use Rattle.repo_course.specs.Serving.{Begins, Follows, IsWhole, Opens, clean, torn, failed as source_failed, refused as no_head, unread_head, starved as head_starved, served, Outside, SendsAnswer, Turn}
+use Rattle.repo_course.specs.Serving.{Begins, Follows, IsWhole, Opens, clean, torn, failed as source_failed, refused as no_head, unread_head, starved as head_starved, served, Outside, SendsAnswer, RequestTurn}
 use Rattle.course_laws.specs.Duties.{duty_of}
 use Rattle.course_laws.proofs.HeadOnly.{judged-head}
 use Rattle.course_laws.proofs.Sendings.{cut-by-fault, cut-by-other, not-sent, other-found, sent-in-part, sent-nothing, sent-whole}
@@ -91,7 +91,7 @@ module _ (tells : Type 0) (manner : Manner) where
 
 module _ (settings : Settings) (tells : Type 0) (last : Bool) where
   pub turn-looked : (entries : List Entry) (old new : Outside) (end : Option End) (input rest repo path : List ℕ) (of_sort : Sort) (head : Head) (request : Judged)
-      → Turn settings tells last entries old new end → old.input ≡ Some input → front input ≡ Whole head rest → judge settings head ≡ Ok request
+      → RequestTurn settings tells last entries old new end → old.input ≡ Some input → front input ≡ Whole head rest → judge settings head ≡ Ok request
       → request.intent ≡ reads repo path of_sort → IsLookedUp repo path By (manner_for request last) rest entries old new end
   turn-looked entries old new end input rest repo path of_sort head request (c, mid, o, f) input-is front-is judged asks-it = opened o
     where

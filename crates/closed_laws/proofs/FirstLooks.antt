@@ -19,7 +19,7 @@ use Rattle.repo_course.specs.declared.outcomes.Continued.{Continued}
 use Rattle.repo_course.specs.declared.outcomes.Continued.TheVariants as continued
 use Rattle.repo_course.specs.declared.outcomes.End.{End}
 use Rattle.repo_course.specs.declared.said.Said.TheVariants.{NoMemory}
-use Rattle.repo_course.specs.Serving.{Begins, Follows, IsWhole, Opens, clean, torn, failed, refused, unread_head, starved, served, Outside, Turn}
+use Rattle.repo_course.specs.Serving.{Begins, Follows, IsWhole, Opens, clean, torn, failed, refused, unread_head, starved, served, Outside, RequestTurn}
 use Rattle.course_laws.proofs.Passes.{ArePass, IsPassCommand, deed-asks}
 use Rattle.closed_laws.specs.Answered.{ReadShows, ShowsReply}
 use Rattle.closed_laws.proofs.AnsweredReads.{looks-first, reply-seen}
@@ -140,7 +140,7 @@ module _ (settings : Settings) (tells : Type 0) (last : Bool) (e : Entry) (more 
       by-outcome (Ok request) judged f = by-intent request judged request.intent refl f
       by-outcome (Err cause) judged f = not-none e more f.0
 
-  pub turn-answered : (old new : Outside) (end : Option End) → Turn settings tells last (e ∷ more) old new end
+  pub turn-answered : (old new : Outside) (end : Option End) → RequestTurn settings tells last (e ∷ more) old new end
       → ReadShows settings last repo path (ShowsReply e.reply) old new end
   turn-answered old new end (c, mid, o, f) = opened o
     where

@@ -5,7 +5,7 @@ use Rattle.repo_model.specs.History.{Entry, Legal}
 use Rattle.repo_model.specs.Settings.{Settings}
 use Rattle.repo_model.specs.State.{State}
 use Rattle.repo_laws.specs.Sound.{AreNamedApart, IsSound}
-use Rattle.repo_course.specs.Serving.{Outside, Serves, Turn}
+use Rattle.repo_course.specs.Serving.{Outside, ServesStream, RequestTurn}
 use Rattle.repo_course.specs.declared.outcomes.End.{End}
 use Rattle.closed_laws.specs.Streams.{AllShowBehind, AllShowWhatWasNamed, AreTurns, Seen, ShowsWhatWasNamed}
 use Rattle.closed_laws.proofs.FirstLooks.{turn-answered}
@@ -13,10 +13,10 @@ use Rattle.closed_laws.proofs.NamedServed.{file-answered, side-answered}
 
 module _ (settings : Settings) (tells : Type 0) (apart : AreNamedApart settings.hosted) (start : State) (sound : IsSound settings start) where
   pub turn-shows : (before more later : List Entry) (e : Entry) (old : Outside) (turn : Seen) → turn.entries ≡ e ∷ more → Legal settings start (before ++ e ∷ later)
-      → Turn settings tells turn.last turn.entries old turn.new turn.stop → ShowsWhatWasNamed settings start before e old turn
+      → RequestTurn settings tells turn.last turn.entries old turn.new turn.stop → ShowsWhatWasNamed settings start before e old turn
   turn-shows before more later e old turn is legal turned repo row was =
-      let turned-so : Turn settings tells turn.last (e ∷ more) old turn.new turn.stop =
-      subst (λ (es : List Entry). Turn settings tells turn.last es old turn.new turn.stop) is turned in (
+      let turned-so : RequestTurn settings tells turn.last (e ∷ more) old turn.new turn.stop =
+      subst (λ (es : List Entry). RequestTurn settings tells turn.last es old turn.new turn.stop) is turned in (
         (λ tried looks.
             file-answered settings apart start sound before repo row later e tried turn.last old turn.new turn.stop legal was looks
             (turn-answered settings tells turn.last e more repo row.path tried looks old turn.new turn.stop turned-so)),
@@ -25,9 +25,9 @@ module _ (settings : Settings) (tells : Type 0) (apart : AreNamedApart settings.
             (turn-answered settings tells turn.last e more repo at tried looks old turn.new turn.stop turned-so)),
       )
 
-  pub stream-shows : (n : ℕ) (entries : List Entry) (old new : Outside) (ending : End) → Serves settings tells n entries old new ending
+  pub stream-shows : (n : ℕ) (entries : List Entry) (old new : Outside) (ending : End) → ServesStream settings tells n entries old new ending
       → (turns : List Seen) × AreTurns settings tells n turns entries old new ending × AllShowWhatWasNamed settings start old turns
-  unfolding Serves AreTurns
+  unfolding ServesStream AreTurns
   stream-shows zero entries old new ending served = ([], (served.0, served.1, served.2), tt)
   stream-shows (suc left) entries old new ending (inl turned) =
       let turn : Seen = record { last = left == 0; entries = entries; new = new; stop = Some ending } in
@@ -59,7 +59,7 @@ module _ (settings : Settings) (tells : Type 0) (apart : AreNamedApart settings.
       )
 
   pub stream-behind : (n : ℕ) (before entries : List Entry) (old new : Outside) (ending : End) → Legal settings start (before ++ entries)
-      → Serves settings tells n entries old new ending
+      → ServesStream settings tells n entries old new ending
       → (turns : List Seen) × AreTurns settings tells n turns entries old new ending × AllShowBehind settings start before old turns
   stream-behind n before entries old new ending legal served =
       let (turns, are, show) = stream-shows n entries old new ending served in

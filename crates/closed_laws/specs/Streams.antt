@@ -6,7 +6,7 @@ use Rattle.repo_model.specs.Data.{Row}
 use Rattle.repo_model.specs.History.{Entry, Legal, end}
 use Rattle.repo_model.specs.Settings.{Settings}
 use Rattle.repo_model.specs.State.{State}
-use Rattle.repo_course.specs.Serving.{Outside, Turn}
+use Rattle.repo_course.specs.Serving.{Outside, RequestTurn}
 use Rattle.repo_course.specs.declared.outcomes.End.{End}
 use Rattle.repo_course.specs.declared.outcomes.End.TheVariants as stream
 use Rattle.closed_laws.specs.Answered.{ReadShows}
@@ -26,7 +26,7 @@ AreTurns settings tells zero [] entries old new ending = (entries ≡ []) × (ne
 AreTurns settings tells zero (turn ∷ turns) entries old new ending = ⊥
 AreTurns settings tells (suc left) [] entries old new ending = ⊥
 AreTurns settings tells (suc left) (turn ∷ turns) entries old new ending =
-    (turn.last ≡ (left == 0)) × Turn settings tells turn.last turn.entries old turn.new turn.stop
+    (turn.last ≡ (left == 0)) × RequestTurn settings tells turn.last turn.entries old turn.new turn.stop
     × (((turns ≡ []) × (entries ≡ turn.entries) × (new ≡ turn.new) × (turn.stop ≡ Some ending))
     ⊎ ((rest : List Entry) × (entries ≡ turn.entries ++ rest) × (turn.stop ≡ None) × AreTurns settings tells left turns rest turn.new new ending))
 

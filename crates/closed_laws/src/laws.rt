@@ -14,7 +14,7 @@ ghost use Rattle.repo_routes.specs.Intent.{Judged, reads};
 ghost use Rattle.repo_routes.specs.Judge.{judge};
 ghost use Rattle.repo_routes.specs.declared.intent.Sort.{Sort};
 ghost use Rattle.repo_course.specs.declared.outcomes.End.{End};
-ghost use Rattle.repo_course.specs.Serving.{AllTell, Outside, Serves, Turn};
+ghost use Rattle.repo_course.specs.Serving.{AllTell, Outside, ServesStream, RequestTurn};
 ghost use Rattle.repo_course.specs.Course.{manner_for};
 ghost use Rattle.closed_laws.specs.Answered.{ReadShows, IsLookedUp, ShowsReply};
 ghost use Rattle.closed_laws.specs.Streams.{AllShowBehind, AllShowWhatWasNamed, AreTurns, Seen};
@@ -28,11 +28,11 @@ use outside::Held;
 pub fn reads_are_answered<H: Held>()
     ensures requests { (settings : Settings) (last : Bool) (entries : List Entry) (old new : Outside) (ending : Option End) (input rest repo path : List ℕ)
         (sort : Sort) (head : Head) (request : Judged) →
-        Turn settings (AllTell H.bytes) last entries old new ending → old.input ≡ Some input → front input ≡ Whole head rest →
+        RequestTurn settings (AllTell H.bytes) last entries old new ending → old.input ≡ Some input → front input ≡ Whole head rest →
         judge settings head ≡ Ok request → request.intent ≡ reads repo path sort →
         IsLookedUp repo path (λ e. ShowsReply e.reply) (manner_for request last) rest entries old new ending }
     ensures looks { (settings : Settings) (last : Bool) (e : Entry) (more : List Entry) (old new : Outside) (ending : Option End)
-        (repo path tried : List ℕ) → Turn settings (AllTell H.bytes) last (e ∷ more) old new ending → e.command ≡ look repo path tried →
+        (repo path tried : List ℕ) → RequestTurn settings (AllTell H.bytes) last (e ∷ more) old new ending → e.command ≡ look repo path tried →
         ReadShows settings last repo path (ShowsReply e.reply) old new ending }
 {}
 
@@ -47,24 +47,24 @@ pub fn named_files_are_served<H: Held>()
     ensures files { (settings : Settings) (start : State) (before later : List Entry) (e : Entry) (repo tried : List ℕ) (row : Row)
         (last : Bool) (more : List Entry) (old new : Outside) (ending : Option End) →
         AreNamedApart settings.hosted → IsSound settings start → Legal settings start (before ++ e ∷ later) → WasNamed settings start before repo row e.moment →
-        Turn settings (AllTell H.bytes) last (e ∷ more) old new ending → e.command ≡ look repo row.path tried →
+        RequestTurn settings (AllTell H.bytes) last (e ∷ more) old new ending → e.command ≡ look repo row.path tried →
         ReadShows settings last repo row.path (ShowsNamed (end settings start before) row.blob) old new ending }
     ensures sides { (settings : Settings) (start : State) (before later : List Entry) (e : Entry) (repo at tried : List ℕ) (side : Side) (row : Row)
         (last : Bool) (more : List Entry) (old new : Outside) (ending : Option End) →
         AreNamedApart settings.hosted → IsSound settings start → Legal settings start (before ++ e ∷ later) → WasNamed settings start before repo row e.moment →
-        Turn settings (AllTell H.bytes) last (e ∷ more) old new ending → e.command ≡ look repo at tried → IsSideOf row.path side at →
+        RequestTurn settings (AllTell H.bytes) last (e ∷ more) old new ending → e.command ≡ look repo at tried → IsSideOf row.path side at →
         ReadShows settings last repo at (ShowsSide side row.blob) old new ending }
     ensures file_requests { (settings : Settings) (start : State) (before entries later : List Entry) (repo : List ℕ) (row : Row) (last : Bool)
         (old new : Outside) (ending : Option End) (input rest : List ℕ) (sort : Sort) (head : Head) (request : Judged) →
         AreNamedApart settings.hosted → IsSound settings start →
-        Turn settings (AllTell H.bytes) last entries old new ending → old.input ≡ Some input → front input ≡ Whole head rest →
+        RequestTurn settings (AllTell H.bytes) last entries old new ending → old.input ≡ Some input → front input ≡ Whole head rest →
         judge settings head ≡ Ok request → request.intent ≡ reads repo row.path sort →
         IsLookedUp repo row.path (λ e manner from to stop. Legal settings start (before ++ e ∷ later) → WasNamed settings start before repo row e.moment → ShowsNamed (end settings start before) row.blob manner from to stop)
         (manner_for request last) rest entries old new ending }
     ensures side_requests { (settings : Settings) (start : State) (before entries later : List Entry) (repo at : List ℕ) (side : Side) (row : Row) (last : Bool)
         (old new : Outside) (ending : Option End) (input rest : List ℕ) (sort : Sort) (head : Head) (request : Judged) →
         AreNamedApart settings.hosted → IsSound settings start → IsSideOf row.path side at →
-        Turn settings (AllTell H.bytes) last entries old new ending → old.input ≡ Some input → front input ≡ Whole head rest →
+        RequestTurn settings (AllTell H.bytes) last entries old new ending → old.input ≡ Some input → front input ≡ Whole head rest →
         judge settings head ≡ Ok request → request.intent ≡ reads repo at sort →
         IsLookedUp repo at (λ e manner from to stop. Legal settings start (before ++ e ∷ later) → WasNamed settings start before repo row e.moment → ShowsSide side row.blob manner from to stop)
         (manner_for request last) rest entries old new ending }
@@ -75,13 +75,13 @@ pub fn named_files_are_served<H: Held>()
 /// lie one after another, behind those of earlier streams or of none: so a replay's.
 pub fn streams_serve_named_files<H: Held>()
     ensures among_others { (settings : Settings) (n : ℕ) (start : State) (entries : List Entry) (old new : Outside) (ending : End) →
-        AreNamedApart settings.hosted → IsSound settings start → Serves settings (AllTell H.bytes) n entries old new ending →
+        AreNamedApart settings.hosted → IsSound settings start → ServesStream settings (AllTell H.bytes) n entries old new ending →
         (turns : List Seen) × AreTurns settings (AllTell H.bytes) n turns entries old new ending × AllShowWhatWasNamed settings start old turns }
     ensures alone { (settings : Settings) (n : ℕ) (start : State) (before entries : List Entry) (old new : Outside) (ending : End) →
         AreNamedApart settings.hosted → IsSound settings start → Legal settings start (before ++ entries) →
-        Serves settings (AllTell H.bytes) n entries old new ending →
+        ServesStream settings (AllTell H.bytes) n entries old new ending →
         (turns : List Seen) × AreTurns settings (AllTell H.bytes) n turns entries old new ending × AllShowBehind settings start before old turns }
     ensures first { (settings : Settings) (n : ℕ) (clock : Option Moments) (entries : List Entry) (old new : Outside) (ending : End) →
-        AreNamedApart settings.hosted → Legal settings (opening settings clock) entries → Serves settings (AllTell H.bytes) n entries old new ending →
+        AreNamedApart settings.hosted → Legal settings (opening settings clock) entries → ServesStream settings (AllTell H.bytes) n entries old new ending →
         (turns : List Seen) × AreTurns settings (AllTell H.bytes) n turns entries old new ending × AllShowBehind settings (opening settings clock) [] old turns }
 {}

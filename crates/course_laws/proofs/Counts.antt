@@ -23,7 +23,7 @@ use Rattle.repo_course.specs.declared.outcomes.Sent.{Sent}
 use Rattle.repo_course.specs.declared.outcomes.Sent.TheVariants as sent
 use Rattle.repo_course.specs.declared.outcomes.Took.{Took}
 use Rattle.repo_course.specs.declared.outcomes.Took.TheVariants as took
-use Rattle.repo_course.specs.Serving.{Continues, Does, Fails, Fetches, Reads, Stores, Takes, UsesFront, with_body, SendsAnswer, Says, whole, memory, cut, Follows, Opens, clean, torn, failed, refused, unread_head, starved, served, Outside, ReadsOn, Serves, Turn, store_of, with_store}
+use Rattle.repo_course.specs.Serving.{Continues, Does, Fails, Fetches, Reads, Stores, Takes, UsesFront, with_body, SendsAnswer, Says, whole, memory, cut, Follows, Opens, clean, torn, failed, refused, unread_head, starved, served, Outside, ReadsOn, ServesStream, RequestTurn, store_of, with_store}
 use Rattle.course_laws.proofs.Remotes.{fetched-goes, unfetched-goes}
 use Rattle.course_laws.proofs.Sendings.{cut-by-fault, cut-by-other, not-sent, other-found, sent-in-part, sent-nothing, sent-whole}
 
@@ -191,13 +191,13 @@ module _ (tells : Type 0) where
   follows-grew (stops next) entries old new end f = still-grew old new f.1
 
   module _ (settings : Settings) where
-    pub turn-grew : (last : Bool) (entries : List Entry) (old new : Outside) (end : Option End) → Turn settings tells last entries old new end
+    pub turn-grew : (last : Bool) (entries : List Entry) (old new : Outside) (end : Option End) → RequestTurn settings tells last entries old new end
         → Grew old new
     turn-grew last entries old new end t =
         grew-then old t.1 new (opens-grew settings last old t.1 t.0 t.2) (follows-grew t.0 entries t.1 new end t.3)
 
-    pub serves-grew : (n : ℕ) (entries : List Entry) (old new : Outside) (end : End) → Serves settings tells n entries old new end → Grew old new
-    unfolding Serves
+    pub serves-grew : (n : ℕ) (entries : List Entry) (old new : Outside) (end : End) → ServesStream settings tells n entries old new end → Grew old new
+    unfolding ServesStream
     serves-grew zero entries old new end t = still-grew old new t.1
     serves-grew (suc left) entries old new end (inl turn) = turn-grew (left == 0) entries old new (Some end) turn
     serves-grew (suc left) entries old new end (inr t) =

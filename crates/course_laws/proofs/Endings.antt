@@ -43,7 +43,7 @@ use Rattle.repo_course.specs.declared.outcomes.Sent.{Sent}
 use Rattle.repo_course.specs.declared.outcomes.Sent.TheVariants as sent
 use Rattle.repo_course.specs.declared.outcomes.Took.{Took}
 use Rattle.repo_course.specs.declared.outcomes.Took.TheVariants as took
-use Rattle.repo_course.specs.Serving.{Continues, Does, Fails, Fetches, Stores, Follows, Opens, clean, torn, failed, refused, unread_head, starved, served, Outside, Reads, Says, whole, memory, cut, SendsAnswer, Serves, Takes, Turn}
+use Rattle.repo_course.specs.Serving.{Continues, Does, Fails, Fetches, Stores, Follows, Opens, clean, torn, failed, refused, unread_head, starved, served, Outside, Reads, Says, whole, memory, cut, SendsAnswer, ServesStream, Takes, RequestTurn}
 use Rattle.course_laws.specs.Duties.{Keeps, MayAsk, Stand, asked_by, due_after, due_done, due_fetched, duty_of, left_by, most_asked, most_for, most_members, most_rounds, stand_after, stand_done, twice}
 use Rattle.course_laws.specs.Endings.{EndsByCause, NoneRose}
 use Rattle.course_laws.proofs.Passes.{passes-few}
@@ -326,28 +326,28 @@ module _ (tells : Type 0) where
     asking-few last old mid c (served head rest begins uses is) = judged-few head (intent_of settings head) last (intent-kept settings head)
     asking-few last old mid c _ = omega arith
 
-    turn_shows : (last : Bool) (entries : List Entry) (old new : Outside) (end : Option End) → Turn settings tells last entries old new end → Shows end old new
+    turn_shows : (last : Bool) (entries : List Entry) (old new : Outside) (end : Option End) → RequestTurn settings tells last entries old new end → Shows end old new
     turn_shows last entries old new end (c, mid, o, f) =
         follows_shows (duty_at o).by_text (duty_at o).manner (opens-unsent settings last old mid c o) c (duty_at o).most (duty_at o).stand (opens-keeps settings last old mid c o) entries old mid new end
         (opens_caused settings last old mid c o) f
 
-    pub serves_shows : (n : ℕ) (entries : List Entry) (old new : Outside) (end : End) → Serves settings tells n entries old new end
+    pub serves_shows : (n : ℕ) (entries : List Entry) (old new : Outside) (end : End) → ServesStream settings tells n entries old new end
         → EndsByCause end old new
-    unfolding Serves
+    unfolding ServesStream
     serves_shows zero entries old new end t = subst (λ (e : End). EndsByCause e old new) (sym t.2) (counts old _ t.1)
     serves_shows (suc left) entries old new end (inl turn) = turn_shows (left == 0) entries old new (Some end) turn
     serves_shows (suc left) entries old new end (inr t) =
         from_same end old t.2 new (turn_shows (left == 0) t.0 old t.2 None t.4) (serves_shows left t.1 t.2 new end t.5)
 
-    turn_few : (last : Bool) (entries : List Entry) (old new : Outside) (end : Option End) → Turn settings tells last entries old new end
+    turn_few : (last : Bool) (entries : List Entry) (old new : Outside) (end : Option End) → RequestTurn settings tells last entries old new end
         → length entries ≤ most_asked settings
     turn_few last entries old new end (c, mid, o, f) =
         let asked = follows_few (duty_at o).by_text (duty_at o).manner c (duty_at o).most (duty_at o).stand (opens-keeps settings last old mid c o) entries mid new end f in
         let few = asking-few last old mid c o in omega (arith, asked, few)
 
-    pub serves_few : (n : ℕ) (entries : List Entry) (old new : Outside) (end : End) → Serves settings tells n entries old new end
+    pub serves_few : (n : ℕ) (entries : List Entry) (old new : Outside) (end : End) → ServesStream settings tells n entries old new end
         → length entries ≤ most_asked settings * n
-    unfolding Serves
+    unfolding ServesStream
     serves_few zero entries old new end t = let none = ap length t.0 in omega arith
     serves_few (suc left) entries old new end (inl turn) =
         let few = turn_few (left == 0) entries old new (Some end) turn in

@@ -39,7 +39,7 @@ use Rattle.repo_course.specs.declared.outcomes.Sent.TheVariants as sent
 use Rattle.repo_course.specs.declared.outcomes.Took.TheVariants as took
 use Rattle.repo_course.specs.declared.said.Said.{Said}
 use Rattle.repo_course.specs.declared.said.Said.TheVariants as said
-use Rattle.repo_course.specs.Serving.{Begins, Continues, Follows, IsOtherContent, IsWhole, Opens, clean, torn, failed, refused, unread_head, starved as head_starved, served, Outside, Fetches, Reads, ReadsBody, Says, SendsAnswer, Stores, Takes, Turn, store_of, with_body, with_store, writes}
+use Rattle.repo_course.specs.Serving.{Begins, Continues, Follows, IsOtherContent, IsWhole, Opens, clean, torn, failed, refused, unread_head, starved as head_starved, served, Outside, Fetches, Reads, ReadsBody, Says, SendsAnswer, Stores, Takes, RequestTurn, store_of, with_body, with_store, writes}
 use Rattle.course_laws.specs.AsPlayed.{NoFaults, StoodStill}
 use Rattle.course_laws.specs.Faultless.{done_by}
 use Rattle.course_laws.specs.Duties.{IsReady, Keeps, Rounds, Stand, at_first, body_length, due_after, due_fetched, duty_of, for_text, lent_after, most_for, rounds_after, stand_after, stand_done}
@@ -398,7 +398,7 @@ at_start request = at_first request.expects request.intent
 
 module _ (settings : Settings) (tells : Type 0) (last : Bool) where
   pub turn-served : (entries : List Entry) (old new : Outside) (end : Option End) (input rest : List ℕ) (head : Head) (request : Judged)
-      → Turn settings tells last entries old new end → old.input ≡ Some input → front input ≡ Whole head rest → judge settings head ≡ Ok request
+      → RequestTurn settings tells last entries old new end → old.input ≡ Some input → front input ≡ Whole head rest → judge settings head ≡ Ok request
       → ComesWhole request rest → AllGranted entries → NoFaults old new → IsAnsweredFor request last rest entries old new end
   turn-served entries old new end input rest head request (c, mid, o, f) input-is front-is judged comes all calm = opened o
     where

@@ -19,7 +19,7 @@ use Rattle.repo_routes.specs.declared.judging.Refused.{Refused}
 use Rattle.repo_course.specs.Course.{Close, Course, Deed, Fetch, Outcome, asks, does, says, stops, invite, take_body, read_body, send_file, clean_all, fetch, store_fetched}
 use Rattle.repo_course.specs.declared.manner.Manner.{Manner}
 use Rattle.repo_course.specs.declared.outcomes.End.{End}
-use Rattle.repo_course.specs.Serving.{Does, Fetches, Follows, Opens, clean, torn, failed, refused, unread_head, starved, served, Outside, Serves, Turn}
+use Rattle.repo_course.specs.Serving.{Does, Fetches, Follows, Opens, clean, torn, failed, refused, unread_head, starved, served, Outside, ServesStream, RequestTurn}
 use Rattle.course_laws.specs.Duties.{Keeps, MayAsk, MayDo, Stand, duty_of, landing_by, left_by, stand_after, stand_done}
 use Rattle.course_laws.specs.Landed.{AllLandWhatCame, GoesOn, IsFileOf, LandsWhatCame, WasFetched}
 use Rattle.course_laws.proofs.Kept.{duty_at, opens-keeps}
@@ -141,7 +141,7 @@ module _ (first : Sees) where
   bare settings last old new c (served head rest begins uses is) = judged-bare (judge settings head) last
 
   module _ (settings : Settings) (tells : Type 0) where
-    pub turn-lands : (last : Bool) (entries : List Entry) (old new : Outside) (end : Option End) → GoesOn first old.remote → Turn settings tells last entries old new end
+    pub turn-lands : (last : Bool) (entries : List Entry) (old new : Outside) (end : Option End) → GoesOn first old.remote → RequestTurn settings tells last entries old new end
         → AllLandWhatCame first new.remote entries
     turn-lands last entries old new end since (c, mid, o, f) =
         follows-lands tells (duty_at o).by_text (duty_at o).manner c (duty_at o).most (duty_at o).stand (opens-keeps settings last old mid c o) entries mid new end
@@ -152,9 +152,9 @@ module _ (first : Sees) where
     all-later [] a b goes all = tt
     all-later (e ∷ entries) a b goes all = (lands-later e.command a b goes all.0, all-later entries a b goes all.1)
 
-    pub serves-lands : (n : ℕ) (entries : List Entry) (old new : Outside) (end : End) → GoesOn first old.remote → Serves settings tells n entries old new end
+    pub serves-lands : (n : ℕ) (entries : List Entry) (old new : Outside) (end : End) → GoesOn first old.remote → ServesStream settings tells n entries old new end
         → AllLandWhatCame first new.remote entries
-    unfolding Serves
+    unfolding ServesStream
     serves-lands zero entries old new end since t = subst (AllLandWhatCame first new.remote) (sym t.0) tt
     serves-lands (suc left) entries old new end since (inl turn) = turn-lands (left == 0) entries old new (Some end) since turn
     serves-lands (suc left) entries old new end since (inr t) =
@@ -165,6 +165,6 @@ module _ (first : Sees) where
         (all-later t.0 mid.remote new.remote (serves-go tells settings left t.1 mid new end t.5) (turn-lands (left == 0) t.0 old mid None since t.4))
         (serves-lands left t.1 mid new end (goes-then first old.remote mid.remote since goes) t.5))
 
-pub stream-lands : (settings : Settings) (tells : Type 0) (n : ℕ) (entries : List Entry) (old new : Outside) (end : End) → Serves settings tells n entries old new end
+pub stream-lands : (settings : Settings) (tells : Type 0) (n : ℕ) (entries : List Entry) (old new : Outside) (end : End) → ServesStream settings tells n entries old new end
     → AllLandWhatCame old.remote new.remote entries
 stream-lands settings tells n entries old new end t = serves-lands old.remote settings tells n entries old new end (goes-on old.remote) t

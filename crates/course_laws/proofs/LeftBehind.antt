@@ -10,7 +10,7 @@ use Rattle.repo_routes.specs.Judge.{judge}
 use Rattle.repo_routes.specs.declared.judging.Refused.{Refused}
 use Rattle.repo_course.specs.Course.{Close, Course, asks, does, says, stops}
 use Rattle.repo_course.specs.declared.outcomes.End.{End}
-use Rattle.repo_course.specs.Serving.{Follows, Opens, clean, torn, failed, refused, unread_head, starved, served, Outside, Serves, Turn}
+use Rattle.repo_course.specs.Serving.{Follows, Opens, clean, torn, failed, refused, unread_head, starved, served, Outside, ServesStream, RequestTurn}
 use Rattle.course_laws.specs.Duties.{HoldsNothing, Keeps, MayAsk, Stand, duty_of, left_by, stand_after, stand_done}
 use Rattle.repo_course.specs.declared.manner.Manner.{Manner}
 use Rattle.course_laws.specs.LeftBehind.{IsDrawn, LeavesNothing, NumbersAreBelow}
@@ -100,7 +100,7 @@ module _ (tells : Type 0) (settings : Settings) where
     follows_leaves (stops next) n s k entries st legal h old new end f = ended s entries st k.0 h f.0
 
   turn_leaves : (last : Bool) (entries : List Entry) (st : State) → Legal settings st entries → (old new : Outside) (end : Option End)
-      → Turn settings tells last entries old new end → Leaves settings st.yard entries st
+      → RequestTurn settings tells last entries old new end → Leaves settings st.yard entries st
   turn_leaves last entries st legal old new end t =
       let duty = duty_at t.2 in
       follows_leaves st.yard duty.by_text duty.manner t.0 duty.most duty.stand (opens-keeps settings last old t.1 t.0 t.2) entries st legal
@@ -120,8 +120,8 @@ module _ (tells : Type 0) (settings : Settings) where
       holds (served head rest begins uses is) = judged-holds (judge settings head)
 
   pub serves_leaves : (n : ℕ) (entries : List Entry) (st : State) → Legal settings st entries → (old new : Outside) (end : End)
-      → Serves settings tells n entries old new end → Leaves settings st.yard entries st
-  unfolding Serves
+      → ServesStream settings tells n entries old new end → Leaves settings st.yard entries st
+  unfolding ServesStream
   serves_leaves zero entries st legal old new end t =
       subst (λ (es : List Entry). Leaves settings st.yard es st) (sym t.0) (record { nothing = λ drawn. stays st.yard; found = tt })
   serves_leaves (suc left) entries st legal old new end (inl turn) = turn_leaves (left == 0) entries st legal old new (Some end) turn

@@ -21,7 +21,7 @@ use Rattle.repo_course.specs.Course.{Close, Course, speaks, rests, course_of, he
 use Rattle.repo_course.specs.declared.manner.Manner.{Manner}
 use Rattle.repo_course.specs.declared.outcomes.End.{End}
 use Rattle.repo_course.specs.declared.outcomes.End.TheVariants as stream
-use Rattle.repo_course.specs.Serving.{Begins, IsFrontOf, IsWhole, Opens, clean, torn, failed, refused, unread_head, starved, served, Outside, Serves, Turn}
+use Rattle.repo_course.specs.Serving.{Begins, IsFrontOf, IsWhole, Opens, clean, torn, failed, refused, unread_head, starved, served, Outside, ServesStream, RequestTurn}
 use Rattle.course_laws.specs.AsPlayed.{AreFetched, plans_of, AsksHead, BeginsAt, IsAnswers, IsAsPlayed, in_full, wants_memory, IsPlayedUpTo, unbroken, broken, cut_starved, NoFaults, StoodStill}
 use Rattle.course_laws.specs.Duties.{Duty, Fulfils, Stand, duty_of, to_end}
 use Rattle.course_laws.specs.Faultless.{Played, Scene, play, play_turn, play_stream, then_play}
@@ -136,19 +136,19 @@ module _ (settings : Settings) (tells : Type 0) (witness : tells) where
       × (unused : Fetched) × TurnBy (left == 0) first coming unused old mid None × ServesBy left rest unused spare mid new end)
 
   plain-turn : (last : Bool) (entries : List Entry) (coming spare : Fetched) (old new : Outside) (end : Option End) → TurnBy last entries coming spare old new end
-      → Turn settings tells last entries old new end
+      → RequestTurn settings tells last entries old new end
   plain-turn last entries coming spare old new end t = (t.0, t.1, t.2, plain tells t.0 entries coming spare t.1 new end t.3)
 
   plain-serves : (n : ℕ) (entries : List Entry) (coming spare : Fetched) (old new : Outside) (end : End) → ServesBy n entries coming spare old new end
-      → Serves settings tells n entries old new end
-  unfolding Serves
+      → ServesStream settings tells n entries old new end
+  unfolding ServesStream
   plain-serves zero entries coming spare old new end t = t
   plain-serves (suc left) entries coming spare old new end (inl turn) = inl (plain-turn (left == 0) entries coming spare old new (Some end) turn)
   plain-serves (suc left) entries coming spare old new end (inr t) =
       inr (t.0, t.1, t.2, t.3, plain-turn (left == 0) t.0 coming t.4 old t.2 None t.5, plain-serves left t.1 t.4 spare t.2 new end t.6)
 
   module _ (end-seen : Sees) where
-    turn-by : (last : Bool) (entries : List Entry) (old new : Outside) (end : Option End) → Turn settings tells last entries old new end → (later : List Plan) (spare : Fetched)
+    turn-by : (last : Bool) (entries : List Entry) (old new : Outside) (end : Option End) → RequestTurn settings tells last entries old new end → (later : List Plan) (spare : Fetched)
         → IsLast later spare end → AreFetched later spare new.remote end-seen
         → (coming : Fetched) × TurnBy last entries coming spare old new end × AreFetched (plans_of entries ++ later) coming old.remote end-seen
     turn-by last entries old new end (c, mid, o, f) later spare ends are =
@@ -156,9 +156,9 @@ module _ (settings : Settings) (tells : Type 0) (witness : tells) where
         (by.0, (c, mid, o, by.1), fetched-before (plans_of entries ++ later) by.0 old.remote mid.remote end-seen (opens-still settings last old mid c o) by.2)
 
     -- behind the end nothing is fetched
-    serves-by : (n : ℕ) (entries : List Entry) (old new : Outside) (end : End) → Serves settings tells n entries old new end
+    serves-by : (n : ℕ) (entries : List Entry) (old new : Outside) (end : End) → ServesStream settings tells n entries old new end
         → new.remote ≡ end-seen → (coming : Fetched) × ServesBy n entries coming [] old new end × AreFetched (plans_of entries) coming old.remote end-seen
-    unfolding Serves
+    unfolding ServesStream
     serves-by zero entries old new end t is =
         ([], t, subst (λ (ps : List Plan). AreFetched ps [] old.remote end-seen) (sym (ap plans_of t.0)) (omega arith, sym is ∙ ap (λ (o : Outside). o.remote) t.1))
     serves-by (suc left) entries old new end (inl turn) is =
@@ -340,7 +340,7 @@ module _ (settings : Settings) (tells : Type 0) (witness : tells) where
 
   pub stream-upto : (n : ℕ) (entries : List Entry) (st : State) → Legal settings st entries → StoodStill st.faults (end_of settings st entries).faults
       → (old new : Outside) (end : End) (input before : List ℕ) → BeginsAt st input before old → StoodStill old.blob_faults new.blob_faults
-      → Serves settings tells n entries old new end
+      → ServesStream settings tells n entries old new end
       → (coming : Fetched) × AreFetched (plans_of entries) coming old.remote new.remote × IsPlayedUpTo settings n (record { state = st; input = input; fetched = coming }) before old new end
   stream-upto n entries st legal records old new end input before begins calm served_so =
       let by = serves-by new.remote n entries old new end served_so refl in (
@@ -370,7 +370,7 @@ unbroken-is settings n scene before old new end calm (cut_starved written part h
 
 pub as-played : (settings : Settings) (tells : Type 0) → tells → (n : ℕ) (entries : List Entry) (st : State) → Legal settings st entries
     → StoodStill st.faults (end_of settings st entries).faults → (old new : Outside) (end : End) (input before : List ℕ) → BeginsAt st input before old
-    → NoFaults old new → Serves settings tells n entries old new end
+    → NoFaults old new → ServesStream settings tells n entries old new end
     → (coming : Fetched) × AreFetched (plans_of entries) coming old.remote new.remote × IsAsPlayed settings n (record { state = st; input = input; fetched = coming }) before new.output end
 as-played settings tells told n entries st legal records old new end input before begins calm served_so =
     let by = stream-upto settings tells told n entries st legal records old new end input before begins calm.blobs served_so in

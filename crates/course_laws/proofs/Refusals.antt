@@ -12,14 +12,14 @@ use Rattle.repo_routes.specs.Judge.{judge}
 use Rattle.repo_routes.specs.declared.judging.Refused.{Refused}
 use Rattle.repo_course.specs.Course.{Course, course_of}
 use Rattle.repo_course.specs.declared.outcomes.End.{End}
-use Rattle.repo_course.specs.Serving.{Begins, Follows, IsWhole, Opens, clean, torn, failed as source_failed, refused as no_head, unread_head, starved as head_starved, served, Outside, Turn}
+use Rattle.repo_course.specs.Serving.{Begins, Follows, IsWhole, Opens, clean, torn, failed as source_failed, refused as no_head, unread_head, starved as head_starved, served, Outside, RequestTurn}
 use Rattle.course_laws.specs.Duties.{duty_of}
 use Rattle.course_laws.proofs.HeadOnly.{judged-head}
 use Rattle.course_laws.specs.Refusals.{IsRefusedBy, answered, starved, failed}
 
 module _ (settings : Settings) (tells : Type 0) (last : Bool) where
   pub turn-refused : (entries : List Entry) (old new : Outside) (end : Option End) (input rest : List ℕ) (head : Head) (cause : Refused)
-      → Turn settings tells last entries old new end → old.input ≡ Some input → front input ≡ Whole head rest → judge settings head ≡ Err cause
+      → RequestTurn settings tells last entries old new end → old.input ≡ Some input → front input ≡ Whole head rest → judge settings head ≡ Err cause
       → (entries ≡ []) × IsRefusedBy cause last old new end
   turn-refused entries old new end input rest head cause (c, mid, o, f) input-is front-is judged = opened o
     where

@@ -29,7 +29,7 @@ use Rattle.repo_course.specs.declared.outcomes.Sent.{Sent}
 use Rattle.repo_course.specs.declared.outcomes.Sent.TheVariants as sent
 use Rattle.repo_course.specs.declared.outcomes.Took.{Took}
 use Rattle.repo_course.specs.declared.outcomes.Took.TheVariants as took
-use Rattle.repo_course.specs.Serving.{Continues, Does, Fails, Fetches, Follows, Opens, clean, torn, failed, refused, unread_head, starved, served, Outside, Reads, Says, whole, memory, cut, SendsAnswer, Serves, Stores, Takes, Turn}
+use Rattle.repo_course.specs.Serving.{Continues, Does, Fails, Fetches, Follows, Opens, clean, torn, failed, refused, unread_head, starved, served, Outside, Reads, Says, whole, memory, cut, SendsAnswer, ServesStream, Stores, Takes, RequestTurn}
 use Rattle.course_laws.specs.Landed.{GoesOn}
 use Rattle.course_laws.proofs.Sendings.{cut-by-fault, cut-by-other, not-sent, other-found, sent-in-part, sent-nothing, sent-whole}
 
@@ -148,12 +148,12 @@ module _ (tells : Type 0) where
   follows-go (stops next) entries old new end f = still-goes old new (ap (λ (o : Outside). o.remote) f.1)
 
   module _ (settings : Settings) where
-    pub turn-goes : (last : Bool) (entries : List Entry) (old new : Outside) (end : Option End) → Turn settings tells last entries old new end → GoesOn old.remote new.remote
+    pub turn-goes : (last : Bool) (entries : List Entry) (old new : Outside) (end : Option End) → RequestTurn settings tells last entries old new end → GoesOn old.remote new.remote
     turn-goes last entries old new end t =
         goes-then old.remote t.1.remote new.remote (still-goes old t.1 (opens-still settings last old t.1 t.0 t.2)) (follows-go t.0 entries t.1 new end t.3)
 
-    pub serves-go : (n : ℕ) (entries : List Entry) (old new : Outside) (end : End) → Serves settings tells n entries old new end → GoesOn old.remote new.remote
-    unfolding Serves
+    pub serves-go : (n : ℕ) (entries : List Entry) (old new : Outside) (end : End) → ServesStream settings tells n entries old new end → GoesOn old.remote new.remote
+    unfolding ServesStream
     serves-go zero entries old new end t = still-goes old new (ap (λ (o : Outside). o.remote) t.1)
     serves-go (suc left) entries old new end (inl turn) = turn-goes (left == 0) entries old new (Some end) turn
     serves-go (suc left) entries old new end (inr t) =

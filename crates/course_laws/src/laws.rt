@@ -22,7 +22,7 @@ ghost use Rattle.repo_course.specs.declared.fetched.FetchFault.TheVariants as un
 ghost use Rattle.repo_course.specs.declared.fetched.Verdict.TheVariants as verdict;
 ghost use Rattle.repo_course.specs.declared.said.Said.TheVariants as said;
 ghost use Rattle.repo_course.specs.declared.outcomes.End.{End};
-ghost use Rattle.repo_course.specs.Serving.{AllTell, Outside, Serves, Turn};
+ghost use Rattle.repo_course.specs.Serving.{AllTell, Outside, ServesStream, RequestTurn};
 ghost use Rattle.repo_model.specs.History.{Entry, Legal, end};
 ghost use Rattle.repo_model.specs.Command.{land, look};
 ghost use Rattle.repo_model.specs.Data.{Blob};
@@ -48,14 +48,14 @@ use outside::Held;
 /// one of the two that did; a count at the end of its type leaves it open.
 pub fn ends_have_their_causes<H: Held>()
     ensures { (settings : Settings) (n : ℕ) (entries : List Entry) (old new : Outside) (ending : End) →
-        Serves settings (AllTell H.bytes) n entries old new ending → EndsByCause ending old new }
+        ServesStream settings (AllTell H.bytes) n entries old new ending → EndsByCause ending old new }
 {}
 
 /// A stream of at most `n` requests makes at most `n` times the commands of one: three; or where that is more one for each hosted
 /// repository and one more; or two, and two more for a proxy, or for each member of the greatest group.
 pub fn calls_are_few<H: Held>()
     ensures { (settings : Settings) (n : ℕ) (entries : List Entry) (old new : Outside) (ending : End) →
-        Serves settings (AllTell H.bytes) n entries old new ending → length entries ≤ most_asked settings * n }
+        ServesStream settings (AllTell H.bytes) n entries old new ending → length entries ≤ most_asked settings * n }
 {}
 
 /// A stream that is served alone leaves no draft and no lease behind: each draft that a course was given was put,
@@ -63,26 +63,26 @@ pub fn calls_are_few<H: Held>()
 /// callers, stand as they did.
 pub fn nothing_is_left_behind<H: Held>()
     ensures { (settings : Settings) (n : ℕ) (entries : List Entry) (start : State) (old new : Outside) (ending : End) → IsDrawn start.yard
-        → Legal settings start entries → Serves settings (AllTell H.bytes) n entries old new ending → LeavesNothing start.yard (end settings start entries).yard }
+        → Legal settings start entries → ServesStream settings (AllTell H.bytes) n entries old new ending → LeavesNothing start.yard (end settings start entries).yard }
 {}
 
 /// A stream that is served alone finds each draft of its own: no call of it is answered NoDraft.
 pub fn own_drafts_are_there<H: Held>()
     ensures { (settings : Settings) (n : ℕ) (entries : List Entry) (start : State) (old new : Outside) (ending : End)
-        → Legal settings start entries → Serves settings (AllTell H.bytes) n entries old new ending → AllByRecursion (λ (e : Entry). e.reply ≢ no_draft) entries }
+        → Legal settings start entries → ServesStream settings (AllTell H.bytes) n entries old new ending → AllByRecursion (λ (e : Entry). e.reply ≢ no_draft) entries }
 {}
 
 /// What a stream lands is what it fetched: each landing is of a plan for which exchanges with the remote were made in the stream, and
 /// with what they came to; a file is the one that was stored, with the bytes that were fetched.
 pub fn landings_are_fetched<H: Held>()
     ensures { (settings : Settings) (n : ℕ) (entries : List Entry) (old new : Outside) (ending : End) →
-        Serves settings (AllTell H.bytes) n entries old new ending → AllLandWhatCame old.remote new.remote entries }
+        ServesStream settings (AllTell H.bytes) n entries old new ending → AllLandWhatCame old.remote new.remote entries }
 {}
 
 /// Where a turn lands that its fetch was a fault, the count of the remote's faults rose in it, or stands at the end of its type.
 pub fn remote_faults_are_counted<H: Held>()
     ensures { (settings : Settings) (last : Bool) (entries : List Entry) (old new : Outside) (ending : Option End) →
-        Turn settings (AllTell H.bytes) last entries old new ending →
+        RequestTurn settings (AllTell H.bytes) last entries old new ending →
         AnyByRecursion (λ e. (plan : Plan) × (e.command ≡ land plan came.Fault)) entries → Rose old.remote.faults new.remote.faults }
 {}
 
@@ -92,7 +92,7 @@ pub fn remote_faults_are_counted<H: Held>()
 pub fn answered_files_were_fetched<H: Held>()
     ensures { (settings : Settings) (n : ℕ) (start : State) (before later : List Entry) (e : Entry) (old new : Outside) (ending : End)
         (id path tried : List ℕ) (lease : ℕ) (blob : Blob) →
-        Legal settings start (before ++ e ∷ later) → Serves settings (AllTell H.bytes) n (before ++ e ∷ later) old new ending →
+        Legal settings start (before ++ e ∷ later) → ServesStream settings (AllTell H.bytes) n (before ++ e ∷ later) old new ending →
         e.command ≡ look id path tried → e.reply ≡ file lease blob →
         (one : List ℕ) × IsAsked settings id one × HasOrigin start (end settings start before) one path blob old.remote new.remote }
 {}
@@ -147,7 +147,7 @@ pub fn first_faults_are_said()
 pub fn refusals_are_answered<H: Held>()
     ensures { (settings : Settings) (last : Bool) (entries : List Entry) (old new : Outside) (ending : Option End) (input rest : List ℕ)
         (head : Head) (refused : Refused) →
-        Turn settings (AllTell H.bytes) last entries old new ending → old.input ≡ Some input → front input ≡ Whole head rest →
+        RequestTurn settings (AllTell H.bytes) last entries old new ending → old.input ≡ Some input → front input ≡ Whole head rest →
         judge settings head ≡ Err refused → (entries ≡ []) × IsRefusedBy refused last old new ending }
 {}
 
@@ -169,7 +169,7 @@ pub fn courses_succeed()
 pub fn granted_requests_are_answered<H: Held>()
     ensures { (settings : Settings) (last : Bool) (entries : List Entry) (old new : Outside) (ending : Option End) (input rest : List ℕ)
         (head : Head) (request : Judged) →
-        Turn settings (AllTell H.bytes) last entries old new ending → old.input ≡ Some input → front input ≡ Whole head rest →
+        RequestTurn settings (AllTell H.bytes) last entries old new ending → old.input ≡ Some input → front input ≡ Whole head rest →
         judge settings head ≡ Ok request → ComesWhole request rest → AllGranted entries → NoFaults old new →
         IsAnsweredFor request last rest entries old new ending }
 {}
@@ -195,7 +195,7 @@ pub fn broken_is_a_front<H: Held>()
         (n : ℕ) (entries : List Entry) (start : State) (old new : Outside) (ending : End) (input before : List ℕ) →
         Legal settings start entries → StoodStill start.faults (end settings start entries).faults →
         BeginsAt start input before old → StoodStill old.blob_faults new.blob_faults →
-        Serves settings (AllTell H.bytes) n entries old new ending →
+        ServesStream settings (AllTell H.bytes) n entries old new ending →
         (fetched : List Fetch) × AreFetched (plans_of entries) fetched old.remote new.remote
         × IsPlayedUpTo settings n (record { state = start; input = input; fetched = fetched }) before old new ending }
 {}
@@ -208,7 +208,7 @@ pub fn faultless_is_played<H: Held>()
         (n : ℕ) (entries : List Entry) (start : State) (old new : Outside) (ending : End) (input before : List ℕ) →
         Legal settings start entries → StoodStill start.faults (end settings start entries).faults →
         BeginsAt start input before old → NoFaults old new →
-        Serves settings (AllTell H.bytes) n entries old new ending →
+        ServesStream settings (AllTell H.bytes) n entries old new ending →
         (fetched : List Fetch) × AreFetched (plans_of entries) fetched old.remote new.remote
         × IsAsPlayed settings n (record { state = start; input = input; fetched = fetched }) before new.output ending }
 {}

@@ -5,7 +5,7 @@ use Rattle.std.proofs.lemmas.List.Elements.{All-head, All-tail}
 use Rattle.repo_model.specs.History.{Entry, Legal}
 use Rattle.repo_model.specs.Settings.{Settings}
 use Rattle.repo_model.specs.State.{State}
-use Rattle.repo_course.specs.Serving.{Outside, Serves}
+use Rattle.repo_course.specs.Serving.{Outside, ServesStream}
 use Rattle.repo_course.specs.declared.outcomes.End.{End}
 use Rattle.run_desks.specs.Seen.{Kit, Looks}
 use Rattle.turn_lock.specs.declared.view.Entry.{Entry as Call}
@@ -13,7 +13,7 @@ use Rattle.turn_lock.specs.declared.turns.Turns.{Turns}
 use Rattle.turn_lock.specs.declared.seat.SeatToken.{SeatToken as Seat}
 use Rattle.turn_lock.specs.History.{entries_by}
 use Rattle.turn_lock.specs.Seats.{number}
-use Rattle.turn_seats.specs.Ending.{Holds}
+use Rattle.turn_seats.specs.Ending.{HoldsSeat}
 use Rattle.turn_seats.specs.Seated.{Sight, entry_of}
 use Rattle.answer_laws.specs.Marked.{Mark, entries_of as entries_marked, own_of}
 use Rattle.answer_laws.proofs.Due.{stream-answered}
@@ -37,7 +37,7 @@ module _ {T C R : Type 0} (sight : Sight T C R) (k : ℕ) where
       by false same = same
 
 module _ (settings : Settings) (start : State) (history : List Mark) (legal : Legal settings start (entries_marked history)) where
-  connection : (tells : Type 0) (past entries rest : List Entry) (old new : Outside) (ending : End) → own_of history ≡ past ++ (entries ++ rest) → Serves settings tells 1000 entries old new ending
+  connection : (tells : Type 0) (past entries rest : List Entry) (old new : Outside) (ending : End) → own_of history ≡ past ++ (entries ++ rest) → ServesStream settings tells 1000 entries old new ending
       → ConnectionAnswered settings start history tells past entries rest old new ending
   connection tells past entries rest old new ending own serves =
       let it = stream-answered settings tells start history legal 1000 past entries rest old new ending own serves in
@@ -53,7 +53,7 @@ module _ (settings : Settings) (start : State) (history : List Mark) (legal : Le
 
 module _ {L P D T C R : Type 0} (looks : Looks L P D) (settings : Settings) (rules : Rules T C R)
     (turns : Turns T C R) (first : Seat C R T) (start : State) (log : List (Call C R T)) (legal : Legal settings start (map (entry_of rules.sight) log)) where
-  desk-answered : (desk : D) (out : Seat C R T × (D × Bool)) → DeskDone looks rules settings turns first desk out → Holds log out.0
+  desk-answered : (desk : D) (out : Seat C R T × (D × Bool)) → DeskDone looks rules settings turns first desk out → HoldsSeat log out.0
       → DeskAnswered looks settings rules.sight start log desk out.1.0
   desk-answered desk out (own, begun, (did, over)) holds =
       let k = number out.0 in
@@ -72,12 +72,12 @@ module _ {L P D T C R : Type 0} (looks : Looks L P D) (settings : Settings) (rul
       }
 
   pub desks-answered : (desks : List D) (outs : List (Seat C R T × (D × Bool))) → AllZip (DeskDone looks rules settings turns first) desks outs
-      → All (Holds log) (map (λ (out : Seat C R T × (D × Bool)). out.0) outs)
+      → All (HoldsSeat log) (map (λ (out : Seat C R T × (D × Bool)). out.0) outs)
       → AllZip (DeskAnswered looks settings rules.sight start log) desks (map (λ (out : Seat C R T × (D × Bool)). out.1.0) outs)
   desks-answered [] [] done held = tt
   desks-answered [] (o ∷ os) done held = absurd done
   desks-answered (d ∷ ds) [] done held = absurd done
   desks-answered (d ∷ ds) (o ∷ os) done held = (
-    desk-answered d o done.0 (All-head (Holds log) o.0 (map (λ (out : Seat C R T × (D × Bool)). out.0) os) held),
-    desks-answered ds os done.1 (All-tail (Holds log) o.0 (map (λ (out : Seat C R T × (D × Bool)). out.0) os) held),
+    desk-answered d o done.0 (All-head (HoldsSeat log) o.0 (map (λ (out : Seat C R T × (D × Bool)). out.0) os) held),
+    desks-answered ds os done.1 (All-tail (HoldsSeat log) o.0 (map (λ (out : Seat C R T × (D × Bool)). out.0) os) held),
   )

@@ -28,7 +28,7 @@ use Rattle.turn_lock.specs.declared.turns.Turns.{Turns}
 use Rattle.turn_lock.specs.declared.seat.SeatToken.{SeatToken as Seat}
 use Rattle.turn_lock.specs.History.{entries_by}
 use Rattle.turn_lock.specs.Seats.{joined, mine, opening}
-use Rattle.turn_seats.specs.Ending.{Holds, times_in}
+use Rattle.turn_seats.specs.Ending.{HoldsSeat, times_in}
 use Rattle.turn_seats.specs.Seated.{entry_of}
 use Rattle.desk_work.specs.Passages.{Passage, PassesThrough, entries_in}
 use Rattle.desk_work.specs.Visits.{Attends, Visit, entries_of}
@@ -109,7 +109,7 @@ module _ {L P D T C R : Type 0} (looks : Looks L P D) (settings : Settings) (rul
   abbrev Lands : ℕ → Type 0
   Lands k = AnyByRecursion (LandsFile id path blob) (map (entry_of rules.sight) (entries_by k log))
 
-  desk-came : (desk : D) (out : Seat C R T × (D × Bool)) → DeskDone looks rules settings turns first desk out → Holds log out.0 → (k : ℕ) → Lands k
+  desk-came : (desk : D) (out : Seat C R T × (D × Bool)) → DeskDone looks rules settings turns first desk out → HoldsSeat log out.0 → (k : ℕ) → Lands k
       → (times_in k out.0 ≡ 0) ⊎ FileWasFetched id path blob (looks.kit desk).remote (looks.kit out.1.0).remote
   desk-came desk out (own, begun, (did, over)) holds k lands =
       pick (own-of looks settings rules turns first alone apart under log fit out.0 (did.gained.stays.1 ∙ begun.2) holds k)
@@ -125,21 +125,21 @@ module _ {L P D T C R : Type 0} (looks : Looks L P D) (settings : Settings) (rul
           (subst (AnyByRecursion (LandsFile id path blob)) (sym entries) lands))
 
   desks-came : (k : ℕ) → Lands k → (desks : List D) (outs : List (Seat C R T × (D × Bool))) → AllZip (DeskDone looks rules settings turns first) desks outs
-      → All (Holds log) (map (λ (out : Seat C R T × (D × Bool)). out.0) outs) → sum_by (times_in k) (map (λ (out : Seat C R T × (D × Bool)). out.0) outs) ≡ 1
+      → All (HoldsSeat log) (map (λ (out : Seat C R T × (D × Bool)). out.0) outs) → sum_by (times_in k) (map (λ (out : Seat C R T × (D × Bool)). out.0) outs) ≡ 1
       → FetchedAtDesks looks desks (map (λ (out : Seat C R T × (D × Bool)). out.1.0) outs) id path blob
   desks-came k lands [] [] served held one = absurd (omega (arith, one))
   desks-came k lands [] (o ∷ os) served held one = absurd served
   desks-came k lands (d ∷ ds) [] served held one = absurd served
   desks-came k lands (d ∷ ds) (o ∷ os) served held one =
-      elim (desk-came d o served.0 (All-head (Holds log) o.0 (map (λ (out : Seat C R T × (D × Bool)). out.0) os) held) k lands) [
-        | inl away ↦ inr (desks-came k lands ds os served.1 (All-tail (Holds log) o.0 (map (λ (out : Seat C R T × (D × Bool)). out.0) os) held)
+      elim (desk-came d o served.0 (All-head (HoldsSeat log) o.0 (map (λ (out : Seat C R T × (D × Bool)). out.0) os) held) k lands) [
+        | inl away ↦ inr (desks-came k lands ds os served.1 (All-tail (HoldsSeat log) o.0 (map (λ (out : Seat C R T × (D × Bool)). out.0) os) held)
             (sym (zero-add _) ∙ subst (λ n. n + sum_by (times_in k) (map (λ (out : Seat C R T × (D × Bool)). out.0) os) ≡ 1) away
             (sym (sum_by-cons (times_in k) o.0 (map (λ (out : Seat C R T × (D × Bool)). out.0) os)) ∙ one)))
         | inr file ↦ inl file
       ]
 
   cleaner-lands : (new : Seat C R T) (before after : Broom) → CleanedBeside rules settings turns first new before after
-      → Holds log new → (k : ℕ) → Lands k → times_in k new ≡ 0
+      → HoldsSeat log new → (k : ℕ) → Lands k → times_in k new ≡ 0
   cleaner-lands new before after (handed, same, kept) holds k lands =
       pick (own-of looks settings rules turns first alone apart under log fit new (kept.gained.stays.1 ∙ same.3 ∙ apart) holds k)
     where

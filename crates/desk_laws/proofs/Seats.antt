@@ -4,7 +4,7 @@ use Rattle.turn_lock.specs.declared.view.Entry.{Entry as Call}
 use Rattle.turn_lock.specs.declared.seat.SeatToken.{SeatToken as Seat}
 use Rattle.turn_lock.specs.History.{Legal}
 use Rattle.turn_lock.specs.Seats.{seen}
-use Rattle.turn_seats.specs.Ending.{Holds}
+use Rattle.turn_seats.specs.Ending.{HoldsSeat}
 use Rattle.turn_seats.specs.Histories.{is_history}
 use Rattle.turn_seats.specs.Seated.{IsTurnOf, Sight}
 use Rattle.seat_laws.specs.Closing.{IsFit, SeesAll}
@@ -19,6 +19,6 @@ module _ {T C R : Type 0} (sight : Sight T C R) (steps : T → C → R → T →
   pub log-sees : (x : T) (log : List (Call C R T)) → IsFit sight x → Legal steps x log → SeesAll sight x log
   log-sees x log fit legal = sees-all sight x log fit (is_history sight steps is_turn x log legal)
 
-  pub seat-sees : (x : T) (log : List (Call C R T)) (seat : Seat C R T) → IsFit sight x → Legal steps x log → Holds log seat → SeesAll sight x (seen seat)
+  pub seat-sees : (x : T) (log : List (Call C R T)) (seat : Seat C R T) → IsFit sight x → Legal steps x log → HoldsSeat log seat → SeesAll sight x (seen seat)
   seat-sees x log seat fit legal holds =
       log-sees x (seen seat) fit (front-legal x (seen seat) holds.0.0 (subst (Legal steps x) holds.0.1 legal))

@@ -24,7 +24,7 @@ use Rattle.turn_lock.specs.declared.turns.Turns.{Turns}
 use Rattle.turn_lock.specs.declared.seat.SeatToken.{SeatToken as Seat}
 use Rattle.turn_lock.specs.History.{entries_by}
 use Rattle.turn_lock.specs.Seats.{joined, mine, number, opening}
-use Rattle.turn_seats.specs.Ending.{Holds, times_in}
+use Rattle.turn_seats.specs.Ending.{HoldsSeat, times_in}
 use Rattle.turn_seats.specs.Seated.{Sight, entry_of}
 use Rattle.desk_work.specs.Passages.{Passage, PassesThrough, entries_in}
 use Rattle.desk_work.specs.Visits.{Attends, Visit, entries_of}
@@ -133,7 +133,7 @@ module _ {L P D T C R : Type 0} (looks : Looks L P D) (settings : Settings) (rul
     (turns : Turns T C R) (first : Seat C R T) (alone : mine first ≡ []) (apart : joined first ≡ []) (under : Settings) (log : List (Call C R T))
     (fit : AllByRecursion (FitsOne under) (map (entry_of rules.sight) log)) where
   -- a seat that has taken no other in is no such caller, or the caller's entries are its own
-  pub own-of : (seat : Seat C R T) → joined seat ≡ [] → Holds log seat → (k : ℕ) → (times_in k seat ≡ 0) ⊎ (mine seat ≡ entries_by k log)
+  pub own-of : (seat : Seat C R T) → joined seat ≡ [] → HoldsSeat log seat → (k : ℕ) → (times_in k seat ≡ 0) ⊎ (mine seat ≡ entries_by k log)
   own-of seat none holds k = pick (eqb_tells (number seat) k)
     where
       pick : ((number seat == k) ≡ true × (number seat ≡ k)) ⊎ ((number seat == k) ≡ false × ((number seat ≡ k) → ⊥))
@@ -158,7 +158,7 @@ module _ {L P D T C R : Type 0} (looks : Looks L P D) (settings : Settings) (rul
       let cut = all-cut (FitsOne under) p.entries (entries_in ps) fits in
       both-back p.entries (entries_in ps) (pass-back under p.entries cut.0 (passes-ask _ p.entries before p.left p.result through.0)) (passes-back p.left after ps through.1 cut.1)
 
-  desk-back : (desk : D) (out : Seat C R T × (D × Bool)) → DeskDone looks rules settings turns first desk out → Holds log out.0 → (k : ℕ)
+  desk-back : (desk : D) (out : Seat C R T × (D × Bool)) → DeskDone looks rules settings turns first desk out → HoldsSeat log out.0 → (k : ℕ)
       → (times_in k out.0 ≡ 0) ⊎ GiveAllBack (map (entry_of rules.sight) (entries_by k log))
   desk-back desk out (own, begun, (did, over)) holds k = pick (own-of out.0 (did.gained.stays.1 ∙ begun.2) holds k)
     where
@@ -170,22 +170,22 @@ module _ {L P D T C R : Type 0} (looks : Looks L P D) (settings : Settings) (rul
           inr (subst GiveAllBack entries (visits-back (looks.kit desk) (looks.kit out.1.0) did.visits did.attends (fit-by k (entries_of did.visits) entries)))
 
   desks-back : (k : ℕ) (desks : List D) (outs : List (Seat C R T × (D × Bool))) → AllZip (DeskDone looks rules settings turns first) desks outs
-      → All (Holds log) (map (λ (out : Seat C R T × (D × Bool)). out.0) outs) → sum_by (times_in k) (map (λ (out : Seat C R T × (D × Bool)). out.0) outs) ≡ 1
+      → All (HoldsSeat log) (map (λ (out : Seat C R T × (D × Bool)). out.0) outs) → sum_by (times_in k) (map (λ (out : Seat C R T × (D × Bool)). out.0) outs) ≡ 1
       → GiveAllBack (map (entry_of rules.sight) (entries_by k log))
   desks-back k [] [] served held one = absurd (omega (arith, one))
   desks-back k [] (o ∷ os) served held one = absurd served
   desks-back k (d ∷ ds) [] served held one = absurd served
   desks-back k (d ∷ ds) (o ∷ os) served held one =
-      elim (desk-back d o served.0 (All-head (Holds log) o.0 (map (λ (out : Seat C R T × (D × Bool)). out.0) os) held) k) [
+      elim (desk-back d o served.0 (All-head (HoldsSeat log) o.0 (map (λ (out : Seat C R T × (D × Bool)). out.0) os) held) k) [
         | inl away ↦
-            desks-back k ds os served.1 (All-tail (Holds log) o.0 (map (λ (out : Seat C R T × (D × Bool)). out.0) os) held)
+            desks-back k ds os served.1 (All-tail (HoldsSeat log) o.0 (map (λ (out : Seat C R T × (D × Bool)). out.0) os) held)
             (sym (zero-add _) ∙ subst (λ n. n + sum_by (times_in k) (map (λ (out : Seat C R T × (D × Bool)). out.0) os) ≡ 1) away
             (sym (sum_by-cons (times_in k) o.0 (map (λ (out : Seat C R T × (D × Bool)). out.0) os)) ∙ one))
         | inr back ↦ back
       ]
 
   cleaner-back : (new : Seat C R T) (before after : Broom) → CleanedBeside rules settings turns first new before after
-      → Holds log new → (k : ℕ) → (times_in k new ≡ 0) ⊎ GiveAllBack (map (entry_of rules.sight) (entries_by k log))
+      → HoldsSeat log new → (k : ℕ) → (times_in k new ≡ 0) ⊎ GiveAllBack (map (entry_of rules.sight) (entries_by k log))
   cleaner-back new before after (handed, same, kept) holds k = pick (own-of new (kept.gained.stays.1 ∙ same.3 ∙ apart) holds k)
     where
       pick : (times_in k new ≡ 0) ⊎ (mine new ≡ entries_by k log) → (times_in k new ≡ 0) ⊎ GiveAllBack (map (entry_of rules.sight) (entries_by k log))

@@ -15,7 +15,7 @@ use Rattle.repo_laws.proofs.Drafts.{draft-dropped}
 use Rattle.repo_course.specs.Course.{Close, Course, asks, does, says, stops}
 use Rattle.repo_course.specs.declared.manner.Manner.{Manner}
 use Rattle.repo_course.specs.declared.outcomes.End.{End}
-use Rattle.repo_course.specs.Serving.{Follows, Outside, Serves, Turn}
+use Rattle.repo_course.specs.Serving.{Follows, Outside, ServesStream, RequestTurn}
 use Rattle.course_laws.specs.Duties.{HoldsNothing, Keeps, MayAsk, Stand, draft_after, lease_after, left_by, spends_draft, stand_after, stand_done}
 use Rattle.course_laws.proofs.Kept.{duty_at, opens-keeps}
 use Rattle.course_laws.proofs.Passes.{deed-asks}
@@ -144,14 +144,14 @@ module _ (settings : Settings) where
 
   module _ (own : Settings) (tells : Type 0) where
     turn-back : (last : Bool) (entries : List Entry) (old new : Outside) (end : Option End) → AllByRecursion (FitsOne settings) entries
-        → Turn own tells last entries old new end → GiveAllBack entries
+        → RequestTurn own tells last entries old new end → GiveAllBack entries
     turn-back last entries old new end fit t =
         let duty = duty_at t.2 in
         (follows-owing tells duty.by_text duty.manner t.0 duty.most duty.stand (opens-keeps own last old t.1 t.0 t.2) entries fit t.1 new end t.3).back
 
     pub serves-back : (n : ℕ) (entries : List Entry) (old new : Outside) (ending : End) → AllByRecursion (FitsOne settings) entries
-        → Serves own tells n entries old new ending → GiveAllBack entries
-    unfolding Serves
+        → ServesStream own tells n entries old new ending → GiveAllBack entries
+    unfolding ServesStream
     serves-back zero entries old new ending fit t = subst GiveAllBack (sym t.0) none-back
     serves-back (suc left) entries old new ending fit (inl turn) = turn-back (left == 0) entries old new (Some ending) fit turn
     serves-back (suc left) entries old new ending fit (inr t) =

@@ -5,12 +5,12 @@ ghost use Rattle.repo_model.specs.History.{Entry};
 ghost use Rattle.repo_model.specs.Settings.{Settings};
 ghost use Rattle.repo_model.specs.State.{State};
 ghost use Rattle.repo_course.specs.Asking.{IsWoven};
-ghost use Rattle.repo_course.specs.Serving.{AllTell, Outside, Serves};
+ghost use Rattle.repo_course.specs.Serving.{AllTell, Outside, ServesStream};
 ghost use Rattle.repo_course.specs.declared.outcomes.End.{End};
 ghost use Rattle.run_desks.specs.Seen.{Floor, looks};
 ghost use Rattle.run_desks.specs.declared.objects.Desk.{Desk};
 ghost use Rattle.turn_lock.specs.Seats.{opening, mine, joined, seen};
-ghost use Rattle.turn_seats.specs.Ending.{Holds};
+ghost use Rattle.turn_seats.specs.Ending.{HoldsSeat};
 ghost use Rattle.seat_laws.specs.Closing.{IsFit, SeesAll};
 ghost use Rattle.desk_work.specs.Rules.{rules};
 ghost use Rattle.desk_work.specs.Working.{Works};
@@ -28,7 +28,7 @@ use turn_seats::Repository;
 /// of its own, wherever its entries lie in a legal history, also among those of others.
 pub fn streams_give_all_back<H: Held>()
     ensures { (settings : Settings) (n : ℕ) (start end : State) (entries : List Entry) (old new : Outside) (ending : End) →
-        IsWoven settings start entries end → Serves settings (AllTell H.bytes) n entries old new ending → GiveAllBack entries }
+        IsWoven settings start entries end → ServesStream settings (AllTell H.bytes) n entries old new ending → GiveAllBack entries }
 {}
 
 /// Where desks and the cleaner have worked to the end, no draft and no lease is left: none stood as the turns began, and the seat that
@@ -73,5 +73,5 @@ pub fn seats_of_servers_see_closed_histories<P: Port, B: Blobs, R: Remote, T: Re
         IsFit T.sight (opening turns) → SeesAll T.sight (opening turns) (seen works.cleaning) }
     ensures desk { (settings : Settings) (turns : _) (seat : _) (old new : Floor (List (Desk P B R P.Link B.Held B.Pen))) (thing : T) (calls : ℕ) (failed : Bool) →
         (works : Works (looks ⟦<P as Port>⟧ ⟦<P::Link as Tells>⟧ ⟦<B as Blobs>⟧ ⟦<B::Held as Held>⟧ ⟦<R as Remote>⟧) (rules ⟦<T as Thing>⟧ T.sight) settings turns seat old new thing calls failed) →
-        IsFit T.sight (opening turns) → (own : _) → Holds works.ended.log own → SeesAll T.sight (opening turns) (seen own) }
+        IsFit T.sight (opening turns) → (own : _) → HoldsSeat works.ended.log own → SeesAll T.sight (opening turns) (seen own) }
 {}

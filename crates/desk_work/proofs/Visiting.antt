@@ -6,7 +6,7 @@ use Rattle.outside.specs.Told.{in_front, behind}
 use Rattle.repo_model.specs.History.{Entry}
 use Rattle.repo_model.specs.Settings.{Settings}
 use Rattle.repo_course.specs.declared.outcomes.End.{End}
-use Rattle.repo_course.specs.Serving.{Serves}
+use Rattle.repo_course.specs.Serving.{ServesStream}
 use Rattle.run_desks.specs.Seen.{Kit, Looks, around}
 use Rattle.turn_lock.specs.declared.turns.Turns.{Turns}
 use Rattle.turn_lock.specs.declared.seat.SeatToken.{SeatToken as Seat}
@@ -34,10 +34,10 @@ behind_then (Some l) xs ys = ap Some (append_assoc l xs ys)
 
 module _ {L P D : Type 0} (looks : Looks L P D) (settings : Settings) where
   attends_more : (before mid after : Kit) (vs : List (Visit L)) (v : Visit L) → Attends looks settings before vs mid
-      → Serves settings looks.tells 1000 v.entries (around looks [] v.came mid) (around looks v.held v.went v.left) v.ending → after ≡ v.left
+      → ServesStream settings looks.tells 1000 v.entries (around looks [] v.came mid) (around looks v.held v.went v.left) v.ending → after ≡ v.left
       → Attends looks settings before (vs ++ v ∷ []) after
   attends_more before mid after [] v so serves is =
-      (subst (λ (k : Kit). Serves settings looks.tells 1000 v.entries (around looks [] v.came k) (around looks v.held v.went v.left) v.ending) so serves, is)
+      (subst (λ (k : Kit). ServesStream settings looks.tells 1000 v.entries (around looks [] v.came k) (around looks v.held v.went v.left) v.ending) so serves, is)
   attends_more before mid after (u ∷ us) v so serves is = (so.0, attends_more u.left mid after us v so.1 serves is)
 
   module _ {T C R : Type 0} (rules : Rules T C R) (turns : Turns T C R) where
@@ -55,7 +55,7 @@ module _ {L P D : Type 0} (looks : Looks L P D) (settings : Settings) where
         → Attended looks rules settings turns a b first before
         → looks.left (looks.port before) ≡ in_front (came ∷ []) (looks.left handed) → looks.given_back handed ≡ looks.given_back (looks.port before)
         → looks.left (looks.port after) ≡ looks.left handed → looks.given_back (looks.port after) ≡ behind (looks.given_back handed) (went ∷ [])
-        → Serves settings looks.tells 1000 entries (around looks [] came (looks.kit before)) (around looks held went (looks.kit after)) ending
+        → ServesStream settings looks.tells 1000 entries (around looks [] came (looks.kit before)) (around looks held went (looks.kit after)) ending
         → Gained rules.sight rules.steps turns b entries c → Attended looks rules settings turns a c first after
     attended_more a b c first before after handed came went held ending entries one gives kept same back serves gained =
         let v : Visit L = record { came = came; went = went; held = held; ending = ending; entries = entries; left = looks.kit after } in

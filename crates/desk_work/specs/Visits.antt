@@ -6,7 +6,7 @@ use Rattle.outside.specs.Told.{in_front, behind, IsAtEnd}
 use Rattle.repo_model.specs.History.{Entry}
 use Rattle.repo_model.specs.Settings.{Settings}
 use Rattle.repo_course.specs.declared.outcomes.End.{End}
-use Rattle.repo_course.specs.Serving.{Serves}
+use Rattle.repo_course.specs.Serving.{ServesStream}
 use Rattle.run_desks.specs.Seen.{Kit, Looks, around}
 use Rattle.turn_lock.specs.declared.turns.Turns.{Turns}
 use Rattle.turn_lock.specs.declared.seat.SeatToken.{SeatToken as Seat}
@@ -26,7 +26,7 @@ pub record Visit (L : Type 0) : Type 0 where
 abbrev pub Attends : {L P D : Type 0} → Looks L P D → Settings → Kit → List (Visit L) → Kit → Type 0
 Attends looks settings before [] after = after ≡ before
 Attends looks settings before (v ∷ vs) after =
-    Serves settings looks.tells 1000 v.entries (around looks [] v.came before) (around looks v.held v.went v.left) v.ending
+    ServesStream settings looks.tells 1000 v.entries (around looks [] v.came before) (around looks v.held v.went v.left) v.ending
     × Attends looks settings v.left vs after
 
 -- the entries of the connections, one after another

@@ -3,7 +3,7 @@ use Rattle.std.proofs.Common.{◌≡◌, ℕ, ◌+◌, Bool, true, false, List, 
 use Rattle.std.specs.Prelude.{◌==◌, if◌then◌else◌, Option, Some, None, IsSome, OnOk}
 use Rattle.std.proofs.lemmas.List.{append-nil}
 use Rattle.std.proofs.lemmas.Bool.Decides.{nat_tests}
-use Rattle.record_log.specs.Frames.{Found, Frames, New, Foreign, Framed, frames, frames_of, payloads_of, Holds, IsWhole}
+use Rattle.record_log.specs.Frames.{Found, Frames, New, Foreign, Framed, frames, frames_of, payloads_of, HoldsFrames, IsWhole}
 use Rattle.repo_model.specs.declared.item.Item.{Item}
 use Rattle.repo_model.specs.Tables.{Tables, no_tables, applied}
 use Rattle.repo_rows.specs.Reading.{taken}
@@ -36,13 +36,13 @@ held New payloads holds = ap built_up (some_is [] payloads holds)
 held Foreign payloads holds = absurd cc
 held (Framed found) payloads holds = found_held found found.is_cut payloads refl holds
 
-pub loads_held : (file : List ℕ) (payloads : List (List ℕ)) → Holds payloads file → loading file ≡ built_up payloads
+pub loads_held : (file : List ℕ) (payloads : List (List ℕ)) → HoldsFrames payloads file → loading file ≡ built_up payloads
 loads_held file payloads holds = held (frames file) payloads holds
 
 -- a file that loads holds frames that are whole
 pub record HeldBy (file : List ℕ) (t : Tables) : Type 0 where
   pub payloads : List (List ℕ)
-  pub holds : Holds payloads file
+  pub holds : HoldsFrames payloads file
   pub builds : built_up payloads ≡ Ok t
 
 found_loads : (file : List ℕ) (found : Found) (cut : Bool) (t : Tables) → frames file ≡ Framed found → found.is_cut ≡ cut → after_frames 0 cut no_tables found.payloads ≡ Ok t → HeldBy file t

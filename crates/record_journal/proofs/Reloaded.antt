@@ -5,7 +5,7 @@ use Rattle.std.specs.Option.{option_map}
 use Rattle.std.specs.Result.{result_ok}
 use Rattle.record_disk.specs.Disk.{Trace, After, Sync, content, AllImages, Throughout, Here, Then, Told, Keeps, IsDurable}
 use Rattle.record_disk.proofs.Moments.{joined, weaker, at_last, told_map, told_then}
-use Rattle.record_log.specs.Frames.{Holds, frames, gate_of, end_of, EndsAt}
+use Rattle.record_log.specs.Frames.{HoldsFrames, frames, gate_of, end_of, EndsAt}
 use Rattle.record_log.specs.Log.{StandsFor, LogState, HasAcknowledged, MaySync}
 use Rattle.record_log.proofs.Calls.{told_same}
 use Rattle.repo_model.specs.Tables.{Tables}
@@ -102,14 +102,14 @@ if_ok (Err e) P Q f is = tt
 
 -- what mending the end of a file with these bytes says
 abbrev pub Mending : List ℕ → Trace → Trace → Type 0
-Mending bytes s t = IsDurable bytes s → (ps : List (List ℕ)) → Holds ps bytes → Keeps (Holds ps) s t
+Mending bytes s t = IsDurable bytes s → (ps : List (List ℕ)) → HoldsFrames ps bytes → Keeps (HoldsFrames ps) s t
 
 module _ (bytes : List ℕ) (t : Tables) (loads : loading bytes ≡ Ok t) where
   abbrev held : HeldBy bytes t
   held = held_by bytes t loads
 
   mend_moments : (s u : Trace) → IsDurable bytes s → Mending bytes s u → Throughout (LoadsTo t) s u
-  mend_moments s u durable mending = weaker (Holds held.payloads) (LoadsTo t) s u (λ image holds. loads_held image held.payloads holds ∙ held.builds) (mending durable held.payloads held.holds).moments
+  mend_moments s u durable mending = weaker (HoldsFrames held.payloads) (LoadsTo t) s u (λ image holds. loads_held image held.payloads holds ∙ held.builds) (mending durable held.payloads held.holds).moments
 
   durable_tables : (g : ℕ) (s : Trace) → IsDurable bytes s → tables_by (Some s) g None ≡ Some t
   durable_tables g s durable = ap result_ok (ap loading durable.reads ∙ loads)
@@ -134,10 +134,10 @@ module _ (bytes : List ℕ) (t : Tables) (loads : loading bytes ≡ Ok t) where
   mended_tables (Some s) None g h durable told = absurd told
   mended_tables (Some s) (Some u) g h durable told =
       let kept = told durable held.payloads held.holds in
-      ap result_ok (loads_held (content u) held.payloads (at_last (Holds held.payloads) s u kept.moments (content u) kept.image) ∙ held.builds) ∙ sym (durable_tables g s durable)
+      ap result_ok (loads_held (content u) held.payloads (at_last (HoldsFrames held.payloads) s u kept.moments (content u) kept.image) ∙ held.builds) ∙ sym (durable_tables g s durable)
 
   pub mended_ready : (a b : Option Trace) (h : ℕ) (after : Option (List ℕ)) → after ≡ None → IfSome a (IsDurable bytes) → Told a b (Mending bytes)
-      → IfSome a (λ s. IsDurable bytes s → (ps : List (List ℕ)) → Holds ps bytes → IfSome b (λ u. StandsFor h after ps u)) → IfSome b (IsStanding h after)
+      → IfSome a (λ s. IsDurable bytes s → (ps : List (List ℕ)) → HoldsFrames ps bytes → IfSome b (λ u. StandsFor h after ps u)) → IfSome b (IsStanding h after)
   mended_ready None None h after none durable told done = tt
   mended_ready None (Some u) h after none durable told done = absurd told
   mended_ready (Some s) None h after none durable told done = tt
@@ -220,7 +220,7 @@ module _ (old mid new : LogState) (bytes : List ℕ) (t : Tables) (loads : loadi
   reload_tables same =
       ap (tables_by new.trace new.gate) new_none ∙ mended_tables bytes t loads mid.trace new.trace mid.gate new.gate durable mending ∙ ap (tables_by mid.trace mid.gate) (sym mid_none) ∙ same
 
-  pub reload_ready : 8 ≤ new.gate → IfSome mid.trace (λ s. IsDurable bytes s → (ps : List (List ℕ)) → Holds ps bytes → HasAcknowledged ps new) → IsReady new
+  pub reload_ready : 8 ≤ new.gate → IfSome mid.trace (λ s. IsDurable bytes s → (ps : List (List ℕ)) → HoldsFrames ps bytes → HasAcknowledged ps new) → IsReady new
   reload_ready behind done = record { behind = behind; standing = mended_ready bytes t loads mid.trace new.trace new.gate new.pending new_none durable mending done }
 
   pub reload_recovers : Told old.trace mid.trace (λ s m. m ≡ After Sync (content s) s) → Told old.trace new.trace Recovers

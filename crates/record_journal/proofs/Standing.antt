@@ -4,7 +4,7 @@ use Rattle.std.specs.Prelude.{Option, Some, None, IfSome}
 use Rattle.std.specs.Result.{result_ok}
 use Rattle.std.proofs.lemmas.List.{append-nil}
 use Rattle.record_disk.specs.Disk.{Trace, content, AllImages}
-use Rattle.record_log.specs.Frames.{Holds, head_of, AreShort}
+use Rattle.record_log.specs.Frames.{HoldsFrames, head_of, AreShort}
 use Rattle.record_log.specs.Log.{StandsFor, MayHold, LogState}
 use Rattle.record_log.proofs.Calls.{stands_hold}
 use Rattle.record_log.proofs.Reading.{holds_closed}
@@ -13,15 +13,15 @@ use Rattle.record_journal.specs.Loading.{loading, built_up}
 use Rattle.record_journal.specs.Journal.{acknowledged, tables_by, tables_of, LoadsTo, MayLoad, Fits, IsStanding, IsReady}
 use Rattle.record_journal.proofs.Loads.{loads_held, pushed, after_change}
 
-head_holds : (payloads : List (List ℕ)) → AreShort payloads → Holds payloads (head_of payloads)
-head_holds payloads short = subst (Holds payloads) (append-nil (head_of payloads)) (holds_closed payloads [] short tt)
+head_holds : (payloads : List (List ℕ)) → AreShort payloads → HoldsFrames payloads (head_of payloads)
+head_holds payloads short = subst (HoldsFrames payloads) (append-nil (head_of payloads)) (holds_closed payloads [] short tt)
 
 -- the acknowledged part of the file loads to what its frames build up
 pub standing_loads : (gate : ℕ) (pending : Option (List ℕ)) (payloads : List (List ℕ)) (s : Trace) → StandsFor gate pending payloads s → loading (acknowledged gate pending (content s)) ≡ built_up payloads
-standing_loads gate None payloads s rests = loads_held (content s) payloads (subst (Holds payloads) (sym rests.durable.reads) (holds_closed payloads (0 ∷ []) rests.short (inl (omega arith))))
+standing_loads gate None payloads s rests = loads_held (content s) payloads (subst (HoldsFrames payloads) (sym rests.durable.reads) (holds_closed payloads (0 ∷ []) rests.short (inl (omega arith))))
 standing_loads gate (Some p) payloads s tail =
     let front : take gate (content s) ≡ head_of payloads = ap (λ k. take k (content s)) tail.place ∙ (tail.all (content s) tail.image).front in
-    loads_held (take gate (content s)) payloads (subst (Holds payloads) (sym front) (head_holds payloads tail.short))
+    loads_held (take gate (content s)) payloads (subst (HoldsFrames payloads) (sym front) (head_holds payloads tail.short))
 
 pub standing_tables : (gate : ℕ) (pending : Option (List ℕ)) (s : Trace) (known : IsStanding gate pending s) → tables_by (Some s) gate pending ≡ Some known.tables
 standing_tables gate pending s known = ap result_ok (standing_loads gate pending known.payloads s known.stands ∙ known.builds)

@@ -5,7 +5,7 @@ use Rattle.std.specs.List.{flat_map}
 use Rattle.std.proofs.lemmas.List.{drop_more, drop_all, take_at}
 use Rattle.std.proofs.lemmas.Option.{get_or_from_slice_get}
 use Rattle.record_disk.specs.Disk.{Trace, content, written, Torn, AllImages, Throughout, Here, Told, Keeps, IsDurable, Tears}
-use Rattle.record_log.specs.Frames.{Frames, New, Foreign, Framed, frames, payloads_of, gate_of, end_of, EndsAt, Holds, IsLong, framed, magic, head_of}
+use Rattle.record_log.specs.Frames.{Frames, New, Foreign, Framed, frames, payloads_of, gate_of, end_of, EndsAt, HoldsFrames, IsLong, framed, magic, head_of}
 use Rattle.record_log.specs.Log.{at_rest, IsAtRest, HasFront, HasTail}
 use Rattle.record_disk.proofs.Moments.{weaker}
 use Rattle.record_log.proofs.Reading.{frames_short}
@@ -16,12 +16,12 @@ use Rattle.record_log.proofs.Calls.{Undoing, told_same}
 abbrev pub IsFew : List ℕ → Type 0
 IsFew image = length image ≤ 9
 
-few_holds : (image : List ℕ) → IsFew image → Holds [] image
+few_holds : (image : List ℕ) → IsFew image → HoldsFrames [] image
 few_holds image few = ap payloads_of (frames_short image few)
 
-pub renew_keeps : (s t : Trace) → Tears 0 9 s t → AllImages IsFew s → Keeps (Holds []) s t
+pub renew_keeps : (s t : Trace) → Tears 0 9 s t → AllImages IsFew s → Keeps (HoldsFrames []) s t
 renew_keeps s t tears few = record {
-  moments = weaker _ (Holds []) s t (λ c from. few_holds c (torn_few c from.0 (few from.0 from.1) from.2)) tears.moments;
+  moments = weaker _ (HoldsFrames []) s t (λ c from. few_holds c (torn_few c from.0 (few from.0 from.1) from.2)) tears.moments;
   image = tears.image;
 }
   where
@@ -55,11 +55,11 @@ the None = []
 the (Some x) = x
 
 -- a file holds one list of payloads
-pub one_list : (file : List ℕ) (ps qs : List (List ℕ)) → Holds ps file → Holds qs file → ps ≡ qs
+pub one_list : (file : List ℕ) (ps qs : List (List ℕ)) → HoldsFrames ps file → HoldsFrames qs file → ps ≡ qs
 one_list file ps qs one two = ap the (sym one ∙ two)
 
 module _ (bytes : List ℕ) (gate : ℕ) (are : AreBytes bytes) (is : gate_of (frames bytes) ≡ Some gate) where
-  rests_now : EndsAt gate bytes → (s : Trace) → IsDurable bytes s → (ps : List (List ℕ)) → Holds ps bytes → IsAtRest gate ps s
+  rests_now : EndsAt gate bytes → (s : Trace) → IsDurable bytes s → (ps : List (List ℕ)) → HoldsFrames ps bytes → IsAtRest gate ps s
   rests_now ends s durable ps holds =
       let them = parts bytes gate are is in
       let same : them.payloads ≡ ps = one_list bytes them.payloads ps them.holds holds in
@@ -68,7 +68,7 @@ module _ (bytes : List ℕ) (gate : ℕ) (are : AreBytes bytes) (is : gate_of (f
       let rest : bytes ≡ at_rest them.payloads = them.split ∙ ap (λ (l : List ℕ). head_of them.payloads ++ l) last in
       subst (λ qs. IsAtRest gate qs s) same (record { durable = subst (λ f. IsDurable f s) rest durable; place = them.place; short = them.short })
 
-  hangs_now : (s : Trace) → IsDurable bytes s → (ps : List (List ℕ)) → Holds ps bytes → HasTail gate ps None s
+  hangs_now : (s : Trace) → IsDurable bytes s → (ps : List (List ℕ)) → HoldsFrames ps bytes → HasTail gate ps None s
   hangs_now s durable ps holds =
       let them = parts bytes gate are is in
       let same : them.payloads ≡ ps = one_list bytes them.payloads ps them.holds holds in
@@ -81,16 +81,16 @@ module _ (bytes : List ℕ) (gate : ℕ) (are : AreBytes bytes) (is : gate_of (f
         short = them.short;
       })
 
-  pub close_moments : (s t : Trace) → Undoing gate s t → IsDurable bytes s → (ps : List (List ℕ)) → Holds ps bytes → Keeps (Holds ps) s t
+  pub close_moments : (s t : Trace) → Undoing gate s t → IsDurable bytes s → (ps : List (List ℕ)) → HoldsFrames ps bytes → Keeps (HoldsFrames ps) s t
   close_moments s t undoing durable ps holds =
       let kept = undoing ps None (hangs_now s durable ps holds) in
-      record { moments = weaker (HasFront ps None) (Holds ps) s t (λ c front. front.holds) kept.moments; image = kept.image }
+      record { moments = weaker (HasFront ps None) (HoldsFrames ps) s t (λ c front. front.holds) kept.moments; image = kept.image }
 
-  pub close_rests : (s t : Trace) → ((ps : List (List ℕ)) (pending : Option (List ℕ)) → HasTail gate ps pending s → IsAtRest gate ps t) → IsDurable bytes s → (ps : List (List ℕ)) → Holds ps bytes → IsAtRest gate ps t
+  pub close_rests : (s t : Trace) → ((ps : List (List ℕ)) (pending : Option (List ℕ)) → HasTail gate ps pending s → IsAtRest gate ps t) → IsDurable bytes s → (ps : List (List ℕ)) → HoldsFrames ps bytes → IsAtRest gate ps t
   close_rests s t undone durable ps holds = undone ps None (hangs_now s durable ps holds)
 
-  pub close_none : (s : Trace) → IsDurable bytes s → (ps : List (List ℕ)) → Holds ps bytes → Keeps (Holds ps) s s
-  close_none s durable ps holds = record { moments = Here (λ c image. subst (Holds ps) (sym (durable.only c image)) holds); image = durable.image }
+  pub close_none : (s : Trace) → IsDurable bytes s → (ps : List (List ℕ)) → HoldsFrames ps bytes → Keeps (HoldsFrames ps) s s
+  close_none s durable ps holds = record { moments = Here (λ c image. subst (HoldsFrames ps) (sym (durable.only c image)) holds); image = durable.image }
 
   bytes_long : IsLong 8 bytes
   bytes_long =
@@ -107,22 +107,22 @@ module _ (bytes : List ℕ) (gate : ℕ) (are : AreBytes bytes) (is : gate_of (f
   close_long a = told_same a (λ s t. IsDurable bytes s → Throughout (IsLong 8) s t) (λ s durable. Here (λ c image. subst (IsLong 8) (sym (durable.only c image)) bytes_long))
 
   -- where nothing has to be done
-  pub close_told : (a : Option Trace) → Told a a (λ s t. IsDurable bytes s → (ps : List (List ℕ)) → Holds ps bytes → Keeps (Holds ps) s t)
-  close_told a = told_same a (λ s t. IsDurable bytes s → (ps : List (List ℕ)) → Holds ps bytes → Keeps (Holds ps) s t) close_none
+  pub close_told : (a : Option Trace) → Told a a (λ s t. IsDurable bytes s → (ps : List (List ℕ)) → HoldsFrames ps bytes → Keeps (HoldsFrames ps) s t)
+  close_told a = told_same a (λ s t. IsDurable bytes s → (ps : List (List ℕ)) → HoldsFrames ps bytes → Keeps (HoldsFrames ps) s t) close_none
 
-  pub close_done : EndsAt gate bytes → (a : Option Trace) → Told a a (λ s t. IsDurable bytes s → (ps : List (List ℕ)) → Holds ps bytes → IsAtRest gate ps t)
-  close_done ends a = told_same a (λ s t. IsDurable bytes s → (ps : List (List ℕ)) → Holds ps bytes → IsAtRest gate ps t) (rests_now ends)
+  pub close_done : EndsAt gate bytes → (a : Option Trace) → Told a a (λ s t. IsDurable bytes s → (ps : List (List ℕ)) → HoldsFrames ps bytes → IsAtRest gate ps t)
+  close_done ends a = told_same a (λ s t. IsDurable bytes s → (ps : List (List ℕ)) → HoldsFrames ps bytes → IsAtRest gate ps t) (rests_now ends)
 
 -- a file that holds nothing, made anew
-module _ (bytes : List ℕ) (ps : List (List ℕ)) (holds : Holds ps bytes) (none : gate_of (frames bytes) ≡ None) where
+module _ (bytes : List ℕ) (ps : List (List ℕ)) (holds : HoldsFrames ps bytes) (none : gate_of (frames bytes) ≡ None) where
   pub is_few : IsFew bytes
   is_few = new_is_short bytes ps holds none
 
-  pub fresh_moments : (s t : Trace) → (AllImages IsFew s → Keeps (Holds []) s t) → IsDurable bytes s → (qs : List (List ℕ)) → Holds qs bytes → Keeps (Holds qs) s t
+  pub fresh_moments : (s t : Trace) → (AllImages IsFew s → Keeps (HoldsFrames []) s t) → IsDurable bytes s → (qs : List (List ℕ)) → HoldsFrames qs bytes → Keeps (HoldsFrames qs) s t
   fresh_moments s t renewed durable qs held =
-      subst (λ rs. Keeps (Holds rs) s t) (one_list bytes [] qs (few_holds bytes is_few) held) (renewed (λ c image. subst IsFew (sym (durable.only c image)) is_few))
+      subst (λ rs. Keeps (HoldsFrames rs) s t) (one_list bytes [] qs (few_holds bytes is_few) held) (renewed (λ c image. subst IsFew (sym (durable.only c image)) is_few))
 
-pub fresh_rests : (bytes : List ℕ) → gate_of (frames bytes) ≡ None → (s t : Trace) → (IsFew (content s) → IsAtRest 8 [] t) → IsDurable bytes s → (qs : List (List ℕ)) → Holds qs bytes → IsAtRest 8 qs t
+pub fresh_rests : (bytes : List ℕ) → gate_of (frames bytes) ≡ None → (s t : Trace) → (IsFew (content s) → IsAtRest 8 [] t) → IsDurable bytes s → (qs : List (List ℕ)) → HoldsFrames qs bytes → IsAtRest 8 qs t
 fresh_rests bytes none s t rests durable qs held =
     let few : IsFew bytes = is_few bytes qs held none in
     subst (λ rs. IsAtRest 8 rs t) (one_list bytes [] qs (few_holds bytes few) held) (rests (subst IsFew (sym durable.reads) few))

@@ -1,7 +1,7 @@
 ghost use Rattle.std.specs.Prelude.{◌≡◌, ◌↔◌, ◌<◌, ◌≤◌, ◌^◌, ℕ, List, [], Some, IfOk, IfSome, IsOk, IsTrue, OnOk, length, min};
 ghost use Rattle.outside.specs.Faults.{HasCause};
 ghost use Rattle.record_disk.specs.Disk.{After, Sync, content, AllImages, Throughout, Told, Keeps, IsDurable};
-ghost use Rattle.record_log.specs.Frames.{IsWhole, IsLong, frames, gate_of, end_of, EndsAt, Holds};
+ghost use Rattle.record_log.specs.Frames.{IsWhole, IsLong, frames, gate_of, end_of, EndsAt, HoldsFrames};
 ghost use Rattle.record_log.specs.Log.{IsAtRest, MaySync, HasLogCause};
 
 use crate::faults::LogFault;
@@ -42,7 +42,7 @@ fn read_all<D: Disk>(alloc: Global, disk: &mut D) -> Result<Vec<u8>, LogFault>
 /// is shorter than it was.
 fn renew<D: Disk>(disk: &mut D) -> Result<(), Failed>
     ensures cause { HasCause (D.faults disk.old) (D.faults disk.new) result }
-    ensures told { Told (D.trace disk.old) (D.trace disk.new) (λ s t. AllImages (λ image. length image ≤ 9) s → Keeps (Holds []) s t) }
+    ensures told { Told (D.trace disk.old) (D.trace disk.new) (λ s t. AllImages (λ image. length image ≤ 9) s → Keeps (HoldsFrames []) s t) }
     ensures done { OnOk result (Told (D.trace disk.old) (D.trace disk.new) (λ s t. length (content s) ≤ 9 → IsAtRest 8 [] t)) }
     ensures length { Told (D.trace disk.old) (D.trace disk.new) (λ s t. (n : ℕ) → AllImages (IsLong n) s → Throughout (IsLong n) s t) }
 {
@@ -62,9 +62,9 @@ fn close<D: Disk>(disk: &mut D, bytes: &[u8], gate: u64) -> Result<(), Failed>
     requires { gate_of (frames bytes.now) ≡ Some gate }
     ensures cause { HasCause (D.faults disk.old) (D.faults disk.new) result }
     ensures told { Told (D.trace disk.old) (D.trace disk.new) (λ s t. IsDurable bytes.now s
-        → (payloads : List (List ℕ)) → Holds payloads bytes.now → Keeps (Holds payloads) s t) }
+        → (payloads : List (List ℕ)) → HoldsFrames payloads bytes.now → Keeps (HoldsFrames payloads) s t) }
     ensures done { OnOk result (Told (D.trace disk.old) (D.trace disk.new) (λ s t. IsDurable bytes.now s
-        → (payloads : List (List ℕ)) → Holds payloads bytes.now → IsAtRest gate payloads t)) }
+        → (payloads : List (List ℕ)) → HoldsFrames payloads bytes.now → IsAtRest gate payloads t)) }
     ensures still { EndsAt gate bytes.now → IsOk result × (disk.new ≡ disk.old) }
     ensures length { Told (D.trace disk.old) (D.trace disk.new) (λ s t. IsDurable bytes.now s → Throughout (IsLong 8) s t) }
 {
@@ -80,9 +80,9 @@ pub fn mend_file<D: Disk>(disk: &mut D, bytes: &[u8]) -> Result<u64, Failed>
     requires { IsWhole bytes.now }
     ensures cause { HasCause (D.faults disk.old) (D.faults disk.new) result }
     ensures told { Told (D.trace disk.old) (D.trace disk.new) (λ s t. IsDurable bytes.now s
-        → (payloads : List (List ℕ)) → Holds payloads bytes.now → Keeps (Holds payloads) s t) }
+        → (payloads : List (List ℕ)) → HoldsFrames payloads bytes.now → Keeps (HoldsFrames payloads) s t) }
     ensures done { IfOk result (λ gate. Told (D.trace disk.old) (D.trace disk.new) (λ s t. IsDurable bytes.now s
-        → (payloads : List (List ℕ)) → Holds payloads bytes.now → IsAtRest gate payloads t)) }
+        → (payloads : List (List ℕ)) → HoldsFrames payloads bytes.now → IsAtRest gate payloads t)) }
     ensures place { IfOk result (λ gate. gate < 2 ^ 63) }
     ensures end { IfOk result (λ gate. gate ≡ end_of (frames bytes.now)) }
     ensures still { (gate : ℕ) → gate_of (frames bytes.now) ≡ Some gate → EndsAt gate bytes.now → IsOk result × (disk.new ≡ disk.old) }

@@ -18,7 +18,7 @@ use Rattle.repo_model.specs.Settings.{GroupRule, ProxyRule, Rule, Settings}
 use Rattle.repo_model.specs.State.{State, opening}
 use Rattle.repo_course.specs.declared.outcomes.End.{End}
 use Rattle.repo_course.specs.declared.outcomes.End.TheVariants.{Closed, TornRequest, TurnLimit, SourceFault, SinkFault}
-use Rattle.repo_course.specs.Serving.{Outside, Serves}
+use Rattle.repo_course.specs.Serving.{Outside, ServesStream}
 use Rattle.course_laws.specs.AsPlayed.{StoodStill}
 use Rattle.course_laws.specs.Endings.{EndsByCause}
 use Rattle.course_laws.specs.LeftBehind.{IsDrawn}
@@ -104,7 +104,7 @@ nothing_held (Some bytes) = refl
 module _ (tells : Type 0) (settings : Settings) (form : IsSettings settings) where
   pub is-replayed : (old new : View Served) (cleared : Store) (begun core : Whole) (held : List ℕ) (ending : End) (entries : List Entry)
       → Begins settings old.records old.place.kit.blobs cleared old.clock begun → Makes begun entries core
-      → Serves settings tells 1000 entries (outside_with [] (with_store cleared old.place)) (outside_with held new.place) ending
+      → ServesStream settings tells 1000 entries (outside_with [] (with_store cleared old.place)) (outside_with held new.place) ending
       → new.clock ≡ core.state.clock → HoldsRecords core new.records → IsReplayed tells settings old new ending core.calls
   is-replayed old new cleared begun core held ending entries begins made first clock-is holds =
       let records = old.records in
@@ -114,7 +114,7 @@ module _ (tells : Type 0) (settings : Settings) (form : IsSettings settings) whe
       let before = outside_of (with_store cleared old.place) in
       let after = outside_with held new.place in
       let over : Store → Outside = λ (b : Store). outside_of (with_store b old.place) in
-      let served = subst (λ (input : Option (List ℕ)). Serves settings tells 1000 entries (outside_at input link (with_blobs cleared kit)) after ending) (nothing_held link.left) first in
+      let served = subst (λ (input : Option (List ℕ)). ServesStream settings tells 1000 entries (outside_at input link (with_blobs cleared kit)) after ending) (nothing_held link.left) first in
       let alone = core_alone entries begun core made in
       let legal : Legal settings begun.state entries = subst (λ (s : Settings). Legal s begun.state entries) begins.settings_are alone.legal in
       let ends : core.state ≡ end settings begun.state entries = alone.ends ∙ ap (λ (s : Settings). end s begun.state entries) begins.settings_are in
@@ -151,7 +151,7 @@ module _ (tells : Type 0) (settings : Settings) (form : IsSettings settings) whe
             stream-upto settings tells told.blobs_tell 1000 entries start (subst (λ (s : State). Legal settings s entries) first legal) stood
             (outside_of old.place) after ending input taken
             (record { input_is = told.left_is; output_is = told.taken_is; rows = opening-told settings (Some moments); clock = refl }) calm
-            (subst (λ (b : Store). Serves settings tells 1000 entries (over b) after ending) (fresh-store settings records records' kit.blobs cleared old.clock begun fresh begins) served);
+            (subst (λ (b : Store). ServesStream settings tells 1000 entries (over b) after ending) (fresh-store settings records records' kit.blobs cleared old.clock begun fresh begins) served);
         faultless = λ fresh moments input taken told calm.
             let start = opening settings (Some moments) in
             let first = fresh-state settings records records' kit.blobs cleared old.clock begun fresh begins ∙ ap (opening settings) told.clock_is in
@@ -159,7 +159,7 @@ module _ (tells : Type 0) (settings : Settings) (form : IsSettings settings) whe
             as-played settings tells told.blobs_tell 1000 entries start (subst (λ (s : State). Legal settings s entries) first legal) stood
             (outside_of old.place) after ending input taken
             (record { input_is = told.left_is; output_is = told.taken_is; rows = opening-told settings (Some moments); clock = refl }) calm
-            (subst (λ (b : Store). Serves settings tells 1000 entries (over b) after ending) (fresh-store settings records records' kit.blobs cleared old.clock begun fresh begins) served);
+            (subst (λ (b : Store). ServesStream settings tells 1000 entries (over b) after ending) (fresh-store settings records records' kit.blobs cleared old.clock begun fresh begins) served);
       }
     where
       -- the records of the opening state have not failed in the end

@@ -9,7 +9,7 @@ use Rattle.repo_core.specs.Whole.{Whole}
 use Rattle.repo_core.specs.declared.faults.StartFault.{StartFault}
 use Rattle.repo_course.specs.Cleaning.{Store}
 use Rattle.repo_course.specs.declared.outcomes.End.{End}
-use Rattle.repo_course.specs.Serving.{Serves}
+use Rattle.repo_course.specs.Serving.{ServesStream}
 use Rattle.repo_model.specs.Command.{status}
 use Rattle.repo_model.specs.History.{Entry}
 use Rattle.repo_model.specs.Reply.{counts}
@@ -32,7 +32,7 @@ pub record IsAnswered (settings : Settings) (tells : Type 0) (request : List ℕ
   pub taken : connection.taken ≡ Some answer
   pub held : List ℕ
   pub ending : End
-  pub serves : Serves settings tells 1000 entries (outside_of (served (giving request) old)) (outside_with held (served connection new)) ending
+  pub serves : ServesStream settings tells 1000 entries (outside_of (served (giving request) old)) (outside_with held (served connection new)) ending
 
 -- the first so many requests are answered, one after another, and these are the commands of all and their answers
 abbrev pub AreAnswered : Settings → Type 0 → ℕ → ℕ → List Entry → Kit → Kit → List (List ℕ) → Type 0

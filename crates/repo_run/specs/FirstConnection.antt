@@ -10,7 +10,7 @@ use Rattle.repo_model.specs.Settings.{Settings}
 use Rattle.repo_course.specs.Asking.{LeadsTo}
 use Rattle.repo_course.specs.declared.outcomes.End.{End}
 use Rattle.repo_course.specs.declared.outcomes.End.TheVariants.{Closed}
-use Rattle.repo_course.specs.Serving.{Serves}
+use Rattle.repo_course.specs.Serving.{ServesStream}
 use Rattle.run_desks.specs.Seen.{Kit}
 use Rattle.repo_run.specs.Surroundings.{DeskState, connection, outside_at}
 
@@ -25,6 +25,6 @@ pub data ServesFirst {X : Type 0} (tells : Type 0) (links : Telling X) (settings
   none_left : IsAtEnd old.left → new ≡ old → core' ≡ core → result ≡ Some Closed → ServesFirst tells links settings old new core core' result
   one_served : (link link' : X) (left : Option (List X)) (held : List ℕ) (kit : Kit) (ending : End) (entries : List Entry) → old.left ≡ in_front (link ∷ []) left
       → new ≡ record old { left = left; given_back = behind old.given_back (link' ∷ []); kit = kit }
-      → Makes core entries core' → Serves settings tells 1000 entries
+      → Makes core entries core' → ServesStream settings tells 1000 entries
       (outside_at (in_front [] (links.left link)) (connection links link) old.kit) (outside_at (in_front held (links.left link')) (connection links link') kit) ending
       → result ≡ Some ending → ServesFirst tells links settings old new core core' result

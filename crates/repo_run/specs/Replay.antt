@@ -14,7 +14,7 @@ use Rattle.repo_course.specs.Course.{Fetch}
 use Rattle.run_desks.specs.Seen.{Kit, with_blobs}
 use Rattle.repo_course.specs.declared.outcomes.End.{End}
 use Rattle.repo_course.specs.declared.outcomes.End.TheVariants.{Closed, SourceFault, SinkFault}
-use Rattle.repo_course.specs.Serving.{Serves}
+use Rattle.repo_course.specs.Serving.{ServesStream}
 use Rattle.course_laws.specs.AsPlayed.{AreFetched, IsAsPlayed, IsPlayedUpTo, NoFaults, StoodStill, plans_of}
 use Rattle.course_laws.specs.Endings.{EndsByCause}
 use Rattle.course_laws.specs.Faultless.{first_scene}
@@ -45,7 +45,7 @@ pub record IsReplayed (tells : Type 0) (settings : Settings) (old new : View Ser
   pub cleared : Store
   pub held : List ℕ
   pub begins : Begins settings old.records old.place.kit.blobs cleared old.clock begun
-  pub serves : Serves settings tells 1000 entries (outside_of (with_store cleared old.place)) (outside_with held new.place) ending
+  pub serves : ServesStream settings tells 1000 entries (outside_of (with_store cleared old.place)) (outside_with held new.place) ending
   pub made : Makes begun entries core
   pub legal : Legal settings begun.state entries
   pub state : core.state ≡ end settings begun.state entries

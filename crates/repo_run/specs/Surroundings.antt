@@ -13,7 +13,7 @@ use Rattle.run_desks.specs.declared.objects.Cleaner.{Cleaner}
 use Rattle.run_desks.specs.Seen.{Floor, Kit, Looks, floor, with_blobs}
 use Rattle.run_lines.specs.Printing.{Output, output}
 use Rattle.run_lines.specs.Reading.{File, file}
-use Rattle.store_check.specs.Checking.{Recorded, recorded}
+use Rattle.store_check.specs.Checking.{Recorded, records_told}
 
 -- What a run sees: the source of its settings, what it works with, its records, the moments that its clock will give, and what its
 -- lines are printed on. It works with a floor, of which a replay sees one desk and a cleaning the cleaner.
@@ -32,7 +32,7 @@ abbrev pub source_seen : {S : Type 0} → Telling S → S → File
 source_seen sources source = file (sources.left source) (sources.read_faults source)
 
 abbrev pub records_seen : {K : Type 0} → Recording K → K → Recorded
-records_seen recording records = recorded (recording.tables records) (recording.loading records) (recording.faults records)
+records_seen recording records = records_told (recording.tables records) (recording.loading records) (recording.faults records)
 
 abbrev pub output_seen : {O : Type 0} → Telling O → O → Output
 output_seen sinks out = output (sinks.taken out) (sinks.write_faults out)

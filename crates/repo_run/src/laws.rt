@@ -4,7 +4,7 @@ ghost use Rattle.outside.specs.Faults.{last_count};
 ghost use Rattle.outside.specs.Moments.{Moments};
 ghost use Rattle.repo_core.specs.Whole.{Whole};
 ghost use Rattle.repo_course.specs.declared.outcomes.End.{End};
-ghost use Rattle.repo_course.specs.Serving.{AllTell, Outside, Serves};
+ghost use Rattle.repo_course.specs.Serving.{AllTell, Outside, ServesStream};
 ghost use Rattle.repo_model.specs.History.{Entry, Legal, end};
 ghost use Rattle.repo_model.specs.Settings.{Settings};
 ghost use Rattle.repo_model.specs.State.{State};
@@ -31,7 +31,7 @@ pub fn turns_are_a_history()
 /// A core that serves a stream alone is left with no draft and no lease of it.
 pub fn alone_nothing_is_left_behind<H: Held>()
     ensures { (n : ℕ) (entries : List Entry) (core core' : Whole) (old new : Outside) (ending : End) → IsDrawn core.state.yard →
-        Makes core entries core' → Serves core.settings (AllTell H.bytes) n entries old new ending → LeavesNothing core.state.yard core'.state.yard }
+        Makes core entries core' → ServesStream core.settings (AllTell H.bytes) n entries old new ending → LeavesNothing core.state.yard core'.state.yard }
 {}
 
 /// The worked PUT and GET of one file, as the connection of a replay over nothing that tells all, under settings whose hosted

@@ -1,6 +1,6 @@
 //! A stream served with a seat.
 ghost use Rattle.std.specs.Prelude.{◌≡◌, ℕ, List, []};
-ghost use Rattle.repo_course.specs.Serving.{AllTell, outside, Serves};
+ghost use Rattle.repo_course.specs.Serving.{AllTell, outside, ServesStream};
 ghost use Rattle.repo_model.specs.History.{Entry};
 ghost use Rattle.repo_model.specs.Shown.{shown_command, shown_reply};
 ghost use Rattle.seat_server.specs.Gained.{Gained};
@@ -19,7 +19,7 @@ use std::sync::Wait;
 use turn_lock::{Seat, Turns};
 use turn_seats::{Asker, Repository};
 
-/// Serves the requests of a stream as `serve_stream` does, with a seat, which waits for its turn at each command.
+/// ServesStream the requests of a stream as `serve_stream` does, with a seat, which waits for its turn at each command.
 ///
 /// The stream's entries are those that the seat gained: its own calls, one after another, in the one history, which begins with
 /// all that the seat had seen. The settings are those of the repository.
@@ -46,7 +46,7 @@ pub fn serve_with<
     requires settings { T.sight.settings (opening turns.now) ≡ settings.now }
     ensures serves { (held : List ℕ) × (entries : List Entry)
         × Gained T.sight (IsStep T.fixed T.may_ask T.turned) turns.now seat entries result.0
-        × Serves settings.now (AllTell B.Held.bytes) 1000 entries
+        × ServesStream settings.now (AllTell B.Held.bytes) 1000 entries
         (outside ⟦<S as Tells>⟧ [] stream.old (B.faults blobs.old) (B.shelf blobs.old) (R.sees remote.old))
         (outside ⟦<S as Tells>⟧ held stream.new (B.faults blobs.new) (B.shelf blobs.new) (R.sees remote.new)) result.1 }
 {

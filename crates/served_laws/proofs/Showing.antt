@@ -7,7 +7,7 @@ use Rattle.repo_model.specs.Settings.{Settings}
 use Rattle.repo_model.specs.State.{State}
 use Rattle.repo_laws.specs.Sound.{AreNamedApart, IsSound}
 use Rattle.repo_course.specs.Asking.{LiesIn}
-use Rattle.repo_course.specs.Serving.{Outside, Serves, Turn}
+use Rattle.repo_course.specs.Serving.{Outside, ServesStream, RequestTurn}
 use Rattle.repo_course.specs.declared.outcomes.End.{End}
 use Rattle.closed_laws.specs.Streams.{AreTurns, Seen}
 use Rattle.closed_laws.proofs.NamedStreams.{stream-shows}
@@ -16,7 +16,7 @@ use Rattle.turn_lock.specs.declared.turns.Turns.{Turns}
 use Rattle.turn_lock.specs.declared.seat.SeatToken.{SeatToken as Seat}
 use Rattle.turn_lock.specs.History.{entries_by}
 use Rattle.turn_lock.specs.Seats.{number}
-use Rattle.turn_seats.specs.Ending.{Holds}
+use Rattle.turn_seats.specs.Ending.{HoldsSeat}
 use Rattle.turn_seats.specs.Seated.{entry_of}
 use Rattle.run_desks.specs.Seen.{Kit, Looks}
 use Rattle.desk_work.specs.Rules.{Rules}
@@ -27,7 +27,7 @@ use Rattle.served_laws.proofs.Woven.{lie-by}
 
 module _ (settings : Settings) (tells : Type 0) (Shows : Showing) (history : List Entry)
     (each : (before more later : List Entry) (e : Entry) (old : Outside) (turn : Seen) → turn.entries ≡ e ∷ more → history ≡ before ++ e ∷ later
-    → Turn settings tells turn.last turn.entries old turn.new turn.stop → Shows before e old turn) where
+    → RequestTurn settings tells turn.last turn.entries old turn.new turn.stop → Shows before e old turn) where
   all-show : (n : ℕ) (turns : List Seen) (entries : List Entry) (old new : Outside) (ending : End) → AreTurns settings tells n turns entries old new ending
       → AllShowIn Shows history old turns
   unfolding AreTurns
@@ -49,7 +49,7 @@ module _ (settings : Settings) (tells : Type 0) (Shows : Showing) (history : Lis
 
   module _ (apart : AreNamedApart settings.hosted) (start : State) (sound : IsSound settings start) where
     -- a stream that was served
-    pub served-shows : (entries : List Entry) (old new : Outside) (ending : End) → Serves settings tells 1000 entries old new ending
+    pub served-shows : (entries : List Entry) (old new : Outside) (ending : End) → ServesStream settings tells 1000 entries old new ending
         → ConnectionShows Shows settings tells history entries old new ending
     served-shows entries old new ending serves =
         let (turns, are, _) = stream-shows settings tells apart start sound 1000 entries old new ending serves in
@@ -57,7 +57,7 @@ module _ (settings : Settings) (tells : Type 0) (Shows : Showing) (history : Lis
 
 module _ {L P D : Type 0} (looks : Looks L P D) (settings : Settings) (Shows : Showing) (history : List Entry)
     (each : (before more later : List Entry) (e : Entry) (old : Outside) (turn : Seen) → turn.entries ≡ e ∷ more → history ≡ before ++ e ∷ later
-    → Turn settings looks.tells turn.last turn.entries old turn.new turn.stop → Shows before e old turn) where
+    → RequestTurn settings looks.tells turn.last turn.entries old turn.new turn.stop → Shows before e old turn) where
   visits-again : (Before : Showing) (before : Kit) (visits : List (Visit L)) → VisitsShow looks Before settings history before visits
       → VisitsShow looks Shows settings history before visits
   visits-again Before before [] show = tt
@@ -88,7 +88,7 @@ module _ {L P D : Type 0} (looks : Looks L P D) (settings : Settings) (Shows : S
     visits-show before after [] attends = tt
     visits-show before after (v ∷ vs) attends = (served-shows settings looks.tells Shows history each apart start sound v.entries _ _ v.ending attends.0, visits-show v.left after vs attends.1)
 
-    desk-shows : (desk : D) (out : Seat C R T × (D × Bool)) → DeskDone looks rules settings turns first desk out → Holds log out.0
+    desk-shows : (desk : D) (out : Seat C R T × (D × Bool)) → DeskDone looks rules settings turns first desk out → HoldsSeat log out.0
         → DeskShows looks Shows settings history desk out.1.0
     desk-shows desk out (own, begun, (did, over)) holds =
         let calls : did.gained.calls ≡ entries_by (number out.0) log =
@@ -105,12 +105,12 @@ module _ {L P D : Type 0} (looks : Looks L P D) (settings : Settings) (Shows : S
         }
 
     pub desks-show : (desks : List D) (outs : List (Seat C R T × (D × Bool))) → AllZip (DeskDone looks rules settings turns first) desks outs
-        → All (Holds log) (map (λ (out : Seat C R T × (D × Bool)). out.0) outs)
+        → All (HoldsSeat log) (map (λ (out : Seat C R T × (D × Bool)). out.0) outs)
         → DesksShow looks Shows settings history desks (map (λ (out : Seat C R T × (D × Bool)). out.1.0) outs)
     desks-show [] [] done held = tt
     desks-show [] (o ∷ os) done held = absurd done
     desks-show (d ∷ ds) [] done held = absurd done
     desks-show (d ∷ ds) (o ∷ os) done held = (
-      desk-shows d o done.0 (All-head (Holds log) o.0 (map (λ (out : Seat C R T × (D × Bool)). out.0) os) held),
-      desks-show ds os done.1 (All-tail (Holds log) o.0 (map (λ (out : Seat C R T × (D × Bool)). out.0) os) held),
+      desk-shows d o done.0 (All-head (HoldsSeat log) o.0 (map (λ (out : Seat C R T × (D × Bool)). out.0) os) held),
+      desks-show ds os done.1 (All-tail (HoldsSeat log) o.0 (map (λ (out : Seat C R T × (D × Bool)). out.0) os) held),
     )

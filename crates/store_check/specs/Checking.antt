@@ -23,8 +23,8 @@ pub record Recorded : Type 0 where
   pub loading : Option Expected
   pub faults : ℕ
 
-abbrev pub recorded : Option Tables → Option Expected → ℕ → Recorded
-recorded tables loading faults = record { tables = tables; loading = loading; faults = faults }
+abbrev pub records_told : Option Tables → Option Expected → ℕ → Recorded
+records_told tables loading faults = record { tables = tables; loading = loading; faults = faults }
 
 -- the status that tells whether a file was named
 abbrev pub status_of : List Damaged → ℕ

@@ -2,7 +2,7 @@
 ghost use Rattle.std.specs.Prelude.{◌≡◌};
 ghost use Rattle.blob_audit.specs.Faults.{HasAuditCause};
 ghost use Rattle.run_lines.specs.Printing.{output};
-ghost use Rattle.store_check.specs.Checking.{Checks, RefusesDamaged, RefusesStore, Reports, recorded};
+ghost use Rattle.store_check.specs.Checking.{Checks, RefusesDamaged, RefusesStore, Reports, records_told};
 
 use crate::lines::{report_text, row_line, stopped_line};
 use blob_audit::{Audit, AuditFault, Damaged, audit};
@@ -84,7 +84,7 @@ pub fn check_store<K: Records, B: Blobs, O: Sink>(
     blobs: &mut B,
     out: &mut O,
 ) -> u8
-    ensures checks { Checks (recorded (K.tables records.old) (K.loading records.old) (K.faults records.old)) (K.faults records.new)
+    ensures checks { Checks (records_told (K.tables records.old) (K.loading records.old) (K.faults records.old)) (K.faults records.new)
         (B.shelf blobs.old) (B.faults blobs.old) (B.faults blobs.new)
         (output (O.taken out.old) (O.write_faults out.old)) (output (O.taken out.new) (O.write_faults out.new)) result }
     ensures tables { K.tables records.new ≡ K.tables records.old }

@@ -8,7 +8,7 @@ use Rattle.turn_lock.specs.declared.turns.Turns.{Turns}
 use Rattle.turn_lock.specs.declared.seat.SeatToken.{SeatToken as Seat}
 use Rattle.turn_lock.specs.History.{BeginsWith, times, AllKept}
 use Rattle.turn_lock.specs.Seats.{seen, callers, JoinsAll, Closes}
-use Rattle.turn_seats.specs.Ending.{Holds, times_in, Ended}
+use Rattle.turn_seats.specs.Ending.{HoldsSeat, times_in, Ended}
 
 module _ {T C R : Type 0} where
   kept_cut : (log : List (Entry C R T)) (ps qs : List (ℕ × List (Entry C R T))) → AllKept log (ps ++ qs) → AllKept log ps × AllKept log qs
@@ -19,11 +19,11 @@ module _ {T C R : Type 0} where
   times-append k [] qs = omega arith
   times-append k (p ∷ ps) qs = let h = times-append k ps qs in omega arith
 
-  holds_all : (log : List (Entry C R T)) (others : List (Seat C R T)) → All (λ other. BeginsWith log (seen other)) others → AllKept log (flat_map callers others) → All (Holds log) others
-  holds_all log [] saw kept = All-nil (Holds log)
+  holds_all : (log : List (Entry C R T)) (others : List (Seat C R T)) → All (λ other. BeginsWith log (seen other)) others → AllKept log (flat_map callers others) → All (HoldsSeat log) others
+  holds_all log [] saw kept = All-nil (HoldsSeat log)
   holds_all log (seat ∷ seats) saw kept =
       let cut = kept_cut log (callers seat) (flat_map callers seats) kept in
-      All-cons (Holds log) seat seats (All-head (λ other. BeginsWith log (seen other)) seat seats saw, cut.0)
+      All-cons (HoldsSeat log) seat seats (All-head (λ other. BeginsWith log (seen other)) seat seats saw, cut.0)
       (holds_all log seats (All-rest (λ other. BeginsWith log (seen other)) seat seats (seat ∷ seats) refl saw) cut.1)
 
   times_all : (k : ℕ) (others : List (Seat C R T)) → times k (flat_map callers others) ≡ sum_by (times_in k) others

@@ -8,8 +8,8 @@ use Rattle.turn_lock.specs.Seats.{opening, seen, callers}
 
 module _ {T C R : Type 0} where
   -- the history begins with what the seat has seen, and the entries of each of its callers are those that the seat has of him
-  abbrev pub Holds : List (Entry C R T) → Seat C R T → Type 0
-  Holds log seat = BeginsWith log (seen seat) × AllKept log (callers seat)
+  abbrev pub HoldsSeat : List (Entry C R T) → Seat C R T → Type 0
+  HoldsSeat log seat = BeginsWith log (seen seat) × AllKept log (callers seat)
 
   -- how often the number is one of a seat's callers
   abbrev pub times_in : ℕ → Seat C R T → ℕ
@@ -21,6 +21,6 @@ pub record Ended {T C R : Type 0} (steps : T → C → R → T → Type 0) (turn
   pub legal : Legal steps (opening turns) log
   pub end : thing ≡ end_of (opening turns) log
   pub long : calls ≡ length log
-  pub first : Holds log seat
-  pub rest : All (Holds log) others
+  pub first : HoldsSeat log seat
+  pub rest : All (HoldsSeat log) others
   pub nobody_else : (k : ℕ) → (times_in k seat + sum_by (times_in k) others ≡ 1) ⊎ ((times_in k seat + sum_by (times_in k) others ≡ 0) × (entries_by k log ≡ []))

@@ -2,7 +2,7 @@ use Rattle.std.proofs.Common.{◌≡◌, ◌≤◌, ℕ, List, sym, ◌∙◌, a
 use Rattle.std.proofs.lemmas.Result.{err_from_is_err_and}
 use Rattle.std.specs.Prelude.{IfSome, Some}
 use Rattle.record_disk.specs.Disk.{Told, IsDurable}
-use Rattle.record_log.specs.Frames.{frames, gate_of, end_of, EndsAt, Holds}
+use Rattle.record_log.specs.Frames.{frames, gate_of, end_of, EndsAt, HoldsFrames}
 use Rattle.record_log.specs.Log.{HasAcknowledged, LogState}
 use Rattle.record_log.proofs.Mending.{behind_magic}
 use Rattle.record_journal.specs.Given.{Loads}
@@ -40,7 +40,7 @@ returns-in-Ok-mend-clause-ready g c =
     reload_ready c.args.log.now c.synced_bytes.new.log c.mend.new.self c.in-Ok.bytes.items c.in_ok-tables.tables loads c.in-Ok.ensures.undone c.mend.ensures.done c.in-Ok.ensures.durable
     (subst (λ l. Told c.synced_bytes.new.log.trace c.mend.new.self.trace (Mending l)) c.deref-2.ensures.value c.mend.ensures.moments)
     (subst (λ g. 8 ≤ g) (sym c.in-Ok-mend.ensures.gate) (behind_magic (frames c.deref-2.result.now)))
-    (subst (λ l. IfSome c.synced_bytes.new.log.trace (λ s. IsDurable l s → (ps : List (List ℕ)) → Holds ps l → HasAcknowledged ps c.mend.new.self)) c.deref-2.ensures.value c.in-Ok-mend.ensures.ok)
+    (subst (λ l. IfSome c.synced_bytes.new.log.trace (λ s. IsDurable l s → (ps : List (List ℕ)) → HoldsFrames ps l → HasAcknowledged ps c.mend.new.self)) c.deref-2.ensures.value c.in-Ok-mend.ensures.ok)
 
 pub returns-in-Ok-mend-clause-same : goal.returns-in-Ok-mend-clause-same
 returns-in-Ok-mend-clause-same g c =

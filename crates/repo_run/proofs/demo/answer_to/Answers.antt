@@ -1,7 +1,7 @@
 -- The connection gives the request, and has taken the answer.
 use Rattle.std.proofs.Common.{ℕ, Some, [], refl, subst}
 use Rattle.outside.specs.Told.{in_front}
-use Rattle.repo_course.specs.Serving.{AllTell, Serves}
+use Rattle.repo_course.specs.Serving.{AllTell, ServesStream}
 use Rattle.run_desks.specs.Seen.{store_seen}
 use Rattle.repo_run.specs.DemoSteps.{kit}
 use Rattle.repo_run.specs.Surroundings.{Connection, outside_at, outside_with, served}
@@ -21,7 +21,7 @@ returns-clause-ok g c =
         taken = refl;
         held = s.0;
         ending = c.serve_stream.result;
-        serves = subst (λ (k : Connection). Serves c.args.settings.now (AllTell g.B.Held.Held.bytes) 1000 s.1 (outside_at (in_front [] k.left) k before) (outside_with s.0 (served connection after)) c.serve_stream.result)
+        serves = subst (λ (k : Connection). ServesStream c.args.settings.now (AllTell g.B.Held.Held.bytes) 1000 s.1 (outside_at (in_front [] k.left) k before) (outside_with s.0 (served connection after)) c.serve_stream.result)
             c.in_ok-link.ensures s.4;
       },
     )
