@@ -9,3 +9,4 @@ pub mod Reading
 pub mod Tallies
 pub mod Shown
 pub mod Demonstrated
+pub mod Statuses

@@ -1,5 +1,5 @@
 -- Requests that were answered, one after another.
-use Rattle.std.proofs.Common.{◌≡◌, ◌∷◌, ◌++◌, ◌≤◌, ◌<◌, ◌+◌, ◌*◌, ℕ, List, [], Err, inl, inr, refl, sym, subst, ap, ◌∙◌, arith, length, length-append}
+use Rattle.std.proofs.Common.{◌≡◌, ◌∷◌, ◌++◌, ◌≤◌, ◌<◌, ◌+◌, ◌*◌, ℕ, List, [], inl, inr, refl, sym, subst, ap, ◌∙◌, arith, length, length-append}
 use Rattle.std.specs.Prelude.{zero, suc}
 use Rattle.demo_requests.specs.Numbers.{next, number_at}
 use Rattle.demo_requests.specs.Requests.{request}
@@ -12,7 +12,7 @@ use Rattle.run_desks.specs.Seen.{Kit}
 use Rattle.course_laws.proofs.Endings.{serves_few}
 use Rattle.repo_server.proofs.Entries.{leads_on}
 use Rattle.repo_run.specs.Demo.{AreAnswered, IsAnswered}
-use Rattle.repo_run.specs.DemoSteps.{Answers, Shows, ShowsAll, Steps}
+use Rattle.repo_run.specs.DemoSteps.{Answers, IsCutShort, Shows, ShowsSome}
 use Rattle.repo_run.proofs.Served.{most-few}
 
 one-behind : (n : ℕ) → n + 1 ≡ suc n
@@ -42,16 +42,16 @@ module _ (settings : Settings) (tells : Type 0) where
       subst (λ (k : ℕ). Shows settings tells from k core core' old new (answers ++ answer ∷ [])) (sym place) all
 
   -- memory was wanting at the next one
-  pub cut-short : {E : Type 0} (fault : E) (from requests n number : ℕ) (core mid core' : Whole) (old between new : Kit) (answers : List (List ℕ)) → n < requests
+  pub cut-short : (from requests n number : ℕ) (core mid core' : Whole) (old between new : Kit) (answers : List (List ℕ)) → n < requests
       → number ≡ next (number_at from n) → Shows settings tells from n core mid old between answers
-      → Steps settings tells (request number (n + 1)) mid core' between new (Err fault) → ShowsAll settings tells from requests core core' old new (Err fault)
-  cut-short fault from requests n number core mid core' old between new answers below is shown (inl same) = (
+      → IsCutShort settings tells (request number (n + 1)) mid core' between new → ShowsSome settings tells from requests core core' old new
+  cut-short from requests n number core mid core' old between new answers below is shown (inl same) = (
     n,
     omega (arith, below),
     answers,
     subst (λ (m : Whole). Shows settings tells from n core m old new answers) (sym same.0) (subst (λ (k : Kit). Shows settings tells from n core mid old k answers) (sym same.1) shown),
   )
-  cut-short fault from requests n number core mid core' old between new answers below is shown (inr more) = (
+  cut-short from requests n number core mid core' old between new answers below is shown (inr more) = (
     n + 1,
     omega (arith, below),
     answers ++ more.0 ∷ [],

@@ -36,24 +36,32 @@ abbrev pub Answers : Settings → Type 0 → List ℕ → Whole → Whole → Ki
 Answers settings tells request core core' old new answer =
     (entries : List Entry) × Makes core entries core' × IsAnswered settings tells request entries old new answer
 
--- it was, and not for want of memory; or memory was wanting before or behind it
+-- memory was wanting before it or behind it
+abbrev pub IsCutShort : Settings → Type 0 → List ℕ → Whole → Whole → Kit → Kit → Type 0
+IsCutShort settings tells request core core' old new =
+    ((core' ≡ core) × (new ≡ old)) ⊎ ((answer : List ℕ) × Answers settings tells request core core' old new answer)
+
+-- it is answered, and not for want of memory; or memory was wanting
 abbrev pub Steps : {E : Type 0} → Settings → Type 0 → List ℕ → Whole → Whole → Kit → Kit → Result SinkState E → Type 0
 Steps settings tells request core core' old new (Ok sink) =
     Answers settings tells request core core' old new sink.taken × (has_status (codes "507") sink.taken ≡ false)
-Steps settings tells request core core' old new (Err fault) =
-    ((core' ≡ core) × (new ≡ old)) ⊎ ((answer : List ℕ) × Answers settings tells request core core' old new answer)
+Steps settings tells request core core' old new (Err fault) = IsCutShort settings tells request core core' old new
 
 -- the first n requests are
 abbrev pub Shows : Settings → Type 0 → (from n : ℕ) → Whole → Whole → Kit → Kit → List (List ℕ) → Type 0
 Shows settings tells from n core core' old new answers =
     (entries : List Entry) × Makes core entries core' × AreAnswered settings tells from n entries old new answers
 
+-- some of them are
+abbrev pub ShowsSome : Settings → Type 0 → (from requests : ℕ) → Whole → Whole → Kit → Kit → Type 0
+ShowsSome settings tells from requests core core' old new =
+    (n : ℕ) × (n ≤ requests) × (answers : List (List ℕ)) × Shows settings tells from n core core' old new answers
+
 -- all are, and none for want of memory; or some of them
 abbrev pub ShowsAll : {E : Type 0} → Settings → Type 0 → (from requests : ℕ) → Whole → Whole → Kit → Kit → Result Tally E → Type 0
 ShowsAll settings tells from requests core core' old new (Ok tally) =
     (answers : List (List ℕ)) × Shows settings tells from requests core core' old new answers × (tally ≡ tally_of answers) × NoneStarved answers
-ShowsAll settings tells from requests core core' old new (Err fault) =
-    (n : ℕ) × (n ≤ requests) × (answers : List (List ℕ)) × Shows settings tells from n core core' old new answers
+ShowsAll settings tells from requests core core' old new (Err fault) = ShowsSome settings tells from requests core core' old new
 
 -- the repository says how many files it has; or memory was wanting
 abbrev pub AsksFiles : Whole → Whole → Option Files → Type 0

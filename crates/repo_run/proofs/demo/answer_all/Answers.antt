@@ -1,5 +1,6 @@
 -- One request after another is answered and counted.
 use Rattle.std.proofs.Common.{◌≡◌, ◌∷◌, ◌++◌, ◌<◌, ◌≤◌, ◌+◌, ℕ, [], List, refl, sym, subst, ap, ◌∙◌, arith}
+use Rattle.std.proofs.lemmas.Result.{err_from_is_err_and}
 use Rattle.demo_requests.specs.Numbers.{next}
 use Rattle.repo_course.specs.Serving.{AllTell}
 use Rattle.run_desks.specs.Seen.{store_seen}
@@ -51,8 +52,9 @@ pub returns-in_err-answer : goal.returns-in_err-answer
 returns-in_err-answer g c =
     let i = c.loop-answered.invariant in
     let is = c.next_number-number.ensures.next ∙ ap next i.number in
-    cut-short c.args.settings.now (AllTell g.B.Held.Held.bytes) _ c.args.from c.args.requests c.loop-answered.answered c.next_number-number.result c.args.core.now c.loop-answered.core _
-    _ _ _ i.shown.0 (omega arith) is i.shown.1 c.in_err-answer.ensures.steps
+    let fault = err_from_is_err_and c.from_residual.result c.from_residual.ensures.1 in
+    rw fault.1 (cut-short c.args.settings.now (AllTell g.B.Held.Held.bytes) c.args.from c.args.requests c.loop-answered.answered c.next_number-number.result c.args.core.now c.loop-answered.core _
+    _ _ _ i.shown.0 (omega arith) is i.shown.1 c.in_err-answer.ensures.steps)
 
 pub returns : goal.returns
 returns g c =

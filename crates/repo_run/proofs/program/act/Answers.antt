@@ -1,7 +1,9 @@
 -- What each command does, beside what it leaves alone.
-use Rattle.std.proofs.Common.{refl, ap}
+use Rattle.std.proofs.Common.{None, refl, ap}
 use Rattle.repo_course.specs.Cleaning.{store}
+use Rattle.run_lines.specs.Reading.{file}
 use Rattle.repo_run.proofs.FirstDesk.{desk_of}
+use Rattle.repo_run.proofs.Statuses.{demo-ends}
 use Rattle.repo_run.proofs.program.act.Goals as goal
 
 pub returns-in-Replay-clause-run : goal.returns-in-Replay-clause-run
@@ -20,3 +22,6 @@ returns-in-Clean-clause-run g c = rw c.in-Clean.is (c.clean.ensures, refl, refl)
 
 pub returns-in-Demo-clause-run : goal.returns-in-Demo-clause-run
 returns-in-Demo-clause-run g c = rw c.in-Demo.is (c.demo.ensures _ _, refl, refl)
+
+pub returns-in-Demo-clause-status : goal.returns-in-Demo-clause-status
+returns-in-Demo-clause-status g c = rw c.in-Demo.is (demo-ends _ _ _ _ _ _ (c.demo.ensures (file None 0) (file None 0)))
