@@ -1,14 +1,16 @@
-// Stores of blobs, in memory and in a folder, through their trait, and reads that are checked.
+// Stores of blobs, in memory and in a folder, through their trait, and reads that are checked. Each store is made in one function,
+// which lends it to small ones that know the trait alone, and a call's answer is told as a plain value before the next call: so
+// little is carried through the proofs.
 ghost use Rattle.std.specs.Prelude.{◌≡◌};
 ghost use Rattle.mvn_digest.specs.Digests.{digests_of as digests_in};
 
+use crate::places::{clears, holds, makes, puts, stands};
 use mvn_digest::{Digests, Hashes, Known};
-use outside::{BlobFault, Blobs, CheckFault, Piece, adopt_checked};
+use outside::{BlobFault, Blobs, CheckFault, Held, Parcel, Piece, adopt_checked};
 use outside_memory::{FaultScript, MemBlobs, WrongBlobs, read_whole, store_whole};
 use outside_system::FolderBlobs;
 use std::alloc::{AllocError, Global};
-use std::fs;
-use std::test::Fail;
+use std::fs::Files;
 
 const FOLDER: &str = "folder_tests_blobs";
 
@@ -25,18 +27,61 @@ fn digests_of(bytes: &[u8]) -> Digests
     hashes.finish()
 }
 
-// Seventeen calls: two blobs, one of them stored once more; the other and a third number are removed.
-fn keeps_by_number<B: Blobs>(alloc: Global, blobs: &mut B) -> Result<bool, BlobFault> {
-    store_whole(blobs, 10, b"a")?;
-    store_whole(blobs, 7, b"abcdef")?;
-    store_whole(blobs, 7, b"abc")?;
-    let both = blobs.list()?;
+/// A store that says how many of its calls have failed.
+pub trait Counted: Blobs {
+    fn failures(&self) -> u64;
+}
+
+impl<R: Files + AllocGlobal + Clone + Drop> Counted for FolderBlobs<R> {
+    fn failures(&self) -> u64 {
+        self.faults()
+    }
+}
+
+// Whether a store has these numbers.
+pub fn lists<B: Blobs>(blobs: &mut B, numbers: &[u64]) -> Result<bool, BlobFault> {
+    Ok(blobs.list()?.as_slice() == numbers)
+}
+
+// Whether nothing stands under a number.
+pub fn lacks<B: Blobs>(blobs: &mut B, number: u64) -> Result<bool, BlobFault> {
+    Ok(blobs.adopt(number)?.is_none())
+}
+
+// Bytes are stored under a number.
+fn stores<B: Blobs>(blobs: &mut B, number: u64, bytes: &[u8]) -> Result<(), BlobFault> {
+    store_whole(blobs, number, bytes)?;
+    Ok(())
+}
+
+// Whether a call says so.
+pub fn is_so(answer: Result<bool, BlobFault>) -> bool {
+    matches!(answer, Ok(true))
+}
+
+// Whether a call fails.
+pub fn has_failed<T: Drop>(answer: Result<T, BlobFault>) -> bool {
+    matches!(answer, Err(BlobFault::Failed))
+}
+
+// Two blobs, one of them stored once more.
+fn stores_two<B: Blobs>(blobs: &mut B) -> Result<bool, BlobFault> {
+    stores(blobs, 10, b"a")?;
+    stores(blobs, 7, b"abcdef")?;
+    stores(blobs, 7, b"abc")?;
+    lists(blobs, &[7, 10])
+}
+
+// The other one and a third number are removed.
+fn removes_one<B: Blobs>(blobs: &mut B) -> Result<bool, BlobFault> {
     blobs.remove(10)?;
     blobs.remove(3)?;
-    let left = blobs.list()?;
-    let gone = blobs.adopt(10)?.is_none();
-    let read = reads_adopted(alloc, blobs)?;
-    Ok(gone && read && both.as_slice() == [7, 10].as_slice() && left.as_slice() == [7].as_slice())
+    Ok(lists(blobs, &[7])? && lacks(blobs, 10)?)
+}
+
+// Seventeen calls.
+fn keeps_by_number<B: Blobs>(alloc: Global, blobs: &mut B) -> Result<bool, BlobFault> {
+    Ok(stores_two(blobs)? && removes_one(blobs)? && reads_adopted(alloc, blobs)?)
 }
 
 // Three calls: number 7 is taken into use again and read, to its end.
@@ -47,210 +92,279 @@ fn reads_adopted<B: Blobs>(alloc: Global, blobs: &mut B) -> Result<bool, BlobFau
     }
 }
 
+// Whether a store in memory does so.
+fn memory_keeps(alloc: Global) -> bool {
+    let mut blobs = MemBlobs::new(alloc, FaultScript::none(alloc));
+    let kept = is_so(keeps_by_number(alloc, &mut blobs));
+    kept && blobs.faults() == 0 && blobs.removed() == [10, 3].as_slice()
+}
+
 #[test]
-fn a_store_in_memory_keeps_by_number(rt: HostRuntime) -> Result<(), Fail> {
-    let mut blobs = MemBlobs::new(rt.alloc(), FaultScript::none(rt.alloc()));
-    let kept = keeps_by_number(rt.alloc(), &mut blobs)?;
-    assert!(rt; kept && blobs.faults() == 0);
-    assert_eq!(rt; blobs.removed(), [10, 3].as_slice());
-    Ok(())
+fn a_store_in_memory_keeps_by_number(rt: HostRuntime) {
+    assert!(rt; memory_keeps(rt.alloc()));
 }
 
 // Whether the same calls fail once, and it is counted, where this one is told to fail.
 fn fails_once(alloc: Global, call: u64) -> Result<bool, AllocError> {
     let script = FaultScript::failing_at(Vec::from_slice(alloc, &[call])?);
     let mut blobs = MemBlobs::new(alloc, script);
-    let failed = matches!(keeps_by_number(alloc, &mut blobs), Err(BlobFault::Failed));
+    let failed = has_failed(keeps_by_number(alloc, &mut blobs));
     Ok(failed && blobs.faults() == 1)
 }
 
-#[test]
-fn each_call_fails_where_it_is_told_to(rt: HostRuntime) -> Result<(), Fail> {
-    for call in 0..17 {
-        let failed = fails_once(rt.alloc(), call)?;
-        assert!(rt; failed, "call {call}");
+// The first call with which that is not so.
+fn first_unfailing(alloc: Global) -> Result<Option<u64>, AllocError> {
+    for call in 0..20 {
+        if !fails_once(alloc, call)? {
+            return Ok(Some(call));
+        }
     }
-    let more = fails_once(rt.alloc(), 17)?;
-    assert!(rt; !more);
-    Ok(())
-}
-
-// A folder with nothing in it.
-fn empty_folder(rt: &HostRuntime) -> Result<(), Fail> {
-    let _ = fs::remove_dir_all(rt, FOLDER);
-    fs::create_dir(rt, FOLDER)?;
-    Ok(())
-}
-
-fn folder_blobs(rt: &HostRuntime, folder: &str) -> Result<FolderBlobs<HostRuntime>, Fail> {
-    Ok(FolderBlobs::new(rt.clone()?, String::from_str(rt.alloc(), folder)?)?)
+    Ok(None)
 }
 
 #[test]
-fn a_folder_keeps_by_number(rt: HostRuntime) -> Result<(), Fail> {
-    empty_folder(&rt)?;
-    let mut blobs = folder_blobs(&rt, FOLDER)?;
-    let kept = keeps_by_number(rt.alloc(), &mut blobs)?;
-    assert!(rt; kept && blobs.faults() == 0);
-
-    // Another store of the same folder, as after a restart, passes over what is no blob.
-    fs::write(&rt, "folder_tests_blobs/8.part", "left over")?;
-    fs::write(&rt, "folder_tests_blobs/09", "no number")?;
-    let mut again = folder_blobs(&rt, FOLDER)?;
-    let read = reads_adopted(rt.alloc(), &mut again)?;
-    let listed = again.list()?;
-    let file = fs::read(&rt, "folder_tests_blobs/7")?;
-    fs::remove_dir_all(&rt, FOLDER)?;
-    assert!(rt; read && again.faults() == 0);
-    assert_eq!(rt; listed.as_slice(), [7].as_slice());
-    assert_eq!(rt; file.as_slice(), b"abc".as_slice());
-    Ok(())
+fn each_call_fails_where_it_is_told_to(rt: HostRuntime) {
+    assert_eq!(rt; first_unfailing(rt.alloc()).ok(), Some(Some(17)));
 }
 
-// Where a folder stands under a number, nothing can be stored there, and nothing is listed or adopted.
-fn passes_over_a_folder(blobs: &mut FolderBlobs<HostRuntime>) -> Result<bool, BlobFault> {
-    let stored = matches!(store_whole(blobs, 7, b"abc"), Err(BlobFault::Failed))
-        && blobs.faults() == 1;
-    let listed = blobs.list()?;
-    let adopted = blobs.adopt(7)?.is_some();
-    Ok(stored && listed.as_slice() == [8].as_slice() && !adopted && blobs.faults() == 1)
+fn folder_blobs(rt: &HostRuntime, folder: &str) -> Result<FolderBlobs<HostRuntime>, AllocError> {
+    FolderBlobs::new(rt.clone()?, String::from_str(rt.alloc(), folder)?)
+}
+
+// What is to hold of a store in a folder.
+#[derive(Clone, Copy)]
+enum Way {
+    // It keeps by number.
+    Keeps,
+    // It has what another one has stored, and passes over what is no blob.
+    ReadsAgain,
+    // Where a folder stands under a number, nothing can be stored there, and nothing is listed or adopted.
+    PassesOver,
+    // Where its folder is missing, a store fails and a list, each counted.
+    Misses,
+}
+
+fn keeps<B: Counted>(alloc: Global, blobs: &mut B) -> bool {
+    let kept = is_so(keeps_by_number(alloc, blobs));
+    kept && blobs.failures() == 0
+}
+
+fn reads_again<B: Counted>(alloc: Global, blobs: &mut B) -> bool {
+    let read = is_so(reads_adopted(alloc, blobs));
+    let listed = is_so(lists(blobs, &[7]));
+    read && listed && blobs.failures() == 0
+}
+
+fn passes_over<B: Counted>(blobs: &mut B) -> bool {
+    let stored = has_failed(stores(blobs, 7, b"abc"));
+    let faults = blobs.failures();
+    let listed = is_so(lists(blobs, &[8]));
+    let absent = is_so(lacks(blobs, 7));
+    stored && faults == 1 && listed && absent && blobs.failures() == 1
+}
+
+fn misses<B: Counted>(blobs: &mut B) -> bool {
+    let stored = has_failed(stores(blobs, 1, b"abc"));
+    let faults = blobs.failures();
+    let listed = has_failed(lists(blobs, &[]));
+    let more = blobs.failures();
+    let absent = is_so(lacks(blobs, 1));
+    let removed = blobs.remove(1).is_ok();
+    stored && faults == 1 && listed && more == 2 && absent && removed && blobs.failures() == 2
+}
+
+fn folder_has(rt: &HostRuntime, folder: &str, what: Way) -> bool {
+    match folder_blobs(rt, folder) {
+        Ok(mut blobs) => match what {
+            Way::Keeps => keeps(rt.alloc(), &mut blobs),
+            Way::ReadsAgain => reads_again(rt.alloc(), &mut blobs),
+            Way::PassesOver => passes_over(&mut blobs),
+            Way::Misses => misses(&mut blobs),
+        },
+        Err(_) => false,
+    }
+}
+
+// Another store of the same folder, as after a restart, has the blob.
+#[test]
+fn a_folder_keeps_by_number(rt: HostRuntime) {
+    assert!(rt; makes(&rt, FOLDER));
+    assert!(rt; folder_has(&rt, FOLDER, Way::Keeps));
+    assert!(rt; puts(&rt, "folder_tests_blobs/8.part", b"left over"));
+    assert!(rt; puts(&rt, "folder_tests_blobs/09", b"no number"));
+    assert!(rt; folder_has(&rt, FOLDER, Way::ReadsAgain));
+    assert!(rt; holds(&rt, "folder_tests_blobs/7", b"abc"));
+    assert!(rt; clears(&rt, FOLDER));
+}
+
+// What was refused leaves nothing behind.
+#[test]
+fn a_folder_with_a_number_is_no_blob(rt: HostRuntime) {
+    assert!(rt; makes(&rt, NUMBERED) && makes(&rt, "folder_tests_numbered/7"));
+    assert!(rt; puts(&rt, "folder_tests_numbered/8", b"abc"));
+    assert!(rt; folder_has(&rt, NUMBERED, Way::PassesOver));
+    assert!(rt; !stands(&rt, "folder_tests_numbered/7.part"));
+    assert!(rt; clears(&rt, NUMBERED));
 }
 
 #[test]
-fn a_folder_with_a_number_is_no_blob(rt: HostRuntime) -> Result<(), Fail> {
-    let _ = fs::remove_dir_all(&rt, NUMBERED);
-    fs::create_dir_all(&rt, "folder_tests_numbered/7")?;
-    fs::write(&rt, "folder_tests_numbered/8", "abc")?;
-    let mut blobs = folder_blobs(&rt, NUMBERED)?;
-    let passed = passes_over_a_folder(&mut blobs)?;
-
-    // What was refused leaves nothing behind.
-    let left = fs::metadata(&rt, "folder_tests_numbered/7.part").is_ok();
-    fs::remove_dir_all(&rt, NUMBERED)?;
-    assert!(rt; passed && !left);
-    Ok(())
+fn a_missing_folder_fails(rt: HostRuntime) {
+    assert!(rt; folder_has(&rt, MISSING, Way::Misses));
 }
 
-// Whether a store in a folder that is missing fails, and reads and lists of it, each counted.
-fn misses(blobs: &mut FolderBlobs<HostRuntime>) -> bool {
-    let stored = matches!(store_whole(blobs, 1, b"abc"), Err(BlobFault::Failed))
-        && blobs.faults() == 1;
-    let listed = matches!(blobs.list(), Err(BlobFault::Failed)) && blobs.faults() == 2;
-    let absent = matches!(blobs.adopt(1), Ok(None)) && blobs.remove(1).is_ok();
-    stored && listed && absent && blobs.faults() == 2
-}
-
-#[test]
-fn a_missing_folder_fails(rt: HostRuntime) -> Result<(), Fail> {
-    let mut blobs = folder_blobs(&rt, MISSING)?;
-    let missed = misses(&mut blobs);
-    assert!(rt; missed);
-    Ok(())
-}
-
-// What a checked look at `abc` finds in place of it.
-fn found<T: Drop>(look: Result<T, CheckFault>) -> Option<(u64, Digests)> {
+// Whether a checked look found these bytes in place of those that were recorded.
+fn is_other<T: Drop>(look: Result<T, CheckFault>, bytes: &[u8]) -> bool {
     match look {
-        Err(CheckFault::Differs { length, digests }) => Some((length, digests)),
-        _ => None,
+        Err(CheckFault::Differs { length, digests }) => {
+            length == bytes.len() as u64 && digests == digests_of(bytes)
+        }
+        _ => false,
     }
 }
 
-// The room of a look.
-fn room(alloc: Global) -> Result<Piece, CheckFault> {
-    Ok(Piece::new(alloc).map_err(BlobFault::from)?)
+// A checked look under a number for three bytes of which this is known.
+fn look<B: Blobs>(
+    alloc: Global,
+    blobs: &mut B,
+    number: u64,
+    known: &Known,
+) -> Result<Option<Parcel<B::Held>>, CheckFault> {
+    let mut room = Piece::new(alloc).map_err(BlobFault::from)?;
+    adopt_checked(blobs, number, 3, known, &mut room)
 }
 
-// A checked look at `abc` finds these bytes in place of it.
-fn finds(alloc: Global, bytes: &[u8]) -> Result<bool, CheckFault> {
+// A store that gives these bytes under 1.
+fn wrong_blobs(alloc: Global, bytes: &[u8]) -> Result<WrongBlobs, AllocError> {
     let mut blobs = WrongBlobs::new(alloc, FaultScript::none(alloc));
-    blobs.give(1, bytes).map_err(BlobFault::from)?;
+    blobs.give(1, bytes)?;
+    Ok(blobs)
+}
+
+// Whether a checked look at `abc` finds these bytes in place of it.
+fn finds(alloc: Global, bytes: &[u8], wanted: bool) -> bool {
     let abc = digests_of(b"abc").known();
-    let looked = found(adopt_checked(&mut blobs, 1, 3, &abc, &mut room(alloc)?));
-    Ok(looked == Some((bytes.len() as u64, digests_of(bytes))) && blobs.faults() == 0)
+    match wrong_blobs(alloc, bytes) {
+        Ok(mut blobs) => {
+            let other = is_other(look(alloc, &mut blobs, 1, &abc), bytes);
+            other == wanted && blobs.faults() == 0
+        }
+        Err(_) => false,
+    }
 }
 
 #[test]
-fn other_bytes_are_found(rt: HostRuntime) -> Result<(), Fail> {
-    for bytes in [b"".as_slice(), b"ab", b"abd", b"abcd"] {
-        let finds = finds(rt.alloc(), bytes)?;
-        assert!(rt; finds, "{bytes:?}");
-    }
-    let same = finds(rt.alloc(), b"abc")?;
-    assert!(rt; !same);
-    Ok(())
+fn other_bytes_are_found(rt: HostRuntime) {
+    assert!(rt; finds(rt.alloc(), b"", true));
+    assert!(rt; finds(rt.alloc(), b"ab", true));
+    assert!(rt; finds(rt.alloc(), b"abd", true));
+    assert!(rt; finds(rt.alloc(), b"abcd", true));
+    assert!(rt; finds(rt.alloc(), b"abc", false));
+}
+
+// Whether what was found is `abc`, and reads so.
+fn is_abc<B: Blobs>(
+    alloc: Global,
+    blobs: &mut B,
+    parcel: &Parcel<B::Held>,
+) -> Result<bool, CheckFault> {
+    let bytes = read_whole(alloc, blobs, &parcel.held)?;
+    Ok(parcel.blob == 1 && bytes.as_slice() == b"abc".as_slice())
 }
 
 // What stands under 1 is taken into use as `abc` and read, and nothing stands under 2.
-fn adopts_abc<B: Blobs + Drop>(alloc: Global, mut blobs: B) -> Result<bool, CheckFault> {
+fn adopts_abc<B: Blobs>(alloc: Global, blobs: &mut B) -> Result<bool, CheckFault> {
     let abc = digests_of(b"abc").known();
-    let mut room = room(alloc)?;
-    let none = adopt_checked(&mut blobs, 2, 3, &abc, &mut room)?.is_none();
-    let Some(parcel) = adopt_checked(&mut blobs, 1, 3, &abc, &mut room)? else {
+    if look(alloc, blobs, 2, &abc)?.is_some() {
         return Ok(false);
-    };
-    let bytes = read_whole(alloc, &mut blobs, &parcel.held)?;
-    Ok(none && parcel.blob == 1 && bytes.as_slice() == b"abc".as_slice())
-}
-
-fn wrong_gives_abc(alloc: Global) -> Result<bool, CheckFault> {
-    let mut blobs = WrongBlobs::new(alloc, FaultScript::none(alloc));
-    blobs.give(1, b"abc").map_err(BlobFault::from)?;
-    let listed = blobs.list()?.as_slice() == [1].as_slice();
-    Ok(adopts_abc(alloc, blobs)? && listed)
-}
-
-fn memory_gives_abc(alloc: Global) -> Result<bool, CheckFault> {
-    let mut blobs = MemBlobs::new(alloc, FaultScript::none(alloc));
-    store_whole(&mut blobs, 1, b"abc")?;
-    adopts_abc(alloc, blobs)
-}
-
-// What stands under 1 is adopted as `abc`, where this is known of it, with all its digests.
-fn is_adopted(alloc: Global, known: &Known) -> Result<bool, CheckFault> {
-    let mut blobs = MemBlobs::new(alloc, FaultScript::none(alloc));
-    store_whole(&mut blobs, 1, b"abc")?;
-    match adopt_checked(&mut blobs, 1, 3, known, &mut room(alloc)?) {
-        Ok(Some(parcel)) => Ok(parcel.digests == digests_of(b"abc")),
-        Err(CheckFault::Differs { .. }) => Ok(false),
-        Ok(None) => Ok(false),
-        Err(fault) => Err(fault),
     }
+    match look(alloc, blobs, 1, &abc)? {
+        Some(parcel) => is_abc(alloc, blobs, &parcel),
+        None => Ok(false),
+    }
+}
+
+fn is_checked(answer: Result<bool, CheckFault>) -> bool {
+    matches!(answer, Ok(true))
+}
+
+fn wrong_gives_abc(alloc: Global) -> bool {
+    match wrong_blobs(alloc, b"abc") {
+        Ok(mut blobs) => {
+            let listed = is_so(lists(&mut blobs, &[1]));
+            let adopted = is_checked(adopts_abc(alloc, &mut blobs));
+            listed && adopted
+        }
+        Err(_) => false,
+    }
+}
+
+fn memory_gives_abc(alloc: Global) -> bool {
+    let mut blobs = MemBlobs::new(alloc, FaultScript::none(alloc));
+    let stored = stores(&mut blobs, 1, b"abc").is_ok();
+    let adopted = is_checked(adopts_abc(alloc, &mut blobs));
+    stored && adopted
+}
+
+// Whether it is as is wanted that a look gave `abc`, with all its digests, or found other digests.
+fn is_found<H: Held>(look: Result<Option<Parcel<H>>, CheckFault>, wanted: bool) -> bool {
+    match look {
+        Ok(Some(parcel)) => (parcel.digests == digests_of(b"abc")) == wanted,
+        Err(CheckFault::Differs { .. }) => !wanted,
+        _ => false,
+    }
+}
+
+// Whether `abc`, which stands under 1, is adopted where this is known of it.
+fn is_adopted(alloc: Global, known: &Known, wanted: bool) -> bool {
+    let mut blobs = MemBlobs::new(alloc, FaultScript::none(alloc));
+    let stored = stores(&mut blobs, 1, b"abc").is_ok();
+    let found = is_found(look(alloc, &mut blobs, 1, known), wanted);
+    stored && found
+}
+
+// What is known of `abc`, where its SHA-256 is that of other bytes.
+fn with_other_sha256() -> Known {
+    let mut digests = digests_of(b"abc");
+    let other = digests_of(b"abd").sha256;
+    digests.sha256 = other;
+    digests.known()
+}
+
+// The same with its SHA-512.
+fn with_other_sha512() -> Known {
+    let mut digests = digests_of(b"abc");
+    let other = digests_of(b"abd").sha512;
+    digests.sha512 = other;
+    digests.known()
+}
+
+// Its SHA-1 and MD5 alone.
+fn without_further() -> Known {
+    let mut known = digests_of(b"abc").known();
+    known.further = None;
+    known
+}
+
+// The same with the MD5 of other bytes.
+fn with_other_md5() -> Known {
+    let mut known = without_further();
+    let other = digests_of(b"abd").md5;
+    known.md5 = other;
+    known
 }
 
 // SHA-256 and SHA-512 are compared where they are known, and may be unknown.
 #[test]
-fn each_known_digest_is_compared(rt: HostRuntime) -> Result<(), Fail> {
-    let abc = digests_of(b"abc");
-    let other = digests_of(b"abd");
-    let mut sha256 = abc;
-    let digest = other.sha256;
-    sha256.sha256 = digest;
-    let mut sha512 = abc;
-    let digest = other.sha512;
-    sha512.sha512 = digest;
-    let mut unknown = abc.known();
-    unknown.further = None;
-    let mut md5 = unknown;
-    let digest = other.md5;
-    md5.md5 = digest;
-    for (known, adopted) in [
-        (abc.known(), true),
-        (unknown, true),
-        (sha256.known(), false),
-        (sha512.known(), false),
-        (md5, false),
-    ] {
-        let found = is_adopted(rt.alloc(), &known)?;
-        assert_eq!(rt; found, adopted);
-    }
-    Ok(())
+fn each_known_digest_is_compared(rt: HostRuntime) {
+    assert!(rt; is_adopted(rt.alloc(), &digests_of(b"abc").known(), true));
+    assert!(rt; is_adopted(rt.alloc(), &without_further(), true));
+    assert!(rt; is_adopted(rt.alloc(), &with_other_sha256(), false));
+    assert!(rt; is_adopted(rt.alloc(), &with_other_sha512(), false));
+    assert!(rt; is_adopted(rt.alloc(), &with_other_md5(), false));
 }
 
 #[test]
-fn the_recorded_bytes_are_given(rt: HostRuntime) -> Result<(), Fail> {
-    let wrong = wrong_gives_abc(rt.alloc())?;
-    let memory = memory_gives_abc(rt.alloc())?;
-    assert!(rt; wrong && memory);
-    Ok(())
+fn the_recorded_bytes_are_given(rt: HostRuntime) {
+    assert!(rt; wrong_gives_abc(rt.alloc()));
+    assert!(rt; memory_gives_abc(rt.alloc()));
 }

@@ -13,4 +13,6 @@ mod orders;
 #[cfg(test)]
 mod pieces;
 #[cfg(test)]
+mod places;
+#[cfg(test)]
 mod std_forms;

@@ -1,14 +1,21 @@
-// The calls of a real file system, in their order: what is acknowledged was synced before, with its name.
+// The calls of a real file system, in their order: what is acknowledged was synced before, with its name. A disk whose calls are
+// noted is made in one function, which lends it to small ones that know its trait alone.
 use crate::noted::{Noted, Notes};
+use crate::places::{clears, makes, puts};
 use data_folder::{ReportingDisk, open_disk};
-use outside::{BlobFault, Blobs, Failed};
-use outside_memory::{read_whole, store_whole};
-use outside_system::FolderBlobs;
+use outside::Failed;
 use record_disk::Disk;
-use std::alloc::Global;
-use std::fs;
-use std::os::unix::fs::symlink;
-use std::test::Fail;
+use std::alloc::AllocError;
+
+// Whether these are the calls since they were last looked at. Others are written to standard error.
+pub fn are(rt: &HostRuntime, notes: &Notes, lines: &str) -> bool {
+    let found = notes.take();
+    if found.as_str() == lines {
+        return true;
+    }
+    let _ = eprintln!(rt; "{found}");
+    false
+}
 
 const NEW_FOLDER: &str = "make folder orders_new
 open orders_new/..
@@ -27,21 +34,13 @@ open to write orders_new/rows
 open orders_new
 ";
 
+const SYNCED: &str = "sync data of orders_new/rows\nsync orders_new\n";
+
 // The names of a new folder, of its `blobs` and of what is in it are on the disk before a first write is acknowledged.
-#[test]
-fn a_new_folder_is_synced(rt: HostRuntime) -> Result<(), Fail> {
-    let _ = fs::remove_dir_all(&rt, "orders_new");
-    let notes = Notes::new(rt.alloc())?;
-    let mut disk = open_disk(&Noted::new(&rt, &notes)?, "orders_new")?;
-    assert_eq!(rt; notes.take().as_str(), NEW_FOLDER);
-    disk.sync()?;
-    assert_eq!(rt;
-        notes.take().as_str(),
-        "sync data of orders_new/rows\nsync orders_new\n"
-    );
-    drop(disk);
-    fs::remove_dir_all(&rt, "orders_new")?;
-    Ok(())
+fn is_made<D: Disk>(rt: &HostRuntime, notes: &Notes, disk: &mut D) -> bool {
+    let opened = are(rt, notes, NEW_FOLDER);
+    let synced = disk.sync().is_ok();
+    opened && synced && are(rt, notes, SYNCED)
 }
 
 const OLD_FOLDER: &str = "make folder orders_old
@@ -59,20 +58,6 @@ remove orders_old/blobs/new.part
 open to write orders_old/rows
 open orders_old
 ";
-
-// A folder that was there is synced all the same: who made it may have been stopped before.
-#[test]
-fn a_folder_that_was_there_is_synced(rt: HostRuntime) -> Result<(), Fail> {
-    let _ = fs::remove_dir_all(&rt, "orders_old");
-    fs::create_dir_all(&rt, "orders_old/blobs")?;
-    fs::write(&rt, "orders_old/rows", "MVNROWS1\0")?;
-    let notes = Notes::new(rt.alloc())?;
-    let disk = open_disk(&Noted::new(&rt, &notes)?, "orders_old")?;
-    assert_eq!(rt; notes.take().as_str(), OLD_FOLDER);
-    drop(disk);
-    fs::remove_dir_all(&rt, "orders_old")?;
-    Ok(())
-}
 
 // Writes, syncs, writes again and cuts.
 fn change<D: Disk>(disk: &mut D) -> Result<(), Failed> {
@@ -93,17 +78,56 @@ cut orders_rows/rows
 sync data of orders_rows/rows
 ";
 
-#[test]
-fn records_are_synced(rt: HostRuntime) -> Result<(), Fail> {
-    let _ = fs::remove_dir_all(&rt, "orders_rows");
+fn is_changed<D: Disk>(rt: &HostRuntime, notes: &Notes, disk: &mut D) -> bool {
+    let _opened = notes.take();
+    let changed = change(disk).is_ok();
+    changed && are(rt, notes, CHANGES)
+}
+
+// What is looked at of a folder.
+#[derive(Clone, Copy)]
+enum Way {
+    New,
+    Old,
+    Changed,
+}
+
+// Opens a folder whose calls are noted, and whether they are as they should be.
+fn does(rt: &HostRuntime, folder: &str, way: Way) -> Result<bool, AllocError> {
     let notes = Notes::new(rt.alloc())?;
-    let mut disk = open_disk(&Noted::new(&rt, &notes)?, "orders_rows")?;
-    let _ = notes.take();
-    change(&mut disk)?;
-    assert_eq!(rt; notes.take().as_str(), CHANGES);
-    drop(disk);
-    fs::remove_dir_all(&rt, "orders_rows")?;
-    Ok(())
+    let mut disk = open_disk(&Noted::new(rt, &notes)?, folder)?;
+    match way {
+        Way::New => Ok(is_made(rt, &notes, &mut disk)),
+        Way::Old => Ok(are(rt, &notes, OLD_FOLDER)),
+        Way::Changed => Ok(is_changed(rt, &notes, &mut disk)),
+    }
+}
+
+fn does_well(rt: &HostRuntime, folder: &str, way: Way) -> bool {
+    matches!(does(rt, folder, way), Ok(true))
+}
+
+#[test]
+fn a_new_folder_is_synced(rt: HostRuntime) {
+    let _ = clears(&rt, "orders_new");
+    assert!(rt; does_well(&rt, "orders_new", Way::New));
+    assert!(rt; clears(&rt, "orders_new"));
+}
+
+// A folder that was there is synced all the same: who made it may have been stopped before.
+#[test]
+fn a_folder_that_was_there_is_synced(rt: HostRuntime) {
+    assert!(rt; makes(&rt, "orders_old") && makes(&rt, "orders_old/blobs"));
+    assert!(rt; puts(&rt, "orders_old/rows", b"MVNROWS1\0"));
+    assert!(rt; does_well(&rt, "orders_old", Way::Old));
+    assert!(rt; clears(&rt, "orders_old"));
+}
+
+#[test]
+fn records_are_synced(rt: HostRuntime) {
+    let _ = clears(&rt, "orders_rows");
+    assert!(rt; does_well(&rt, "orders_rows", Way::Changed));
+    assert!(rt; clears(&rt, "orders_rows"));
 }
 
 // What is cut off is said before the cut, where there is something to cut.
@@ -112,88 +136,24 @@ say mvnrepod: tail 3
 cut orders_tail/rows
 ";
 
-#[test]
-fn a_tail_is_told_before_it_goes(rt: HostRuntime) -> Result<(), Fail> {
-    let _ = fs::remove_dir_all(&rt, "orders_tail");
-    let notes = Notes::new(rt.alloc())?;
-    let noted = Noted::new(&rt, &notes)?;
-    let mut disk = ReportingDisk::new(open_disk(&noted, "orders_tail")?, noted);
-    let _ = notes.take();
+fn cut_twice<D: Disk>(disk: &mut D) -> Result<(), Failed> {
     disk.write_at(0, b"abcd")?;
     disk.cut(1)?;
-    disk.cut(1)?;
-    assert_eq!(rt; notes.take().as_str(), REPORTED);
-    drop(disk);
-    fs::remove_dir_all(&rt, "orders_tail")?;
-    Ok(())
+    disk.cut(1)
 }
 
-// Of a blob that is stored and read whole, an adoption, a list and a removal.
-const BLOB_CALLS: &str = "overwrite orders_blobs/7.part
-remove orders_blobs/7
-write orders_blobs/7.part
-sync orders_blobs/7.part
-rename orders_blobs/7.part
-to orders_blobs/7
-open orders_blobs
-sync orders_blobs
-look at orders_blobs/7
-open orders_blobs/7
-read orders_blobs/7
-read orders_blobs/7
-look at orders_blobs/7
-list orders_blobs/
-look at orders_blobs/7
-remove orders_blobs/7
-remove orders_blobs/7.part
-";
-
-/// An empty folder, and its blobs.
-pub fn blobs_of(rt: &HostRuntime, notes: &Notes, folder: &str) -> Result<FolderBlobs<Noted>, Fail> {
-    let _ = fs::remove_dir_all(rt, folder);
-    fs::create_dir(rt, folder)?;
-    let folder = String::from_str(rt.alloc(), folder)?;
-    Ok(FolderBlobs::new(Noted::new(rt, notes)?, folder)?)
-}
-
-fn calls_all<B: Blobs>(alloc: Global, blobs: &mut B) -> Result<bool, BlobFault> {
-    let held = store_whole(blobs, 7, b"abc")?;
-    let bytes = read_whole(alloc, blobs, &held)?;
-    let found = blobs.adopt(7)?.is_some();
-    let listed = blobs.list()?;
-    blobs.remove(7)?;
-    Ok(bytes.as_slice() == b"abc".as_slice() && found && listed.as_slice() == [7].as_slice())
+fn is_reported(rt: &HostRuntime) -> Result<bool, AllocError> {
+    let notes = Notes::new(rt.alloc())?;
+    let noted = Noted::new(rt, &notes)?;
+    let mut disk = ReportingDisk::new(open_disk(&noted, "orders_tail")?, noted);
+    let _opened = notes.take();
+    let cut = cut_twice(&mut disk).is_ok();
+    Ok(cut && are(rt, &notes, REPORTED))
 }
 
 #[test]
-fn a_blob_is_synced_and_then_its_name(rt: HostRuntime) -> Result<(), Fail> {
-    let notes = Notes::new(rt.alloc())?;
-    let mut blobs = blobs_of(&rt, &notes, "orders_blobs")?;
-    let gave = calls_all(rt.alloc(), &mut blobs)?;
-    fs::remove_dir_all(&rt, "orders_blobs")?;
-    assert!(rt; gave);
-    assert_eq!(rt; notes.take().as_str(), BLOB_CALLS);
-    Ok(())
-}
-
-// Whether what stands under 7 is neither read, adopted nor listed. It was a blob when it was stored.
-fn is_no_blob(blobs: &mut FolderBlobs<Noted>, rt: &HostRuntime) -> Result<bool, Fail> {
-    let held = store_whole(blobs, 7, b"abc")?;
-    blobs.remove(7)?;
-    symlink(rt, "/dev/null", "orders_special/7")?;
-    let read = blobs.read_at(&held, 0, &mut [0; 1]).is_err() && blobs.faults() == 1;
-    let absent = blobs.adopt(7)?.is_none() && blobs.list()?.is_empty();
-    Ok(read && absent && blobs.faults() == 1)
-}
-
-// A device is not opened, nor would a pipe be, on which an open waits until another one writes.
-#[test]
-fn what_is_no_file_is_not_opened(rt: HostRuntime) -> Result<(), Fail> {
-    let notes = Notes::new(rt.alloc())?;
-    let mut blobs = blobs_of(&rt, &notes, "orders_special")?;
-    let none = is_no_blob(&mut blobs, &rt)?;
-    let calls = notes.take();
-    fs::remove_dir_all(&rt, "orders_special")?;
-    assert!(rt; none && !calls.as_str().contains("\nopen orders_special/7\n"));
-    Ok(())
+fn a_tail_is_told_before_it_goes(rt: HostRuntime) {
+    let _ = clears(&rt, "orders_tail");
+    assert!(rt; matches!(is_reported(&rt), Ok(true)));
+    assert!(rt; clears(&rt, "orders_tail"));
 }
