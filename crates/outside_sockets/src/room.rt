@@ -2,6 +2,7 @@
 use crate::front::Front;
 use crate::limits::{COLD, FIRST_BYTE, IDLE, LINGER, PLACES, WHOLE_HEAD};
 use std::alloc::{AllocError, Global};
+use std::net::OpenStream;
 use std::sync::{Mutex, Wait};
 use std::time::Duration;
 
@@ -35,7 +36,15 @@ pub struct Kept<N: Drop> {
     pub cold: bool,
 }
 
-impl<N: Drop> Kept<N> {
+// Whether bytes have come that were not read. It does not wait.
+fn has_unread<N: OpenStream>(stream: &N) -> bool {
+    let mut first = [0];
+    let unread = stream.set_nonblocking(true).is_ok()
+        && matches!(stream.peek(&mut first), Ok(count) if count > 0);
+    stream.set_nonblocking(false).is_ok() && unread
+}
+
+impl<N: OpenStream + Drop> Kept<N> {
     // Whether it has been kept too long.
     fn is_late(&self, now: u64) -> bool {
         let most = match self.state {
@@ -49,6 +58,11 @@ impl<N: Drop> Kept<N> {
 
     fn is_closing(&self) -> bool {
         matches!(self.state, State::Closing(_))
+    }
+
+    // Whether no desk has looked yet at what has come of it, since all have had other work.
+    fn is_unheard(&self) -> bool {
+        !self.is_closing() && (self.has_request() || has_unread(&self.stream))
     }
 
     /// Whether a request is held of it.
@@ -66,7 +80,7 @@ pub struct Room<N: Drop> {
     places: Vec<Mutex<Option<Kept<N>>>>,
 }
 
-impl<N: Drop> Room<N> {
+impl<N: OpenStream + Drop> Room<N> {
     /// A room that is empty.
     pub fn new(alloc: Global) -> Result<Room<N>, AllocError> {
         let mut places = Vec::with_capacity(alloc, PLACES)?;
@@ -132,8 +146,8 @@ impl<N: Drop> Room<N> {
         self.take(waits, number)
     }
 
-    /// Closes those that have been kept too long, and has others be cold. It says how many were closed, and how many are
-    /// warm no longer.
+    /// Closes those that have been kept too long, unless something has come of them that no desk has looked at, and has others be
+    /// cold. It says how many were closed, and how many are warm no longer.
     pub fn look_around<W: Wait>(&self, waits: &W, now: u64) -> (u64, u64) {
         let mut closed = 0u64;
         let mut cooled = 0u64;
@@ -146,7 +160,7 @@ impl<N: Drop> Room<N> {
                 kept.cold = true;
                 cooled = cooled.saturating_add(1);
             }
-            if kept.is_late(now) {
+            if kept.is_late(now) && !kept.is_unheard() {
                 if !kept.cold {
                     cooled = cooled.saturating_add(1);
                 }

@@ -176,6 +176,24 @@ fn a_head_has_its_time(rt: HostRuntime) -> Result<(), Fail> {
     Ok(())
 }
 
+// Whether a request is served that has waited for longer than a new connection is kept, since the desk had another one.
+fn is_served_late<W: Wait + Drop>(rt: &HostRuntime, waits: W) -> Result<bool, Fail> {
+    let mut port = bind(rt, waits)?;
+    let _first = client(rt, &port, GET)?;
+    let _other = client(rt, &port, OTHER)?;
+    let mut link = link_of(&mut port)?;
+    let served = gives(&mut link, GET);
+    thread::sleep(rt, Duration::from_millis(11_500));
+    let mut late = link_of(&mut port)?;
+    Ok(served && gives(&mut late, OTHER))
+}
+
+#[test]
+fn a_request_may_wait_for_a_desk(rt: HostRuntime) -> Result<(), Fail> {
+    assert!(rt; is_served_late(&rt, rt.clone()?)?);
+    Ok(())
+}
+
 // Whether a body is waited for behind an interim answer.
 fn is_waited_for<W: Wait + Drop>(
     threads: &impl Threads,
