@@ -12,7 +12,7 @@ use Rattle.run_desks.specs.Seen.{Kit, with_blobs}
 use Rattle.repo_server.proofs.Entries.{leads_on}
 use Rattle.repo_run.specs.declared.tally.Tally.{Tally}
 use Rattle.repo_run.specs.Begun.{Begins, HoldsRecords}
-use Rattle.repo_run.specs.Demo.{Demonstrates, IsShown, TellsSummary, starved, summary, told}
+use Rattle.repo_run.specs.Demo.{Answer, Demonstrates, IsShown, TellsSummary, starved, summary, told}
 use Rattle.repo_run.specs.DemoSteps.{Shows, ShowsAll, TellsShown}
 use Rattle.repo_run.specs.FirstConnection.{Makes}
 use Rattle.repo_run.specs.Surroundings.{DeskState, View}
@@ -26,7 +26,7 @@ counted-all calls most made last n counted few fits small one = omega (arith, co
 module _ {X : Type 0} (tells : Type 0) (from requests : ℕ) (small : requests < 2 ^ 32) (old new : View (DeskState X)) (ends : ℕ)
     (begun mid core : Whole) (cleared : Store) (kit : Kit) (begins : Begins fixed.settings old.records old.place.kit.blobs cleared old.clock begun)
     (place : new.place ≡ record old.place { kit = kit }) (holds : HoldsRecords core new.records) (clock : new.clock ≡ core.state.clock) where
-  shown-then : (n : ℕ) (answers : List (List ℕ)) (last : List Entry) → n ≤ requests → length last ≤ 1
+  shown-then : (n : ℕ) (answers : List Answer) (last : List Entry) → n ≤ requests → length last ≤ 1
       → Shows fixed.settings tells from n begun mid (with_blobs cleared old.place.kit) kit answers → Makes mid last core
       → IsShown tells from n old new answers last core.calls
   shown-then n answers last fits one shown then =

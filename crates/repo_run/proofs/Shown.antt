@@ -11,7 +11,7 @@ use Rattle.repo_model.specs.Settings.{Settings}
 use Rattle.run_desks.specs.Seen.{Kit}
 use Rattle.course_laws.proofs.Endings.{serves_few}
 use Rattle.repo_server.proofs.Entries.{leads_on}
-use Rattle.repo_run.specs.Demo.{AreAnswered, IsAnswered}
+use Rattle.repo_run.specs.Demo.{Answer, AreAnswered, IsAnswered}
 use Rattle.repo_run.specs.DemoSteps.{Answers, IsCutShort, Shows, ShowsSome}
 use Rattle.repo_run.proofs.Served.{most-few}
 
@@ -27,7 +27,7 @@ module _ (settings : Settings) (tells : Type 0) where
   none-shown from core old = ([], refl, (refl, refl, refl))
 
   -- one more is
-  pub one-more : (from n number : ℕ) (core mid core' : Whole) (old between new : Kit) (answers : List (List ℕ)) (answer : List ℕ)
+  pub one-more : (from n number : ℕ) (core mid core' : Whole) (old between new : Kit) (answers : List Answer) (answer : Answer)
       → number ≡ next (number_at from n) → Shows settings tells from n core mid old between answers
       → Answers settings tells (request number (n + 1)) mid core' between new answer
       → Shows settings tells from (n + 1) core core' old new (answers ++ answer ∷ [])
@@ -42,7 +42,7 @@ module _ (settings : Settings) (tells : Type 0) where
       subst (λ (k : ℕ). Shows settings tells from k core core' old new (answers ++ answer ∷ [])) (sym place) all
 
   -- memory was wanting at the next one
-  pub cut-short : (from requests n number : ℕ) (core mid core' : Whole) (old between new : Kit) (answers : List (List ℕ)) → n < requests
+  pub cut-short : (from requests n number : ℕ) (core mid core' : Whole) (old between new : Kit) (answers : List Answer) → n < requests
       → number ≡ next (number_at from n) → Shows settings tells from n core mid old between answers
       → IsCutShort settings tells (request number (n + 1)) mid core' between new → ShowsSome settings tells from requests core core' old new
   cut-short from requests n number core mid core' old between new answers below is shown (inl same) = (
@@ -60,12 +60,12 @@ module _ (settings : Settings) (tells : Type 0) where
 
   -- so many requests make few calls
   module _ (form : IsSettings settings) where
-    pub shown-few : (from n : ℕ) (entries : List Entry) (old new : Kit) (answers : List (List ℕ)) → AreAnswered settings tells from n entries old new answers
+    pub shown-few : (from n : ℕ) (entries : List Entry) (old new : Kit) (answers : List Answer) → AreAnswered settings tells from n entries old new answers
         → length entries ≤ 65000 * n
     shown-few from zero entries old new answers none = let is = ap length none.0 in omega (arith, is)
     shown-few from (suc n) entries old new answers all =
         let last = all.8 in
-        let few = serves_few tells settings 1000 all.1 _ _ last.ending last.serves in
+        let few = serves_few tells settings 1000 all.1 _ _ all.4.ending last.serves in
         let before = shown-few from n all.0 old all.2 all.3 all.7 in
         let is = ap length all.5 ∙ length-append all.0 all.1 in
         let most = most-few settings form in

@@ -1,7 +1,7 @@
 -- A demonstration: a repository is opened over what is recorded and stored and answers requests that are made of numbers, each over a connection of its own; lines tell how many were answered how.
 use Rattle.std.specs.Prelude.{◌≡◌, ◌⊎◌, ℕ, zero, suc, ◌≤◌, Bool, nat_eq, List, [], ◌∷◌, ◌++◌, length, count_by, Option, Some, None, codes}
 use Rattle.std.specs.Fmt.{decimal}
-use Rattle.std.specs.List.{starts_with}
+use Rattle.std.specs.List.{AllByRecursion, starts_with}
 use Rattle.demo_requests.specs.Numbers.{number_at}
 use Rattle.demo_requests.specs.Requests.{request}
 use Rattle.demo_requests.specs.Settings as demo
@@ -9,6 +9,7 @@ use Rattle.repo_core.specs.Whole.{Whole}
 use Rattle.repo_core.specs.declared.faults.StartFault.{StartFault}
 use Rattle.repo_course.specs.Cleaning.{Store}
 use Rattle.repo_course.specs.declared.outcomes.End.{End}
+use Rattle.repo_course.specs.declared.outcomes.End.TheVariants.{Closed}
 use Rattle.repo_course.specs.Serving.{ServesStream}
 use Rattle.repo_model.specs.Command.{status}
 use Rattle.repo_model.specs.History.{Entry}
@@ -26,19 +27,23 @@ use Rattle.repo_run.specs.Surroundings.{Connection, DeskState, View, outside_of,
 abbrev pub giving : List ℕ → Connection
 giving request = record { left = Some request; taken = Some []; read_faults = 0; write_faults = 0 }
 
--- a request is served over a connection of its own, by a desk's things, and the connection has taken this answer
-pub record IsAnswered (settings : Settings) (tells : Type 0) (request : List ℕ) (entries : List Entry) (old new : Kit) (answer : List ℕ) : Type 0 where
-  pub connection : Connection
-  pub taken : connection.taken ≡ Some answer
-  pub held : List ℕ
+-- what a connection has taken, and how its stream ended
+pub record Answer : Type 0 where
+  pub bytes : List ℕ
   pub ending : End
-  pub serves : ServesStream settings tells 1000 entries (outside_of (served (giving request) old)) (outside_with held (served connection new)) ending
+
+-- a request is served over a connection of its own, by a desk's things, and the connection has taken this answer
+pub record IsAnswered (settings : Settings) (tells : Type 0) (request : List ℕ) (entries : List Entry) (old new : Kit) (answer : Answer) : Type 0 where
+  pub connection : Connection
+  pub taken : connection.taken ≡ Some answer.bytes
+  pub held : List ℕ
+  pub serves : ServesStream settings tells 1000 entries (outside_of (served (giving request) old)) (outside_with held (served connection new)) answer.ending
 
 -- the first so many requests are answered, one after another, and these are the commands of all and their answers
-abbrev pub AreAnswered : Settings → Type 0 → ℕ → ℕ → List Entry → Kit → Kit → List (List ℕ) → Type 0
+abbrev pub AreAnswered : Settings → Type 0 → ℕ → ℕ → List Entry → Kit → Kit → List Answer → Type 0
 AreAnswered settings tells from zero entries old new answers = (entries ≡ []) × (new ≡ old) × (answers ≡ [])
 AreAnswered settings tells from (suc n) entries old new answers =
-    (first last : List Entry) × (mid : Kit) × (before : List (List ℕ)) × (answer : List ℕ) × (entries ≡ first ++ last) × (answers ≡ before ++ answer ∷ [])
+    (first last : List Entry) × (mid : Kit) × (before : List Answer) × (answer : Answer) × (entries ≡ first ++ last) × (answers ≡ before ++ answer ∷ [])
     × AreAnswered settings tells from n first old mid before
     × IsAnswered settings tells (request (number_at from (suc n)) (suc n)) last mid new answer
 
@@ -46,19 +51,19 @@ AreAnswered settings tells from (suc n) entries old new answers =
 abbrev pub has_status : List ℕ → List ℕ → Bool
 has_status code answer = starts_with nat_eq answer (codes "HTTP/1.1 " ++ code)
 
-abbrev pub with_status : List ℕ → List (List ℕ) → ℕ
-with_status code answers = count_by (has_status code) answers
+abbrev pub with_status : List ℕ → List Answer → ℕ
+with_status code answers = count_by (λ (a : Answer). has_status code a.bytes) answers
 
-abbrev pub tally_of : List (List ℕ) → Tally
+abbrev pub tally_of : List Answer → Tally
 tally_of answers = record {
   ok = with_status (codes "200") answers;
   created = with_status (codes "201") answers;
   missing = with_status (codes "404") answers;
 }
 
--- memory was wanting for none of the answers
-abbrev pub NoneStarved : List (List ℕ) → Type 0
-NoneStarved answers = with_status (codes "507") answers ≡ 0
+-- memory was wanting for none of the answers, and each was taken to its end, behind which its stream was closed
+abbrev pub NoneStarved : List Answer → Type 0
+NoneStarved answers = (with_status (codes "507") answers ≡ 0) × AllByRecursion (λ (a : Answer). a.ending ≡ Closed) answers
 
 -- a line with a name and a number
 abbrev pub figure : List ℕ → ℕ → List ℕ
@@ -80,7 +85,7 @@ TellsSummary text old new ends =
 
 -- A repository that begins over what is recorded and stored has answered the first n requests, and then made these entries. All are
 -- one history, each entry once, in order, and no other.
-pub record IsShown {X : Type 0} (tells : Type 0) (from n : ℕ) (old new : View (DeskState X)) (answers : List (List ℕ)) (last : List Entry) (calls : ℕ) : Type 0 where
+pub record IsShown {X : Type 0} (tells : Type 0) (from n : ℕ) (old new : View (DeskState X)) (answers : List Answer) (last : List Entry) (calls : ℕ) : Type 0 where
   pub begun : Whole
   pub core : Whole
   -- the store as the start leaves it, and the desk's things in the end
@@ -95,14 +100,14 @@ pub record IsShown {X : Type 0} (tells : Type 0) (from n : ℕ) (old new : View 
   pub holds : HoldsRecords core new.records
   pub clock : new.clock ≡ core.state.clock
 
--- The repository was not opened; or memory was wanting behind some of the requests; or all were answered, none for want of
--- memory, and then the repository said how many files it has.
+-- The repository was not opened; or memory was wanting behind some of the requests, or room for the answer to the last of them; or
+-- all were answered whole, none for want of memory, and then the repository said how many files it has.
 pub data Demonstrates {X : Type 0} (tells : Type 0) (from requests : ℕ) (old new : View (DeskState X)) (ends : ℕ) : Type 0 where
   not_started : (fault : StartFault) (blobs : Store) → StartFails old.records new.records old.place.kit.blobs blobs fault
       → new.place ≡ record old.place { kit = with_blobs blobs old.place.kit } → new.clock ≡ old.clock → RefusesStart fault old.out new.out ends
       → Demonstrates tells from requests old new ends
-  starved : (n : ℕ) (answers : List (List ℕ)) (last : List Entry) (calls : ℕ) → n ≤ requests → IsShown tells from n old new answers last calls
+  starved : (n : ℕ) (answers : List Answer) (last : List Entry) (calls : ℕ) → n ≤ requests → IsShown tells from n old new answers last calls
       → Prints memory_line old.out new.out → ends ≡ 8 → Demonstrates tells from requests old new ends
-  told : (answers : List (List ℕ)) (asked : Entry) (calls files fading cached documents sessions : ℕ) → IsShown tells from requests old new answers (asked ∷ []) calls
+  told : (answers : List Answer) (asked : Entry) (calls files fading cached documents sessions : ℕ) → IsShown tells from requests old new answers (asked ∷ []) calls
       → NoneStarved answers → asked.command ≡ status → asked.reply ≡ counts files fading cached documents sessions
       → TellsSummary (summary requests (tally_of answers) calls files fading) old.out new.out ends → Demonstrates tells from requests old new ends

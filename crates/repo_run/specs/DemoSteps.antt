@@ -5,6 +5,7 @@ use Rattle.outside_remote.specs.Exchanges.{Sees}
 use Rattle.repo_core.specs.CoreTurn.{CoreTurn}
 use Rattle.repo_core.specs.Whole.{Whole}
 use Rattle.repo_course.specs.Cleaning.{Store}
+use Rattle.repo_course.specs.declared.outcomes.End.TheVariants.{Closed}
 use Rattle.repo_model.specs.Command.{status}
 use Rattle.repo_model.specs.History.{Entry}
 use Rattle.repo_model.specs.Reply.{counts}
@@ -14,7 +15,7 @@ use Rattle.run_lines.specs.Lines.{memory_line}
 use Rattle.run_lines.specs.Printing.{Output, Prints}
 use Rattle.repo_run.specs.declared.tally.Files.{Files}
 use Rattle.repo_run.specs.declared.tally.Tally.{Tally}
-use Rattle.repo_run.specs.Demo.{AreAnswered, IsAnswered, NoneStarved, TellsSummary, has_status, summary, tally_of}
+use Rattle.repo_run.specs.Demo.{Answer, AreAnswered, IsAnswered, NoneStarved, TellsSummary, has_status, summary, tally_of}
 use Rattle.repo_run.specs.FirstConnection.{Makes}
 
 abbrev pub kit : Store → Sees → Kit
@@ -32,35 +33,39 @@ counted answer tally = record {
 }
 
 -- a request is answered by these turns of the repository
-abbrev pub Answers : Settings → Type 0 → List ℕ → Whole → Whole → Kit → Kit → List ℕ → Type 0
+abbrev pub Answers : Settings → Type 0 → List ℕ → Whole → Whole → Kit → Kit → Answer → Type 0
 Answers settings tells request core core' old new answer =
     (entries : List Entry) × Makes core entries core' × IsAnswered settings tells request entries old new answer
 
--- memory was wanting before it or behind it
+-- memory was wanting before it or behind it, or room for its answer
 abbrev pub IsCutShort : Settings → Type 0 → List ℕ → Whole → Whole → Kit → Kit → Type 0
 IsCutShort settings tells request core core' old new =
-    ((core' ≡ core) × (new ≡ old)) ⊎ ((answer : List ℕ) × Answers settings tells request core core' old new answer)
+    ((core' ≡ core) × (new ≡ old)) ⊎ ((answer : Answer) × Answers settings tells request core core' old new answer)
 
--- it is answered, and not for want of memory; or memory was wanting
+-- an answer that was taken to its end
+abbrev pub whole : List ℕ → Answer
+whole bytes = record { bytes = bytes; ending = Closed }
+
+-- it is answered, to its end and not for want of memory; or memory was wanting
 abbrev pub Steps : {E : Type 0} → Settings → Type 0 → List ℕ → Whole → Whole → Kit → Kit → Result SinkState E → Type 0
 Steps settings tells request core core' old new (Ok sink) =
-    Answers settings tells request core core' old new sink.taken × (has_status (codes "507") sink.taken ≡ false)
+    Answers settings tells request core core' old new (whole sink.taken) × (has_status (codes "507") sink.taken ≡ false)
 Steps settings tells request core core' old new (Err fault) = IsCutShort settings tells request core core' old new
 
 -- the first n requests are
-abbrev pub Shows : Settings → Type 0 → (from n : ℕ) → Whole → Whole → Kit → Kit → List (List ℕ) → Type 0
+abbrev pub Shows : Settings → Type 0 → (from n : ℕ) → Whole → Whole → Kit → Kit → List Answer → Type 0
 Shows settings tells from n core core' old new answers =
     (entries : List Entry) × Makes core entries core' × AreAnswered settings tells from n entries old new answers
 
 -- some of them are
 abbrev pub ShowsSome : Settings → Type 0 → (from requests : ℕ) → Whole → Whole → Kit → Kit → Type 0
 ShowsSome settings tells from requests core core' old new =
-    (n : ℕ) × (n ≤ requests) × (answers : List (List ℕ)) × Shows settings tells from n core core' old new answers
+    (n : ℕ) × (n ≤ requests) × (answers : List Answer) × Shows settings tells from n core core' old new answers
 
 -- all are, and none for want of memory; or some of them
 abbrev pub ShowsAll : {E : Type 0} → Settings → Type 0 → (from requests : ℕ) → Whole → Whole → Kit → Kit → Result Tally E → Type 0
 ShowsAll settings tells from requests core core' old new (Ok tally) =
-    (answers : List (List ℕ)) × Shows settings tells from requests core core' old new answers × (tally ≡ tally_of answers) × NoneStarved answers
+    (answers : List Answer) × Shows settings tells from requests core core' old new answers × (tally ≡ tally_of answers) × NoneStarved answers
 ShowsAll settings tells from requests core core' old new (Err fault) = ShowsSome settings tells from requests core core' old new
 
 -- the repository says how many files it has; or memory was wanting

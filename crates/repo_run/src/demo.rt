@@ -18,6 +18,7 @@ use outside_memory::{FaultScript, MemLink, MemSink, MemSource};
 use outside_remote::Remote;
 use repo_config::Settings;
 use repo_core::{Core, StartFault};
+use repo_course::End;
 use repo_model::{Ask, Command, Reply};
 use repo_server::serve_stream;
 use row_tables::Records;
@@ -39,7 +40,7 @@ fn connection(alloc: Global, request: Vec<u8>) -> Result<MemLink, NoMemory>
     })
 }
 
-/// Serves a request over a connection of its own, and gives what has taken the answer.
+/// Serves a request over a connection of its own, and gives what has taken the answer, and how the stream ended.
 fn answer_to<B: Blobs, R: Remote, K: Records, C: Clock>(
     alloc: Global,
     settings: &Settings,
@@ -47,20 +48,20 @@ fn answer_to<B: Blobs, R: Remote, K: Records, C: Clock>(
     blobs: &mut B,
     remote: &mut R,
     request: Vec<u8>,
-) -> Result<MemSink, NoMemory>
+) -> Result<(MemSink, End), NoMemory>
     requires { core.old.settings ≡ settings.now }
-    ensures ok { IfOk result (λ sink. Answers settings.now (AllTell B.Held.bytes) request.items core.old core.new
-        (kit (store_seen ⟦<B as Blobs>⟧ blobs.old) (R.sees remote.old)) (kit (store_seen ⟦<B as Blobs>⟧ blobs.new) (R.sees remote.new)) sink.taken) }
+    ensures ok { IfOk result (λ took. Answers settings.now (AllTell B.Held.bytes) request.items core.old core.new
+        (kit (store_seen ⟦<B as Blobs>⟧ blobs.old) (R.sees remote.old)) (kit (store_seen ⟦<B as Blobs>⟧ blobs.new) (R.sees remote.new)) (record { bytes = took.0.taken; ending = took.1 })) }
     ensures err { IfErr result (λ fault. (core.new ≡ core.old)
         × (kit (store_seen ⟦<B as Blobs>⟧ blobs.new) (R.sees remote.new) ≡ kit (store_seen ⟦<B as Blobs>⟧ blobs.old) (R.sees remote.old))) }
     ensures settings { core.new.settings ≡ core.old.settings }
 {
     let mut link = connection(alloc, request)?;
-    serve_stream(alloc, settings, core, blobs, remote, &mut link);
-    Ok(link.sink)
+    let ending = serve_stream(alloc, settings, core, blobs, remote, &mut link);
+    Ok((link.sink, ending))
 }
 
-/// Answers the request of a number at a place.
+/// Answers the request of a number at a place. An answer for which its connection has no room is one for which memory is wanting.
 fn answer_next<B: Blobs, R: Remote, K: Records, C: Clock>(
     alloc: Global,
     settings: &Settings,
@@ -76,7 +77,10 @@ fn answer_next<B: Blobs, R: Remote, K: Records, C: Clock>(
     ensures settings { core.new.settings ≡ core.old.settings }
 {
     let text = request(alloc, number, place)?;
-    let answer = answer_to(alloc, settings, core, blobs, remote, text)?;
+    let (answer, ending) = answer_to(alloc, settings, core, blobs, remote, text)?;
+    let End::Closed = ending else {
+        return Err(AllocError);
+    };
     if is_starved(answer.bytes()) {
         return Err(AllocError);
     }

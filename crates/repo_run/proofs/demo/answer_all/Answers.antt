@@ -5,7 +5,8 @@ use Rattle.demo_requests.specs.Numbers.{next}
 use Rattle.repo_course.specs.Serving.{AllTell}
 use Rattle.run_desks.specs.Seen.{store_seen}
 use Rattle.repo_run.specs.declared.tally.Tally.{Tally}
-use Rattle.repo_run.specs.DemoSteps.{Shows, counted, kit}
+use Rattle.repo_run.specs.Demo.{Answer}
+use Rattle.repo_run.specs.DemoSteps.{Shows, counted, kit, whole}
 use Rattle.repo_run.proofs.Shown.{cut-short, none-shown, number-behind, one-more}
 use Rattle.repo_run.proofs.Tallies.{counted-push, more-below, none-push}
 use Rattle.repo_run.proofs.demo.answer_all.Goals as goal
@@ -20,7 +21,7 @@ loop-answered-init g c = record {
     [],
     none-shown c.args.settings.now (AllTell g.B.Held.Held.bytes) c.args.from c.args.core.now (kit (store_seen g.B.Blobs c.args.blobs.now) (g.R.Remote.sees c.args.remote.now)),
     refl,
-    refl,
+    (refl, tt),
   );
 }
 
@@ -28,7 +29,7 @@ pub loop-answered-preserved : goal.loop-answered-preserved
 loop-answered-preserved g c =
     let i = c.loop-answered.invariant in
     let step = c.in_ok-answer.ensures.steps in
-    let answer : List ℕ = c.in_ok-answer.answer.taken in
+    let answer : Answer = whole c.in_ok-answer.answer.taken in
     let is = c.next_number-number.ensures.next ∙ ap next i.number in
     let tally = c.loop-answered.tally in
     let more = c.loop-answered.answered + 1 in
@@ -43,8 +44,8 @@ loop-answered-preserved g c =
         i.shown.0 ++ answer ∷ [],
         one-more c.args.settings.now (AllTell g.B.Held.Held.bytes) c.args.from c.loop-answered.answered c.next_number-number.result c.args.core.now c.loop-answered.core c.answer_next.new.core
             _ _ _ i.shown.0 answer is i.shown.1 step.0,
-        counts ∙ ap (λ (t : Tally). counted answer t) i.shown.2 ∙ counted-push answer i.shown.0,
-        none-push answer i.shown.0 i.shown.3 step.1,
+        counts ∙ ap (λ (t : Tally). counted answer.bytes t) i.shown.2 ∙ counted-push answer i.shown.0,
+        none-push answer i.shown.0 i.shown.3 step.1 refl,
       );
     }
 

@@ -9,10 +9,10 @@ use Rattle.repo_run.proofs.demo.answer_to.Goals as goal
 
 pub returns-clause-ok : goal.returns-clause-ok
 returns-clause-ok g c =
-    let s = c.serve_stream.ensures.serves in
-    let link = c.serve_stream.new.stream in
+    let s = c.serve_stream-ending.ensures.serves in
+    let link = c.serve_stream-ending.new.stream in
     let before = kit (store_seen g.B.Blobs c.args.blobs.now) (g.R.Remote.sees c.args.remote.now) in
-    let after = kit (store_seen g.B.Blobs c.serve_stream.new.blobs) (g.R.Remote.sees c.serve_stream.new.remote) in
+    let after = kit (store_seen g.B.Blobs c.serve_stream-ending.new.blobs) (g.R.Remote.sees c.serve_stream-ending.new.remote) in
     let connection : Connection = record { left = Some link.source.left; taken = Some link.sink.taken; read_faults = link.source.script.faults; write_faults = link.sink.script.faults } in (
       s.1,
       s.2,
@@ -20,8 +20,7 @@ returns-clause-ok g c =
         connection = connection;
         taken = refl;
         held = s.0;
-        ending = c.serve_stream.result;
-        serves = subst (λ (k : Connection). ServesStream c.args.settings.now (AllTell g.B.Held.Held.bytes) 1000 s.1 (outside_at (in_front [] k.left) k before) (outside_with s.0 (served connection after)) c.serve_stream.result)
+        serves = subst (λ (k : Connection). ServesStream c.args.settings.now (AllTell g.B.Held.Held.bytes) 1000 s.1 (outside_at (in_front [] k.left) k before) (outside_with s.0 (served connection after)) c.serve_stream-ending.result)
             c.in_ok-link.ensures s.4;
       },
     )
