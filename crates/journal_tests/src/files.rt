@@ -3,10 +3,12 @@
 ghost use Rattle.std.specs.Prelude.{◌≡◌, None, IfOk};
 ghost use Rattle.record_journal.specs.Journal.{tables_of};
 
-use crate::starts::{ONE_SESSION, add, last_session, open, opened, opens, over};
+use crate::starts::{End, ONE_SESSION, commits, last_session, opened, opens, over};
 use crate::stopping::Stopping;
 use record_disk::FileDisk;
 use record_journal::Journal;
+use row_tables::{Records, Tables};
+use std::alloc::Global;
 use std::fs::{self, File, OpenOptions};
 use std::io;
 use std::test::Fail;
@@ -32,57 +34,80 @@ fn make_folder(rt: &HostRuntime, file: &[u8]) -> io::Result<()> {
     fs::write(rt, FILE, file)
 }
 
-// The last session that a start finds, and opens the next one behind it.
-fn goes_on(rt: &HostRuntime) -> Result<u8, Fail> {
-    let mut journal = start(rt, u64::MAX)?;
-    let last = last_session(rt.alloc(), open(rt.alloc(), &mut journal)?)?;
-    add(rt.alloc(), &mut journal, &opened(last.saturating_add(1)))?;
-    Ok(last)
+// Opens the session behind the last one of these tables.
+fn opens_next<R: Records>(alloc: Global, records: &mut R, tables: Tables) -> Option<u8>
+    requires ready { R.ready records.old }
+    requires untold { R.tables records.old ≡ None }
+{
+    let last = last_session(alloc, tables).ok()?;
+    match commits(alloc, records, &opened(last.saturating_add(1))) {
+        End::Done => Some(last),
+        _ => None,
+    }
+}
+
+// The last session that records have, behind which the next one is opened.
+fn continues<R: Records>(alloc: Global, records: &mut R) -> Option<u8>
+    requires { R.tables records.old ≡ None }
+{
+    match records.load(alloc) {
+        Ok(tables) => opens_next(alloc, records, tables),
+        Err(_) => None,
+    }
+}
+
+// The same by a start over the file.
+fn goes_on(rt: &HostRuntime) -> Option<u8> {
+    let mut journal = start(rt, u64::MAX).ok()?;
+    continues(rt.alloc(), &mut journal)
 }
 
 // A program opens the session behind this one, and is stopped behind so many calls: whether it got there, and the last
 // session that the next start finds, which begins while the file of the first one is still open.
-fn stopped_behind(rt: &HostRuntime, before: u8, calls: u64) -> Result<(bool, u8), Fail> {
-    let mut journal = start(rt, calls)?;
+fn stopped_behind(rt: &HostRuntime, before: u8, calls: u64) -> Option<(bool, u8)> {
+    let mut journal = start(rt, calls).ok()?;
     let made = opens(rt.alloc(), &mut journal, before.saturating_add(1));
-    let found = goes_on(rt)?;
-    Ok((made, found))
+    Some((made, goes_on(rt)?))
 }
 
 // In `whole` calls such a program gets there. What the next start opens is there for the one behind it.
-fn stops_well(rt: &HostRuntime, before: u8, calls: u64, whole: u64) -> Result<bool, Fail> {
+fn stops_well(rt: &HostRuntime, before: u8, calls: u64, whole: u64) -> Option<bool> {
     let (made, found) = stopped_behind(rt, before, calls)?;
+    let next = goes_on(rt)?;
     let after = before.saturating_add(1);
     let well = found == after || (found == before && !made);
-    Ok(well && made == (calls >= whole) && goes_on(rt)? == found.saturating_add(1))
+    Some(well && made == (calls >= whole) && next == found.saturating_add(1))
+}
+
+// Whether that is so over this file.
+fn stops_well_over(rt: &HostRuntime, file: &[u8], before: u8, calls: u64, whole: u64) -> bool {
+    make_folder(rt, file).is_ok() && stops_well(rt, before, calls, whole).unwrap_or(false)
 }
 
 // The first number of calls of which that is not so, over a new file and over one with a session.
-fn bad_stop(rt: &HostRuntime) -> Result<Option<u64>, Fail> {
+fn bad_stop(rt: &HostRuntime) -> Option<u64> {
     for calls in 0..14 {
-        make_folder(rt, b"")?;
-        if !stops_well(rt, 0, calls, 9)? {
-            return Ok(Some(calls));
+        if !stops_well_over(rt, b"", 0, calls, 9) {
+            return Some(calls);
         }
-        make_folder(rt, &ONE_SESSION)?;
-        if !stops_well(rt, 1, calls, 7)? {
-            return Ok(Some(calls));
+        if !stops_well_over(rt, &ONE_SESSION, 1, calls, 7) {
+            return Some(calls);
         }
     }
-    Ok(None)
+    None
 }
 
 // What a program leaves that is not stopped has the bytes of its changes.
-fn leaves_its_bytes(rt: &HostRuntime) -> Result<bool, Fail> {
+fn leaves_its_bytes(rt: &HostRuntime) -> io::Result<bool> {
     make_folder(rt, b"")?;
-    let last = goes_on(rt)?;
+    let last = goes_on(rt);
     let file = fs::read(rt, FILE)?;
-    Ok(last == 0 && file.as_slice() == ONE_SESSION.as_slice())
+    Ok(last == Some(0) && file.as_slice() == ONE_SESSION.as_slice())
 }
 
 #[test]
 fn a_file_outlasts_a_stop_behind_each_call(rt: HostRuntime) -> Result<(), Fail> {
-    assert_eq!(rt; bad_stop(&rt)?, None);
+    assert_eq!(rt; bad_stop(&rt), None);
     assert!(rt; leaves_its_bytes(&rt)?);
     fs::remove_dir_all(&rt, FOLDER)?;
     Ok(())

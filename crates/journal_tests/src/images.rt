@@ -133,14 +133,29 @@ fn may_leave(alloc: Global, disk: &MemDisk, files: &[u8]) -> Result<bool, AllocE
     Ok(text.as_slice() == files)
 }
 
+fn cuts<D: Disk>(disk: &mut D, size: u64) -> bool {
+    disk.cut(size).is_ok()
+}
+
+fn syncs<D: Disk>(disk: &mut D) -> bool {
+    disk.sync().is_ok()
+}
+
+fn writes<D: Disk>(disk: &mut D, at: u64, bytes: &[u8]) -> bool {
+    disk.write_at(at, bytes).is_ok()
+}
+
 // A cut that is synced leaves one file, and a write over its end any of these.
 #[test]
 fn a_write_is_torn(rt: HostRuntime) -> Result<(), Fail> {
     let alloc = rt.alloc();
     let mut disk = disk_of(alloc, b"abcd", DiskScript::none(alloc))?;
-    assert!(rt; disk.cut(2).is_ok() && may_leave(alloc, &disk, b"ab,abcd,")?);
-    assert!(rt; disk.sync().is_ok() && may_leave(alloc, &disk, b"ab,")?);
+    assert!(rt; cuts(&mut disk, 2));
+    assert!(rt; may_leave(alloc, &disk, b"ab,abcd,")?);
+    assert!(rt; syncs(&mut disk));
+    assert!(rt; may_leave(alloc, &disk, b"ab,")?);
     let torn = b"axy,ab,a\0\0,a\x01\x01,a\xff\xff,ax,ax\0,ax\x01,ax\xff,axy,axy,axy,axy,";
-    assert!(rt; disk.write_at(1, b"xy").is_ok() && may_leave(alloc, &disk, torn)?);
+    assert!(rt; writes(&mut disk, 1, b"xy"));
+    assert!(rt; may_leave(alloc, &disk, torn)?);
     Ok(())
 }

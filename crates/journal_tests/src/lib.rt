@@ -5,6 +5,8 @@
 #[cfg(test)]
 mod bytes;
 #[cfg(test)]
+mod courses;
+#[cfg(test)]
 mod disks;
 #[cfg(test)]
 mod files;

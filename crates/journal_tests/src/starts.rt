@@ -1,13 +1,14 @@
-// Journals over stopped disks, and what a start finds in them.
-ghost use Rattle.std.specs.Prelude.{◌≡◌, None, IfOk, OnOk};
-ghost use Rattle.record_journal.specs.Journal.{tables_of, IsReady};
+// Journals over stopped disks, and what a start finds in them. What is done with a journal stands in functions that know the trait of
+// records alone, since a journal's own promises would be carried through each step of their proofs.
+ghost use Rattle.std.specs.Prelude.{◌≡◌, None, IfOk};
+ghost use Rattle.record_journal.specs.Journal.{tables_of};
 
 use crate::images::disk_of;
 use crate::stopping::Stopping;
 use record_disk::{Disk, DiskScript, MemDisk};
 use record_journal::Journal;
 use repo_rows::take;
-use row_tables::{ApplyFault, Change, CommitFault, LoadFault, Records, Tables};
+use row_tables::{ApplyFault, Change, CommitFault, Records, Tables};
 use std::alloc::{AllocError, Global};
 
 // A journal over a disk in memory.
@@ -32,20 +33,18 @@ pub fn over<D: Disk + Drop>(disk: D, calls: u64) -> Journal<Stopping<D>>
     Journal::new(Stopping::new(disk, calls))
 }
 
-// The same over a disk in memory with this file.
-pub fn journal_of(alloc: Global, file: &[u8], calls: u64) -> Result<MemJournal, AllocError>
+// The same over a disk in memory with this file, of which these calls fail when so many bytes are written.
+pub fn journal_of(
+    alloc: Global,
+    file: &[u8],
+    failing: &[u64],
+    part: u64,
+    calls: u64,
+) -> Result<MemJournal, AllocError>
     ensures { IfOk result (λ j. tables_of j ≡ None) }
 {
-    Ok(over(disk_of(alloc, file, DiskScript::none(alloc))?, calls))
-}
-
-// Loads a journal.
-pub fn open<D: Disk>(alloc: Global, journal: &mut Journal<D>) -> Result<Tables, LoadFault>
-    requires { tables_of journal.old ≡ None }
-    ensures untold { tables_of journal.new ≡ None }
-    ensures ready { OnOk result (IsReady journal.new) }
-{
-    journal.load(alloc)
+    let script = DiskScript::failing_at(failing.to_vec(alloc)?, part);
+    Ok(over(disk_of(alloc, file, script)?, calls))
 }
 
 // The change of these bytes.
@@ -56,34 +55,69 @@ fn change_in(alloc: Global, bytes: &[u8]) -> Result<Change, AllocError> {
     }
 }
 
-// Commits the change of these bytes, whose files have SHA-256 and SHA-512.
-pub fn add<D: Disk>(
-    alloc: Global,
-    journal: &mut Journal<D>,
-    bytes: &[u8],
-) -> Result<(), CommitFault>
-    requires ready { IsReady journal.old }
-    requires untold { tables_of journal.old ≡ None }
-    ensures untold { tables_of journal.new ≡ None }
-    ensures ready { IsReady journal.new }
-{
-    let Ok(change) = change_in(alloc, bytes) else {
-        return Err(CommitFault::NoMemory);
-    };
-    if !change.is_whole() {
-        return Err(CommitFault::NoMemory);
-    }
-    journal.commit(alloc, &change)
+/// How a call ended.
+#[derive(Clone, Copy, Debug, PartialEq, Eq)]
+pub enum End {
+    Skipped,
+    Done,
+    Failed,
+    NoMemory,
 }
 
-// Loads a journal and opens this session; whether it got there.
-pub fn opens<D: Disk>(alloc: Global, journal: &mut Journal<D>, session: u8) -> bool
-    requires { tables_of journal.old ≡ None }
+fn end_of(answer: Result<(), CommitFault>) -> End {
+    match answer {
+        Ok(()) => End::Done,
+        Err(CommitFault::Failed) => End::Failed,
+        Err(CommitFault::NoMemory) => End::NoMemory,
+    }
+}
+
+fn add<R: Records>(alloc: Global, records: &mut R, change: &Change) -> End
+    requires ready { R.ready records.old }
+    requires untold { R.tables records.old ≡ None }
+    ensures untold { R.tables records.new ≡ None }
+    ensures ready { R.ready records.new }
 {
-    match open(alloc, journal) {
-        Ok(_) => add(alloc, journal, &opened(session)).is_ok(),
+    if !change.is_whole() {
+        return End::NoMemory;
+    }
+    end_of(records.commit(alloc, change))
+}
+
+// Commits the change of these bytes, whose files have SHA-256 and SHA-512. Of no bytes there is nothing to commit.
+pub fn commits<R: Records>(alloc: Global, records: &mut R, bytes: &[u8]) -> End
+    requires ready { R.ready records.old }
+    requires untold { R.tables records.old ≡ None }
+    ensures untold { R.tables records.new ≡ None }
+    ensures ready { R.ready records.new }
+{
+    if bytes.is_empty() {
+        return End::Skipped;
+    }
+    match change_in(alloc, bytes) {
+        Ok(change) => add(alloc, records, &change),
+        Err(_) => End::NoMemory,
+    }
+}
+
+// Whether records load.
+pub fn loads<R: Records>(alloc: Global, records: &mut R) -> bool {
+    records.load(alloc).is_ok()
+}
+
+// Loads records and opens this session; whether it got there.
+pub fn opens<R: Records>(alloc: Global, records: &mut R, session: u8) -> bool
+    requires { R.tables records.old ≡ None }
+{
+    match records.load(alloc) {
+        Ok(_) => commits(alloc, records, &opened(session)) == End::Done,
         Err(_) => false,
     }
+}
+
+// The tables of records, where they load.
+fn tables_in<R: Records>(alloc: Global, records: &mut R) -> Option<Tables> {
+    records.load(alloc).ok()
 }
 
 // Whether the change of these bytes fits tables.
@@ -107,8 +141,9 @@ pub fn last_session(alloc: Global, mut tables: Tables) -> Result<u8, AllocError>
 
 // The last session that a start finds in this file; None where it is refused.
 pub fn last_in(alloc: Global, file: &[u8]) -> Result<Option<u8>, AllocError> {
-    match open(alloc, &mut journal_of(alloc, file, u64::MAX)?) {
-        Ok(tables) => Ok(Some(last_session(alloc, tables)?)),
-        Err(_) => Ok(None),
+    let mut journal = journal_of(alloc, file, &[], 0, u64::MAX)?;
+    match tables_in(alloc, &mut journal) {
+        Some(tables) => Ok(Some(last_session(alloc, tables)?)),
+        None => Ok(None),
     }
 }

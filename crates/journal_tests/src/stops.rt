@@ -1,11 +1,7 @@
 // A journal that is stopped behind each call of its disk: what a crash leaves loads to the tables from before, or to these and
 // the one change under way.
-ghost use Rattle.std.specs.Prelude.{◌≡◌, None, IfOk, IfSome};
-ghost use Rattle.record_journal.specs.Journal.{tables_of, IsReady};
-
-use crate::images::{disk_of, images_of};
-use crate::starts::{MemJournal, ONE_SESSION, add, journal_of, last_in, open, opened, opens, over};
-use record_disk::DiskScript;
+use crate::courses::{Course, Left, left_by};
+use crate::starts::{End, ONE_SESSION, last_in, opened};
 use std::alloc::{AllocError, Global};
 use std::test::Fail;
 
@@ -17,10 +13,10 @@ fn finds(alloc: Global, file: &[u8], sessions: &[u8]) -> Result<bool, AllocError
     }
 }
 
-// Whether it does so in each file that a crash may leave of this journal.
-fn all_find(alloc: Global, journal: &MemJournal, sessions: &[u8]) -> Result<bool, AllocError> {
-    for image in images_of(alloc, journal.disk().inside())? {
-        if !finds(alloc, &image, sessions)? {
+// Whether it does so in each of these files.
+fn all_find(alloc: Global, images: &[Vec<u8>], sessions: &[u8]) -> Result<bool, AllocError> {
+    for image in images {
+        if !finds(alloc, image, sessions)? {
             return Ok(false);
         }
     }
@@ -37,16 +33,19 @@ fn stops_well(
     whole: u64,
 ) -> Result<bool, AllocError> {
     let after = before.saturating_add(1);
-    let mut journal = journal_of(alloc, file, calls)?;
-    let made = opens(alloc, &mut journal, after);
-    if made != (calls >= whole) {
-        return Ok(false);
-    }
-    if made {
-        all_find(alloc, &journal, &[after])
+    let change = opened(after);
+    let course = Course {
+        first: &change,
+        ..Course::load(file, calls)
+    };
+    let left = left_by(alloc, &course)?;
+    let made = left.ends.first == End::Done;
+    let sessions = if made {
+        [after, after]
     } else {
-        all_find(alloc, &journal, &[before, after])
-    }
+        [before, after]
+    };
+    Ok(made == (calls >= whole) && all_find(alloc, &left.images, &sessions)?)
 }
 
 // The first number of calls of which that is not so.
@@ -80,22 +79,22 @@ fn a_commit_to_a_longer_file_stops_behind_each_call(rt: HostRuntime) -> Result<(
     Ok(())
 }
 
-// Whether each file that a crash may leave of this journal has so many bytes.
-fn all_have(alloc: Global, journal: &MemJournal, size: usize) -> Result<bool, AllocError> {
-    for image in images_of(alloc, journal.disk().inside())? {
+// Whether each of these files has so many bytes.
+fn all_have(images: &[Vec<u8>], size: usize) -> bool {
+    for image in images {
         if image.len() < size {
-            return Ok(false);
+            return false;
         }
     }
-    Ok(true)
+    true
 }
 
 // Whether a load of this file that is stopped behind so many calls leaves this last session, and takes off nothing of the
 // file's beginning of 8 bytes.
 fn load_leaves(alloc: Global, file: &[u8], last: u8, calls: u64) -> Result<bool, AllocError> {
-    let mut journal = journal_of(alloc, file, calls)?;
-    let _ = open(alloc, &mut journal);
-    Ok(all_find(alloc, &journal, &[last])? && all_have(alloc, &journal, file.len().min(8))?)
+    let left = left_by(alloc, &Course::load(file, calls))?;
+    let begun = all_have(&left.images, file.len().min(8));
+    Ok(begun && all_find(alloc, &left.images, &[last])?)
 }
 
 // Whether a load of this file that is stopped behind any call leaves what it has.
@@ -111,23 +110,30 @@ fn loads_well(alloc: Global, file: &[u8]) -> Result<bool, AllocError> {
     Ok(true)
 }
 
-// Whether that is so of each file that a crash may leave of this journal.
-fn all_load_well(alloc: Global, journal: &MemJournal) -> Result<bool, AllocError> {
-    for image in images_of(alloc, journal.disk().inside())? {
-        if !loads_well(alloc, &image)? {
+// Whether that is so of each of these files.
+fn all_load_well(alloc: Global, images: &[Vec<u8>]) -> Result<bool, AllocError> {
+    for image in images {
+        if !loads_well(alloc, image)? {
             return Ok(false);
         }
     }
     Ok(true)
 }
 
+// What a crash leaves of a commit to a new file that is stopped behind so many calls loads well.
+fn stopped_loads_well(alloc: Global, calls: u64) -> Result<bool, AllocError> {
+    let change = opened(1);
+    let mut course = Course::load(b"", calls);
+    course.first = &change;
+    let left = left_by(alloc, &course)?;
+    all_load_well(alloc, &left.images)
+}
+
 // The load of each file that a crash leaves of a stopped commit is stopped in turn: the first number of calls behind which
 // one does not do well.
 fn bad_load(alloc: Global) -> Result<Option<u64>, AllocError> {
     for calls in 0..12 {
-        let mut journal = journal_of(alloc, b"", calls)?;
-        let _made = opens(alloc, &mut journal, 1);
-        if !all_load_well(alloc, &journal)? {
+        if !stopped_loads_well(alloc, calls)? {
             return Ok(Some(calls));
         }
     }
@@ -140,49 +146,52 @@ fn a_load_stops_behind_each_call(rt: HostRuntime) -> Result<(), Fail> {
     Ok(())
 }
 
-// A journal over a new file whose disk fails at these calls, of which this part is made, and is stopped behind so many. The
-// first of them is one of the commit of session 5, which fails; None where it does not.
-fn failed_at(
-    alloc: Global,
-    failing: &[u64],
+// Whether the commit of the first change failed.
+fn has_failed(left: &Left) -> bool {
+    let first = left.ends.first;
+    left.ends.loaded && (first == End::Failed || first == End::NoMemory)
+}
+
+// The course of a journal over a new file whose disk fails at these calls, of which this part is made, and is stopped behind so
+// many: the commit of session 5, then that of session 2.
+fn course_of<'a>(
+    failing: &'a [u64],
     part: u64,
     calls: u64,
-) -> Result<Option<MemJournal>, AllocError>
-    ensures { IfOk result (λ failed. IfSome failed (λ j. (tables_of j ≡ None) × IsReady j)) }
-{
-    let script = DiskScript::failing_at(failing.to_vec(alloc)?, part);
-    let mut journal = over(disk_of(alloc, b"", script)?, calls);
-    if open(alloc, &mut journal).is_err() {
-        return Ok(None);
-    }
-    match add(alloc, &mut journal, &opened(5)) {
-        Ok(()) => Ok(None),
-        Err(_) => Ok(Some(journal)),
-    }
+    first: &'a [u8],
+    second: &'a [u8],
+) -> Course<'a> {
+    let mut course = Course::load(b"", calls);
+    course.failing = failing;
+    course.part = part;
+    course.first = first;
+    course.second = second;
+    course
 }
 
 // Behind the failure session 2 is opened: the first change or none while the second is not made, the second alone once it is.
 // The file keeps its beginning.
 fn undoes_well(alloc: Global, failing: u64, part: u64, calls: u64) -> Result<bool, AllocError> {
-    let Some(mut journal) = failed_at(alloc, &[failing], part, calls)? else {
-        return Ok(false);
-    };
-    let found = match add(alloc, &mut journal, &opened(2)) {
-        Ok(()) => all_find(alloc, &journal, &[2])?,
-        Err(_) => all_find(alloc, &journal, &[0, 2, 5])?,
-    };
-    Ok(found && all_have(alloc, &journal, 8)?)
+    let (five, two, at) = (opened(5), opened(2), [failing]);
+    let left = left_by(alloc, &course_of(&at, part, calls, &five, &two))?;
+    let made = left.ends.second == End::Done;
+    let sessions = if made { [2, 2, 2] } else { [0, 2, 5] };
+    let begun = all_have(&left.images, 8);
+    Ok(has_failed(&left) && begun && all_find(alloc, &left.images, &sessions)?)
 }
 
 // Behind the failure the journal is loaded again: the change or none while that is not done, none once it is.
 fn reloads_well(alloc: Global, failing: u64, part: u64, calls: u64) -> Result<bool, AllocError> {
-    let Some(mut journal) = failed_at(alloc, &[failing], part, calls)? else {
-        return Ok(false);
+    let (five, at) = (opened(5), [failing]);
+    let mut course = course_of(&at, part, calls, &five, &[]);
+    course.loads_again = true;
+    let left = left_by(alloc, &course)?;
+    let sessions = if left.ends.second == End::Done {
+        [0, 0]
+    } else {
+        [0, 5]
     };
-    match open(alloc, &mut journal) {
-        Ok(_) => all_find(alloc, &journal, &[0]),
-        Err(_) => all_find(alloc, &journal, &[0, 5]),
-    }
+    Ok(has_failed(&left) && all_find(alloc, &left.images, &sessions)?)
 }
 
 // Whether both are so, stopped behind any call behind the one that fails.
@@ -217,21 +226,25 @@ fn an_undo_stops_behind_each_call(rt: HostRuntime) -> Result<(), Fail> {
     Ok(())
 }
 
-// The undo fails too: a commit fails with it, and leaves the first change or none. The next one undoes it, and goes through.
+// The undo fails too: a commit fails with it, and leaves the first change or none.
+fn undo_fails(alloc: Global, course: &Course<'_>) -> Result<bool, AllocError> {
+    let left = left_by(alloc, course)?;
+    let failed = left.ends.second == End::Failed || left.ends.second == End::NoMemory;
+    Ok(has_failed(&left) && failed && all_find(alloc, &left.images, &[0, 5])?)
+}
+
+// The next one undoes it, and goes through.
+fn undoes_at_last(alloc: Global, course: &Course<'_>) -> Result<bool, AllocError> {
+    let left = left_by(alloc, course)?;
+    Ok(left.ends.third == End::Done && all_find(alloc, &left.images, &[2])?)
+}
+
 fn undoes_later(alloc: Global, failing: u64, undo: u64, part: u64) -> Result<bool, AllocError> {
-    let Some(mut journal) = failed_at(alloc, &[failing, undo], part, u64::MAX)? else {
-        return Ok(false);
-    };
-    if add(alloc, &mut journal, &opened(2)).is_ok() {
-        return Ok(false);
-    }
-    if !all_find(alloc, &journal, &[0, 5])? {
-        return Ok(false);
-    }
-    match add(alloc, &mut journal, &opened(2)) {
-        Ok(()) => all_find(alloc, &journal, &[2]),
-        Err(_) => Ok(false),
-    }
+    let (five, two, at) = (opened(5), opened(2), [failing, undo]);
+    let mut course = course_of(&at, part, u64::MAX, &five, &two);
+    let failed = undo_fails(alloc, &course)?;
+    course.third = &two;
+    Ok(failed && undoes_at_last(alloc, &course)?)
 }
 
 // The undo has 4 calls, right behind the one that failed: the first failure of which one of them does not do well.
