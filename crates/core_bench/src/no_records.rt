@@ -10,6 +10,8 @@ impl Records for NoRecords {
 
     ghost ready = { λ _. Unit {0} };
 
+    ghost rests = { λ r ready t told. tt };
+
     fn load(&mut self, alloc: Global) -> Result<Tables, LoadFault> {
         Ok(Tables::new(alloc))
     }

@@ -6,5 +6,5 @@ mod shelf;
 mod stances;
 
 pub use merging::merged;
-pub use shelf::Shelf;
+pub use shelf::GroupShelf;
 pub use stances::{Stance, Turn, next};

@@ -13,16 +13,16 @@ use written_docs::WrittenDoc;
 
 /// Documents as they are written, by the paths of their directories.
 #[derive(Drop)]
-pub struct Shelf {
+pub struct GroupShelf {
     map: BTreeMap<String, WrittenDoc>,
 }
 
-impl Shelf {
+impl GroupShelf {
     /// No documents.
-    pub fn new(alloc: Global) -> Shelf
+    pub fn new(alloc: Global) -> GroupShelf
         ensures { (text : List ℕ) → shelved_at text result ≡ None }
     {
-        Shelf {
+        GroupShelf {
             map: BTreeMap::new(alloc),
         }
     }

@@ -1,5 +1,5 @@
 -- Staged files that are deployed together, as the machine's plain data.
-use Rattle.std.specs.Prelude.{◌≡◌, ℕ, Bool, true, false, not, ◌&&◌, if◌then◌else◌, is_none, List, [], ◌∷◌, map, filter, Some, None, Result, Ok, Err, String, string_bytes, bytes_eq}
+use Rattle.std.specs.Prelude.{◌≡◌, ℕ, Bool, true, false, not, ◌&&◌, if◌then◌else◌, is_none, List, [], ◌∷◌, map, filter, Option, Some, None, Result, Ok, Err, String, string_bytes, bytes_eq}
 use Rattle.std.specs.declared.alloc.Global.{Global}
 use Rattle.std.specs.List.{list_any, flat_map}
 use Rattle.outside.specs.declared.parcels.Parcel.{Parcel}
@@ -14,7 +14,9 @@ use Rattle.repo_model.specs.Reply.{Reply, ended, missing_pom, no_memory, offends
 use Rattle.repo_model.specs.Shown.{shown_parcel}
 use Rattle.repo_model.specs.State.{change_where, is_row, row_at}
 use Rattle.repo_model.specs.Turn.{Turn, commit_by}
+use Rattle.repo_model.specs.Tables.{Tables}
 use Rattle.row_tables.specs.Items.{is_count, is_file_path, is_number}
+use Rattle.row_tables.specs.Stops.{HasNotCommitted, IsCommitted, IsLeftOut, Unsettled}
 use Rattle.hosted_delivery.specs.declared.judging.Other.{Other}
 use Rattle.hosted_delivery.specs.declared.put_all.PutAll.{PutAll}
 use Rattle.hosted_delivery.specs.declared.put_all.PutAll.TheVariants as did
@@ -52,6 +54,14 @@ shown_put_all (did.Done count blobs) = ended (ends.Done count)
 abbrev pub is_done : PutAll → Bool
 is_done (did.Done count blobs) = true
 is_done answer = false
+
+-- what it leaves unsettled: what a commit of these items does, by its answer, and nothing where something stands against it
+abbrev pub HasPutAllStop : List Item → Option Tables → Unsettled → Unsettled → PutAll → Type 0
+HasPutAllStop items told old new (did.Offends path kept sent) = new ≡ old
+HasPutAllStop items told old new (did.MissingPom dir) = new ≡ old
+HasPutAllStop items told old new did.StoreFault = HasNotCommitted items told old new
+HasPutAllStop items told old new did.NoMemory = IsLeftOut told old new
+HasPutAllStop items told old new (did.Done count blobs) = IsCommitted items told old new
 
 -- the blobs that no row took
 abbrev pub blobs_of : PutAll → List ℕ

@@ -1,5 +1,5 @@
 //! A hosted repository that is being taken up from what is recorded.
-ghost use Rattle.std.specs.Prelude.{◌≡◌, ◌≤◌, None, IfErr, IfOk, IsTrue, OnOk};
+ghost use Rattle.std.specs.Prelude.{◌≡◌, ◌≤◌, None, IfErr, IfOk, IsTrue, OnErr, OnOk};
 ghost use Rattle.mvn_coords.specs.Layout.{Directory, text_of_directory};
 ghost use Rattle.mvn_coords.specs.Path.{IsDirectory};
 ghost use Rattle.repo_model.specs.Data.{Blob};
@@ -135,6 +135,7 @@ impl<H: Held> HostedBuilder<H> {
         requires moment { accepted ≤ latest_moment }
         requires fading { FadesRightly (kept_row path.now (shown_parcel parcel) accepted phase) }
         ensures ok { OnOk result (self.new ≡ record self.old { rows = with_row (kept_row path.now (shown_parcel parcel) accepted phase) self.old.rows }) }
+        ensures err { OnErr result (self.new ≡ new_hosted self.old.rule) }
         ensures back { IfErr result (λ back. back ≡ parcel) }
     {
         let row = Row {

@@ -1,5 +1,5 @@
 ghost use Rattle.std.specs.Prelude.{◌≡◌, None, IfOk, OnOk};
-ghost use Rattle.record_journal.specs.Journal.{tables_of, IsReady};
+ghost use Rattle.record_journal.specs.Journal.{tables_of, MayCommit};
 
 use crate::rows::row_of;
 use record_disk::FileDisk;
@@ -30,7 +30,7 @@ fn journal_in(rt: &HostRuntime, folder: &str) -> io::Result<Journal<FileDisk<Fil
 fn open(rt: &HostRuntime, journal: &mut Journal<FileDisk<File>>) -> io::Result<Tables>
     requires { tables_of journal.old ≡ None }
     ensures untold { tables_of journal.new ≡ None }
-    ensures ready { OnOk result (IsReady journal.new) }
+    ensures ready { OnOk result (MayCommit journal.new) }
 {
     match journal.load(rt.alloc()) {
         Ok(tables) => Ok(tables),
@@ -46,10 +46,10 @@ fn change_of(rt: &HostRuntime, number: u64) -> io::Result<Change> {
 }
 
 fn add(rt: &HostRuntime, journal: &mut Journal<FileDisk<File>>, number: u64) -> io::Result<()>
-    requires ready { IsReady journal.old }
+    requires ready { MayCommit journal.old }
     requires untold { tables_of journal.old ≡ None }
     ensures untold { tables_of journal.new ≡ None }
-    ensures ready { IsReady journal.new }
+    ensures ready { MayCommit journal.new }
 {
     let change = change_of(rt, number)?;
     if !change.is_whole() {

@@ -12,8 +12,9 @@ ghost use Rattle.repo_model.specs.Shown.{outcome_map, shown_got, shown_parcel};
 ghost use Rattle.repo_model.specs.State.{is_proxy, new_proxy, number_end, row_at};
 ghost use Rattle.repo_model.specs.Turn.{lands_file};
 ghost use Rattle.row_tables.specs.Items.{is_file_path, is_id, is_number};
+ghost use Rattle.row_tables.specs.Stops.{HasReplyStop};
 ghost use Rattle.ordered_rows.specs.Recording.{FitWhereTold};
-ghost use Rattle.proxy_rules.specs.Landings.{Lands, has_failed, landing};
+ghost use Rattle.proxy_rules.specs.Landings.{Lands, has_failed, landing, shown_landed};
 ghost use Rattle.proxy_rules.specs.Rules.{shown_rule};
 
 use crate::keeping::{keep_document, keep_file};
@@ -237,6 +238,7 @@ impl<H: Held> Proxy<H> {
         requires draft { ForSome plan.now.draft (λ n. IsTrue (is_number n)) }
         requires fits { FitWhereTold (K.tables records.old) (recorded (landing self.old now plan.now outcome)) }
         ensures lands { Lands (landing self.old now plan.now outcome) self.old self.new (K.tables records.old) (K.tables records.new) (K.faults records.old) (K.faults records.new) result }
+        ensures stops { HasReplyStop (recorded (landing self.old now plan.now outcome)) (K.tables records.old) (K.unsettled records.old) (K.unsettled records.new) (shown_landed result) }
         ensures ready { K.ready records.new }
     {
         match outcome {
@@ -263,6 +265,8 @@ impl<H: Held> Proxy<H> {
         requires length { parcel.length < number_end }
         requires fits { FitWhereTold (K.tables records.old) (recorded (lands_file plan.now (shown_parcel parcel) now (row_at plan.now.path self.old.files))) }
         ensures lands { Lands (lands_file plan.now (shown_parcel parcel) now (row_at plan.now.path self.old.files)) self.old self.new (K.tables records.old) (K.tables records.new) (K.faults records.old) (K.faults records.new) result }
+        ensures stops { HasReplyStop (recorded (lands_file plan.now (shown_parcel parcel) now (row_at plan.now.path self.old.files)))
+            (K.tables records.old) (K.unsettled records.old) (K.unsettled records.new) (shown_landed result) }
         ensures ready { K.ready records.new }
     {
         let path = plan.path.as_str();
@@ -295,6 +299,8 @@ impl<H: Held> Proxy<H> {
         requires short { length (written.text doc) ≤ longest_landed }
         ensures lands { Lands (keeps_doc plan.now.proxy plan.now.path (settled_at doc (kind plan.now.path)) now ∷ clears_mark plan.now.proxy plan.now.path ∷ [])
             self.old self.new (K.tables records.old) (K.tables records.new) (K.faults records.old) (K.faults records.new) result }
+        ensures stops { HasReplyStop (recorded (keeps_doc plan.now.proxy plan.now.path (settled_at doc (kind plan.now.path)) now ∷ clears_mark plan.now.proxy plan.now.path ∷ []))
+            (K.tables records.old) (K.unsettled records.old) (K.unsettled records.new) (shown_landed result) }
         ensures ready { K.ready records.new }
     {
         let path = plan.path.as_str();

@@ -9,6 +9,7 @@ use Rattle.repo_model.specs.declared.item.Item.{Item}
 use Rattle.repo_model.specs.Tables.{Tables, applied}
 use Rattle.row_tables.specs.Applying.{with_items}
 use Rattle.row_tables.specs.Records.{Expected}
+use Rattle.row_tables.specs.Stops.{Rests, Trail, Unsettled}
 use Rattle.record_journal.specs.Loading.{change_in, loading, built_up}
 
 -- the part of a file that its journal has acknowledged: what stands in front of a frame that failed
@@ -29,6 +30,22 @@ tables_by trace gate pending = option_and_then result_ok (expected_by trace gate
 
 abbrev pub tables_of : LogState → Option Tables
 tables_of log = tables_by log.trace log.gate log.pending
+
+-- the tables that a start reads from a file
+abbrev pub tables_in : List ℕ → Option Tables
+tables_in file = result_ok (loading file)
+
+-- the change of a payload that is pending
+abbrev pub items_of : Option (List ℕ) → Option (List Item)
+items_of pending = option_and_then (λ payload. result_ok (change_in payload)) pending
+
+-- the calls on its file, which a start reads so
+abbrev pub trail_of : Trace → Trail
+trail_of trace = record { trace = trace; reads = tables_in }
+
+-- what a stop may leave of a journal beside its tables
+abbrev pub unsettled_of : LogState → Unsettled
+unsettled_of log = record { pending = items_of log.pending; trail = option_map trail_of log.trace }
 
 -- a file that loads to these tables; or to these with the change of a payload
 abbrev pub LoadsTo : Tables → List ℕ → Type 0
@@ -60,6 +77,11 @@ pub record IsStanding (gate : ℕ) (pending : Option (List ℕ)) (trace : Trace)
 pub record IsReady (log : LogState) : Type 0 where
   pub behind : 8 ≤ log.gate
   pub standing : IfSome log.trace (IsStanding log.gate log.pending)
+
+-- It is ready, and a stop now leaves the tables, or these with the change that is pending.
+pub record MayCommit (log : LogState) : Type 0 where
+  pub ready : IsReady log
+  pub rests : Rests (tables_of log) (unsettled_of log)
 
 -- only a journal that was ready has a frame that failed
 abbrev pub IsSteady : LogState → Type 0

@@ -7,7 +7,7 @@ ghost use Rattle.row_tables.specs.Applying.{with_items};
 ghost use Rattle.row_tables.specs.Items.{IsChange, are_of, change_bytes};
 ghost use Rattle.row_tables.specs.declared.version.Version.TheVariants.{Second};
 ghost use Rattle.row_tables.specs.Records.{HasCommitCause};
-ghost use Rattle.row_tables.specs.declared.faults.CommitFault.TheVariants.{Failed as failed};
+ghost use Rattle.row_tables.specs.declared.faults.CommitFault.TheVariants.{Failed as failed, NoMemory as no_memory};
 ghost use Rattle.record_journal.specs.Journal.{tables_of, Adds, AddsNothing, IsReady, Commits};
 
 use crate::undoing::take_back;
@@ -48,6 +48,7 @@ fn append_change<D: Disk>(
     ensures undone { OnOk result (log.new.pending ≡ None) }
     ensures pending { OnErr result ((log.new.pending ≡ None) ⊎ (log.new.pending ≡ Some (change_bytes change.now))) }
     ensures nothing { OnErr result ((log.new.pending ≡ Some (change_bytes change.now)) ⊎ (log.new ≡ log.old)) }
+    ensures wanting { IsErrOf result no_memory → log.new.pending ≡ None }
     ensures gate { OnOk result (log.new.gate ≡ log.old.gate + 5 + length (change_bytes change.now)) }
     ensures stays { OnErr result (log.new.gate ≡ log.old.gate) }
 {
@@ -78,6 +79,7 @@ pub fn commit_change<D: Disk>(
     ensures crash { Told log.old.trace log.new.trace (Commits (tables_of log.old) log.old.pending change.now) }
     ensures undone { OnOk result (log.new.pending ≡ None) }
     ensures pending { OnErr result ((log.new.pending ≡ None) ⊎ (log.new.pending ≡ log.old.pending) ⊎ (log.new.pending ≡ Some (change_bytes change.now))) }
+    ensures wanting { IsErrOf result no_memory → log.new.pending ≡ None }
     ensures nothing { OnErr result ((log.new.pending ≡ Some (change_bytes change.now)) ⊎ Told log.old.trace log.new.trace (AddsNothing (tables_of log.old) log.old.pending)) }
     ensures empty { change.now ≡ [] → log.old.pending ≡ None → IsOk result × (log.new ≡ log.old) }
     ensures unframed { change.now ≡ [] → (log.new.gate ≡ log.old.gate) × OnErr result (IsErrOf result failed × (log.new.pending ≡ log.old.pending)) }

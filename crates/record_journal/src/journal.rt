@@ -1,4 +1,4 @@
-ghost use Rattle.std.specs.Prelude.{◌≡◌, ◌⊎◌, ◌+◌, [], None, Some, Ok, length, IfOk, IfSome, IsTrue, IsOk, IsErrOf, OnOk, OnErr, false, is_some};
+ghost use Rattle.std.specs.Prelude.{◌≡◌, ◌⊎◌, ◌+◌, [], None, Some, Ok, length, IfOk, IfSome, IsTrue, IsOk, IsErrOf, OnOk, OnErr};
 ghost use Rattle.std.specs.Option.{ForSome, option_map};
 ghost use Rattle.record_disk.specs.Disk.{After, Sync, content, Told};
 ghost use Rattle.record_log.specs.Frames.{frames, end_of};
@@ -8,8 +8,9 @@ ghost use Rattle.row_tables.specs.Items.{are_of, change_bytes};
 ghost use Rattle.row_tables.specs.declared.version.Version.TheVariants.{Second};
 ghost use Rattle.row_tables.specs.Recorded.{IsBuiltUp};
 ghost use Rattle.row_tables.specs.Records.{HasLoadCause, HasCommitCause, IsRefusal, LoadsUnlessFailed};
+ghost use Rattle.row_tables.specs.Stops.{HasCommitStop};
 ghost use Rattle.row_tables.specs.declared.faults.CommitFault.TheVariants.{Failed as failed};
-ghost use Rattle.record_journal.specs.Journal.{expected_of, tables_of, IsReady, KeepsTables, Recovers, AddsNothing, Commits, IsStill};
+ghost use Rattle.record_journal.specs.Journal.{expected_of, tables_of, unsettled_of, KeepsTables, MayCommit, Recovers, AddsNothing, Commits, IsStill};
 
 use crate::committing::commit_change;
 use crate::reloading::load_log;
@@ -66,17 +67,18 @@ impl<D: Disk> Records for Journal<D> {
 
     ghost loading = { expected_of };
 
-    ghost unsettled = { λ j. is_some j.pending };
+    ghost unsettled = { unsettled_of };
 
-    ghost ready = { IsReady };
+    ghost ready = { MayCommit };
 
     fn load(&mut self, alloc: Global) -> Result<Tables, LoadFault>
         ensures cause { HasLoadCause self.old.faults self.new.faults result }
         ensures told { IfOk result (λ t. IfSome (tables_of self.old) (λ told. t ≡ told)) }
         ensures built { IfOk result IsBuiltUp }
         ensures refused { IsRefusal result → tables_of self.old ≡ None }
-        ensures ready { OnOk result (IsReady self.new) }
-        ensures settled { OnOk result (is_some self.new.pending ≡ false) }
+        ensures ready { OnOk result (MayCommit self.new) }
+        ensures undone { OnOk result (self.new.pending ≡ None) }
+        ensures settled { OnOk result ((unsettled_of self.new).pending ≡ None) }
         ensures same { tables_of self.new ≡ tables_of self.old }
 
         // The tables and the refusals are those of the file's frames.
@@ -97,14 +99,16 @@ impl<D: Disk> Records for Journal<D> {
     }
 
     fn commit(&mut self, alloc: Global, change: &Change) -> Result<(), CommitFault>
-        requires ready { IsReady self.old }
+        requires ready { MayCommit self.old }
         requires whole { IsTrue (are_of Second change.now) }
         requires fits { ForSome (tables_of self.old) (λ t. applied t change.now ≡ Ok (with_items t change.now)) }
         ensures cause { HasCommitCause self.old.faults self.new.faults result }
         ensures ok { OnOk result (tables_of self.new ≡ option_map (λ t. with_items t change.now) (tables_of self.old)) }
         ensures err { OnErr result (tables_of self.new ≡ tables_of self.old) }
-        ensures settled { OnOk result (is_some self.new.pending ≡ false) }
-        ensures ready { IsReady self.new }
+        ensures undone { OnOk result (self.new.pending ≡ None) }
+        ensures settled { OnOk result ((unsettled_of self.new).pending ≡ None) }
+        ensures stops { HasCommitStop change.now (tables_of self.old) (unsettled_of self.old) (unsettled_of self.new) result }
+        ensures ready { MayCommit self.new }
 
         // A crash at a moment of the call leaves a file that loads to the tables from before it, or to these with the change that
         // was pending, until that one is undone; from then on to the tables from before, or to these with the change.
@@ -124,6 +128,10 @@ impl<D: Disk> Records for Journal<D> {
         ensures framed { OnOk result ((change.now ≡ []) ⊎ (self.new.gate ≡ self.old.gate + 5 + length (change_bytes change.now))) }
         ensures stays { OnErr result (self.new.gate ≡ self.old.gate) }
     {
+        // Its contract says that these are a change.
+        let _ = change.items();
         commit_change(alloc, &mut self.log, change)
     }
+
+    ghost rests = { λ j ready. ready.rests };
 }

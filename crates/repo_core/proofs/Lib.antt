@@ -30,3 +30,4 @@ mod StagedLemmas
 mod StartLemmas
 mod Turning
 mod UseLemmas
+mod StopTurns

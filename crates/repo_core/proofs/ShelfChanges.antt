@@ -18,7 +18,7 @@ use Rattle.mvn_metadata.specs.Document.{Document}
 use Rattle.path_patterns.specs.Pattern.{is_let_through}
 use Rattle.fetch_plan.specs.declared.Outcome.TheVariants.{Got, Gone}
 use Rattle.fetch_plan.specs.declared.Plan.{Plan}
-use Rattle.group_view.specs.declared.shelf.Shelf.{Shelf}
+use Rattle.group_view.specs.declared.shelf.GroupShelf.{GroupShelf}
 use Rattle.directory_rows.proofs.DocumentLemmas.{unadded}
 use Rattle.hosted_repo.proofs.Expiry.{dropped}
 use Rattle.kept_docs.proofs.Beside.{document_after_first, document_elsewhere, document-with_row}
@@ -74,7 +74,7 @@ other-rows d id at rows (h ∷ hosted) other same =
           ]
     ] same
 
-pub rows-still : (groups : List GroupRule) (hosted : List Hosted) (proxies : List Proxy) (gone : List ℕ → Bool) (at : List ℕ) (rows : List Row) (olds news : List Shelf)
+pub rows-still : (groups : List GroupRule) (hosted : List Hosted) (proxies : List Proxy) (gone : List ℕ → Bool) (at : List ℕ) (rows : List Row) (olds news : List GroupShelf)
     → ((d : Directory) → gone (text_of_directory d) ≡ false → document d rows ≡ document d (rows_in at hosted)) → HaveForgotten gone olds news
     → AreShelved groups hosted proxies olds → AreShelved groups (with_rows at rows hosted) proxies news
 rows-still groups hosted proxies gone at rows olds news same forgot right =
@@ -89,7 +89,7 @@ put-same d path blob moment created rows not_gone =
 put-same d path blob moment relisted rows not_gone = document_elsewhere d path (list_again moment) rows (λ row. refl) (stands-not d path not_gone)
 put-same d path blob moment reply rows not_gone = refl
 
-pub put-still : (groups : List GroupRule) (hosted : List Hosted) (proxies : List Proxy) (id path : List ℕ) (blob : Blob) (moment : ℕ) (reply : Reply) (olds news : List Shelf)
+pub put-still : (groups : List GroupRule) (hosted : List Hosted) (proxies : List Proxy) (id path : List ℕ) (blob : Blob) (moment : ℕ) (reply : Reply) (olds news : List GroupShelf)
     → HaveForgotten (gone_by_put path reply) olds news → AreShelved groups hosted proxies olds
     → AreShelved groups (with_rows id (rows_put path blob moment reply (rows_in id hosted)) hosted) proxies news
 put-still groups hosted proxies id path blob moment reply olds news forgot right =
@@ -114,22 +114,22 @@ dropped-same d id grace now (n ∷ counts) (h ∷ hosted) other order =
       | false ↦ dropped-same d id grace now counts hosted other order.1
     ]
 
-pub dropped-still : (groups : List GroupRule) (hosted : List Hosted) (proxies : List Proxy) (grace now : ℕ) (counts : List ℕ) (shelves : List Shelf) → AllByRecursion (λ (h : Hosted). AreByPath h.rows) hosted
+pub dropped-still : (groups : List GroupRule) (hosted : List Hosted) (proxies : List Proxy) (grace now : ℕ) (counts : List ℕ) (shelves : List GroupShelf) → AllByRecursion (λ (h : Hosted). AreByPath h.rows) hosted
     → AreShelved groups hosted proxies shelves → AreShelved groups (dropped_by grace now counts hosted) proxies shelves
 dropped-still groups hosted proxies grace now counts shelves order right =
     shelves-still hosted (dropped_by grace now counts hosted) proxies proxies nowhere groups shelves shelves
     (λ d rule not_gone id. dropped-same d id grace now counts hosted (option_map_or (λ (p : Proxy). document_kept p d) (find (is_proxy id) proxies) None) order) (all-kept shelves) right
   where
-    all-kept : (ss : List Shelf) → HaveForgotten nowhere ss ss
+    all-kept : (ss : List GroupShelf) → HaveForgotten nowhere ss ss
     all-kept [] = tt
     all-kept (s ∷ ss) = (λ text. refl, all-kept ss)
 
 -- ---- nothing changed, or all may have
-pub nothing-changed : (groups : List GroupRule) (hosted : List Hosted) (proxies : List Proxy) (gone : List ℕ → Bool) (olds news : List Shelf) → HaveForgotten gone olds news
+pub nothing-changed : (groups : List GroupRule) (hosted : List Hosted) (proxies : List Proxy) (gone : List ℕ → Bool) (olds news : List GroupShelf) → HaveForgotten gone olds news
     → AreShelved groups hosted proxies olds → AreShelved groups hosted proxies news
 nothing-changed groups hosted proxies gone olds news forgot right = shelves-still hosted hosted proxies proxies gone groups olds news (λ d rule not_gone id. refl) forgot right
 
-all-gone : (groups : List GroupRule) (hosted new_hosted : List Hosted) (proxies : List Proxy) (olds news : List Shelf) → HaveForgotten everywhere olds news
+all-gone : (groups : List GroupRule) (hosted new_hosted : List Hosted) (proxies : List Proxy) (olds news : List GroupShelf) → HaveForgotten everywhere olds news
     → AreShelved groups hosted proxies olds → AreShelved groups new_hosted proxies news
 all-gone groups hosted new_hosted proxies olds news forgot right =
     shelves-still hosted new_hosted proxies proxies everywhere groups olds news (λ d rule not_gone id. absurd (let wrong : true ≡ false = not_gone in cc)) forgot right
@@ -143,7 +143,7 @@ none-faded now (Some h) is = by (due_rows h.rule now h.rows) is
     by [] same = refl
     by (row ∷ rows) same = absurd (let wrong : 0 ≡ length (row ∷ rows) = cc in omega (arith, wrong))
 
-pub unlisted-still : (groups : List GroupRule) (hosted : List Hosted) (proxies : List Proxy) (id : List ℕ) (now n : ℕ) (olds news : List Shelf)
+pub unlisted-still : (groups : List GroupRule) (hosted : List Hosted) (proxies : List Proxy) (id : List ℕ) (now n : ℕ) (olds news : List GroupShelf)
     → unlisted n ≡ (unlist_of now (find (is_repository id) hosted)).reply → HaveForgotten (gone_by_unlist (Ok n)) olds news → AreShelved groups hosted proxies olds
     → AreShelved groups (with_rows id (rows_after_all (unlist_of now (find (is_repository id) hosted)).effects (rows_in id hosted)) hosted) proxies news
 unlisted-still groups hosted proxies id now n olds news count forgot right =
@@ -179,7 +179,7 @@ committed n now sessions hosted = by_found (find (is_session n) sessions)
     by_found None = does_nothing refl
     by_found (Some known) = by_end known (rows_in known.repo hosted) known.ended
 
-pub committed-still : (groups : List GroupRule) (hosted : List Hosted) (proxies : List Proxy) (sessions : List Session) (n now : ℕ) (reply : Reply) (olds news : List Shelf)
+pub committed-still : (groups : List GroupRule) (hosted : List Hosted) (proxies : List Proxy) (sessions : List Session) (n now : ℕ) (reply : Reply) (olds news : List GroupShelf)
     → (reply ≡ (commit_in n now sessions hosted).reply) ⊎ IsTrue (is_free reply) → HaveForgotten (gone_by_commit reply) olds news → AreShelved groups hosted proxies olds
     → AreShelved groups (if is_free reply then hosted else hosted_after_all (commit_in n now sessions hosted).effects hosted) proxies news
 committed-still groups hosted proxies sessions n now reply olds news given forgot right =
@@ -288,7 +288,7 @@ module _ (d : Directory) where
   landing-same files now plan landing proxies not_gone id = up-same plan.draft proxies id
 
 -- what came of a fetch landed at a proxy, or nothing did
-pub landed-still : (groups : List GroupRule) (hosted : List Hosted) (proxies : List Proxy) (files : List Row) (now : ℕ) (plan : Plan) (landing : Landing) (failed : Bool) (olds news : List Shelf)
+pub landed-still : (groups : List GroupRule) (hosted : List Hosted) (proxies : List Proxy) (files : List Row) (now : ℕ) (plan : Plan) (landing : Landing) (failed : Bool) (olds news : List GroupShelf)
     → HaveForgotten (gone_by_landing plan.path (is_of_document landing) failed) olds news → AreShelved groups hosted proxies olds
     → AreShelved groups hosted (if failed then proxies else proxies_after_all (lands_by files now plan landing) proxies) news
 landed-still groups hosted proxies files now plan landing true olds news forgot right =

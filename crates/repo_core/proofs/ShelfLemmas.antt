@@ -12,7 +12,7 @@ use Rattle.mvn_coords.proofs.Levels.{filled, levels_below, path_of_levels-levels
 use Rattle.mvn_metadata.specs.Document.{Document, merge}
 use Rattle.directory_rows.proofs.DirectoryForms.{stands}
 use Rattle.group_view.specs.Shelved.{shelved_at}
-use Rattle.group_view.specs.declared.shelf.Shelf.{Shelf}
+use Rattle.group_view.specs.declared.shelf.GroupShelf.{GroupShelf}
 use Rattle.repo_model.specs.Data.{Hosted, Proxy}
 use Rattle.repo_model.specs.Paths.{file_at, same_version, stands_in}
 use Rattle.repo_model.specs.Settings.{GroupRule}
@@ -82,22 +82,22 @@ stands-not d path not_gone =
 
 -- ---- shelves one after the other
 -- those before a place have forgotten, and those from it on are as they were
-pub record IsSwept (gone : List ℕ → Bool) (olds news : List Shelf) (i : ℕ) : Type 0 where
+pub record IsSwept (gone : List ℕ → Bool) (olds news : List GroupShelf) (i : ℕ) : Type 0 where
   pub same : length news ≡ length olds
-  pub front : (k : ℕ) (d : Shelf) → k < i → HasForgotten gone (get_or olds k d) (get_or news k d)
-  pub rest : (k : ℕ) (d : Shelf) → i ≤ k → get_or news k d ≡ get_or olds k d
+  pub front : (k : ℕ) (d : GroupShelf) → k < i → HasForgotten gone (get_or olds k d) (get_or news k d)
+  pub rest : (k : ℕ) (d : GroupShelf) → i ≤ k → get_or news k d ≡ get_or olds k d
 
-pub swept-start : (gone : List ℕ → Bool) (shelves : List Shelf) → IsSwept gone shelves shelves 0
+pub swept-start : (gone : List ℕ → Bool) (shelves : List GroupShelf) → IsSwept gone shelves shelves 0
 swept-start gone shelves = record { same = refl; front = λ k d below. absurd (let never : ⊥ = omega (arith, below) in never); rest = λ k d from. refl }
 
-swept : (gone : List ℕ → Bool) (olds news : List Shelf) → length news ≡ length olds → ((k : ℕ) (d : Shelf) → k < length olds → HasForgotten gone (get_or olds k d) (get_or news k d)) → HaveForgotten gone olds news
+swept : (gone : List ℕ → Bool) (olds news : List GroupShelf) → length news ≡ length olds → ((k : ℕ) (d : GroupShelf) → k < length olds → HasForgotten gone (get_or olds k d) (get_or news k d)) → HaveForgotten gone olds news
 swept gone [] [] same all = tt
 swept gone [] (n ∷ news) same all = absurd (let never : ⊥ = omega (arith, same) in never)
 swept gone (o ∷ olds) [] same all = absurd (let never : ⊥ = omega (arith, same) in never)
 swept gone (o ∷ olds) (n ∷ news) same all =
     (all 0 o (omega arith), swept gone olds news (omega (arith, same)) (λ k d below. all (suc k) d (omega (arith, below))))
 
-pub swept-all : (gone : List ℕ → Bool) (olds news : List Shelf) (i : ℕ) → length olds ≤ i → IsSwept gone olds news i → HaveForgotten gone olds news
+pub swept-all : (gone : List ℕ → Bool) (olds news : List GroupShelf) (i : ℕ) → length olds ≤ i → IsSwept gone olds news i → HaveForgotten gone olds news
 swept-all gone olds news i far s = swept gone olds news s.same (λ k d below. s.front k d (omega (arith, below, far)))
 
 -- ---- what is not gone stays right
@@ -111,7 +111,7 @@ module _ (hosted new_hosted : List Hosted) (proxies new_proxies : List Proxy) (g
   same-documents d same [] = refl
   same-documents d same (id ∷ ids) = λ i. with_some (same id i) (same-documents d same ids i)
 
-  shelf-still : (ids : List (List ℕ)) (old new : Shelf) → AreStill → HasForgotten gone old new → IsShelved hosted proxies ids old → IsShelved new_hosted new_proxies ids new
+  shelf-still : (ids : List (List ℕ)) (old new : GroupShelf) → AreStill → HasForgotten gone old new → IsShelved hosted proxies ids old → IsShelved new_hosted new_proxies ids new
   shelf-still ids old new still forgot right d rule doc is =
       elim (gone (text_of_directory d))
       as (λ b. gone (text_of_directory d) ≡ b → merge (documents_now new_hosted new_proxies d ids) ≡ Some doc) [
@@ -123,7 +123,7 @@ module _ (hosted new_hosted : List Hosted) (proxies new_proxies : List Proxy) (g
             ap merge (same-documents d (still d rule not_gone) ids) ∙ right d rule doc (sym stays ∙ is)
       ] refl
 
-  pub shelves-still : (groups : List GroupRule) (olds news : List Shelf) → AreStill → HaveForgotten gone olds news → AreShelved groups hosted proxies olds → AreShelved groups new_hosted new_proxies news
+  pub shelves-still : (groups : List GroupRule) (olds news : List GroupShelf) → AreStill → HaveForgotten gone olds news → AreShelved groups hosted proxies olds → AreShelved groups new_hosted new_proxies news
   shelves-still [] [] [] still forgot right = tt
   shelves-still [] [] (n ∷ news) still forgot right = absurd forgot
   shelves-still [] (o ∷ olds) news still forgot right = absurd right
@@ -134,38 +134,38 @@ module _ (hosted new_hosted : List Hosted) (proxies new_proxies : List Proxy) (g
 
 -- ---- the shelf at a group's place
 module _ (hosted : List Hosted) (proxies : List Proxy) where
-  pub as-many : (groups : List GroupRule) (shelves : List Shelf) → AreShelved groups hosted proxies shelves → length shelves ≡ length groups
+  pub as-many : (groups : List GroupRule) (shelves : List GroupShelf) → AreShelved groups hosted proxies shelves → length shelves ≡ length groups
   as-many [] [] right = refl
   as-many [] (s ∷ shelves) right = absurd right
   as-many (g ∷ groups) [] right = absurd right
   as-many (g ∷ groups) (s ∷ shelves) right = ap suc (as-many groups shelves right.1)
 
-  pub shelf-at : (groups : List GroupRule) (shelves : List Shelf) (i : ℕ) (g : GroupRule) (s : Shelf) → i < length groups → AreShelved groups hosted proxies shelves
+  pub shelf-at : (groups : List GroupRule) (shelves : List GroupShelf) (i : ℕ) (g : GroupRule) (s : GroupShelf) → i < length groups → AreShelved groups hosted proxies shelves
       → IsShelved hosted proxies (get_or groups i g).members (get_or shelves i s)
   shelf-at [] shelves i g s within right = absurd (let never : ⊥ = omega (arith, within) in never)
   shelf-at (x ∷ groups) [] i g s within right = absurd right
   shelf-at (x ∷ groups) (y ∷ shelves) zero g s within right = right.0
   shelf-at (x ∷ groups) (y ∷ shelves) (suc i) g s within right = shelf-at groups shelves i g s (omega (arith, within)) right.1
 
-  pub shelf-set : (groups : List GroupRule) (shelves : List Shelf) (i : ℕ) (g : GroupRule) (new : Shelf) → i < length groups → AreShelved groups hosted proxies shelves
+  pub shelf-set : (groups : List GroupRule) (shelves : List GroupShelf) (i : ℕ) (g : GroupRule) (new : GroupShelf) → i < length groups → AreShelved groups hosted proxies shelves
       → IsShelved hosted proxies (get_or groups i g).members new → AreShelved groups hosted proxies (set shelves i new)
   shelf-set [] shelves i g new within right one = absurd (let never : ⊥ = omega (arith, within) in never)
   shelf-set (x ∷ groups) [] i g new within right one = absurd right
   shelf-set (x ∷ groups) (y ∷ shelves) zero g new within right one = (one, right.1)
   shelf-set (x ∷ groups) (y ∷ shelves) (suc i) g new within right one = (right.0, shelf-set groups shelves i g new (omega (arith, within)) right.1 one)
 
-  pub shelves-more : (groups : List GroupRule) (shelves : List Shelf) (g : GroupRule) (s : Shelf) → AreShelved groups hosted proxies shelves → IsShelved hosted proxies g.members s
+  pub shelves-more : (groups : List GroupRule) (shelves : List GroupShelf) (g : GroupRule) (s : GroupShelf) → AreShelved groups hosted proxies shelves → IsShelved hosted proxies g.members s
       → AreShelved (groups ++ g ∷ []) hosted proxies (shelves ++ s ∷ [])
   shelves-more [] [] g s right one = (one, tt)
   shelves-more [] (y ∷ shelves) g s right one = absurd right
   shelves-more (x ∷ groups) [] g s right one = absurd right
   shelves-more (x ∷ groups) (y ∷ shelves) g s right one = (right.0, shelves-more groups shelves g s right.1 one)
 
-  pub empty-shelved : (ids : List (List ℕ)) (s : Shelf) → ((text : List ℕ) → shelved_at text s ≡ None) → IsShelved hosted proxies ids s
+  pub empty-shelved : (ids : List (List ℕ)) (s : GroupShelf) → ((text : List ℕ) → shelved_at text s ≡ None) → IsShelved hosted proxies ids s
   empty-shelved ids s none d rule doc is = absurd (let wrong : None ≡ Some doc = sym (none (text_of_directory d)) ∙ is in cc)
 
 -- one more shelf has forgotten
-pub swept-more : (gone : List ℕ → Bool) (olds news : List Shelf) (i : ℕ) (before new : Shelf) → i < length news → before ≡ get_or news i before → HasForgotten gone before new
+pub swept-more : (gone : List ℕ → Bool) (olds news : List GroupShelf) (i : ℕ) (before new : GroupShelf) → i < length news → before ≡ get_or news i before → HasForgotten gone before new
     → IsSwept gone olds news i → IsSwept gone olds (set news i new) (i + 1)
 swept-more gone olds news i before new within at forgot s = record {
   same = length-set news i new ∙ s.same;
@@ -173,7 +173,7 @@ swept-more gone olds news i before new within at forgot s = record {
   rest = λ k d from. get_or-set_other news i k new d (λ is. omega (arith, from, is)) ∙ s.rest k d (omega (arith, from));
 }
   where
-    by : (k : ℕ) (d : Shelf) → k < i + 1 → HasForgotten gone (get_or olds k d) (get_or (set news i new) k d)
+    by : (k : ℕ) (d : GroupShelf) → k < i + 1 → HasForgotten gone (get_or olds k d) (get_or (set news i new) k d)
     by k d below =
         elim (cases_order k i) as (λ _. HasForgotten gone (get_or olds k d) (get_or (set news i new) k d)) [
           | inl is ↦

@@ -17,7 +17,7 @@ use Rattle.mvn_coords.proofs.ExactPaths.{exact_path, kind_of_document}
 use Rattle.path_patterns.specs.Pattern.{is_let_through}
 use Rattle.group_view.specs.Members.{next}
 use Rattle.group_view.specs.Shelved.{AreSame, shelved_at}
-use Rattle.group_view.specs.declared.shelf.Shelf.{Shelf}
+use Rattle.group_view.specs.declared.shelf.GroupShelf.{GroupShelf}
 use Rattle.group_view.specs.declared.stances.Turn.{Turn}
 use Rattle.group_view.specs.declared.stances.Turn.TheVariants.{Ask, Serve, Nothing}
 use Rattle.group_laws.specs.Seen.{asked_of, stance_of}
@@ -136,7 +136,7 @@ pub merged-now : (s : State) (now : ℕ) (tried path : List ℕ) (d : Directory)
 merged-now s now tried path d side ids rule is quiet = ap merge (each-serves s now tried path (kind path) d rule (subject-so path d side is) 0 ids quiet)
 
 -- what is on the shelf is that document
-pub on-shelf : (s : State) (hosted : List Hosted) (proxies : List Proxy) (now : ℕ) (tried path : List ℕ) (d : Directory) (side : Option Side) (ids : List (List ℕ)) (shelf : Shelf) (doc : Document)
+pub on-shelf : (s : State) (hosted : List Hosted) (proxies : List Proxy) (now : ℕ) (tried path : List ℕ) (d : Directory) (side : Option Side) (ids : List (List ℕ)) (shelf : GroupShelf) (doc : Document)
     → HasGoods s hosted proxies → IsShelved hosted proxies ids shelf → IsDirectory d → kind path ≡ Ok (document_kind d side)
     → find fetches_one (each_seen s now tried path (kind path) 0 ids) ≡ None → shelved_at (text_of_directory d) shelf ≡ Some doc → merged_of s now tried (subject_of path (kind path)) d ids ≡ Some doc
 on-shelf s hosted proxies now tried path d side ids shelf doc goods right rule is quiet there =
@@ -165,7 +165,7 @@ same-directory d e one other same =
     by : ◌≡◌ {A = Result Kind PathFault} (Ok (Doc d)) (Ok (Doc e)) → d ≡ e
     by is = cc
 
-module _ (hosted : List Hosted) (proxies : List Proxy) (ids : List (List ℕ)) (old new : Shelf) where
+module _ (hosted : List Hosted) (proxies : List Proxy) (ids : List (List ℕ)) (old new : GroupShelf) where
   -- a shelf as it was
   pub same-shelved : AreSame old new → IsShelved hosted proxies ids old → IsShelved hosted proxies ids new
   same-shelved same right d rule doc is = right d rule doc (sym (same (text_of_directory d)) ∙ is)
@@ -183,7 +183,7 @@ module _ (hosted : List Hosted) (proxies : List Proxy) (ids : List (List ℕ)) (
       ] refl (sym (kept (text_of_directory e)) ∙ is)
 
 -- a document that was put on a shelf is there
-pub put-there : (old new : Shelf) (text : List ℕ) (doc : Document) → ((at : List ℕ) → shelved_at at new ≡ (if bytes_eq at text then Some doc else shelved_at at old)) → IsSome (shelved_at text new)
+pub put-there : (old new : GroupShelf) (text : List ℕ) (doc : Document) → ((at : List ℕ) → shelved_at at new ≡ (if bytes_eq at text then Some doc else shelved_at at old)) → IsSome (shelved_at text new)
 put-there old new text doc kept =
     subst (λ (o : Option Document). IsSome o) (sym (kept text ∙ ap (λ b. cond b (Some doc) (shelved_at text old)) ((bytes_eq-Decides text text).1 refl))) refl
 

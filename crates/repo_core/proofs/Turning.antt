@@ -35,6 +35,8 @@ use Rattle.repo_laws.proofs.Keeping.{keeps-sound}
 use Rattle.repo_laws.proofs.Moments.{last_of}
 use Rattle.row_tables.specs.Applying.{with_items}
 use Rattle.row_tables.specs.Commits.{tables_with}
+use Rattle.row_tables.specs.Stopping.{tried}
+use Rattle.row_tables.specs.Stops.{HasReplyStop, IsCommitted, Unsettled}
 use Rattle.std.specs.Option.{ForSome}
 use Rattle.std.proofs.lemmas.Bool.{false≢true, ne_eqb}
 use Rattle.std.proofs.lemmas.Option.{none-some}
@@ -166,6 +168,11 @@ module _ (w begun new : Parts) (moment : ℕ) (command : Command) (reply : Reply
   pub turned-tables : told' ≡ tables_with (recorded (effects_of w.settings old made)) told
   turned-tables = turned.tables ∙ ap (λ (t : Turn). tables_with (recorded (if is_free reply then [] else t.effects)) told) turn_is
 
+  -- so what it was to record
+  pub turned-stop : (now then_so : Unsettled) → HasReplyStop (recorded (turn begun.settings begun.state begun.state.last command).effects) told now then_so reply
+      → HasReplyStop (tried w.settings old made) told now then_so reply
+  turned-stop now then_so stops = subst (λ (t : Turn). HasReplyStop (recorded t.effects) told now then_so reply) turn_is stops
+
 -- a state is as orderly once the clock was read
 pub ticked-orderly : (w : Parts) (moment calls : ℕ) → IsOrderly w → IsOrderly (record { settings = w.settings; state = ticked w.state moment 0; calls = calls })
 ticked-orderly w moment calls orderly = record {
@@ -188,9 +195,9 @@ some-items [] some = absurd (some refl)
 some-items (item ∷ items) some = ap not (ne_eqb (length (item ∷ items)) 0 (λ none. omega (arith, none)))
 
 -- behind a commit
-pub settled-by : (reply : Reply) (unsettled : Bool) → unsettled ≡ false → IsSettledBy reply unsettled
-settled-by (collected expired blobs) unsettled is = is
-settled-by reply unsettled is = tt
+pub settled-by : (reply : Reply) (pending : Option (List Item)) → pending ≡ None → IsSettledBy reply pending
+settled-by (collected expired blobs) pending is = is
+settled-by reply pending is = tt
 
 -- a turn that asks no records records nothing
 pub quiet : (tables : Option Tables) → tables ≡ tables_with [] tables
@@ -310,3 +317,23 @@ kept-more old new e kept fits state settings tables =
           let more = entry-recorded old.settings (named-apart old.settings kept.form) old.state e before fits kept.sound.order kept.sound.places kept.sound.sessions was.order was.holds in
           let same : with_items before (recorded (effects_of old.settings old.state e)) ≡ t = cc in
           subst (Tell (after old.settings old.state e)) same (record { order = more.1; holds = more.2 })
+
+-- what asks no records leaves unsettled what was so
+still-stop : (items : List Item) (told : Option Tables) (now : Unsettled) (reply : Reply) → items ≡ [] → (reply ≡ store_fault → ⊥) → HasReplyStop items told now now reply
+still-stop items told now store_fault none other = absurd (other refl)
+still-stop items told now no_memory none other = inl refl
+still-stop items told now reply none other = inl (none, refl)
+
+pub alone-stop : (old new : Parts) (command : Command) (reply : Reply) (told : Option Tables) (now : Unsettled) → recorded (turn old.settings old.state old.state.last command).effects ≡ []
+    → Turned old new command reply → HasReplyStop (recorded (turn old.settings old.state old.state.last command).effects) told now now reply
+alone-stop old new command reply told now none turned =
+    still-stop (recorded (turn old.settings old.state old.state.last command).effects) told now reply none (λ failed. elim turned.answered as (λ _. ⊥) [
+      | (inl is) ↦ false≢true (sym (no-free old.settings old.state old.state.last command) ∙ ap is_free (sym is ∙ failed))
+      | (inr is) ↦ let x : no_memory ≡ store_fault = sym is.0 ∙ failed in cc
+    ])
+
+-- a reply that is none of failure
+pub committed-stop : (items : List Item) (told : Option Tables) (before after : Unsettled) (reply : Reply) → is_free reply ≡ false → IsCommitted items told before after → HasReplyStop items told before after reply
+committed-stop items told before after store_fault bound done = absurd (false≢true (sym bound))
+committed-stop items told before after no_memory bound done = absurd (false≢true (sym bound))
+committed-stop items told before after reply bound done = done

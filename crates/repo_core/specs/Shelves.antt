@@ -7,7 +7,7 @@ use Rattle.mvn_coords.specs.Segment.{Segment, levels, path_of_levels}
 use Rattle.mvn_metadata.specs.Document.{Document, merge}
 use Rattle.path_patterns.specs.Pattern.{is_let_through}
 use Rattle.group_view.specs.Shelved.{shelved_at}
-use Rattle.group_view.specs.declared.shelf.Shelf.{Shelf}
+use Rattle.group_view.specs.declared.shelf.GroupShelf.{GroupShelf}
 use Rattle.repo_model.specs.Data.{Hosted, Kept, Proxy}
 use Rattle.repo_model.specs.Document.{document}
 use Rattle.repo_model.specs.Proxies.{kept_at}
@@ -35,12 +35,12 @@ documents_now hosted proxies d [] = []
 documents_now hosted proxies d (id ∷ ids) = with_some (document_now hosted proxies d id) (documents_now hosted proxies d ids)
 
 -- each document on the shelf of a group with these members is the one that theirs are now
-abbrev pub IsShelved : List Hosted → List Proxy → List (List ℕ) → Shelf → Type 0
+abbrev pub IsShelved : List Hosted → List Proxy → List (List ℕ) → GroupShelf → Type 0
 IsShelved hosted proxies ids shelf =
     (d : Directory) → IsDirectory d → ForSome (shelved_at (text_of_directory d) shelf) (λ doc. merge (documents_now hosted proxies d ids) ≡ Some doc)
 
 -- each group has a shelf
-abbrev pub AreShelved : List GroupRule → List Hosted → List Proxy → List Shelf → Type 0
+abbrev pub AreShelved : List GroupRule → List Hosted → List Proxy → List GroupShelf → Type 0
 AreShelved [] hosted proxies [] = Unit {0}
 AreShelved (group ∷ groups) hosted proxies (shelf ∷ shelves) = IsShelved hosted proxies group.members shelf × AreShelved groups hosted proxies shelves
 AreShelved groups hosted proxies shelves = ⊥
@@ -70,10 +70,10 @@ is_gone (changed.Document path) = is_above (levels path.now)
 is_gone changed.All = everywhere
 
 -- what is gone was forgotten, and the rest stays
-abbrev pub HasForgotten : (List ℕ → Bool) → Shelf → Shelf → Type 0
+abbrev pub HasForgotten : (List ℕ → Bool) → GroupShelf → GroupShelf → Type 0
 HasForgotten gone old new = (text : List ℕ) → shelved_at text new ≡ (if gone text then None else shelved_at text old)
 
-abbrev pub HaveForgotten : (List ℕ → Bool) → List Shelf → List Shelf → Type 0
+abbrev pub HaveForgotten : (List ℕ → Bool) → List GroupShelf → List GroupShelf → Type 0
 HaveForgotten gone [] [] = Unit {0}
 HaveForgotten gone (old ∷ olds) (new ∷ news) = HasForgotten gone old new × HaveForgotten gone olds news
 HaveForgotten gone olds news = ⊥

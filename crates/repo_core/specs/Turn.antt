@@ -1,9 +1,10 @@
 -- What one turn answers and leaves, its moment being settled.
-use Rattle.std.specs.Prelude.{◌≡◌, ◌⊎◌, ℕ, ◌≤◌, Bool, false, IsTrue, if◌then◌else◌, List, [], Option}
+use Rattle.std.specs.Prelude.{◌≡◌, ◌⊎◌, ℕ, ◌≤◌, IsTrue, if◌then◌else◌, List, [], None, Option}
 use Rattle.ordered_rows.specs.Recording.{FitWhereTold, HasReplyCause}
 use Rattle.repo_model.specs.Settings.{Settings}
 use Rattle.repo_model.specs.State.{State}
 use Rattle.repo_model.specs.Tables.{Tables}
+use Rattle.repo_model.specs.declared.item.Item.{Item}
 use Rattle.repo_model.specs.Effect.{Effect, recorded, with_effects}
 use Rattle.repo_model.specs.Command.{Command, collect}
 use Rattle.repo_model.specs.History.{commits, latest_moment}
@@ -46,13 +47,13 @@ pub record Recorded (old new : Parts) (command : Command) (reply : Reply) (told 
   pub cause : HasReplyCause faults faults' reply
 
 -- a Collect that answers what it collected was committed, so that no change whose commit failed is found any more
-abbrev pub IsSettledBy : Reply → Bool → Type 0
-IsSettledBy (collected expired blobs) unsettled = unsettled ≡ false
-IsSettledBy reply unsettled = Unit {0}
+abbrev pub IsSettledBy : Reply → Option (List Item) → Type 0
+IsSettledBy (collected expired blobs) pending = pending ≡ None
+IsSettledBy reply pending = Unit {0}
 
-abbrev pub IsSettled : Command → Reply → Bool → Type 0
-IsSettled collect reply unsettled = IsSettledBy reply unsettled
-IsSettled command reply unsettled = Unit {0}
+abbrev pub IsSettled : Command → Reply → Option (List Item) → Type 0
+IsSettled collect reply pending = IsSettledBy reply pending
+IsSettled command reply pending = Unit {0}
 
 -- whatever the moment of the turn is, what it records fits the tables
 abbrev pub MayRecord : Parts → Option Tables → Command → Type 0

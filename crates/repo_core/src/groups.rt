@@ -17,7 +17,7 @@ use crate::looked::{Asked, Goods, Looked};
 use crate::members::{
     document_of_member, document_shown, is_of_document, seen_by_member, stance_of_member,
 };
-use group_view::{Shelf, Stance, Turn, merged, next};
+use group_view::{GroupShelf, Stance, Turn, merged, next};
 use mvn_coords::{Dir, Kind, Side, kind_of};
 use mvn_metadata::Doc;
 use outside::{Held, NoMemory};
@@ -128,7 +128,7 @@ fn document_of_all<H: Held>(
 fn document_on_shelf<'a, H: Held>(
     alloc: Global,
     goods: &Goods<'a, H>,
-    shelf: &mut Shelf,
+    shelf: &mut GroupShelf,
     members: &[Text],
     asked: &Asked<'a>,
     dir: &Dir<'_>,
@@ -159,7 +159,7 @@ fn document_on_shelf<'a, H: Held>(
 fn document_in_group<'a, H: Held>(
     alloc: Global,
     goods: &Goods<'a, H>,
-    shelf: &mut Shelf,
+    shelf: &mut GroupShelf,
     members: &[Text],
     asked: &Asked<'a>,
     dir: &Dir<'_>,
@@ -181,7 +181,7 @@ fn document_in_group<'a, H: Held>(
 pub fn seen_in_group<'a, H: Held>(
     alloc: Global,
     goods: &Goods<'a, H>,
-    shelf: &mut Shelf,
+    shelf: &mut GroupShelf,
     members: &[Text],
     asked: &Asked<'a>,
 ) -> Result<Looked<'a, H>, NoMemory>

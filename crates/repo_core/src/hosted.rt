@@ -16,6 +16,7 @@ ghost use Rattle.row_tables.specs.Records.{HasCommitCause};
 ghost use Rattle.repo_model.specs.Effect.{recorded};
 ghost use Rattle.repo_model.specs.Reply.{is_free};
 ghost use Rattle.row_tables.specs.Commits.{tables_with};
+ghost use Rattle.row_tables.specs.Stops.{HasCommitStop, HasReplyStop};
 ghost use Rattle.row_tables.specs.Items.{is_file_path, is_number};
 ghost use Rattle.repo_core.specs.Hosted.{rules_of, rows_in, with_rows, put_due, put_in, rows_put};
 ghost use Rattle.repo_core.specs.Turn.{IsDueOrFree};
@@ -91,6 +92,8 @@ pub fn put<H: Held, K: Records>(
     ensures tables { K.tables records.new ≡ (if is_free (shown_put result) then K.tables records.old
         else tables_with (recorded (put_in id.now path.now (shown_parcel parcel) moment repos.old.items).effects) (K.tables records.old)) }
     ensures cause { HasReplyCause (K.faults records.old) (K.faults records.new) (shown_put result) }
+    ensures stops { HasReplyStop (recorded (put_in id.now path.now (shown_parcel parcel) moment repos.old.items).effects)
+        (K.tables records.old) (K.unsettled records.old) (K.unsettled records.new) (shown_put result) }
     ensures ready { K.ready records.new }
 {
     let place = place_of(repos, id);
@@ -118,6 +121,8 @@ pub fn unlist<H: Held, K: Records>(
     ensures untold { OnErr result (K.tables records.new ≡ K.tables records.old) }
     ensures cause { HasCommitCause (K.faults records.old) (K.faults records.new) result }
     ensures asked { result ≡ Err CommitFault.Failed → recorded (unlist_of moment (find (is_repository id.now) repos.old.items)).effects ≢ [] }
+    ensures stops { HasCommitStop (recorded (unlist_of moment (find (is_repository id.now) repos.old.items)).effects)
+        (K.tables records.old) (K.unsettled records.old) (K.unsettled records.new) result }
     ensures ready { K.ready records.new }
 {
     let place = place_of(repos, id);

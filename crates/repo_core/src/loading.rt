@@ -1,5 +1,5 @@
 //! What is recorded, with all digests.
-ghost use Rattle.std.specs.Prelude.{◌≡◌, false, IfErr, IfOk, IfSome, None, OnErr, OnOk};
+ghost use Rattle.std.specs.Prelude.{◌≡◌, IfErr, IfOk, IfSome, None, OnErr, OnOk};
 ghost use Rattle.std.specs.Option.{option_map};
 ghost use Rattle.blob_audit.specs.Order.{all_rows};
 ghost use Rattle.repo_model.specs.Tables.{Tables as Plain};
@@ -24,7 +24,7 @@ pub fn load<K: Records, B: Blobs>(
     ensures tables { IfOk result (AreCompleted (K.tables records.old) (K.loading records.old) (B.shelf blobs.old)) }
     ensures built { IfOk result IsBuiltUp }
     ensures told { IfOk result (λ t. K.tables records.new ≡ option_map (λ _. t) (K.tables records.old)) }
-    ensures settled { OnOk result (K.unsettled records.new ≡ false) }
+    ensures settled { OnOk result ((K.unsettled records.new).pending ≡ None) }
     ensures ready { OnOk result (K.ready records.new) }
     ensures same { OnOk result (K.faults records.new ≡ K.faults records.old) }
     ensures still { OnOk result (B.faults blobs.new ≡ B.faults blobs.old) }

@@ -18,7 +18,7 @@ use crate::looked::{Asked, Goods, Looked};
 use crate::members::{seen_by_member, seen_by_repo};
 use crate::plans::plan_fetch;
 use blob_yard::{DrawFault, Yard};
-use group_view::Shelf;
+use group_view::GroupShelf;
 use hosted_repo::Seen;
 use outside::{Held, NoMemory, Parcel};
 use repo_config::Settings;
@@ -30,7 +30,7 @@ fn look_at<'a, H: Held>(
     alloc: Global,
     settings: &Settings,
     goods: &Goods<'a, H>,
-    shelves: &mut Vec<Shelf>,
+    shelves: &mut Vec<GroupShelf>,
     id: &str,
     asked: &Asked<'a>,
 ) -> Result<Looked<'a, H>, NoMemory>
@@ -60,7 +60,7 @@ pub fn look<H: Held>(
     alloc: Global,
     settings: &Settings,
     goods: &Goods<'_, H>,
-    shelves: &mut Vec<Shelf>,
+    shelves: &mut Vec<GroupShelf>,
     yard: &mut Yard,
     id: &str,
     asked: &Asked<'_>,

@@ -12,7 +12,7 @@ use crate::shelves::{changed_by_put, changed_by_unlist, forget};
 use crate::turn::next_moment;
 use blob_yard::{DrawFault, Yard};
 use deploy_session::Sessions;
-use group_view::Shelf;
+use group_view::GroupShelf;
 use hosted_repo::Hosted;
 use mvn_digest::Digest;
 use outside::{Clock, Held, Parcel};
@@ -28,7 +28,7 @@ use std::marker::Model;
 pub struct Stock<H: Held> {
     pub repos: Vec<Hosted<H>>,
     pub proxies: Vec<Proxy<H>>,
-    pub shelves: Vec<Shelf>,
+    pub shelves: Vec<GroupShelf>,
     pub yard: Yard,
     pub sessions: Sessions<H>,
     pub last: u64,
@@ -41,7 +41,7 @@ pub struct Machine<C: Clock, H: Held> {
     settings: Settings,
     pub(crate) repos: Vec<Hosted<H>>,
     pub(crate) proxies: Vec<Proxy<H>>,
-    pub(crate) shelves: Vec<Shelf>,
+    pub(crate) shelves: Vec<GroupShelf>,
     pub(crate) yard: Yard,
     pub(crate) sessions: Sessions<H>,
     pub(crate) last: u64,
@@ -100,6 +100,8 @@ impl<C: Clock, H: Held> Machine<C, H> {
     ghost use Rattle.repo_model.specs.Shown.{shown_parcel, shown_command, shown_reply, entry_of};
     ghost use Rattle.repo_model.specs.Turn.{turn};
     ghost use Rattle.row_tables.specs.Commits.{tables_with};
+    ghost use Rattle.row_tables.specs.Stopping.{tried};
+    ghost use Rattle.row_tables.specs.Stops.{HasReplyStop};
     ghost use Rattle.hosted_repo.specs.Expired.{blob_of};
     ghost use Rattle.ordered_rows.specs.Recording.{FitWhereTold, HasReplyCause};
     ghost use Rattle.repo_core.specs.Deploys.{AreStagedInUse};
@@ -164,7 +166,9 @@ impl<C: Clock, H: Held> Machine<C, H> {
         ensures tables { K.tables records.new ≡ tables_with (recorded (effects_of self.old.settings (counting (K.faults records.old) self.old.state)
             (entry_of command self.new.state.last result (K.faults records.new)))) (K.tables records.old) }
         ensures cause { HasReplyCause (K.faults records.old) (K.faults records.new) (shown_reply result) }
-        ensures settled { IsSettled (shown_command command) (shown_reply result) (K.unsettled records.new) }
+        ensures settled { IsSettled (shown_command command) (shown_reply result) (K.unsettled records.new).pending }
+        ensures stops { HasReplyStop (tried self.old.settings (counting (K.faults records.old) self.old.state)
+            (entry_of command self.new.state.last result (K.faults records.new))) (K.tables records.old) (K.unsettled records.old) (K.unsettled records.new) (shown_reply result) }
         ensures ready { K.ready records.new }
         ensures settings { self.new.settings ≡ self.old.settings }
         ensures calls { self.new.calls ≡ min (self.old.calls + 1) last_count }
@@ -213,7 +217,8 @@ impl<C: Clock, H: Held> Machine<C, H> {
         requires ready { K.ready records.old }
         requires items { FitWhereTold (K.tables records.old) (recorded (turn self.old.settings self.old.state self.old.state.last (shown_command command)).effects) }
         ensures turn { Recorded self.old self.new (shown_command command) (shown_reply result) (K.tables records.old) (K.tables records.new) (K.faults records.old) (K.faults records.new) }
-        ensures settled { IsSettled (shown_command command) (shown_reply result) (K.unsettled records.new) }
+        ensures settled { IsSettled (shown_command command) (shown_reply result) (K.unsettled records.new).pending }
+        ensures stops { HasReplyStop (recorded (turn self.old.settings self.old.state self.old.state.last (shown_command command)).effects) (K.tables records.old) (K.unsettled records.old) (K.unsettled records.new) (shown_reply result) }
         ensures ready { K.ready records.new }
     {
         match command {
@@ -309,6 +314,8 @@ impl<C: Clock, H: Held> Machine<C, H> {
         requires ready { K.ready records.old }
         requires items { FitWhereTold (K.tables records.old) (recorded (turn self.old.settings self.old.state self.old.state.last (put repo.now path.now draft (shown_parcel parcel))).effects) }
         ensures turn { Recorded self.old self.new (put repo.now path.now draft (shown_parcel parcel)) (shown_reply result) (K.tables records.old) (K.tables records.new) (K.faults records.old) (K.faults records.new) }
+        ensures stops { HasReplyStop (recorded (turn self.old.settings self.old.state self.old.state.last (put repo.now path.now draft (shown_parcel parcel))).effects)
+            (K.tables records.old) (K.unsettled records.old) (K.unsettled records.new) (shown_reply result) }
         ensures ready { K.ready records.new }
     {
         if !self.yard.is_draft(draft) {
@@ -339,6 +346,7 @@ impl<C: Clock, H: Held> Machine<C, H> {
         requires ready { K.ready records.old }
         requires items { FitWhereTold (K.tables records.old) (recorded (turn self.old.settings self.old.state self.old.state.last (unlist repo.now)).effects) }
         ensures turn { Recorded self.old self.new (unlist repo.now) (shown_reply result) (K.tables records.old) (K.tables records.new) (K.faults records.old) (K.faults records.new) }
+        ensures stops { HasReplyStop (recorded (turn self.old.settings self.old.state self.old.state.last (unlist repo.now)).effects) (K.tables records.old) (K.unsettled records.old) (K.unsettled records.new) (shown_reply result) }
         ensures ready { K.ready records.new }
     {
         let did = unlist(&mut self.repos, records, repo, self.last);
@@ -356,7 +364,8 @@ impl<C: Clock, H: Held> Machine<C, H> {
         requires ready { K.ready records.old }
         requires items { FitWhereTold (K.tables records.old) (recorded (turn self.old.settings self.old.state self.old.state.last collect).effects) }
         ensures turn { Recorded self.old self.new collect (shown_reply result) (K.tables records.old) (K.tables records.new) (K.faults records.old) (K.faults records.new) }
-        ensures settled { IsSettledBy (shown_reply result) (K.unsettled records.new) }
+        ensures settled { IsSettledBy (shown_reply result) (K.unsettled records.new).pending }
+        ensures stops { HasReplyStop (recorded (turn self.old.settings self.old.state self.old.state.last collect).effects) (K.tables records.old) (K.unsettled records.old) (K.unsettled records.new) (shown_reply result) }
         ensures ready { K.ready records.new }
     {
         let alloc = *self.repos.allocator();

@@ -133,7 +133,7 @@ pub fn seen_by_proxy<'a, H: Held>(
     )
 }
 
-/// What a hosted repository has at a path. Only a document or its side file takes memory.
+/// What a hosted repository has at a path. Only of a document, of which a share is taken, may memory be wanting.
 pub fn seen_by_repo<'a, H: Held>(repo: &'a Hosted<H>, path: &str) -> Result<Looked<'a, H>, NoMemory>
     ensures { IfOk result (λ l. shown_looked l ≡ seen_at repo.now.rows path.now (kind path.now)) }
 {

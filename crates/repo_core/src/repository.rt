@@ -14,7 +14,8 @@ use std::marker::Model;
 ///
 /// Its state is always sound: the repositories and proxies are those of the settings, their rows in byte order of path, each path once;
 /// each blob number stands in one place at most; what fades is a snapshot's. The tables that the records tell, where they do,
-/// hold the state: its rows, the results of its sessions and its numbers.
+/// hold the state: its rows, the results of its sessions and its numbers. Each document that is kept is the one of the rows now, and
+/// each that is kept of a group the one of what its members have now.
 #[derive(Drop)]
 pub struct Core<K: Records, C: Clock, H: Held> {
     machine: Machine<C, H>,
@@ -26,10 +27,10 @@ impl<K: Records, C: Clock, H: Held> Model for Core<K, C, H> {
 
     ghost Value = { Whole };
 
-    ghost view = { λ c. whole_of c.machine (K.tables c.records) (K.unsettled c.records) (K.faults c.records) };
+    ghost view = { λ c. whole_of c.machine (K.tables c.records) (K.unsettled c.records).pending (K.faults c.records) };
 
     ghost invariant = { λ c. record {
-      kept : IsKept (whole_of c.machine (K.tables c.records) (K.unsettled c.records) (K.faults c.records));
+      kept : IsKept (whole_of c.machine (K.tables c.records) (K.unsettled c.records).pending (K.faults c.records));
       ready : K.ready c.records;
     } };
 }
@@ -48,14 +49,16 @@ impl<K: Records, C: Clock, H: Held> Core<K, C, H> {
     ghost use Rattle.repo_laws.specs.Laws.{KeepsReleases};
     ghost use Rattle.repo_laws.specs.Sound.{IsSound};
     ghost use Rattle.row_tables.specs.Commits.{tables_with};
+    ghost use Rattle.row_tables.specs.Stopping.{Pends};
+    ghost use Rattle.row_tables.specs.Stops.{Rests};
     ghost use Rattle.repo_core.specs.Turn.{IsSettled};
     ghost use Rattle.repo_core.specs.Whole.{IsKept, whole_of};
 
     /// The core of a machine and of records that are ready. The state is sound, and the tables, where told, hold it.
     pub(crate) fn over(machine: Machine<C, H>, records: K) -> Core<K, C, H>
-        requires kept { IsKept (whole_of machine (K.tables records) (K.unsettled records) (K.faults records)) }
+        requires kept { IsKept (whole_of machine (K.tables records) (K.unsettled records).pending (K.faults records)) }
         requires ready { K.ready records }
-        ensures { result ≡ whole_of machine (K.tables records) (K.unsettled records) (K.faults records) }
+        ensures { result ≡ whole_of machine (K.tables records) (K.unsettled records).pending (K.faults records) }
     {
         Core { machine, records }
     }
@@ -69,6 +72,9 @@ impl<K: Records, C: Clock, H: Held> Core<K, C, H> {
     /// anything else is. A release's row stands behind each call as it stood before. A draft for a file is given only
     /// where the repository takes the file, and what a look says to fetch is a plan of the settings. A `Collect` is always committed, an empty one too: where it gives blobs out to be
     /// removed, no change whose commit failed, and which may name one of them, is found any more.
+    ///
+    /// Behind the call no change whose commit failed is pending; or it recorded nothing, and what was pending is so still; or the records
+    /// failed, and what it was to record is pending: a start may find that too until it is undone.
     pub fn call(&mut self, command: Command<H>) -> Reply<H>
         requires { IsTrue (meets self.old.settings (shown_command command)) }
         ensures fits { Fits self.old.settings self.old.state (entry_of command self.new.state.last result self.new.state.faults) }
@@ -76,7 +82,9 @@ impl<K: Records, C: Clock, H: Held> Core<K, C, H> {
         ensures tables { self.new.tables ≡ tables_with (recorded (effects_of self.old.settings self.old.state
             (entry_of command self.new.state.last result self.new.state.faults))) self.old.tables }
         ensures holds { ForSome self.new.tables (λ t. Holds t self.new.state) }
-        ensures settled { IsSettled (shown_command command) (shown_reply result) self.new.unsettled }
+        ensures pends { Pends self.old.settings self.old.state (entry_of command self.new.state.last result self.new.state.faults)
+            self.old.pending self.new.pending }
+        ensures settled { IsSettled (shown_command command) (shown_reply result) self.new.pending }
         ensures cause { HasReplyCause self.old.state.faults self.new.state.faults (shown_reply result) }
         ensures answer { IsAnswerTo self.old.settings (shown_command command) (shown_reply result) }
         ensures settings { self.new.settings ≡ self.old.settings }
@@ -116,7 +124,8 @@ impl<K: Records, C: Clock, H: Held> Core<K, C, H> {
     pub fn end(self) -> (K, C)
         ensures tables { K.tables result.0 ≡ self.tables }
         ensures faults { K.faults result.0 ≡ self.state.faults }
-        ensures settled { K.unsettled result.0 ≡ self.unsettled }
+        ensures settled { (K.unsettled result.0).pending ≡ self.pending }
+        ensures rests { Rests (K.tables result.0) (K.unsettled result.0) }
         ensures ready { K.ready result.0 }
         ensures clock { C.moments result.1 ≡ self.state.clock }
     {

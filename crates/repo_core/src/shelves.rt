@@ -12,7 +12,7 @@ ghost use Rattle.repo_core.specs.Changes.{gone_by_commit, gone_by_landing, gone_
 
 use deploy_session::Commit;
 use fetch_plan::Outcome;
-use group_view::Shelf;
+use group_view::GroupShelf;
 use hosted_repo::Put;
 use outside::{Held, NoMemory};
 use proxy_rules::Landed;
@@ -35,19 +35,19 @@ pub enum Changed<'a> {
 }
 
 /// A shelf for each group, with nothing on it.
-pub fn empty_shelves(alloc: Global, groups: &[GroupRule]) -> Result<Vec<Shelf>, NoMemory>
+pub fn empty_shelves(alloc: Global, groups: &[GroupRule]) -> Result<Vec<GroupShelf>, NoMemory>
     ensures { (hosted : List Hosted) (proxies : List Proxy) → IfOk result (λ shelves. AreShelved groups.now hosted proxies shelves.items) }
 {
     let mut shelves = Vec::new(alloc);
     for group in groups {
         let _ = group;
-        shelves.push(Shelf::new(alloc))?;
+        shelves.push(GroupShelf::new(alloc))?;
     }
     Ok(shelves)
 }
 
 // Forgets the documents of the directories above a file's path: up to its last slash, and up to the one before.
-fn forget_file(shelf: &mut Shelf, path: &str)
+fn forget_file(shelf: &mut GroupShelf, path: &str)
     ensures { HasForgotten (is_above_file (levels path.now)) shelf.old shelf.new }
 {
     let Some((version, _)) = path.rsplit_once('/') else {
@@ -61,7 +61,7 @@ fn forget_file(shelf: &mut Shelf, path: &str)
 }
 
 // Forgets the document of the directory above a document's path.
-fn forget_document(shelf: &mut Shelf, path: &str)
+fn forget_document(shelf: &mut GroupShelf, path: &str)
     ensures { HasForgotten (is_above (levels path.now)) shelf.old shelf.new }
 {
     if let Some((directory, _)) = path.rsplit_once('/') {
@@ -70,7 +70,7 @@ fn forget_document(shelf: &mut Shelf, path: &str)
 }
 
 // Forgets on one shelf what may have changed.
-fn forget_on(shelf: &mut Shelf, changed: &Changed<'_>)
+fn forget_on(shelf: &mut GroupShelf, changed: &Changed<'_>)
     ensures { HasForgotten (is_gone changed.now) shelf.old shelf.new }
 {
     match changed {
@@ -82,7 +82,7 @@ fn forget_on(shelf: &mut Shelf, changed: &Changed<'_>)
 }
 
 /// Forgets on each shelf what may have changed. It takes no memory.
-pub fn forget(shelves: &mut Vec<Shelf>, changed: &Changed<'_>)
+pub fn forget(shelves: &mut Vec<GroupShelf>, changed: &Changed<'_>)
     ensures { HaveForgotten (is_gone changed.now) shelves.old.items shelves.new.items }
 {
     for place in 0..shelves.len() {

@@ -1,5 +1,5 @@
 //! A start: what is recorded and stored becomes a repository.
-ghost use Rattle.std.specs.Prelude.{◌≡◌, ◌⊎◌, false, [], None, Option, IfOk, IfErr, IfSome, OnOk, OnErr};
+ghost use Rattle.std.specs.Prelude.{◌≡◌, ◌⊎◌, [], None, Option, IfOk, IfErr, IfSome, OnOk, OnErr};
 ghost use Rattle.std.specs.Option.{ForSome, option_map};
 ghost use Rattle.outside.specs.Moments.{Moments};
 ghost use Rattle.repo_config.specs.Form.{IsSettings};
@@ -97,7 +97,7 @@ pub fn start<K: Records, B: Blobs, C: Clock>(
     ensures complete { IfOk result (λ core. ForSome core.tables IsComplete) }
     ensures stands { IfOk result (λ core. ForSome core.tables (λ t. StandsFor t core.state)) }
     ensures calls { IfOk result (λ core. core.calls ≡ 0) }
-    ensures settled { IfOk result (λ core. core.unsettled ≡ false) }
+    ensures settled { IfOk result (λ core. core.pending ≡ None) }
     // Where nothing was recorded or stored yet, it is the state before the first turn.
     ensures opening { IfOk result (λ core. IfSome (K.tables records) (λ t. t ≡ no_tables → IfSome (B.shelf blobs.old).blobs (λ them. them ≡ []
         → core.state ≡ counting (K.faults records) (opening settings (C.moments clock))))) }

@@ -1,5 +1,5 @@
 //! A start's first step: rows without further digests are given them.
-ghost use Rattle.std.specs.Prelude.{◌≡◌, ◌↔◌, true, false, Ok, IfOk, IfSome, OnOk, OnErr};
+ghost use Rattle.std.specs.Prelude.{◌≡◌, ◌↔◌, true, None, Ok, IfOk, IfSome, OnOk, OnErr};
 ghost use Rattle.std.specs.Option.{option_map};
 ghost use Rattle.blob_audit.specs.Order.{all_files, all_rows};
 ghost use Rattle.repo_model.specs.Tables.{AreComplete};
@@ -81,7 +81,7 @@ pub fn complete<K: Records, B: Blobs>(
         IsFirstDamaged (B.shelf blobs.old) (all_rows tables.old) damage × (K.tables records.new ≡ K.tables records.old)) }
     ensures still { IsComplete tables.old → (result ≡ Ok tt) × (records.new ≡ records.old) × (blobs.new ≡ blobs.old) × (tables.new ≡ tables.old) }
     ensures cause { HasCompletionCause (K.faults records.old) (K.faults records.new) (B.faults blobs.old) (B.faults blobs.new) result }
-    ensures settled { K.unsettled records.old ≡ false → OnOk result (K.unsettled records.new ≡ false) }
+    ensures settled { (K.unsettled records.old).pending ≡ None → OnOk result ((K.unsettled records.new).pending ≡ None) }
     ensures ready { K.ready records.new }
     ensures kept { B.shelf blobs.new ≡ B.shelf blobs.old }
 {

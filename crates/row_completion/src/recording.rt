@@ -1,5 +1,5 @@
 //! Items that are committed, at most 1,000 in one change, beside the tables that they are applied to.
-ghost use Rattle.std.specs.Prelude.{◌≡◌, ◌+◌, ◌++◌, List, Ok, false, drop, min, length, reverse, take, IfOk, IfSome, OnOk, OnErr};
+ghost use Rattle.std.specs.Prelude.{◌≡◌, ◌+◌, ◌++◌, List, None, Ok, drop, min, length, reverse, take, IfOk, IfSome, OnOk, OnErr};
 ghost use Rattle.std.specs.List.{AllByRecursion};
 ghost use Rattle.std.specs.Option.{option_map};
 ghost use Rattle.ordered_rows.specs.Recording.{IsShort};
@@ -53,7 +53,7 @@ fn commit_first<K: Records>(
     ensures recorded { OnOk result (K.tables records.new ≡ option_map (λ _. tables.new) (K.tables records.old)) }
     ensures untold { OnErr result (K.tables records.new ≡ K.tables records.old) }
     ensures cause { HasCommitCause (K.faults records.old) (K.faults records.new) result }
-    ensures settled { OnOk result (K.unsettled records.new ≡ false) }
+    ensures settled { OnOk result ((K.unsettled records.new).pending ≡ None) }
     ensures ready { K.ready records.new }
 {
     let mut rest = items;
@@ -85,7 +85,7 @@ pub fn commit_all<K: Records>(
     ensures front { OnErr result ((front rest : List Recorded) × (items.items ≡ front ++ rest)
         × (K.tables records.new ≡ option_map (λ _. with_items tables.old front) (K.tables records.old))) }
     ensures cause { HasCommitCause (K.faults records.old) (K.faults records.new) result }
-    ensures settled { K.unsettled records.old ≡ false → OnOk result (K.unsettled records.new ≡ false) }
+    ensures settled { (K.unsettled records.old).pending ≡ None → OnOk result ((K.unsettled records.new).pending ≡ None) }
     ensures ready { K.ready records.new }
 {
     let mut rest = turned(items);

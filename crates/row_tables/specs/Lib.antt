@@ -4,3 +4,5 @@ pub mod Applying
 pub mod Records
 pub mod Recorded
 pub mod Commits
+pub mod Stops
+pub mod Stopping

@@ -78,6 +78,8 @@ impl Records for MemRecords {
 
     ghost ready = { λ _. Unit {0} };
 
+    ghost rests = { λ m ready t told. tt };
+
     fn load(&mut self, alloc: Global) -> Result<Tables, LoadFault> {
         if next_call(&self.failing, &mut self.calls, &mut self.faults).is_err() {
             return Err(LoadFault::Failed);

@@ -1,11 +1,12 @@
 //! Where changes are recorded.
-ghost use Rattle.std.specs.Prelude.{◌≡◌, ℕ, Bool, false, Option, None, IfOk, IfSome, OnOk, OnErr, Ok, IsTrue};
+ghost use Rattle.std.specs.Prelude.{◌≡◌, ℕ, Option, None, IfOk, IfSome, OnOk, OnErr, Ok, IsTrue};
 ghost use Rattle.std.specs.Option.{ForSome, option_map};
 ghost use Rattle.repo_model.specs.Tables.{Tables as Plain, applied};
 ghost use Rattle.row_tables.specs.Applying.{with_items};
 ghost use Rattle.row_tables.specs.Items.{are_of};
 ghost use Rattle.row_tables.specs.Recorded.{IsBuiltUp};
 ghost use Rattle.row_tables.specs.Records.{Expected, HasLoadCause, HasCommitCause, IsRefusal, LoadsUnlessFailed};
+ghost use Rattle.row_tables.specs.Stops.{Unsettled, nothing_unsettled, HasCommitStop, Rests};
 
 use crate::change::Change;
 use crate::faults::{CommitFault, LoadFault};
@@ -24,8 +25,9 @@ pub trait Records {
     // What a load gives that neither fails nor wants memory, where it is told.
     ghost loading: { Self → Option Expected } = { λ _. None };
 
-    // A change whose commit failed may still be found by a later start.
-    ghost unsettled: { Self → Bool } = { λ _. false };
+    // What a stop may leave beside the tables: the change whose commit failed and that a start may still find, and the file that
+    // a start reads, where it is told.
+    ghost unsettled: { Self → Unsettled } = { λ _. nothing_unsettled };
 
     // The last load has given the tables, so changes may be committed.
     ghost ready: { Self → Type 0 };
@@ -39,11 +41,11 @@ pub trait Records {
         ensures loads { IfSome (loading self.old) (λ expected. LoadsUnlessFailed expected result) }
         ensures refused { IsRefusal result → tables self.old ≡ None }
         ensures ready { OnOk result (ready self.new) }
-        ensures settled { OnOk result (unsettled self.new ≡ false) }
+        ensures settled { OnOk result ((unsettled self.new).pending ≡ None) }
         ensures same { tables self.new ≡ tables self.old };
 
     /// Adds a change, each file of which has its SHA-256 and SHA-512. At `Ok` it is recorded for good, and no change whose commit failed is found any more. At an error the
-    /// tables are as before, and stay so once a later commit or load succeeds.
+    /// tables are as before, and stay so once a later commit or load succeeds. A stop at any moment of the call leaves what a stop before it or behind it leaves.
     fn commit(&mut self, alloc: Global, change: &Change) -> Result<(), CommitFault>
         requires ready { ready self.old }
         requires whole { IsTrue (are_of Version.Second change.now) }
@@ -51,6 +53,10 @@ pub trait Records {
         ensures cause { HasCommitCause (faults self.old) (faults self.new) result }
         ensures ok { OnOk result (tables self.new ≡ option_map (λ t. with_items t change.now) (tables self.old)) }
         ensures err { OnErr result (tables self.new ≡ tables self.old) }
-        ensures settled { OnOk result (unsettled self.new ≡ false) }
+        ensures settled { OnOk result ((unsettled self.new).pending ≡ None) }
+        ensures stops { HasCommitStop change.now (tables self.old) (unsettled self.old) (unsettled self.new) result }
         ensures ready { ready self.new };
+
+    // A stop between calls leaves the tables, or these with the change that is pending.
+    ghost rests: { (r : Self) → ready r → Rests (tables r) (unsettled r) };
 }

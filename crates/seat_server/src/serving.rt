@@ -19,7 +19,7 @@ use std::sync::Wait;
 use turn_lock::{Seat, Turns};
 use turn_seats::{Asker, Repository};
 
-/// ServesStream the requests of a stream as `serve_stream` does, with a seat, which waits for its turn at each command.
+/// Serves the requests of a stream as `serve_stream` does, with a seat, which waits for its turn at each command.
 ///
 /// The stream's entries are those that the seat gained: its own calls, one after another, in the one history, which begins with
 /// all that the seat had seen. The settings are those of the repository.

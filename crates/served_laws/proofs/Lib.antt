@@ -1,5 +1,6 @@
 mod Woven
 mod Showing
+mod Stopped
 mod Runs
 mod Servers
 mod Opened

@@ -1,5 +1,5 @@
 -- A repository that was opened, and the entries that it made: its history is closed, and its records have what it recorded.
-use Rattle.std.proofs.Common.{◌≡◌, List, [], ◌∷◌, ◌++◌, map, Option, Some, None, refl, sym, subst, ap, ◌∙◌}
+use Rattle.std.proofs.Common.{◌≡◌, ℕ, List, [], ◌∷◌, ◌++◌, map, Option, Some, None, refl, sym, subst, ap, ◌∙◌}
 use Rattle.std.specs.Prelude.{IfSome}
 use Rattle.std.specs.Option.{option_map}
 use Rattle.std.proofs.lemmas.List.Sums.{fold-append}
@@ -21,6 +21,8 @@ use Rattle.repo_laws.proofs.StartedSound.{started-sound}
 use Rattle.repo_laws.proofs.Untouched.{untouched}
 use Rattle.table_laws.proofs.Building.{built-order, built-range}
 use Rattle.row_tables.specs.Commits.{tables_with}
+use Rattle.row_tables.specs.Stops.{IsOneOf, left_by}
+use Rattle.stop_laws.proofs.RunLaws.{among-finds}
 use Rattle.row_completion.specs.Completion.{IsDigestedWhereTold}
 use Rattle.row_completion.proofs.Digesting.{completes-so}
 use Rattle.repo_core.specs.CoreTurn.{CoreTurn}
@@ -28,12 +30,16 @@ use Rattle.repo_core.specs.Whole.{Whole}
 use Rattle.repo_course.specs.Cleaning.{Store}
 use Rattle.store_check.specs.Checking.{Recorded}
 use Rattle.repo_run.specs.Begun.{Begins, HoldsRecords}
+use Rattle.repo_run.specs.Clean as cleaning
 use Rattle.repo_run.specs.FirstConnection.{Makes}
+use Rattle.repo_run.specs.Surroundings.{View}
 use Rattle.turn_lock.specs.declared.view.Entry.{Entry as Call}
 use Rattle.turn_lock.specs.History as calls
 use Rattle.turn_seats.specs.Seated.{Sight, entry_of}
 use Rattle.settings_laws.proofs.Apart.{named-apart, proxies-apart}
 use Rattle.served_laws.specs.Runs.{CompletesTold, IsClosed, RecordsTables}
+use Rattle.served_laws.specs.Stopped.{AreMade, CleanOutlasts, Made, RecordsOutlastStops, entries_made, left_behind, pending_behind, turns_made}
+use Rattle.served_laws.proofs.Stopped.{GoesOn, outlasts, turns-go-on}
 
 same-tables : (tables : Option Tables) → tables ≡ option_map (λ t. with_items t []) tables
 same-tables None = refl
@@ -93,13 +99,19 @@ module _ (settings : Settings) (records : Recorded) (old cleared : Store) (clock
     untouched = untouched settings apart history core.state begun-sound.order begun-sound.places legal;
   }
 
+  begun-stands : StandsFor begins.tables core.state
+  begun-stands =
+      subst (StandsFor begins.tables) (sym begins.starts.state)
+      (started-stands settings begins.starts.tells begins.starts.stored clock records.faults begins.tables whole-order whole-range)
+
+  -- the tables that were loaded are those that are told
+  loaded-told : (before : Tables) → records.tables ≡ Some before → begins.completed.0 ≡ before
+  loaded-told before told_so = subst (λ (x : Option Tables). IfSome x (λ them. begins.completed.0 ≡ them)) told_so begins.completed.1.told
+
   pub begun-records : (records' : Recorded) (left : Whole) (history : List Entry) → Makes core history left → HoldsRecords left records'
       → RecordsTables settings records records' core.state history
   begun-records records' left history made holds before told_so =
-      let loaded : begins.completed.0 ≡ before = subst (λ (x : Option Tables). IfSome x (λ them. begins.completed.0 ≡ them)) told_so begins.completed.1.told in
-      let stands : StandsFor begins.tables core.state =
-      subst (StandsFor begins.tables) (sym begins.starts.state)
-      (started-stands settings begins.starts.tells begins.starts.stored clock records.faults begins.tables whole-order whole-range) in
+      let loaded : begins.completed.0 ≡ before = loaded-told before told_so in
       let now : records'.tables ≡ Some (with_items begins.tables (told settings core.state history)) =
       holds.0 ∙ left-tables history core left made
       ∙ ap (λ (s : Settings). option_map (λ t. with_items t (told s core.state history)) core.tables) begins.settings_are
@@ -110,10 +122,44 @@ module _ (settings : Settings) (records : Recorded) (old cleared : Store) (clock
           whole = begins.tables;
           order = subst InOrder loaded (built-order begins.completed.0 begins.completed.1.built);
           completes = subst (λ (t : Tables). Completes t begins.tables) loaded completes;
-          stands = stands;
+          stands = begun-stands;
           left = refl;
         },
       )
+
+  -- what it made outlasts stops
+  pub begun-outlasts : (records' : Recorded) (left : Whole) (made : List Made) → ((t : Tables) → core.tables ≡ Some t → GoesOn settings core t made left) → HoldsRecords left records'
+      → RecordsOutlastStops settings records core records' made
+  begun-outlasts records' left made goes_on holds before told_so =
+      let told_core : core.tables ≡ Some begins.tables = begins.tables_are ∙ ap (option_map (λ (t : Tables). begins.tables)) told_so in
+      let on : GoesOn settings core begins.tables made left = goes_on begins.tables told_core in
+      let last : Tables = with_items begins.tables (told settings core.state (entries_made made)) in
+      let told_back : records'.tables ≡ Some last = holds.0 ∙ on.tables in
+      let pending_back : records'.unsettled.pending ≡ pending_behind None made =
+      holds.2 ∙ on.pending ∙ ap (λ (p : Option (List Item)). pending_behind p made) begins.settled in
+      record {
+        whole = begins.tables;
+        told_core = told_core;
+        completes = subst (λ (t : Tables). Completes t begins.tables) (loaded-told before told_so) completes;
+        outlasts = outlasts settings apart (proxies-apart settings begins.form) core.state begins.tables made begun-sound whole-order begun-stands.holds on.legal
+            (subst (AreMade settings core.state made) begins.settled on.are);
+        told_back = told_back;
+        pending_back = pending_back;
+        found_back = among-finds (λ u. IsOneOf u (left_behind settings core.state begins.tables made None)) (left_by last records'.unsettled.pending) records'.unsettled.trail
+            records'.unsettled.trail (λ u is. subst (λ (p : Option (List Item)). IsOneOf u (left_by last p)) pending_back is) (holds.3 last told_back);
+      }
+
+  -- so do its turns, one after another
+  pub begun-turns : (records' : Recorded) (left : Whole) (entries : List Entry) (makes : Makes core entries left) → HoldsRecords left records'
+      → RecordsOutlastStops settings records core records' (turns_made entries core left makes)
+  begun-turns records' left entries makes =
+      begun-outlasts records' left (turns_made entries core left makes) (λ t told_so. turns-go-on settings entries core left t makes begins.settings_are told_so)
+
+-- and those of a cleaning
+pub clean-outlasts : (settings : Settings) (old new : View Store) (status : ℕ) (cleans : cleaning.Cleans settings old new status) → CleanOutlasts settings old new status cleans
+clean-outlasts settings old new status (cleaning.not_started fault fails clock told) = tt
+clean-outlasts settings old new status (cleaning.passed begun core cleared entries result begins makes passes holds clock told) =
+    begun-turns settings old.records old.place cleared old.clock begun begins new.records core entries makes holds
 
 -- the calls of a core as entries that it made
 module _ {C R : Type 0} (sight : Sight Whole C R) (steps : Whole → C → R → Whole → Type 0)

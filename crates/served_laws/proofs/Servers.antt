@@ -10,6 +10,7 @@ use Rattle.repo_run.specs.Surroundings.{FirstOnly, View}
 use Rattle.closed_laws.specs.Streams.{ShowsWhatWasNamed}
 use Rattle.closed_laws.proofs.NamedStreams.{turn-shows}
 use Rattle.turn_lock.specs.History.{end_of}
+use Rattle.turn_lock.specs.History as locked
 use Rattle.turn_lock.specs.Seats.{opening}
 use Rattle.turn_seats.specs.Seated.{entry_of}
 use Rattle.run_desks.specs.Seen.{Floor, Looks}
@@ -17,8 +18,10 @@ use Rattle.desk_work.specs.Rules.{Rules}
 use Rattle.run_serve.specs.Serving.{ServesBy, not_started, refused, started, worked}
 use Rattle.served_laws.specs.Runs.{CompletesTold, ServerShows, idle, served}
 use Rattle.served_laws.specs.Shown.{DesksShow}
-use Rattle.served_laws.proofs.Runs.{begun-closed, begun-completes, begun-records, made, told-completed}
+use Rattle.served_laws.specs.Stopped.{ServerOutlasts, calls_made}
+use Rattle.served_laws.proofs.Runs.{begun-closed, begun-completes, begun-outlasts, begun-records, made, told-completed}
 use Rattle.served_laws.proofs.Showing.{desks-show}
+use Rattle.served_laws.proofs.Stopped.{GoesOn, calls-go-on, stays}
 
 -- where only the first desk is another, and its port is as it was, all ports are
 same-ports : {D P : Type 0} (port : D → P) (Related : D → D → Type 0) → ((old new : D) → Related old new → port new ≡ port old)
@@ -66,3 +69,20 @@ module _ {L P D C R : Type 0} (looks : Looks L P D) (rules : Rules Whole C R)
       let made_so = subst (λ (w : Whole). Makes core history w) (sym works.ended.end) (subst (λ (w : Whole). Makes w history (end_of x works.ended.log)) opens.0 (made rules.sight rules.steps is_turn x works.ended.log works.ended.legal)) in
       served core begun history only closed_so (subst (λ (bs : List D). DesksShow looks (ShowsWhatWasNamed settings core.state) settings history begun bs) (sym works.back_are) shown)
       (begun-records settings old.records _ _ old.clock core begins new.records left history made_so holds)
+
+  -- what its repository made outlasts stops
+  pub server-outlasts : (old new : View (Floor (List D))) (status : ℕ) (serves : ServesBy looks rules settings old new status) → ServerOutlasts looks rules settings old new status serves
+  server-outlasts old new status (not_started fault only same_broom same_clock told) = tt
+  server-outlasts old new status (started core begun only (refused is holds same_clock told status_is)) =
+      let begins = (first-of _ old.place.desks begun only).2.2 in
+      begun-outlasts settings old.records _ _ old.clock core begins new.records core [] (λ t told_so. stays settings core t told_so) holds
+  server-outlasts old new status (started core begun only (worked turns seat left calls failed opens works holds same_clock told)) =
+      let begins = (first-of _ old.place.desks begun only).2.2 in
+      let log = works.ended.log in
+      let legal : locked.Legal rules.steps core log = subst (λ (w : Whole). locked.Legal rules.steps w log) opens.0 works.ended.legal in
+      let last : left ≡ end_of core log = works.ended.end ∙ ap (λ (w : Whole). end_of w log) opens.0 in
+      begun-outlasts settings old.records _ _ old.clock core begins new.records left (calls_made rules.sight log)
+      (λ t told_so.
+      subst (λ (w : Whole). GoesOn settings core t (calls_made rules.sight log) w) (sym last)
+      (calls-go-on settings rules.sight rules.steps is_turn log core t legal begins.settings_are told_so))
+      holds

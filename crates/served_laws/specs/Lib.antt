@@ -1,4 +1,5 @@
 pub mod Shown
 pub mod Runs
 pub mod Restarted
+pub mod Stopped
 pub mod Worked

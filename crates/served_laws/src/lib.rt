@@ -6,9 +6,11 @@
 
 mod laws;
 mod seats;
+mod stops;
 
 pub use laws::{
     later_runs_serve_named_files, replays_serve_named_files, restarted_servers_serve_named_files,
     servers_serve_named_files, worked_file_is_named,
 };
 pub use seats::seats_of_repositories_see_closed_histories;
+pub use stops::{cleanings_outlast_stops, replays_keep_created_files, servers_keep_created_files};

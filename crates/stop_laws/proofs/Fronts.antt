@@ -24,7 +24,7 @@ module _ (settings : Settings) where
   done-records : (s : State) (e : Entry) → recorded (effects_of settings s (as_done settings s e)) ≡ tried settings s e
   done-records s e = ap (λ b. recorded (if b then [] else (turn settings s e.moment e.command).effects)) (no-free settings s e.moment e.command)
 
-  failed-records : (s : State) (e : Entry) → e.reply ≡ store_fault → recorded (effects_of settings s e) ≡ []
+  pub failed-records : (s : State) (e : Entry) → e.reply ≡ store_fault → recorded (effects_of settings s e) ≡ []
   failed-records s e is = ap (λ r. recorded (if is_free r then [] else (turn settings s e.moment e.command).effects)) is
 
   told-parts : (xs ys : List Entry) (s : State) → told settings s (xs ++ ys) ≡ told settings s xs ++ told settings (end settings s xs) ys
@@ -33,7 +33,7 @@ module _ (settings : Settings) where
       ap (λ (l : List Item). recorded (effects_of settings s x) ++ l) (told-parts xs ys (after settings s x))
       ∙ sym (append_assoc (recorded (effects_of settings s x)) (told settings (after settings s x) xs) (told settings (end settings s (x ∷ xs)) ys))
 
-  legal-front : (xs ys : List Entry) (s : State) → Legal settings s (xs ++ ys) → Legal settings s xs
+  pub legal-front : (xs ys : List Entry) (s : State) → Legal settings s (xs ++ ys) → Legal settings s xs
   legal-front [] ys s legal = tt
   legal-front (x ∷ xs) ys s legal = (legal.0, legal-front xs ys (after settings s x) legal.1)
 
@@ -147,7 +147,7 @@ module _ (settings : Settings) where
         subst (λ (l : List Entry). Front s t l u) (append-nil entries) (among entries [] later (subst (Legal settings s) (sym (append-nil entries)) legal) all is)
 
   -- none of its entries asks for a Collect either
-  collects-front : (xs ys : List Entry) → AreNoCollects (xs ++ ys) → AreNoCollects xs
+  pub collects-front : (xs ys : List Entry) → AreNoCollects (xs ++ ys) → AreNoCollects xs
   collects-front [] ys none = tt
   collects-front (x ∷ xs) ys none = (none.0, collects-front xs ys none.1)
 

@@ -4,3 +4,5 @@ mod Outlasting
 mod OutlastingFiles
 mod Again
 mod AgainFiles
+mod Created
+pub mod RunLaws

@@ -1,9 +1,8 @@
 -- What a stop leaves of the records of a repository, as the tables that a start then finds.
-use Rattle.std.specs.Prelude.{◌≡◌, ◌⊎◌, false, List, [], ◌∷◌, ◌++◌, Option, Some, None}
+use Rattle.std.specs.Prelude.{◌≡◌, ◌⊎◌, false, List, [], ◌∷◌, ◌++◌, Option, None}
 use Rattle.std.specs.List.{AllByRecursion}
 use Rattle.repo_model.specs.declared.item.Item.{Item}
-use Rattle.repo_model.specs.Effect.{recorded}
-use Rattle.repo_model.specs.History.{Entry, after, effects_of, end, is_collect}
+use Rattle.repo_model.specs.History.{Entry, after, end, is_collect}
 use Rattle.repo_model.specs.Reply.{store_fault}
 use Rattle.repo_model.specs.Settings.{Settings}
 use Rattle.repo_model.specs.State.{State}
@@ -11,22 +10,8 @@ use Rattle.repo_model.specs.Tables.{Tables}
 use Rattle.repo_model.specs.Turn.{turn}
 use Rattle.repo_laws.specs.Described.{IsAmong}
 use Rattle.repo_laws.specs.Holds.{told, with_items}
-
--- What a start may find after a stop at one moment between calls: the tables, or these with the change whose commit failed.
-abbrev pub left_by : Tables → Option (List Item) → List Tables
-left_by t None = t ∷ []
-left_by t (Some items) = t ∷ with_items t items ∷ []
-
--- what an entry was to record
-abbrev pub tried : Settings → State → Entry → List Item
-tried settings s e = recorded (turn settings s e.moment e.command).effects
-
--- How an entry changes what is pending: nothing is pending behind it; or it records nothing, and what was pending stays so; or the
--- records failed, and what it tried is pending.
-pub data Pends (settings : Settings) (s : State) (e : Entry) (old new : Option (List Item)) : Type 0 where
-  undone : new ≡ None → Pends settings s e old new
-  stays : recorded (effects_of settings s e) ≡ [] → new ≡ old → Pends settings s e old new
-  fails : e.reply ≡ store_fault → new ≡ Some (tried settings s e) → Pends settings s e old new
+pub use Rattle.row_tables.specs.Stopping.{Pends, fails, stays, tried, undone}
+pub use Rattle.row_tables.specs.Stops.{left_by}
 
 -- what may be pending behind these entries, in their order
 abbrev pub PendAlong : Settings → State → List Entry → Option (List Item) → Option (List Item) → Type 0

@@ -1,14 +1,16 @@
 //! What follows for a start behind a stop. No function here has code: its contract is the law.
-ghost use Rattle.std.specs.Prelude.{◌≡◌, ℕ, IsTrue, List, [], ◌∷◌, ◌++◌, Option, Some, Ok};
+ghost use Rattle.std.specs.Prelude.{◌≡◌, ◌≢◌, ℕ, IsTrue, List, [], ◌∷◌, ◌++◌, Option, Some, None, Ok};
 ghost use Rattle.mvn_coords.specs.Kind.{kind};
 ghost use Rattle.mvn_coords.specs.Layout.{Coordinates};
 ghost use Rattle.mvn_coords.specs.declared.kind.Kind.TheVariants.{File};
 ghost use Rattle.outside.specs.Blobs.{Shelf};
 ghost use Rattle.outside.specs.Moments.{Moments};
-ghost use Rattle.repo_model.specs.Command.{is_there, look};
+ghost use Rattle.repo_model.specs.Command.{is_there, look, put};
 ghost use Rattle.repo_model.specs.Restart.{started};
 ghost use Rattle.repo_model.specs.Data.{Blob, Row};
-ghost use Rattle.repo_model.specs.History.{Entry, Legal, end};
+ghost use Rattle.repo_model.specs.Effect.{new_row, recorded};
+ghost use Rattle.repo_model.specs.Reply.{created};
+ghost use Rattle.repo_model.specs.History.{Entry, Legal, after, effects_of, end};
 ghost use Rattle.repo_model.specs.Settings.{Settings};
 ghost use Rattle.repo_model.specs.State.{State, files_of, row_at, rows_of};
 ghost use Rattle.repo_model.specs.Tables.{RecordedRow, Tables};
@@ -19,6 +21,8 @@ ghost use Rattle.repo_laws.specs.Holds.{Holds, InOrder, told, with_items};
 ghost use Rattle.repo_laws.specs.InRange.{InRange, Completes, IsSameBlob};
 ghost use Rattle.repo_laws.specs.Sound.{AreNamedApart, AreProxiesApart, IsSound};
 ghost use Rattle.stop_laws.specs.Found.{AreStored, IsCachedAs, IsRecordedAs, KeepsBlobs};
+ghost use Rattle.row_tables.specs.Stops.{Rests, Unsettled};
+ghost use Rattle.stop_laws.specs.Runs.{FindsAlways, IsAnsweredAgain, IsLeftBySome, StopsAlong, tables_after};
 ghost use Rattle.stop_laws.specs.Stops.{AreNoCollects, IsFrontOf, IsLeft};
 
 /// A start over a store that keeps what it acknowledged finds none of these files damaged, where each of them names a blob that
@@ -40,6 +44,46 @@ pub fn rows_outlast_stops()
     ensures { (settings : Settings) (s : State) (t u : Tables) (entries : List Entry) (repo : List ℕ) (row : Row)
         → AreNamedApart settings.hosted → IsSound settings s → InOrder t → Holds t s → Legal settings s entries → AreNoCollects entries
         → row_at row.path (rows_of repo s) ≡ Some row → IsLeft settings s t entries u → IsRecordedAs repo row u }
+{}
+
+/// A run of the repository that began in a state over these tables, with nothing pending, and has made these entries: at each moment of it,
+/// between its calls and inside each of them, a start reads, from whatever file a stop then leaves, tables that a stop may leave behind
+/// the first of the entries, as many as there may be. The trails are those that the records tell at the beginning and at the end.
+pub fn stops_of_runs_find_what_is_left()
+    ensures { (settings : Settings) (s : State) (t : Tables) (entries : List Entry) (old new : Unsettled) → old.pending ≡ None → Rests (Some t) old
+        → StopsAlong settings s t entries old new → FindsAlways (IsLeftBySome settings s t entries) old.trail new.trail }
+{}
+
+/// An entry that recorded something, as a `Put` that answered `Created` does, and entries behind it of which none asks for a Collect: a
+/// file that stands in a repository when the entry is made is recorded, with its number and its fingerprint, in whatever tables a start
+/// reads behind a stop at any moment from then on, between calls or inside one.
+pub fn files_outlast_stops_of_runs()
+    ensures { (settings : Settings) (s : State) (t : Tables) (e : Entry) (later : List Entry) (before old new : Unsettled) (repo : List ℕ) (row : Row)
+        → AreNamedApart settings.hosted → IsSound settings s → InOrder t → Holds t s → Legal settings s (e ∷ later) → AreNoCollects later
+        → recorded (effects_of settings s e) ≢ [] → row_at row.path (rows_of repo (after settings s e)) ≡ Some row
+        → StopsAlong settings s t (e ∷ []) before old → StopsAlong settings (after settings s e) (tables_after settings s e t) later old new
+        → FindsAlways (IsRecordedAs repo row) old.trail new.trail }
+{}
+
+/// A `Put` that was answered with `Created`, and entries behind it of which none asks for a Collect: a start reads, from whatever file
+/// a stop at any moment from its end on leaves, between calls or inside one, tables in which the file is recorded with the number and
+/// the fingerprint that were put.
+pub fn created_files_outlast_stops_of_runs()
+    ensures { (settings : Settings) (s : State) (t : Tables) (e : Entry) (later : List Entry) (before old new : Unsettled) (repo path : List ℕ) (n : ℕ) (blob : Blob)
+        → AreNamedApart settings.hosted → IsSound settings s → InOrder t → Holds t s → Legal settings s (e ∷ later) → AreNoCollects later
+        → e.command ≡ put repo path n blob → e.reply ≡ created
+        → StopsAlong settings s t (e ∷ []) before old → StopsAlong settings (after settings s e) (tables_after settings s e t) later old new
+        → FindsAlways (IsRecordedAs repo (new_row path blob e.moment)) old.trail new.trail }
+{}
+
+/// So a start over these tables, under the same settings, once it has completed them, and any entries behind it without a Collect: who looks
+/// at the file then is given it, with the number and the fingerprint that were put; or memory is wanting, or no lease is left.
+pub fn created_files_are_answered_behind_stops()
+    ensures { (settings : Settings) (s : State) (t : Tables) (e : Entry) (later : List Entry) (before old new : Unsettled) (repo path : List ℕ) (n : ℕ) (blob : Blob) (c : Coordinates)
+        → AreNamedApart settings.hosted → AreProxiesApart settings.proxies → IsSound settings s → InOrder t → Holds t s → Legal settings s (e ∷ later) → AreNoCollects later
+        → IsTrue (is_there repo settings) → kind path ≡ Ok (File c) → e.command ≡ put repo path n blob → e.reply ≡ created
+        → StopsAlong settings s t (e ∷ []) before old → StopsAlong settings (after settings s e) (tables_after settings s e t) later old new
+        → FindsAlways (IsAnsweredAgain settings repo (new_row path blob e.moment)) old.trail new.trail }
 {}
 
 /// A file that a proxy keeps is recorded so in whatever a start may find behind a stop at any later moment.

@@ -6,6 +6,7 @@ use Rattle.repo_model.specs.Settings.{Settings}
 use Rattle.repo_model.specs.Tables.{Tables}
 use Rattle.row_tables.specs.Recorded.{IsBuiltUp}
 use Rattle.row_tables.specs.Records.{Expected}
+use Rattle.row_tables.specs.Stops.{Unsettled}
 use Rattle.row_tables.specs.declared.faults.LoadFault.TheVariants as load
 use Rattle.blob_audit.specs.Damages.{AreDamaged}
 use Rattle.blob_audit.specs.Order.{all_rows}
@@ -17,14 +18,16 @@ use Rattle.run_lines.specs.Printing.{Output, Prints, PrintsPart, PrintsWhole}
 use Rattle.run_lines.specs.Reading.{File, Reads}
 use Rattle.store_check.specs.Lines.{not_ours_line, report_text, row_line, stopped_line, store_line}
 
--- what records tell of themselves: what is recorded, what a load gives, and their count of faults
+-- what records tell of themselves: what is recorded, what a load gives, their count of faults, and what a stop may leave of them
+-- beside the tables
 pub record Recorded : Type 0 where
   pub tables : Option Tables
   pub loading : Option Expected
   pub faults : ℕ
+  pub unsettled : Unsettled
 
-abbrev pub records_told : Option Tables → Option Expected → ℕ → Recorded
-records_told tables loading faults = record { tables = tables; loading = loading; faults = faults }
+abbrev pub records_told : Option Tables → Option Expected → ℕ → Unsettled → Recorded
+records_told tables loading faults unsettled = record { tables = tables; loading = loading; faults = faults; unsettled = unsettled }
 
 -- the status that tells whether a file was named
 abbrev pub status_of : List Damaged → ℕ

@@ -41,3 +41,7 @@ returns-in-Err-Failed-clause-nothing g c = inl (c.append.ensures.failed (c.in-Er
 
 pub returns-in-Err-NoMemory-clause-nothing : goal.returns-in-Err-NoMemory-clause-nothing
 returns-in-Err-NoMemory-clause-nothing g c = inr (c.append.ensures.no_memory (c.in-Err-NoMemory.is ∙ ap Err c.in-Err-NoMemory.field-0-is))
+
+pub returns-in-Err-NoMemory-clause-wanting : goal.returns-in-Err-NoMemory-clause-wanting
+returns-in-Err-NoMemory-clause-wanting g c =
+    λ is. ap (λ log. log.pending) (c.append.ensures.no_memory (c.in-Err-NoMemory.is ∙ ap Err c.in-Err-NoMemory.field-0-is)) ∙ c.requires.undone

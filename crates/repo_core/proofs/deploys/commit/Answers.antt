@@ -17,6 +17,7 @@ use Rattle.row_tables.specs.Commits.{tables_with}
 use Rattle.repo_core.specs.Deploys.{commit_in, hosted_after_all}
 use Rattle.repo_core.specs.Hosted.{rows_in}
 use Rattle.repo_core.proofs.EndTurns.{commit-ending, commit-none, commit-same, how, idle-tables, placed}
+use Rattle.row_tables.specs.Stops.{HasReplyStop}
 use Rattle.repo_core.proofs.deploys.commit.Goals as goal
 
 pub returns-in_default-opened-clause-reply : goal.returns-in_default-opened-clause-reply
@@ -210,3 +211,30 @@ returns-clause-rows g c =
     let made = subst (λ (t : Turn). c.commit.new.hosted ≡ (if is_free r then old else record old { rows = rows_after_all t.effects old.rows })) same c.commit.ensures.rows in
     placed repo (commit_in n c.args.now sessions items).effects items i old c.commit.new.hosted (is_free r) (commit-ending n c.args.now sessions items still one there) within c.index_mut.ensures.value rows_is
     (rw c.deref.ensures.value at (c.place_of-place.ensures.change c.commit.new.hosted)) made
+
+pub returns-in_default-opened-clause-stops : goal.returns-in_default-opened-clause-stops
+returns-in_default-opened-clause-stops g c =
+    let n = c.args.session in
+    let sessions = c.args.sessions.now.sessions in
+    let items = c.args.repos.now.items in
+    let still : None ≡ how n (find (is_session n) sessions) = cc in
+    let none : find (is_open_at n) sessions ≡ None = sym c.in_default-opened.ensures in
+    let idle : commit_in n c.args.now sessions items ≡ says no_session = commit-none n c.args.now sessions items still none in
+    inl (ap (λ (t : Turn). recorded t.effects) idle, refl)
+
+pub returns-clause-stops : goal.returns-clause-stops
+returns-clause-stops g c =
+    let n = c.args.session in
+    let k : Known = c.args.sessions.now in
+    let sessions = k.sessions in
+    let items = c.args.repos.now.items in
+    let still : None ≡ how n (find (is_session n) sessions) = cc in
+    let repo = c.in-Some-opened.repo.now in
+    let one : Session = record { number = n; repo = repo; staged = shown_files c.in-Some-opened.field-0-1.now.entries; ended = None } in
+    let there : find (is_open_at n) sessions ≡ Some one = sym c.in-Some-opened.ensures in
+    let old = c.index_mut.result.now in
+    let rows_is : old.rows ≡ rows_in repo items = ap (λ (h : Hosted). h.rows) c.index_mut.ensures.value ∙ (rw c.deref.ensures.value at (c.place_of-place.ensures.rows old)) in
+    let same : commit_turn k n c.args.now old.rows ≡ commit_in n c.args.now sessions items = commit-same n c.args.now sessions items still one there k refl old.rows rows_is in
+    subst
+    (λ (t : Turn). HasReplyStop (recorded t.effects) (g.K.Records.tables c.args.records.now) (g.K.Records.unsettled c.args.records.now) (g.K.Records.unsettled c.commit.new.records) (shown_commit c.commit.result))
+    same c.commit.ensures.stops

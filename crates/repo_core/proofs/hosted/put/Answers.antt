@@ -70,3 +70,11 @@ returns-clause-rows g c =
     let changed : set items i new ≡ with_rows c.args.id.now new.rows items = rw c.deref.ensures.value at (c.place_of-place.ensures.change new same) in
     let here : old.rows ≡ rows_in c.args.id.now items = ap (λ (h : Hosted). h.rows) c.index_mut.ensures.value ∙ (rw c.deref.ensures.value at (c.place_of-place.ensures.rows old)) in
     changed ∙ ap (λ rows. with_rows c.args.id.now rows items) (ap (λ (h : Hosted). h.rows) made ∙ ap (rows_put c.args.path.now blob c.args.moment reply) here)
+
+pub returns-clause-stops : goal.returns-clause-stops
+returns-clause-stops g c =
+    let items = c.args.repos.now.items in
+    let old = c.index_mut.result.now in
+    let blob = shown_parcel c.args.parcel in
+    let here : find (is_repository c.args.id.now) items ≡ Some old = (rw c.deref.ensures.value at (c.place_of-place.ensures.found old)) ∙ ap (λ (h : Hosted). Some h) (sym c.index_mut.ensures.value) in
+    rw (← put-here c.args.id.now c.args.path.now blob c.args.moment items old here) c.put.ensures.stops

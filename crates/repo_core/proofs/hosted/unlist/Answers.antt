@@ -9,6 +9,7 @@ use Rattle.repo_model.specs.Turn.{unlist_of}
 use Rattle.ordered_rows.specs.Recording.{FitWhereTold}
 use Rattle.repo_core.specs.Hosted.{rows_in}
 use Rattle.repo_core.proofs.PurgeTurns.{ok-then, on-err-then, on-ok-then, told-by, unlisted-place, untouched-place}
+use Rattle.row_tables.specs.Stops.{HasCommitStop}
 use Rattle.repo_core.proofs.hosted.unlist.Goals as goal
 
 pub unlist-requires-clause-fits : goal.unlist-requires-clause-fits
@@ -61,3 +62,12 @@ returns-clause-err g c =
     on-err-then _ _
     (untouched-place c.args.id.now items i old c.unlist.new.self within c.index_mut.ensures.value here (rw c.deref.ensures.value at (c.place_of-place.ensures.change c.unlist.new.self)))
     c.unlist.result c.unlist.ensures.err
+
+pub returns-clause-stops : goal.returns-clause-stops
+returns-clause-stops g c =
+    let items = c.args.repos.now.items in
+    let old = c.index_mut.result.now in
+    let here : find (is_repository c.args.id.now) items ≡ Some old = (rw c.deref.ensures.value at (c.place_of-place.ensures.found old)) ∙ ap (λ (h : Hosted). Some h) (sym c.index_mut.ensures.value) in
+    subst
+    (λ found. HasCommitStop (recorded (unlist_of c.args.moment found).effects) (g.K.Records.tables c.args.records.now) (g.K.Records.unsettled c.args.records.now) (g.K.Records.unsettled c.unlist.new.records) c.unlist.result)
+    (sym here) c.unlist.ensures.stops

@@ -9,10 +9,11 @@ use Rattle.repo_model.specs.State.{change_first, is_proxy}
 use Rattle.repo_model.specs.Turn.{lands_by}
 use Rattle.repo_laws.specs.Files.{files_in}
 use Rattle.ordered_rows.specs.Recording.{FitWhereTold}
-use Rattle.proxy_rules.specs.Landings.{has_failed, proxy_after_all}
+use Rattle.proxy_rules.specs.Landings.{has_failed, proxy_after_all, shown_landed}
 use Rattle.repo_restart.proofs.PlaceLemmas.{changed-at, files-at}
 use Rattle.repo_core.specs.Proxies.{LandsIn, proxies_after_all}
 use Rattle.repo_core.proofs.PlacedLemmas.{landing-here, named-so, none-there, set-itself}
+use Rattle.row_tables.specs.Stops.{HasReplyStop}
 use Rattle.repo_core.proofs.proxies.land.Goals as goal
 
 pub land-requires-clause-proxy : goal.land-requires-clause-proxy
@@ -59,3 +60,15 @@ unreachable-requires g c =
     let items = c.args.proxies.now.items in
     let none : position (is_proxy c.args.plan.now.proxy) items ≡ None = rw (c.as_str.ensures, c.deref.ensures.value) at (sym c.in-None.ensures) in
     none-there (is_proxy c.args.plan.now.proxy) items c.requires.there none
+
+pub returns-clause-stops : goal.returns-clause-stops
+returns-clause-stops g c =
+    let items = c.args.proxies.now.items in
+    let plan = c.args.plan.now in
+    let landing = outcome_map shown_got c.args.outcome in
+    let p = c.index_mut.result.now in
+    let there : position (is_proxy plan.proxy) items ≡ Some c.in-Some.place = rw (c.as_str.ensures, c.deref.ensures.value) at (sym c.in-Some.ensures) in
+    let files = files-at plan.proxy items c.in-Some.place p there c.index_mut.ensures.value in
+    subst
+    (λ (rows : List Row). HasReplyStop (recorded (lands_by rows c.args.moment plan landing)) (g.K.Records.tables c.args.records.now) (g.K.Records.unsettled c.args.records.now) (g.K.Records.unsettled c.land.new.records) (shown_landed c.land.result))
+    (sym files) c.land.ensures.stops

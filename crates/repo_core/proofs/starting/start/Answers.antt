@@ -49,7 +49,7 @@ over-requires-clause-kept g c =
     let new = g.B.Blobs.shelf c.stock_of.new.blobs in
     let told = told-then (g.K.Records.tables c.args.records) (g.K.Records.tables c.load.new.records) c.in-Ok.tables c.in-Ok.ensures.told in
     starts-kept c.args.settings c.in-Ok.tables old new clock (state_of c.in-Ok-stock_of.stock clock) c.in-Ok.ensures.built c.form.ensures (subst (λ (sh : Shelf). Starts c.args.settings c.in-Ok.tables sh new clock 0 (state_of c.in-Ok-stock_of.stock clock)) c.load.ensures.kept (c.in-Ok-stock_of.ensures.starts clock)) c.of.result
-    (g.K.Records.faults c.load.new.records) (g.K.Records.unsettled c.load.new.records) (g.K.Records.tables c.load.new.records) c.of.ensures.settings c.of.ensures.state told
+    (g.K.Records.faults c.load.new.records) (g.K.Records.unsettled c.load.new.records).pending (g.K.Records.tables c.load.new.records) c.of.ensures.settings c.of.ensures.state told
 
 pub returns-in-Ok-stock_of-clause-state : goal.returns-in-Ok-stock_of-clause-state
 returns-in-Ok-stock_of-clause-state g c =

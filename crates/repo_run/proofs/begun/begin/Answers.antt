@@ -22,6 +22,7 @@ returns-in-Ok-start-clause-ok g c =
       tables_are = s.state.2;
       digested = s.tables;
       calls_are = s.calls;
+      settled = s.settled;
       still = s.still;
       opens = s.opening;
     })

@@ -11,4 +11,4 @@ pub returns : goal.returns
 returns g c source source' =
     let pass = c.clean_pass-pass.ensures.passes in
     passed c.in-Ok.core c.clean_pass-pass.new.asker (store_seen g.B.Blobs c.begin.new.blobs) pass.0 c.clean_pass-pass.result
-    c.in-Ok.ensures.ok pass.1 pass.3 (c.end-records.ensures.tables, c.end-records.ensures.faults) c.end-records.ensures.clock c.tell_pass-status.ensures
+    c.in-Ok.ensures.ok pass.1 pass.3 (c.end-records.ensures.tables, c.end-records.ensures.faults, c.end-records.ensures.settled, c.end-records.ensures.rests) c.end-records.ensures.clock c.tell_pass-status.ensures

@@ -33,4 +33,4 @@ returns g c source source' =
     let shows = subst (λ (s : Settings). ShowsAll s (AllTell g.B.Held.Held.bytes) c.args.from c.args.requests c.in-Ok-begin.core c.answer_all-shown.new.core first kept c.answer_all-shown.result)
     c.in-Ok.ensures c.answer_all-shown.ensures in
     demonstrated (AllTell g.B.Held.Held.bytes) c.args.from c.args.requests small _ _ _ c.in-Ok-begin.core c.answer_all-shown.new.core c.tell_shown-status.new.core cleared kept
-    begins refl (c.end-records.ensures.tables, c.end-records.ensures.faults) c.end-records.ensures.clock c.answer_all-shown.result shows c.tell_shown-status.ensures
+    begins refl (c.end-records.ensures.tables, c.end-records.ensures.faults, c.end-records.ensures.settled, c.end-records.ensures.rests) c.end-records.ensures.clock c.answer_all-shown.result shows c.tell_shown-status.ensures

@@ -17,7 +17,7 @@ returns g c source source' =
     (view_of g.K.Records g.C.Clock g.O.Tells source' (desk_state seen c.serve_first-ended.new.desk) c.end-records.result.0 c.end-records.result.1 c.report_first-status.new.out)
     c.report_first-status.result
     (store_seen g.B.Blobs c.begin.new.blobs) c.in-Ok.core c.serve_first-ended.new.core c.serve_first-ended.result c.in-Ok.ensures.ok c.serve_first-ended.ensures
-    c.end-records.ensures.clock (c.end-records.ensures.tables, c.end-records.ensures.faults)
+    c.end-records.ensures.clock (c.end-records.ensures.tables, c.end-records.ensures.faults, c.end-records.ensures.settled, c.end-records.ensures.rests)
     (subst (λ (n : ℕ). ReportsFirst c.serve_first-ended.result n out out' c.report_first-status.result) c.calls.ensures c.report_first-status.ensures)
 
 pub returns-in-Err : goal.returns-in-Err

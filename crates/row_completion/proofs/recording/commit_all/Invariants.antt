@@ -1,5 +1,5 @@
 -- The first items are committed and the tables have them; the rest, which stand from the last to the first, are short and fit.
-use Rattle.std.proofs.Common.{◌≡◌, false, Ok, length}
+use Rattle.std.proofs.Common.{◌≡◌, None, Ok, length}
 use Rattle.std.specs.Prelude.{reverse}
 use Rattle.std.specs.List.{AllByRecursion}
 use Rattle.std.specs.Option.{option_map}
@@ -16,7 +16,7 @@ invariant-loop-alloc g l = record {
   short : AllByRecursion IsShort (reverse l.rest.items);
   fit : applied l.tables (reverse l.rest.items) ≡ Ok (with_items l.tables (reverse l.rest.items));
   count : g.K.Records.faults l.records ≡ g.K.Records.faults l.fn.records;
-  settled : g.K.Records.unsettled l.fn.records ≡ false → g.K.Records.unsettled l.records ≡ false;
+  settled : (g.K.Records.unsettled l.fn.records).pending ≡ None → (g.K.Records.unsettled l.records).pending ≡ None;
   ready : g.K.Records.ready l.records;
 }
 

@@ -11,7 +11,7 @@ returns g c =
     let end = c.end-records-2.ensures in
     record {
       serves = λ source. served _ _ _ _ _ _ _ _ c.in-Ok.begun.0 c.in-Ok.begun.1 did.repository did.calls did.failed
-          (c.in-Ok.ensures.turns, first.0, first.1, first.2) (end.tables, end.faults) end.clock did.refused
+          (c.in-Ok.ensures.turns, first.0, first.1, first.2) (end.tables, end.faults, end.settled, end.rests) end.clock did.refused
           (λ none. let was = c.work-desks.ensures.refused none in
           (ap (λ desks. floor g.B.Blobs g.Q.Pace desks did.cleaner) was.0 ∙ ap (λ cleaner. floor g.B.Blobs g.Q.Pace c.args.desks.items cleaner) was.1, was.2, was.3))
           (λ some. c.work-desks.ensures.works some) c.tell_work-status.ensures;

@@ -15,8 +15,9 @@ use Rattle.repo_core.specs.Whole.{Parts}
 use Rattle.repo_core.proofs.ItemForms.{draft-number}
 use Rattle.repo_core.proofs.LandLemmas.{cached-landed, drawn-so, hosted-landed, land-turn, landed-rules, lands-so, proxy-there, recorded-land, staged-landed, there-so}
 use Rattle.repo_core.proofs.ShelfChanges.{landed-still}
-use Rattle.proxy_rules.specs.Landings.{has_failed}
+use Rattle.proxy_rules.specs.Landings.{has_failed, shown_landed}
 use Rattle.repo_core.proofs.SessionNumbers.{session-landed}
+use Rattle.row_tables.specs.Stops.{HasReplyStop}
 use Rattle.repo_core.proofs.machine.Machine.land.Goals as goal
 
 pub land-did-requires-clause-there : goal.land-did-requires-clause-there
@@ -81,3 +82,17 @@ returns-clause-turn g c =
     let lands = c.land-did.ensures.lands in
     rw (c.reply_of_landed.ensures, ← c.self.view_is)
     (recorded-land _ _ c.args.plan landing c.land-did.result _ _ _ _ drawn met refl refl lands.answered lands.asked (rw (lands.proxies, c.settle_landed.ensures)) lands.tables lands.cause)
+
+pub returns-clause-stops : goal.returns-clause-stops
+returns-clause-stops g c =
+    let w = c.args.self.now in
+    let told = g.K.Records.tables c.args.records.now in
+    let was = g.K.Records.unsettled c.args.records.now in
+    let now = g.K.Records.unsettled c.land-did.new.records in
+    let landing = outcome_map shown_got c.args.outcome in
+    let inside : is_drawn c.args.plan.draft c.self.inside.yard.yard.drafts ≡ true = cc in
+    let drawn : is_drawn c.args.plan.draft w.state.yard.drafts ≡ true = subst (λ (p : Parts). is_drawn c.args.plan.draft p.state.yard.drafts ≡ true) c.self.view_is inside in
+    let reply = shown_landed c.land-did.result in
+    rw c.reply_of_landed.ensures
+    (subst (λ (t : Turn). HasReplyStop (recorded t.effects) told was now reply) (sym (land-turn w w c.args.plan landing Kept drawn))
+    (subst (λ (p : Parts). HasReplyStop (recorded (landing_in p.state.proxies p.state.last c.args.plan c.args.outcome)) told was now reply) c.self.view_is c.land-did.ensures.stops))

@@ -12,6 +12,9 @@ use Rattle.repo_core.specs.Proxies.{AreCachedInUse}
 use Rattle.repo_core.specs.Whole.{Parts}
 use Rattle.repo_core.proofs.DeployTurns.{due-or-free, open-all, open-left, open-next, recorded-by, recorded-given, turn-open}
 use Rattle.repo_core.proofs.StagedLemmas.{staged-opened}
+use Rattle.row_tables.specs.Stops.{HasReplyStop}
+use Rattle.repo_model.specs.Effect.{recorded}
+use Rattle.repo_model.specs.Turn.{Turn}
 use Rattle.repo_core.proofs.machine.Machine.open.Goals as goal
 
 pub invariant_of-self : goal.invariant_of-self
@@ -70,3 +73,21 @@ returns-clause-turn g c =
     (recorded-by w new (open_session repo) (begin_turn k repo) r (g.K.Records.tables c.args.records.now) (g.K.Records.tables c.begin-begun.new.records) (g.K.Records.faults c.args.records.now)
     (g.K.Records.faults c.begin-begun.new.records) (turn-open s repo k refl (sym c.self.invariant.numbers) w refl) refl (recorded-given (begin_turn k repo) r c.begin-begun.ensures.reply) refl refl left
     c.begin-begun.ensures.tables c.begin-begun.ensures.cause)
+
+pub returns-clause-stops : goal.returns-clause-stops
+returns-clause-stops g c =
+    let k : Known = c.self.inside.sessions in
+    let repo = c.args.repo.now in
+    let s : State = record {
+      hosted = c.self.inside.repos.items;
+      proxies = c.self.inside.proxies.items;
+      sessions = k.sessions;
+      yard = c.self.inside.yard.yard;
+      last = c.self.inside.last;
+      clock = g.C.Clock.moments c.self.inside.clock;
+      faults = 0;
+    } in
+    let w : Parts = record { settings = c.self.inside.settings; state = s; calls = c.self.inside.calls } in
+    rw (← c.self.view_is)
+    (subst (λ (t : Turn). HasReplyStop (recorded t.effects) (g.K.Records.tables c.args.records.now) (g.K.Records.unsettled c.args.records.now) (g.K.Records.unsettled c.begin-begun.new.records) (shown_begin c.begin-begun.result))
+    (sym (turn-open s repo k refl (sym c.self.invariant.numbers) w refl)) c.begin-begun.ensures.stops)

@@ -21,6 +21,7 @@ use Rattle.repo_core.proofs.SessionNumbers.{session-put}
 use Rattle.repo_core.proofs.ShelfChanges.{put-still}
 use Rattle.repo_core.proofs.StagedLemmas.{staged-put}
 use Rattle.repo_core.proofs.UseLemmas.{put-used}
+use Rattle.row_tables.specs.Stops.{HasReplyStop}
 use Rattle.repo_core.proofs.machine.Machine.put.Goals as goal
 
 pub put-outcome-requires-clause-there : goal.put-outcome-requires-clause-there
@@ -80,3 +81,18 @@ returns-clause-turn g c =
     let did = c.put-outcome.ensures in
     rw (c.reply_of.ensures, ← c.self.view_is)
     (recorded-put _ c.args.repo.now c.args.path.now c.args.draft (shown_parcel c.args.parcel) among _ (shown_put c.put-outcome.result) _ _ _ _ refl refl named did.reply did.asked (rw (did.rows, c.settle.ensures)) did.tables did.cause)
+
+pub returns-clause-stops : goal.returns-clause-stops
+returns-clause-stops g c =
+    let w = c.args.self.now in
+    let told = g.K.Records.tables c.args.records.now in
+    let was = g.K.Records.unsettled c.args.records.now in
+    let now = g.K.Records.unsettled c.put-outcome.new.records in
+    let blob = shown_parcel c.args.parcel in
+    let inside : is_among c.args.draft c.self.inside.yard.yard.drafts ≡ true = cc in
+    let among : is_among c.args.draft w.state.yard.drafts ≡ true = subst (λ (p : Parts). is_among c.args.draft p.state.yard.drafts ≡ true) c.self.view_is inside in
+    let named = named-so w.settings c.args.repo.now c.args.path.now c.args.draft blob c.requires.meets in
+    let reply = shown_put c.put-outcome.result in
+    rw c.reply_of.ensures
+    (subst (λ (t : Turn). HasReplyStop (recorded t.effects) told was now reply) (sym (put-turn w c.args.repo.now c.args.path.now c.args.draft blob among named))
+    (subst (λ (p : Parts). HasReplyStop (recorded (put_in c.args.repo.now c.args.path.now blob p.state.last p.state.hosted).effects) told was now reply) c.self.view_is c.put-outcome.ensures.stops))

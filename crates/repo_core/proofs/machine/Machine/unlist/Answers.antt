@@ -91,3 +91,17 @@ returns-clause-turn g c =
           let fault = rw w.in-Err-NoMemory.is at w.in-Err-NoMemory.field-0-is in
           rw (← c.self.view_is, w.result-is) (unlist-without _ c.args.repo.now hosted told told' before later did.err did.untold (rw fault at did.cause))
     ]
+
+pub returns-clause-stops : goal.returns-clause-stops
+returns-clause-stops g c =
+    elim c.match-did.branch [
+      | in-Ok w ↦ let did = rw w.in-Ok.is at c.unlist-did.ensures in rw (← c.self.view_is, w.result-is) did.stops
+      | in-Err-Failed w ↦
+          let did = rw w.in-Err-Failed.is at c.unlist-did.ensures in
+          let fault = rw w.in-Err-Failed.is at w.in-Err-Failed.field-0-is in
+          rw (← c.self.view_is, w.result-is) (rw fault at did.stops)
+      | in-Err-NoMemory w ↦
+          let did = rw w.in-Err-NoMemory.is at c.unlist-did.ensures in
+          let fault = rw w.in-Err-NoMemory.is at w.in-Err-NoMemory.field-0-is in
+          rw (← c.self.view_is, w.result-is) (rw fault at did.stops)
+    ]

@@ -1,0 +1,77 @@
+-- What a stop leaves of records, as the tables that a start then finds: between calls, and at each moment of one.
+use Rattle.std.specs.Prelude.{◌≡◌, ◌⊎◌, ℕ, List, [], ◌∷◌, ◌++◌, Option, Some, None, Result, Ok, Err}
+use Rattle.record_disk.specs.Disk.{Throughout, Trace}
+use Rattle.repo_model.specs.declared.item.Item.{Item}
+use Rattle.repo_model.specs.Reply.{Reply, no_memory, store_fault}
+use Rattle.repo_model.specs.Tables.{Tables}
+use Rattle.row_tables.specs.Applying.{with_items}
+use Rattle.row_tables.specs.Commits.{tables_with}
+use Rattle.row_tables.specs.declared.faults.CommitFault.{CommitFault}
+use Rattle.row_tables.specs.declared.faults.CommitFault.TheVariants as commit
+
+-- the calls on the file of records so far, and the tables that a start reads from a file
+pub record Trail : Type 0 where
+  pub trace : Trace
+  pub reads : List ℕ → Option Tables
+
+-- What a stop may leave beside the tables: the change whose commit failed and that is not undone, and the file, where it is told.
+pub record Unsettled : Type 0 where
+  pub pending : Option (List Item)
+  pub trail : Option Trail
+
+abbrev pub nothing_unsettled : Unsettled
+nothing_unsettled = record { pending = None; trail = None }
+
+-- what a start may find between calls: the tables, or these with the change whose commit failed
+abbrev pub left_by : Tables → Option (List Item) → List Tables
+left_by t None = t ∷ []
+left_by t (Some items) = t ∷ with_items t items ∷ []
+
+-- one of these tables
+abbrev pub IsOneOf : Tables → List Tables → Type 0
+IsOneOf t [] = ⊥
+IsOneOf t (u ∷ us) = (u ≡ t) ⊎ IsOneOf t us
+
+-- a file from which a start reads one of these tables
+abbrev pub ReadsAmong : (List ℕ → Option Tables) → List Tables → List ℕ → Type 0
+ReadsAmong reads ts file = (t : Tables) × (reads file ≡ Some t) × IsOneOf t ts
+
+-- A stop at any moment from the one to the other leaves such a file; or no file is told.
+abbrev pub StopsLeave : List Tables → Option Trail → Option Trail → Type 0
+StopsLeave ts None None = Unit {0}
+StopsLeave ts None (Some new) = ⊥
+StopsLeave ts (Some old) None = ⊥
+StopsLeave ts (Some old) (Some new) = (new.reads ≡ old.reads) × Throughout (ReadsAmong old.reads ts) old.trace new.trace
+
+-- a stop now leaves the tables, or these with the change that is pending
+abbrev pub Rests : Option Tables → Unsettled → Type 0
+Rests told now = (t : Tables) → told ≡ Some t → StopsLeave (left_by t now.pending) now.trail now.trail
+
+-- a stop at any moment of a call leaves what one before the call or behind it leaves
+abbrev pub StopsInside : Option Tables → Option Tables → Unsettled → Unsettled → Type 0
+StopsInside told told' old new =
+    (t u : Tables) → told ≡ Some t → told' ≡ Some u → StopsLeave (left_by t old.pending ++ left_by u new.pending) old.trail new.trail
+
+-- Items were committed, and nothing is pending; or there are none, and nothing was done.
+abbrev pub IsCommitted : List Item → Option Tables → Unsettled → Unsettled → Type 0
+IsCommitted items told old new = ((items ≡ []) × (new ≡ old)) ⊎ ((new.pending ≡ None) × StopsInside told (tables_with items told) old new)
+
+-- Nothing was done; or what was pending is so still, or was undone.
+abbrev pub IsLeftOut : Option Tables → Unsettled → Unsettled → Type 0
+IsLeftOut told old new = (new ≡ old) ⊎ (((new.pending ≡ None) ⊎ (new.pending ≡ old.pending)) × StopsInside told told old new)
+
+-- The commit of items failed: they are pending, or what was pending is so still, or was undone.
+abbrev pub HasNotCommitted : List Item → Option Tables → Unsettled → Unsettled → Type 0
+HasNotCommitted items told old new =
+    ((new.pending ≡ None) ⊎ (new.pending ≡ old.pending) ⊎ (new.pending ≡ Some items)) × StopsInside told told old new
+
+-- what a call that commits items leaves unsettled, by its answer, over the tables from before it; and so by a reply
+abbrev pub HasCommitStop : {T : Type 0} → List Item → Option Tables → Unsettled → Unsettled → Result T CommitFault → Type 0
+HasCommitStop items told old new (Ok value) = IsCommitted items told old new
+HasCommitStop items told old new (Err commit.Failed) = HasNotCommitted items told old new
+HasCommitStop items told old new (Err commit.NoMemory) = IsLeftOut told old new
+
+abbrev pub HasReplyStop : List Item → Option Tables → Unsettled → Unsettled → Reply → Type 0
+HasReplyStop items told old new store_fault = HasNotCommitted items told old new
+HasReplyStop items told old new no_memory = IsLeftOut told old new
+HasReplyStop items told old new reply = IsCommitted items told old new

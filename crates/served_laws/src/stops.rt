@@ -1,0 +1,52 @@
+//! What follows for a start behind a stop of a server, a cleaning or a replay. No function here has code: its contract is the law.
+ghost use Rattle.std.specs.Prelude.{ℕ, List};
+ghost use Rattle.repo_model.specs.Settings.{Settings};
+ghost use Rattle.repo_course.specs.Cleaning.{Store};
+ghost use Rattle.repo_course.specs.Serving.{AllTell};
+ghost use Rattle.repo_course.specs.declared.outcomes.End.{End};
+ghost use Rattle.run_desks.specs.declared.objects.Desk.{Desk};
+ghost use Rattle.run_desks.specs.Seen.{Floor, looks};
+ghost use Rattle.repo_run.specs.Clean.{Cleans};
+ghost use Rattle.repo_run.specs.Replay.{IsReplayed};
+ghost use Rattle.repo_run.specs.Surroundings.{Served, View};
+ghost use Rattle.desk_work.specs.Rules.{rules};
+ghost use Rattle.run_serve.specs.Serving.{ServesBy};
+ghost use Rattle.served_laws.specs.Stopped.{CleanOutlasts, RecordsOutlastStops, ServerOutlasts, turns_made};
+
+use outside::{Blobs, Clock, Held, Port, Tells};
+use outside_remote::Remote;
+use repo_core::Core;
+use row_tables::Records;
+use turn_lock::Thing;
+use turn_seats::Repository;
+
+/// Of a server under the settings that it read, over records that told their tables: the calls of its one history, each with the change
+/// whose commit failed and that is pending as it returns, outlast stops. What a start may find behind a call is the tables then, or these
+/// with that change; and that is what a stop may leave behind a front of the history, none of whose changes was pending at first. Where the
+/// call of a `Put` returned `Created`, so behind it and behind each later call up to a Collect that is asked for, be it that it fails: a start
+/// over what it may find, once it has completed that, and any entries without a Collect: who looks at the file then is given it, with the
+/// number and the fingerprint that were put; or memory is wanting, or no lease is left. So it is of each file that stood in a repository
+/// where any call returned that recorded something, as the commit of a session. The records that are given back tell the tables then and
+/// that change, and a start reads, from whatever file a stop now leaves of them, what it may find. Which call an answer of a desk told,
+/// `desks_are_answered_by_cause` of `desk_laws` says, in the same history.
+///
+/// Of the moments within a call nothing is said here: a commit says of its own, in its clause `stops`, that a stop leaves what one before it
+/// or behind it leaves.
+pub fn servers_keep_created_files<P: Port, B: Blobs, R: Remote, K: Records, C: Clock>()
+    ensures { (settings : Settings) (old new : View (Floor (List (Desk P B R P.Link B.Held B.Pen)))) (status : ℕ)
+        (serves : ServesBy (looks ⟦<P as Port>⟧ ⟦<P::Link as Tells>⟧ ⟦<B as Blobs>⟧ ⟦<B::Held as Held>⟧ ⟦<R as Remote>⟧)
+        (rules ⟦<Core<K, C, B::Held> as Thing>⟧ ⟦<Core<K, C, B::Held> as Repository>⟧.sight) settings old new status) →
+        ServerOutlasts (looks ⟦<P as Port>⟧ ⟦<P::Link as Tells>⟧ ⟦<B as Blobs>⟧ ⟦<B::Held as Held>⟧ ⟦<R as Remote>⟧)
+        (rules ⟦<Core<K, C, B::Held> as Thing>⟧ ⟦<Core<K, C, B::Held> as Repository>⟧.sight) settings old new status serves }
+{}
+
+/// So is it of the turns of the connection that a replay serves, which are the whole history.
+pub fn replays_keep_created_files<H: Held>()
+    ensures { (settings : Settings) (old new : View Served) (ending : End) (calls : ℕ) (replayed : IsReplayed (AllTell H.bytes) settings old new ending calls) →
+        RecordsOutlastStops settings old.records replayed.begun new.records (turns_made replayed.entries replayed.begun replayed.core replayed.made) }
+{}
+
+/// And of the turns of a cleaning.
+pub fn cleanings_outlast_stops()
+    ensures { (settings : Settings) (old new : View Store) (status : ℕ) (cleans : Cleans settings old new status) → CleanOutlasts settings old new status cleans }
+{}
