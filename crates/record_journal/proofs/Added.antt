@@ -10,7 +10,7 @@ use Rattle.repo_model.specs.declared.item.Item.{Item}
 use Rattle.repo_model.specs.Tables.{Tables, applied}
 use Rattle.row_tables.specs.Applying.{with_items}
 use Rattle.row_tables.specs.Items.{change_bytes}
-use Rattle.record_journal.specs.Loading.{built_up}
+use Rattle.row_tables.specs.Loading.{built_up}
 use Rattle.record_journal.specs.Journal.{tables_by, tables_of, LoadsTo, MayLoad, Fits, IsStanding, IsReady, KeepsTables, Adds, AddsNothing, Commits}
 use Rattle.record_journal.proofs.Loads.{IsWritable, loads_held, pushed, after_change, change_again}
 use Rattle.record_journal.proofs.Standing.{standing_tables, same_tables, standing_images}

@@ -6,14 +6,14 @@ use Rattle.std.proofs.lemmas.Bool.Decides.{nat_tests}
 use Rattle.record_log.specs.Frames.{Found, Frames, New, Foreign, Framed, frames, frames_of, payloads_of, HoldsFrames, IsWhole}
 use Rattle.repo_model.specs.declared.item.Item.{Item}
 use Rattle.repo_model.specs.Tables.{Tables, no_tables, applied}
-use Rattle.repo_rows.specs.Reading.{taken}
+use Rattle.row_tables.specs.Reading.{taken}
 use Rattle.repo_rows.proofs.Changes.{again}
 use Rattle.row_tables.specs.Applying.{with_items}
 use Rattle.row_tables.specs.Items.{IsChange, are_of, change_bytes}
 use Rattle.row_tables.specs.declared.version.Version.TheVariants.{Second}
 use Rattle.row_tables.specs.declared.faults.LoadFault.{LoadFault}
 use Rattle.record_journal.specs.Given.{Loads}
-use Rattle.record_journal.specs.Loading.{of_size, change_in, by_bytes, with_change, after_frame, next_frame, after_frames, loading_of, loading, built_up}
+use Rattle.row_tables.specs.Loading.{of_size, change_in, by_bytes, with_change, after_frame, next_frame, after_frames, loading_of, loading, built_up}
 
 -- frames with a cut one behind them build up nothing
 cut_is_refused : (frame : ℕ) (t u : Tables) (payloads : List (List ℕ)) → after_frames frame true t payloads ≡ Ok u → ⊥

@@ -13,7 +13,7 @@ use Rattle.row_tables.specs.declared.faults.LoadFault.{LoadFault}
 use Rattle.row_tables.specs.declared.faults.LoadFault.TheVariants.{Failed, NoMemory, NotOurs, Row}
 use Rattle.row_tables.specs.Records.{Expected, IsRefusal, LoadsUnlessFailed}
 use Rattle.record_journal.specs.Given.{Loads}
-use Rattle.record_journal.specs.Loading.{loading}
+use Rattle.row_tables.specs.Loading.{loading}
 use Rattle.record_journal.specs.Journal.{acknowledged, tables_by, tables_of, LoadsTo, MayLoad, Fits, IsStanding, IsReady, IsSteady, KeepsTables, Recovers, IsStill}
 use Rattle.record_journal.proofs.Loads.{HeldBy, loads_held, held_by}
 use Rattle.record_journal.proofs.Standing.{may_load, standing_loads}

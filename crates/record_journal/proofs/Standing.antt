@@ -9,7 +9,7 @@ use Rattle.record_log.specs.Log.{StandsFor, MayHold, LogState}
 use Rattle.record_log.proofs.Calls.{stands_hold}
 use Rattle.record_log.proofs.Reading.{holds_closed}
 use Rattle.repo_model.specs.Tables.{Tables}
-use Rattle.record_journal.specs.Loading.{loading, built_up}
+use Rattle.row_tables.specs.Loading.{loading, built_up}
 use Rattle.record_journal.specs.Journal.{acknowledged, tables_by, tables_of, LoadsTo, MayLoad, Fits, IsStanding, IsReady}
 use Rattle.record_journal.proofs.Loads.{loads_held, pushed, after_change}
 

@@ -1,7 +1,6 @@
 -- A commit leaves what a stop before it or behind it leaves; between calls that is the tables, or these with what is pending.
 use Rattle.std.proofs.Common.{◌≡◌, ◌⊎◌, ℕ, List, [], ◌∷◌, ◌++◌, Option, Some, None, Result, Ok, Err, inl, inr, refl, sym, subst, ap, ◌∙◌}
 use Rattle.std.specs.Prelude.{IfSome, IsErrOf, OnErr, OnOk}
-use Rattle.std.specs.Option.{option_map}
 use Rattle.std.specs.Result.{result_ok}
 use Rattle.record_disk.specs.Disk.{AllImages, Here, Throughout, Told, Trace}
 use Rattle.record_disk.proofs.Moments.{joined, weaker}
@@ -12,33 +11,21 @@ use Rattle.row_tables.specs.Applying.{with_items}
 use Rattle.row_tables.specs.Commits.{tables_with}
 use Rattle.row_tables.specs.Items.{change_bytes}
 use Rattle.row_tables.specs.Stops.{HasCommitStop, IsOneOf, StopsLeave, ReadsAmong, Rests, left_by}
+use Rattle.row_tables.proofs.OneOf.{back, front, left-first}
 use Rattle.row_tables.specs.declared.faults.CommitFault.{CommitFault}
 use Rattle.row_tables.specs.declared.faults.CommitFault.TheVariants.{Failed, NoMemory}
-use Rattle.record_journal.specs.Loading.{change_in}
-use Rattle.record_journal.specs.Journal.{AddsNothing, Commits, CommitsTo, IsReady, LoadsTo, MayCommit, MayLoad, items_of, tables_in, tables_of, trail_of, unsettled_of}
+use Rattle.row_tables.specs.Loading.{change_in}
+use Rattle.record_journal.specs.Journal.{AddsNothing, Commits, CommitsTo, IsReady, LoadsTo, MayCommit, MayLoad, items_of, tables_of, unsettled_of}
 use Rattle.record_journal.proofs.Loads.{IsWritable, change_again}
 use Rattle.record_journal.proofs.Standing.{images_of}
-
-front : (t : Tables) (xs ys : List Tables) → IsOneOf t xs → IsOneOf t (xs ++ ys)
-front t [] ys among = absurd among
-front t (x ∷ xs) ys (inl same) = inl same
-front t (x ∷ xs) ys (inr more) = inr (front t xs ys more)
-
-back : (t : Tables) (xs ys : List Tables) → IsOneOf t ys → IsOneOf t (xs ++ ys)
-back t [] ys among = among
-back t (x ∷ xs) ys among = inr (back t xs ys among)
-
-left-first : (t : Tables) (o : Option (List Item)) → IsOneOf t (left_by t o)
-left-first t None = inl refl
-left-first t (Some items) = inl refl
 
 left-second : (t : Tables) (payload : List ℕ) (items : List Item) → change_in payload ≡ Ok items → IsOneOf (with_items t items) (left_by t (items_of (Some payload)))
 left-second t payload items is = subst (λ r. IsOneOf (with_items t items) (left_by t (result_ok r))) (sym is) (inr (inl refl))
 
-reads-so : (ts : List Tables) (t : Tables) (file : List ℕ) → LoadsTo t file → IsOneOf t ts → ReadsAmong tables_in ts file
+reads-so : (ts : List Tables) (t : Tables) (file : List ℕ) → LoadsTo t file → IsOneOf t ts → ReadsAmong ts file
 reads-so ts t file loads among = (t, ap result_ok loads, among)
 
-may-read : (t : Tables) (pending : Option (List ℕ)) (file : List ℕ) → MayLoad t pending file → ReadsAmong tables_in (left_by t (items_of pending)) file
+may-read : (t : Tables) (pending : Option (List ℕ)) (file : List ℕ) → MayLoad t pending file → ReadsAmong (left_by t (items_of pending)) file
 may-read t None file loads = reads-so (left_by t None) t file loads (inl refl)
 may-read t (Some payload) file (inl loads) = reads-so (left_by t (items_of (Some payload))) t file loads (left-first t (items_of (Some payload)))
 may-read t (Some payload) file (inr (items, is, loads)) = reads-so (left_by t (items_of (Some payload))) (with_items t items) file loads (left-second t payload items is)
@@ -47,11 +34,11 @@ some-same : (t u : Tables) → Some t ≡ Some u → t ≡ u
 some-same t u same = cc
 
 -- between calls
-rests-by : (a : Option Trace) (ts : List Tables) → IfSome a (AllImages (ReadsAmong tables_in ts)) → StopsLeave ts (option_map trail_of a) (option_map trail_of a)
+rests-by : (a : Option Trace) (ts : List Tables) → IfSome a (AllImages (ReadsAmong ts)) → StopsLeave ts a a
 rests-by None ts all = tt
-rests-by (Some s) ts all = (refl, Here all)
+rests-by (Some s) ts all = Here all
 
-images-read : (a : Option Trace) (t : Tables) (pending : Option (List ℕ)) → IfSome a (AllImages (MayLoad t pending)) → IfSome a (AllImages (ReadsAmong tables_in (left_by t (items_of pending))))
+images-read : (a : Option Trace) (t : Tables) (pending : Option (List ℕ)) → IfSome a (AllImages (MayLoad t pending)) → IfSome a (AllImages (ReadsAmong (left_by t (items_of pending))))
 images-read None t pending all = tt
 images-read (Some s) t pending all = λ image from. may-read t pending image (all image from)
 
@@ -66,45 +53,45 @@ may_commit_if (Ok value) log ready = may_commit log ready
 may_commit_if (Err fault) log ready = tt
 
 -- over a commit
-passed : (a b : Option Trace) (ts : List Tables) (R : Trace → Trace → Type 0) → ((s v : Trace) → R s v → Throughout (ReadsAmong tables_in ts) s v) → Told a b R
-    → StopsLeave ts (option_map trail_of a) (option_map trail_of b)
+passed : (a b : Option Trace) (ts : List Tables) (R : Trace → Trace → Type 0) → ((s v : Trace) → R s v → Throughout (ReadsAmong ts) s v) → Told a b R
+    → StopsLeave ts a b
 passed None None ts R go told = tt
 passed None (Some v) ts R go told = told
 passed (Some s) None ts R go told = told
-passed (Some s) (Some v) ts R go told = (refl, go s v told)
+passed (Some s) (Some v) ts R go told = go s v told
 
 module _ (old new : LogState) (items : List Item) (t u : Tables) (told : tables_of old ≡ Some t) where
   abbrev left : List Tables
   left = left_by t (items_of old.pending) ++ left_by u (items_of new.pending)
 
-  reads-before : (file : List ℕ) → MayLoad t old.pending file → ReadsAmong tables_in left file
+  reads-before : (file : List ℕ) → MayLoad t old.pending file → ReadsAmong left file
   reads-before file may = let a = may-read t old.pending file may in (a.0, a.1, front a.0 (left_by t (items_of old.pending)) (left_by u (items_of new.pending)) a.2)
 
-  by-crash : IsOneOf (with_items t items) left → Told old.trace new.trace (Commits (tables_of old) old.pending items) → StopsLeave left (unsettled_of old).trail (unsettled_of new).trail
+  by-crash : IsOneOf (with_items t items) left → Told old.trace new.trace (Commits (tables_of old) old.pending items) → StopsLeave left (unsettled_of old).trace (unsettled_of new).trace
   by-crash added crash = passed old.trace new.trace left (Commits (tables_of old) old.pending items) (λ s v so. go s v (so t told)) crash
     where
-      second : (file : List ℕ) → LoadsTo t file ⊎ LoadsTo (with_items t items) file → ReadsAmong tables_in left file
+      second : (file : List ℕ) → LoadsTo t file ⊎ LoadsTo (with_items t items) file → ReadsAmong left file
       second file (inl loads) = reads-so left t file loads (front t (left_by t (items_of old.pending)) (left_by u (items_of new.pending)) (left-first t (items_of old.pending)))
       second file (inr loads) = reads-so left (with_items t items) file loads added
 
-      go : (s v : Trace) → CommitsTo t old.pending items s v → Throughout (ReadsAmong tables_in left) s v
+      go : (s v : Trace) → CommitsTo t old.pending items s v → Throughout (ReadsAmong left) s v
       go s v so =
-          let first = weaker (MayLoad t old.pending) (ReadsAmong tables_in left) s so.undone reads-before so.first in
+          let first = weaker (MayLoad t old.pending) (ReadsAmong left) s so.undone reads-before so.first in
           elim so.later [
-            | inl same ↦ subst (Throughout (ReadsAmong tables_in left) s) (sym same) first
-            | inr both ↦ joined (ReadsAmong tables_in left) s so.undone v first (weaker (λ file. LoadsTo t file ⊎ LoadsTo (with_items t items) file) (ReadsAmong tables_in left) so.undone v second both.1)
+            | inl same ↦ subst (Throughout (ReadsAmong left) s) (sym same) first
+            | inr both ↦ joined (ReadsAmong left) s so.undone v first (weaker (λ file. LoadsTo t file ⊎ LoadsTo (with_items t items) file) (ReadsAmong left) so.undone v second both.1)
           ]
 
-  by-nothing : Told old.trace new.trace (AddsNothing (tables_of old) old.pending) → StopsLeave left (unsettled_of old).trail (unsettled_of new).trail
-  by-nothing nothing = passed old.trace new.trace left (AddsNothing (tables_of old) old.pending) (λ s v so. weaker (MayLoad t old.pending) (ReadsAmong tables_in left) s v reads-before (so t told)) nothing
+  by-nothing : Told old.trace new.trace (AddsNothing (tables_of old) old.pending) → StopsLeave left (unsettled_of old).trace (unsettled_of new).trace
+  by-nothing nothing = passed old.trace new.trace left (AddsNothing (tables_of old) old.pending) (λ s v so. weaker (MayLoad t old.pending) (ReadsAmong left) s v reads-before (so t told)) nothing
 
-  committed : tables_with items (tables_of old) ≡ Some u → Told old.trace new.trace (Commits (tables_of old) old.pending items) → StopsLeave left (unsettled_of old).trail (unsettled_of new).trail
+  committed : tables_with items (tables_of old) ≡ Some u → Told old.trace new.trace (Commits (tables_of old) old.pending items) → StopsLeave left (unsettled_of old).trace (unsettled_of new).trace
   committed is crash =
       let same : with_items t items ≡ u = some-same (with_items t items) u (ap (tables_with items) (sym told) ∙ is) in
       by-crash (back (with_items t items) (left_by t (items_of old.pending)) (left_by u (items_of new.pending)) (subst (λ y. IsOneOf y (left_by u (items_of new.pending))) (sym same) (left-first u (items_of new.pending)))) crash
 
   failed : IsWritable items → t ≡ u → (new.pending ≡ Some (change_bytes items)) ⊎ Told old.trace new.trace (AddsNothing (tables_of old) old.pending)
-      → Told old.trace new.trace (Commits (tables_of old) old.pending items) → StopsLeave left (unsettled_of old).trail (unsettled_of new).trail
+      → Told old.trace new.trace (Commits (tables_of old) old.pending items) → StopsLeave left (unsettled_of old).trace (unsettled_of new).trace
   failed is same (inr none) crash = by-nothing none
   failed is same (inl pends) crash =
       by-crash (back (with_items t items) (left_by t (items_of old.pending)) (left_by u (items_of new.pending))

@@ -6,7 +6,7 @@ use Rattle.record_disk.proofs.Moments.{weaker}
 use Rattle.record_log.specs.Log.{StandsFor, MayHold, LogState, HasAcknowledged}
 use Rattle.record_log.proofs.Calls.{told_same, stands_hold}
 use Rattle.repo_model.specs.Tables.{Tables}
-use Rattle.record_journal.specs.Loading.{loading}
+use Rattle.row_tables.specs.Loading.{loading}
 use Rattle.record_journal.specs.Journal.{acknowledged, tables_by, tables_of, MayLoad, Fits, IsStanding, IsReady, IsSteady, KeepsTables}
 use Rattle.record_journal.proofs.Standing.{standing_loads, standing_tables, same_tables, lifted}
 

@@ -6,7 +6,7 @@ use Rattle.record_log.specs.Frames.{Found, New, Foreign, Framed, nothing, cut_sh
 use Rattle.repo_model.specs.Tables.{Tables}
 use Rattle.row_tables.specs.declared.faults.LoadFault.{LoadFault}
 use Rattle.row_tables.specs.declared.faults.LoadFault.TheVariants.{Row}
-use Rattle.record_journal.specs.Loading.{after_frame, next_frame, after_frames}
+use Rattle.row_tables.specs.Loading.{after_frame, next_frame, after_frames}
 
 -- a file has no more frames than bytes
 few_by : (p rest : List ℕ) (f : Found) (b c : Bool) → length f.payloads ≤ length rest → length (if b then (if c then in_front p f else cut_short) else nothing).payloads ≤ suc (length rest)

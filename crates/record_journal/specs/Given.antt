@@ -1,7 +1,7 @@
 -- What a function that loads gives: what loading by the definition gives, unless memory is wanting.
 use Rattle.std.specs.Prelude.{◌≡◌, ℕ, List, Result, Ok, Err}
 use Rattle.repo_model.specs.Tables.{Tables}
-use Rattle.record_journal.specs.Loading.{after_frame}
+use Rattle.row_tables.specs.Loading.{after_frame}
 use Rattle.record_journal.specs.declared.faults.FrameFault.{FrameFault}
 use Rattle.record_journal.specs.declared.faults.FrameFault.TheVariants as frame
 use Rattle.row_tables.specs.declared.faults.LoadFault.{LoadFault}

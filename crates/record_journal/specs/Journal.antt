@@ -9,8 +9,8 @@ use Rattle.repo_model.specs.declared.item.Item.{Item}
 use Rattle.repo_model.specs.Tables.{Tables, applied}
 use Rattle.row_tables.specs.Applying.{with_items}
 use Rattle.row_tables.specs.Records.{Expected}
-use Rattle.row_tables.specs.Stops.{Rests, Trail, Unsettled}
-use Rattle.record_journal.specs.Loading.{change_in, loading, built_up}
+use Rattle.row_tables.specs.Stops.{Rests, Unsettled}
+use Rattle.row_tables.specs.Loading.{change_in, loading, built_up}
 
 -- the part of a file that its journal has acknowledged: what stands in front of a frame that failed
 abbrev pub acknowledged : ℕ → Option (List ℕ) → List ℕ → List ℕ
@@ -31,21 +31,13 @@ tables_by trace gate pending = option_and_then result_ok (expected_by trace gate
 abbrev pub tables_of : LogState → Option Tables
 tables_of log = tables_by log.trace log.gate log.pending
 
--- the tables that a start reads from a file
-abbrev pub tables_in : List ℕ → Option Tables
-tables_in file = result_ok (loading file)
-
 -- the change of a payload that is pending
 abbrev pub items_of : Option (List ℕ) → Option (List Item)
 items_of pending = option_and_then (λ payload. result_ok (change_in payload)) pending
 
--- the calls on its file, which a start reads so
-abbrev pub trail_of : Trace → Trail
-trail_of trace = record { trace = trace; reads = tables_in }
-
 -- what a stop may leave of a journal beside its tables
 abbrev pub unsettled_of : LogState → Unsettled
-unsettled_of log = record { pending = items_of log.pending; trail = option_map trail_of log.trace }
+unsettled_of log = record { pending = items_of log.pending; trace = log.trace }
 
 -- a file that loads to these tables; or to these with the change of a payload
 abbrev pub LoadsTo : Tables → List ℕ → Type 0

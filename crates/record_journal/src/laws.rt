@@ -2,7 +2,7 @@
 ghost use Rattle.std.specs.Prelude.{◌≡◌, ℕ, List, ◌++◌, Some, IfSome};
 ghost use Rattle.record_disk.specs.Disk.{AllImages};
 ghost use Rattle.record_journal.specs.Journal.{tables_of, MayLoad, IsReady};
-ghost use Rattle.record_journal.specs.Loading.{built_up, loading};
+ghost use Rattle.row_tables.specs.Loading.{built_up, loading};
 ghost use Rattle.record_log.specs.Frames.{head_of, AreShort, IsClosed};
 ghost use Rattle.record_log.specs.Log.{LogState};
 ghost use Rattle.repo_model.specs.Tables.{Tables};

@@ -4,7 +4,7 @@ ghost use Rattle.record_log.specs.Frames.{IsWhole};
 ghost use Rattle.repo_model.specs.Tables.{no_tables};
 ghost use Rattle.row_tables.specs.Recorded.{IsBuiltUp};
 ghost use Rattle.record_journal.specs.Given.{AppliesFrame, Loads};
-ghost use Rattle.record_journal.specs.Loading.{after_frames, loading};
+ghost use Rattle.row_tables.specs.Loading.{after_frames, loading};
 
 use crate::faults::FrameFault;
 use record_log::{Frame, Frames};

@@ -6,7 +6,7 @@ ghost use Rattle.record_log.specs.Log.{HasLogCause, MaySync};
 ghost use Rattle.row_tables.specs.Recorded.{IsBuiltUp};
 ghost use Rattle.row_tables.specs.Records.{HasLoadCause, IsRefusal, LoadsUnlessFailed};
 ghost use Rattle.record_journal.specs.Journal.{acknowledged, expected_of, tables_of, IsReady, IsSteady, KeepsTables, Recovers, IsStill};
-ghost use Rattle.record_journal.specs.Loading.{loading};
+ghost use Rattle.row_tables.specs.Loading.{loading};
 
 use crate::loading::tables_in;
 use crate::undoing::take_back;

@@ -2,7 +2,7 @@ ghost use Rattle.std.specs.Prelude.{◌≡◌, None, OnOk, OnErr, IsOk};
 ghost use Rattle.outside.specs.Faults.{HasCause};
 ghost use Rattle.record_disk.specs.Disk.{content, Told};
 ghost use Rattle.record_journal.specs.Journal.{acknowledged, tables_of, IsReady, IsSteady, KeepsTables};
-ghost use Rattle.record_journal.specs.Loading.{loading};
+ghost use Rattle.row_tables.specs.Loading.{loading};
 
 use outside::Failed;
 use record_disk::Disk;

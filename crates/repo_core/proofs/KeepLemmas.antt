@@ -1,13 +1,13 @@
 -- What the core's type keeps is what a turn needs of its parts.
 use native.Mathlib.Omega.{arith}
-use Rattle.std.proofs.Common.{ℕ, ◌≤◌, List, Option, refl}
+use Rattle.std.proofs.Common.{ℕ, ◌≤◌, Option, refl}
 use Rattle.std.specs.Prelude.{IsTrue}
 use Rattle.repo_model.specs.Command.{Command, meets}
 use Rattle.repo_model.specs.History.{ticked}
 use Rattle.repo_model.specs.May.{AllMay}
 use Rattle.repo_model.specs.Tables.{Tables}
 use Rattle.repo_model.specs.Turn.{turn}
-use Rattle.repo_model.specs.declared.item.Item.{Item}
+use Rattle.row_tables.specs.Stops.{Unsettled}
 use Rattle.repo_laws.specs.Holds.{Holds}
 use Rattle.repo_laws.specs.Sound.{OnePlace, Sound}
 use Rattle.repo_laws.proofs.Histories.{all-may-ticked, one-place-ticked, sound-ticked}
@@ -17,7 +17,7 @@ use Rattle.repo_core.specs.Turn.{MayRecord}
 use Rattle.repo_core.specs.Whole.{IsKept, IsOrderly, Parts, Tell, counting, whole_of}
 use Rattle.settings_laws.proofs.Apart.{named-apart}
 
-module _ (p : Parts) (tables : Option Tables) (pending : Option (List Item)) (faults : ℕ) (kept : IsKept (whole_of p tables pending faults)) where
+module _ (p : Parts) (tables : Option Tables) (unsettled : Unsettled) (faults : ℕ) (kept : IsKept (whole_of p tables unsettled faults)) where
   order_of : Sound p.settings p.state
   order_of =
       let order = kept.sound.order in

@@ -16,7 +16,6 @@ use Rattle.repo_model.specs.History.{latest_moment}
 use Rattle.repo_model.specs.Restart.{blobs_named, greatest_number, hosted_from, is_of, proxy_from, recorded_of, started, with_bytes}
 use Rattle.repo_model.specs.Settings.{ProxyRule, Rule, Settings}
 use Rattle.repo_model.specs.State.{State, is_among, number_end, opening}
-use Rattle.repo_model.specs.declared.item.Item.{Item}
 use Rattle.repo_model.specs.Tables.{Tables, RecordedRow, no_tables}
 use Rattle.repo_laws.specs.Holds.{InOrder, StandsFor}
 use Rattle.repo_laws.specs.InRange.{InRange, IsRowInRange}
@@ -26,6 +25,7 @@ use Rattle.repo_laws.proofs.HoldingLists.{all-join, all-split}
 use Rattle.repo_laws.proofs.Lists.{all-then}
 use Rattle.repo_laws.proofs.Starting.{each-from, greatest-below-end, greatest-from, started-stands}
 use Rattle.repo_laws.proofs.StartedSound.{started-sound}
+use Rattle.row_tables.specs.Stops.{Unsettled}
 use Rattle.row_tables.specs.Items.{is_file_path}
 use Rattle.row_tables.specs.Recorded.{IsBuiltUp}
 use Rattle.row_tables.specs.Records.{Expected}
@@ -218,8 +218,8 @@ module _ (settings : Settings) (t : Tables) (old new : Shelf) (clock : Option Mo
       let is : t ≡ u = same ∙ (let e : them ≡ u = cc in e) in
       subst (λ (v : Tables). StandsFor v (counting faults s)) is (starts-stand faults)
 
-  pub starts-kept : (p : Parts) (faults : ℕ) (pending : Option (List Item)) (tables : Option Tables) → p.settings ≡ settings → p.state ≡ s → IfSome tables (λ them. t ≡ them) → IsKept (whole_of p tables pending faults)
-  starts-kept p faults pending tables same state told = record {
+  pub starts-kept : (p : Parts) (faults : ℕ) (unsettled : Unsettled) (tables : Option Tables) → p.settings ≡ settings → p.state ≡ s → IfSome tables (λ them. t ≡ them) → IsKept (whole_of p tables unsettled faults)
+  starts-kept p faults unsettled tables same state told = record {
     sound = subst (λ st. IsSound st (counting faults p.state)) (sym same) (subst (λ u. IsSound settings (counting faults u)) (sym state) (starts-sound faults));
     form = subst IsSettings (sym same) form;
     told = subst (λ u. ForSome tables (Tell (counting faults u))) (sym state) (tell tables told);

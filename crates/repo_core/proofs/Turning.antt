@@ -195,9 +195,9 @@ some-items [] some = absurd (some refl)
 some-items (item ∷ items) some = ap not (ne_eqb (length (item ∷ items)) 0 (λ none. omega (arith, none)))
 
 -- behind a commit
-pub settled-by : (reply : Reply) (pending : Option (List Item)) → pending ≡ None → IsSettledBy reply pending
-settled-by (collected expired blobs) pending is = is
-settled-by reply pending is = tt
+pub settled-by : (reply : Reply) (unsettled : Unsettled) → unsettled.pending ≡ None → IsSettledBy reply unsettled
+settled-by (collected expired blobs) unsettled is = is
+settled-by reply unsettled is = tt
 
 -- a turn that asks no records records nothing
 pub quiet : (tables : Option Tables) → tables ≡ tables_with [] tables

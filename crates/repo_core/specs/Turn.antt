@@ -4,13 +4,13 @@ use Rattle.ordered_rows.specs.Recording.{FitWhereTold, HasReplyCause}
 use Rattle.repo_model.specs.Settings.{Settings}
 use Rattle.repo_model.specs.State.{State}
 use Rattle.repo_model.specs.Tables.{Tables}
-use Rattle.repo_model.specs.declared.item.Item.{Item}
 use Rattle.repo_model.specs.Effect.{Effect, recorded, with_effects}
 use Rattle.repo_model.specs.Command.{Command, collect}
 use Rattle.repo_model.specs.History.{commits, latest_moment}
 use Rattle.repo_model.specs.Reply.{Reply, collected, no_memory, store_fault, takes_memory, is_free}
 use Rattle.repo_model.specs.Turn.{turn}
 use Rattle.row_tables.specs.Commits.{tables_with}
+use Rattle.row_tables.specs.Stops.{Unsettled}
 use Rattle.repo_core.specs.Whole.{Parts}
 
 -- the reply that is due, or want of memory; or one of those that change nothing
@@ -47,13 +47,13 @@ pub record Recorded (old new : Parts) (command : Command) (reply : Reply) (told 
   pub cause : HasReplyCause faults faults' reply
 
 -- a Collect that answers what it collected was committed, so that no change whose commit failed is found any more
-abbrev pub IsSettledBy : Reply → Option (List Item) → Type 0
-IsSettledBy (collected expired blobs) pending = pending ≡ None
-IsSettledBy reply pending = Unit {0}
+abbrev pub IsSettledBy : Reply → Unsettled → Type 0
+IsSettledBy (collected expired blobs) unsettled = unsettled.pending ≡ None
+IsSettledBy reply unsettled = Unit {0}
 
-abbrev pub IsSettled : Command → Reply → Option (List Item) → Type 0
-IsSettled collect reply pending = IsSettledBy reply pending
-IsSettled command reply pending = Unit {0}
+abbrev pub IsSettled : Command → Reply → Unsettled → Type 0
+IsSettled collect reply unsettled = IsSettledBy reply unsettled
+IsSettled command reply unsettled = Unit {0}
 
 -- whatever the moment of the turn is, what it records fits the tables
 abbrev pub MayRecord : Parts → Option Tables → Command → Type 0

@@ -1,11 +1,11 @@
 -- What contracts see of the repository.
-use Rattle.std.specs.Prelude.{ℕ, List, Option}
+use Rattle.std.specs.Prelude.{ℕ, Option}
 use Rattle.std.specs.Option.{ForSome}
 use Rattle.repo_config.specs.Form.{IsSettings}
 use Rattle.repo_model.specs.Settings.{Settings}
 use Rattle.repo_model.specs.State.{State}
-use Rattle.repo_model.specs.declared.item.Item.{Item}
 use Rattle.repo_model.specs.Tables.{Tables}
+use Rattle.row_tables.specs.Stops.{Unsettled}
 use Rattle.repo_laws.specs.Holds.{Holds, InOrder}
 use Rattle.repo_laws.specs.Sound.{IsSound, OnePlace, Sound}
 
@@ -15,22 +15,22 @@ pub record Parts : Type 0 where
   pub state : State
   pub calls : ℕ
 
--- the settings, the state of the machine, what its records tell, the change whose commit failed and that is not undone, and the
--- number of calls so far
+-- the settings, the state of the machine, what its records tell, what a stop may leave of them beside that, and the number of calls
+-- so far
 pub record Whole : Type 0 where
   pub settings : Settings
   pub state : State
   pub tables : Option Tables
-  pub pending : Option (List Item)
+  pub unsettled : Unsettled
   pub calls : ℕ
 
 -- the state with another count of how often the records have failed
 abbrev pub counting : ℕ → State → State
 counting faults s = record s { faults = faults }
 
-abbrev pub whole_of : Parts → Option Tables → Option (List Item) → ℕ → Whole
-whole_of p tables pending faults =
-    record { settings = p.settings; state = counting faults p.state; tables = tables; pending = pending; calls = p.calls }
+abbrev pub whole_of : Parts → Option Tables → Unsettled → ℕ → Whole
+whole_of p tables unsettled faults =
+    record { settings = p.settings; state = counting faults p.state; tables = tables; unsettled = unsettled; calls = p.calls }
 
 -- tables in order that hold the state
 pub record Tell (s : State) (t : Tables) : Type 0 where

@@ -166,7 +166,7 @@ impl<C: Clock, H: Held> Machine<C, H> {
         ensures tables { K.tables records.new ≡ tables_with (recorded (effects_of self.old.settings (counting (K.faults records.old) self.old.state)
             (entry_of command self.new.state.last result (K.faults records.new)))) (K.tables records.old) }
         ensures cause { HasReplyCause (K.faults records.old) (K.faults records.new) (shown_reply result) }
-        ensures settled { IsSettled (shown_command command) (shown_reply result) (K.unsettled records.new).pending }
+        ensures settled { IsSettled (shown_command command) (shown_reply result) (K.unsettled records.new) }
         ensures stops { HasReplyStop (tried self.old.settings (counting (K.faults records.old) self.old.state)
             (entry_of command self.new.state.last result (K.faults records.new))) (K.tables records.old) (K.unsettled records.old) (K.unsettled records.new) (shown_reply result) }
         ensures ready { K.ready records.new }
@@ -217,7 +217,7 @@ impl<C: Clock, H: Held> Machine<C, H> {
         requires ready { K.ready records.old }
         requires items { FitWhereTold (K.tables records.old) (recorded (turn self.old.settings self.old.state self.old.state.last (shown_command command)).effects) }
         ensures turn { Recorded self.old self.new (shown_command command) (shown_reply result) (K.tables records.old) (K.tables records.new) (K.faults records.old) (K.faults records.new) }
-        ensures settled { IsSettled (shown_command command) (shown_reply result) (K.unsettled records.new).pending }
+        ensures settled { IsSettled (shown_command command) (shown_reply result) (K.unsettled records.new) }
         ensures stops { HasReplyStop (recorded (turn self.old.settings self.old.state self.old.state.last (shown_command command)).effects) (K.tables records.old) (K.unsettled records.old) (K.unsettled records.new) (shown_reply result) }
         ensures ready { K.ready records.new }
     {
@@ -364,7 +364,7 @@ impl<C: Clock, H: Held> Machine<C, H> {
         requires ready { K.ready records.old }
         requires items { FitWhereTold (K.tables records.old) (recorded (turn self.old.settings self.old.state self.old.state.last collect).effects) }
         ensures turn { Recorded self.old self.new collect (shown_reply result) (K.tables records.old) (K.tables records.new) (K.faults records.old) (K.faults records.new) }
-        ensures settled { IsSettledBy (shown_reply result) (K.unsettled records.new).pending }
+        ensures settled { IsSettledBy (shown_reply result) (K.unsettled records.new) }
         ensures stops { HasReplyStop (recorded (turn self.old.settings self.old.state self.old.state.last collect).effects) (K.tables records.old) (K.unsettled records.old) (K.unsettled records.new) (shown_reply result) }
         ensures ready { K.ready records.new }
     {

@@ -23,14 +23,18 @@ pub struct Core<K: Records, C: Clock, H: Held> {
 }
 
 impl<K: Records, C: Clock, H: Held> Model for Core<K, C, H> {
+    ghost use Rattle.std.specs.Coded.{codes};
+    ghost use Rattle.record_disk.specs.Codes.{trace_code};
     ghost use Rattle.repo_core.specs.Whole.{Whole, IsKept, whole_of};
 
     ghost Value = { Whole };
 
-    ghost view = { λ c. whole_of c.machine (K.tables c.records) (K.unsettled c.records).pending (K.faults c.records) };
+    ghost coded = { Prim.hlevel (codes, trace_code) };
+
+    ghost view = { λ c. whole_of c.machine (K.tables c.records) (K.unsettled c.records) (K.faults c.records) };
 
     ghost invariant = { λ c. record {
-      kept : IsKept (whole_of c.machine (K.tables c.records) (K.unsettled c.records).pending (K.faults c.records));
+      kept : IsKept (whole_of c.machine (K.tables c.records) (K.unsettled c.records) (K.faults c.records));
       ready : K.ready c.records;
     } };
 }
@@ -49,16 +53,16 @@ impl<K: Records, C: Clock, H: Held> Core<K, C, H> {
     ghost use Rattle.repo_laws.specs.Laws.{KeepsReleases};
     ghost use Rattle.repo_laws.specs.Sound.{IsSound};
     ghost use Rattle.row_tables.specs.Commits.{tables_with};
-    ghost use Rattle.row_tables.specs.Stopping.{Pends};
+    ghost use Rattle.row_tables.specs.Stopping.{Stopping};
     ghost use Rattle.row_tables.specs.Stops.{Rests};
     ghost use Rattle.repo_core.specs.Turn.{IsSettled};
     ghost use Rattle.repo_core.specs.Whole.{IsKept, whole_of};
 
     /// The core of a machine and of records that are ready. The state is sound, and the tables, where told, hold it.
     pub(crate) fn over(machine: Machine<C, H>, records: K) -> Core<K, C, H>
-        requires kept { IsKept (whole_of machine (K.tables records) (K.unsettled records).pending (K.faults records)) }
+        requires kept { IsKept (whole_of machine (K.tables records) (K.unsettled records) (K.faults records)) }
         requires ready { K.ready records }
-        ensures { result ≡ whole_of machine (K.tables records) (K.unsettled records).pending (K.faults records) }
+        ensures { result ≡ whole_of machine (K.tables records) (K.unsettled records) (K.faults records) }
     {
         Core { machine, records }
     }
@@ -73,8 +77,8 @@ impl<K: Records, C: Clock, H: Held> Core<K, C, H> {
     /// where the repository takes the file, and what a look says to fetch is a plan of the settings. A `Collect` is always committed, an empty one too: where it gives blobs out to be
     /// removed, no change whose commit failed, and which may name one of them, is found any more.
     ///
-    /// Behind the call no change whose commit failed is pending; or it recorded nothing, and what was pending is so still; or the records
-    /// failed, and what it was to record is pending: a start may find that too until it is undone.
+    /// Where the records tell their file, a stop at any moment of the call leaves one from which a start reads the tables from before the
+    /// call or those behind it, or one of these with the change whose commit failed and is not undone.
     pub fn call(&mut self, command: Command<H>) -> Reply<H>
         requires { IsTrue (meets self.old.settings (shown_command command)) }
         ensures fits { Fits self.old.settings self.old.state (entry_of command self.new.state.last result self.new.state.faults) }
@@ -82,9 +86,9 @@ impl<K: Records, C: Clock, H: Held> Core<K, C, H> {
         ensures tables { self.new.tables ≡ tables_with (recorded (effects_of self.old.settings self.old.state
             (entry_of command self.new.state.last result self.new.state.faults))) self.old.tables }
         ensures holds { ForSome self.new.tables (λ t. Holds t self.new.state) }
-        ensures pends { Pends self.old.settings self.old.state (entry_of command self.new.state.last result self.new.state.faults)
-            self.old.pending self.new.pending }
-        ensures settled { IsSettled (shown_command command) (shown_reply result) self.new.pending }
+        ensures stops { Stopping self.old.settings self.old.state (entry_of command self.new.state.last result self.new.state.faults)
+            self.old.tables self.new.tables self.old.unsettled self.new.unsettled }
+        ensures settled { IsSettled (shown_command command) (shown_reply result) self.new.unsettled }
         ensures cause { HasReplyCause self.old.state.faults self.new.state.faults (shown_reply result) }
         ensures answer { IsAnswerTo self.old.settings (shown_command command) (shown_reply result) }
         ensures settings { self.new.settings ≡ self.old.settings }
@@ -124,8 +128,8 @@ impl<K: Records, C: Clock, H: Held> Core<K, C, H> {
     pub fn end(self) -> (K, C)
         ensures tables { K.tables result.0 ≡ self.tables }
         ensures faults { K.faults result.0 ≡ self.state.faults }
-        ensures settled { (K.unsettled result.0).pending ≡ self.pending }
-        ensures rests { Rests (K.tables result.0) (K.unsettled result.0) }
+        ensures settled { K.unsettled result.0 ≡ self.unsettled }
+        ensures rests { Rests self.tables self.unsettled }
         ensures ready { K.ready result.0 }
         ensures clock { C.moments result.1 ≡ self.state.clock }
     {

@@ -8,6 +8,7 @@ ghost use Rattle.repo_model.specs.State.{opening};
 ghost use Rattle.repo_model.specs.Tables.{Tables as Plain, no_tables};
 ghost use Rattle.repo_laws.specs.Holds.{StandsFor};
 ghost use Rattle.row_tables.specs.Recorded.{IsBuiltUp};
+ghost use Rattle.row_tables.specs.Stops.{Rests};
 ghost use Rattle.blob_audit.specs.Order.{all_rows};
 ghost use Rattle.repo_restart.specs.Faults.{HasRestoreCause};
 ghost use Rattle.repo_restart.specs.Faults as restoring;
@@ -97,7 +98,8 @@ pub fn start<K: Records, B: Blobs, C: Clock>(
     ensures complete { IfOk result (λ core. ForSome core.tables IsComplete) }
     ensures stands { IfOk result (λ core. ForSome core.tables (λ t. StandsFor t core.state)) }
     ensures calls { IfOk result (λ core. core.calls ≡ 0) }
-    ensures settled { IfOk result (λ core. core.pending ≡ None) }
+    ensures settled { IfOk result (λ core. core.unsettled.pending ≡ None) }
+    ensures rests { IfOk result (λ core. Rests core.tables core.unsettled) }
     // Where nothing was recorded or stored yet, it is the state before the first turn.
     ensures opening { IfOk result (λ core. IfSome (K.tables records) (λ t. t ≡ no_tables → IfSome (B.shelf blobs.old).blobs (λ them. them ≡ []
         → core.state ≡ counting (K.faults records) (opening settings (C.moments clock))))) }

@@ -11,7 +11,7 @@ use Rattle.row_tables.specs.Items.{IsChange, item_bytes, change_bytes, change_of
 use Rattle.row_tables.specs.declared.version.Version.{Version}
 use Rattle.row_tables.specs.declared.version.Version.TheVariants.{First, Second}
 use Rattle.repo_rows.specs.Laws.{ReadsAgain, WasWritten}
-use Rattle.repo_rows.specs.Reading.{change_at, placed, taken}
+use Rattle.row_tables.specs.Reading.{change_at, placed, taken}
 use Rattle.repo_rows.proofs.FieldLaws.{IsBytes, IsBytes-take}
 use Rattle.repo_rows.proofs.ItemLaws.{change_takes, change_again}
 

@@ -24,7 +24,7 @@ use Rattle.mvn_doc.proofs.PickedLemmas.{picked_again}
 use Rattle.mvn_doc.proofs.PickedWhole.{read_form}
 use Rattle.mvn_doc.proofs.TextOutlined.{outlined_again}
 use Rattle.row_tables.specs.Items.{directory_in, directory_at, is_kept_in, is_kept_at, document_bytes}
-use Rattle.repo_rows.specs.Reading.{◌>>=◌, number_at, bytes_at, as_settled, kept_in, or_refused, written_at, document_at}
+use Rattle.row_tables.specs.Reading.{◌>>=◌, number_at, bytes_at, as_settled, kept_in, or_refused, written_at, document_at}
 use Rattle.repo_rows.proofs.Ascii.{both}
 use Rattle.repo_rows.proofs.FieldLaws.{IsBytes, bind_ok, IsField, wide32, number_takes, number_again, bytes_field}
 

@@ -6,7 +6,7 @@ use Rattle.std.proofs.lemmas.Bool.{cases_lt}
 use Rattle.std.proofs.lemmas.Bool.Decides.{nat_tests}
 use Rattle.std.proofs.lemmas.List.{take_at, drop_at, take-append-drop, length-append, length-take, get_or-drop, get_or-take, get_or_past}
 use Rattle.std.proofs.lemmas.Nat.{be_bytes_2, be_bytes_4, be_bytes_8, from_be_bytes-to_be_bytes_2, from_be_bytes-to_be_bytes_4, from_be_bytes-to_be_bytes_8}
-use Rattle.repo_rows.specs.Reading.{◌>>=◌, Field, of_form, then_at, number_at, bytes_at, counted_at}
+use Rattle.row_tables.specs.Reading.{◌>>=◌, Field, of_form, then_at, number_at, bytes_at, counted_at}
 use Rattle.repo_rows.proofs.Ascii.{both}
 
 abbrev pub IsBytes : List ℕ → Type 0

@@ -9,7 +9,7 @@ use Rattle.repo_model.specs.declared.print.Recorded.{Recorded}
 use Rattle.row_tables.specs.Items.{is_id, is_file_path, is_moment, is_count, is_number, is_further, is_print, is_known_since, text_bytes, place_bytes, further_bytes, print_bytes}
 use Rattle.row_tables.specs.declared.version.Version.{Version}
 use Rattle.row_tables.specs.declared.version.Version.TheVariants.{First, Second}
-use Rattle.repo_rows.specs.Reading.{◌>>=◌, then_at, bytes_at, id_at, file_path_at, is_document_path, document_path_at, moment_at, count_at, serial_at, place_at, further_of, further_at, short_of, short_at, whole_of, whole_at, print_at, FileFields, file_at}
+use Rattle.row_tables.specs.Reading.{◌>>=◌, then_at, bytes_at, id_at, file_path_at, is_document_path, document_path_at, moment_at, count_at, serial_at, place_at, further_of, further_at, short_of, short_at, whole_of, whole_at, print_at, FileFields, file_at}
 use Rattle.repo_rows.proofs.Ascii.{both, id_short, file_path_short, document_path_short}
 use Rattle.repo_rows.proofs.FieldLaws.{IsBytes, bind_ok, ok_is, Taken, IsField, then_field, wide16, wide64, number_field, bytes_field, counted_field}
 

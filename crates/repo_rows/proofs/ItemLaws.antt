@@ -13,7 +13,7 @@ use Rattle.repo_model.specs.declared.session.SessionResult.TheVariants.{Aborted,
 use Rattle.row_tables.specs.Items.{is_id, is_file_path, is_moment, is_number, is_further, is_print, is_kept_at, is_result, is_item, is_known_since, is_of, are_of, text_bytes, place_bytes, document_bytes, result_bytes, item_bytes, version_byte, change_of}
 use Rattle.row_tables.specs.declared.version.Version.{Version}
 use Rattle.row_tables.specs.declared.version.Version.TheVariants.{First, Second}
-use Rattle.repo_rows.specs.Reading.{◌>>=◌, Field, then_at, number_at, id_at, is_document_path, document_path_at, moment_at, count_at, serial_at, place_at, further_at, FileFields, file_at, document_at, kept_at, result_at, hosted_of, cached_of, digested_at, item_of, item_at, items_at, counted_items_at, change_at}
+use Rattle.row_tables.specs.Reading.{◌>>=◌, Field, then_at, number_at, id_at, is_document_path, document_path_at, moment_at, count_at, serial_at, place_at, further_at, FileFields, file_at, document_at, kept_at, result_at, hosted_of, cached_of, digested_at, item_of, item_at, items_at, counted_items_at, change_at}
 use Rattle.repo_rows.proofs.Ascii.{both}
 use Rattle.repo_rows.proofs.DocumentLaws.{document_field}
 use Rattle.repo_rows.proofs.FieldLaws.{IsBytes, bind_ok, ok_is, Taken, IsField, then_field, wide32, wide64, number_takes, number_again, number_field}

@@ -6,7 +6,7 @@ use Rattle.mvn_coords.specs.declared.kind.Kind.TheVariants.{Doc}
 use Rattle.mvn_doc.specs.Reading.{reading}
 use Rattle.mvn_metadata.specs.Document.{Document, settled}
 use Rattle.mvn_metadata.specs.Written.{text}
-use Rattle.repo_rows.specs.Reading.{as_settled, kept_in}
+use Rattle.row_tables.specs.Reading.{as_settled, kept_in}
 use Rattle.row_tables.specs.Items.{directory_in, directory_at}
 
 pub kept_is : (path written : List ℕ) (dir : Directory) (doc s : Document) (t : List ℕ) (b : Bool) → kind path ≡ Ok (Doc dir) → reading written ≡ Ok doc → s ≡ settled doc dir → t ≡ text s → bytes_eq t written ≡ b

@@ -6,7 +6,7 @@ use Rattle.repo_rows.specs.declared.faults.ReadFault.{ReadFault}
 use Rattle.repo_rows.specs.declared.faults.ReadFault.TheVariants as faults
 use Rattle.row_tables.specs.declared.version.Version.{Version}
 use Rattle.repo_rows.specs.Given.{Fails}
-use Rattle.repo_rows.specs.Reading.{◌>>=◌, item_at, items_at}
+use Rattle.row_tables.specs.Reading.{◌>>=◌, item_at, items_at}
 
 -- what was read before, and what is still read
 abbrev pub with_front : List Item → Result (List Item × List ℕ) ℕ → Result (List Item × List ℕ) ℕ

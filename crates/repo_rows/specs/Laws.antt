@@ -3,7 +3,7 @@ use Rattle.std.specs.Prelude.{◌≡◌, ◌<◌, ℕ, List, ◌++◌, length, t
 use Rattle.repo_model.specs.declared.item.Item.{Item}
 use Rattle.row_tables.specs.Items.{IsChange, are_of, change_of}
 use Rattle.row_tables.specs.declared.version.Version.{Version}
-use Rattle.repo_rows.specs.Reading.{taken}
+use Rattle.row_tables.specs.Reading.{taken}
 
 -- what is written of items of a version is read again, whatever stands behind it
 abbrev pub ReadsAgain : Type 0

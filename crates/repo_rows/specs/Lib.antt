@@ -1,4 +1,3 @@
-pub mod Reading
 pub mod Given
 pub mod Sizes
 pub mod Laws

@@ -1,7 +1,7 @@
 //! What items have behind their tags.
 ghost use Rattle.std.specs.Prelude.{◌≡◌, IfOk};
 ghost use Rattle.repo_rows.specs.Given.{Gives};
-ghost use Rattle.repo_rows.specs.Reading.{further_at, short_at, whole_at, print_at, file_at, kept_in, written_at, document_at, kept_at, result_at};
+ghost use Rattle.row_tables.specs.Reading.{further_at, short_at, whole_at, print_at, file_at, kept_in, written_at, document_at, kept_at, result_at};
 ghost use Rattle.row_tables.specs.Items.{directory_at};
 
 use crate::faults::ReadFault;
@@ -26,7 +26,7 @@ pub type FileFields = (Place, (u64, (Recorded, u64)));
 pub type KeptFields = (Place, (u64, Doc));
 
 /// SHA-256 and SHA-512.
-#[tactic(auto, unfolding(crate::specs::Reading::further_at))]
+#[tactic(auto, unfolding(row_tables::specs::Reading::further_at))]
 pub fn read_further(bytes: &[u8]) -> Read<'_, Further>
     ensures { Gives (λ x. (x.0, x.1.now)) result (further_at bytes.now) }
 {
@@ -40,7 +40,7 @@ pub fn read_further(bytes: &[u8]) -> Read<'_, Further>
 }
 
 // What the first version records of a content.
-#[tactic(auto, unfolding(crate::specs::Reading::short_at))]
+#[tactic(auto, unfolding(row_tables::specs::Reading::short_at))]
 fn read_short(bytes: &[u8]) -> Read<'_, Recorded>
     ensures { Gives (λ x. (x.0, x.1.now)) result (short_at bytes.now) }
 {
@@ -60,7 +60,7 @@ fn read_short(bytes: &[u8]) -> Read<'_, Recorded>
 }
 
 // What the second version records of a content.
-#[tactic(auto, unfolding(crate::specs::Reading::whole_at))]
+#[tactic(auto, unfolding(row_tables::specs::Reading::whole_at))]
 fn read_whole(bytes: &[u8]) -> Read<'_, Recorded>
     ensures { Gives (λ x. (x.0, x.1.now)) result (whole_at bytes.now) }
 {
@@ -90,7 +90,7 @@ fn read_print(version: Version, bytes: &[u8]) -> Read<'_, Recorded>
 }
 
 /// What a file's item has.
-#[tactic(auto, unfolding(crate::specs::Reading::file_at))]
+#[tactic(auto, unfolding(row_tables::specs::Reading::file_at))]
 pub fn read_file(alloc: Global, version: Version, bytes: &[u8]) -> Read<'_, FileFields>
     ensures { Gives (λ x. (x.0, x.1.now)) result (file_at version bytes.now) }
 {
@@ -122,7 +122,7 @@ fn kept_document(alloc: Global, path: &str, written: &[u8]) -> Result<Option<Doc
     }
 }
 
-#[tactic(auto, unfolding(crate::specs::Reading::written_at))]
+#[tactic(auto, unfolding(row_tables::specs::Reading::written_at))]
 fn read_written<'a>(alloc: Global, path: &Text, size: usize, bytes: &'a [u8]) -> Read<'a, Doc>
     ensures { Gives (λ x. (x.0, x.1.now)) result (written_at path.now size bytes.now) }
 {
@@ -136,7 +136,7 @@ fn read_written<'a>(alloc: Global, path: &Text, size: usize, bytes: &'a [u8]) ->
     }
 }
 
-#[tactic(auto, unfolding(crate::specs::Reading::document_at))]
+#[tactic(auto, unfolding(row_tables::specs::Reading::document_at))]
 fn read_document<'a>(alloc: Global, path: &Text, bytes: &'a [u8]) -> Read<'a, Doc>
     ensures { Gives (λ x. (x.0, x.1.now)) result (document_at path.now bytes.now) }
 {
@@ -145,7 +145,7 @@ fn read_document<'a>(alloc: Global, path: &Text, bytes: &'a [u8]) -> Read<'a, Do
 }
 
 /// What a document's item has.
-#[tactic(auto, unfolding(crate::specs::Reading::kept_at))]
+#[tactic(auto, unfolding(row_tables::specs::Reading::kept_at))]
 pub fn read_kept(alloc: Global, bytes: &[u8]) -> Read<'_, KeptFields>
     ensures { Gives (λ x. (x.0, x.1.now)) result (kept_at bytes.now) }
 {
@@ -157,7 +157,7 @@ pub fn read_kept(alloc: Global, bytes: &[u8]) -> Read<'_, KeptFields>
 }
 
 /// How a session ended.
-#[tactic(auto, unfolding(crate::specs::Reading::result_at))]
+#[tactic(auto, unfolding(row_tables::specs::Reading::result_at))]
 pub fn read_result(bytes: &[u8]) -> Read<'_, SessionResult>
     ensures { Gives (λ x. (x.0, x.1.now)) result (result_at bytes.now) }
 {

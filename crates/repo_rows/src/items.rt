@@ -1,7 +1,7 @@
 //! Items, and changes of items.
 ghost use Rattle.std.specs.Prelude.{◌≡◌, ◌≤◌, zero, suc};
 ghost use Rattle.repo_rows.specs.Given.{Gives};
-ghost use Rattle.repo_rows.specs.Reading.{then_at, place_at, moment_at, digested_at, item_of, item_at, items_at, counted_items_at, change_at};
+ghost use Rattle.row_tables.specs.Reading.{then_at, place_at, moment_at, digested_at, item_of, item_at, items_at, counted_items_at, change_at};
 
 use crate::faults::ReadFault;
 use crate::fields::{Place, read_file, read_further, read_kept, read_result};
@@ -21,7 +21,7 @@ fn read_dated(alloc: Global, bytes: &[u8]) -> Read<'_, (Place, u64)>
 }
 
 // An item of a hosted repository behind its tag.
-#[tactic(auto, unfolding(crate::specs::Reading::item_of))]
+#[tactic(auto, unfolding(row_tables::specs::Reading::item_of))]
 fn hosted_behind(alloc: Global, version: Version, tag: u8, bytes: &[u8]) -> Read<'_, Item>
     requires { tag ≤ 4 }
     ensures { Gives (λ x. (x.0, x.1.now)) result (item_of version tag bytes.now) }
@@ -66,7 +66,7 @@ fn hosted_behind(alloc: Global, version: Version, tag: u8, bytes: &[u8]) -> Read
 }
 
 // The digests of a file behind their tag.
-#[tactic(auto, unfolding(crate::specs::Reading::digested_at))]
+#[tactic(auto, unfolding(row_tables::specs::Reading::digested_at))]
 fn digested_behind(alloc: Global, version: Version, bytes: &[u8]) -> Read<'_, Item>
     ensures { Gives (λ x. (x.0, x.1.now)) result (digested_at version bytes.now) }
 {
@@ -88,7 +88,7 @@ fn digested_behind(alloc: Global, version: Version, bytes: &[u8]) -> Read<'_, It
 }
 
 // An item behind its tag.
-#[tactic(auto, unfolding(crate::specs::Reading::item_of))]
+#[tactic(auto, unfolding(row_tables::specs::Reading::item_of))]
 fn item_behind(alloc: Global, version: Version, tag: u8, bytes: &[u8]) -> Read<'_, Item>
     ensures { Gives (λ x. (x.0, x.1.now)) result (item_of version tag bytes.now) }
 {
@@ -135,7 +135,7 @@ fn item_behind(alloc: Global, version: Version, tag: u8, bytes: &[u8]) -> Read<'
     }
 }
 
-#[tactic(auto, unfolding(crate::specs::Reading::item_at))]
+#[tactic(auto, unfolding(row_tables::specs::Reading::item_at))]
 fn read_item(alloc: Global, version: Version, bytes: &[u8]) -> Read<'_, Item>
     ensures { Gives (λ x. (x.0, x.1.now)) result (item_at version bytes.now) }
 {
@@ -159,7 +159,7 @@ fn read_items(alloc: Global, version: Version, count: u32, bytes: &[u8]) -> Read
 }
 
 // How many items a change of a version has, and these.
-#[tactic(auto, unfolding(crate::specs::Reading::counted_items_at))]
+#[tactic(auto, unfolding(row_tables::specs::Reading::counted_items_at))]
 fn read_counted(alloc: Global, version: Version, bytes: &[u8]) -> Read<'_, Vec<Item>>
     ensures { Gives (λ x. (x.0.items, x.1.now)) result (counted_items_at version bytes.now) }
 {
@@ -168,7 +168,7 @@ fn read_counted(alloc: Global, version: Version, bytes: &[u8]) -> Read<'_, Vec<I
 }
 
 /// The items of a change.
-#[tactic(auto, unfolding(crate::specs::Reading::change_at))]
+#[tactic(auto, unfolding(row_tables::specs::Reading::change_at))]
 pub fn read_change(alloc: Global, bytes: &[u8]) -> Read<'_, Vec<Item>>
     ensures { Gives (λ x. (x.0.items, x.1.now)) result (change_at bytes.now) }
 {

@@ -2,14 +2,14 @@
 ghost use Rattle.std.specs.Prelude.{◌≡◌};
 ghost use Rattle.std.specs.Int.{w16, w32, w64};
 ghost use Rattle.repo_rows.specs.Given.{Gives};
-ghost use Rattle.repo_rows.specs.Reading.{number_at, moment_at, count_at, serial_at};
+ghost use Rattle.row_tables.specs.Reading.{number_at, moment_at, count_at, serial_at};
 
 use crate::faults::ReadFault;
 
 /// A field and the bytes behind it.
 pub type Read<'a, T> = Result<(T, &'a [u8]), ReadFault>;
 
-#[tactic(auto, unfolding(crate::specs::Reading::number_at))]
+#[tactic(auto, unfolding(row_tables::specs::Reading::number_at))]
 pub fn read_u16(bytes: &[u8]) -> Read<'_, u16>
     ensures { Gives (λ x. (x.0, x.1.now)) result (number_at w16 bytes.now) }
 {
@@ -20,7 +20,7 @@ pub fn read_u16(bytes: &[u8]) -> Read<'_, u16>
     Ok((u16::from_be_bytes([front[0], front[1]]), rest))
 }
 
-#[tactic(auto, unfolding(crate::specs::Reading::number_at))]
+#[tactic(auto, unfolding(row_tables::specs::Reading::number_at))]
 pub fn read_u32(bytes: &[u8]) -> Read<'_, u32>
     ensures { Gives (λ x. (x.0, x.1.now)) result (number_at w32 bytes.now) }
 {
@@ -32,7 +32,7 @@ pub fn read_u32(bytes: &[u8]) -> Read<'_, u32>
     Ok((number, rest))
 }
 
-#[tactic(auto, unfolding(crate::specs::Reading::number_at))]
+#[tactic(auto, unfolding(row_tables::specs::Reading::number_at))]
 pub fn read_u64(bytes: &[u8]) -> Read<'_, u64>
     ensures { Gives (λ x. (x.0, x.1.now)) result (number_at w64 bytes.now) }
 {
@@ -47,7 +47,7 @@ pub fn read_u64(bytes: &[u8]) -> Read<'_, u64>
 }
 
 /// Seconds since 1970, up to the end of the year 9999.
-#[tactic(auto, unfolding(crate::specs::Reading::moment_at))]
+#[tactic(auto, unfolding(row_tables::specs::Reading::moment_at))]
 pub fn read_moment(bytes: &[u8]) -> Read<'_, u64>
     ensures { Gives (λ x. (x.0, x.1.now)) result (moment_at bytes.now) }
 {
@@ -59,7 +59,7 @@ pub fn read_moment(bytes: &[u8]) -> Read<'_, u64>
 }
 
 /// A length or a count, up to 2^63 - 1.
-#[tactic(auto, unfolding(crate::specs::Reading::count_at))]
+#[tactic(auto, unfolding(row_tables::specs::Reading::count_at))]
 pub fn read_count(bytes: &[u8]) -> Read<'_, u64>
     ensures { Gives (λ x. (x.0, x.1.now)) result (count_at bytes.now) }
 {
@@ -71,7 +71,7 @@ pub fn read_count(bytes: &[u8]) -> Read<'_, u64>
 }
 
 /// The number of a blob or a session, from 1 to 2^63 - 1.
-#[tactic(auto, unfolding(crate::specs::Reading::serial_at))]
+#[tactic(auto, unfolding(row_tables::specs::Reading::serial_at))]
 pub fn read_serial(bytes: &[u8]) -> Read<'_, u64>
     ensures { Gives (λ x. (x.0, x.1.now)) result (serial_at bytes.now) }
 {

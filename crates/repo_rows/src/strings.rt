@@ -3,7 +3,7 @@ ghost use Rattle.std.specs.Prelude.{◌≡◌, is_some, length, IfOk};
 ghost use Rattle.std.specs.Int.{w16};
 ghost use Rattle.std.specs.Str.{IsUtf8};
 ghost use Rattle.repo_rows.specs.Given.{Gives};
-ghost use Rattle.repo_rows.specs.Reading.{bytes_at, counted_at, id_at, file_path_at, document_path_at, place_at};
+ghost use Rattle.row_tables.specs.Reading.{bytes_at, counted_at, id_at, file_path_at, document_path_at, place_at};
 ghost use Rattle.std.specs.List.{list_all};
 ghost use Rattle.row_tables.specs.Items.{is_id, is_id_byte, is_file_path, directory_at};
 
@@ -15,7 +15,7 @@ use std::str;
 use texts::Text;
 
 /// So many bytes.
-#[tactic(auto, unfolding(crate::specs::Reading::bytes_at))]
+#[tactic(auto, unfolding(row_tables::specs::Reading::bytes_at))]
 pub fn read_bytes(bytes: &[u8], count: usize) -> Read<'_, &[u8]>
     ensures given { Gives (λ x. (x.0.now, x.1.now)) result (bytes_at count bytes.now) }
     ensures count { IfOk result (λ x. length x.0.now ≡ count) }
@@ -28,7 +28,7 @@ pub fn read_bytes(bytes: &[u8], count: usize) -> Read<'_, &[u8]>
 }
 
 /// A length in 2 bytes, and so many bytes.
-#[tactic(auto, unfolding(crate::specs::Reading::counted_at))]
+#[tactic(auto, unfolding(row_tables::specs::Reading::counted_at))]
 fn read_short(bytes: &[u8]) -> Read<'_, &[u8]>
     ensures { Gives (λ x. (x.0.now, x.1.now)) result (counted_at w16 bytes.now) }
 {
@@ -82,7 +82,7 @@ fn is_document_path(path: &[u8]) -> bool
 }
 
 /// The id of a repository.
-#[tactic(auto, unfolding(crate::specs::Reading::id_at))]
+#[tactic(auto, unfolding(row_tables::specs::Reading::id_at))]
 pub fn read_id(alloc: Global, bytes: &[u8]) -> Read<'_, Text>
     ensures { Gives (λ x. (x.0, x.1.now)) result (id_at bytes.now) }
 {
@@ -94,7 +94,7 @@ pub fn read_id(alloc: Global, bytes: &[u8]) -> Read<'_, Text>
 }
 
 /// The path of a file.
-#[tactic(auto, unfolding(crate::specs::Reading::file_path_at))]
+#[tactic(auto, unfolding(row_tables::specs::Reading::file_path_at))]
 pub fn read_file_path(alloc: Global, bytes: &[u8]) -> Read<'_, Text>
     ensures { Gives (λ x. (x.0, x.1.now)) result (file_path_at bytes.now) }
 {
@@ -106,7 +106,7 @@ pub fn read_file_path(alloc: Global, bytes: &[u8]) -> Read<'_, Text>
 }
 
 /// The path of a document.
-#[tactic(auto, unfolding(crate::specs::Reading::document_path_at))]
+#[tactic(auto, unfolding(row_tables::specs::Reading::document_path_at))]
 pub fn read_document_path(alloc: Global, bytes: &[u8]) -> Read<'_, Text>
     ensures { Gives (λ x. (x.0, x.1.now)) result (document_path_at bytes.now) }
 {
@@ -118,7 +118,7 @@ pub fn read_document_path(alloc: Global, bytes: &[u8]) -> Read<'_, Text>
 }
 
 /// The id of a repository and the path of a file in it.
-#[tactic(auto, unfolding(crate::specs::Reading::place_at))]
+#[tactic(auto, unfolding(row_tables::specs::Reading::place_at))]
 pub fn read_place(alloc: Global, bytes: &[u8]) -> Read<'_, (Text, Text)>
     ensures { Gives (λ x. (x.0, x.1.now)) result (place_at bytes.now) }
 {

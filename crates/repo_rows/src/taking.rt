@@ -1,6 +1,6 @@
 ghost use Rattle.std.specs.Prelude.{◌≡◌};
 ghost use Rattle.repo_rows.specs.Given.{GivesRows};
-ghost use Rattle.repo_rows.specs.Reading.{taken};
+ghost use Rattle.row_tables.specs.Reading.{taken};
 
 use crate::faults::{ReadFault, RowFault};
 use crate::items::read_change;

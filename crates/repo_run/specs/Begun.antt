@@ -24,8 +24,8 @@ use Rattle.store_check.specs.Checking.{Recorded, RefusesDamaged, RefusesStore}
 
 -- The repository of these settings, which have their form, before its first call, over what is recorded and stored. A start gives the
 -- recorded rows the further digests that they lack, of the contents that it finds, and leaves the records' tables as they are else; it
--- removes of the store exactly what no row names. No change whose commit failed is pending then. Where nothing is recorded or stored,
--- it is the repository that was never asked.
+-- removes of the store exactly what no row names. No change whose commit failed is pending then, and a stop leaves the tables. Where
+-- nothing is recorded or stored, it is the repository that was never asked.
 pub record Begins (settings : Settings) (records : Recorded) (old new : cleaning.Store) (clock : Option Moments) (core : Whole) : Type 0 where
   pub form : IsSettings settings
   pub tables : Tables
@@ -35,7 +35,8 @@ pub record Begins (settings : Settings) (records : Recorded) (old new : cleaning
   pub tables_are : core.tables ≡ option_map (λ (t : Tables). tables) records.tables
   pub digested : IsDigestedWhereTold old.shelf records.tables core.tables
   pub calls_are : core.calls ≡ 0
-  pub settled : core.pending ≡ None
+  pub settled : core.unsettled.pending ≡ None
+  pub rests : Rests core.tables core.unsettled
   pub still : new.faults ≡ old.faults
   pub opens : IfSome records.tables (λ t. t ≡ no_tables → IfSome old.shelf.blobs (λ them. them ≡ [] → core.state ≡ counting records.faults (opening settings clock)))
 
@@ -64,12 +65,12 @@ RefusesStart (Damaged damage) old new status = RefusesDamaged damage old new sta
 abbrev pub LeavesRecords : Recorded → Recorded → Type 0
 LeavesRecords old new = (new.tables ≡ old.tables) × (new.faults ≡ old.faults)
 
--- the records hold what a repository has recorded with them and have failed as often as it says; the change whose commit failed is the
--- one that it says, and a stop leaves the tables, or these with that change
+-- the records hold what a repository has recorded with them, have failed as often as it says, and are as unsettled as it says: a stop
+-- leaves the tables, or these with the change whose commit failed
 abbrev pub HoldsRecords : Whole → Recorded → Type 0
 HoldsRecords core records =
-    (records.tables ≡ core.tables) × (records.faults ≡ core.state.faults) × (records.unsettled.pending ≡ core.pending)
-    × Rests records.tables records.unsettled
+    (records.tables ≡ core.tables) × (records.faults ≡ core.state.faults) × (records.unsettled ≡ core.unsettled)
+    × Rests core.tables core.unsettled
 
 -- nothing is recorded or stored yet, as the records and the store tell, and no call of the records failed before or after
 pub record IsFresh (records records' : Recorded) (blobs : cleaning.Store) : Type 0 where

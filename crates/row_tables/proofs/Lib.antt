@@ -3,3 +3,4 @@ pub mod Rising
 pub mod Kept
 pub mod Applied
 pub mod Latest
+pub mod OneOf

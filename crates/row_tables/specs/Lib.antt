@@ -4,5 +4,7 @@ pub mod Applying
 pub mod Records
 pub mod Recorded
 pub mod Commits
+pub mod Reading
+pub mod Loading
 pub mod Stops
 pub mod Stopping

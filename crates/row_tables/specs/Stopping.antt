@@ -1,9 +1,10 @@
 -- What one entry of a history does to what a stop leaves of the records.
 use Rattle.std.specs.Prelude.{◌≡◌, List, [], Option, Some, None}
 use Rattle.repo_model.specs.declared.item.Item.{Item}
+use Rattle.repo_model.specs.Command.{Command, collect}
 use Rattle.repo_model.specs.Effect.{recorded}
 use Rattle.repo_model.specs.History.{Entry, effects_of}
-use Rattle.repo_model.specs.Reply.{store_fault}
+use Rattle.repo_model.specs.Reply.{Reply, collected, store_fault}
 use Rattle.repo_model.specs.Settings.{Settings}
 use Rattle.repo_model.specs.State.{State}
 use Rattle.repo_model.specs.Tables.{Tables}
@@ -14,11 +15,16 @@ use Rattle.row_tables.specs.Stops.{StopsInside, Rests, Unsettled}
 abbrev pub tried : Settings → State → Entry → List Item
 tried settings s e = recorded (turn settings s e.moment e.command).effects
 
--- How an entry changes what is pending: nothing is pending behind it; or it records nothing, and what was pending stays so; or the
--- records failed, and what it tried is pending.
+-- a Collect that answers what it collected
+abbrev pub HasCollected : Reply → Command → Type 0
+HasCollected (collected expired blobs) collect = Unit {0}
+HasCollected reply command = ⊥
+
+-- How an entry changes what is pending: nothing is pending behind it; or it records nothing and is no Collect that collected, and what
+-- was pending stays so; or the records failed, and what it tried is pending.
 pub data Pends (settings : Settings) (s : State) (e : Entry) (old new : Option (List Item)) : Type 0 where
   undone : new ≡ None → Pends settings s e old new
-  stays : recorded (effects_of settings s e) ≡ [] → new ≡ old → Pends settings s e old new
+  stays : recorded (effects_of settings s e) ≡ [] → (HasCollected e.reply e.command → ⊥) → new ≡ old → Pends settings s e old new
   fails : e.reply ≡ store_fault → new ≡ Some (tried settings s e) → Pends settings s e old new
 
 -- What one entry does, over tables that are told before it and behind it: at each moment of its call a stop leaves what one before

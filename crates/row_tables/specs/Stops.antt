@@ -6,21 +6,18 @@ use Rattle.repo_model.specs.Reply.{Reply, no_memory, store_fault}
 use Rattle.repo_model.specs.Tables.{Tables}
 use Rattle.row_tables.specs.Applying.{with_items}
 use Rattle.row_tables.specs.Commits.{tables_with}
+use Rattle.row_tables.specs.Loading.{tables_in}
 use Rattle.row_tables.specs.declared.faults.CommitFault.{CommitFault}
 use Rattle.row_tables.specs.declared.faults.CommitFault.TheVariants as commit
 
--- the calls on the file of records so far, and the tables that a start reads from a file
-pub record Trail : Type 0 where
-  pub trace : Trace
-  pub reads : List ℕ → Option Tables
-
--- What a stop may leave beside the tables: the change whose commit failed and that is not undone, and the file, where it is told.
+-- What a stop may leave beside the tables: the change whose commit failed and that is not undone, and the calls on the file of records so far,
+-- where they are told.
 pub record Unsettled : Type 0 where
   pub pending : Option (List Item)
-  pub trail : Option Trail
+  pub trace : Option Trace
 
 abbrev pub nothing_unsettled : Unsettled
-nothing_unsettled = record { pending = None; trail = None }
+nothing_unsettled = record { pending = None; trace = None }
 
 -- what a start may find between calls: the tables, or these with the change whose commit failed
 abbrev pub left_by : Tables → Option (List Item) → List Tables
@@ -33,24 +30,24 @@ IsOneOf t [] = ⊥
 IsOneOf t (u ∷ us) = (u ≡ t) ⊎ IsOneOf t us
 
 -- a file from which a start reads one of these tables
-abbrev pub ReadsAmong : (List ℕ → Option Tables) → List Tables → List ℕ → Type 0
-ReadsAmong reads ts file = (t : Tables) × (reads file ≡ Some t) × IsOneOf t ts
+abbrev pub ReadsAmong : List Tables → List ℕ → Type 0
+ReadsAmong ts file = (t : Tables) × (tables_in file ≡ Some t) × IsOneOf t ts
 
 -- A stop at any moment from the one to the other leaves such a file; or no file is told.
-abbrev pub StopsLeave : List Tables → Option Trail → Option Trail → Type 0
+abbrev pub StopsLeave : List Tables → Option Trace → Option Trace → Type 0
 StopsLeave ts None None = Unit {0}
 StopsLeave ts None (Some new) = ⊥
 StopsLeave ts (Some old) None = ⊥
-StopsLeave ts (Some old) (Some new) = (new.reads ≡ old.reads) × Throughout (ReadsAmong old.reads ts) old.trace new.trace
+StopsLeave ts (Some old) (Some new) = Throughout (ReadsAmong ts) old new
 
 -- a stop now leaves the tables, or these with the change that is pending
 abbrev pub Rests : Option Tables → Unsettled → Type 0
-Rests told now = (t : Tables) → told ≡ Some t → StopsLeave (left_by t now.pending) now.trail now.trail
+Rests told now = (t : Tables) → told ≡ Some t → StopsLeave (left_by t now.pending) now.trace now.trace
 
 -- a stop at any moment of a call leaves what one before the call or behind it leaves
 abbrev pub StopsInside : Option Tables → Option Tables → Unsettled → Unsettled → Type 0
 StopsInside told told' old new =
-    (t u : Tables) → told ≡ Some t → told' ≡ Some u → StopsLeave (left_by t old.pending ++ left_by u new.pending) old.trail new.trail
+    (t u : Tables) → told ≡ Some t → told' ≡ Some u → StopsLeave (left_by t old.pending ++ left_by u new.pending) old.trace new.trace
 
 -- Items were committed, and nothing is pending; or there are none, and nothing was done.
 abbrev pub IsCommitted : List Item → Option Tables → Unsettled → Unsettled → Type 0

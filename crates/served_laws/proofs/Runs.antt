@@ -21,7 +21,7 @@ use Rattle.repo_laws.proofs.StartedSound.{started-sound}
 use Rattle.repo_laws.proofs.Untouched.{untouched}
 use Rattle.table_laws.proofs.Building.{built-order, built-range}
 use Rattle.row_tables.specs.Commits.{tables_with}
-use Rattle.row_tables.specs.Stops.{IsOneOf, left_by}
+use Rattle.row_tables.specs.Stops.{IsOneOf, Rests, Unsettled, left_by}
 use Rattle.stop_laws.proofs.RunLaws.{among-finds}
 use Rattle.row_completion.specs.Completion.{IsDigestedWhereTold}
 use Rattle.row_completion.proofs.Digesting.{completes-so}
@@ -38,7 +38,7 @@ use Rattle.turn_lock.specs.History as calls
 use Rattle.turn_seats.specs.Seated.{Sight, entry_of}
 use Rattle.settings_laws.proofs.Apart.{named-apart, proxies-apart}
 use Rattle.served_laws.specs.Runs.{CompletesTold, IsClosed, RecordsTables}
-use Rattle.served_laws.specs.Stopped.{AreMade, CleanOutlasts, Made, RecordsOutlastStops, entries_made, left_behind, pending_behind, turns_made}
+use Rattle.served_laws.specs.Stopped.{CleanOutlasts, Made, RecordsOutlastStops, entries_made, left_behind, turns_made, unsettled_behind}
 use Rattle.served_laws.proofs.Stopped.{GoesOn, outlasts, turns-go-on}
 
 same-tables : (tables : Option Tables) → tables ≡ option_map (λ t. with_items t []) tables
@@ -134,19 +134,20 @@ module _ (settings : Settings) (records : Recorded) (old cleared : Store) (clock
       let told_core : core.tables ≡ Some begins.tables = begins.tables_are ∙ ap (option_map (λ (t : Tables). begins.tables)) told_so in
       let on : GoesOn settings core begins.tables made left = goes_on begins.tables told_core in
       let last : Tables = with_items begins.tables (told settings core.state (entries_made made)) in
-      let told_back : records'.tables ≡ Some last = holds.0 ∙ on.tables in
-      let pending_back : records'.unsettled.pending ≡ pending_behind None made =
-      holds.2 ∙ on.pending ∙ ap (λ (p : Option (List Item)). pending_behind p made) begins.settled in
+      let unsettled_back : records'.unsettled ≡ unsettled_behind core.unsettled made = holds.2 ∙ on.unsettled in
       record {
         whole = begins.tables;
         told_core = told_core;
         completes = subst (λ (t : Tables). Completes t begins.tables) (loaded-told before told_so) completes;
-        outlasts = outlasts settings apart (proxies-apart settings begins.form) core.state begins.tables made begun-sound whole-order begun-stands.holds on.legal
-            (subst (AreMade settings core.state made) begins.settled on.are);
-        told_back = told_back;
-        pending_back = pending_back;
-        found_back = among-finds (λ u. IsOneOf u (left_behind settings core.state begins.tables made None)) (left_by last records'.unsettled.pending) records'.unsettled.trail
-            records'.unsettled.trail (λ u is. subst (λ (p : Option (List Item)). IsOneOf u (left_by last p)) pending_back is) (holds.3 last told_back);
+        settled = begins.settled;
+        outlasts = outlasts settings apart (proxies-apart settings begins.form) core.state begins.tables core.unsettled made begun-sound whole-order begun-stands.holds on.legal on.are
+            begins.settled (subst (λ (told_so : Option Tables). Rests told_so core.unsettled) told_core begins.rests);
+        told_back = holds.0 ∙ on.tables;
+        unsettled_back = unsettled_back;
+        found_back =
+            among-finds (λ u. IsOneOf u (left_behind settings core.state begins.tables core.unsettled made)) (left_by last records'.unsettled.pending) records'.unsettled.trace
+            records'.unsettled.trace (λ u is. subst (λ (w : Unsettled). IsOneOf u (left_by last w.pending)) unsettled_back is)
+            (subst (λ (w : Unsettled). Rests left.tables w) (sym holds.2) holds.3 last on.tables);
       }
 
   -- so do its turns, one after another

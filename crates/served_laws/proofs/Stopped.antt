@@ -1,4 +1,4 @@
--- The turns of a core one after another, each with what is pending behind it, and what a start finds then.
+-- The turns of a core one after another, each with what is unsettled behind it, and what a start finds then.
 use Rattle.std.proofs.Common.{◌≡◌, ◌≢◌, ℕ, Bool, List, [], ◌∷◌, ◌++◌, Option, Some, None, Ok, Err, refl, sym, subst, ap, ◌∙◌}
 use Rattle.std.specs.Prelude.{◌&&◌, IsTrue, Result, is_some}
 use Rattle.std.proofs.lemmas.List.Sums.{fold-append}
@@ -8,12 +8,12 @@ use Rattle.mvn_coords.specs.declared.fault.PathFault.{PathFault}
 use Rattle.mvn_coords.specs.declared.kind.Kind.{Kind}
 use Rattle.mvn_coords.specs.declared.kind.Kind.TheVariants.{File, FileSide, Doc, DocSide}
 use Rattle.repo_model.specs.declared.item.Item.{Item}
-use Rattle.repo_model.specs.Command.{Command, is_fit, is_parcel, is_there, meets, put, rule_of}
+use Rattle.repo_model.specs.Command.{Command, collect, is_fit, is_parcel, is_there, meets, put, rule_of}
 use Rattle.repo_model.specs.Data.{Blob, Row}
 use Rattle.repo_model.specs.Effect.{new_row, recorded}
 use Rattle.repo_model.specs.History.{Entry, Fits, Legal, after, effects_of, end}
 use Rattle.repo_model.specs.Paths.{file_in, takes_file}
-use Rattle.repo_model.specs.Reply.{created}
+use Rattle.repo_model.specs.Reply.{collected, created}
 use Rattle.repo_model.specs.Settings.{Rule, Settings}
 use Rattle.repo_model.specs.State.{State, row_at, rows_of}
 use Rattle.repo_model.specs.Tables.{Tables, item_on}
@@ -22,18 +22,21 @@ use Rattle.repo_laws.specs.Sound.{AreNamedApart, AreProxiesApart, IsSound}
 use Rattle.repo_laws.proofs.Holding.{history-recorded}
 use Rattle.repo_laws.proofs.Keeping.{keeps-sound}
 use Rattle.row_tables.specs.Commits.{tables_with}
-use Rattle.row_tables.specs.Stopping.{Pends}
-use Rattle.row_tables.specs.Stops.{IsOneOf, left_by}
-use Rattle.stop_laws.specs.Runs.{IsAnsweredAgain, tables_after}
-use Rattle.stop_laws.specs.Stops.{AreNoCollects, PendAlong}
-use Rattle.stop_laws.proofs.RunLaws.{created-left, left-again, left-between}
+use Rattle.row_tables.specs.Stopping.{Stopping}
+use Rattle.row_tables.specs.Stops.{IsOneOf, Rests, Unsettled, left_by}
+use Rattle.stop_laws.specs.Found.{NamesNone}
+use Rattle.stop_laws.specs.Runs.{IsAnsweredAgain, StopsAlong, tables_after}
+use Rattle.stop_laws.specs.Stops.{MayNotGo, PendAlong}
+use Rattle.stop_laws.proofs.Created.{created-records, created-stands}
+use Rattle.stop_laws.proofs.GivenOut.{collected-settles, given-out-left, given-out-unnamed}
+use Rattle.stop_laws.proofs.RunLaws.{entry-again, entry-finds, left-again, left-between, runs-find}
 use Rattle.repo_core.specs.CoreTurn.{CoreTurn}
 use Rattle.repo_core.specs.Whole.{Whole}
 use Rattle.repo_run.specs.FirstConnection.{Makes}
 use Rattle.turn_lock.specs.declared.view.Entry.{Entry as Call}
 use Rattle.turn_lock.specs.History as calls
 use Rattle.turn_seats.specs.Seated.{Sight, entry_of}
-use Rattle.served_laws.specs.Stopped.{AreMade, Made, OutlastsStops, calls_made, entries_made, left_behind, pending_behind, turns_made}
+use Rattle.served_laws.specs.Stopped.{AreMade, FindsSince, Made, OutlastsStops, calls_made, entries_made, left_behind, turns_made, unsettled_behind}
 
 -- a rule that takes a file is there, and the path is that of a file
 takes-what : (rule : Option Rule) (k : Result Kind PathFault) (b : Bool) → IsTrue (is_fit (λ (r : Rule). takes_file r (file_in k)) rule && b)
@@ -48,9 +51,9 @@ takes-what (Some rule) (Ok (DocSide d side)) b met = absurd (cc)
 -- a core went on from tables to another one by what was made
 pub record GoesOn (settings : Settings) (old : Whole) (t : Tables) (made : List Made) (new : Whole) : Type 0 where
   pub legal : Legal settings old.state (entries_made made)
-  pub are : AreMade settings old.state made old.pending
+  pub are : AreMade settings old.state t made old.unsettled
   pub tables : new.tables ≡ Some (with_items t (told settings old.state (entries_made made)))
-  pub pending : new.pending ≡ pending_behind old.pending made
+  pub unsettled : new.unsettled ≡ unsettled_behind old.unsettled made
 
 module _ (settings : Settings) where
   -- of a put that may be made the repository is there, and the path is that of a file
@@ -61,7 +64,7 @@ module _ (settings : Settings) where
 
   -- a core that was asked nothing
   pub stays : (w : Whole) (t : Tables) → w.tables ≡ Some t → GoesOn settings w t [] w
-  stays w t told_so = record { legal = tt; are = tt; tables = told_so; pending = refl }
+  stays w t told_so = record { legal = tt; are = tt; tables = told_so; unsettled = refl }
 
   -- the tables behind a turn
   told-next : (e : Entry) (old mid : Whole) (t : Tables) → old.settings ≡ settings → old.tables ≡ Some t → CoreTurn old.settings old e mid
@@ -70,22 +73,30 @@ module _ (settings : Settings) where
       turn.tables ∙ ap (λ (s : Settings). tables_with (recorded (effects_of s old.state e)) old.tables) settings_are
       ∙ ap (tables_with (recorded (effects_of settings old.state e))) told_so
 
+  -- what a stop leaves at each moment of a turn
+  stops-by : (e : Entry) (old mid : Whole) (t : Tables) → old.settings ≡ settings → old.tables ≡ Some t → CoreTurn old.settings old e mid
+      → Stopping settings old.state e (Some t) (Some (tables_after settings old.state e t)) old.unsettled mid.unsettled
+  stops-by e old mid t settings_are told_so turn =
+      subst (λ (told : Option Tables). Stopping settings old.state e told (Some (tables_after settings old.state e t)) old.unsettled mid.unsettled) told_so
+      (subst (λ (told : Option Tables). Stopping settings old.state e old.tables told old.unsettled mid.unsettled) (told-next e old mid t settings_are told_so turn)
+      (subst (λ (s : Settings). Stopping s old.state e old.tables mid.tables old.unsettled mid.unsettled) settings_are turn.stops))
+
   -- a turn, and what goes on behind it
-  goes-on : (e : Entry) (old mid new : Whole) (t : Tables) (made : List Made) → old.settings ≡ settings → CoreTurn old.settings old e mid
-      → GoesOn settings mid (tables_after settings old.state e t) made new → GoesOn settings old t (record { entry = e; pending = mid.pending } ∷ made) new
-  goes-on e old mid new t made settings_are turn later =
+  goes-on : (e : Entry) (old mid new : Whole) (t : Tables) (made : List Made) → old.settings ≡ settings → old.tables ≡ Some t → CoreTurn old.settings old e mid
+      → GoesOn settings mid (tables_after settings old.state e t) made new → GoesOn settings old t (record { entry = e; leaves = mid.unsettled } ∷ made) new
+  goes-on e old mid new t made settings_are told_so turn later =
       let next : Tables = tables_after settings old.state e t in
       let state_is : mid.state ≡ after settings old.state e = turn.state ∙ ap (λ (s : Settings). after s old.state e) settings_are in
       record {
         legal = (subst (λ (s : Settings). Fits s old.state e) settings_are turn.fits, subst (λ (s : State). Legal settings s (entries_made made)) state_is later.legal);
         are = (
-          subst (λ (s : Settings). Pends s old.state e old.pending mid.pending) settings_are turn.pends,
-          subst (λ (s : State). AreMade settings s made mid.pending) state_is later.are,
+          stops-by e old mid t settings_are told_so turn,
+          subst (λ (s : State). AreMade settings s next made mid.unsettled) state_is later.are,
         );
         tables =
             later.tables ∙ ap (λ (s : State). Some (with_items next (told settings s (entries_made made)))) state_is
             ∙ ap Some (sym (fold-append item_on t (recorded (effects_of settings old.state e)) (told settings (after settings old.state e) (entries_made made))));
-        pending = later.pending;
+        unsettled = later.unsettled;
       }
 
   -- the turns of a core, one after another
@@ -93,7 +104,7 @@ module _ (settings : Settings) where
       → GoesOn settings old t (turns_made entries old new makes) new
   turns-go-on [] old new t makes settings_are told_so = subst (λ (w : Whole). GoesOn settings old t [] w) (sym makes) (stays old t told_so)
   turns-go-on (e ∷ entries) old new t (mid, turn, makes) settings_are told_so =
-      goes-on e old mid new t (turns_made entries mid new makes) settings_are turn
+      goes-on e old mid new t (turns_made entries mid new makes) settings_are told_so turn
       (turns-go-on entries mid new (tables_after settings old.state e t) makes (turn.same ∙ settings_are) (told-next e old mid t settings_are told_so turn))
 
   -- so the calls of a history of one
@@ -106,27 +117,49 @@ module _ (settings : Settings) where
     calls-go-on (call ∷ log) x t legal settings_are told_so =
         let e : Entry = entry_of sight call in
         let turn : CoreTurn x.settings x e call.after = is_turn x call.after call.call call.reply legal.0 in
-        goes-on e x call.after (calls.end_of call.after log) t (calls_made sight log) settings_are turn
+        goes-on e x call.after (calls.end_of call.after log) t (calls_made sight log) settings_are told_so turn
         (calls-go-on log call.after (tables_after settings x.state e t) legal.1 (turn.same ∙ settings_are) (told-next e x call.after t settings_are told_so turn))
 
   -- the first of some that were made
-  first-ones : (first rest : List Made) (s : State) (old : Option (List Item)) → Legal settings s (entries_made (first ++ rest)) → AreMade settings s (first ++ rest) old
-      → Legal settings s (entries_made first) × PendAlong settings s (entries_made first) old (pending_behind old first)
-  first-ones [] rest s old legal are = (tt, refl)
-  first-ones (m ∷ first) rest s old legal are =
-      let more = first-ones first rest (after settings s m.entry) m.pending legal.1 are.1 in
-      ((legal.0, more.0), (m.pending, are.0, more.1))
+  first-ones : (first rest : List Made) (s : State) (t : Tables) (old : Unsettled) → Legal settings s (entries_made (first ++ rest)) → AreMade settings s t (first ++ rest) old
+      → Legal settings s (entries_made first) × AreMade settings s t first old
+  first-ones [] rest s t old legal are = (tt, tt)
+  first-ones (m ∷ first) rest s t old legal are =
+      let more = first-ones first rest (after settings s m.entry) (tables_after settings s m.entry t) m.leaves legal.1 are.1 in
+      ((legal.0, more.0), (are.0, more.1))
+
+  -- what is pending along what was made, and what a stop leaves
+  pend-of : (made : List Made) (s : State) (t : Tables) (old : Unsettled) → AreMade settings s t made old
+      → PendAlong settings s (entries_made made) old.pending (unsettled_behind old made).pending
+  pend-of [] s t old are = refl
+  pend-of (m ∷ made) s t old are = (m.leaves.pending, are.0.pends, pend-of made (after settings s m.entry) (tables_after settings s m.entry t) m.leaves are.1)
+
+  runs-of : (made : List Made) (s : State) (t : Tables) (old : Unsettled) → AreMade settings s t made old → StopsAlong settings s t (entries_made made) old (unsettled_behind old made)
+  runs-of [] s t old are = refl
+  runs-of (m ∷ made) s t old are = (m.leaves, are.0, runs-of made (after settings s m.entry) (tables_after settings s m.entry t) m.leaves are.1)
+
+  -- one that was made behind a front
+  stops-at : (front rest : List Made) (m : Made) (s : State) (t : Tables) (old : Unsettled) → AreMade settings s t (front ++ m ∷ rest) old
+      → Stopping settings (end settings s (entries_made front)) m.entry (Some (with_items t (told settings s (entries_made front))))
+      (Some (tables_after settings (end settings s (entries_made front)) m.entry (with_items t (told settings s (entries_made front))))) (unsettled_behind old front) m.leaves
+  stops-at [] rest m s t old are = are.0
+  stops-at (x ∷ front) rest m s t old are =
+      subst
+      (λ (there : Tables). Stopping settings (end settings s (entries_made (x ∷ front))) m.entry (Some there)
+      (Some (tables_after settings (end settings s (entries_made (x ∷ front))) m.entry there)) (unsettled_behind x.leaves front) m.leaves)
+      (sym (fold-append item_on t (recorded (effects_of settings s x.entry)) (told settings (after settings s x.entry) (entries_made front))))
+      (stops-at front rest m (after settings s x.entry) (tables_after settings s x.entry t) x.leaves are.1)
 
   module _ (apart : AreNamedApart settings.hosted) (proxies : AreProxiesApart settings.proxies) where
-    -- where one that was made stands: the tables there and what was pending before it, what is known of these, and what is left behind it
-    reached : (first later rest : List Made) (m : Made) (s : State) (t : Tables) (old : Option (List Item)) → IsSound settings s → InOrder t → Holds t s
-        → Legal settings s (entries_made (first ++ m ∷ (later ++ rest))) → AreMade settings s (first ++ m ∷ (later ++ rest)) old
-        → (there : Tables) × (left : Option (List Item)) × IsSound settings (end settings s (entries_made first)) × InOrder there
+    -- where one that was made stands: the tables there and what was unsettled before it, what is known of these, and what is left behind it
+    reached : (first later rest : List Made) (m : Made) (s : State) (t : Tables) (old : Unsettled) → IsSound settings s → InOrder t → Holds t s
+        → Legal settings s (entries_made (first ++ m ∷ (later ++ rest))) → AreMade settings s t (first ++ m ∷ (later ++ rest)) old
+        → (there : Tables) × (left : Unsettled) × IsSound settings (end settings s (entries_made first)) × InOrder there
         × Holds there (end settings s (entries_made first)) × Legal settings (end settings s (entries_made first)) (m.entry ∷ entries_made (later ++ rest))
-        × AreMade settings (end settings s (entries_made first)) (m ∷ (later ++ rest)) left
-        × ((u : Tables) → IsOneOf u (left_behind settings s t (first ++ m ∷ later) old)
+        × AreMade settings (end settings s (entries_made first)) there (m ∷ (later ++ rest)) left
+        × ((u : Tables) → IsOneOf u (left_behind settings s t old (first ++ m ∷ later))
         → IsOneOf u (left_by (with_items (tables_after settings (end settings s (entries_made first)) m.entry there)
-        (told settings (after settings (end settings s (entries_made first)) m.entry) (entries_made later))) (pending_behind m.pending later)))
+        (told settings (after settings (end settings s (entries_made first)) m.entry) (entries_made later))) (unsettled_behind m.leaves later).pending))
     reached [] later rest m s t old sound order holds legal are = (
       t,
       old,
@@ -136,7 +169,7 @@ module _ (settings : Settings) where
       legal,
       are,
       (λ u is.
-          subst (λ (x : Tables). IsOneOf u (left_by x (pending_behind m.pending later)))
+          subst (λ (x : Tables). IsOneOf u (left_by x (unsettled_behind m.leaves later).pending))
           (fold-append item_on t (recorded (effects_of settings s m.entry)) (told settings (after settings s m.entry) (entries_made later))) is),
     )
     reached (x ∷ first) later rest m s t old sound order holds legal are =
@@ -144,7 +177,7 @@ module _ (settings : Settings) where
         let next : Tables = tables_after settings s x.entry t in
         let same : with_items t (told settings s (x.entry ∷ [])) ≡ next = fold-append item_on t (recorded (effects_of settings s x.entry)) [] in
         let (there, left, sound', order', holds', legal', are', behind) =
-        reached first later rest m (after settings s x.entry) next x.pending (keeps-sound settings apart s x.entry sound legal.0)
+        reached first later rest m (after settings s x.entry) next x.leaves (keeps-sound settings apart s x.entry sound legal.0)
         (subst InOrder same kept.1) (subst (λ (u : Tables). Holds u (after settings s x.entry)) same kept.2) legal.1 are.1 in (
           there,
           left,
@@ -155,49 +188,84 @@ module _ (settings : Settings) where
           are',
           (λ u is.
               behind u
-              (subst (λ (y : Tables). IsOneOf u (left_by y (pending_behind x.pending (first ++ m ∷ later))))
+              (subst (λ (y : Tables). IsOneOf u (left_by y (unsettled_behind x.leaves (first ++ m ∷ later)).pending))
               (fold-append item_on t (recorded (effects_of settings s x.entry)) (told settings (after settings s x.entry) (entries_made (first ++ m ∷ later)))) is)),
         )
 
-    module _ (s : State) (t : Tables) (made : List Made) (sound : IsSound settings s) (order : InOrder t) (holds : Holds t s)
-        (legal : Legal settings s (entries_made made)) (are : AreMade settings s made None) where
-      -- a file that stands behind a call that recorded something
-      standing-again : (first later rest : List Made) (m : Made) (repo : List ℕ) (row : Row) (c : Coordinates) (u : Tables) → made ≡ first ++ m ∷ (later ++ rest)
+    module _ (s : State) (t : Tables) (old : Unsettled) (made : List Made) (sound : IsSound settings s) (order : InOrder t) (holds : Holds t s)
+        (legal : Legal settings s (entries_made made)) (are : AreMade settings s t made old) where
+      -- what stands behind a call that recorded something
+      standing-again : (first later rest : List Made) (m : Made) (repo : List ℕ) (row : Row) (c : Coordinates) → made ≡ first ++ m ∷ (later ++ rest)
           → recorded (effects_of settings (end settings s (entries_made first)) m.entry) ≢ []
           → row_at row.path (rows_of repo (after settings (end settings s (entries_made first)) m.entry)) ≡ Some row
-          → IsTrue (is_there repo settings) → kind row.path ≡ Ok (File c) → AreNoCollects (entries_made later)
-          → IsOneOf u (left_behind settings s t (first ++ m ∷ later) None) → IsAnsweredAgain settings repo row u
-      standing-again first later rest m repo row c u parts some stands known named none found =
+          → IsTrue (is_there repo settings) → kind row.path ≡ Ok (File c) → MayNotGo (entries_made later) row.path
+          → FindsSince settings s t old (IsAnsweredAgain settings repo row) first m later
+      standing-again first later rest m repo row c parts some stands known named stay =
           let at = end settings s (entries_made first) in
           let (there, left, sound', order', holds', legal', are', behind) =
-          reached first later rest m s t None sound order holds (subst (λ (all : List Made). Legal settings s (entries_made all)) parts legal)
-          (subst (λ (all : List Made). AreMade settings s all None) parts are) in
-          let front = first-ones later rest (after settings at m.entry) m.pending legal'.1 are'.1 in
-          left-again settings at there u m.entry (entries_made later) left m.pending (pending_behind m.pending later) repo row c apart proxies sound' order' holds' (legal'.0, front.0) none
-          known named some stands are'.0 front.1 (behind u found)
+          reached first later rest m s t old sound order holds (subst (λ (all : List Made). Legal settings s (entries_made all)) parts legal)
+          (subst (λ (all : List Made). AreMade settings s t all old) parts are) in
+          let next : Tables = tables_after settings at m.entry there in
+          let front = first-ones later rest (after settings at m.entry) next m.leaves legal'.1 are'.1 in (
+            (λ u found.
+                left-again settings at there u m.entry (entries_made later) left.pending m.leaves.pending (unsettled_behind m.leaves later).pending repo row c apart proxies sound' order' holds' (legal'.0, front.0) stay
+                known named some stands are'.0.pends (pend-of later (after settings at m.entry) next m.leaves front.1) (behind u found)),
+            entry-again settings at there m.entry (entries_made later) left m.leaves (unsettled_behind m.leaves later) repo row c apart proxies sound' order' holds' (legal'.0, front.0) stay
+                known named some stands (m.leaves, are'.0, refl) (runs-of later (after settings at m.entry) next m.leaves front.1),
+          )
 
-      -- a file that a put created
-      created-there : (first later rest : List Made) (m : Made) (repo path : List ℕ) (n : ℕ) (blob : Blob) (u : Tables) → made ≡ first ++ m ∷ (later ++ rest)
-          → m.entry.command ≡ put repo path n blob → m.entry.reply ≡ created → AreNoCollects (entries_made later)
-          → IsOneOf u (left_behind settings s t (first ++ m ∷ later) None) → IsAnsweredAgain settings repo (new_row path blob m.entry.moment) u
-      created-there first later rest m repo path n blob u parts is done none found =
+      -- what a put created
+      created-there : (first later rest : List Made) (m : Made) (repo path : List ℕ) (n : ℕ) (blob : Blob) → made ≡ first ++ m ∷ (later ++ rest)
+          → m.entry.command ≡ put repo path n blob → m.entry.reply ≡ created → MayNotGo (entries_made later) path
+          → FindsSince settings s t old (IsAnsweredAgain settings repo (new_row path blob m.entry.moment)) first m later
+      created-there first later rest m repo path n blob parts is done stay =
           let at = end settings s (entries_made first) in
           let (there, left, sound', order', holds', legal', are', behind) =
-          reached first later rest m s t None sound order holds (subst (λ (all : List Made). Legal settings s (entries_made all)) parts legal)
-          (subst (λ (all : List Made). AreMade settings s all None) parts are) in
-          let front = first-ones later rest (after settings at m.entry) m.pending legal'.1 are'.1 in
+          reached first later rest m s t old sound order holds (subst (λ (all : List Made). Legal settings s (entries_made all)) parts legal)
+          (subst (λ (all : List Made). AreMade settings s t all old) parts are) in
           let (known, (c, named)) = put-place repo path n blob m.entry.command is legal'.0.condition in
-          created-left settings at there u m.entry (entries_made later) left m.pending (pending_behind m.pending later) repo path n blob c apart proxies sound' order' holds' (legal'.0, front.0) none
-          known named is done are'.0 front.1 (behind u found)
+          standing-again first later rest m repo (new_row path blob m.entry.moment) c parts (created-records settings at m.entry repo path n blob apart sound' legal'.0 is done)
+          (created-stands settings at m.entry repo path n blob apart sound' legal'.0 is done) known named stay
 
-      -- what was made from a sound state, over tables that hold it, with nothing pending
-      pub outlasts : OutlastsStops settings s t made
-      outlasts = record {
+      -- what a Collect gave out
+      given-away : (first later rest : List Made) (m : Made) (expired : ℕ) (blobs : List ℕ) → made ≡ first ++ m ∷ (later ++ rest)
+          → m.entry.command ≡ collect → m.entry.reply ≡ collected expired blobs → FindsSince settings s t old (NamesNone blobs) first m later
+      given-away first later rest m expired blobs parts is done =
+          let at = end settings s (entries_made first) in
+          let (there, left, sound', order', holds', legal', are', behind) =
+          reached first later rest m s t old sound order holds (subst (λ (all : List Made). Legal settings s (entries_made all)) parts legal)
+          (subst (λ (all : List Made). AreMade settings s t all old) parts are) in
+          let next : Tables = tables_after settings at m.entry there in
+          let last = unsettled_behind m.leaves later in
+          let front = first-ones later rest (after settings at m.entry) next m.leaves legal'.1 are'.1 in
+          let quiet : m.leaves.pending ≡ None = collected-settles settings at m.entry expired blobs left.pending m.leaves.pending is done are'.0.pends in
+          let along : PendAlong settings (after settings at m.entry) (entries_made later) None last.pending =
+          subst (λ (p : Option (List Item)). PendAlong settings (after settings at m.entry) (entries_made later) p last.pending) quiet
+          (pend-of later (after settings at m.entry) next m.leaves front.1) in (
+            (λ u found.
+                given-out-left settings at there u m.entry (entries_made later) expired blobs apart sound' order' holds' (legal'.0, front.0) is done
+                (left-between settings (after settings at m.entry) next u (entries_made later) last.pending along (behind u found))),
+            given-out-unnamed settings at there m.entry (entries_made later) left m.leaves last expired blobs apart sound' order' holds' (legal'.0, front.0) is done
+                (m.leaves, are'.0, refl) (runs-of later (after settings at m.entry) next m.leaves front.1),
+          )
+
+      -- what was made from a sound state, over tables that hold it, with nothing pending, where a stop leaves these
+      pub outlasts : old.pending ≡ None → Rests (Some t) old → OutlastsStops settings s t old made
+      outlasts settled rests = record {
         are = are;
         fronts = λ front rest u parts found.
-            left-between settings s t u (entries_made front) (pending_behind None front)
-            (first-ones front rest s None (subst (λ (all : List Made). Legal settings s (entries_made all)) parts legal) (subst (λ (all : List Made). AreMade settings s all None) parts are)).1
-            found;
+            left-between settings s t u (entries_made front) (unsettled_behind old front).pending (pends front rest parts) found;
+        calls = λ front rest m parts.
+            entry-finds settings s t (entries_made front) m.entry (unsettled_behind old front) m.leaves (pends front (m ∷ rest) parts)
+            (stops-at front rest m s t old (subst (λ (all : List Made). AreMade settings s t all old) parts are));
+        moments = runs-find settings s t (entries_made made) old (unsettled_behind old made) settled rests (runs-of made s t old are);
         standing = standing-again;
         created_files = created-there;
+        given_out = given-away;
       }
+        where
+          pends : (front rest : List Made) → made ≡ front ++ rest → PendAlong settings s (entries_made front) None (unsettled_behind old front).pending
+          pends front rest parts =
+              subst (λ (p : Option (List Item)). PendAlong settings s (entries_made front) p (unsettled_behind old front).pending) settled
+              (pend-of front s t old
+              (first-ones front rest s t old (subst (λ (all : List Made). Legal settings s (entries_made all)) parts legal) (subst (λ (all : List Made). AreMade settings s t all old) parts are)).1)

@@ -1,23 +1,23 @@
--- What a stop may leave of the records of a run behind each call of its one history.
-use Rattle.std.specs.Prelude.{◌≡◌, ◌≢◌, ℕ, List, [], ◌∷◌, ◌++◌, map, Option, Some, None, Ok, IsTrue}
+-- What a stop leaves of the records of a run at each of its moments, call by call of its one history.
+use Rattle.std.specs.Prelude.{◌≡◌, ◌≢◌, ℕ, List, [], ◌∷◌, ◌++◌, map, Some, None, Ok, IsTrue}
 use Rattle.mvn_coords.specs.Kind.{kind}
 use Rattle.mvn_coords.specs.Layout.{Coordinates}
 use Rattle.mvn_coords.specs.declared.kind.Kind.TheVariants.{File}
-use Rattle.repo_model.specs.declared.item.Item.{Item}
-use Rattle.repo_model.specs.Command.{is_there, put}
+use Rattle.repo_model.specs.Command.{collect, is_there, put}
 use Rattle.repo_model.specs.Data.{Blob, Row}
 use Rattle.repo_model.specs.Effect.{new_row, recorded}
 use Rattle.repo_model.specs.History.{Entry, after, effects_of, end}
-use Rattle.repo_model.specs.Reply.{created}
+use Rattle.repo_model.specs.Reply.{collected, created}
 use Rattle.repo_model.specs.Settings.{Settings}
 use Rattle.repo_model.specs.State.{State, row_at, rows_of}
 use Rattle.repo_model.specs.Tables.{Tables}
 use Rattle.repo_laws.specs.Holds.{told, with_items}
 use Rattle.repo_laws.specs.InRange.{Completes}
-use Rattle.row_tables.specs.Stopping.{Pends}
-use Rattle.row_tables.specs.Stops.{IsOneOf, left_by}
-use Rattle.stop_laws.specs.Runs.{FindsAlways, IsAnsweredAgain}
-use Rattle.stop_laws.specs.Stops.{AreNoCollects, IsLeft}
+use Rattle.row_tables.specs.Stopping.{Stopping}
+use Rattle.row_tables.specs.Stops.{IsOneOf, Unsettled, left_by}
+use Rattle.stop_laws.specs.Found.{NamesNone}
+use Rattle.stop_laws.specs.Runs.{FindsAlways, IsAnsweredAgain, IsLeftBySome, tables_after}
+use Rattle.stop_laws.specs.Stops.{IsLeft, MayNotGo}
 use Rattle.repo_core.specs.Whole.{Whole}
 use Rattle.repo_course.specs.Cleaning.{Store}
 use Rattle.store_check.specs.Checking.{Recorded}
@@ -31,63 +31,80 @@ use Rattle.run_lines.specs.Printing.{Output}
 use Rattle.desk_work.specs.Rules.{Rules}
 use Rattle.run_serve.specs.Serving.{ServesBy, ServesWith, not_started, refused, started, worked}
 
--- an entry that was made, and the change whose commit failed and that is pending as its call returns
+-- an entry that was made, and what is unsettled of the records as its call returns
 pub record Made : Type 0 where
   pub entry : Entry
-  pub pending : Option (List Item)
+  pub leaves : Unsettled
 
 abbrev pub entries_made : List Made → List Entry
 entries_made made = map (λ (m : Made). m.entry) made
 
--- what is pending behind these, where this was before them
-abbrev pub pending_behind : Option (List Item) → List Made → Option (List Item)
-pending_behind pending [] = pending
-pending_behind pending (m ∷ made) = pending_behind m.pending made
+-- what is unsettled behind these, where this was before them
+abbrev pub unsettled_behind : Unsettled → List Made → Unsettled
+unsettled_behind old [] = old
+unsettled_behind old (m ∷ made) = unsettled_behind m.leaves made
 
--- the turns of a core, and the calls of a history of one, with what is pending behind each
+-- the turns of a core, and the calls of a history of one, with what is unsettled behind each
 abbrev pub turns_made : (entries : List Entry) (old new : Whole) → Makes old entries new → List Made
 turns_made [] old new makes = []
-turns_made (e ∷ entries) old new (mid, turn, makes) = record { entry = e; pending = mid.pending } ∷ turns_made entries mid new makes
+turns_made (e ∷ entries) old new (mid, turn, makes) = record { entry = e; leaves = mid.unsettled } ∷ turns_made entries mid new makes
 
 abbrev pub calls_made : {C R : Type 0} → Sight Whole C R → List (Call C R Whole) → List Made
 calls_made sight [] = []
-calls_made sight (call ∷ log) = record { entry = entry_of sight call; pending = call.after.pending } ∷ calls_made sight log
+calls_made sight (call ∷ log) = record { entry = entry_of sight call; leaves = call.after.unsettled } ∷ calls_made sight log
 
--- These were made one after another, in this state, where this was pending: each leaves pending what it says.
-abbrev pub AreMade : Settings → State → List Made → Option (List Item) → Type 0
-AreMade settings s [] old = Unit {0}
-AreMade settings s (m ∷ made) old = Pends settings s m.entry old m.pending × AreMade settings (after settings s m.entry) made m.pending
+-- These were made one after another, in a state over these tables, where this was unsettled: at each moment of each call a stop leaves
+-- what one before the call or behind it leaves.
+abbrev pub AreMade : Settings → State → Tables → List Made → Unsettled → Type 0
+AreMade settings s t [] old = Unit {0}
+AreMade settings s t (m ∷ made) old =
+    Stopping settings s m.entry (Some t) (Some (tables_after settings s m.entry t)) old m.leaves
+    × AreMade settings (after settings s m.entry) (tables_after settings s m.entry t) made m.leaves
 
--- what a start may find behind these, in a state over these tables: the tables then, or these with the change that is pending
-abbrev pub left_behind : Settings → State → Tables → List Made → Option (List Item) → List Tables
-left_behind settings s t made old = left_by (with_items t (told settings s (entries_made made))) (pending_behind old made)
+module _ (settings : Settings) (start : State) (t : Tables) (old : Unsettled) where
+  -- what a start may find between calls, behind these: the tables then, or these with the change that is pending
+  abbrev pub left_behind : List Made → List Tables
+  left_behind made = left_by (with_items t (told settings start (entries_made made))) (unsettled_behind old made).pending
 
--- What was made so outlasts stops. Behind each front of it a start may find what the front recorded. And where a call recorded something,
--- and no Collect was asked for behind it, a start answers each file that stood in a repository as it returned over whatever may be
--- found then, and behind each later call; so it does of what a `Put` created.
-pub record OutlastsStops (settings : Settings) (start : State) (t : Tables) (made : List Made) : Type 0 where
-  pub are : AreMade settings start made None
-  pub fronts : (front rest : List Made) (u : Tables) → made ≡ front ++ rest → IsOneOf u (left_behind settings start t front None)
-      → IsLeft settings start t (entries_made front) u
-  pub standing : (first later rest : List Made) (m : Made) (repo : List ℕ) (row : Row) (c : Coordinates) (u : Tables) → made ≡ first ++ m ∷ (later ++ rest)
-      → recorded (effects_of settings (end settings start (entries_made first)) m.entry) ≢ []
-      → row_at row.path (rows_of repo (after settings (end settings start (entries_made first)) m.entry)) ≡ Some row
-      → IsTrue (is_there repo settings) → kind row.path ≡ Ok (File c) → AreNoCollects (entries_made later)
-      → IsOneOf u (left_behind settings start t (first ++ m ∷ later) None) → IsAnsweredAgain settings repo row u
-  pub created_files : (first later rest : List Made) (m : Made) (repo path : List ℕ) (n : ℕ) (blob : Blob) (u : Tables) → made ≡ first ++ m ∷ (later ++ rest)
-      → m.entry.command ≡ put repo path n blob → m.entry.reply ≡ created → AreNoCollects (entries_made later)
-      → IsOneOf u (left_behind settings start t (first ++ m ∷ later) None) → IsAnsweredAgain settings repo (new_row path blob m.entry.moment) u
+  -- This is true of what a start may find behind these, between calls; and of what it reads, from whatever file a stop leaves, at each
+  -- moment from where the one in the middle returned until the last did.
+  abbrev pub FindsSince : (Tables → Type 0) → List Made → Made → List Made → Type 0
+  FindsSince P first m later =
+      ((u : Tables) → IsOneOf u (left_behind (first ++ m ∷ later)) → P u)
+      × FindsAlways P m.leaves.trace (unsettled_behind m.leaves later).trace
 
--- So does what a repository made that was opened over records which told their tables, from these as its start completed them. The
--- records that are given back tell the tables then, the change that is pending then, and that a stop now leaves no more of them.
+  -- What was made so outlasts stops. Behind each front of it a start may find what the front recorded; and at each moment, between calls and
+  -- inside each, it reads that of a front, from whatever file a stop then leaves. Where a call recorded something, from its return on a
+  -- start answers each file that stood in a repository then, as long as no call takes it away; so it does of what a `Put` created. What a
+  -- Collect gave out to be removed is named by nothing that is found from its return on.
+  pub record OutlastsStops (made : List Made) : Type 0 where
+    pub are : AreMade settings start t made old
+    pub fronts : (front rest : List Made) (u : Tables) → made ≡ front ++ rest → IsOneOf u (left_behind front) → IsLeft settings start t (entries_made front) u
+    pub calls : (front rest : List Made) (m : Made) → made ≡ front ++ m ∷ rest
+        → FindsAlways (IsLeft settings start t (entries_made front ++ m.entry ∷ [])) (unsettled_behind old front).trace m.leaves.trace
+    pub moments : FindsAlways (IsLeftBySome settings start t (entries_made made)) old.trace (unsettled_behind old made).trace
+    pub standing : (first later rest : List Made) (m : Made) (repo : List ℕ) (row : Row) (c : Coordinates) → made ≡ first ++ m ∷ (later ++ rest)
+        → recorded (effects_of settings (end settings start (entries_made first)) m.entry) ≢ []
+        → row_at row.path (rows_of repo (after settings (end settings start (entries_made first)) m.entry)) ≡ Some row
+        → IsTrue (is_there repo settings) → kind row.path ≡ Ok (File c) → MayNotGo (entries_made later) row.path
+        → FindsSince (IsAnsweredAgain settings repo row) first m later
+    pub created_files : (first later rest : List Made) (m : Made) (repo path : List ℕ) (n : ℕ) (blob : Blob) → made ≡ first ++ m ∷ (later ++ rest)
+        → m.entry.command ≡ put repo path n blob → m.entry.reply ≡ created → MayNotGo (entries_made later) path
+        → FindsSince (IsAnsweredAgain settings repo (new_row path blob m.entry.moment)) first m later
+    pub given_out : (first later rest : List Made) (m : Made) (expired : ℕ) (blobs : List ℕ) → made ≡ first ++ m ∷ (later ++ rest)
+        → m.entry.command ≡ collect → m.entry.reply ≡ collected expired blobs → FindsSince (NamesNone blobs) first m later
+
+-- So does what a repository made that was opened over records which told their tables, from these as its start completed them, when no
+-- change was pending. The records that are given back tell the tables then, what is unsettled then, and that a stop now leaves no more.
 pub record RunOutlasts (settings : Settings) (core : Whole) (before : Tables) (made : List Made) (records' : Recorded) : Type 0 where
   pub whole : Tables
   pub told_core : core.tables ≡ Some whole
   pub completes : Completes before whole
-  pub outlasts : OutlastsStops settings core.state whole made
+  pub settled : core.unsettled.pending ≡ None
+  pub outlasts : OutlastsStops settings core.state whole core.unsettled made
   pub told_back : records'.tables ≡ Some (with_items whole (told settings core.state (entries_made made)))
-  pub pending_back : records'.unsettled.pending ≡ pending_behind None made
-  pub found_back : FindsAlways (λ u. IsOneOf u (left_behind settings core.state whole made None)) records'.unsettled.trail records'.unsettled.trail
+  pub unsettled_back : records'.unsettled ≡ unsettled_behind core.unsettled made
+  pub found_back : FindsAlways (λ u. IsOneOf u (left_behind settings core.state whole core.unsettled made)) records'.unsettled.trace records'.unsettled.trace
 
 abbrev pub RecordsOutlastStops : Settings → Recorded → Whole → Recorded → List Made → Type 0
 RecordsOutlastStops settings records core records' made = (before : Tables) → records.tables ≡ Some before → RunOutlasts settings core before made records'

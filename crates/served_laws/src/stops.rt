@@ -20,18 +20,23 @@ use row_tables::Records;
 use turn_lock::Thing;
 use turn_seats::Repository;
 
-/// Of a server under the settings that it read, over records that told their tables: the calls of its one history, each with the change
-/// whose commit failed and that is pending as it returns, outlast stops. What a start may find behind a call is the tables then, or these
-/// with that change; and that is what a stop may leave behind a front of the history, none of whose changes was pending at first. Where the
-/// call of a `Put` returned `Created`, so behind it and behind each later call up to a Collect that is asked for, be it that it fails: a start
-/// over what it may find, once it has completed that, and any entries without a Collect: who looks at the file then is given it, with the
-/// number and the fingerprint that were put; or memory is wanting, or no lease is left. So it is of each file that stood in a repository
-/// where any call returned that recorded something, as the commit of a session. The records that are given back tell the tables then and
-/// that change, and a start reads, from whatever file a stop now leaves of them, what it may find. Which call an answer of a desk told,
-/// `desks_are_answered_by_cause` of `desk_laws` says, in the same history.
+/// Of a server under the settings that it read, over records that told their tables: the calls of its one history, each with what is
+/// unsettled of the records as it returns, outlast stops. At each moment, from where the repository was opened until its records are given
+/// back, between the calls and inside each of them, a start reads, from whatever file a stop then leaves, what a front of the history
+/// recorded, of which the last entry may be one whose commit failed, as done; in a call that of the entries up to it, or up to the one
+/// before it. Nothing was pending at first.
 ///
-/// Of the moments within a call nothing is said here: a commit says of its own, in its clause `stops`, that a stop leaves what one before it
-/// or behind it leaves.
+/// Where the call of a `Put` returned `Created`, a start answers the file at each moment from then on, over what it may find between calls
+/// and over what it reads: once it has completed that, and behind any entries, who looks at the file is given it, with the number and the
+/// fingerprint that were put; or memory is wanting, or no lease is left. So it is of each file that stood in a repository where any call
+/// returned that recorded something, as the commit of a session. Of a snapshot's file this is said up to the first Collect that is asked
+/// for, be it that it fails; of a release's it is said to the end. Which call an answer of a desk told, `desks_are_answered_by_cause` of
+/// `desk_laws` says, in the same history.
+///
+/// What a Collect gave out to be removed is named by no row of what is found at any moment from its return on.
+///
+/// The records that are given back tell the tables then and what is unsettled then, and a stop now leaves no more of them. Where records
+/// tell no file, nothing is said of what is read from it.
 pub fn servers_keep_created_files<P: Port, B: Blobs, R: Remote, K: Records, C: Clock>()
     ensures { (settings : Settings) (old new : View (Floor (List (Desk P B R P.Link B.Held B.Pen)))) (status : ℕ)
         (serves : ServesBy (looks ⟦<P as Port>⟧ ⟦<P::Link as Tells>⟧ ⟦<B as Blobs>⟧ ⟦<B::Held as Held>⟧ ⟦<R as Remote>⟧)

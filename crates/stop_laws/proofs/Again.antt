@@ -25,9 +25,9 @@ use Rattle.repo_laws.proofs.Closed.{look-gives}
 use Rattle.repo_laws.proofs.Looks.{rows-looked}
 use Rattle.repo_laws.proofs.Completing.{completed-order, completed-range, completed-rows, since-blob}
 use Rattle.repo_laws.proofs.StartedSound.{started-rows, started-sound}
-use Rattle.naming_laws.proofs.Kept.{history-stays}
 use Rattle.stop_laws.specs.Found.{IsRecordedAs}
-use Rattle.stop_laws.specs.Stops.{AreNoCollects}
+use Rattle.stop_laws.specs.Stops.{MayNotGo}
+use Rattle.stop_laws.proofs.Outlasting.{row-stays}
 
 pub cut : (settings : Settings) (before : List Entry) (e : Entry) (rest : List Entry) (s : State) → Legal settings s (before ++ e ∷ rest)
     → Legal settings s before × Fits settings (end settings s before) e
@@ -50,10 +50,10 @@ module _ (settings : Settings) (s : State) (e : Entry) (repo at tried : List ℕ
 
 pub answered-again : (settings : Settings) (u : Tables) (tells : ℕ → Option (List ℕ)) (stored : List ℕ) (clock : Option Moments) (faults : ℕ) (before : List Entry) (e : Entry) (rest : List Entry)
     (repo tried : List ℕ) (row : Row) (c : Coordinates) (whole : Tables) → AreNamedApart settings.hosted → AreProxiesApart settings.proxies → InOrder u → InRange u → Completes u whole → IsTrue (is_there repo settings)
-    → kind row.path ≡ Ok (File c) → IsRecordedAs repo row u → Legal settings (started settings tells stored clock faults whole) (before ++ e ∷ rest) → AreNoCollects before
+    → kind row.path ≡ Ok (File c) → IsRecordedAs repo row u → Legal settings (started settings tells stored clock faults whole) (before ++ e ∷ rest) → MayNotGo before row.path
     → e.command ≡ look repo row.path tried
     → (kept : Blob) × IsSameBlob kept row.blob × GivesFile (end settings (started settings tells stored clock faults whole) before) kept e.reply
-answered-again settings u tells stored clock faults before e rest repo tried row c whole apart proxies order range completes there kind_is (recorded_row, recorded_so, number, print) legal none looks =
+answered-again settings u tells stored clock faults before e rest repo tried row c whole apart proxies order range completes there kind_is (recorded_row, recorded_so, number, print) legal stays looks =
     let s : State = started settings tells stored clock faults whole in
     let parts = cut settings before e rest s legal in
     let (first, at, since) = subst (IsFoundSince (recorded_at repo row.path whole.hosted)) recorded_so (completed-rows u whole completes repo row.path) in
@@ -63,7 +63,7 @@ answered-again settings u tells stored clock faults before e rest repo tried row
     ∙ ap (λ b. if b then option_map (with_bytes tells) (recorded_at repo row.path whole.hosted) else None) there
     ∙ ap (option_map (with_bytes tells)) at in
     let sound = started-sound settings tells stored clock faults whole apart proxies (completed-order u whole completes order) (completed-range u whole completes range) in
-    let (kept, found, same) = history-stays settings s before apart sound parts.0 none repo row.path (with_bytes tells first) here in (
+    let (kept, found, same) = row-stays settings s before repo row.path (with_bytes tells first) apart sound parts.0 stays here in (
       kept.blob,
       (
         ap (λ (b : Blob). b.number) same ∙ blob_is.0 ∙ number,

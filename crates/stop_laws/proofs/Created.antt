@@ -1,11 +1,11 @@
 -- A put that was answered with created: what it recorded, and the row that stands behind it.
 use Rattle.std.proofs.Common.{◌≡◌, ◌≢◌, ℕ, true, false, ◌||◌, cond, List, [], ◌∷◌, Option, Some, None, refl, sym, ap, ◌∙◌, subst}
-use Rattle.std.specs.Prelude.{Bool, IsTrue, find, if◌then◌else◌}
+use Rattle.std.specs.Prelude.{Bool, find, if◌then◌else◌}
 use Rattle.std.specs.Option.{option_map_or}
 use Rattle.std.specs.List.{list_any}
 use Rattle.repo_model.specs.Command.{put}
 use Rattle.repo_model.specs.Data.{Blob, Hosted, Phase, Row, fading, is_same_print, listed}
-use Rattle.repo_model.specs.Effect.{Effect, creates, new_row, recorded, with_effect, with_effects, with_row}
+use Rattle.repo_model.specs.Effect.{creates, new_row, recorded, with_effects, with_row}
 use Rattle.repo_model.specs.History as history
 use Rattle.repo_model.specs.History.{Entry, Fits, IsReply, after, effects_of, ticked}
 use Rattle.repo_model.specs.May.{AllMay}

@@ -1,7 +1,7 @@
 -- What a stop leaves is what a front of the entries records, in which one that failed may count as done.
 use native.Mathlib.Omega.{arith}
 use Rattle.std.proofs.Common.{◌≡◌, ◌⊎◌, inl, inr, List, [], ◌∷◌, ◌++◌, Option, Some, None, refl, sym, subst, ap, ◌∙◌, append_assoc, append-nil}
-use Rattle.std.specs.Prelude.{if◌then◌else◌}
+use Rattle.std.specs.Prelude.{ℕ, if◌then◌else◌}
 use Rattle.std.proofs.lemmas.List.Sums.{fold-append}
 use Rattle.repo_model.specs.declared.item.Item.{Item}
 use Rattle.repo_model.specs.Effect.{recorded}
@@ -14,7 +14,7 @@ use Rattle.repo_model.specs.Turn.{turn}
 use Rattle.repo_laws.specs.Described.{IsAmong}
 use Rattle.repo_laws.specs.Holds.{told, with_items}
 use Rattle.repo_laws.proofs.Answered.{no-free}
-use Rattle.stop_laws.specs.Stops.{AreNoCollects, IsFrontOf, IsLeft, PendAlong, Pends, as_done, between, done, fails, front, left_by, stays, tried, undone, within}
+use Rattle.stop_laws.specs.Stops.{AreNoCollects, IsFrontOf, MayNotGo, IsLeft, PendAlong, Pends, as_done, between, done, fails, front, left_by, stays, tried, undone, within}
 
 module _ (settings : Settings) where
   -- an entry whose commit failed fits as done, and then records what it tried
@@ -70,7 +70,7 @@ module _ (settings : Settings) where
     },
   ))
   one-more s e es old mid new (undone gone) (inr (inl (same, nothing))) = inl (same ∙ gone)
-  one-more s e es old mid new (stays quiet was) (inr (inl (same, nothing))) =
+  one-more s e es old mid new (stays quiet other was) (inr (inl (same, nothing))) =
       inr (inl (same ∙ was, ap (λ (l : List Item). l ++ told settings (after settings s e) es) quiet ∙ nothing))
   one-more s e es old mid new (fails failed now) (inr (inl (same, nothing))) = inr (inr (
     tried settings s e,
@@ -147,7 +147,7 @@ module _ (settings : Settings) where
         subst (λ (l : List Entry). Front s t l u) (append-nil entries) (among entries [] later (subst (Legal settings s) (sym (append-nil entries)) legal) all is)
 
   -- none of its entries asks for a Collect either
-  pub collects-front : (xs ys : List Entry) → AreNoCollects (xs ++ ys) → AreNoCollects xs
+  collects-front : (xs ys : List Entry) → AreNoCollects (xs ++ ys) → AreNoCollects xs
   collects-front [] ys none = tt
   collects-front (x ∷ xs) ys none = (none.0, collects-front xs ys none.1)
 
@@ -155,7 +155,16 @@ module _ (settings : Settings) where
   collects-done [] ys e there none = (none.0, tt)
   collects-done (x ∷ xs) ys e there none = (none.0, collects-done xs ys e there none.1)
 
-  pub no-collects : (s : State) (entries history : List Entry) → IsFrontOf settings s entries history → AreNoCollects entries → AreNoCollects history
+  no-collects : (s : State) (entries history : List Entry) → IsFrontOf settings s entries history → AreNoCollects entries → AreNoCollects history
   no-collects s entries history (front rest is) none = collects-front history rest (subst AreNoCollects is none)
   no-collects s entries history (done first rest e parts failed is) none =
       subst AreNoCollects (sym is) (collects-done first rest e (end settings s first) (subst AreNoCollects parts none))
+
+  -- nor does one of them take a row away that may not go
+  pub stays-front : (xs ys : List Entry) (path : List ℕ) → MayNotGo (xs ++ ys) path → MayNotGo xs path
+  stays-front xs ys path (inl none) = inl (collects-front xs ys none)
+  stays-front xs ys path (inr release) = inr release
+
+  pub may-not-go : (s : State) (entries history : List Entry) (path : List ℕ) → IsFrontOf settings s entries history → MayNotGo entries path → MayNotGo history path
+  may-not-go s entries history path is (inl none) = inl (no-collects s entries history is none)
+  may-not-go s entries history path is (inr release) = inr release

@@ -4,5 +4,7 @@ mod Outlasting
 mod OutlastingFiles
 mod Again
 mod AgainFiles
-mod Created
+pub mod Created
 pub mod RunLaws
+pub mod GivenOut
+mod Spared

@@ -1,5 +1,5 @@
 -- What stands in a state is recorded behind later entries.
-use Rattle.std.proofs.Common.{subst, ◌≡◌, ℕ, true, false, ◌||◌, cond, List, [], ◌∷◌, Some, refl, sym, ap, ◌∙◌}
+use Rattle.std.proofs.Common.{subst, ◌≡◌, ℕ, true, false, ◌||◌, cond, List, [], ◌∷◌, Some, inl, inr, refl, sym, ap, ◌∙◌}
 use Rattle.std.specs.Prelude.{find, IsTrue}
 use Rattle.std.specs.Option.{option_map, option_map_or}
 use Rattle.std.specs.List.{list_any}
@@ -13,10 +13,11 @@ use Rattle.repo_laws.specs.Holds.{Holds, InOrder, told, with_items}
 use Rattle.repo_laws.specs.Laws.{without_bytes}
 use Rattle.repo_laws.specs.Sound.{AreNamedApart, IsSound}
 use Rattle.repo_laws.proofs.Holding.{history-recorded}
+use Rattle.repo_laws.proofs.Lasting.{releases-last}
 use Rattle.naming_laws.proofs.Kept.{history-stays}
 use Rattle.stop_laws.specs.Found.{IsRecordedAs}
-use Rattle.stop_laws.specs.Stops.{AreNoCollects, IsLeft}
-use Rattle.stop_laws.proofs.Fronts.{is-front, no-collects}
+use Rattle.stop_laws.specs.Stops.{IsLeft, MayNotGo}
+use Rattle.stop_laws.proofs.Fronts.{is-front, may-not-go}
 
 -- a repository with a row is there
 there : (repo path : List ℕ) (row : Row) (hosted : List Hosted) → row_at path (option_map_or (λ (h : Hosted). h.rows) (find (is_repository repo) hosted) []) ≡ Some row
@@ -29,10 +30,17 @@ there repo path row (h ∷ hosted) is =
       | false ↦ λ got. there repo path row hosted got
     ] is
 
+-- a row that none of the entries takes away stays, with its blob
+pub row-stays : (settings : Settings) (s : State) (entries : List Entry) (repo path : List ℕ) (row : Row) → AreNamedApart settings.hosted → IsSound settings s → Legal settings s entries
+    → MayNotGo entries path → row_at path (rows_of repo s) ≡ Some row → (kept : Row) × (row_at path (rows_of repo (end settings s entries)) ≡ Some kept) × (kept.blob ≡ row.blob)
+row-stays settings s entries repo path row apart sound legal (inl none) is = history-stays settings s entries apart sound legal none repo path row is
+row-stays settings s entries repo path row apart sound legal (inr release) is =
+    (row, releases-last settings apart entries s sound.order sound.fading legal repo path row release is, refl)
+
 outlasts : (settings : Settings) (s : State) (t : Tables) (entries : List Entry) (repo : List ℕ) (row : Row) → AreNamedApart settings.hosted → IsSound settings s → InOrder t → Holds t s
-    → Legal settings s entries → AreNoCollects entries → row_at row.path (rows_of repo s) ≡ Some row → IsRecordedAs repo row (with_items t (told settings s entries))
-outlasts settings s t entries repo row apart sound ordered holds legal none is =
-    let (kept, at, same) = history-stays settings s entries apart sound legal none repo row.path row is in
+    → Legal settings s entries → MayNotGo entries row.path → row_at row.path (rows_of repo s) ≡ Some row → IsRecordedAs repo row (with_items t (told settings s entries))
+outlasts settings s t entries repo row apart sound ordered holds legal stays is =
+    let (kept, at, same) = row-stays settings s entries repo row.path row apart sound legal stays is in
     let held : Holds (with_items t (told settings s entries)) (end settings s entries) =
     (history-recorded settings apart entries s t legal sound.order sound.places sound.sessions ordered holds).2 in (
       without_bytes kept,
@@ -43,8 +51,8 @@ outlasts settings s t entries repo row apart sound ordered holds legal none is =
 
 -- so in whatever a stop leaves
 pub outlasts-stops : (settings : Settings) (s : State) (t u : Tables) (entries : List Entry) (repo : List ℕ) (row : Row) → AreNamedApart settings.hosted → IsSound settings s → InOrder t
-    → Holds t s → Legal settings s entries → AreNoCollects entries → row_at row.path (rows_of repo s) ≡ Some row → IsLeft settings s t entries u → IsRecordedAs repo row u
-outlasts-stops settings s t u entries repo row apart sound ordered holds legal none is left =
+    → Holds t s → Legal settings s entries → MayNotGo entries row.path → row_at row.path (rows_of repo s) ≡ Some row → IsLeft settings s t entries u → IsRecordedAs repo row u
+outlasts-stops settings s t u entries repo row apart sound ordered holds legal stays is left =
     let front = is-front settings s t u entries legal left in
     subst (IsRecordedAs repo row) (sym front.left)
-    (outlasts settings s t front.history repo row apart sound ordered holds front.legal (no-collects settings s entries front.history front.is none) is)
+    (outlasts settings s t front.history repo row apart sound ordered holds front.legal (may-not-go settings s entries front.history row.path front.is stays) is)

@@ -1,16 +1,16 @@
 -- What a start finds behind a stop at a moment of a run: what is left by a front of its entries.
-use Rattle.std.proofs.Common.{◌≡◌, ◌≢◌, ◌⊎◌, inl, inr, ℕ, List, [], ◌∷◌, ◌++◌, Option, Some, None, Ok, refl, sym, subst, ap, ◌∙◌}
+use Rattle.std.proofs.Common.{◌≡◌, ◌≢◌, inl, inr, ℕ, List, [], ◌∷◌, ◌++◌, Option, Some, None, Ok, refl, sym, subst, ap, ◌∙◌}
 use Rattle.std.specs.Prelude.{IsTrue}
 use Rattle.std.proofs.lemmas.List.Sums.{fold-append}
 use Rattle.mvn_coords.specs.Kind.{kind}
 use Rattle.mvn_coords.specs.Layout.{Coordinates}
 use Rattle.mvn_coords.specs.declared.kind.Kind.TheVariants.{File}
-use Rattle.record_disk.specs.Disk.{AllImages, Here, Then, Throughout, Trace}
+use Rattle.record_disk.specs.Disk.{Trace}
 use Rattle.record_disk.proofs.Moments.{joined, weaker}
 use Rattle.repo_model.specs.declared.item.Item.{Item}
 use Rattle.repo_model.specs.Command.{is_there, put}
 use Rattle.repo_model.specs.Effect.{new_row, recorded}
-use Rattle.repo_model.specs.History.{Entry, Fits, Legal, after, effects_of, end}
+use Rattle.repo_model.specs.History.{Entry, Legal, after, effects_of, end}
 use Rattle.repo_model.specs.Reply.{created}
 use Rattle.repo_model.specs.Settings.{Settings}
 use Rattle.repo_model.specs.Data.{Blob, Row}
@@ -22,48 +22,41 @@ use Rattle.repo_laws.specs.Sound.{AreNamedApart, AreProxiesApart, IsSound}
 use Rattle.repo_laws.proofs.Holding.{history-recorded}
 use Rattle.repo_laws.proofs.Keeping.{keeps-sound}
 use Rattle.row_tables.specs.Stopping.{Stopping}
-use Rattle.row_tables.specs.Stops.{IsOneOf, StopsLeave, StopsInside, ReadsAmong, Rests, Trail, Unsettled, left_by}
+use Rattle.row_tables.specs.Loading.{tables_in}
+use Rattle.row_tables.specs.Stops.{IsOneOf, StopsLeave, ReadsAmong, Rests, Unsettled, left_by}
+use Rattle.row_tables.proofs.OneOf.{either}
 use Rattle.stop_laws.specs.Found.{IsRecordedAs}
 use Rattle.stop_laws.proofs.Again.{answered-again}
 use Rattle.stop_laws.proofs.Created.{created-records, created-stands}
-use Rattle.stop_laws.proofs.Fronts.{collects-front, failed-records, legal-front}
+use Rattle.stop_laws.proofs.Fronts.{failed-records, legal-front, stays-front}
 use Rattle.stop_laws.proofs.Outlasting.{outlasts-stops}
 use Rattle.stop_laws.specs.Runs.{FindsAlways, IsAnsweredAgain, IsLeftBySome, StopsAlong, tables_after}
-use Rattle.stop_laws.specs.Stops.{AreNoCollects, IsLeft, PendAlong, Pends, between, fails, stays, undone}
+use Rattle.stop_laws.specs.Stops.{IsLeft, MayNotGo, PendAlong, Pends, between, fails, stays, undone, within}
 
 -- what is found is weaker, and what was found is found still
-pub finds-more : (P Q : Tables → Type 0) (a b : Option Trail) → ((u : Tables) → P u → Q u) → FindsAlways P a b → FindsAlways Q a b
+pub finds-more : (P Q : Tables → Type 0) (a b : Option Trace) → ((u : Tables) → P u → Q u) → FindsAlways P a b → FindsAlways Q a b
 finds-more P Q None None more found = tt
 finds-more P Q None (Some b) more found = found
 finds-more P Q (Some a) None more found = found
 finds-more P Q (Some a) (Some b) more found =
-    (found.0, weaker (λ file. (u : Tables) × (a.reads file ≡ Some u) × P u) (λ file. (u : Tables) × (a.reads file ≡ Some u) × Q u) a.trace b.trace (λ file is. (is.0, is.1, more is.0 is.2)) found.1)
+    weaker (λ file. (u : Tables) × (tables_in file ≡ Some u) × P u) (λ file. (u : Tables) × (tables_in file ≡ Some u) × Q u) a b (λ file is. (is.0, is.1, more is.0 is.2)) found
 
-pub finds-on : (P : Tables → Type 0) (a b c : Option Trail) → FindsAlways P a b → FindsAlways P b c → FindsAlways P a c
+pub finds-on : (P : Tables → Type 0) (a b c : Option Trace) → FindsAlways P a b → FindsAlways P b c → FindsAlways P a c
 finds-on P None None None one two = tt
 finds-on P None None (Some c) one two = two
 finds-on P None (Some b) c one two = absurd one
 finds-on P (Some a) None c one two = absurd one
 finds-on P (Some a) (Some b) None one two = two
 finds-on P (Some a) (Some b) (Some c) one two =
-    let same : b.reads ≡ a.reads = one.0 in (
-      two.0 ∙ same,
-      joined (λ file. (u : Tables) × (a.reads file ≡ Some u) × P u) a.trace b.trace c.trace one.1
-          (subst (λ reads. Throughout (λ file. (u : Tables) × (reads file ≡ Some u) × P u) b.trace c.trace) same two.1),
-    )
+    joined (λ file. (u : Tables) × (tables_in file ≡ Some u) × P u) a b c one two
 
 -- what is read among some tables of each of which it is true
-pub among-finds : (P : Tables → Type 0) (ts : List Tables) (a b : Option Trail) → ((u : Tables) → IsOneOf u ts → P u) → StopsLeave ts a b → FindsAlways P a b
+pub among-finds : (P : Tables → Type 0) (ts : List Tables) (a b : Option Trace) → ((u : Tables) → IsOneOf u ts → P u) → StopsLeave ts a b → FindsAlways P a b
 among-finds P ts None None all left = tt
 among-finds P ts None (Some b) all left = left
 among-finds P ts (Some a) None all left = left
 among-finds P ts (Some a) (Some b) all left =
-    (left.0, weaker (ReadsAmong a.reads ts) (λ file. (u : Tables) × (a.reads file ≡ Some u) × P u) a.trace b.trace (λ file is. (is.0, is.1, all is.0 is.2)) left.1)
-
-either : (u : Tables) (xs ys : List Tables) → IsOneOf u (xs ++ ys) → IsOneOf u xs ⊎ IsOneOf u ys
-either u [] ys is = inr is
-either u (x ∷ xs) ys (inl same) = inl (inl same)
-either u (x ∷ xs) ys (inr more) = elim (either u xs ys more) [ inl there ↦ inl (inr there) | inr there ↦ inr there ]
+    weaker (ReadsAmong ts) (λ file. (u : Tables) × (tables_in file ≡ Some u) × P u) a b (λ file is. (is.0, is.1, all is.0 is.2)) left
 
 among : (u : Tables) (ts : List Tables) → IsOneOf u ts → IsAmong u ts
 among u [] is = is
@@ -91,13 +84,28 @@ module _ (settings : Settings) where
   append-again [] e ys = refl
   append-again (x ∷ xs) e ys = ap (λ (l : List Entry). x ∷ l) (append-again xs e ys)
 
+  -- at each moment of an entry behind some others a stop leaves what these leave with it
+  pub entry-finds : (s : State) (t : Tables) (first : List Entry) (e : Entry) (a b : Unsettled) → PendAlong settings s first None a.pending
+      → Stopping settings (end settings s first) e (Some (with_items t (told settings s first))) (Some (tables_after settings (end settings s first) e (with_items t (told settings s first)))) a b
+      → FindsAlways (IsLeft settings s t (first ++ e ∷ [])) a.trace b.trace
+  entry-finds s t first e a b along did =
+      let there = with_items t (told settings s first) in
+      let behind = tables_after settings (end settings s first) e there in
+      let along' : PendAlong settings s (first ++ e ∷ []) None b.pending = pend-on first (e ∷ []) s None a.pending b.pending along (b.pending, did.pends, refl) in
+      among-finds (IsLeft settings s t (first ++ e ∷ [])) (left_by there a.pending ++ left_by behind b.pending) a.trace b.trace
+      (λ u is. within first e a.pending b.pending refl along along' (elim (either u (left_by there a.pending) (left_by behind b.pending) is) [
+        | inl was ↦ inl (among u (left_by there a.pending) was)
+        | inr now ↦ inr (among u (left_by (with_items t (told settings s (first ++ e ∷ []))) b.pending) (subst (λ x. IsOneOf u (left_by x b.pending)) (sym (told-on first e s t)) now))
+      ]))
+      (did.passes there behind refl refl)
+
   module _ (s : State) (t : Tables) where
     -- a run that goes on behind some entries: what is left there, and all along
     goes-on : (later first : List Entry) (a b : Unsettled) → PendAlong settings s first None a.pending → Rests (Some (with_items t (told settings s first))) a
-        → StopsAlong settings (end settings s first) (with_items t (told settings s first)) later a b → FindsAlways (IsLeftBySome settings s t (first ++ later)) a.trail b.trail
+        → StopsAlong settings (end settings s first) (with_items t (told settings s first)) later a b → FindsAlways (IsLeftBySome settings s t (first ++ later)) a.trace b.trace
     goes-on [] first a b along rests runs =
-        subst (λ (w : Unsettled). FindsAlways (IsLeftBySome settings s t (first ++ [])) a.trail w.trail) (sym runs)
-        (among-finds (IsLeftBySome settings s t (first ++ [])) (left_by (with_items t (told settings s first)) a.pending) a.trail a.trail
+        subst (λ (w : Unsettled). FindsAlways (IsLeftBySome settings s t (first ++ [])) a.trace w.trace) (sym runs)
+        (among-finds (IsLeftBySome settings s t (first ++ [])) (left_by (with_items t (told settings s first)) a.pending) a.trace a.trace
         (λ u is. (first, [], refl, between a.pending along (among u (left_by (with_items t (told settings s first)) a.pending) is))) (rests (with_items t (told settings s first)) refl))
     goes-on (e ∷ later) first a b along rests (mid, did, runs) =
         let there = with_items t (told settings s first) in
@@ -107,8 +115,8 @@ module _ (settings : Settings) where
         pend-on first (e ∷ []) s None a.pending mid.pending along (mid.pending, did.pends, refl) in
         let parts : (first ++ e ∷ []) ++ later ≡ first ++ e ∷ later = append-again first e later in
         let all = IsLeftBySome settings s t (first ++ e ∷ later) in
-        let one : FindsAlways all a.trail mid.trail =
-        among-finds all (left_by there a.pending ++ left_by (tables_after settings (end settings s first) e there) mid.pending) a.trail mid.trail
+        let one : FindsAlways all a.trace mid.trace =
+        among-finds all (left_by there a.pending ++ left_by (tables_after settings (end settings s first) e there) mid.pending) a.trace mid.trace
         (λ u is. elim (either u (left_by there a.pending) (left_by (tables_after settings (end settings s first) e there) mid.pending) is) [
           | inl was ↦ (first, e ∷ later, refl, between a.pending along (among u (left_by there a.pending) was))
           | inr now ↦ (
@@ -122,35 +130,35 @@ module _ (settings : Settings) where
         (did.passes there (tables_after settings (end settings s first) e there) refl refl) in
         let runs' : StopsAlong settings (end settings s (first ++ e ∷ [])) behind later mid b =
         subst (λ x. StopsAlong settings x behind later mid b) (sym (end-on first e s)) (subst (λ x. StopsAlong settings (after settings (end settings s first) e) x later mid b) (sym behind_is) runs) in
-        let two : FindsAlways all mid.trail b.trail =
-        subst (λ (l : List Entry). FindsAlways (IsLeftBySome settings s t l) mid.trail b.trail) parts
+        let two : FindsAlways all mid.trace b.trace =
+        subst (λ (l : List Entry). FindsAlways (IsLeftBySome settings s t l) mid.trace b.trace) parts
         (goes-on later (first ++ e ∷ []) mid b along' (subst (λ x. Rests (Some x) mid) (sym behind_is) did.rests) runs') in
-        finds-on all a.trail mid.trail b.trail one two
+        finds-on all a.trace mid.trace b.trace one two
 
   pub runs-find : (s : State) (t : Tables) (entries : List Entry) (a b : Unsettled) → a.pending ≡ None → Rests (Some t) a → StopsAlong settings s t entries a b
-      → FindsAlways (IsLeftBySome settings s t entries) a.trail b.trail
+      → FindsAlways (IsLeftBySome settings s t entries) a.trace b.trace
   runs-find s t entries a b none rests runs = goes-on s t entries [] a b none rests runs
 
 -- so a row that stands is recorded in whatever is found
 pub run-records : (settings : Settings) (s : State) (t : Tables) (entries : List Entry) (a b : Unsettled) (repo : List ℕ) (row : Row) → AreNamedApart settings.hosted → IsSound settings s → InOrder t → Holds t s
-    → Legal settings s entries → AreNoCollects entries → row_at row.path (rows_of repo s) ≡ Some row → a.pending ≡ None → Rests (Some t) a → StopsAlong settings s t entries a b
-    → FindsAlways (IsRecordedAs repo row) a.trail b.trail
+    → Legal settings s entries → MayNotGo entries row.path → row_at row.path (rows_of repo s) ≡ Some row → a.pending ≡ None → Rests (Some t) a → StopsAlong settings s t entries a b
+    → FindsAlways (IsRecordedAs repo row) a.trace b.trace
 run-records settings s t entries a b repo row apart sound ordered holds legal none is quiet rests runs =
-    finds-more (IsLeftBySome settings s t entries) (IsRecordedAs repo row) a.trail b.trail
+    finds-more (IsLeftBySome settings s t entries) (IsRecordedAs repo row) a.trace b.trace
     (λ u so. outlasts-stops settings s t u so.0 repo row apart sound ordered holds (legal-front settings so.0 so.1 s (subst (Legal settings s) so.2 legal))
-    (collects-front settings so.0 so.1 (subst AreNoCollects so.2 none)) is so.3)
+    (stays-front settings so.0 so.1 row.path (subst (λ (l : List Entry). MayNotGo l row.path) so.2 none)) is so.3)
     (runs-find settings s t entries a b quiet rests runs)
 
 -- where an entry recorded something, nothing is pending behind it
 settled-by : (settings : Settings) (s : State) (e : Entry) (old new : Option (List Item)) → recorded (effects_of settings s e) ≢ [] → Pends settings s e old new → new ≡ None
 settled-by settings s e old new some (undone none) = none
-settled-by settings s e old new some (stays quiet same) = absurd (some quiet)
+settled-by settings s e old new some (stays quiet other same) = absurd (some quiet)
 settled-by settings s e old new some (fails failed pends) = absurd (some (failed-records settings s e failed))
 
 -- an entry that recorded something, and those behind it: what stands behind it is recorded in whatever is found from its end on
 pub entry-outlasts : (settings : Settings) (s : State) (t : Tables) (e : Entry) (later : List Entry) (old a b : Unsettled) (repo : List ℕ) (row : Row) → AreNamedApart settings.hosted → IsSound settings s → InOrder t → Holds t s
-    → Legal settings s (e ∷ later) → AreNoCollects later → recorded (effects_of settings s e) ≢ [] → row_at row.path (rows_of repo (after settings s e)) ≡ Some row
-    → StopsAlong settings s t (e ∷ []) old a → StopsAlong settings (after settings s e) (tables_after settings s e t) later a b → FindsAlways (IsRecordedAs repo row) a.trail b.trail
+    → Legal settings s (e ∷ later) → MayNotGo later row.path → recorded (effects_of settings s e) ≢ [] → row_at row.path (rows_of repo (after settings s e)) ≡ Some row
+    → StopsAlong settings s t (e ∷ []) old a → StopsAlong settings (after settings s e) (tables_after settings s e t) later a b → FindsAlways (IsRecordedAs repo row) a.trace b.trace
 entry-outlasts settings s t e later old a b repo row apart sound ordered holds legal none some is (mid, did, last) runs =
     let made = history-recorded settings apart (e ∷ []) s t (legal.0, tt) sound.order sound.places sound.sessions ordered holds in
     let same : with_items t (told settings s (e ∷ [])) ≡ tables_after settings s e t = told-on settings [] e s t in
@@ -161,36 +169,36 @@ entry-outlasts settings s t e later old a b repo row apart sound ordered holds l
 
 -- and a start over what is found answers it
 pub entry-again : (settings : Settings) (s : State) (t : Tables) (e : Entry) (later : List Entry) (old a b : Unsettled) (repo : List ℕ) (row : Row) (c : Coordinates) → AreNamedApart settings.hosted
-    → AreProxiesApart settings.proxies → IsSound settings s → InOrder t → Holds t s → Legal settings s (e ∷ later) → AreNoCollects later → IsTrue (is_there repo settings) → kind row.path ≡ Ok (File c)
+    → AreProxiesApart settings.proxies → IsSound settings s → InOrder t → Holds t s → Legal settings s (e ∷ later) → MayNotGo later row.path → IsTrue (is_there repo settings) → kind row.path ≡ Ok (File c)
     → recorded (effects_of settings s e) ≢ [] → row_at row.path (rows_of repo (after settings s e)) ≡ Some row
-    → StopsAlong settings s t (e ∷ []) old a → StopsAlong settings (after settings s e) (tables_after settings s e t) later a b → FindsAlways (IsAnsweredAgain settings repo row) a.trail b.trail
+    → StopsAlong settings s t (e ∷ []) old a → StopsAlong settings (after settings s e) (tables_after settings s e t) later a b → FindsAlways (IsAnsweredAgain settings repo row) a.trace b.trace
 entry-again settings s t e later old a b repo row c apart proxies sound ordered holds legal none there named some is made runs =
-    finds-more (IsRecordedAs repo row) (IsAnsweredAgain settings repo row) a.trail b.trail
+    finds-more (IsRecordedAs repo row) (IsAnsweredAgain settings repo row) a.trace b.trace
     (λ u found tells stored clock faults whole before rest look_entry tried in_order in_range completes goes_on no_collects looks.
     answered-again settings u tells stored clock faults before look_entry rest repo tried row c whole apart proxies in_order in_range completes there named found goes_on no_collects looks)
     (entry-outlasts settings s t e later old a b repo row apart sound ordered holds legal none some is made runs)
 
 -- so does what a put created
 pub created-outlasts : (settings : Settings) (s : State) (t : Tables) (e : Entry) (later : List Entry) (old a b : Unsettled) (repo path : List ℕ) (n : ℕ) (blob : Blob) → AreNamedApart settings.hosted → IsSound settings s
-    → InOrder t → Holds t s → Legal settings s (e ∷ later) → AreNoCollects later → e.command ≡ put repo path n blob → e.reply ≡ created
-    → StopsAlong settings s t (e ∷ []) old a → StopsAlong settings (after settings s e) (tables_after settings s e t) later a b → FindsAlways (IsRecordedAs repo (new_row path blob e.moment)) a.trail b.trail
+    → InOrder t → Holds t s → Legal settings s (e ∷ later) → MayNotGo later path → e.command ≡ put repo path n blob → e.reply ≡ created
+    → StopsAlong settings s t (e ∷ []) old a → StopsAlong settings (after settings s e) (tables_after settings s e t) later a b → FindsAlways (IsRecordedAs repo (new_row path blob e.moment)) a.trace b.trace
 created-outlasts settings s t e later old a b repo path n blob apart sound ordered holds legal none is done made runs =
     entry-outlasts settings s t e later old a b repo (new_row path blob e.moment) apart sound ordered holds legal none
     (created-records settings s e repo path n blob apart sound legal.0 is done) (created-stands settings s e repo path n blob apart sound legal.0 is done) made runs
 
 -- so is it answered
 pub created-again : (settings : Settings) (s : State) (t : Tables) (e : Entry) (later : List Entry) (old a b : Unsettled) (repo path : List ℕ) (n : ℕ) (blob : Blob) (c : Coordinates) → AreNamedApart settings.hosted
-    → AreProxiesApart settings.proxies → IsSound settings s → InOrder t → Holds t s → Legal settings s (e ∷ later) → AreNoCollects later → IsTrue (is_there repo settings) → kind path ≡ Ok (File c)
+    → AreProxiesApart settings.proxies → IsSound settings s → InOrder t → Holds t s → Legal settings s (e ∷ later) → MayNotGo later path → IsTrue (is_there repo settings) → kind path ≡ Ok (File c)
     → e.command ≡ put repo path n blob → e.reply ≡ created → StopsAlong settings s t (e ∷ []) old a → StopsAlong settings (after settings s e) (tables_after settings s e t) later a b
-    → FindsAlways (IsAnsweredAgain settings repo (new_row path blob e.moment)) a.trail b.trail
+    → FindsAlways (IsAnsweredAgain settings repo (new_row path blob e.moment)) a.trace b.trace
 created-again settings s t e later old a b repo path n blob c apart proxies sound ordered holds legal none there named is done made runs =
     entry-again settings s t e later old a b repo (new_row path blob e.moment) c apart proxies sound ordered holds legal none there named
     (created-records settings s e repo path n blob apart sound legal.0 is done) (created-stands settings s e repo path n blob apart sound legal.0 is done) made runs
 
--- Behind an entry that recorded something and others without a Collect, this is pending: over the tables then, and over these with that
+-- Behind an entry that recorded something and others that do not take the file away, this is pending: over the tables then, and over these with that
 -- change, a start answers what stood behind the entry.
 pub left-again : (settings : Settings) (s : State) (t u : Tables) (e : Entry) (later : List Entry) (old mid new : Option (List Item)) (repo : List ℕ) (row : Row) (c : Coordinates) → AreNamedApart settings.hosted
-    → AreProxiesApart settings.proxies → IsSound settings s → InOrder t → Holds t s → Legal settings s (e ∷ later) → AreNoCollects later → IsTrue (is_there repo settings) → kind row.path ≡ Ok (File c)
+    → AreProxiesApart settings.proxies → IsSound settings s → InOrder t → Holds t s → Legal settings s (e ∷ later) → MayNotGo later row.path → IsTrue (is_there repo settings) → kind row.path ≡ Ok (File c)
     → recorded (effects_of settings s e) ≢ [] → row_at row.path (rows_of repo (after settings s e)) ≡ Some row → Pends settings s e old mid → PendAlong settings (after settings s e) later mid new
     → IsOneOf u (left_by (with_items (tables_after settings s e t) (told settings (after settings s e) later)) new) → IsAnsweredAgain settings repo row u
 left-again settings s t u e later old mid new repo row c apart proxies sound ordered holds legal none there named some is pends along left tells stored clock faults whole before rest look_entry tried in_order in_range completes
@@ -207,7 +215,7 @@ left-again settings s t u e later old mid new repo row c apart proxies sound ord
 
 -- so what a put created
 pub created-left : (settings : Settings) (s : State) (t u : Tables) (e : Entry) (later : List Entry) (old mid new : Option (List Item)) (repo path : List ℕ) (n : ℕ) (blob : Blob) (c : Coordinates) → AreNamedApart settings.hosted
-    → AreProxiesApart settings.proxies → IsSound settings s → InOrder t → Holds t s → Legal settings s (e ∷ later) → AreNoCollects later → IsTrue (is_there repo settings) → kind path ≡ Ok (File c)
+    → AreProxiesApart settings.proxies → IsSound settings s → InOrder t → Holds t s → Legal settings s (e ∷ later) → MayNotGo later path → IsTrue (is_there repo settings) → kind path ≡ Ok (File c)
     → e.command ≡ put repo path n blob → e.reply ≡ created → Pends settings s e old mid → PendAlong settings (after settings s e) later mid new
     → IsOneOf u (left_by (with_items (tables_after settings s e t) (told settings (after settings s e) later)) new) → IsAnsweredAgain settings repo (new_row path blob e.moment) u
 created-left settings s t u e later old mid new repo path n blob c apart proxies sound ordered holds legal none there named is done pends along left =

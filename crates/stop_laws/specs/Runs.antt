@@ -1,6 +1,6 @@
 -- A run of a repository, entry by entry, and what a start may find behind a stop at each of its moments.
 use Rattle.std.specs.Prelude.{◌≡◌, ℕ, List, [], ◌∷◌, ◌++◌, Option, Some, None}
-use Rattle.record_disk.specs.Disk.{Throughout}
+use Rattle.record_disk.specs.Disk.{Throughout, Trace}
 use Rattle.outside.specs.Moments.{Moments}
 use Rattle.repo_model.specs.Command.{look}
 use Rattle.repo_model.specs.Data.{Blob, Row}
@@ -14,8 +14,9 @@ use Rattle.repo_laws.specs.Closed.{GivesFile}
 use Rattle.repo_laws.specs.Holds.{InOrder, with_items}
 use Rattle.repo_laws.specs.InRange.{Completes, InRange, IsSameBlob}
 use Rattle.row_tables.specs.Stopping.{Stopping}
-use Rattle.row_tables.specs.Stops.{Trail, Unsettled}
-use Rattle.stop_laws.specs.Stops.{AreNoCollects, IsLeft}
+use Rattle.row_tables.specs.Loading.{tables_in}
+use Rattle.row_tables.specs.Stops.{Unsettled}
+use Rattle.stop_laws.specs.Stops.{IsLeft, MayNotGo}
 
 -- the tables behind an entry
 abbrev pub tables_after : Settings → State → Entry → Tables → Tables
@@ -30,22 +31,21 @@ StopsAlong settings s t (e ∷ entries) old new =
 
 -- At each moment from the one to the other a start reads, from any file that a stop then leaves, tables of which this is true; or no
 -- file is told.
-abbrev pub FindsAlways : (Tables → Type 0) → Option Trail → Option Trail → Type 0
+abbrev pub FindsAlways : (Tables → Type 0) → Option Trace → Option Trace → Type 0
 FindsAlways P None None = Unit {0}
 FindsAlways P None (Some new) = ⊥
 FindsAlways P (Some old) None = ⊥
-FindsAlways P (Some old) (Some new) =
-    (new.reads ≡ old.reads) × Throughout (λ file. (u : Tables) × (old.reads file ≡ Some u) × P u) old.trace new.trace
+FindsAlways P (Some old) (Some new) = Throughout (λ file. (u : Tables) × (tables_in file ≡ Some u) × P u) old new
 
 -- tables that a stop leaves behind the first of these entries, as many as there may be
 abbrev pub IsLeftBySome : Settings → State → Tables → List Entry → Tables → Type 0
 IsLeftBySome settings s t entries u = (front rest : List Entry) × (entries ≡ front ++ rest) × IsLeft settings s t front u
 
--- A start over these tables, once it has completed them, and any entries without a Collect: who looks at this file then is given it, with
--- its number and its fingerprint; or memory is wanting, or no lease is left.
+-- A start over these tables, once it has completed them, and any entries, without a Collect where the file is a snapshot's: who looks at
+-- this file then is given it, with its number and its fingerprint; or memory is wanting, or no lease is left.
 abbrev pub IsAnsweredAgain : Settings → List ℕ → Row → Tables → Type 0
 IsAnsweredAgain settings repo row u =
     (tells : ℕ → Option (List ℕ)) (stored : List ℕ) (clock : Option Moments) (faults : ℕ) (whole : Tables) (before rest : List Entry) (e : Entry) (tried : List ℕ)
-    → InOrder u → InRange u → Completes u whole → Legal settings (started settings tells stored clock faults whole) (before ++ e ∷ rest) → AreNoCollects before
+    → InOrder u → InRange u → Completes u whole → Legal settings (started settings tells stored clock faults whole) (before ++ e ∷ rest) → MayNotGo before row.path
     → e.command ≡ look repo row.path tried
     → (kept : Blob) × IsSameBlob kept row.blob × GivesFile (end settings (started settings tells stored clock faults whole) before) kept e.reply

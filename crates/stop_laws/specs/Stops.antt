@@ -1,8 +1,9 @@
 -- What a stop leaves of the records of a repository, as the tables that a start then finds.
-use Rattle.std.specs.Prelude.{◌≡◌, ◌⊎◌, false, List, [], ◌∷◌, ◌++◌, Option, None}
+use Rattle.std.specs.Prelude.{◌≡◌, ◌⊎◌, ℕ, false, List, [], ◌∷◌, ◌++◌, Option, None}
 use Rattle.std.specs.List.{AllByRecursion}
 use Rattle.repo_model.specs.declared.item.Item.{Item}
 use Rattle.repo_model.specs.History.{Entry, after, end, is_collect}
+use Rattle.repo_model.specs.Paths.{is_snapshot_path}
 use Rattle.repo_model.specs.Reply.{store_fault}
 use Rattle.repo_model.specs.Settings.{Settings}
 use Rattle.repo_model.specs.State.{State}
@@ -32,6 +33,10 @@ pub data IsLeft (settings : Settings) (s : State) (t : Tables) (entries : List E
 -- none of these entries asks for a Collect, done or not
 abbrev pub AreNoCollects : List Entry → Type 0
 AreNoCollects entries = AllByRecursion (λ (e : Entry). is_collect e.command ≡ false) entries
+
+-- these entries take no row of this path away: none of them asks for a Collect; or the path is a release's, which no Collect takes
+abbrev pub MayNotGo : List Entry → List ℕ → Type 0
+MayNotGo entries path = AreNoCollects entries ⊎ (is_snapshot_path path ≡ false)
 
 -- an entry as it is where the records take what it tried
 abbrev pub as_done : Settings → State → Entry → Entry

@@ -5,25 +5,26 @@ ghost use Rattle.mvn_coords.specs.Layout.{Coordinates};
 ghost use Rattle.mvn_coords.specs.declared.kind.Kind.TheVariants.{File};
 ghost use Rattle.outside.specs.Blobs.{Shelf};
 ghost use Rattle.outside.specs.Moments.{Moments};
-ghost use Rattle.repo_model.specs.Command.{is_there, look, put};
+ghost use Rattle.repo_model.specs.Command.{collect, is_there, look, put};
 ghost use Rattle.repo_model.specs.Restart.{started};
 ghost use Rattle.repo_model.specs.Data.{Blob, Row};
 ghost use Rattle.repo_model.specs.Effect.{new_row, recorded};
-ghost use Rattle.repo_model.specs.Reply.{created};
+ghost use Rattle.repo_model.specs.Reply.{collected, created};
 ghost use Rattle.repo_model.specs.History.{Entry, Legal, after, effects_of, end};
 ghost use Rattle.repo_model.specs.Settings.{Settings};
 ghost use Rattle.repo_model.specs.State.{State, files_of, row_at, rows_of};
 ghost use Rattle.repo_model.specs.Tables.{RecordedRow, Tables};
 ghost use Rattle.blob_audit.specs.Damages.{AreDamaged};
+ghost use Rattle.blob_audit.specs.Order.{all_rows};
 ghost use Rattle.proxy_laws.specs.Asked.{AsksFirst, LetsThrough};
 ghost use Rattle.repo_laws.specs.Closed.{Answers, GivesFile};
 ghost use Rattle.repo_laws.specs.Holds.{Holds, InOrder, told, with_items};
 ghost use Rattle.repo_laws.specs.InRange.{InRange, Completes, IsSameBlob};
 ghost use Rattle.repo_laws.specs.Sound.{AreNamedApart, AreProxiesApart, IsSound};
-ghost use Rattle.stop_laws.specs.Found.{AreStored, IsCachedAs, IsRecordedAs, KeepsBlobs};
+ghost use Rattle.stop_laws.specs.Found.{AreStored, IsCachedAs, IsRecordedAs, KeepsBlobs, KeepsOthers, NamesNone};
 ghost use Rattle.row_tables.specs.Stops.{Rests, Unsettled};
 ghost use Rattle.stop_laws.specs.Runs.{FindsAlways, IsAnsweredAgain, IsLeftBySome, StopsAlong, tables_after};
-ghost use Rattle.stop_laws.specs.Stops.{AreNoCollects, IsFrontOf, IsLeft};
+ghost use Rattle.stop_laws.specs.Stops.{IsFrontOf, IsLeft, MayNotGo};
 
 /// A start over a store that keeps what it acknowledged finds none of these files damaged, where each of them names a blob that
 /// was acknowledged.
@@ -39,51 +40,69 @@ pub fn stops_leave_fronts_of_histories()
 {}
 
 /// A file that stands in a repository is recorded with its number and its fingerprint in whatever a start may find behind a stop at any
-/// later moment, unless an entry asks for a Collect, be it that its commit fails.
+/// later moment; where it is a snapshot's, unless an entry asks for a Collect, be it that its commit fails.
 pub fn rows_outlast_stops()
     ensures { (settings : Settings) (s : State) (t u : Tables) (entries : List Entry) (repo : List ℕ) (row : Row)
-        → AreNamedApart settings.hosted → IsSound settings s → InOrder t → Holds t s → Legal settings s entries → AreNoCollects entries
+        → AreNamedApart settings.hosted → IsSound settings s → InOrder t → Holds t s → Legal settings s entries → MayNotGo entries row.path
         → row_at row.path (rows_of repo s) ≡ Some row → IsLeft settings s t entries u → IsRecordedAs repo row u }
 {}
 
 /// A run of the repository that began in a state over these tables, with nothing pending, and has made these entries: at each moment of it,
 /// between its calls and inside each of them, a start reads, from whatever file a stop then leaves, tables that a stop may leave behind
-/// the first of the entries, as many as there may be. The trails are those that the records tell at the beginning and at the end.
+/// the first of the entries, as many as there may be. The traces are those that the records tell at the beginning and at the end.
 pub fn stops_of_runs_find_what_is_left()
     ensures { (settings : Settings) (s : State) (t : Tables) (entries : List Entry) (old new : Unsettled) → old.pending ≡ None → Rests (Some t) old
-        → StopsAlong settings s t entries old new → FindsAlways (IsLeftBySome settings s t entries) old.trail new.trail }
+        → StopsAlong settings s t entries old new → FindsAlways (IsLeftBySome settings s t entries) old.trace new.trace }
 {}
 
-/// An entry that recorded something, as a `Put` that answered `Created` does, and entries behind it of which none asks for a Collect: a
-/// file that stands in a repository when the entry is made is recorded, with its number and its fingerprint, in whatever tables a start
-/// reads behind a stop at any moment from then on, between calls or inside one.
+/// An entry that recorded something, as a `Put` that answered `Created` does, and entries behind it: a file that stands in a repository
+/// when the entry is made is recorded, with its number and its fingerprint, in whatever tables a start reads behind a stop at any moment
+/// from then on, between calls or inside one. Where it is a snapshot's, none of the entries asks for a Collect.
 pub fn files_outlast_stops_of_runs()
     ensures { (settings : Settings) (s : State) (t : Tables) (e : Entry) (later : List Entry) (before old new : Unsettled) (repo : List ℕ) (row : Row)
-        → AreNamedApart settings.hosted → IsSound settings s → InOrder t → Holds t s → Legal settings s (e ∷ later) → AreNoCollects later
+        → AreNamedApart settings.hosted → IsSound settings s → InOrder t → Holds t s → Legal settings s (e ∷ later) → MayNotGo later row.path
         → recorded (effects_of settings s e) ≢ [] → row_at row.path (rows_of repo (after settings s e)) ≡ Some row
         → StopsAlong settings s t (e ∷ []) before old → StopsAlong settings (after settings s e) (tables_after settings s e t) later old new
-        → FindsAlways (IsRecordedAs repo row) old.trail new.trail }
+        → FindsAlways (IsRecordedAs repo row) old.trace new.trace }
 {}
 
-/// A `Put` that was answered with `Created`, and entries behind it of which none asks for a Collect: a start reads, from whatever file
-/// a stop at any moment from its end on leaves, between calls or inside one, tables in which the file is recorded with the number and
-/// the fingerprint that were put.
+/// A `Put` that was answered with `Created`, and entries behind it, of which none asks for a Collect where the file is a snapshot's: a
+/// start reads, from whatever file a stop at any moment from its end on leaves, between calls or inside one, tables in which the file is
+/// recorded with the number and the fingerprint that were put.
 pub fn created_files_outlast_stops_of_runs()
     ensures { (settings : Settings) (s : State) (t : Tables) (e : Entry) (later : List Entry) (before old new : Unsettled) (repo path : List ℕ) (n : ℕ) (blob : Blob)
-        → AreNamedApart settings.hosted → IsSound settings s → InOrder t → Holds t s → Legal settings s (e ∷ later) → AreNoCollects later
+        → AreNamedApart settings.hosted → IsSound settings s → InOrder t → Holds t s → Legal settings s (e ∷ later) → MayNotGo later path
         → e.command ≡ put repo path n blob → e.reply ≡ created
         → StopsAlong settings s t (e ∷ []) before old → StopsAlong settings (after settings s e) (tables_after settings s e t) later old new
-        → FindsAlways (IsRecordedAs repo (new_row path blob e.moment)) old.trail new.trail }
+        → FindsAlways (IsRecordedAs repo (new_row path blob e.moment)) old.trace new.trace }
 {}
 
-/// So a start over these tables, under the same settings, once it has completed them, and any entries behind it without a Collect: who looks
-/// at the file then is given it, with the number and the fingerprint that were put; or memory is wanting, or no lease is left.
+/// So a start over these tables, under the same settings, once it has completed them, and any entries behind it, without a Collect where
+/// the file is a snapshot's: who looks at the file then is given it, with the number and the fingerprint that were put; or memory is
+/// wanting, or no lease is left.
 pub fn created_files_are_answered_behind_stops()
     ensures { (settings : Settings) (s : State) (t : Tables) (e : Entry) (later : List Entry) (before old new : Unsettled) (repo path : List ℕ) (n : ℕ) (blob : Blob) (c : Coordinates)
-        → AreNamedApart settings.hosted → AreProxiesApart settings.proxies → IsSound settings s → InOrder t → Holds t s → Legal settings s (e ∷ later) → AreNoCollects later
+        → AreNamedApart settings.hosted → AreProxiesApart settings.proxies → IsSound settings s → InOrder t → Holds t s → Legal settings s (e ∷ later) → MayNotGo later path
         → IsTrue (is_there repo settings) → kind path ≡ Ok (File c) → e.command ≡ put repo path n blob → e.reply ≡ created
         → StopsAlong settings s t (e ∷ []) before old → StopsAlong settings (after settings s e) (tables_after settings s e t) later old new
-        → FindsAlways (IsAnsweredAgain settings repo (new_row path blob e.moment)) old.trail new.trail }
+        → FindsAlways (IsAnsweredAgain settings repo (new_row path blob e.moment)) old.trace new.trace }
+{}
+
+/// A Collect that answered what it collected, and any entries behind it: in whatever tables a start reads behind a stop at any moment from
+/// its end on, between calls or inside one, no row names a blob that it gave out to be removed.
+pub fn blobs_given_out_are_named_no_more()
+    ensures { (settings : Settings) (s : State) (t : Tables) (e : Entry) (later : List Entry) (before old new : Unsettled) (expired : ℕ) (blobs : List ℕ)
+        → AreNamedApart settings.hosted → IsSound settings s → InOrder t → Holds t s → Legal settings s (e ∷ later)
+        → e.command ≡ collect → e.reply ≡ collected expired blobs
+        → StopsAlong settings s t (e ∷ []) before old → StopsAlong settings (after settings s e) (tables_after settings s e t) later old new
+        → FindsAlways (NamesNone blobs) old.trace new.trace }
+{}
+
+/// So a start over such tables finds no file damaged, be it that the store has lost any of the blobs that were given out, where each recorded
+/// file names a blob that was acknowledged, with its fingerprint, and the store keeps the others that it acknowledged.
+pub fn blobs_given_out_are_missed_by_no_start()
+    ensures { (t : Tables) (gone : List ℕ) (acknowledged found : Shelf) → NamesNone gone t → AreStored acknowledged (all_rows t) → KeepsOthers gone acknowledged found
+        → AreDamaged found (all_rows t) [] }
 {}
 
 /// A file that a proxy keeps is recorded so in whatever a start may find behind a stop at any later moment.
@@ -93,14 +112,15 @@ pub fn kept_files_outlast_stops()
         → row_at row.path (files_of id s) ≡ Some row → IsLeft settings s t entries u → IsCachedAs id row u }
 {}
 
-/// A start over tables in which a file is recorded, once it has completed them, and then any entries without a Collect: who looks there is
-/// given the file, with the number and the fingerprint that were recorded; or memory is wanting, or no lease is left.
+/// A start over tables in which a file is recorded, once it has completed them, and then any entries, without a Collect where the file is a
+/// snapshot's: who looks there is given the file, with the number and the fingerprint that were recorded; or memory is wanting, or no
+/// lease is left.
 pub fn starts_answer_what_is_recorded()
     ensures { (settings : Settings) (u : Tables) (tells : ℕ → Option (List ℕ)) (stored : List ℕ) (clock : Option Moments) (faults : ℕ) (before : List Entry) (e : Entry)
         (rest : List Entry) (repo tried : List ℕ) (row : Row) (c : Coordinates) (whole : Tables) → AreNamedApart settings.hosted → AreProxiesApart settings.proxies → InOrder u → InRange u → Completes u whole
         → IsTrue (is_there repo settings)
         → kind row.path ≡ Ok (File c) → IsRecordedAs repo row u → Legal settings (started settings tells stored clock faults whole) (before ++ e ∷ rest)
-        → AreNoCollects before → e.command ≡ look repo row.path tried
+        → MayNotGo before row.path → e.command ≡ look repo row.path tried
         → (kept : Blob) × IsSameBlob kept row.blob × GivesFile (end settings (started settings tells stored clock faults whole) before) kept e.reply }
 {}
 

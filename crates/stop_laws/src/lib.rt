@@ -6,6 +6,7 @@
 mod laws;
 
 pub use laws::{
+    blobs_given_out_are_missed_by_no_start, blobs_given_out_are_named_no_more,
     created_files_are_answered_behind_stops, created_files_outlast_stops_of_runs,
     files_outlast_stops_of_runs, kept_blobs_are_whole, kept_files_outlast_stops,
     rows_outlast_stops, starts_answer_kept_files, starts_answer_what_is_recorded,

@@ -1,7 +1,7 @@
 use Rattle.std.proofs.Common.{◌≡◌, ◌<◌, ◌+◌, ◌^◌, length}
 use Rattle.repo_model.specs.Tables.{no_tables}
 use Rattle.row_tables.specs.Recorded.{IsBuiltUp}
-use Rattle.record_journal.specs.Loading.{after_frames}
+use Rattle.row_tables.specs.Loading.{after_frames}
 use Rattle.record_journal.proofs.loading.load_frames.Given as goal
 
 abbrev pub invariant-loop-payload : goal.invariant-loop-payload

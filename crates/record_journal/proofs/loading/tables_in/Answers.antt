@@ -1,6 +1,6 @@
 use Rattle.std.proofs.Common.{sym, subst, ap, arith}
 use Rattle.record_journal.specs.Given.{Loads}
-use Rattle.record_journal.specs.Loading.{loading_of}
+use Rattle.row_tables.specs.Loading.{loading_of}
 use Rattle.record_journal.proofs.Loads.{whole_if}
 use Rattle.record_journal.proofs.Walk.{few_frames}
 use Rattle.record_journal.proofs.loading.tables_in.Goals as goal

@@ -6,7 +6,7 @@ use Rattle.record_log.specs.Frames.{frames, gate_of, end_of, EndsAt, HoldsFrames
 use Rattle.record_log.specs.Log.{HasAcknowledged, LogState}
 use Rattle.record_log.proofs.Mending.{behind_magic}
 use Rattle.record_journal.specs.Given.{Loads}
-use Rattle.record_journal.specs.Loading.{loading}
+use Rattle.row_tables.specs.Loading.{loading}
 use Rattle.record_journal.proofs.Reloaded.{Mending, loads_too, refused_left, reload_crash, reload_tables, reload_ready, reload_recovers, still_sync, still_mended, had_bytes, gate_had}
 use Rattle.record_journal.proofs.reloading.load_log.Goals as goal
 

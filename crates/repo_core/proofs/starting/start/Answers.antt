@@ -12,6 +12,7 @@ use Rattle.repo_core.specs.Start.{Starts}
 use Rattle.repo_core.specs.Stock.{state_of}
 use Rattle.repo_core.specs.Whole.{Whole, counting}
 use Rattle.repo_core.proofs.StartLemmas.{complete-then, damage-then, digested-so, empty-stays, starts-counted, starts-kept, starts-last, starts-opening, starts-proxy-rules, starts-rules, starts-staged, starts-told, told-then}
+use Rattle.row_tables.specs.Stops.{Rests}
 use Rattle.repo_core.proofs.starting.start.Goals as goal
 
 pub of-requires-clause-moment : goal.of-requires-clause-moment
@@ -49,7 +50,7 @@ over-requires-clause-kept g c =
     let new = g.B.Blobs.shelf c.stock_of.new.blobs in
     let told = told-then (g.K.Records.tables c.args.records) (g.K.Records.tables c.load.new.records) c.in-Ok.tables c.in-Ok.ensures.told in
     starts-kept c.args.settings c.in-Ok.tables old new clock (state_of c.in-Ok-stock_of.stock clock) c.in-Ok.ensures.built c.form.ensures (subst (λ (sh : Shelf). Starts c.args.settings c.in-Ok.tables sh new clock 0 (state_of c.in-Ok-stock_of.stock clock)) c.load.ensures.kept (c.in-Ok-stock_of.ensures.starts clock)) c.of.result
-    (g.K.Records.faults c.load.new.records) (g.K.Records.unsettled c.load.new.records).pending (g.K.Records.tables c.load.new.records) c.of.ensures.settings c.of.ensures.state told
+    (g.K.Records.faults c.load.new.records) (g.K.Records.unsettled c.load.new.records) (g.K.Records.tables c.load.new.records) c.of.ensures.settings c.of.ensures.state told
 
 pub returns-in-Ok-stock_of-clause-state : goal.returns-in-Ok-stock_of-clause-state
 returns-in-Ok-stock_of-clause-state g c =
@@ -117,3 +118,7 @@ returns-in-Err-stock_of-clause-shelf g c =
     let completed = c.in-Ok.ensures.tables in
     let cleared = subst (λ (sh : Shelf). ClearsFront (blobs_named t) sh new) c.load.ensures.kept c.in-Err-stock_of.ensures.shelf in
     inr (completed.0, completed.1, subst (λ ns. ClearsFront ns old new) (named-stay old completed.0 t completed.2) cleared)
+
+pub returns-in-Ok-stock_of-clause-rests : goal.returns-in-Ok-stock_of-clause-rests
+returns-in-Ok-stock_of-clause-rests g c =
+    subst (λ (w : Whole). Rests w.tables w.unsettled) (sym c.over.ensures) (g.met.K.Records.rests c.load.new.records c.in-Ok.ensures.ready)

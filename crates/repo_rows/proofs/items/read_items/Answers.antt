@@ -1,5 +1,5 @@
 use Rattle.std.proofs.lemmas.Result.{err_from_is_err_and}
-use Rattle.repo_rows.specs.Reading.{items_at}
+use Rattle.row_tables.specs.Reading.{items_at}
 use Rattle.repo_rows.proofs.Loop.{goes_on, ends, is_done}
 use Rattle.repo_rows.proofs.items.read_items.Goals as goal
 

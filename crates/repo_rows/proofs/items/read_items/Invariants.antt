@@ -1,5 +1,5 @@
 use Rattle.std.proofs.Common.{◌≡◌, ◌-◌}
-use Rattle.repo_rows.specs.Reading.{items_at}
+use Rattle.row_tables.specs.Reading.{items_at}
 use Rattle.repo_rows.proofs.Loop.{with_front}
 use Rattle.repo_rows.proofs.items.read_items.Given as goal
 

@@ -23,6 +23,7 @@ returns-in-Ok-start-clause-ok g c =
       digested = s.tables;
       calls_are = s.calls;
       settled = s.settled;
+      rests = s.rests;
       still = s.still;
       opens = s.opening;
     })

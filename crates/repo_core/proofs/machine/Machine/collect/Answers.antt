@@ -23,7 +23,7 @@ returns-in-Ok-commit-clause-turn g c =
     (g.K.Records.faults c.args.records.now) (g.K.Records.faults c.commit.new.self) c.drop_gone.ensures.turn c.drop_gone.ensures.due made c.in-Ok-commit.ensures.ok c.in-Ok-commit.ensures.cause
 
 pub returns-in-Ok-commit-clause-settled : goal.returns-in-Ok-commit-clause-settled
-returns-in-Ok-commit-clause-settled g c = settled-by (shown_reply c.drop_gone.result) (g.K.Records.unsettled c.commit.new.self).pending c.in-Ok-commit.ensures.settled
+returns-in-Ok-commit-clause-settled g c = settled-by (shown_reply c.drop_gone.result) (g.K.Records.unsettled c.commit.new.self) c.in-Ok-commit.ensures.settled
 
 pub returns-in-Ok-commit-clause-stops : goal.returns-in-Ok-commit-clause-stops
 returns-in-Ok-commit-clause-stops g c =

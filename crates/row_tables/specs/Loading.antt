@@ -1,9 +1,10 @@
 -- What a file of records loads to: the tables that the changes in its frames build up, or why it is refused.
 use Rattle.std.specs.Prelude.{ℕ, ◌+◌, ◌==◌, Bool, false, if◌then◌else◌, List, [], ◌∷◌, length, take, Option, Some, None, Result, Ok, Err}
+use Rattle.std.specs.Result.{result_ok}
 use Rattle.record_log.specs.Frames.{Found, frames, frames_of}
 use Rattle.repo_model.specs.declared.item.Item.{Item}
 use Rattle.repo_model.specs.Tables.{Tables, no_tables, applied}
-use Rattle.repo_rows.specs.Reading.{taken}
+use Rattle.row_tables.specs.Reading.{taken}
 use Rattle.row_tables.specs.Items.{change_bytes}
 use Rattle.row_tables.specs.declared.faults.LoadFault.{LoadFault}
 use Rattle.row_tables.specs.declared.faults.LoadFault.TheVariants.{NotOurs, Row}
@@ -44,6 +45,10 @@ loading_of (Some found) = after_frames 0 found.is_cut no_tables found.payloads
 
 abbrev pub loading : List ℕ → Result Tables LoadFault
 loading file = loading_of (frames_of (frames file))
+
+-- the tables that a start reads from a file
+abbrev pub tables_in : List ℕ → Option Tables
+tables_in file = result_ok (loading file)
 
 -- the tables that whole frames build up
 abbrev pub built_up : List (List ℕ) → Result Tables LoadFault

@@ -1,0 +1,75 @@
+-- A store that keeps what it acknowledged, but for what was given out, has no damaged file where no row names that.
+use Rattle.std.proofs.Common.{◌≡◌, ℕ, Bool, true, false, cond, List, [], ◌∷◌, map, Option, Some, None, refl, sym, ap, ◌∙◌}
+use Rattle.std.specs.Prelude.{◌==◌, IfSome}
+use Rattle.std.specs.List.{AllByRecursion, list_any}
+use Rattle.std.specs.Option.{ForSome, option_map}
+use Rattle.std.proofs.lemmas.Bool.{eq-eqb, false≢true, false_from_ne_true, or_parts}
+use Rattle.itertools.specs.List.{merge_at, merge_by}
+use Rattle.outside.specs.Blobs.{Numbered, Shelf, bytes_at}
+use Rattle.repo_model.specs.State.{is_among}
+use Rattle.repo_model.specs.Tables.{RecordedRow, Tables}
+use Rattle.blob_audit.specs.Damages.{AreDamaged, none, print_of, whole}
+use Rattle.blob_audit.specs.Order.{File, all_rows, comes_first, files_of}
+use Rattle.stop_laws.specs.Found.{AreStored, KeepsOthers, NamesNone}
+
+module _ {A : Type 0} (P : A → Type 0) (first : A → A → Bool) where
+  all-at : (x : A) → P x → (xs : List A) → AllByRecursion P xs → (after : List A → List A) → ((ys : List A) → AllByRecursion P ys → AllByRecursion P (after ys))
+      → (ys : List A) → AllByRecursion P ys → AllByRecursion P (merge_at first x xs after ys)
+  all-at x is xs all after so [] more = (is, all)
+  all-at x is xs all after so (y ∷ ys) more =
+      elim (first x y) as (λ b. AllByRecursion P (cond b (x ∷ after (y ∷ ys)) (y ∷ merge_at first x xs after ys))) [
+        | true ↦ (is, so (y ∷ ys) more)
+        | false ↦ (more.0, all-at x is xs all after so ys more.1)
+      ]
+
+  -- what holds of all of two lists holds of all of their merge
+  all-merge : (xs ys : List A) → AllByRecursion P xs → AllByRecursion P ys → AllByRecursion P (merge_by first xs ys)
+  all-merge [] ys all more = more
+  all-merge (x ∷ xs) ys all more = all-at x all.0 xs all.1 (merge_by first xs) (λ zs so. all-merge xs zs all.1 so) ys more
+
+module _ (gone : List ℕ) where
+  abbrev IsSpared : RecordedRow → Type 0
+  IsSpared r = is_among r.row.blob.number gone ≡ false
+
+  spared-rows : (rows : List RecordedRow) → ((n : ℕ) → is_among n gone ≡ true → list_any (λ (r : RecordedRow). r.row.blob.number == n) rows ≡ false) → AllByRecursion IsSpared rows
+  spared-rows [] unnamed = tt
+  spared-rows (r ∷ rows) unnamed = (
+    false_from_ne_true (is_among r.row.blob.number gone)
+        (λ among.
+        let n = r.row.blob.number in
+        false≢true (sym (or_parts (n == n) (list_any (λ (x : RecordedRow). x.row.blob.number == n) rows) (unnamed n among)).0 ∙ eq-eqb n n refl)),
+    spared-rows rows
+        (λ n among. (or_parts (r.row.blob.number == n) (list_any (λ (x : RecordedRow). x.row.blob.number == n) rows) (unnamed n among)).1),
+  )
+
+  spared-files : (is_hosted : Bool) (rows : List RecordedRow) → AllByRecursion IsSpared rows → AllByRecursion (λ (f : File). IsSpared f.row) (files_of is_hosted rows)
+  spared-files is_hosted [] all = tt
+  spared-files is_hosted (r ∷ rows) all = (all.0, spared-files is_hosted rows all.1)
+
+  rows-spared : (files : List File) → AllByRecursion (λ (f : File). IsSpared f.row) files → AllByRecursion IsSpared (map (λ (f : File). f.row) files)
+  rows-spared [] all = tt
+  rows-spared (f ∷ files) all = (all.0, rows-spared files all.1)
+
+  all-spared : (t : Tables) → NamesNone gone t → AllByRecursion IsSpared (all_rows t)
+  all-spared t unnamed =
+      let names : ℕ → RecordedRow → Bool = λ n r. r.row.blob.number == n in
+      rows-spared (merge_by comes_first (files_of true t.hosted) (files_of false t.cached))
+      (all-merge (λ (f : File). IsSpared f.row) comes_first (files_of true t.hosted) (files_of false t.cached)
+      (spared-files true t.hosted (spared-rows t.hosted (λ n among. (or_parts (list_any (names n) t.hosted) (list_any (names n) t.cached) (unnamed n among)).0)))
+      (spared-files false t.cached (spared-rows t.cached (λ n among. (or_parts (list_any (names n) t.hosted) (list_any (names n) t.cached) (unnamed n among)).1))))
+
+  -- what such a store has under a number
+  found-still : (acknowledged : Shelf) (n : ℕ) (those : List (ℕ × List ℕ)) (bytes : List ℕ) → acknowledged.blobs ≡ Some those → bytes_at n those ≡ Some bytes → is_among n gone ≡ false → (o : Option Numbered)
+      → IfSome o (λ them. ForSome acknowledged.blobs (λ those. (m : ℕ) (content : List ℕ) → is_among m gone ≡ false → bytes_at m those ≡ Some content → bytes_at m them ≡ Some content))
+      → IfSome o (λ them. Some (print_of bytes) ≡ option_map print_of (bytes_at n them))
+  found-still acknowledged n those bytes told at stays None keeps = tt
+  found-still acknowledged n those bytes told at stays (Some them) keeps = sym (ap (option_map print_of) (keeps those told n bytes stays at))
+
+  others-whole : (acknowledged found : Shelf) → KeepsOthers gone acknowledged found → (rows : List RecordedRow) → AreStored acknowledged rows → AllByRecursion IsSpared rows → AreDamaged found rows []
+  others-whole acknowledged found keeps [] stored spared = none
+  others-whole acknowledged found keeps (r ∷ rows) stored spared =
+      let (those, bytes, told, at, is_whole) = stored.0 in
+      whole r rows [] (Some (print_of bytes)) (found-still acknowledged r.row.blob.number those bytes told at spared.0 found.blobs keeps) is_whole (others-whole acknowledged found keeps rows stored.1 spared.1)
+
+pub spared-whole : (gone : List ℕ) (t : Tables) (acknowledged found : Shelf) → NamesNone gone t → AreStored acknowledged (all_rows t) → KeepsOthers gone acknowledged found → AreDamaged found (all_rows t) []
+spared-whole gone t acknowledged found unnamed stored keeps = others-whole gone acknowledged found keeps (all_rows t) stored (all-spared gone t unnamed)
