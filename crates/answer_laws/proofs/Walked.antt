@@ -1,6 +1,6 @@
 -- A course that does what it owes is followed by steps of its own, and ends as is due for the head or for just one of them.
 use Rattle.std.proofs.Common.{◌≡◌, ◌⊎◌, inl, inr, ℕ, zero, suc, List, [], ◌∷◌, ◌++◌, Option, Some, None, arith, refl, sym, subst, ap, ◌∙◌}
-use Rattle.repo_model.specs.Command.{Command, look, done, may_put, put, put_side, put_doc, drop_draft, open_session, stage, commit, abort, unlist, collect, status, land}
+use Rattle.repo_model.specs.Command.{Command, look, done, may_put, put, put_side, put_doc, drop_draft, open_session, stage, commit, abort, unlist, collect, ask, land}
 use Rattle.repo_model.specs.History.{Entry}
 use Rattle.repo_model.specs.Reply.{Reply, draft, file, fetches, landed}
 use Rattle.repo_course.specs.Answers.{answer_of, memory_answer}
@@ -56,7 +56,7 @@ module _ (by_text : List ℕ → Option Close) where
   free-before (abort n) reply s close may is = may.0
   free-before (unlist repo) reply s close may is = absurd may
   free-before collect reply s close may is = absurd may
-  free-before status reply s close may is = may.0
+  free-before (ask question) reply s close may is = may.0
   free-before (land plan outcome) reply s close may is = may.0.0
 
   abbrev Since : Type 0 → Rounds → Option Close → List Step → Outside → Outside → Close → Type 0

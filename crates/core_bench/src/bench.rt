@@ -8,7 +8,7 @@ use crate::rows::Rows;
 use crate::steps::{Form, Step};
 use outside_memory::{FaultScript, MemBlobs, MemHeld, ScriptClock};
 use repo_core::{Command, Core, Reply, start};
-use repo_model::SessionResult;
+use repo_model::{Finding, SessionResult};
 use std::alloc::{AllocError, Global};
 use std::io::{self, ErrorKind};
 use std::time::{Clock, Duration, Instant};
@@ -43,7 +43,7 @@ fn number_of(reply: &Reply<MemHeld>) -> u64 {
         Reply::Ended(SessionResult::Done(files)) => *files,
         Reply::Unlisted(rows) => *rows,
         Reply::Collected { expired, .. } => *expired,
-        Reply::Counts { files, .. } => *files,
+        Reply::Found(Finding::Counts { files, .. }) => *files,
         Reply::Doc { .. } | Reply::Created | Reply::Done => 1,
         Reply::Opened(_) | Reply::Staged => 1,
         _ => 0,

@@ -5,7 +5,7 @@ use mvn_digest::Hashes;
 use outside::Parcel;
 use outside_memory::{FaultScript, MemBlobs, MemHeld, store_whole};
 use repo_core::{Command, Place};
-use repo_model::Numbers;
+use repo_model::{Numbers, Question};
 use std::alloc::{AllocError, Global};
 use texts::Text;
 
@@ -111,7 +111,7 @@ impl Maker {
                 repo: Id::from_text(self.repo()?),
             }),
             Form::Collect => Ok(Command::Collect),
-            Form::Status => Ok(Command::Status),
+            Form::Status => Ok(Command::Ask(Question::Status)),
         }
     }
 }

@@ -1,5 +1,6 @@
 // What a core is asked, as plain values.
 use mvn_digest::Digest;
+use repo_model::Question;
 
 /// A command: repositories, paths, numbers and contents.
 #[derive(Clone, Copy)]
@@ -15,7 +16,7 @@ pub(crate) enum Ask<'a> {
     PutDoc(&'a str, &'a str),
     Unlist(&'a str),
     Collect,
-    Status,
+    Question(Question),
     Open(&'a str),
     // at a session
     MayStage(u64, &'a str),

@@ -143,7 +143,7 @@ pub(crate) fn command_of(
         ),
         Ask::Unlist(repo) => unlist(alloc, repo),
         Ask::Collect => Ok(Command::Collect),
-        Ask::Status => Ok(Command::Status),
+        Ask::Question(question) => Ok(Command::Ask(question)),
         Ask::Open(repo) => open(alloc, repo),
         Ask::Land(proxy, path, draft, words) => land(alloc, blobs, proxy, path, draft, words),
         _ => session_command_of(alloc, blobs, ask),

@@ -5,6 +5,7 @@ use crate::asks::Ask;
 use crate::faults::WorldFault;
 use crate::plain::{Plain, takes};
 use crate::worlds::{Cores, World};
+use repo_model::Question;
 use std::alloc::Global;
 
 static REPOS: [&str; 3] = ["releases", "mixed", "snapshots"];
@@ -46,7 +47,7 @@ impl Numbers {
             0 | 1 => Ask::Look(repo, path),
             2 => Ask::Done(self.below(200)),
             3 => Ask::Drop(draft),
-            8 => Ask::Status,
+            8 => Ask::Question(Question::Status),
             9 => Ask::MayStage(draft, path),
             11 => Ask::Unlist(repo),
             10 => Ask::PutDoc(repo, "org/acme/lib/maven-metadata.xml"),

@@ -1,5 +1,6 @@
 // A plain, slow machine, written apart from the core: it keeps lists and looks through them for each command. It purges nothing.
 use crate::asks::Ask;
+use repo_model::Question;
 use std::alloc::{AllocError, Global};
 
 #[derive(Drop)]
@@ -82,7 +83,7 @@ impl Plain {
                 self.word("dropped")
             }
             Ask::PutDoc(_, _) => self.word("noted"),
-            Ask::Status => {
+            Ask::Question(Question::Status) => {
                 let files: usize = self.kept.len();
                 format!(in self.alloc; "{files} 0 0 0 0")
             }

@@ -5,7 +5,7 @@ use mvn_coords::Side;
 use mvn_digest::{Digest, Digests, Hashes, side_text};
 use outside_memory::MemHeld;
 use repo_core::{Damaged, Reply, StartFault};
-use repo_model::{Print, SessionResult};
+use repo_model::{Finding, Print, SessionResult};
 use std::alloc::Global;
 
 fn text_of(alloc: Global, text: &str) -> Result<String, WorldFault> {
@@ -101,14 +101,21 @@ fn told_numbers(alloc: Global, reply: &Reply<MemHeld>) -> Result<String, WorldFa
             let blobs: String = numbers_of(alloc, blobs.as_slice())?;
             Ok(format!(in alloc; "collected {expired}:{blobs}")?)
         }
-        Reply::Counts {
+        Reply::Found(finding) => finding_of(alloc, finding),
+        _ => text_of(alloc, word_of(reply)),
+    }
+}
+
+/// What is found to a question.
+fn finding_of(alloc: Global, finding: &Finding) -> Result<String, WorldFault> {
+    match finding {
+        Finding::Counts {
             files,
             fading,
             cached,
             documents,
             sessions,
         } => Ok(format!(in alloc; "{files} {fading} {cached} {documents} {sessions}")?),
-        _ => text_of(alloc, word_of(reply)),
     }
 }
 

@@ -6,7 +6,7 @@ use crate::replies::digest_of;
 use crate::worlds::Cores;
 use mvn_coords::Side;
 use mvn_digest::{Digest, read_side};
-use repo_model::Item;
+use repo_model::{Item, Question};
 use std::alloc::{AllocError, Global};
 
 /// The number that a word is.
@@ -74,9 +74,11 @@ fn ask_of<'a>(key: &str, words: &'a [String]) -> Result<Ask<'a>, WorldFault> {
         ("unlist", [repo]) => Ok(Ask::Unlist(repo.as_str())),
         ("open", [repo]) => Ok(Ask::Open(repo.as_str())),
         ("collect", []) => Ok(Ask::Collect),
-        ("status", []) => Ok(Ask::Status),
+        (name, []) => match Question::named(name) {
+            Some(question) => Ok(Ask::Question(question)),
+            None => Err(WorldFault::NoStep),
+        },
         (word, [number, rest @ ..]) => numbered(word, number_of(number.as_str())?, rest),
-        _ => Err(WorldFault::NoStep),
     }
 }
 

@@ -23,7 +23,7 @@ use Rattle.repo_routes.specs.Intent.{Intent, Judged, reads as reads_path}
 use Rattle.repo_routes.specs.Judge.{check_body, in_repo, intent_of, intent_on, into_session, judge, loses_place, of_session, outcome_of}
 use Rattle.repo_routes.specs.Numbers.{session_of}
 use Rattle.repo_routes.specs.Paths.{check_limit, decoded, limit_of, path_refusal, put_at, put_of, put_to, read_from, thing_at, thing_of, thing_or}
-use Rattle.repo_routes.specs.Routes.{Route, in_repository, sessions, in_session, commit, abort, status, clean, allowed, allows, check_method, check_repository, route_of, sort_of}
+use Rattle.repo_routes.specs.Routes.{Route, in_repository, sessions, in_session, commit, abort, question, clean, allowed, allows, check_method, check_repository, route_of, sort_of}
 use Rattle.repo_routes.specs.Steps.{◌>>=◌, need}
 use Rattle.repo_routes.specs.Target.{target_path}
 use Rattle.course_laws.specs.Duties.{length_of}
@@ -127,7 +127,7 @@ on-announced settings head length (commit number) may test =
     of-announced Intent.commits length number (λ n. no-bytes (is_put head) length test (put-is-no-post head may))
 on-announced settings head length (abort number) may test =
     of-announced Intent.aborts length number (λ n. no-bytes (is_put head) length test (put-is-no-post head may))
-on-announced settings head length status may test = no-bytes (is_put head) length test (put-is-no-read head may)
+on-announced settings head length (question what) may test = no-bytes (is_put head) length test (put-is-no-read head may)
 on-announced settings head length clean may test = no-bytes (is_put head) length test (put-is-no-post head may)
 
 intent-announced : (settings : Settings) (head : Head) → IfOk (intent_of settings head) (λ intent. framing.length_of head ≡ Ok (length_of intent))

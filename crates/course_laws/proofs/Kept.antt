@@ -19,7 +19,7 @@ use Rattle.repo_model.specs.Fetched.{Landing, got_file, got_doc}
 use Rattle.repo_model.specs.Reply.{Reply, file, missed, draft, taken, same, relisted, created, no_session, session_full, staged, fetches, landed}
 use Rattle.repo_model.specs.Settings.{Settings}
 use Rattle.repo_routes.specs.Framing.{is_head}
-use Rattle.repo_routes.specs.Intent.{Intent, Judged, reads as reads_path, puts_file, puts_side, puts_document, counts, cleans as cleans_all, opens, commits, aborts}
+use Rattle.repo_routes.specs.Intent.{Intent, Judged, reads as reads_path, puts_file, puts_side, puts_document, asks as asks_one, cleans as cleans_all, opens, commits, aborts}
 use Rattle.repo_routes.specs.Judge.{judge}
 use Rattle.repo_routes.specs.declared.judging.Refused.{Refused}
 use Rattle.repo_course.specs.Answers.{at_end}
@@ -238,7 +238,7 @@ module _ (manner : Manner) where
       tell (Err fault) = closes-keep (for_text (puts_document place path count)) manner (of_fault fault) 3 None None
   for-keeps expects (cleans_all repos) =
       ((refl, refl, refl, refl, (refl, refl)), omega arith, λ pass. closes-keep (for_text (cleans_all repos)) manner (of_pass pass) 0 None None)
-  for-keeps expects counts = ((refl, (refl, refl, refl)), λ reply. tells-keep (for_text counts) manner reply 2 None)
+  for-keeps expects (asks_one question) = ((refl, (refl, refl, refl)), λ reply. tells-keep (for_text (asks_one question)) manner reply 2 None)
   for-keeps expects (opens repo) = ((refl, (refl, refl, refl)), λ reply. tells-keep (for_text (opens repo)) manner reply 2 None)
   for-keeps expects (commits n) = ((refl, (refl, refl, refl)), λ reply. tells-keep (for_text (commits n)) manner reply 2 None)
   for-keeps expects (aborts n) = ((refl, (refl, refl, refl)), λ reply. tells-keep (for_text (aborts n)) manner reply 2 None)

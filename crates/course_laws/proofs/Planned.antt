@@ -15,7 +15,7 @@ use Rattle.repo_model.specs.Data.{Place, repository, session}
 use Rattle.repo_model.specs.Fetched.{Landing, got_file, got_doc}
 use Rattle.repo_model.specs.Reply.{Reply, file, missed, draft, fetches, landed}
 use Rattle.repo_model.specs.Settings.{Settings}
-use Rattle.repo_routes.specs.Intent.{Intent, Judged, reads as reads_path, puts_file, puts_side, puts_document, counts, cleans as cleans_all, opens, commits, aborts}
+use Rattle.repo_routes.specs.Intent.{Intent, Judged, reads as reads_path, puts_file, puts_side, puts_document, asks as asks_one, cleans as cleans_all, opens, commits, aborts}
 use Rattle.repo_routes.specs.Judge.{judge}
 use Rattle.repo_routes.specs.declared.judging.Refused.{Refused}
 use Rattle.repo_course.specs.Course.{Body, Close, Course, Deed, Fetch, Kept, Outcome, Stored, speaks, rests, answers, asks, says, stops, closes, does, take_body, read_body, fetch, after_continue, after_fetch, after_land, after_store, fetch_fault, fetched, gives_any_up, is_group, lands, looks, rounds_of, said_missed, stores, with_fault, without_memory, after_document, after_look, after_may_put, after_put, after_side, after_take, behind_fault, compares, course_for, course_of, cut_off, gives_up, invites, leaves_draft, manner_for, notes, of_fault, of_pass, of_sent, of_store, said_of, tells, with_unread}
@@ -164,7 +164,7 @@ module _ (manner : Manner) where
     tell (Ok bytes) = notes-plan place path (reading bytes)
     tell (Err fault) = closes-plans manner (of_fault fault)
   for-plans expects (cleans_all repos) = (tt, λ pass. closes-plans manner (of_pass pass))
-  for-plans expects counts = tells-plans manner
+  for-plans expects (asks_one question) = tells-plans manner
   for-plans expects (opens repo) = tells-plans manner
   for-plans expects (commits n) = tells-plans manner
   for-plans expects (aborts n) = tells-plans manner

@@ -1,8 +1,8 @@
 -- A course that does what it owes succeeds where nothing refuses it and no deed fails.
 use Rattle.std.proofs.Common.{◌≡◌, ℕ, zero, suc, Bool, false, List, Option, Some, None, Ok, refl, sym, subst, ap, ◌∙◌}
 use Rattle.std.proofs.lemmas.Bool.{false≢true}
-use Rattle.repo_model.specs.Command.{Command, look, done, may_put, put, put_side, put_doc, drop_draft, open_session, stage, commit, abort, unlist, collect, status, land}
-use Rattle.repo_model.specs.Reply.{Reply, file, text, doc, draft, same, relisted, created, agreed, noted, opened, staged, ended, counts as counts_reply, fetches, landed}
+use Rattle.repo_model.specs.Command.{Command, look, done, may_put, put, put_side, put_doc, drop_draft, open_session, stage, commit, abort, unlist, collect, ask, land}
+use Rattle.repo_model.specs.Reply.{Reply, file, text, doc, draft, same, relisted, created, agreed, noted, opened, staged, ended, finds, fetches, landed}
 use Rattle.repo_routes.specs.Intent.{Judged}
 use Rattle.repo_course.specs.Course.{Close, Course, Deed, Outcome, asks, does, says, stops, speaks, invite, take_body, read_body, send_file, clean_all, fetch, store_fetched, course_of, end_of, manner_for}
 use Rattle.repo_course.specs.declared.manner.Manner.{Manner}
@@ -44,7 +44,7 @@ module _ (by_text : List ℕ → Option Close) (manner : Manner) where
   reply-fine is_cut (stage at path n blob) same s may granted more fine = (tt, may.0.1)
   reply-fine is_cut (commit n) (ended result) s may granted more fine = (tt, may.1)
   reply-fine is_cut (abort n) (ended result) s may granted more fine = (tt, may.1)
-  reply-fine is_cut status (counts_reply files fading cached documents sessions) s may granted more fine = (tt, may.1)
+  reply-fine is_cut (ask question) (finds finding) s may granted more fine = (tt, may.1)
   reply-fine is_cut (unlist repo) reply s may granted more fine = absurd may
   reply-fine is_cut collect reply s may granted more fine = absurd may
   reply-fine is_cut (look repo path tried) (fetches plan) s may granted more fine = planned-fine is_cut s.rounds.left s.due s.unread s.to_clean s.waits more fine

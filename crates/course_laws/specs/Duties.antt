@@ -11,12 +11,12 @@ use Rattle.mvn_doc.specs.Reading.{reading}
 use Rattle.mvn_metadata.specs.Document.{Document}
 use Rattle.remote_fetch.specs.declared.contents.Content.{Content}
 use Rattle.remote_fetch.specs.declared.contents.Content.TheVariants as content
-use Rattle.repo_model.specs.Command.{Command, look, done, may_put, put, put_side, put_doc, drop_draft, open_session, stage, commit, abort, unlist, collect, status, land}
+use Rattle.repo_model.specs.Command.{Command, look, done, may_put, put, put_side, put_doc, drop_draft, open_session, stage, commit, abort, unlist, collect, ask, land}
 use Rattle.repo_model.specs.Data.{Blob}
 use Rattle.repo_model.specs.Fetched.{Landing, got_file, got_doc}
 use Rattle.repo_model.specs.Reply.{Reply, file, missed, draft, taken, same, relisted, created, no_session, session_full, staged, fetches, landed}
 use Rattle.repo_model.specs.Settings.{GroupRule, Settings}
-use Rattle.repo_routes.specs.Intent.{Intent, Judged, reads as reads_path, puts_file, puts_side, puts_document, counts, cleans as cleans_all, opens, commits, aborts}
+use Rattle.repo_routes.specs.Intent.{Intent, Judged, reads as reads_path, puts_file, puts_side, puts_document, asks as asks_one, cleans as cleans_all, opens, commits, aborts}
 use Rattle.repo_routes.specs.declared.judging.Refused.{Refused}
 use Rattle.repo_course.specs.declared.fetched.Verdict.{Verdict}
 use Rattle.repo_course.specs.declared.fetched.Verdict.TheVariants as verdict
@@ -89,7 +89,7 @@ body_length (reads_path repo path of_sort) = None
 body_length (puts_file place path count) = Some count
 body_length (puts_side place path side count) = Some count
 body_length (puts_document place path count) = Some count
-body_length counts = None
+body_length (asks_one question) = None
 body_length (cleans_all repos) = None
 body_length (opens repo) = None
 body_length (commits n) = None
@@ -255,7 +255,7 @@ MayAsk (commit n) s = IsFree s
 MayAsk (abort n) s = IsFree s
 MayAsk (unlist repo) s = ⊥
 MayAsk collect s = ⊥
-MayAsk status s = IsFree s
+MayAsk (ask question) s = IsFree s
 MayAsk (land plan outcome) s =
     IsFree s × (s.plan ≡ Some plan) × (s.draft ≡ plan.draft) × (landing_by s.came s.kept ≡ Some outcome)
 

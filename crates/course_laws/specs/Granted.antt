@@ -11,7 +11,7 @@ use Rattle.repo_model.specs.Command.{Command, look, done, drop_draft}
 use Rattle.repo_model.specs.declared.print.Print.{Print}
 use Rattle.repo_model.specs.Data.{Blob}
 use Rattle.repo_model.specs.History.{Entry}
-use Rattle.repo_model.specs.Reply.{Reply, can_get, fetches, blocked, negative, never_asked, landed, file, text, doc, missed, given_back, kind_refused, draft, no_draft, taken, same, relisted, created, not_there, differs as digest_differs, agreed, noted, dropped, no_session, sessions_full, opened, session_full, staged, offends, missing_pom, ended, unlisted, collected, counts as counts_reply, spent, no_memory, store_fault}
+use Rattle.repo_model.specs.Reply.{Reply, can_get, fetches, blocked, negative, never_asked, landed, file, text, doc, missed, given_back, kind_refused, draft, no_draft, taken, same, relisted, created, not_there, differs as digest_differs, agreed, noted, dropped, no_session, sessions_full, opened, session_full, staged, offends, missing_pom, ended, unlisted, collected, finds, spent, no_memory, store_fault}
 use Rattle.repo_routes.specs.Intent.{Intent, Judged, cleans as cleans_all}
 use Rattle.repo_course.specs.Answers.{answer_of, file_answer, full_answer, memory_answer}
 use Rattle.repo_course.specs.Course.{Close, Course, Deed, Outcome, asks, does, says, stops, speaks, rests, invite, take_body, read_body, send_file, clean_all, fetch, store_fetched, end_of, manner_for, of_pass}
@@ -61,7 +61,7 @@ is_granted (missing_pom directory) = false
 is_granted (ended result) = true
 is_granted (unlisted count) = true
 is_granted (collected expired blobs) = true
-is_granted (counts_reply files fading cached documents sessions) = true
+is_granted (finds finding) = true
 is_granted spent = false
 is_granted no_memory = false
 is_granted store_fault = false

@@ -18,10 +18,15 @@ use Rattle.repo_model.specs.State.{State, Yard, hosted_of, is_open, is_open_at, 
 use Rattle.repo_model.specs.Effect.{Effect, draws, lends, recorded, with_effect, with_effects}
 use Rattle.repo_model.specs.Tables.{Tables}
 use Rattle.repo_model.specs.declared.item.Item.{Item}
-use Rattle.repo_model.specs.Command.{Command, look, may_put, put_side, put_doc, collect, status, meets}
-use Rattle.repo_model.specs.Reply.{Reply, agreed, collected, counts, differs, draft, fetches, file, kind_refused, no_memory, no_session, noted, spent, store_fault, is_free, takes_memory}
+use Rattle.repo_model.specs.declared.question.Question.{Question}
+use Rattle.repo_model.specs.declared.question.Question.TheVariants.{Status}
+use Rattle.repo_model.specs.declared.question.Finding.{Finding}
+use Rattle.repo_model.specs.declared.question.Finding.TheVariants.{Counts}
+use Rattle.repo_model.specs.Asked.{finding_of}
+use Rattle.repo_model.specs.Command.{Command, look, may_put, put_side, put_doc, collect, ask, meets}
+use Rattle.repo_model.specs.Reply.{Reply, agreed, collected, differs, draft, fetches, file, finds, kind_refused, no_memory, no_session, noted, spent, store_fault, is_free, takes_memory}
 use Rattle.repo_model.specs.Purge.{expire_all}
-use Rattle.repo_model.specs.Turn.{Seen, Turn, compared, draws_draft, file_limit, in_repository, is_blocked, is_doc, is_file, is_negative, is_never, is_nothing, is_text, is_to_fetch, look_at, plan_of, shows, turn, says, collect_of, counts_of, judged, may_put_in, staged_at, with_open}
+use Rattle.repo_model.specs.Turn.{Seen, Turn, compared, draws_draft, file_limit, in_repository, is_blocked, is_doc, is_file, is_negative, is_never, is_nothing, is_text, is_to_fetch, look_at, plan_of, shows, turn, says, collect_of, judged, may_put_in, staged_at, with_open}
 use Rattle.repo_model.specs.History as history
 use Rattle.repo_model.specs.History.{Entry, IsReply, MomentFits, commits, latest_moment, ticked, Fits, effects_of, after}
 use Rattle.outside.specs.Faults.{Rose}
@@ -58,13 +63,16 @@ turned-says w command reply is = record {
   left = nothing-done (is_free reply) w.state ∙ ap (λ (t : Turn). with_effects w.state (if is_free reply then [] else t.effects)) (sym is);
 }
 
+-- a question is answered by what is found to it
+pub turned-finds : (w : Parts) (question : Question) (finding : Finding) → finding ≡ finding_of w.state question → Turned w w (ask question) (finds finding)
+turned-finds w question finding is = turned-says w (ask question) (finds finding) (ap (λ (f : Finding). says (finds f)) (sym is))
+
 -- the counts of the rows and of the sessions
-pub turned-counts : (w : Parts) (files unlisted cached documents opened : ℕ) → opened ≡ count_by is_open w.state.sessions → files ≡ sum_by (λ (h : Hosted). length h.rows) w.state.hosted
+pub counts-found : (w : Parts) (files unlisted cached documents opened : ℕ) → opened ≡ count_by is_open w.state.sessions → files ≡ sum_by (λ (h : Hosted). length h.rows) w.state.hosted
     → unlisted ≡ sum_by (λ (h : Hosted). count_by fades h.rows) w.state.hosted → cached ≡ sum_by (λ (p : Proxy). length p.files) w.state.proxies
-    → documents ≡ sum_by (λ (p : Proxy). length p.documents) w.state.proxies → Turned w w status (counts files unlisted cached documents opened)
-turned-counts w files unlisted cached documents opened some_open all some files_kept documents_kept =
-    let is : counts_of w.state ≡ counts files unlisted cached documents opened = λ i. counts (sym all i) (sym some i) (sym files_kept i) (sym documents_kept i) (sym some_open i) in
-    turned-says w status (counts files unlisted cached documents opened) (ap says is)
+    → documents ≡ sum_by (λ (p : Proxy). length p.documents) w.state.proxies → Counts files unlisted cached documents opened ≡ finding_of w.state Status
+counts-found w files unlisted cached documents opened some_open all some files_kept documents_kept =
+    λ i. Counts (all i) (some i) (files_kept i) (documents_kept i) (some_open i)
 
 -- memory is wanting for a command that takes some
 pub turned-without : (w : Parts) (command : Command) → takes_memory command ≡ true → Turned w w command no_memory

@@ -64,7 +64,7 @@ pub fn fits<H: Held>(settings: &Settings, command: &Command<H>) -> bool
         | Command::Done { lease: _ }
         | Command::Drop { draft: _ }
         | Command::Collect
-        | Command::Status => true,
+        | Command::Ask(_) => true,
     }
 }
 

@@ -18,7 +18,7 @@ use mvn_digest::Digest;
 use outside::{Clock, Held, Parcel};
 use proxy_rules::Proxy;
 use repo_config::Settings;
-use repo_model::{Command, Numbers, Place, Reply};
+use repo_model::{Command, Finding, Numbers, Place, Question, Reply};
 use row_tables::{CommitFault, Records};
 use std::marker::Model;
 
@@ -88,11 +88,13 @@ impl<C: Clock, H: Held> Model for Machine<C, H> {
 }
 
 impl<C: Clock, H: Held> Machine<C, H> {
-    ghost use Rattle.std.specs.Prelude.{◌≡◌, ◌≤◌, ◌+◌, min, map, false, [], IsTrue, vec_capacity};
+    ghost use Rattle.std.specs.Prelude.{◌≡◌, ◌≤◌, ◌+◌, min, map, false, [], IfSome, IsTrue, vec_capacity};
     ghost use Rattle.mvn_digest.specs.Sides.{bytes_in};
     ghost use Rattle.outside.specs.Faults.{last_count};
     ghost use Rattle.repo_model.specs.Data.{repository};
-    ghost use Rattle.repo_model.specs.Command.{meets, look, may_put, put, put_side, drop_draft, unlist, collect, status};
+    ghost use Rattle.repo_model.specs.Command.{meets, look, may_put, put, put_side, drop_draft, unlist, collect, ask};
+    ghost use Rattle.repo_model.specs.declared.question.Question.TheVariants.{Status};
+    ghost use Rattle.repo_model.specs.Asked.{finding_of};
     ghost use Rattle.repo_model.specs.Effect.{recorded};
     ghost use Rattle.repo_model.specs.History.{Fits, after, effects_of, latest_moment};
     ghost use Rattle.repo_model.specs.Purge.{expire_all, most_rows};
@@ -259,7 +261,7 @@ impl<C: Clock, H: Held> Machine<C, H> {
             Command::Abort { session } => reply_of_abort(self.abort(records, session)),
             Command::Unlist { repo } => self.unlist(records, repo.as_str()),
             Command::Collect => self.collect(records),
-            Command::Status => self.status(),
+            Command::Ask(question) => self.ask(question),
             Command::Land { plan, outcome } => self.land(records, plan, outcome),
         }
     }
@@ -403,21 +405,39 @@ impl<C: Clock, H: Held> Machine<C, H> {
         }
     }
 
-    fn status(&mut self) -> Reply<H>
+    fn ask(&mut self, question: Question) -> Reply<H>
         requires { IsOrderly self.old }
-        ensures { Turned self.old self.new status (shown_reply result) }
+        ensures { Turned self.old self.new (ask question) (shown_reply result) }
+    {
+        match self.find(question) {
+            Some(finding) => Reply::Found(finding),
+            None => Reply::NoMemory,
+        }
+    }
+
+    // What is found to a question; none where memory is wanting.
+    fn find(&self, question: Question) -> Option<Finding>
+        requires { IsOrderly self.now }
+        ensures { IfSome result (λ finding. finding ≡ finding_of self.now.state question) }
+    {
+        match question {
+            Question::Status => self.counted(),
+        }
+    }
+
+    // How much there is. So many documents that there is no number of them would have taken more memory than there is.
+    fn counted(&self) -> Option<Finding>
+        requires { IsOrderly self.now }
+        ensures { IfSome result (λ finding. finding ≡ finding_of self.now.state Status) }
     {
         let (files, fading) = counts(&self.repos);
-        // So many documents would have taken more memory than there is.
-        let Some((cached, documents)) = counts_kept(&self.proxies) else {
-            return Reply::NoMemory;
-        };
-        Reply::Counts {
+        let (cached, documents) = counts_kept(&self.proxies)?;
+        Some(Finding::Counts {
             files,
             fading,
             cached,
             documents,
             sessions: self.sessions.count(),
-        }
+        })
     }
 }

@@ -17,9 +17,9 @@ use Rattle.repo_model.specs.Data.{Blob, Place, repository, session}
 use Rattle.remote_fetch.specs.declared.contents.Content.{Content}
 use Rattle.remote_fetch.specs.declared.contents.Content.TheVariants as content
 use Rattle.remote_fetch.specs.declared.fetching.Checked.{Checked}
-use Rattle.repo_model.specs.Command.{Command, look, done, may_put, put, put_side, put_doc, drop_draft, open_session, stage, commit, abort, status, land}
+use Rattle.repo_model.specs.Command.{Command, look, done, may_put, put, put_side, put_doc, drop_draft, open_session, stage, commit, abort, ask, land}
 use Rattle.repo_model.specs.Fetched.{Landing, got_file, got_doc}
-use Rattle.repo_model.specs.Reply.{Reply, file, text, doc, missed, given_back, kind_refused, draft, no_draft, taken, same, relisted, created, not_there, differs, agreed, noted, dropped, counts, no_session, sessions_full, opened, session_full, staged, offends, missing_pom, ended, unlisted, collected, spent, no_memory, store_fault, fetches, blocked, negative, never_asked, landed}
+use Rattle.repo_model.specs.Reply.{Reply, file, text, doc, missed, given_back, kind_refused, draft, no_draft, taken, same, relisted, created, not_there, differs, agreed, noted, dropped, finds, no_session, sessions_full, opened, session_full, staged, offends, missing_pom, ended, unlisted, collected, spent, no_memory, store_fault, fetches, blocked, negative, never_asked, landed}
 use Rattle.repo_routes.specs.Framing.{is_head}
 use Rattle.repo_routes.specs.Intent as judged
 use Rattle.repo_routes.specs.Intent.{Intent, Judged}
@@ -207,7 +207,7 @@ said_of (missing_pom directory) = said.MissingPom directory
 said_of (ended result) = said.Ended result
 said_of (unlisted count) = said.NoMemory
 said_of (collected expired blobs) = said.NoMemory
-said_of (counts files fading cached documents sessions) = said.Counts files fading cached documents sessions
+said_of (finds finding) = said.Found finding
 said_of spent = said.Spent
 said_of no_memory = said.NoMemory
 said_of store_fault = said.StoreFault
@@ -246,7 +246,7 @@ leaves_draft (missing_pom directory) = true
 leaves_draft (ended result) = true
 leaves_draft (unlisted count) = true
 leaves_draft (collected expired blobs) = true
-leaves_draft (counts files fading cached documents sessions) = true
+leaves_draft (finds finding) = true
 leaves_draft spent = true
 leaves_draft no_memory = true
 leaves_draft store_fault = true
@@ -405,7 +405,7 @@ course_for manner expects (judged.puts_side place path side length) =
     invites expects cut_off (does (read_body length) (after_side place path side manner))
 course_for manner expects (judged.puts_document place path length) =
     invites expects cut_off (does (read_body length) (after_document place path manner))
-course_for manner expects judged.counts = asks status (tells manner)
+course_for manner expects (judged.asks question) = asks (ask question) (tells manner)
 course_for manner expects (judged.cleans repos) = does (clean_all repos) (λ pass. closes manner (of_pass pass))
 course_for manner expects (judged.opens repo) = asks (open_session repo) (tells manner)
 course_for manner expects (judged.commits n) = asks (commit n) (tells manner)

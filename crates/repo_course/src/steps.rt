@@ -132,19 +132,7 @@ fn said_of<H: Held>(reply: Reply<H>) -> Said
         Reply::Offends { path, kept, sent } => Said::Offends { path, kept, sent },
         Reply::MissingPom { dir } => Said::MissingPom { dir },
         Reply::Ended(how) => Said::Ended(how),
-        Reply::Counts {
-            files,
-            fading,
-            cached,
-            documents,
-            sessions,
-        } => Said::Counts {
-            files,
-            fading,
-            cached,
-            documents,
-            sessions,
-        },
+        Reply::Found(finding) => Said::Found(finding),
         Reply::Spent => Said::Spent,
         Reply::StoreFault => Said::StoreFault,
         Reply::File { .. }
@@ -193,7 +181,7 @@ fn leaves_draft<H: Held>(reply: &Reply<H>) -> bool
         | Reply::Dropped
         | Reply::Unlisted(_)
         | Reply::Collected { .. }
-        | Reply::Counts { .. }
+        | Reply::Found(_)
         | Reply::Spent
         | Reply::NoMemory
         | Reply::StoreFault => true,

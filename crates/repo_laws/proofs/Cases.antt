@@ -9,6 +9,7 @@ use Rattle.mvn_coords.specs.declared.fault.PathFault.{PathFault}
 use Rattle.mvn_coords.specs.Layout.{text_of}
 use Rattle.mvn_digest.specs.Digests.{digests_of}
 use Rattle.repo_model.specs.declared.print.Print.{Print}
+use Rattle.repo_model.specs.declared.question.Question.{Question}
 use Rattle.repo_model.specs.declared.session.SessionResult.{SessionResult}
 use Rattle.repo_model.specs.declared.session.SessionResult.TheVariants.{Aborted, Done}
 use Rattle.repo_model.specs.Data.{Blob, Row, Phase, listed, fading, Hosted, Staged, Session, Place, repository, session, is_same_print}
@@ -18,11 +19,12 @@ use Rattle.repo_model.specs.Settings.{ProxyRule, Settings}
 use Rattle.repo_model.specs.Paths.{takes}
 use Rattle.repo_model.specs.State.{State, hosted_of, row_at, rows_of, session_of, open_of, is_open, is_staged, is_among, number_end, most_sessions}
 use Rattle.repo_model.specs.Effect.{Effect, draws, drops, creates, stages, relists, lends, returns, opens, ends, with_effects}
-use Rattle.repo_model.specs.Command.{Command, look, done, may_put, put, put_side, put_doc, drop_draft, open_session, stage, commit, abort, unlist, collect, status, land}
-use Rattle.repo_model.specs.Reply.{Reply, file, text, doc, missed, given_back, kind_refused, draft, no_draft, taken, same, relisted, created, not_there, differs, agreed, noted, dropped, no_session, sessions_full, opened, session_full, staged, offends, missing_pom, ended, unlisted, spent, fetches, blocked, negative, never_asked, landed}
+use Rattle.repo_model.specs.Command.{Command, look, done, may_put, put, put_side, put_doc, drop_draft, open_session, stage, commit, abort, unlist, collect, ask, land}
+use Rattle.repo_model.specs.Reply.{Reply, file, text, doc, missed, given_back, kind_refused, draft, no_draft, taken, same, relisted, created, not_there, differs, agreed, noted, dropped, no_session, sessions_full, opened, session_full, staged, offends, missing_pom, ended, unlisted, finds, spent, fetches, blocked, negative, never_asked, landed}
+use Rattle.repo_model.specs.Asked.{finding_of}
 use Rattle.repo_model.specs.Purge.{due_rows, fade_all, expire_all}
 use Rattle.repo_model.specs.Deploy.{Offence, offence, without_pom, deliver_all, discard_all}
-use Rattle.repo_model.specs.Turn.{Turn, says, draws_or_spent, Seen, is_file, is_text, is_doc, is_nothing, is_to_fetch, is_blocked, is_negative, is_never, look_at, plan_of, longest_document, is_drawn, lands, shows, in_repository, has_room, draws_draft, may_put_in, put_again, put_at, compared, judged, with_open, staged_at, stage_at, stage_in, commit_by, commit_of, abort_of, unlist_of, collect_of, counts_of, turn, file_limit}
+use Rattle.repo_model.specs.Turn.{Turn, says, draws_or_spent, Seen, is_file, is_text, is_doc, is_nothing, is_to_fetch, is_blocked, is_negative, is_never, look_at, plan_of, longest_document, is_drawn, lands, shows, in_repository, has_room, draws_draft, may_put_in, put_again, put_at, compared, judged, with_open, staged_at, stage_at, stage_in, commit_by, commit_of, abort_of, unlist_of, collect_of, turn, file_limit}
 use Rattle.mvn_digest.specs.Sides.{side_of}
 
 -- a reply and the effects with it
@@ -98,7 +100,7 @@ pub data Case (settings : Settings) (s : State) (now : ℕ) : Command → Turn �
   unlists : (repo : List ℕ) (h : Hosted) → hosted_of repo s ≡ Some h
       → Case settings s now (unlist repo) (does (unlisted (length (due_rows h.rule now h.rows))) (fade_all h now))
   collects : Case settings s now collect (collect_of (expire_all settings.grace now s.hosted) (with_effects s (expire_all settings.grace now s.hosted)).yard)
-  tells : Case settings s now status (says (counts_of s))
+  tells : (question : Question) → Case settings s now (ask question) (says (finds (finding_of s question)))
   lands_one : (plan : Plan) (outcome : Landing) → is_drawn plan.draft s.yard.drafts ≡ true → Case settings s now (land plan outcome) (does landed (lands s now plan outcome))
   lands_late : (plan : Plan) (outcome : Landing) → is_drawn plan.draft s.yard.drafts ≡ false → Case settings s now (land plan outcome) (says no_draft)
 
@@ -231,7 +233,7 @@ module _ (settings : Settings) (s : State) (now : ℕ) where
       open-case (abort n) (session_of n s) (λ known. abort_of known known.ended) (aborts_nothing n) (λ one is. abort-case n one is one.ended refl)
   turn-case (unlist repo) = unlist-case repo (hosted_of repo s) refl
   turn-case collect = collects
-  turn-case status = tells
+  turn-case (ask question) = tells question
   turn-case (land plan outcome) =
       if-case (land plan outcome) (is_drawn plan.draft s.yard.drafts) (does landed (lands s now plan outcome)) (says no_draft)
       (λ drawn. lands_one plan outcome drawn) (λ late. lands_late plan outcome late)

@@ -61,7 +61,7 @@ module _ (settings : Settings) (s : State) (now : ℕ) where
   case-refusable c t (unlists_nothing repo) refused = absurd (false≢true refused)
   case-refusable c t (unlists repo h is) refused = absurd (false≢true refused)
   case-refusable c t collects refused = absurd (false≢true refused)
-  case-refusable c t tells refused = absurd (false≢true refused)
+  case-refusable c t (tells question) refused = absurd (false≢true refused)
   case-refusable c t case refused = refl
 
   caused : (c : Command) (r : Reply) → is_refusal r ≡ true → (turn settings s now c).reply ≡ r → Cause settings s now c r

@@ -10,10 +10,12 @@ use Rattle.fetch_plan.specs.declared.Outcome.TheVariants.{Got, Gone, Differs, Fa
 use Rattle.repo_model.specs.Data.{repository}
 use Rattle.repo_model.specs.Fetched.{got_file, got_doc}
 use Rattle.repo_model.specs.Settings.{Settings, ProxyRule}
+use Rattle.repo_model.specs.declared.question.Finding.TheVariants.{Counts}
+use Rattle.repo_model.specs.declared.question.Question.TheVariants.{Status}
 use Rattle.repo_model.specs.declared.update.Update.TheVariants.{Daily, Hourly}
 use Rattle.repo_model.specs.Turn.{plan_of, longest_document}
-use Rattle.repo_model.specs.Command.{look, done, may_put, put, collect, status, land}
-use Rattle.repo_model.specs.Reply.{file, text, doc, missed, given_back, draft, created, collected, counts, fetches, negative, landed}
+use Rattle.repo_model.specs.Command.{look, done, may_put, put, collect, ask, land}
+use Rattle.repo_model.specs.Reply.{file, text, doc, missed, given_back, draft, created, collected, finds, fetches, negative, landed}
 use Rattle.repo_model.specs.History.{Entry}
 use Rattle.repo_laws.specs.Worked.{shop, at, abc, releases, release_jar, sha1_of_abc, sha1_of_nothing}
 
@@ -43,7 +45,7 @@ fetched =
     at 1709208000 (look central release_jar []) (fetches (file_plan 0 1))
     ∷ at 1709208000 (land (file_plan 0 1) (Differs (Sha1 sha1_of_nothing) (Sha1 sha1_of_abc))) landed
     ∷ at 1709208000 (look central release_jar (0 ∷ [])) missed
-    ∷ at 1709208000 status (counts 0 0 0 0 0)
+    ∷ at 1709208000 (ask Status) (finds (Counts 0 0 0 0 0))
     ∷ at 1709208000 (look central release_jar []) (fetches (file_plan 0 2))
     ∷ at 1709208000 (land (file_plan 0 2) Gone) landed
     ∷ at 1709208000 (look central release_jar (0 ∷ [])) missed
@@ -54,7 +56,7 @@ fetched =
     ∷ at 1709208300 (done 1) given_back
     ∷ at 1709208301 (look central release_jar []) (file 2 (abc 3))
     ∷ at 1709208301 (done 2) given_back
-    ∷ at 1709208301 status (counts 0 0 1 0 0)
+    ∷ at 1709208301 (ask Status) (finds (Counts 0 0 1 0 0))
     ∷ at 1709208301 collect (collected 0 (1 ∷ 2 ∷ []))
     ∷ []
 
@@ -95,5 +97,5 @@ an_hour =
     ∷ at 4600 (look central artifact_path []) (fetches document_plan)
     ∷ at 4600 (land document_plan Fault) landed
     ∷ at 4600 (look central artifact_path (0 ∷ [])) (doc kept_text (digests_of kept_text))
-    ∷ at 4600 status (counts 0 0 0 1 0)
+    ∷ at 4600 (ask Status) (finds (Counts 0 0 0 1 0))
     ∷ []

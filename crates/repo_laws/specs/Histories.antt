@@ -1,10 +1,12 @@
 -- Worked histories: builds that fade, are read, go, and are listed again; sessions that are committed or refused; what is sent or staged once more.
 use Rattle.std.specs.Prelude.{ℕ, List, [], ◌∷◌, ◌++◌, map, codes}
 use Rattle.std.specs.List.{range_with_len}
+use Rattle.repo_model.specs.declared.question.Finding.TheVariants.{Counts}
+use Rattle.repo_model.specs.declared.question.Question.TheVariants.{Status}
 use Rattle.repo_model.specs.declared.session.SessionResult.TheVariants.{Aborted, Done}
 use Rattle.repo_model.specs.Data.{repository, session}
-use Rattle.repo_model.specs.Command.{look, done, may_put, put, put_side, put_doc, drop_draft, open_session, stage, commit, abort, unlist, collect, status}
-use Rattle.repo_model.specs.Reply.{file, text, missed, given_back, kind_refused, draft, no_draft, taken, same, created, relisted, not_there, differs, agreed, noted, dropped, opened, sessions_full, no_session, staged, offends, missing_pom, ended, unlisted, collected, counts}
+use Rattle.repo_model.specs.Command.{look, done, may_put, put, put_side, put_doc, drop_draft, open_session, stage, commit, abort, unlist, collect, ask}
+use Rattle.repo_model.specs.Reply.{file, text, missed, given_back, kind_refused, draft, no_draft, taken, same, created, relisted, not_there, differs, agreed, noted, dropped, opened, sessions_full, no_session, staged, offends, missing_pom, ended, unlisted, collected, finds}
 use Rattle.repo_model.specs.History.{Entry}
 use Rattle.repo_laws.specs.Worked.{abc, letter_a, nothing, print_of_abc, print_of_a, print_of_nothing, sha1_of_abc, sha1_of_nothing, sha1_text_of_abc, at, snapshots, nightly, releases, jar_1, pom_1, pom_2, pom_3, jar_3, release_jar, release_pom, release_sources, other_jar, next_jar, next_pom, later_jar, sha1_file, artifact_document}
 
@@ -82,12 +84,12 @@ deployed =
     ∷ at 3020 (stage 2 next_jar 5 (abc 5)) staged
     ∷ at 3020 (may_put (session 2) next_pom) (draft 6)
     ∷ at 3020 (stage 2 next_pom 6 (letter_a 6)) staged
-    ∷ at 3020 status (counts 1 0 0 0 1)
+    ∷ at 3020 (ask Status) (finds (Counts 1 0 0 0 1))
     ∷ at 3030 (commit 2) (ended (Done 2))
     ∷ at 3030 (commit 2) (ended (Done 2))
     ∷ at 3030 (look releases next_jar []) (file 1 (abc 5))
     ∷ at 3030 collect (collected 0 (2 ∷ 3 ∷ 4 ∷ []))
-    ∷ at 3030 status (counts 3 0 0 0 0)
+    ∷ at 3030 (ask Status) (finds (Counts 3 0 0 0 0))
     ∷ []
 
 -- the sessions of these numbers are opened
@@ -147,7 +149,7 @@ aged =
     ∷ at 1005 (unlist snapshots) (unlisted 0)
     ∷ at 1006 (unlist releases) (unlisted 0)
     ∷ at 1006 (unlist snapshots) (unlisted 2)
-    ∷ at 1006 status (counts 4 2 0 0 0)
+    ∷ at 1006 (ask Status) (finds (Counts 4 2 0 0 0))
     ∷ at 1066 (look snapshots (sha1_file jar_1) []) (text sha1_text_of_abc)
     ∷ at 1067 collect (collected 2 (3 ∷ 4 ∷ []))
     ∷ at 1067 (look snapshots (sha1_file jar_1) []) missed
@@ -167,7 +169,7 @@ kept_a_day =
     ∷ at 88400 (unlist snapshots) (unlisted 0)
     ∷ at 88401 (unlist snapshots) (unlisted 1)
     ∷ at 1000000 (unlist snapshots) (unlisted 0)
-    ∷ at 1000000 status (counts 3 2 0 0 0)
+    ∷ at 1000000 (ask Status) (finds (Counts 3 2 0 0 0))
     ∷ at 1000000 collect (collected 2 (1 ∷ 2 ∷ []))
     ∷ at 1000000 (look snapshots pom_3 []) (file 1 (abc 3))
     ∷ []
@@ -192,7 +194,7 @@ abbrev pub shelves_faded : List Entry
 shelves_faded =
     shelved
     ++ at 87401 (unlist nightly) (unlisted 1)
-    ∷ at 87401 status (counts 5 1 0 0 0)
+    ∷ at 87401 (ask Status) (finds (Counts 5 1 0 0 0))
     ∷ at 87401 (unlist snapshots) (unlisted 2)
     ∷ []
 

@@ -5,7 +5,7 @@ use Rattle.repo_model.specs.Paths.{takes}
 use Rattle.repo_model.specs.State.{State, hosted_of, open_of}
 use Rattle.repo_model.specs.Effect.{Effect, drops}
 use Rattle.repo_model.specs.Command.{Command, put, stage, drop_draft, land, is_fit}
-use Rattle.repo_model.specs.Reply.{Reply, file, text, doc, missed, given_back, kind_refused, draft, no_draft, taken, same, relisted, created, not_there, differs, agreed, noted, dropped, no_session, sessions_full, opened, session_full, staged, offends, missing_pom, ended, unlisted, collected, counts, spent, no_memory, store_fault, fetches, blocked, negative, never_asked, landed, is_free}
+use Rattle.repo_model.specs.Reply.{Reply, file, text, doc, missed, given_back, kind_refused, draft, no_draft, taken, same, relisted, created, not_there, differs, agreed, noted, dropped, no_session, sessions_full, opened, session_full, staged, offends, missing_pom, ended, unlisted, collected, finds, spent, no_memory, store_fault, fetches, blocked, negative, never_asked, landed, is_free}
 use Rattle.repo_model.specs.Turn.{has_room}
 use Rattle.repo_model.specs.History.{Entry}
 
@@ -38,7 +38,7 @@ is_refusal (missing_pom directory) = true
 is_refusal (ended result) = false
 is_refusal (unlisted n) = false
 is_refusal (collected expired blobs) = false
-is_refusal (counts files faded cached documents sessions) = false
+is_refusal (finds finding) = false
 is_refusal spent = true
 is_refusal (fetches plan) = false
 is_refusal blocked = true
@@ -114,7 +114,7 @@ may_change_rows (ended Aborted) = false
 may_change_rows (ended (Done n)) = true
 may_change_rows (unlisted n) = true
 may_change_rows (collected expired blobs) = true
-may_change_rows (counts files faded cached documents sessions) = false
+may_change_rows (finds finding) = false
 may_change_rows spent = false
 may_change_rows (fetches plan) = false
 may_change_rows blocked = false

@@ -8,6 +8,7 @@ use Rattle.mvn_digest.specs.Sides.{digest_size}
 use Rattle.mvn_metadata.specs.Document.{Document}
 use Rattle.mvn_metadata.specs.Written as written
 use Rattle.repo_model.specs.Data.{Blob, Place, repository, session}
+use Rattle.repo_model.specs.declared.question.Question.{Question}
 use Rattle.fetch_plan.specs.declared.Plan.{Plan}
 use Rattle.fetch_plan.specs.declared.Outcome.TheVariants.{Got as Landed}
 use Rattle.repo_model.specs.Fetched.{Landing, got_file, got_doc}
@@ -42,8 +43,8 @@ pub data Command : Type 0 where
   unlist : (repo : List ℕ) → Command
   -- takes away what has faded for longer than the grace period, and asks for garbage to remove
   collect : Command
-  -- asks how much there is
-  status : Command
+  -- asks a question
+  ask : Question → Command
   -- what came of a fetch
   land : Plan → Landing → Command
 
@@ -121,5 +122,5 @@ meets settings (commit n) = true
 meets settings (abort n) = true
 meets settings (unlist repo) = is_there repo settings
 meets settings collect = true
-meets settings status = true
+meets settings (ask question) = true
 meets settings (land plan outcome) = is_some (proxy_rule_of plan.proxy settings) && is_landing (kind plan.path) plan.draft outcome

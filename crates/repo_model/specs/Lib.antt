@@ -5,6 +5,7 @@ pub mod Prints
 pub mod Document
 pub mod Fetched
 pub mod State
+pub mod Asked
 pub mod Effect
 pub mod Proxies
 pub mod May

@@ -3,9 +3,10 @@ use Rattle.std.specs.Prelude.{ℕ, Bool, true, false, List}
 use Rattle.mvn_digest.specs.declared.digests.Digests.{Digests}
 use Rattle.repo_model.specs.declared.print.Print.{Print}
 use Rattle.repo_model.specs.declared.session.SessionResult.{SessionResult}
+use Rattle.repo_model.specs.declared.question.Finding.{Finding}
 use Rattle.repo_model.specs.Data.{Blob}
 use Rattle.fetch_plan.specs.declared.Plan.{Plan}
-use Rattle.repo_model.specs.Command.{Command, look, done, may_put, put, put_side, put_doc, drop_draft, open_session, stage, commit, abort, unlist, collect, status, land}
+use Rattle.repo_model.specs.Command.{Command, look, done, may_put, put, put_side, put_doc, drop_draft, open_session, stage, commit, abort, unlist, collect, ask, land}
 
 pub data Reply : Type 0 where
   -- to a look: the file, its blob borrowed under the lease; the text of a side file; the document and its digests; nothing
@@ -44,7 +45,8 @@ pub data Reply : Type 0 where
   unlisted : ℕ → Reply
   -- rows that are gone, and blobs to be removed
   collected : (expired : ℕ) (blobs : List ℕ) → Reply
-  counts : (files fading cached documents sessions : ℕ) → Reply
+  -- to a question
+  finds : Finding → Reply
   -- the next number to draw is 2 ^ 63
   spent : Reply
   no_memory : Reply
@@ -152,9 +154,9 @@ abbrev pub is_collect_reply : Reply → Bool
 is_collect_reply (collected expired blobs) = true
 is_collect_reply reply = false
 
-abbrev pub is_status_reply : Reply → Bool
-is_status_reply (counts files fading cached documents sessions) = true
-is_status_reply reply = false
+abbrev pub is_ask_reply : Reply → Bool
+is_ask_reply (finds finding) = true
+is_ask_reply reply = false
 
 abbrev pub is_land_reply : Reply → Bool
 is_land_reply no_draft = true
@@ -176,5 +178,5 @@ can_get (commit session) reply = is_commit_reply reply
 can_get (abort session) reply = is_abort_reply reply
 can_get (unlist repo) reply = is_unlist_reply reply
 can_get collect reply = is_collect_reply reply
-can_get status reply = is_status_reply reply
+can_get (ask question) reply = is_ask_reply reply
 can_get (land plan outcome) reply = is_land_reply reply

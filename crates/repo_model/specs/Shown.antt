@@ -10,7 +10,7 @@ use Rattle.repo_model.specs.Command as asked
 use Rattle.repo_model.specs.Reply as answered
 use Rattle.repo_model.specs.History.{Entry}
 use Rattle.repo_model.specs.declared.command.Command.{Command}
-use Rattle.repo_model.specs.declared.command.Command.TheVariants.{Look, Done, MayPut, Put, PutSide, PutDoc, Drop, Open, Stage, Commit, Abort, Unlist, Collect, Status, Land}
+use Rattle.repo_model.specs.declared.command.Command.TheVariants.{Look, Done, MayPut, Put, PutSide, PutDoc, Drop, Open, Stage, Commit, Abort, Unlist, Collect, Ask, Land}
 use Rattle.repo_model.specs.declared.fetched.Got as landed
 use Rattle.repo_model.specs.declared.fetched.Got.TheVariants.{File, Doc}
 use Rattle.fetch_plan.specs.declared.Outcome.{Outcome}
@@ -63,7 +63,7 @@ shown_command (Commit session) = asked.commit session
 shown_command (Abort session) = asked.abort session
 shown_command (Unlist repo) = asked.unlist repo
 shown_command Collect = asked.collect
-shown_command Status = asked.status
+shown_command (Ask question) = asked.ask question
 shown_command (Land plan outcome) = asked.land plan (outcome_map shown_got outcome)
 
 abbrev pub shown_reply : {X : Type 0} {G : Ghosts X} → Reply X G → answered.Reply
@@ -94,7 +94,7 @@ shown_reply (given.Ended result) = answered.ended result
 shown_reply given.Dropped = answered.dropped
 shown_reply (given.Unlisted number) = answered.unlisted number
 shown_reply (given.Collected expired blobs) = answered.collected expired blobs
-shown_reply (given.Counts files fading cached documents sessions) = answered.counts files fading cached documents sessions
+shown_reply (given.Found finding) = answered.finds finding
 shown_reply given.Spent = answered.spent
 shown_reply given.NoMemory = answered.no_memory
 shown_reply given.StoreFault = answered.store_fault

@@ -1,5 +1,5 @@
 -- One turn of the machine: the reply to a command and what it does to the state.
-use Rattle.std.specs.Prelude.{ℕ, ◌+◌, min, Bool, true, false, not, ◌==◌, ◌||◌, nat_le, if◌then◌else◌, List, [], ◌∷◌, ◌++◌, length, filter, find, take, count_by, sum_by, Option, Some, None, Result, Ok, Err, bytes_eq}
+use Rattle.std.specs.Prelude.{ℕ, ◌+◌, min, Bool, true, false, not, ◌==◌, ◌||◌, nat_le, if◌then◌else◌, List, [], ◌∷◌, ◌++◌, length, filter, find, take, count_by, Option, Some, None, Result, Ok, Err, bytes_eq}
 use Rattle.std.specs.Option.{option_map, option_map_or}
 use Rattle.std.specs.List.{list_any}
 use Rattle.mvn_coords.specs.Kind.{kind}
@@ -22,11 +22,12 @@ use Rattle.repo_model.specs.Fetched.{Landing, got_file, got_doc}
 use Rattle.repo_model.specs.Proxies.{subject_of, kept_at, decided, settled_at}
 use Rattle.repo_model.specs.Settings.{GroupRule, ProxyRule, Settings}
 use Rattle.repo_model.specs.Paths.{takes}
-use Rattle.repo_model.specs.Document.{document, is_listed}
+use Rattle.repo_model.specs.Document.{document}
 use Rattle.repo_model.specs.State.{State, Yard, Lease, hosted_of, proxy_of, row_at, rows_of, files_of, session_of, open_of, is_open, is_staged, is_among, number_end, most_sessions, most_staged}
 use Rattle.repo_model.specs.Effect.{Effect, draws, drops, creates, stages, relists, forgets, lends, returns, opens, ends, caches, keeps_doc, marks_missing, clears_mark, with_effects}
-use Rattle.repo_model.specs.Command.{Command, look, done, may_put, put, put_side, put_doc, drop_draft, open_session, stage, commit, abort, unlist, collect, status, land, group_rule_of}
-use Rattle.repo_model.specs.Reply.{Reply, file, text, doc, missed, given_back, kind_refused, draft, no_draft, taken, same, relisted, created, not_there, differs, agreed, noted, dropped, no_session, sessions_full, opened, session_full, staged, ended, unlisted, collected, counts, spent, offends, missing_pom, fetches, blocked, negative, never_asked, landed}
+use Rattle.repo_model.specs.Command.{Command, look, done, may_put, put, put_side, put_doc, drop_draft, open_session, stage, commit, abort, unlist, collect, ask, land, group_rule_of}
+use Rattle.repo_model.specs.Reply.{Reply, file, text, doc, missed, given_back, kind_refused, draft, no_draft, taken, same, relisted, created, not_there, differs, agreed, noted, dropped, no_session, sessions_full, opened, session_full, staged, ended, unlisted, collected, finds, spent, offends, missing_pom, fetches, blocked, negative, never_asked, landed}
+use Rattle.repo_model.specs.Asked.{finding_of}
 use Rattle.repo_model.specs.Purge.{fade_all, due_rows, expire_all}
 use Rattle.repo_model.specs.Deploy.{Offence, offence, without_pom, deliver_all, discard_all}
 
@@ -334,12 +335,6 @@ collect_of expiring yard = record {
   effects = expiring ++ forgets (unlent yard) ∷ [];
 }
 
-abbrev pub counts_of : State → Reply
-counts_of s =
-    counts (sum_by (λ h. length h.rows) s.hosted) (sum_by (λ h. count_by (λ row. not (is_listed row.phase)) h.rows) s.hosted)
-    (sum_by (λ (p : Proxy). length p.files) s.proxies) (sum_by (λ (p : Proxy). length p.documents) s.proxies)
-    (count_by is_open s.sessions)
-
 -- the reply to a command at a moment, and what it does
 abbrev pub turn : Settings → State → ℕ → Command → Turn
 turn settings s now (look repo path tried) = shows settings s.yard (look_at settings s now repo tried path)
@@ -365,6 +360,6 @@ turn settings s now (abort n) = with_open (session_of n s) (λ known. abort_of k
 turn settings s now (unlist repo) = unlist_of now (hosted_of repo s)
 turn settings s now collect =
     let expiring = expire_all settings.grace now s.hosted in collect_of expiring (with_effects s expiring).yard
-turn settings s now status = says (counts_of s)
+turn settings s now (ask question) = says (finds (finding_of s question))
 turn settings s now (land plan outcome) =
     if is_drawn plan.draft s.yard.drafts then record { reply = landed; effects = lands s now plan outcome } else says no_draft

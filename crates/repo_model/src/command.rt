@@ -1,6 +1,7 @@
 //! What may be asked of the repository.
 use crate::blobs::Numbers;
 use crate::fetched::Got;
+use crate::question::Question;
 use fetch_plan::{Outcome, Plan};
 use ids::Id;
 use mvn_digest::Digest;
@@ -81,8 +82,8 @@ pub enum Command<H: Held> {
     /// Takes the files away that have been unlisted for longer than the grace period, at most 1,000,000, and asks for garbage
     /// to remove.
     Collect,
-    /// How much there is.
-    Status,
+    /// A question.
+    Ask(Question),
     /// What came of a fetch, of which a proxy keeps what it may.
     Land {
         plan: Plan,

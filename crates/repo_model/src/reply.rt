@@ -1,6 +1,7 @@
 //! What the repository replies.
 use crate::blobs::Numbers;
 use crate::print::Print;
+use crate::question::Finding;
 use crate::session::SessionResult;
 use fetch_plan::Plan;
 use mvn_digest::{Digest, Digests, SideText};
@@ -88,15 +89,8 @@ pub enum Reply<H: Held> {
         expired: u64,
         blobs: Numbers,
     },
-    /// How many files of hosted repositories there are, and how many of them are unlisted; how many files and documents
-    /// proxies keep; and how many deployment sessions are open.
-    Counts {
-        files: u64,
-        fading: u64,
-        cached: u64,
-        documents: u64,
-        sessions: u64,
-    },
+    /// What is told to a question.
+    Found(Finding),
     /// The next number to draw is 2^63.
     Spent,
     /// There was no memory left for the turn.

@@ -21,7 +21,7 @@ use Rattle.repo_routes.specs.Framing.{check_host, is_head, is_put, is_read, leng
 use Rattle.repo_routes.specs.Intent.{Intent}
 use Rattle.repo_routes.specs.Judge.{IsIntent, check_body, in_repo, intent_of, intent_on, into_session, of_session}
 use Rattle.repo_routes.specs.Paths.{check_limit, decoded, limit_of, path_refusal, put_at, put_of, put_to, read_from, side_of, thing_at, thing_or}
-use Rattle.repo_routes.specs.Routes.{Route, in_repository, sessions, in_session, commit, abort, status, clean, allowed, allows, check_method, check_repository, has_repository, route_of, sort_of}
+use Rattle.repo_routes.specs.Routes.{Route, in_repository, sessions, in_session, commit, abort, question, clean, allowed, allows, check_method, check_repository, has_repository, route_of, sort_of}
 use Rattle.repo_routes.specs.Numbers.{session_of}
 use Rattle.repo_routes.specs.Steps.{◌>>=◌, need}
 use Rattle.repo_routes.specs.Target.{target_path}
@@ -139,8 +139,8 @@ on-kept settings head length (sessions repo) there may = there
 on-kept settings head length (in_session number written) there may = into-kept settings head length number written
 on-kept settings head length (commit number) there may = of-kept settings Intent.commits number (λ n. tt)
 on-kept settings head length (abort number) there may = of-kept settings Intent.aborts number (λ n. tt)
-on-kept settings head length status there may = tt
 on-kept settings head length clean there may = refl
+on-kept settings head length (question what) there may = tt
 
 pub intent-kept : (settings : Settings) (head : Head) → IfOk (intent_of settings head) (IsIntent settings)
 unfolding intent_of check_repository check_method

@@ -3,9 +3,10 @@ use Rattle.std.proofs.Common.{◌≡◌, ℕ, Bool, true, false, cond, ◌&&◌,
 use Rattle.std.specs.Prelude.{option_and_then}
 use Rattle.std.specs.Option.{option_map, option_map_or}
 use Rattle.byte_cuts.specs.Cuts.{behind}
+use Rattle.repo_model.specs.declared.question.Question.{Question}
 use Rattle.repo_routes.specs.declared.routes.Pattern.{Pattern}
 use Rattle.repo_routes.specs.declared.routes.Pattern.TheVariants as pattern
-use Rattle.repo_routes.specs.Routes.{Route, in_repository, sessions, in_session, commit, abort, status, clean, files_route, number_route, part_of, pattern_of, repository_route, rest_of, route_at, route_by, session_route, sessions_route}
+use Rattle.repo_routes.specs.Routes.{Route, in_repository, sessions, in_session, commit, abort, clean, question, files_route, named_route, number_route, part_of, pattern_of, repository_route, question_at, rest_of, route_at, route_by, session_route, sessions_route}
 
 abbrev of_pattern : Option Route → Option Pattern
 of_pattern route = option_map pattern_of route
@@ -65,8 +66,8 @@ session-by pattern.Sessions path text cut is = cc
 session-by pattern.SessionFile path text cut is = sym (rw cut refl)
 session-by pattern.Commit path text cut is = sym (rw cut refl)
 session-by pattern.Abort path text cut is = sym (rw cut refl)
-session-by pattern.Status path text cut is = cc
 session-by pattern.Clean path text cut is = cc
+session-by (pattern.Question what) path text cut is = cc
 
 last-by : (path : List ℕ) (found : Option (List ℕ)) (p : Pattern) → behind (codes "/repository/") path ≡ found
     → of_pattern (option_and_then repository_route found) ≡ Some p → option_and_then repository_route found ≡ route_by p path
@@ -74,29 +75,40 @@ last-by path None p cut e = cc
 last-by path (Some text) p cut e =
     subst (λ (q : Pattern). repository_route text ≡ route_by q path) (repository-pattern text p e) (sym (rw cut refl))
 
--- a path by whether it is that of a cleaning or of the counts, and what is behind the words
-abbrev by_parts : Bool → Option (List ℕ) → Option (List ℕ) → Bool → Option (List ℕ) → Option Route
-by_parts is_clean opening session is_status repository =
-    cond is_clean (Some clean) (option_map_or sessions_route opening (option_map_or session_route session (cond is_status (Some status) (option_and_then repository_route repository))))
+-- a path by whether it is that of a cleaning, and what is behind the words
+abbrev by_parts : Bool → Option (List ℕ) → Option (List ℕ) → Option (List ℕ) → Option Route
+by_parts is_clean opening session repository =
+    cond is_clean (Some clean) (option_map_or sessions_route opening (option_map_or session_route session (option_and_then repository_route repository)))
 
-by-parts : (is_clean : Bool) (opening session : Option (List ℕ)) (is_status : Bool) (path : List ℕ) (p : Pattern)
+by-parts : (is_clean : Bool) (opening session : Option (List ℕ)) (path : List ℕ) (p : Pattern)
     → behind (codes "/api/repositories/") path ≡ opening → behind (codes "/api/sessions/") path ≡ session
-    → of_pattern (by_parts is_clean opening session is_status (behind (codes "/repository/") path)) ≡ Some p
-    → by_parts is_clean opening session is_status (behind (codes "/repository/") path) ≡ route_by p path
-by-parts true opening session is_status path p a b e =
+    → of_pattern (by_parts is_clean opening session (behind (codes "/repository/") path)) ≡ Some p
+    → by_parts is_clean opening session (behind (codes "/repository/") path) ≡ route_by p path
+by-parts true opening session path p a b e =
     let it : pattern.Clean ≡ p = cc in subst (λ (q : Pattern). Some clean ≡ route_by q path) it refl
-by-parts false (Some text) session is_status path p a b e =
+by-parts false (Some text) session path p a b e =
     subst (λ (q : Pattern). sessions_route text ≡ route_by q path) (sessions-pattern text p e) (sym (rw a refl))
-by-parts false None (Some text) is_status path p a b e = session-by p path text b (session-pattern text p e)
-by-parts false None None true path p a b e =
-    let it : pattern.Status ≡ p = cc in subst (λ (q : Pattern). Some status ≡ route_by q path) it refl
-by-parts false None None false path p a b e = last-by path (behind (codes "/repository/") path) p refl e
+by-parts false None (Some text) path p a b e = session-by p path text b (session-pattern text p e)
+by-parts false None None path p a b e = last-by path (behind (codes "/repository/") path) p refl e
+
+named-by : (path : List ℕ) (p : Pattern) → option_map pattern_of (named_route path) ≡ Some p → named_route path ≡ route_by p path
+unfolding named_route
+named-by path p e =
+    by-parts (bytes_eq path (codes "/api/clean")) (behind (codes "/api/repositories/") path) (behind (codes "/api/sessions/") path) path p refl refl e
+
+abbrev by_question : Option Question → Option Route → Option Route
+by_question asked named = option_map_or (λ what. Some (question what)) asked named
+
+question-by : (asked : Option Question) (path : List ℕ) (p : Pattern) → of_pattern (by_question asked (named_route path)) ≡ Some p
+    → by_question asked (named_route path) ≡ route_by p path
+question-by None path p e = named-by path p e
+question-by (Some what) path p e =
+    let it : pattern.Question what ≡ p = cc in subst (λ (q : Pattern). Some (question what) ≡ route_by q path) it refl
 
 -- the pattern says where the path is to be cut
 pub route-by : (path : List ℕ) (p : Pattern) → option_map pattern_of (route_at path) ≡ Some p → route_at path ≡ route_by p path
 unfolding route_at
-route-by path p e =
-    by-parts (bytes_eq path (codes "/api/clean")) (behind (codes "/api/repositories/") path) (behind (codes "/api/sessions/") path) (bytes_eq path (codes "/api/status")) path p refl refl e
+route-by path p e = question-by (question_at path) path p e
 
 no-pattern : (route : Option Route) → option_map pattern_of route ≡ None → route ≡ None
 no-pattern None e = refl

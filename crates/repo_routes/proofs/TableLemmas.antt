@@ -1,4 +1,4 @@
--- The patterns of the server find the routes of `specs/Routes.antt`.
+-- The patterns of the server find the routes of `specs/Routes.antt`, but for the questions.
 use Rattle.std.specs.Prelude.{option_and_then}
 use Rattle.std.specs.Option.{option_map, option_map_or}
 use Rattle.std.specs.List.{after_first, before_first, position_or_len}
@@ -11,7 +11,7 @@ use Rattle.matchit.specs.Router.{RouteOf}
 use Rattle.matchit.specs.Seek.{has_slash, own, seek}
 use Rattle.repo_routes.specs.declared.routes.Pattern.{Pattern}
 use Rattle.repo_routes.specs.declared.routes.Pattern.TheVariants as pattern
-use Rattle.repo_routes.specs.Routes.{Route, in_repository, sessions, in_session, commit, abort, status, clean, files_route, number_route, part_of, pattern_of, repository_route, rest_of, route_at, session_route, sessions_route}
+use Rattle.repo_routes.specs.Routes.{Route, in_repository, sessions, in_session, commit, abort, clean, files_route, named_route, number_route, part_of, pattern_of, repository_route, rest_of, session_route, sessions_route}
 use Rattle.repo_routes.proofs.RouterLemmas.{along, catch-all, filled, front, front-first, is_word, seek-none, strip, word-first}
 use Rattle.repo_routes.proofs.ParameterLemmas.{parameter, with-slash, without-slash}
 
@@ -195,44 +195,37 @@ last-by rows route (Some text) same = same text
 abbrev last_rows : RouteOf Pattern → RowsOf (RouteOf Pattern)
 last_rows r = front (codes "/repository/") (parameter (path_rows r)) ++ []
 
-abbrev status_rows : RouteOf Pattern → RouteOf Pattern → RowsOf (RouteOf Pattern)
-status_rows s r = (codes "/api/status", s) ∷ last_rows r
+abbrev session_rows : (a m f r : RouteOf Pattern) → RowsOf (RouteOf Pattern)
+session_rows a m f r = front (codes "/api/sessions/") (parameter (number_rows a m f)) ++ last_rows r
 
-abbrev session_rows : (a m f s r : RouteOf Pattern) → RowsOf (RouteOf Pattern)
-session_rows a m f s r = front (codes "/api/sessions/") (parameter (number_rows a m f)) ++ status_rows s r
+abbrev pub table : (c o a m f r : RouteOf Pattern) → RowsOf (RouteOf Pattern)
+table c o a m f r = (codes "/api/clean", c) ∷ front (codes "/api/repositories/") (parameter (sessions_rows o)) ++ session_rows a m f r
 
-abbrev pub table : (c o a m f s r : RouteOf Pattern) → RowsOf (RouteOf Pattern)
-table c o a m f s r = (codes "/api/clean", c) ∷ front (codes "/api/repositories/") (parameter (sessions_rows o)) ++ session_rows a m f s r
-
-pub table-routes : (c o a m f s r : RouteOf Pattern) → c.value ≡ pattern.Clean → o.value ≡ pattern.Sessions → a.value ≡ pattern.Abort
-    → m.value ≡ pattern.Commit → f.value ≡ pattern.SessionFile → s.value ≡ pattern.Status → r.value ≡ pattern.Repository
-    → (path : List ℕ) → value_of (seek 0 (table c o a m f s r) path) ≡ option_map pattern_of (route_at path)
-unfolding route_at is_word front parameter
-table-routes c o a m f s r clean_row sessions_row abort_row commit_row files_row status_row repository_row path =
-    let others : RowsOf (RouteOf Pattern) = front (codes "/api/repositories/") (parameter (sessions_rows o)) ++ session_rows a m f s r in
-    let one : seek 0 (table c o a m f s r) path ≡ cond (bytes_eq path (codes "/api/clean")) (Some c) (seek 0 others path)
+pub table-routes : (c o a m f r : RouteOf Pattern) → c.value ≡ pattern.Clean → o.value ≡ pattern.Sessions → a.value ≡ pattern.Abort
+    → m.value ≡ pattern.Commit → f.value ≡ pattern.SessionFile → r.value ≡ pattern.Repository
+    → (path : List ℕ) → value_of (seek 0 (table c o a m f r) path) ≡ option_map pattern_of (named_route path)
+unfolding named_route is_word front parameter
+table-routes c o a m f r clean_row sessions_row abort_row commit_row files_row repository_row path =
+    let others : RowsOf (RouteOf Pattern) = front (codes "/api/repositories/") (parameter (sessions_rows o)) ++ session_rows a m f r in
+    let one : seek 0 (table c o a m f r) path ≡ cond (bytes_eq path (codes "/api/clean")) (Some c) (seek 0 others path)
     = word-first (codes "/api/clean") c others path refl in
-    let two : seek 0 others path ≡ option_map_or (λ text. seek 0 (parameter (sessions_rows o)) text) (behind (codes "/api/repositories/") path) (seek 0 (session_rows a m f s r) path)
-    = front-first (codes "/api/repositories/") (parameter (sessions_rows o)) (session_rows a m f s r) path refl refl
-    ∙ ap (λ found. option_map_or (λ text. seek 0 (parameter (sessions_rows o)) text) found (seek 0 (session_rows a m f s r) path)) (strip-behind (codes "/api/repositories/") path) in
-    let three : seek 0 (session_rows a m f s r) path ≡ option_map_or (λ text. seek 0 (parameter (number_rows a m f)) text) (behind (codes "/api/sessions/") path) (seek 0 (status_rows s r) path)
-    = front-first (codes "/api/sessions/") (parameter (number_rows a m f)) (status_rows s r) path refl refl
-    ∙ ap (λ found. option_map_or (λ text. seek 0 (parameter (number_rows a m f)) text) found (seek 0 (status_rows s r) path)) (strip-behind (codes "/api/sessions/") path) in
-    let four : seek 0 (status_rows s r) path ≡ cond (bytes_eq path (codes "/api/status")) (Some s) (seek 0 (last_rows r) path)
-    = word-first (codes "/api/status") s (last_rows r) path refl in
-    let five : seek 0 (last_rows r) path ≡ option_map_or (λ text. seek 0 (parameter (path_rows r)) text) (behind (codes "/repository/") path) None
+    let two : seek 0 others path ≡ option_map_or (λ text. seek 0 (parameter (sessions_rows o)) text) (behind (codes "/api/repositories/") path) (seek 0 (session_rows a m f r) path)
+    = front-first (codes "/api/repositories/") (parameter (sessions_rows o)) (session_rows a m f r) path refl refl
+    ∙ ap (λ found. option_map_or (λ text. seek 0 (parameter (sessions_rows o)) text) found (seek 0 (session_rows a m f r) path)) (strip-behind (codes "/api/repositories/") path) in
+    let three : seek 0 (session_rows a m f r) path ≡ option_map_or (λ text. seek 0 (parameter (number_rows a m f)) text) (behind (codes "/api/sessions/") path) (seek 0 (last_rows r) path)
+    = front-first (codes "/api/sessions/") (parameter (number_rows a m f)) (last_rows r) path refl refl
+    ∙ ap (λ found. option_map_or (λ text. seek 0 (parameter (number_rows a m f)) text) found (seek 0 (last_rows r) path)) (strip-behind (codes "/api/sessions/") path) in
+    let four : seek 0 (last_rows r) path ≡ option_map_or (λ text. seek 0 (parameter (path_rows r)) text) (behind (codes "/repository/") path) None
     = front-first (codes "/repository/") (parameter (path_rows r)) [] path refl refl
     ∙ ap (λ found. option_map_or (λ text. seek 0 (parameter (path_rows r)) text) (strip (codes "/repository/") path) found) (seek-none 0 path)
     ∙ ap (λ found. option_map_or (λ text. seek 0 (parameter (path_rows r)) text) found None) (strip-behind (codes "/repository/") path) in
     ap value_of one
     ∙ word-by c (bytes_eq path (codes "/api/clean")) (seek 0 others path) clean _ clean_row
     (ap value_of two
-    ∙ behind-by (parameter (sessions_rows o)) sessions_route (behind (codes "/api/repositories/") path) (seek 0 (session_rows a m f s r) path) _
+    ∙ behind-by (parameter (sessions_rows o)) sessions_route (behind (codes "/api/repositories/") path) (seek 0 (session_rows a m f r) path) _
     (λ text. sessions-found o text sessions_row)
     (ap value_of three
-    ∙ behind-by (parameter (number_rows a m f)) session_route (behind (codes "/api/sessions/") path) (seek 0 (status_rows s r) path) _
+    ∙ behind-by (parameter (number_rows a m f)) session_route (behind (codes "/api/sessions/") path) (seek 0 (last_rows r) path) _
     (λ text. session-found a m f text abort_row commit_row files_row)
     (ap value_of four
-    ∙ word-by s (bytes_eq path (codes "/api/status")) (seek 0 (last_rows r) path) status _ status_row
-    (ap value_of five
-    ∙ last-by (parameter (path_rows r)) repository_route (behind (codes "/repository/") path) (λ text. repository-found r text repository_row)))))
+    ∙ last-by (parameter (path_rows r)) repository_route (behind (codes "/repository/") path) (λ text. repository-found r text repository_row))))

@@ -1,6 +1,7 @@
 -- What a request asks of the repository, as plain data (RFC 9110, section 9.3).
 use Rattle.std.specs.Prelude.{ℕ, Bool, List}
 use Rattle.mvn_coords.specs.declared.fault.Side.{Side}
+use Rattle.repo_model.specs.declared.question.Question.{Question}
 use Rattle.repo_model.specs.Data.{Place}
 use Rattle.repo_routes.specs.declared.intent.Sort.{Sort}
 
@@ -14,8 +15,8 @@ pub data Intent : Type 0 where
   puts_side : (place : Place) (path : List ℕ) (side : Side) (length : ℕ) → Intent
   -- PUT of a document
   puts_document : (place : Place) (path : List ℕ) (length : ℕ) → Intent
-  -- GET or HEAD of the repository's counts
-  counts : Intent
+  -- GET or HEAD of what the repository finds to a question
+  asks : Question → Intent
   -- POST of a cleaning: these hosted repositories are purged, in this order, and garbage is removed
   cleans : (repos : List (List ℕ)) → Intent
   -- POST of a session: one is opened for a repository, or all files of one are deployed, or it is given up

@@ -9,10 +9,10 @@ use Rattle.repo_routes.specs.declared.refusal.Refusal.{Refusal}
 use Rattle.repo_routes.specs.declared.refusal.Refusal.TheVariants as refusal
 use Rattle.repo_routes.specs.declared.judging.Refused.{Refused}
 use Rattle.repo_routes.specs.Framing.{check_host, ends_connection, expects_continue, has_body, is_head, is_put, length_of}
-use Rattle.repo_routes.specs.Intent.{Intent, Judged, reads, puts_file, puts_side, puts_document, counts, cleans, opens, commits, aborts}
+use Rattle.repo_routes.specs.Intent.{Intent, Judged, reads, puts_file, puts_side, puts_document, asks, cleans, opens, commits, aborts}
 use Rattle.repo_routes.specs.Numbers.{session_of}
 use Rattle.repo_routes.specs.Paths.{longest_document, longest_side, put_to, read_from, side_of}
-use Rattle.repo_routes.specs.Routes.{Route, in_repository, sessions, in_session, commit, abort, status, clean, check_method, check_repository, route_of, sort_of}
+use Rattle.repo_routes.specs.Routes.{Route, in_repository, sessions, in_session, commit, abort, question, clean, check_method, check_repository, route_of, sort_of}
 use Rattle.repo_routes.specs.Steps.{◌>>=◌, ◌>>◌, need}
 use Rattle.repo_routes.specs.Target.{target_path}
 
@@ -49,7 +49,7 @@ intent_on settings head length (sessions repo) = Ok (opens repo)
 intent_on settings head length (in_session number written) = into_session settings head length number written
 intent_on settings head length (commit number) = of_session commits number
 intent_on settings head length (abort number) = of_session aborts number
-intent_on settings head length status = Ok counts
+intent_on settings head length (question what) = Ok (asks what)
 intent_on settings head length clean = Ok (cleans (hosted_ids settings))
 
 -- what a head asks for, or the refusal of the first step that refuses: target, host, length, route, repository, method, body, session, path, limit
@@ -106,7 +106,7 @@ IsIntent settings (puts_side place path side length) =
     IsTrue (is_place place settings) × (side_of (kind path) ≡ Some side) × (length ≤ longest_side)
 IsIntent settings (puts_document place path length) =
     IsTrue (is_place place settings) × IsTrue (names_document (kind path)) × (length ≤ longest_document)
-IsIntent settings counts = Unit {0}
+IsIntent settings (asks what) = Unit {0}
 IsIntent settings (cleans repos) = repos ≡ hosted_ids settings
 IsIntent settings (opens repo) = IsTrue (is_there repo settings)
 IsIntent settings (commits n) = Unit {0}

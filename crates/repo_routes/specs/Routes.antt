@@ -4,8 +4,10 @@ use Rattle.std.specs.Option.{ok_or, option_map_or}
 use Rattle.std.specs.List.{after_first, before_first}
 use Rattle.byte_cuts.specs.Cuts.{behind}
 use Rattle.http_wire.specs.Head.{Head}
+use Rattle.repo_model.specs.Asked.{question_named}
 use Rattle.repo_model.specs.Command.{group_rule_of, is_known, is_there}
 use Rattle.repo_model.specs.Settings.{GroupRule, Settings}
+use Rattle.repo_model.specs.declared.question.Question.{Question}
 use Rattle.repo_routes.specs.declared.intent.Sort.{Sort}
 use Rattle.repo_routes.specs.declared.intent.Sort.TheVariants as sort
 use Rattle.repo_routes.specs.declared.refusal.Allow.{Allow}
@@ -29,10 +31,10 @@ pub data Route : Type 0 where
   -- /api/sessions/{n}/commit and /api/sessions/{n}/abort
   commit : (number : List ℕ) → Route
   abort : (number : List ℕ) → Route
-  -- /api/status
-  status : Route
   -- /api/clean
   clean : Route
+  -- /api/{name}, the name being that of a question
+  question : Question → Route
 
 -- a path's part up to its first slash, and what is behind that
 abbrev pub part_of : List ℕ → List ℕ
@@ -67,14 +69,21 @@ number_route number text =
 unfoldable pub session_route : List ℕ → Option Route
 session_route text = if is_filled (part_of text) then number_route (part_of text) (rest_of text) else None
 
--- the route of a path as written: no escape is read in it
-unfoldable pub route_at : List ℕ → Option Route
-route_at path =
+-- the route of a path that names no question
+unfoldable pub named_route : List ℕ → Option Route
+named_route path =
     if bytes_eq path (codes "/api/clean") then Some clean
     else option_map_or sessions_route (behind (codes "/api/repositories/") path)
     (option_map_or session_route (behind (codes "/api/sessions/") path)
-    (if bytes_eq path (codes "/api/status") then Some status
-    else option_and_then repository_route (behind (codes "/repository/") path)))
+    (option_and_then repository_route (behind (codes "/repository/") path)))
+
+-- the question that a path names
+abbrev pub question_at : List ℕ → Option Question
+question_at path = option_and_then question_named (behind (codes "/api/") path)
+
+-- the route of a path as written: no escape is read in it
+unfoldable pub route_at : List ℕ → Option Route
+route_at path = option_map_or (λ what. Some (question what)) (question_at path) (named_route path)
 
 unfoldable pub route_of : List ℕ → Result Route Refusal
 route_of path = ok_or (route_at path) refusal.NoRoute
@@ -86,8 +95,8 @@ pattern_of (sessions repo) = pattern.Sessions
 pattern_of (in_session number written) = pattern.SessionFile
 pattern_of (commit number) = pattern.Commit
 pattern_of (abort number) = pattern.Abort
-pattern_of status = pattern.Status
 pattern_of clean = pattern.Clean
+pattern_of (question what) = pattern.Question what
 
 -- the route of a path that is of a pattern
 abbrev pub route_by : Pattern → List ℕ → Option Route
@@ -96,8 +105,8 @@ route_by pattern.Sessions path = option_and_then sessions_route (behind (codes "
 route_by pattern.SessionFile path = option_and_then session_route (behind (codes "/api/sessions/") path)
 route_by pattern.Commit path = option_and_then session_route (behind (codes "/api/sessions/") path)
 route_by pattern.Abort path = option_and_then session_route (behind (codes "/api/sessions/") path)
-route_by pattern.Status path = Some status
 route_by pattern.Clean path = Some clean
+route_by (pattern.Question what) path = Some (question what)
 
 -- of which sort the repository of an id is: hosted, or a group of so many members, and else a proxy
 unfoldable pub sort_of : List ℕ → Settings → Sort
@@ -113,8 +122,8 @@ has_repository settings (sessions repo) = is_there repo settings
 has_repository settings (in_session number written) = true
 has_repository settings (commit number) = true
 has_repository settings (abort number) = true
-has_repository settings status = true
 has_repository settings clean = true
+has_repository settings (question what) = true
 
 unfoldable pub check_repository : Settings → Route → Result (Unit {0}) Refusal
 check_repository settings route = need (has_repository settings route) refusal.NoRepository
@@ -126,8 +135,8 @@ allowed settings (sessions repo) = Post
 allowed settings (in_session number written) = ReadAndPut
 allowed settings (commit number) = Post
 allowed settings (abort number) = Post
-allowed settings status = Read
 allowed settings clean = Post
+allowed settings (question what) = Read
 
 abbrev pub allows : Allow → Head → Bool
 allows Read head = is_read head
@@ -144,5 +153,5 @@ shown_route (way.Sessions repo) = sessions repo.now
 shown_route (way.InSession number written) = in_session number.now written.now
 shown_route (way.Commit number) = commit number.now
 shown_route (way.Abort number) = abort number.now
-shown_route way.Status = status
 shown_route way.Clean = clean
+shown_route (way.Question what) = question what

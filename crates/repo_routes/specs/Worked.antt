@@ -6,13 +6,14 @@ use Rattle.http_wire.specs.declared.requests.Field.{Field}
 use Rattle.http_wire.specs.Head.{Head}
 use Rattle.repo_model.specs.Data.{repository, session}
 use Rattle.repo_model.specs.Settings.{Settings}
+use Rattle.repo_model.specs.declared.question.Question.TheVariants.{Status}
 use Rattle.repo_model.specs.declared.update.Update.TheVariants.{Daily}
 use Rattle.repo_routes.specs.declared.intent.Sort.TheVariants as sort
 use Rattle.repo_routes.specs.declared.judging.Refused.{Refused}
 use Rattle.repo_routes.specs.declared.refusal.Allow.TheVariants.{Post, Read, ReadAndPut}
 use Rattle.repo_routes.specs.declared.refusal.Refusal.{Refusal}
 use Rattle.repo_routes.specs.declared.refusal.Refusal.TheVariants.{BadTarget, BadHost, NoLength, BadLength, NoRoute, NoRepository, Method, UnexpectedBody, NoSession, Unread, BadPath, NoPath, TooLarge}
-use Rattle.repo_routes.specs.Intent.{Intent, Judged, reads, puts_file, puts_side, puts_document, counts, cleans, opens, commits, aborts}
+use Rattle.repo_routes.specs.Intent.{Intent, Judged, reads, puts_file, puts_side, puts_document, asks, cleans, opens, commits, aborts}
 use Rattle.repo_routes.specs.Judge.{judge}
 
 -- a hosted repository `releases`, a proxy `central` and a group `all`; files of at most 2,000 bytes
@@ -142,7 +143,7 @@ pub record AsksFor : Type 0 where
   pub no_body : judge settings (head (codes "GET") (codes "http://h/repository/releases/a%2Fb/1/b-1.jar?x") (length_is (codes "0") ∷ [])) ≡ request (reads (codes "releases") jar sort.Hosted)
   pub file_of_proxy : judge settings (head (codes "GET") (codes "/repository/central/a/b/1/b-1.jar") []) ≡ request (reads (codes "central") jar sort.Proxy)
   pub file_of_group : judge settings (head (codes "GET") (codes "/repository/all/a/b/1/b-1.jar") []) ≡ request (reads (codes "all") jar (sort.Group 1))
-  pub status : judge settings (head (codes "GET") (codes "/api/status?x") []) ≡ request counts
+  pub status : judge settings (head (codes "GET") (codes "/api/status?x") []) ≡ request (asks Status)
   pub clean : judge settings (head (codes "POST") (codes "/api/clean") []) ≡ request (cleans (codes "releases" ∷ []))
   pub clean_without_body : judge settings (head (codes "POST") (codes "http://h/api/clean?x") (length_is (codes "0") ∷ [])) ≡ request (cleans (codes "releases" ∷ []))
   pub put : judge settings (head (codes "PUT") at_jar (length_is (codes "2000") ∷ length_is (codes "02000") ∷ [])) ≡ request (puts_file (repository (codes "releases")) jar 2000)

@@ -1,5 +1,5 @@
 use mvn_coords::Side;
-use repo_model::Place;
+use repo_model::{Place, Question};
 use texts::{Text, Texts};
 
 /// Of which sort a repository is that is read.
@@ -40,8 +40,8 @@ pub enum Intent {
         path: Text,
         length: u64,
     },
-    /// GET or HEAD of the repository's counts.
-    Status,
+    /// GET or HEAD of what the repository finds to a question.
+    Ask(Question),
     /// POST of a cleaning: the ids of the hosted repositories, as written.
     Clean(Texts),
     /// POST that opens a deployment session for a hosted repository.

@@ -135,8 +135,8 @@ fn intent_on(
         }
         Route::Commit { number } => Ok(Intent::Commit(session_of(number)?)),
         Route::Abort { number } => Ok(Intent::Abort(session_of(number)?)),
-        Route::Status => Ok(Intent::Status),
         Route::Clean => Ok(Intent::Clean(hosted_ids(alloc, settings)?)),
+        Route::Question(question) => Ok(Intent::Ask(question)),
     }
 }
 

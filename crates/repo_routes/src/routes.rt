@@ -14,6 +14,7 @@ use byte_cuts::text::{behind, is};
 use http_wire::Request;
 use matchit::{InsertError, Router};
 use repo_config::{GroupRule, HostedRule, ProxyRule, Settings};
+use repo_model::Question;
 use std::alloc::{AllocError, Global};
 use std::marker::Model;
 
@@ -30,10 +31,10 @@ pub(crate) enum Pattern {
     Commit,
     /// `/api/sessions/{n}/abort`
     Abort,
-    /// `/api/status`
-    Status,
     /// `/api/clean`
     Clean,
+    /// `/api/{name}`, the name being that of a question
+    Question(Question),
 }
 
 /// The route of a path, with its parts as written: the id of a repository or the number of a session, and what stands
@@ -45,11 +46,11 @@ pub(crate) enum Route<'a> {
     InSession { number: &'a str, written: &'a str },
     Commit { number: &'a str },
     Abort { number: &'a str },
-    Status,
     Clean,
+    Question(Question),
 }
 
-/// The routes of the server, found by their patterns: each value of the type finds the routes of `specs/Routes.antt`, and
+/// The routes of the server, found by their patterns, but for the questions, which are found by their names: each value of the type finds the routes of `specs/Routes.antt`, and
 /// no others. They are made once, and finding a route takes no memory.
 #[derive(Drop)]
 pub struct Routes {
@@ -60,13 +61,13 @@ impl Model for Routes {
     ghost use Rattle.std.specs.Prelude.{◌≡◌, ℕ, List};
     ghost use Rattle.std.specs.Option.{option_map};
     ghost use Rattle.matchit.specs.Seek.{first};
-    ghost use Rattle.repo_routes.specs.Routes.{pattern_of, route_at};
+    ghost use Rattle.repo_routes.specs.Routes.{named_route, pattern_of};
 
     ghost Value = { Unit {0} };
 
     ghost view = { λ _. tt };
 
-    ghost invariant = { λ r. (path : List ℕ) → option_map (λ e. e.value) (first r.router path) ≡ option_map pattern_of (route_at path) };
+    ghost invariant = { λ r. (path : List ℕ) → option_map (λ e. e.value) (first r.router path) ≡ option_map pattern_of (named_route path) };
 }
 
 impl Routes {
@@ -80,9 +81,13 @@ impl Routes {
     }
 
     /// The pattern that a path is of.
+    #[tactic(auto, unfolding(crate::specs::Routes::route_at))]
     fn pattern(&self, path: &str) -> Option<Pattern>
         ensures { result ≡ option_map spec.pattern_of (spec.route_at path.now) }
     {
+        if let Some(question) = question_at(path) {
+            return Some(Pattern::Question(question));
+        }
         match self.router.at(path) {
             Ok(found) => Some(*found.value),
             Err(_) => None,
@@ -103,6 +108,13 @@ impl Routes {
     }
 }
 
+/// The question that a path names.
+fn question_at(path: &str) -> Option<Question>
+    ensures { result ≡ spec.question_at path.now }
+{
+    Question::named(behind("/api/", path)?)
+}
+
 /// The route of a path that is of a pattern.
 fn route_by(pattern: Pattern, path: &str) -> Option<Route<'_>>
     ensures { option_map spec.shown_route result ≡ spec.route_by pattern path.now }
@@ -113,8 +125,8 @@ fn route_by(pattern: Pattern, path: &str) -> Option<Route<'_>>
         Pattern::SessionFile | Pattern::Commit | Pattern::Abort => {
             session_route(behind("/api/sessions/", path)?)
         }
-        Pattern::Status => Some(Route::Status),
         Pattern::Clean => Some(Route::Clean),
+        Pattern::Question(question) => Some(Route::Question(question)),
     }
 }
 
@@ -242,10 +254,10 @@ fn allowed(settings: &Settings, route: Route<'_>) -> Allow
     match route {
         Route::InRepository { repo, .. } if !is_there(settings, repo) => Allow::Read,
         Route::InRepository { .. } | Route::InSession { .. } => Allow::ReadAndPut,
-        Route::Status => Allow::Read,
         Route::Sessions { .. } | Route::Commit { .. } | Route::Abort { .. } | Route::Clean => {
             Allow::Post
         }
+        Route::Question(_) => Allow::Read,
     }
 }
 
@@ -276,17 +288,16 @@ pub(crate) fn check_method(
     }
 }
 
-/// The router with the pattern of each route.
+/// The router with the pattern of each route but a question's.
 fn add_routes(router: &mut Router<Pattern>) -> Result<(), InsertError>
     requires { router.old ≡ [] }
-    ensures { OnOk result ((path : List ℕ) → option_map (λ e. e.value) (first router.new path) ≡ option_map spec.pattern_of (spec.route_at path)) }
+    ensures { OnOk result ((path : List ℕ) → option_map (λ e. e.value) (first router.new path) ≡ option_map spec.pattern_of (spec.named_route path)) }
 {
     router.insert("/repository/{id}/{*path}", Pattern::Repository)?;
     router.insert("/api/repositories/{id}/sessions", Pattern::Sessions)?;
     router.insert("/api/sessions/{n}/files/{*path}", Pattern::SessionFile)?;
     router.insert("/api/sessions/{n}/commit", Pattern::Commit)?;
     router.insert("/api/sessions/{n}/abort", Pattern::Abort)?;
-    router.insert("/api/status", Pattern::Status)?;
     router.insert("/api/clean", Pattern::Clean)?;
     Ok(())
 }

@@ -11,9 +11,11 @@ use Rattle.repo_course.specs.Cleaning.{Store}
 use Rattle.repo_course.specs.declared.outcomes.End.{End}
 use Rattle.repo_course.specs.declared.outcomes.End.TheVariants.{Closed}
 use Rattle.repo_course.specs.Serving.{ServesStream}
-use Rattle.repo_model.specs.Command.{status}
+use Rattle.repo_model.specs.declared.question.Finding.TheVariants.{Counts}
+use Rattle.repo_model.specs.declared.question.Question.TheVariants.{Status}
+use Rattle.repo_model.specs.Command.{ask}
 use Rattle.repo_model.specs.History.{Entry}
-use Rattle.repo_model.specs.Reply.{counts}
+use Rattle.repo_model.specs.Reply.{finds}
 use Rattle.repo_model.specs.Settings.{Settings}
 use Rattle.run_desks.specs.Seen.{Kit, with_blobs}
 use Rattle.run_lines.specs.Lines.{line, memory_line}
@@ -109,5 +111,5 @@ pub data Demonstrates {X : Type 0} (tells : Type 0) (from requests : ℕ) (old n
   starved : (n : ℕ) (answers : List Answer) (last : List Entry) (calls : ℕ) → n ≤ requests → IsShown tells from n old new answers last calls
       → Prints memory_line old.out new.out → ends ≡ 8 → Demonstrates tells from requests old new ends
   told : (answers : List Answer) (asked : Entry) (calls files fading cached documents sessions : ℕ) → IsShown tells from requests old new answers (asked ∷ []) calls
-      → NoneStarved answers → asked.command ≡ status → asked.reply ≡ counts files fading cached documents sessions
+      → NoneStarved answers → asked.command ≡ ask Status → asked.reply ≡ finds (Counts files fading cached documents sessions)
       → TellsSummary (summary requests (tally_of answers) calls files fading) old.out new.out ends → Demonstrates tells from requests old new ends

@@ -6,9 +6,11 @@ use Rattle.repo_core.specs.CoreTurn.{CoreTurn}
 use Rattle.repo_core.specs.Whole.{Whole}
 use Rattle.repo_course.specs.Cleaning.{Store}
 use Rattle.repo_course.specs.declared.outcomes.End.TheVariants.{Closed}
-use Rattle.repo_model.specs.Command.{status}
+use Rattle.repo_model.specs.declared.question.Finding.TheVariants.{Counts}
+use Rattle.repo_model.specs.declared.question.Question.TheVariants.{Status}
+use Rattle.repo_model.specs.Command.{ask}
 use Rattle.repo_model.specs.History.{Entry}
-use Rattle.repo_model.specs.Reply.{counts}
+use Rattle.repo_model.specs.Reply.{finds}
 use Rattle.repo_model.specs.Settings.{Settings}
 use Rattle.run_desks.specs.Seen.{Kit}
 use Rattle.run_lines.specs.Lines.{memory_line}
@@ -71,15 +73,15 @@ ShowsAll settings tells from requests core core' old new (Err fault) = ShowsSome
 -- the repository says how many files it has; or memory was wanting
 abbrev pub AsksFiles : Whole → Whole → Option Files → Type 0
 AsksFiles core core' (Some found) =
-    (asked : Entry) × CoreTurn core.settings core asked core' × (asked.command ≡ status)
-    × ((cached documents sessions : ℕ) × (asked.reply ≡ counts found.files found.fading cached documents sessions))
-AsksFiles core core' None = (asked : Entry) × CoreTurn core.settings core asked core' × (asked.command ≡ status)
+    (asked : Entry) × CoreTurn core.settings core asked core' × (asked.command ≡ ask Status)
+    × ((cached documents sessions : ℕ) × (asked.reply ≡ finds (Counts found.files found.fading cached documents sessions)))
+AsksFiles core core' None = (asked : Entry) × CoreTurn core.settings core asked core' × (asked.command ≡ ask Status)
 
 -- the repository says it and the lines are printed; or the line of want of memory is
 abbrev pub TellsAll : ℕ → Tally → Whole → Whole → Output → Output → ℕ → Type 0
 TellsAll requests tally core core' old new ends =
-    (asked : Entry) × CoreTurn core.settings core asked core' × (asked.command ≡ status)
-    × (((files fading cached documents sessions : ℕ) × (asked.reply ≡ counts files fading cached documents sessions)
+    (asked : Entry) × CoreTurn core.settings core asked core' × (asked.command ≡ ask Status)
+    × (((files fading cached documents sessions : ℕ) × (asked.reply ≡ finds (Counts files fading cached documents sessions))
     × TellsSummary (summary requests tally core'.calls files fading) old new ends)
     ⊎ (Prints memory_line old new × (ends ≡ 8)))
 

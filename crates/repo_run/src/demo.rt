@@ -19,7 +19,7 @@ use outside_remote::Remote;
 use repo_config::Settings;
 use repo_core::{Core, StartFault};
 use repo_course::End;
-use repo_model::{Ask, Command, Reply};
+use repo_model::{Ask, Command, Finding, Question, Reply};
 use repo_server::serve_stream;
 use row_tables::Records;
 use run_desks::Desk;
@@ -119,8 +119,8 @@ fn answer_all<B: Blobs, R: Remote, K: Records, C: Clock>(
 fn ask_files<K: Records, C: Clock, H: Held>(core: &mut Core<K, C, H>) -> Option<Files>
     ensures { AsksFiles core.old core.new result }
 {
-    match core.ask(Command::Status) {
-        Reply::Counts { files, fading, .. } => Some(Files { files, fading }),
+    match core.ask(Command::Ask(Question::Status)) {
+        Reply::Found(Finding::Counts { files, fading, .. }) => Some(Files { files, fading }),
         _ => None,
     }
 }

@@ -3,7 +3,7 @@ use case_texts::{Tale, number_of, text_of};
 use mvn_coords::Side;
 use mvn_digest::{Digest, Digests, Hashes, side_text};
 use repo_course::{FetchFault, Manner, Said, rendered};
-use repo_model::{Print, SessionResult};
+use repo_model::{Finding, Print, SessionResult};
 use shared_bytes::SharedBytes;
 use std::alloc::{AllocError, Global};
 use texts::Bytes;
@@ -38,13 +38,13 @@ fn said_of_numbers(words: &[u64]) -> Option<Said> {
             unlisted: *unlisted,
             removed: *removed,
         },
-        [files, fading, cached, documents, sessions] => Said::Counts {
+        [files, fading, cached, documents, sessions] => Said::Found(Finding::Counts {
             files: *files,
             fading: *fading,
             cached: *cached,
             documents: *documents,
             sessions: *sessions,
-        },
+        }),
         _ => return None,
     })
 }

@@ -75,7 +75,7 @@ fn put_words(
 
 fn intent_words(alloc: Global, intent: &Intent) -> Result<String, AllocError> {
     match intent {
-        Intent::Status => String::from_str(alloc, "Status"),
+        Intent::Ask(question) => format!(in alloc; "{question:?}"),
         Intent::Clean(repos) => clean_words(alloc, repos.as_slice()),
         Intent::Read { repo, path, sort } => {
             let (repo, path) = (repo.as_str(), path.as_str());

@@ -1,6 +1,7 @@
 -- A repository in which nothing stands, and which is asked for its status alone.
 use Rattle.std.proofs.Common.{◌≡◌, [], None, refl, arith}
-use Rattle.repo_model.specs.Command.{Command, status}
+use Rattle.repo_model.specs.declared.question.Question.TheVariants.{Status}
+use Rattle.repo_model.specs.Command.{Command, ask}
 use Rattle.repo_model.specs.History.{wants_memory}
 use Rattle.repo_model.specs.Reply.{Reply, no_memory}
 use Rattle.repo_model.specs.Settings.{Settings}
@@ -22,7 +23,7 @@ idle = record {
 }
 
 -- memory may be wanting for the answer, and then nothing changes
-pub idles : IsTurn no_settings idle status no_memory idle
+pub idles : IsTurn no_settings idle (ask Status) no_memory idle
 idles = record {
   fits = record { condition = refl; moment = (omega arith, omega arith); faults = omega arith; reply = wants_memory refl refl (λ asked. refl) };
   leaves = refl;

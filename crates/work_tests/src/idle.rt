@@ -1,5 +1,6 @@
 ghost use Rattle.std.specs.Prelude.{◌≡◌, ◌+◌, ◌%◌, ◌^◌, refl};
-ghost use Rattle.repo_model.specs.Command.{status};
+ghost use Rattle.repo_model.specs.Command.{ask};
+ghost use Rattle.repo_model.specs.declared.question.Question.TheVariants.{Status};
 ghost use Rattle.repo_model.specs.Reply.{no_memory};
 ghost use Rattle.repo_model.specs.Settings.{Settings};
 ghost use Rattle.work_tests.specs.Idle.{idle, idles, no_settings};
@@ -36,7 +37,7 @@ impl Thing for Idle {
 }
 
 impl Repository for Idle {
-    ghost sight = { record { asked = λ call. status; answered = λ reply. no_memory; settings = λ i. no_settings; state = λ i. idle } };
+    ghost sight = { record { asked = λ call. ask Status; answered = λ reply. no_memory; settings = λ i. no_settings; state = λ i. idle } };
 
     ghost takes = { λ i call meets. tt };
 

@@ -14,5 +14,4 @@ returns c =
     let four = c.in_ok-insert-4.ensures in
     let five = c.in_ok-insert-5.ensures in
     let six = c.in_ok-insert-6.ensures in
-    let seven = c.in_ok-insert-7.ensures in
-    rw (seven.1, six.1, five.1, four.1, three.1, two.1, one.1, c.requires) (table-routes _ _ _ _ _ _ _ refl refl refl refl refl refl refl)
+    rw (six.1, five.1, four.1, three.1, two.1, one.1, c.requires) (table-routes _ _ _ _ _ _ refl refl refl refl refl refl)
