@@ -45,19 +45,18 @@ use Rattle.repo_course.specs.declared.fetched.FetchFault.{FetchFault}
 use Rattle.repo_course.specs.declared.fetched.Verdict.{Verdict}
 use Rattle.repo_course.specs.declared.fetched.Verdict.TheVariants as verdict
 use Rattle.repo_course.specs.declared.manner.Manner.{Manner}
-use Rattle.repo_course.specs.declared.outcomes.CleanFault.TheVariants as clean
-use Rattle.repo_course.specs.declared.outcomes.Continued.TheVariants as continued
 use Rattle.repo_course.specs.declared.outcomes.Sent.{Sent}
 use Rattle.repo_course.specs.declared.outcomes.Sent.TheVariants as sent
-use Rattle.repo_course.specs.declared.outcomes.Took.TheVariants as took
 use Rattle.repo_course.specs.declared.said.Said.{Said}
 use Rattle.repo_course.specs.declared.said.Said.TheVariants.{NoMemory}
-use Rattle.repo_course.specs.Course.{Close, Course, Deed, Kept, Outcome, asks, does, says, stops, speaks, invite, take_body, read_body, send_file, clean_all, fetch, store_fetched, after_fetch, after_land, after_look, after_store, answers, closes, course_of, fetch_fault, fetched, gives_any_up, is_group, lands, looks, manner_for, of_sent, of_store, refuses_head, rounds_of, said_missed, said_of, stores, tells, with_fault}
-use Rattle.repo_course.specs.Meets.{Gives, IsOfPlan}
-use Rattle.course_laws.specs.Complete.{HadRoom, IsAnswer, IsComplete}
-use Rattle.course_laws.specs.Duties.{Keeps, MayAsk, Rounds, Stand, at_first, by_digest, by_document, due_after, due_done, for_text, left_by, most_for, no_rounds, stand_after, stand_done, target_of}
+use Rattle.repo_course.specs.Course.{Close, Course, Kept, asks, does, says, stops, speaks, send_file, fetch, store_fetched, after_fetch, after_land, after_look, after_store, answers, closes, course_of, fetch_fault, fetched, gives_any_up, is_group, lands, looks, manner_for, of_sent, of_store, refuses_head, rounds_of, said_missed, said_of, stores, tells, with_fault}
+use Rattle.repo_course.specs.Meets.{IsOfPlan}
+use Rattle.course_laws.specs.Complete.{HadRoom, IsAnswer, IsComplete, HadRoomBy}
+use Rattle.course_laws.specs.Duties.{Keeps, MayAsk, Rounds, Stand, at_first, by_digest, by_document, due_after, for_text, left_by, most_for, no_rounds, stand_after, stand_done, target_of}
 use Rattle.course_laws.proofs.Kept.{judged-keeps}
 use Rattle.course_laws.proofs.Rounds.{AreOnce, AreBelow, below-last, once-last, one-is-left}
+use Rattle.repo_course.specs.Deeds.{Sequel, goes_on, by_its_text, ends_by, sequel, rests}
+use Rattle.course_laws.specs.Deeds.{due_behind}
 
 -- what is due is no want of memory
 abbrev IsHeard : Option Close → Type 0
@@ -72,23 +71,12 @@ fault-heard : (c : Command) (due : Option Close) → IsHeard due → IsHeard (du
 fault-heard (done lease) due h = h
 fault-heard _ due h = (assumption)
 
-deed-heard : (by_text : List ℕ → Option Close) → ((bytes : List ℕ) → IsHeard (by_text bytes)) → (deed : Deed) (outcome : Outcome deed) → HadRoom deed outcome
-    → Gives deed outcome → (due : Option Close) → IsHeard due → IsHeard (due_done by_text deed outcome due)
-deed-heard by_text texts (read_body count) (Ok bytes) room gives due h = texts bytes
-deed-heard by_text texts (take_body n count) (Err took.NoMemory) room gives due h = absurd room
-deed-heard by_text texts (read_body count) (Err took.NoMemory) room gives due h = absurd room
-deed-heard by_text texts (send_file blob manner) sent.NoMemory room gives due h = absurd room
-deed-heard by_text texts (clean_all repos) (Err clean.NoMemory) room gives due h = absurd room
-deed-heard by_text texts invite continued.Written room gives due h = h
-deed-heard by_text texts (fetch plan) None room gives due h = absurd room
-deed-heard by_text texts (fetch plan) (Some (came.Got (content.File checked))) room gives due h = pick plan.draft gives.0
-  where
-    pick : (under : Option ℕ) → IsSome under → IsHeard (due_done by_text (fetch (record plan { draft = under })) (Some (came.Got (content.File checked))) due)
-    pick (Some n) some = h
-    pick None some = absurd (false≢true some)
-deed-heard by_text texts (store_fetched n checked) (Err unstored.NoMemory) room gives due h = absurd room
-deed-heard by_text texts (store_fetched n checked) (Err unstored.Failed) room gives due h = tt
-deed-heard by_text texts _ _ room gives due h = (assumption)
+sequel-heard : (by_text : List ℕ → Option Close) → ((bytes : List ℕ) → IsHeard (by_text bytes)) → (next : Sequel) → HadRoomBy next → (due : Option Close)
+    → IsHeard due → IsHeard (due_behind by_text next due)
+sequel-heard by_text texts goes_on room due h = h
+sequel-heard by_text texts (by_its_text bytes) room due h = texts bytes
+sequel-heard by_text texts (ends_by (speaks said)) room due h = room
+sequel-heard by_text texts (ends_by (rests end)) room due h = tt
 
 module _ (settings : Settings) where
   case-heard : (s : State) (now : ℕ) (c : Command) (t : Turn) → Case settings s now c t → (due : Option Close) → IsHeard due → IsHeard (due_after one_round c t.reply due)
@@ -131,7 +119,7 @@ module _ (settings : Settings) where
         keeps-complete (next e.reply) n (stand_after command e.reply s) (k.1 e.reply) none
         (subst IsHeard (any-rounds s.rounds command e.reply s.due (no-look command s none k.0)) (entry-heard command st e fits is some s.due h))
     keeps-complete (does deed next) n s k none h = λ outcome room gives.
-        keeps-complete (next outcome) (left_by deed n) (stand_done by_text deed outcome s) (k.2 outcome) none (deed-heard by_text texts deed outcome room gives s.due h)
+        keeps-complete (next outcome) (left_by deed n) (stand_done by_text deed outcome s) (k.2 outcome) none (sequel-heard by_text texts (sequel deed outcome) room s.due h)
     keeps-complete (says said own) n s k none h = subst IsHeard k.1 h
     keeps-complete (stops end) n s k none h = tt
 

@@ -14,7 +14,7 @@ use Rattle.repo_model.specs.Reply.{Reply, file, missed, draft, fetches, landed, 
 use Rattle.repo_model.specs.Settings.{Settings}
 use Rattle.repo_model.specs.State.{State}
 use Rattle.repo_course.specs.Answers.{answer_of, memory_answer}
-use Rattle.repo_course.specs.Course.{Close, Course, Deed, asks, does, says, stops, speaks, rests, send_file, fetch, store_fetched, end_of, said_missed, said_of}
+use Rattle.repo_course.specs.Course.{Close, Course, Deed, asks, does, says, stops, speaks, rests, end_of, said_missed, said_of}
 use Rattle.repo_course.specs.declared.fetched.Verdict.{Verdict}
 use Rattle.repo_course.specs.declared.fetched.Verdict.TheVariants as verdict
 use Rattle.repo_course.specs.declared.manner.Manner.{Manner}
@@ -27,8 +27,8 @@ use Rattle.course_laws.specs.AsPlayed.{RowsTold}
 use Rattle.course_laws.specs.Duties.{Keeps, MayAsk, MayDo, Rounds, Stand, due_after, due_planned, lent_after, manner_of, stand_after}
 use Rattle.course_laws.specs.Granted.{file_by}
 use Rattle.course_laws.specs.Faultless.{Played, Scene, due_entry, play, wrote}
-use Rattle.course_laws.proofs.Counts.{Grew, rose-before}
 use Rattle.course_laws.proofs.Fetched.{Fetched}
+use Rattle.course_laws.proofs.Rising.{Grew, rose-before}
 
 -- memory was wanted, behind what may stand there then, and that was answered or the sink failed in it; or the source or the sink failed
 abbrev pub Ended : (So : Bool → List ℕ → Type 0) (head_only : Bool) (front part : List ℕ) → Outside → Outside → Option End → Type 0
@@ -260,10 +260,7 @@ memory-due collect s may can = absurd may
 memory-due _ s may can = refl
 
 pub nothing-due : (manner : Manner) (deed : Deed) (s : Stand) → MayDo manner deed s → s.due ≡ None
-nothing-due manner (send_file blob own) s may = may.0.0
-nothing-due manner (fetch plan) s may = may.0.0
-nothing-due manner (store_fetched n checked) s may = may.0.0
-nothing-due manner _ s may = may.0
+nothing-due manner deed s may = may.0
 
 -- an answer is its head alone where those of the course are
 pub own-head : (said : Said) (unread : Option ℕ) (manner : Manner) → (manner_of said unread manner).head_only ≡ manner.head_only

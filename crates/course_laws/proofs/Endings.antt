@@ -6,24 +6,15 @@ use Rattle.std.specs.Option.{option_map_or}
 use Rattle.std.specs.Prelude.{◌==◌, ◌||◌, IsTrue, bytes_eq, find, is_some, max, if◌then◌else◌}
 use Rattle.std.proofs.lemmas.Bool.{false≢true}
 use Rattle.std.proofs.lemmas.Option.{none-some}
-use Rattle.fetch_plan.specs.declared.Outcome.{Outcome as Came}
-use Rattle.fetch_plan.specs.declared.Outcome.TheVariants as came
-use Rattle.fetch_plan.specs.declared.Plan.{Plan}
-use Rattle.outside.specs.declared.faults.BlobFault.TheVariants as unstored
 use Rattle.outside_remote.specs.Exchanges.{Sees}
-use Rattle.remote_fetch.specs.declared.contents.Content.{Content}
-use Rattle.remote_fetch.specs.declared.contents.Content.TheVariants as content
-use Rattle.remote_fetch.specs.declared.fetching.Checked.{Checked}
-use Rattle.http_wire.specs.Answer.{shown}
 use Rattle.http_wire.specs.declared.answers.Answer.{Answer}
 use Rattle.outside.specs.Blobs.{Shelf}
 use Rattle.outside.specs.Faults.{Rose}
 use Rattle.repo_model.specs.Command.{Command, group_rule_of, is_known, is_there, proxy_rule_of}
-use Rattle.repo_model.specs.Data.{Blob}
 use Rattle.repo_model.specs.History.{Entry}
 use Rattle.repo_model.specs.Reply.{Reply}
 use Rattle.repo_model.specs.Settings.{GroupRule, ProxyRule, Rule, Settings}
-use Rattle.repo_course.specs.Answers.{answer_of, file_answer, memory_answer}
+use Rattle.repo_course.specs.Answers.{answer_of, memory_answer}
 use Rattle.repo_routes.specs.Intent.{Intent, Judged, reads as reads_path, cleans as cleans_all}
 use Rattle.repo_routes.specs.Routes.{sort_of}
 use Rattle.repo_routes.specs.declared.intent.Sort.{Sort}
@@ -32,30 +23,20 @@ use Rattle.repo_routes.specs.Judge.{IsIntent, intent_of, judge, outcome_of}
 use Rattle.repo_routes.proofs.KeptLemmas.{intent-kept}
 use Rattle.repo_routes.specs.declared.judging.Refused.{Refused}
 use Rattle.repo_routes.specs.declared.refusal.Refusal.{Refusal}
-use Rattle.repo_course.specs.declared.outcomes.CleanFault.TheVariants as clean_fault
-use Rattle.repo_course.specs.Course.{Body, Close, Course, Deed, Fetch, Kept, Outcome, Pass, Stored, asks, does, says, stops, speaks, rests, invite, take_body, read_body, send_file, clean_all, fetch, store_fetched, end_of, of_fault, of_pass, of_sent, rounds_of}
+use Rattle.repo_course.specs.Course.{Close, Course, Deed, Outcome, asks, does, says, stops, speaks, rests, clean_all, end_of, rounds_of}
 use Rattle.repo_course.specs.declared.manner.Manner.{Manner}
-use Rattle.repo_course.specs.declared.outcomes.Continued.{Continued}
-use Rattle.repo_course.specs.declared.outcomes.Continued.TheVariants as continued
 use Rattle.repo_course.specs.declared.outcomes.End.{End}
 use Rattle.repo_course.specs.declared.outcomes.End.TheVariants as stream
-use Rattle.repo_course.specs.declared.outcomes.Sent.{Sent}
-use Rattle.repo_course.specs.declared.outcomes.Sent.TheVariants as sent
-use Rattle.repo_course.specs.declared.outcomes.Took.{Took}
-use Rattle.repo_course.specs.declared.outcomes.Took.TheVariants as took
-use Rattle.repo_course.specs.Serving.{Continues, Does, Fails, Fetches, Stores, Follows, Opens, clean, torn, failed, refused, unread_head, starved, served, Outside, Reads, Says, whole, memory, cut, SendsAnswer, ServesStream, Takes, RequestTurn}
-use Rattle.course_laws.specs.Duties.{Keeps, MayAsk, Stand, asked_by, due_after, due_done, due_fetched, duty_of, left_by, most_asked, most_for, most_members, most_rounds, stand_after, stand_done, twice}
+use Rattle.repo_course.specs.Serving.{Does, Follows, Opens, clean, torn, failed, refused, unread_head, starved, served, Outside, Says, whole, memory, cut, ServesStream, RequestTurn}
+use Rattle.course_laws.specs.Duties.{Keeps, MayAsk, Stand, asked_by, due_after, due_done, duty_of, left_by, most_asked, most_for, most_members, most_rounds, stand_after, stand_done, twice}
 use Rattle.course_laws.specs.Endings.{EndsByCause, NoneRose}
 use Rattle.course_laws.proofs.Passes.{passes-few}
 use Rattle.course_laws.proofs.Early.{due-moves, nothing-due, still-due}
 use Rattle.course_laws.proofs.Kept.{duty_at, opens-keeps}
-use Rattle.course_laws.proofs.Sendings.{cut-by-fault, cut-by-other, not-sent, other-found, sent-in-part, sent-nothing, sent-whole}
 use Rattle.course_laws.proofs.Unsent.{IsUnsent, judged-unsent}
-
--- how a course ends, and where it stands, in the counts since the turn began
-abbrev Shows : Option End → Outside → Outside → Type 0
-Shows None old new = NoneRose old new
-Shows (Some end) old new = EndsByCause end old new
+use Rattle.repo_course.specs.Deeds.{Sequel, goes_on, by_its_text, ends_by, sequel}
+use Rattle.course_laws.specs.Deeds.{due_behind}
+use Rattle.course_laws.proofs.Deeds.{Shows, ShowsBy, calm_shows, deed-changes}
 
 abbrev Caused : Option Close → Outside → Outside → Type 0
 Caused (Some (rests end)) old now = Shows end old now
@@ -94,17 +75,6 @@ sink-shows old mid new faults n rose is = (
   subst (λ (k : ℕ). Rose k new.write_faults) n.1 (subst (λ (k : ℕ). Rose mid.write_faults k) (sym (ap (λ (o : Outside). o.write_faults) is)) rose),
 )
 
-source-shows : (old mid new : Outside) (faults : ℕ) {input : Option (List ℕ)} → NoneRose old mid → Rose mid.read_faults faults
-    → new ≡ record mid { input = input; read_faults = faults } → Shows (Some stream.SourceFault) old new
-source-shows old mid new faults n rose is = (
-  subst (λ (k : ℕ). Rose k new.read_faults) n.0 (subst (λ (k : ℕ). Rose mid.read_faults k) (sym (ap (λ (o : Outside). o.read_faults) is)) rose),
-  ap (λ (o : Outside). o.write_faults) is ∙ n.1,
-)
-
--- behind an answer or a file the stream goes on, or is closed
-calm_shows : (manner : Manner) (old new : Outside) → NoneRose old new → Shows (end_of manner) old new
-calm_shows manner old new n = elim manner.close as (λ b. Shows (if b then Some stream.Closed else None) old new) [ true ↦ n | false ↦ n ]
-
 reply_caused : (command : Command) (reply : Reply) (s : Stand) (old now : Outside) → MayAsk command s → Caused s.due old now
     → Caused (due_after s.rounds command reply s.due) old now
 reply_caused command reply s old now may c = pick s.due refl c
@@ -117,78 +87,19 @@ reply_caused command reply s old now may c = pick s.due refl c
         ]
     pick (Some due) is c = subst (λ d. Caused d old now) (sym (still-due command reply s due may is)) c
 
--- what a deed makes of it, where nothing was due before
-continues_caused : (by_text : List ℕ → Option Close) (result : Continued) (old mid new : Outside) → NoneRose old mid → Continues result mid new
-    → Caused (due_done by_text invite result None) old new
-continues_caused by_text continued.Written old mid new n t = none-then old mid new n (counts mid new t)
-continues_caused by_text continued.SinkFault old mid new n t = sink-shows old mid new t.0 n t.2 t.4
-
-fault_caused : (count : ℕ) (fault : Took) (old mid new : Outside) → NoneRose old mid → Reads count (Err fault) mid new → Caused (Some (of_fault fault)) old new
-fault_caused count took.Torn old mid new n t = none-then old mid new n (counts mid new t.1.1)
-fault_caused count took.SourceFault old mid new n t = source-shows old mid new t.0 n t.1 t.2.1
-fault_caused count (took.BlobFault unread) old mid new n t = absurd t
-fault_caused count took.NoMemory old mid new n (inl t) = none-then old mid new n (counts mid new t)
-fault_caused count took.NoMemory old mid new n (inr t) = none-then old mid new n (counts mid new t.1.3)
-
-fails_caused : (count : ℕ) (gone : List ℕ) (fault : Took) (old mid new : Outside) → NoneRose old mid → Fails count gone fault mid new → Caused (Some (of_fault fault)) old new
-fails_caused count gone took.Torn old mid new n t = none-then old mid new n (counts mid new t.1.2)
-fails_caused count gone took.SourceFault old mid new n t = source-shows old mid new t.0 n t.1 t.3.2
-fails_caused count gone (took.BlobFault unread) old mid new n t = none-then old mid new n (counts mid new t.4.2)
-fails_caused count gone took.NoMemory old mid new n t = none-then old mid new n (counts mid new t.1.2)
-
-takes_caused : (tells : Type 0) (by_text : List ℕ → Option Close) (draft count : ℕ) (stored : Stored) (old mid new : Outside) → NoneRose old mid
-    → Takes tells draft count stored mid new → Caused (due_done by_text (take_body draft count) stored None) old new
-takes_caused tells by_text draft count (Ok blob) old mid new n t = none-then old mid new n (counts mid new t.1.3)
-takes_caused tells by_text draft count (Err fault) old mid new n t = fails_caused count t.0 fault old (record mid { shelf = t.1 }) new n t.3
-
 unsent_caused : (due : Option Close) (old now : Outside) → IsUnsent due → NoneRose old now → Caused due old now
 unsent_caused None old now un n = n
 unsent_caused (Some (speaks said)) old now un n = n
 unsent_caused (Some (rests end)) old now un n = absurd un
 
-reads_caused : (by_text : List ℕ → Option Close) → ((bytes : List ℕ) → IsUnsent (by_text bytes)) → (count : ℕ) (body : Body) (old mid new : Outside)
-    → NoneRose old mid → Reads count body mid new → Caused (due_done by_text (read_body count) body None) old new
-reads_caused by_text texts count (Ok bytes) old mid new n t =
-    unsent_caused (by_text bytes) old new (texts bytes) (none-then old mid new n (counts mid new t.3))
-reads_caused by_text texts count (Err fault) old mid new n t = fault_caused count fault old mid new n t
-
-sends_caused : (only : Bool) (blob : Blob) (manner : Manner) (head : List ℕ) (result : Sent) (old mid new : Outside) → NoneRose old mid
-    → SendsAnswer only blob head result mid new → Caused (Some (of_sent manner result)) old new
-sends_caused only blob manner head sent.Whole old mid new n t =
-    calm_shows manner old new (none-then old mid new n (counts mid new (sent-whole only blob head mid new t).2))
-sends_caused only blob manner head sent.BlobFault old mid new n t = none-then old mid new n (counts mid new (not-sent only blob head mid new t).3)
-sends_caused only blob manner head (sent.BlobDiffers recorded found) old mid new n t =
-    none-then old mid new n (counts mid new (other-found only blob head recorded found mid new t).2)
-sends_caused only blob manner head sent.SinkFault old mid new n t = let w = sent-in-part only blob head mid new t in sink-shows old mid new w.0 n w.3 w.6
-sends_caused only blob manner head sent.CutFault old mid new n t = none-then old mid new n (counts mid new (cut-by-fault only blob head mid new t).7)
-sends_caused only blob manner head (sent.CutDiffers recorded found) old mid new n t =
-    none-then old mid new n (counts mid new (cut-by-other only blob head recorded found mid new t).6)
-sends_caused only blob manner head sent.NoMemory old mid new n t = none-then old mid new n (counts mid new (sent-nothing only blob head mid new t))
-
-pass_caused : (pass : Pass) (old new : Outside) → NoneRose old new → Caused (Some (of_pass pass)) old new
-pass_caused (Ok done) old new n = n
-pass_caused (Err clean_fault.StoreFault) old new n = n
-pass_caused (Err clean_fault.BlobFault) old new n = n
-pass_caused (Err clean_fault.NoMemory) old new n = n
-
-fetches_caused : (plan : Plan) (outcome : Fetch) (old mid new : Outside) → NoneRose old mid → Fetches plan outcome mid new
-    → Caused (due_fetched outcome plan.draft None) old new
-fetches_caused plan None old mid new n t = none-then old mid new n (counts mid new t.2)
-fetches_caused plan (Some outcome) old mid new n t = pick outcome plan.draft
-  where
-    calm : NoneRose old new
-    calm = none-then old mid new n (counts mid new t.2)
-
-    pick : (outcome : Came Content) (under : Option ℕ) → Caused (due_fetched (Some outcome) under None) old new
-    pick (came.Got (content.File checked)) None = calm
-    pick (came.Got (content.File checked)) (Some k) = calm
-    pick _ under = calm
-
-stores_caused : (tells : Type 0) (by_text : List ℕ → Option Close) (number : ℕ) (checked : Checked) (kept : Kept) (old mid new : Outside) → NoneRose old mid
-    → Stores tells number checked kept mid new → Caused (due_done by_text (store_fetched number checked) kept None) old new
-stores_caused tells by_text number checked (Ok blob) old mid new n t = none-then old mid new n (counts mid new t.0)
-stores_caused tells by_text number checked (Err unstored.Failed) old mid new n t = none-then old mid new n (counts mid new t.4)
-stores_caused tells by_text number checked (Err unstored.NoMemory) old mid new n t = none-then old mid new n (counts mid new t.2)
+-- what follows an outcome, where nothing was due before
+sequel_caused : (by_text : List ℕ → Option Close) → ((bytes : List ℕ) → IsUnsent (by_text bytes)) → (next : Sequel) (old mid new : Outside) → NoneRose old mid
+    → ShowsBy next mid new → Caused (due_behind by_text next None) old new
+sequel_caused by_text texts goes_on old mid new n t = none-then old mid new n t
+sequel_caused by_text texts (by_its_text bytes) old mid new n t = unsent_caused (by_text bytes) old new (texts bytes) (none-then old mid new n t)
+sequel_caused by_text texts (ends_by (speaks said)) old mid new n t = none-then old mid new n t
+sequel_caused by_text texts (ends_by (rests None)) old mid new n t = none-then old mid new n t
+sequel_caused by_text texts (ends_by (rests (Some end))) old mid new n t = from_same end old mid new n t
 
 says_shows : (answer memory_said : Answer) (manner : Manner) (end : Option End) (old mid new : Outside) → NoneRose old mid
     → Says answer memory_said (end_of manner) mid new end → Shows end old new
@@ -219,17 +130,6 @@ opens-unsent settings last old new c _ bytes = tt
 
 module _ (tells : Type 0) where
   module _ (by_text : List ℕ → Option Close) (manner : Manner) where
-    deed_caused : ((bytes : List ℕ) → IsUnsent (by_text bytes)) → (deed : Deed) (outcome : Outcome deed) (mine : List Entry) (old mid new : Outside) → NoneRose old mid
-        → Does tells deed outcome mine mid new → Caused (due_done by_text deed outcome None) old new
-    deed_caused texts invite result mine old mid new n t = continues_caused by_text result old mid new n t.1
-    deed_caused texts (take_body draft count) stored mine old mid new n t = takes_caused tells by_text draft count stored old mid new n t.1
-    deed_caused texts (read_body count) body mine old mid new n t = reads_caused by_text texts count body old mid new n t.1
-    deed_caused texts (send_file blob own) result mine old mid new n t =
-        sends_caused own.head_only blob own (shown (file_answer blob own)) result old mid new n t.1
-    deed_caused texts (clean_all repos) pass mine old mid new n t = pass_caused pass old new (none-then old mid new n (counts mid new t.2))
-    deed_caused texts (fetch plan) outcome mine old mid new n t = fetches_caused plan outcome old mid new n t.1
-    deed_caused texts (store_fetched number checked) kept mine old mid new n t = stores_caused tells by_text number checked kept old mid new n t.1
-
     follows_shows : ((bytes : List ℕ) → IsUnsent (by_text bytes)) → (c : Course) (n : ℕ) (s : Stand) → Keeps by_text manner c n s → (entries : List Entry)
         (old mid new : Outside) (end : Option End) → Caused s.due old mid → Follows tells c entries mid new end → Shows end old new
     follows_shows texts (asks command next) zero s k [] old mid new end c f = absurd f
@@ -241,7 +141,7 @@ module _ (tells : Type 0) where
         let none = nothing-due manner deed s k.0 in
         follows_shows texts (next f.0) (left_by deed n) (stand_done by_text deed f.0 s) (k.2 f.0) f.2 old f.3 new end
         (subst (λ d. Caused (due_done by_text deed f.0 d) old f.3) (sym none)
-        (deed_caused texts deed f.0 f.1 old mid f.3 (subst (λ d. Caused d old mid) none c) f.5)) f.6
+        (sequel_caused by_text texts (sequel deed f.0) old mid f.3 (subst (λ d. Caused d old mid) none c) (deed-changes tells deed f.0 f.1 mid f.3 f.5).sides)) f.6
     follows_shows texts (says said own) n s k entries old mid new end c f =
         says_shows (answer_of said own) (memory_answer own.head_only) own end old mid new (subst (λ d. Caused d old mid) k.1 c) f.1
     follows_shows texts (stops next) n s k entries old mid new end c f =

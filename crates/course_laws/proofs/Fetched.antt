@@ -5,29 +5,23 @@ use Rattle.std.proofs.lemmas.List.Concat.{flat_map-append}
 use Rattle.std.proofs.lemmas.Option.{none-some}
 use Rattle.fetch_plan.specs.declared.Plan.{Plan}
 use Rattle.http_wire.specs.declared.answers.Answer.{Answer}
-use Rattle.http_wire.specs.Answer.{shown}
 use Rattle.outside_remote.specs.Exchanges.{Sees}
 use Rattle.remote_fetch.specs.Fetching.{IsFetched}
 use Rattle.repo_model.specs.Command.{Command, look}
 use Rattle.repo_model.specs.History.{Entry}
 use Rattle.repo_model.specs.Reply.{Reply}
-use Rattle.repo_course.specs.Answers.{answer_of, file_answer, memory_answer}
-use Rattle.repo_course.specs.Course.{Course, Deed, Fetch, Outcome, asks, does, says, stops, invite, take_body, read_body, send_file, clean_all, fetch, store_fetched, end_of}
+use Rattle.repo_course.specs.Answers.{answer_of, memory_answer}
+use Rattle.repo_course.specs.Course.{Course, Deed, Fetch, Outcome, asks, does, says, stops, fetch, end_of}
 use Rattle.repo_course.specs.declared.outcomes.End.{End}
 use Rattle.repo_course.specs.declared.outcomes.End.TheVariants as stream
 use Rattle.repo_course.specs.Serving.{Does, Fetches, Follows, Outside, Says, whole, memory, cut}
 use Rattle.course_laws.specs.AsPlayed.{AreFetched, IsFetch, planned_by, plans_of}
 use Rattle.course_laws.proofs.Passes.{ArePass, IsPassCommand, deed-asks}
-use Rattle.course_laws.proofs.Planned.{AsPlanned, Ends, FetchesNone}
-use Rattle.course_laws.proofs.Remotes.{Still, continues-still, reads-still, says-still, sends-still, stores-still, takes-still}
-
-abbrev pub Fetched : Type 0
-Fetched = List Fetch
-
--- a fetch uses what it came to
-abbrev pub Uses : (deed : Deed) → Outcome deed → Fetched → Fetched → Type 0
-Uses (fetch plan) came coming spare = coming ≡ came ∷ spare
-Uses deed outcome coming spare = coming ≡ spare
+use Rattle.course_laws.proofs.Planned.{AsPlanned, Ends}
+use Rattle.course_laws.proofs.Remotes.{says-still}
+use Rattle.course_laws.proofs.Fetching.{Still}
+pub use Rattle.course_laws.proofs.Deeds.{Fetched, Uses}
+use Rattle.course_laws.proofs.Deeds.{FetchesNone, deed-changes}
 
 -- a course is followed to its end, and uses what its fetches come to
 abbrev pub FollowsBy : Type 0 → Course → List Entry → Fetched → Fetched → Outside → Outside → Option End → Type 0
@@ -80,15 +74,6 @@ pass-plans (e ∷ entries) pass = ap (λ (plans : List Plan). plans ++ plans_of 
 none-used : (deed : Deed) (outcome : Outcome deed) (spare : Fetched) → FetchesNone deed → Uses deed outcome spare spare
 none-used (fetch plan) outcome spare none = absurd none
 none-used deed outcome spare none = refl
-
-deed-still : (tells : Type 0) (deed : Deed) (outcome : Outcome deed) (mine : List Entry) (old mid : Outside) → FetchesNone deed → Does tells deed outcome mine old mid → Still old mid
-deed-still tells (fetch plan) came mine old mid none did = absurd none
-deed-still tells invite outcome mine old mid none did = continues-still outcome old mid did.1
-deed-still tells (take_body number count) outcome mine old mid none did = takes-still tells number count outcome old mid did.1
-deed-still tells (read_body count) outcome mine old mid none did = reads-still count outcome old mid did.1
-deed-still tells (send_file blob manner) outcome mine old mid none did = sends-still manner.head_only blob (shown (file_answer blob manner)) outcome old mid did.1
-deed-still tells (clean_all repos) outcome mine old mid none did = ap (λ (o : Outside). o.remote) did.2
-deed-still tells (store_fetched number checked) outcome mine old mid none did = stores-still tells number checked outcome old mid did.1
 
 -- an answer that closes ends the stream
 closed : (answer memory_said : Answer) (close : Bool) (old new : Outside) (end : Option End) → close ≡ true
@@ -154,12 +139,7 @@ module _ (tells : Type 0) (last : Sees) where
   made (fetch other) came plan is mine old mid did plans spare are =
       let same : other ≡ plan = cc in
       (came ∷ spare, refl, (mid.remote, subst (λ (p : Plan). IsFetch p came old.remote mid.remote) same (is-fetch other came old mid did.1), are))
-  made invite outcome plan is mine old mid did plans spare are = absurd (cc)
-  made (take_body number count) outcome plan is mine old mid did plans spare are = absurd (cc)
-  made (read_body count) outcome plan is mine old mid did plans spare are = absurd (cc)
-  made (send_file blob manner) outcome plan is mine old mid did plans spare are = absurd (cc)
-  made (clean_all repos) outcome plan is mine old mid did plans spare are = absurd (cc)
-  made (store_fetched number checked) outcome plan is mine old mid did plans spare are = absurd (cc)
+  made _ outcome plan is mine old mid did plans spare are = absurd (cc)
 
   -- the plans of what a deed asked, which are none, and of what follows
   plans-behind : (deed : Deed) (outcome : Outcome deed) (entries mine rest : List Entry) (later : List Plan) (old mid : Outside) → entries ≡ mine ++ rest → Does tells deed outcome mine old mid
@@ -185,7 +165,7 @@ module _ (tells : Type 0) (last : Sees) where
         rest.0,
         (f.0, f.1, f.2, f.3, f.4, f.5, rest.0, none-used deed f.0 rest.0 so.0, rest.1),
         subst (λ (ps : List Plan). AreFetched ps rest.0 old.remote last) plans
-            (fetched-before (plans_of f.2 ++ later) rest.0 old.remote f.3.remote last (deed-still tells deed f.0 f.1 old f.3 so.0 f.5) rest.2),
+            (fetched-before (plans_of f.2 ++ later) rest.0 old.remote f.3.remote last ((deed-changes tells deed f.0 f.1 old f.3 f.5).still so.0) rest.2),
       )
   followed-by (does deed next) entries old new end f (plan ∷ more) so later spare ends are =
       let rest = followed-by (next f.0) f.2 f.3 new end f.6 more (so.1 f.0) later spare ends are in

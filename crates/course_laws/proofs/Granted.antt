@@ -1,16 +1,8 @@
 -- A course that nothing refuses is followed to its answer, whole, unless memory was wanted, if no fault came.
-use Rattle.std.proofs.Common.{◌≡◌, ◌≢◌, ◌⊎◌, inl, inr, ℕ, zero, suc, Bool, false, List, [], ◌∷◌, ◌++◌, take, drop, Option, Some, None, Result, Ok, Err, arith, refl, sym, subst, ap, ◌∙◌, append-nil}
+use Rattle.std.proofs.Common.{◌≡◌, ◌≢◌, ◌⊎◌, inl, inr, ℕ, zero, suc, Bool, false, List, [], ◌∷◌, ◌++◌, Option, Some, None, Result, Ok, Err, arith, refl, sym, subst, ap, ◌∙◌, append-nil}
 use Rattle.std.specs.Prelude.{if◌then◌else◌}
 use Rattle.std.proofs.lemmas.Bool.{false≢true}
 use Rattle.std.proofs.lemmas.Option.{none-some}
-use Rattle.std.proofs.Math.Seq.{drop-append_seam, take-append_seam}
-use Rattle.fetch_plan.specs.declared.Outcome.TheVariants as came
-use Rattle.fetch_plan.specs.declared.Plan.{Plan}
-use Rattle.outside.specs.Blobs.{Shelf}
-use Rattle.outside.specs.declared.faults.BlobFault.TheVariants as unstored
-use Rattle.outside_remote.specs.Exchanges.{Sees}
-use Rattle.remote_fetch.specs.declared.contents.Content.TheVariants as content
-use Rattle.remote_fetch.specs.declared.fetching.Checked.{Checked}
 use Rattle.http_wire.specs.Answer.{continue_bytes, shown}
 use Rattle.http_wire.specs.Front.{Front, Clean, Cut, Bad, Whole, front}
 use Rattle.http_wire.specs.Head.{Head}
@@ -26,7 +18,7 @@ use Rattle.repo_routes.specs.Intent.{Intent, Judged, cleans as cleans_all}
 use Rattle.repo_routes.specs.Judge.{judge}
 use Rattle.repo_routes.specs.declared.judging.Refused.{Refused}
 use Rattle.repo_course.specs.Answers.{answer_of, file_answer, full_answer, memory_answer}
-use Rattle.repo_course.specs.Course.{Body, Close, Course, Deed, Fetch, Kept, Outcome, Pass, Stored, asks, does, says, stops, speaks, rests, invite, take_body, read_body, send_file, clean_all, fetch, store_fetched, closes, course_for, course_of, end_of, manner_for, of_pass}
+use Rattle.repo_course.specs.Course.{Close, Course, Deed, Outcome, Pass, asks, does, says, stops, speaks, rests, invite, send_file, clean_all, closes, course_for, course_of, end_of, manner_for, of_pass}
 use Rattle.repo_course.specs.Cleaning.{Passes, Store}
 use Rattle.repo_course.specs.declared.manner.Manner.{Manner}
 use Rattle.repo_course.specs.declared.outcomes.CleanFault.TheVariants as clean_fault
@@ -36,25 +28,26 @@ use Rattle.repo_course.specs.declared.outcomes.End.{End}
 use Rattle.repo_course.specs.declared.outcomes.End.TheVariants as stream
 use Rattle.repo_course.specs.declared.outcomes.Sent.{Sent}
 use Rattle.repo_course.specs.declared.outcomes.Sent.TheVariants as sent
-use Rattle.repo_course.specs.declared.outcomes.Took.TheVariants as took
 use Rattle.repo_course.specs.declared.said.Said.{Said}
 use Rattle.repo_course.specs.declared.said.Said.TheVariants as said
-use Rattle.repo_course.specs.Serving.{Begins, Continues, Follows, IsOtherContent, IsWhole, Opens, clean, torn, failed, refused, unread_head, starved as head_starved, served, Outside, Fetches, Reads, ReadsBody, Says, SendsAnswer, Stores, Takes, RequestTurn, store_of, with_body, with_store, writes}
+use Rattle.repo_course.specs.Serving.{Begins, Continues, Follows, IsOtherContent, IsWhole, Opens, clean, torn, failed, refused, unread_head, starved as head_starved, served, Outside, Says, SendsAnswer, RequestTurn, store_of, with_store, writes}
 use Rattle.course_laws.specs.AsPlayed.{NoFaults, StoodStill}
 use Rattle.course_laws.specs.Faultless.{done_by}
-use Rattle.course_laws.specs.Duties.{IsReady, Keeps, Rounds, Stand, at_first, body_length, due_after, due_fetched, duty_of, for_text, lent_after, most_for, rounds_after, stand_after, stand_done}
-use Rattle.course_laws.specs.Granted.{AllGranted, BodyIsTaken, ComesWhole, Grants, IsAnsweredFor, IsServed, IsSuccess, answered, sent as file_sent, differs, file_cut, starved, Succeeds, answer_by, behind_body, due_by, file_by, invitation}
-use Rattle.course_laws.proofs.Counts.{Calm, follows-grew, opens-grew}
+use Rattle.course_laws.specs.Duties.{IsReady, Keeps, Stand, at_first, body_length, due_after, duty_of, for_text, lent_after, most_for, rounds_after, stand_after, stand_done, left_by}
+use Rattle.course_laws.specs.Granted.{AllGranted, BodyIsTaken, ComesWhole, Grants, IsAnsweredFor, IsServed, IsSuccess, answered, sent as file_sent, differs, file_cut, starved, Succeeds, answer_by, behind_body, due_by, file_by, invitation, Goes, GoesBy, cut_by}
+use Rattle.course_laws.proofs.Counts.{follows-grew, opens-grew}
 use Rattle.course_laws.proofs.Early.{EndsAs, ends-due}
 use Rattle.course_laws.proofs.HeadOnly.{judged-head}
 use Rattle.course_laws.proofs.Kept.{judged-keeps}
 use Rattle.course_laws.proofs.Passes.{ArePass, IsPassCommand, passes-ask}
 use Rattle.course_laws.proofs.PassesPlayed.{as_pass, pass-kept, pass-tells, passes-hold, passes-rose}
-use Rattle.course_laws.proofs.PlayedActs.{front-of, unwritten}
 use Rattle.course_laws.proofs.Succeeding.{request-succeeds}
 use Rattle.course_laws.proofs.Sendings.{cut-by-fault, cut-by-other, not-sent, other-found, sent-in-part, sent-nothing, sent-whole}
-use Rattle.course_laws.proofs.Takings.{fails-torn}
-use Rattle.course_laws.proofs.ServedActs.{IsPlain, Quiet, body-is-there, deed-quiet, granted-goes, granted-or-starved, no-blob-fault, no-read-fault, no-write-fault, plain-success, quiet-first, quiet-then, read-served, reply-plain, starved-so, whole-said, wrote-served}
+use Rattle.course_laws.proofs.ServedActs.{IsPlain, deed-quiet, granted-goes, granted-or-starved, plain-success, read-served, reply-plain, starved-so, whole-said, wrote-served}
+use Rattle.course_laws.specs.Deeds.{due_behind, due_done, to_clean_done}
+use Rattle.repo_course.specs.Deeds.{Sequel, sequel}
+use Rattle.course_laws.proofs.Deeds.{GoesOver, IsSilent, deed-over, goes_over, lacks_room, silent-asks, undue-goes}
+use Rattle.course_laws.proofs.Rising.{Calm, Quiet, no-blob-fault, no-read-fault, no-write-fault, quiet-first, quiet-then}
 
 -- a deed that asks nothing leaves the entries to what follows it
 unasked : (tells : Type 0) (c : Course) (entries mine later : List Entry) (old new : Outside) (end : Option End) → entries ≡ mine ++ later → mine ≡ []
@@ -65,13 +58,6 @@ unasked tells c entries mine later old new end parts none f =
 -- nothing but an answer is due, and no pass is to be made
 abbrev IsOpen : Stand → Type 0
 IsOpen s = IsPlain s.due × (s.to_clean ≡ None)
-
--- a fetch makes nothing due, or want of memory
-fetched-due : (outcome : Fetch) (under : Option ℕ) → (due_fetched outcome under None ≡ None) ⊎ ((due : Option Close) → due_fetched outcome under due ≡ Some (speaks said.NoMemory))
-fetched-due None under = inr (λ due. refl)
-fetched-due (Some (came.Got (content.File checked))) None = inr (λ due. refl)
-fetched-due (Some (came.Got (content.File checked))) (Some n) = inl refl
-fetched-due (Some outcome) under = inl refl
 
 module _ (tells : Type 0) (manner : Manner) (by_text : List ℕ → Option Close) where
   abbrev Served : Stand → List ℕ → List Entry → Outside → Outside → Option End → Type 0
@@ -134,61 +120,6 @@ module _ (tells : Type 0) (manner : Manner) (by_text : List ℕ → Option Close
   continues-so next ih continued.SinkFault n s is_cut k su stands entries all old mid new end input input-is taken q more cause f =
       no-write-fault old mid cause.0 cause.2 (ap (λ o. o.write_faults) cause.4) q
 
-  -- behind a body that was read
-  body-so : (s : Stand) (count : ℕ) → s.unread ≡ Some count → (answer : Option Close) (lent : Option Blob) (old mid new : Outside) (end : Option End)
-      (input body : List ℕ) (shelf : Shelf) → old.input ≡ Some input → ReadsBody count body (record old { shelf = shelf }) mid
-      → ((left : List ℕ) → mid.input ≡ Some left → IsServed manner (invitation s.waits) left answer lent mid new end)
-      → IsServed manner (invitation s.waits) (behind_body s.unread input) answer lent old new end
-  body-so s count unread answer lent old mid new end input body shelf input-is t later =
-      let got = front-of input body t.0 (sym input-is ∙ t.2) in
-      let here = read-served manner (invitation s.waits) got.0 answer lent old mid new t.0 end shelf old.remote t.3 (later got.0 (ap (λ o. o.input) t.3 ∙ got.1)) in
-      let rest-is : drop count input ≡ got.0 = (λ i. drop (sym t.1 i) (got.2 i)) ∙ drop-append_seam body got.0 in
-      let left-is : behind_body s.unread input ≡ got.0 = ap (λ (u : Option ℕ). behind_body u input) unread ∙ rest-is in
-      subst (λ left. IsServed manner (invitation s.waits) left answer lent old new end) (sym left-is) here
-
-  takes-so : (number count : ℕ) (next : Stored → Course) → ((stored : Stored) → Serves-so (next stored)) → (stored : Stored) (n : ℕ) (s : Stand) (is_cut : Bool)
-      → Keeps by_text manner (does (take_body number count) next) n s → Succeeds by_text manner is_cut (does (take_body number count) next) s → IsOpen s → (entries : List Entry)
-      → AllGranted entries → (old mid new : Outside) (end : Option End) (input : List ℕ) → old.input ≡ Some input
-      → BodyIsTaken by_text s.unread input → Quiet old mid → Quiet mid new → Takes tells number count stored old mid → Follows tells (next stored) entries mid new end
-      → Served s input entries old new end
-  takes-so number count next ih (Ok blob) n s is_cut k su stands entries all old mid new end input input-is taken q more t f =
-      body-so s count su.0.2 (answer_by s.rounds entries s.due) (file_by entries s.lent) old mid new end input t.0 (with_body number t.0 old.shelf) input-is t.1
-      (λ left left-is.
-      ih (Ok blob) n (stand_done by_text (take_body number count) (Ok blob) s) is_cut (k.2 (Ok blob)) (su.1 (Ok blob) tt) stands entries all mid new end
-      left left-is tt more f)
-  takes-so number count next ih (Err took.Torn) n s is_cut k su stands entries all old mid new end input input-is taken q more t f =
-      body-is-there by_text s.unread count input old su.0.2 input-is taken (fails-torn count t.0 (record old { shelf = t.1 }) mid t.3).0
-  takes-so number count next ih (Err took.SourceFault) n s is_cut k su stands entries all old mid new end input input-is taken q more t f =
-      no-read-fault old mid t.3.0 t.3.1 (ap (λ o. o.read_faults) t.3.3.2) q
-  takes-so number count next ih (Err (took.BlobFault unread)) n s is_cut k su stands entries all old mid new end input input-is taken q more t f =
-      no-blob-fault old mid t.3.0 t.3.1 (ap (λ o. o.blob_faults) t.3.4.2) q
-  takes-so number count next ih (Err took.NoMemory) n s is_cut k su stands entries all old mid new end input input-is taken q more t f =
-      memory-so (next (Err took.NoMemory)) n s (stand_done by_text (take_body number count) (Err took.NoMemory) s) (k.2 (Err took.NoMemory)) refl entries old mid new end input
-      (ap (λ o. o.output) t.3.1.2) more f _ _
-
-  reads-so : (count : ℕ) (next : Body → Course) → ((body : Body) → Serves-so (next body)) → (body : Body) (n : ℕ) (s : Stand) (is_cut : Bool)
-      → Keeps by_text manner (does (read_body count) next) n s → Succeeds by_text manner is_cut (does (read_body count) next) s → IsOpen s → (entries : List Entry)
-      → AllGranted entries → (old mid new : Outside) (end : Option End) (input : List ℕ) → old.input ≡ Some input
-      → BodyIsTaken by_text s.unread input → Quiet old mid → Quiet mid new → Reads count body old mid → Follows tells (next body) entries mid new end
-      → Served s input entries old new end
-  reads-so count next ih (Ok bytes) n s is_cut k su stands entries all old mid new end input input-is taken q more t f =
-      let got = front-of input bytes t.0 (sym input-is ∙ t.2) in
-      let bytes-are : take count input ≡ bytes = (λ i. take (sym t.1 i) (got.2 i)) ∙ take-append_seam bytes got.0 in
-      let says : by_text bytes ≡ None = subst (λ b. by_text b ≡ None) bytes-are (subst (λ u. BodyIsTaken by_text u input) su.0.2 taken).1 in
-      let behind = stand_done by_text (read_body count) (Ok bytes) s in
-      body-so s count su.0.2 (answer_by s.rounds entries s.due) (file_by entries s.lent) old mid new end input bytes old.shelf input-is t
-      (λ left left-is.
-      subst (λ (due : Option Close). IsServed manner (invitation s.waits) left (answer_by s.rounds entries due) (file_by entries s.lent) mid new end) (says ∙ sym su.0.0)
-      (ih (Ok bytes) n behind is_cut (k.2 (Ok bytes)) (su.1 (Ok bytes) says) (subst IsPlain (sym says) tt, stands.1) entries all mid new end left left-is tt more f))
-  reads-so count next ih (Err took.Torn) n s is_cut k su stands entries all old mid new end input input-is taken q more t f =
-      body-is-there by_text s.unread count input old su.0.2 input-is taken t.0
-  reads-so count next ih (Err took.SourceFault) n s is_cut k su stands entries all old mid new end input input-is taken q more t f =
-      no-read-fault old mid t.0 t.1 (ap (λ o. o.read_faults) t.2.1) q
-  reads-so count next ih (Err (took.BlobFault unread)) n s is_cut k su stands entries all old mid new end input input-is taken q more t f = absurd t
-  reads-so count next ih (Err took.NoMemory) n s is_cut k su stands entries all old mid new end input input-is taken q more t f =
-      memory-so (next (Err took.NoMemory)) n s (stand_done by_text (read_body count) (Err took.NoMemory) s) (k.2 (Err took.NoMemory)) refl entries old mid new end input
-      (unwritten count old mid t) more f _ _
-
   -- the file in this manner
   sends-so : (blob : Blob) (next : Sent → Course) (result : Sent) (n : ℕ) (s : Stand) → s.lent ≡ Some blob → IsReady s
       → ((result : Sent) → Keeps by_text manner (next result) n (stand_done by_text (send_file blob manner) result s))
@@ -230,82 +161,51 @@ module _ (tells : Type 0) (manner : Manner) (by_text : List ℕ → Option Close
       memory-so (next sent.NoMemory) n s (stand_done by_text (send_file blob manner) sent.NoMemory s) (k sent.NoMemory) refl entries old mid new end input
       (ap (λ o. o.output) (sent-nothing manner.head_only blob (shown (file_answer blob manner)) old mid t)) more f _ _
 
-  -- behind a deed that wrote nothing and used no input, of which nothing is due
-  still-so : (next : Course) → Serves-so next → (n : ℕ) (s behind : Stand) (is_cut : Bool) → Keeps by_text manner next n behind → Succeeds by_text manner is_cut next behind → IsOpen behind
-      → behind.unread ≡ s.unread → behind.waits ≡ s.waits → behind.due ≡ s.due → behind.lent ≡ s.lent → behind.rounds ≡ s.rounds → (entries : List Entry) → AllGranted entries → (old mid new : Outside) (end : Option End) (input : List ℕ)
-      → old.input ≡ Some input → BodyIsTaken by_text s.unread input → (shelf : Shelf) (remote : Sees) → mid ≡ record old { shelf = shelf; remote = remote } → Quiet mid new → Follows tells next entries mid new end
-      → Served s input entries old new end
-  still-so next ih n s behind is_cut k su stands unread waits due lent rounds entries all old mid new end input input-is taken shelf remote is q f =
+  -- behind a deed that wrote nothing
+  over-so : (deed : Deed) (next : Outcome deed → Course) (outcome : Outcome deed) → Serves-so (next outcome) → ((outcome : Outcome deed) → GoesBy by_text (sequel deed outcome) → Goes by_text deed outcome)
+      → ((asked : Option (List (List ℕ))) → asked ≡ None → to_clean_done deed asked ≡ None) → (n : ℕ) (s : Stand) (is_cut : Bool)
+      → Keeps by_text manner (does deed next) n s → Succeeds by_text manner is_cut (does deed next) s → IsOpen s → (entries : List Entry) → AllGranted entries
+      → (old mid new : Outside) (end : Option End) (input : List ℕ) → Quiet mid new → Follows tells (next outcome) entries mid new end
+      → GoesOver by_text deed outcome s input old mid → Served s input entries old new end
+  over-so deed next outcome ih grant cleans n s is_cut k su stands entries all old mid new end input q f (lacks_room is output) =
+      memory-so (next outcome) (left_by deed n) s (stand_done by_text deed outcome s) (k.2 outcome) (ap (λ (x : Sequel). due_behind by_text x s.due) is) entries old mid new end input output q f _ _
+  over-so deed next outcome ih grant cleans n s is_cut k su stands entries all old mid new end input q f (goes_over left shelf remote is behind taken due waits) =
+      let s1 = stand_done by_text deed outcome s in
+      let undue : s1.due ≡ None = ap (due_done by_text deed outcome) k.0.0 ∙ due in
+      let later : Served s1 left entries mid new end =
+      ih (left_by deed n) s1 (cut_by deed outcome is_cut) (k.2 outcome) (su.1 outcome (grant outcome (undue-goes by_text (sequel deed outcome) due)))
+      (subst IsPlain (sym undue) tt, cleans s.to_clean stands.1) entries all mid new end left (ap (λ (o : Outside). o.input) is) taken q f in
       let there : IsServed manner (invitation s.waits) (behind_body s.unread input) (answer_by s.rounds entries s.due) (file_by entries s.lent) mid new end =
-      subst (λ (b : Bool). IsServed manner (invitation b) (behind_body s.unread input) (answer_by s.rounds entries s.due) (file_by entries s.lent) mid new end) waits
-      (subst (λ (u : Option ℕ). IsServed manner (invitation behind.waits) (behind_body u input) (answer_by s.rounds entries s.due) (file_by entries s.lent) mid new end) unread
-      (subst (λ (r : Rounds). IsServed manner (invitation behind.waits) (behind_body behind.unread input) (answer_by r entries s.due) (file_by entries s.lent) mid new end) rounds
-      (subst (λ (d : Option Close). IsServed manner (invitation behind.waits) (behind_body behind.unread input) (answer_by behind.rounds entries d) (file_by entries s.lent) mid new end) due
-      (subst (λ (l : Option Blob). IsServed manner (invitation behind.waits) (behind_body behind.unread input) (answer_by behind.rounds entries behind.due) (file_by entries l) mid new end) lent
-      (ih n behind is_cut k su stands entries all mid new end input (ap (λ o. o.input) is ∙ input-is) (subst (λ u. BodyIsTaken by_text u input) (sym unread) taken) q f))))) in
-      read-served manner (invitation s.waits) (behind_body s.unread input) (answer_by s.rounds entries s.due) (file_by entries s.lent) old mid new old.input end shelf remote is there
+      subst (λ (w : Bool). IsServed manner (invitation w) (behind_body s.unread input) (answer_by s.rounds entries s.due) (file_by entries s.lent) mid new end) waits
+      (subst (λ (l : List ℕ). IsServed manner (invitation s1.waits) l (answer_by s.rounds entries s.due) (file_by entries s.lent) mid new end) (sym behind)
+      (subst (λ (d : Option Close). IsServed manner (invitation s1.waits) (behind_body s1.unread left) (answer_by s.rounds entries d) (file_by entries s.lent) mid new end) (undue ∙ sym k.0.0) later)) in
+      read-served manner (invitation s.waits) (behind_body s.unread input) (answer_by s.rounds entries s.due) (file_by entries s.lent) old mid new (Some left) end shelf remote is there
 
-  fetches-so : (plan : Plan) (next : Fetch → Course) → ((outcome : Fetch) → Serves-so (next outcome)) → (outcome : Fetch) (n : ℕ) (s : Stand) (is_cut : Bool)
-      → Keeps by_text manner (does (fetch plan) next) n s → Succeeds by_text manner is_cut (does (fetch plan) next) s → IsOpen s → (entries : List Entry) → AllGranted entries
-      → (old mid new : Outside) (end : Option End) (input : List ℕ) → old.input ≡ Some input → BodyIsTaken by_text s.unread input → Quiet old mid → Quiet mid new
-      → Fetches plan outcome old mid → Follows tells (next outcome) entries mid new end → Served s input entries old new end
-  fetches-so plan next ih None n s is_cut k su stands entries all old mid new end input input-is taken q more t f =
-      memory-so (next None) n s (stand_done by_text (fetch plan) None s) (k.2 None) refl entries old mid new end input (ap (λ o. o.output) t.2) more f _ _
-  fetches-so plan next ih (Some outcome) n s is_cut k su stands entries all old mid new end input input-is taken q more t f =
-      elim (fetched-due (Some outcome) plan.draft) [
-        | inl none ↦
-            let goes : due_fetched (Some outcome) plan.draft s.due ≡ s.due = subst (λ d. due_fetched (Some outcome) plan.draft d ≡ d) (sym su.0.0.0) none in
-            let behind = stand_done by_text (fetch plan) (Some outcome) s in
-            still-so (next (Some outcome)) (ih (Some outcome)) n s behind is_cut (k.2 (Some outcome)) (su.1 (Some outcome) none)
-            (subst IsPlain (sym goes) stands.0, stands.1) refl refl goes refl refl entries all old mid new end input input-is taken old.shelf t.0 t.2 more f
-        | inr wants ↦
-            memory-so (next (Some outcome)) n s (stand_done by_text (fetch plan) (Some outcome) s) (k.2 (Some outcome)) (wants s.due) entries old mid new end input
-            (ap (λ o. o.output) t.2) more f _ _
-      ]
-
-  stores-so : (number : ℕ) (checked : Checked) (next : Kept → Course) → ((kept : Kept) → Serves-so (next kept)) → (kept : Kept) (n : ℕ) (s : Stand) (is_cut : Bool)
-      → Keeps by_text manner (does (store_fetched number checked) next) n s → Succeeds by_text manner is_cut (does (store_fetched number checked) next) s → IsOpen s → (entries : List Entry) → AllGranted entries
-      → (old mid new : Outside) (end : Option End) (input : List ℕ) → old.input ≡ Some input → BodyIsTaken by_text s.unread input → Quiet old mid → Quiet mid new
-      → Stores tells number checked kept old mid → Follows tells (next kept) entries mid new end → Served s input entries old new end
-  stores-so number checked next ih (Ok blob) n s is_cut k su stands entries all old mid new end input input-is taken q more t f =
-      still-so (next (Ok blob)) (ih (Ok blob)) n s (stand_done by_text (store_fetched number checked) (Ok blob) s) is_cut (k.2 (Ok blob)) (su.1 (Ok blob) tt) stands refl refl refl refl refl
-      entries all old mid new end input input-is taken (with_body number checked.bytes old.shelf) old.remote t.0 more f
-  stores-so number checked next ih (Err unstored.Failed) n s is_cut k su stands entries all old mid new end input input-is taken q more t f =
-      no-blob-fault old mid t.0 t.2 (ap (λ o. o.blob_faults) t.4) q
-  stores-so number checked next ih (Err unstored.NoMemory) n s is_cut k su stands entries all old mid new end input input-is taken q more t f =
-      memory-so (next (Err unstored.NoMemory)) n s (stand_done by_text (store_fetched number checked) (Err unstored.NoMemory) s) (k.2 (Err unstored.NoMemory)) refl entries old mid new end input
-      (ap (λ o. o.output) t.2) more f _ _
+  silent-so : (deed : Deed) → IsSilent deed → ((outcome : Outcome deed) → GoesBy by_text (sequel deed outcome) → Goes by_text deed outcome)
+      → ((asked : Option (List (List ℕ))) → asked ≡ None → to_clean_done deed asked ≡ None) → (next : Outcome deed → Course) → ((outcome : Outcome deed) → Serves-so (next outcome))
+      → Serves-so (does deed next)
+  silent-so deed silent grant cleans next ih n s is_cut k su stands entries all old new end input input-is taken q f =
+      let quiet = deed-quiet tells deed next entries old new end q f in
+      over-so deed next f.0 (ih f.0) grant cleans n s is_cut k su stands entries all old f.3 new end input quiet.1
+      (unasked tells (next f.0) entries f.1 f.2 f.3 new end f.4 (silent-asks tells deed f.0 f.1 old f.3 silent f.5) f.6)
+      (deed-over by_text manner s input old f.3 input-is taken quiet.0 tells deed f.0 f.1 silent k.0 f.5)
 
   deed-so : (deed : Deed) (next : Outcome deed → Course) → ((outcome : Outcome deed) → Serves-so (next outcome)) → Serves-so (does deed next)
   deed-so invite next ih n s is_cut k su stands entries all old new end input input-is taken q f =
       let quiet = deed-quiet tells invite next entries old new end q f in
       continues-so next (ih continued.Written) f.0 n s is_cut k su stands entries all old f.3 new end input input-is taken quiet.0 quiet.1 f.5.1
       (unasked tells (next f.0) entries f.1 f.2 f.3 new end f.4 f.5.0 f.6)
-  deed-so (take_body number count) next ih n s is_cut k su stands entries all old new end input input-is taken q f =
-      let quiet = deed-quiet tells (take_body number count) next entries old new end q f in
-      takes-so number count next ih f.0 n s is_cut k su stands entries all old f.3 new end input input-is taken quiet.0 quiet.1 f.5.1
-      (unasked tells (next f.0) entries f.1 f.2 f.3 new end f.4 f.5.0 f.6)
-  deed-so (read_body count) next ih n s is_cut k su stands entries all old new end input input-is taken q f =
-      let quiet = deed-quiet tells (read_body count) next entries old new end q f in
-      reads-so count next ih f.0 n s is_cut k su stands entries all old f.3 new end input input-is taken quiet.0 quiet.1 f.5.1
-      (unasked tells (next f.0) entries f.1 f.2 f.3 new end f.4 f.5.0 f.6)
   deed-so (send_file blob own) next ih n s is_cut k su stands entries all old new end input input-is taken q f =
       let quiet = deed-quiet tells (send_file blob own) next entries old new end q f in
-      sends-so blob next f.0 n s su.0.1 su.0.0.1
-      (subst (λ (m : Manner). (result : Sent) → Keeps by_text manner (next result) n (stand_done by_text (send_file blob m) result s)) su.0.3 k.2)
+      sends-so blob next f.0 n s su.0.1.1 su.0.1.0
+      (subst (λ (m : Manner). (result : Sent) → Keeps by_text manner (next result) n (stand_done by_text (send_file blob m) result s)) su.0.1.3 k.2)
       entries old f.3 new end input input-is quiet.0 quiet.1
-      (subst (λ (m : Manner). SendsAnswer m.head_only blob (shown (file_answer blob m)) f.0 old f.3) su.0.3 f.5.1)
-      (unasked tells (next f.0) entries f.1 f.2 f.3 new end f.4 f.5.0 f.6)
-  deed-so (fetch plan) next ih n s is_cut k su stands entries all old new end input input-is taken q f =
-      let quiet = deed-quiet tells (fetch plan) next entries old new end q f in
-      fetches-so plan next ih f.0 n s is_cut k su stands entries all old f.3 new end input input-is taken quiet.0 quiet.1 f.5.1
-      (unasked tells (next f.0) entries f.1 f.2 f.3 new end f.4 f.5.0 f.6)
-  deed-so (store_fetched number checked) next ih n s is_cut k su stands entries all old new end input input-is taken q f =
-      let quiet = deed-quiet tells (store_fetched number checked) next entries old new end q f in
-      stores-so number checked next ih f.0 n s is_cut k su stands entries all old f.3 new end input input-is taken quiet.0 quiet.1 f.5.1
+      (subst (λ (m : Manner). SendsAnswer m.head_only blob (shown (file_answer blob m)) f.0 old f.3) su.0.1.3 f.5.1)
       (unasked tells (next f.0) entries f.1 f.2 f.3 new end f.4 f.5.0 f.6)
   deed-so (clean_all repos) next ih n s is_cut k su stands entries all old new end input input-is taken q f =
-      absurd (none-some repos (sym stands.1 ∙ su.0.2))
+      absurd (none-some repos (sym stands.1 ∙ su.0.1.1))
+  deed-so deed next ih n s is_cut k su stands entries all old new end input input-is taken q f =
+      silent-so deed tt (λ outcome goes. goes) (λ asked none. none) next ih n s is_cut k su stands entries all old new end input input-is taken q f
 
   follows-so : (c : Course) → Serves-so c
   follows-so (asks command next) zero s is_cut k su stands [] all old new end input input-is taken q f = absurd f

@@ -36,7 +36,9 @@ use Rattle.repo_course.specs.declared.outcomes.Took.TheVariants as took
 use Rattle.repo_course.specs.declared.said.Said.TheVariants as said
 use Rattle.repo_course.specs.declared.said.Said.TheVariants.{NoMemory}
 use Rattle.repo_course.specs.Serving.{Opens, clean, torn, failed, refused, unread_head, starved, served, Outside}
-use Rattle.course_laws.specs.Duties.{AnswersDue, Duty, Fulfils, Keeps, Stand, left_by, at_first, by_digest, by_document, due_fetched, due_undrawn, duty_of, duty_without_head, for_text, idle, landing_by, looks_most, most_for, twice, spends_draft, stand_after, stand_done, to_end}
+use Rattle.course_laws.specs.Duties.{AnswersDue, Duty, Fulfils, Keeps, Stand, left_by, at_first, by_digest, by_document, duty_of, duty_without_head, for_text, idle, landing_by, looks_most, most_for, twice, spends_draft, stand_after, stand_done, to_end}
+use Rattle.repo_course.specs.Deeds.{drawn_for, behind_fetch}
+use Rattle.course_laws.specs.Deeds.{due_behind}
 
 -- nothing is held, but for a blob
 abbrev empty : Option ℕ → Bool → Option Blob → Option Blob → Option Close → Stand
@@ -102,9 +104,9 @@ module _ (by_text : List ℕ → Option Close) (manner : Manner) where
     stores-keep : (checked : Checked) (under : Option ℕ) → plan.draft ≡ under
         → ((stored : Option Blob) → Owes again (looks_most rounds) (looking repo path rounds (tried ++ plan.member ∷ []) (with_fault so_far None) stored))
         → Owes (stores manner plan again checked under) (suc (looks_most rounds))
-        (record (planned repo path rounds tried so_far plan (Some (came.Got (content.File checked))) None) { due = due_undrawn under None })
+        (record (planned repo path rounds tried so_far plan (Some (came.Got (content.File checked))) None) { due = due_behind by_text (drawn_for under) None })
     stores-keep checked None is rest = ((is, refl), refl, refl)
-    stores-keep checked (Some n) is rest = (((refl, (refl, refl, refl)), is, refl), omega arith, tell)
+    stores-keep checked (Some n) is rest = ((refl, ((refl, refl, refl), is, refl)), omega arith, tell)
       where
         tell : (kept : Kept) → Owes (after_store manner plan again kept) (suc (looks_most rounds))
             (stand_done by_text (store_fetched n checked) kept (planned repo path rounds tried so_far plan (Some (came.Got (content.File checked))) None))
@@ -116,7 +118,7 @@ module _ (by_text : List ℕ → Option Close) (manner : Manner) where
   module _ (repo path : List ℕ) (rounds : ℕ) (tried : List ℕ) (so_far : Verdict) (plan : Plan) (again : Option FetchFault → Course)
       (rest : (why : Option FetchFault) (stored : Option Blob) → Keeps by_text manner (again why) (looks_most rounds) (looking repo path rounds (tried ++ plan.member ∷ []) (with_fault so_far why) stored)) where
     came-keeps : (outcome : Came Content) → Owes (fetched manner plan (again (fetch_fault outcome)) outcome) (suc (looks_most rounds))
-        (record (planned repo path rounds tried so_far plan (Some outcome) None) { due = due_fetched (Some outcome) plan.draft None })
+        (record (planned repo path rounds tried so_far plan (Some outcome) None) { due = due_behind by_text (behind_fetch (Some outcome) plan.draft) None })
     came-keeps (came.Got (content.File checked)) = stores-keep repo path rounds tried so_far plan (again None) checked plan.draft refl (rest None)
     came-keeps (came.Got (content.Doc document)) =
         land-keeps repo path rounds tried so_far plan (again None) (Some (came.Got (content.Doc document))) None (came.Got (got_doc document)) refl (rest None None)
@@ -130,7 +132,7 @@ module _ (by_text : List ℕ → Option Close) (manner : Manner) where
     came-keeps came.Fault = land-keeps repo path rounds tried so_far plan (again _) (Some came.Fault) None came.Fault refl (rest _ None)
 
     round-keeps : (stored : Option Blob) → Owes (does (fetch plan) (after_fetch manner plan again)) (suc (looks_most rounds)) (planned repo path rounds tried so_far plan None stored)
-    round-keeps stored = (((refl, (refl, refl, refl)), refl, refl, refl), omega arith, tell)
+    round-keeps stored = ((refl, ((refl, refl, refl), refl, refl, refl)), omega arith, tell)
       where
         tell : (outcome : Fetch) → Owes (after_fetch manner plan again outcome) (suc (looks_most rounds)) (stand_done by_text (fetch plan) outcome (planned repo path rounds tried so_far plan None stored))
         tell None = any-up-keeps plan.draft NoMemory (looks_most rounds) _ refl refl refl refl
@@ -141,7 +143,7 @@ module _ (by_text : List ℕ → Option Close) (manner : Manner) where
       → ((plan : Plan) → Owes (behind plan) (suc n) (stand_after (look repo path tried) (fetches plan) (looking repo path rounds tried so_far stored)))
       → (reply : Reply) → Owes (after_look manner so_far behind reply) (suc n) (stand_after (look repo path tried) reply (looking repo path rounds tried so_far stored))
   replies-keep repo path tried so_far behind rounds n stored plans (file lease blob) =
-      (((refl, (refl, refl, refl)), refl, refl, refl), omega arith, λ result. (refl, λ reply. ends-keep (of_sent manner result) n _ refl refl refl refl))
+      ((refl, ((refl, refl, refl), refl, refl, refl)), omega arith, λ result. (refl, λ reply. ends-keep (of_sent manner result) n _ refl refl refl refl))
   replies-keep repo path tried so_far behind rounds n stored plans missed =
       said-keeps (said_missed so_far) (suc n) (stand_after (look repo path tried) missed (looking repo path rounds tried so_far stored)) refl refl refl refl
   replies-keep repo path tried so_far behind rounds n stored plans (fetches plan) = plans plan
@@ -200,7 +202,7 @@ module _ (by_text : List ℕ → Option Close) (manner : Manner) where
   may_put-keeps place path count waits (draft n) =
       invites-keep waits (gives_up n cut_off) (does (take_body n count) (after_take place path n count manner)) 2 (drawn n (Some count) false None None) refl
       (refl, λ reply. ((refl, refl), refl, λ goes. cc))
-      ((refl, refl, refl, refl), omega arith, take-keeps place path n count)
+      ((refl, (refl, refl, refl)), omega arith, take-keeps place path n count)
   may_put-keeps place path count waits reply = answers-keep (said_of reply) 2 (Some count) waits None None
 
   small-keeps : (waits : Bool) (count : ℕ) (next : Body → Course)
@@ -208,7 +210,7 @@ module _ (by_text : List ℕ → Option Close) (manner : Manner) where
       → Owes (invites waits cut_off (does (read_body count) next)) 3 (empty (Some count) waits None None None)
   small-keeps waits count next keeps =
       invites-keep waits cut_off (does (read_body count) next) 3 (empty (Some count) false None None None) refl ((refl, refl), refl, λ goes. cc)
-      ((refl, refl, refl), omega arith, keeps)
+      ((refl, (refl, refl)), omega arith, keeps)
 
   compares-keep : (place : Place) (path : List ℕ) (found : Option (List ℕ)) → Owes (compares place path manner found) 3 (empty None false None None (by_digest found))
   compares-keep place path (Some digest) = ((refl, (refl, refl, refl)), λ reply. tells-keep reply 2 None)
@@ -237,7 +239,7 @@ module _ (manner : Manner) where
       tell (Ok bytes) = notes-keep (for_text (puts_document place path count)) manner place path (reading bytes)
       tell (Err fault) = closes-keep (for_text (puts_document place path count)) manner (of_fault fault) 3 None None
   for-keeps expects (cleans_all repos) =
-      ((refl, refl, refl, refl, (refl, refl)), omega arith, λ pass. closes-keep (for_text (cleans_all repos)) manner (of_pass pass) 0 None None)
+      ((refl, (refl, refl, refl, (refl, refl))), omega arith, λ pass. closes-keep (for_text (cleans_all repos)) manner (of_pass pass) 0 None None)
   for-keeps expects (asks_one question) = ((refl, (refl, refl, refl)), λ reply. tells-keep (for_text (asks_one question)) manner reply 2 None)
   for-keeps expects (opens repo) = ((refl, (refl, refl, refl)), λ reply. tells-keep (for_text (opens repo)) manner reply 2 None)
   for-keeps expects (commits n) = ((refl, (refl, refl, refl)), λ reply. tells-keep (for_text (commits n)) manner reply 2 None)

@@ -16,7 +16,7 @@ use Rattle.repo_model.specs.Settings.{Settings}
 use Rattle.repo_routes.specs.Intent.{Judged}
 use Rattle.repo_routes.specs.Judge.{judge}
 use Rattle.repo_routes.specs.declared.judging.Refused.{Refused}
-use Rattle.repo_course.specs.Course.{Close, Course, Deed, Fetch, Outcome, asks, does, says, stops, invite, take_body, read_body, send_file, clean_all, fetch, store_fetched}
+use Rattle.repo_course.specs.Course.{Close, Course, Deed, Fetch, Outcome, asks, does, says, stops, fetch, store_fetched}
 use Rattle.repo_course.specs.declared.manner.Manner.{Manner}
 use Rattle.repo_course.specs.declared.outcomes.End.{End}
 use Rattle.repo_course.specs.Serving.{Does, Fetches, Follows, Opens, clean, torn, failed, refused, unread_head, starved, served, Outside, ServesStream, RequestTurn}
@@ -68,7 +68,7 @@ module _ (first : Sees) where
     deed-hand : (deed : Deed) (outcome : Outcome deed) (mine : List Entry) (s : Stand) (old new : Outside) → MayDo manner deed s → Does tells deed outcome mine old new
         → GoesOn first old.remote → Hand old.remote s → Hand new.remote (stand_done by_text deed outcome s)
     deed-hand (fetch plan) outcome mine s old new may did since hand = λ p o is came_is.
-        let same : plan ≡ p = let both : Some plan ≡ Some p = sym may.1 ∙ is in cc in
+        let same : plan ≡ p = let both : Some plan ≡ Some p = sym may.1.1 ∙ is in cc in
         let made : Fetches plan (Some o) old new = subst (λ (c : Fetch). Fetches plan c old new) came_is did.1 in
         subst (λ (x : Plan). WasFetched x o None first new.remote) same
         (record {
@@ -81,7 +81,7 @@ module _ (first : Sees) where
         })
     deed-hand (store_fetched n checked) (Ok blob) mine s old new may did since hand = λ p o is came_is.
         let w = fetched-later p o s.kept old.remote new.remote (deed-goes tells (store_fetched n checked) (Ok blob) mine old new did) (hand p o is came_is) in
-        let same : came.Got (content.File checked) ≡ o = let both : Some (came.Got (content.File checked)) ≡ Some o = sym may.2 ∙ came_is in cc in
+        let same : came.Got (content.File checked) ≡ o = let both : Some (came.Got (content.File checked)) ≡ Some o = sym may.1.2 ∙ came_is in cc in
         record {
           before = w.before;
           behind_it = w.behind_it;
@@ -90,18 +90,8 @@ module _ (first : Sees) where
           later = w.later;
           file = subst (λ (x : Came Content). IsFileOf x (Some blob)) same (did.1.2, did.1.3);
         }
-    deed-hand (store_fetched n checked) (Err why) mine s old new may did since hand = λ p o is came_is.
-        fetched-later p o s.kept old.remote new.remote (deed-goes tells (store_fetched n checked) (Err why) mine old new did) (hand p o is came_is)
-    deed-hand invite outcome mine s old new may did since hand = λ p o is came_is.
-        fetched-later p o s.kept old.remote new.remote (deed-goes tells invite outcome mine old new did) (hand p o is came_is)
-    deed-hand (take_body n count) outcome mine s old new may did since hand = λ p o is came_is.
-        fetched-later p o s.kept old.remote new.remote (deed-goes tells (take_body n count) outcome mine old new did) (hand p o is came_is)
-    deed-hand (read_body count) outcome mine s old new may did since hand = λ p o is came_is.
-        fetched-later p o s.kept old.remote new.remote (deed-goes tells (read_body count) outcome mine old new did) (hand p o is came_is)
-    deed-hand (send_file blob own) outcome mine s old new may did since hand = λ p o is came_is.
-        fetched-later p o s.kept old.remote new.remote (deed-goes tells (send_file blob own) outcome mine old new did) (hand p o is came_is)
-    deed-hand (clean_all repos) outcome mine s old new may did since hand = λ p o is came_is.
-        fetched-later p o s.kept old.remote new.remote (deed-goes tells (clean_all repos) outcome mine old new did) (hand p o is came_is)
+    deed-hand deed outcome mine s old new may did since hand = λ p o is came_is.
+        fetched-later p o s.kept old.remote new.remote (deed-goes tells deed outcome mine old new did) (hand p o is came_is)
 
     follows-lands : (c : Course) (n : ℕ) (s : Stand) → Keeps by_text manner c n s → (entries : List Entry) (old new : Outside) (end : Option End) → GoesOn first old.remote
         → Hand old.remote s → Follows tells c entries old new end → AllLandWhatCame first new.remote entries

@@ -10,6 +10,10 @@ pub mod Rounds
 pub mod Complete
 pub mod Sendings
 pub mod Takings
+pub mod Rising
+pub mod Fetching
+pub mod BodyBytes
+pub mod Deeds
 pub mod Counts
 pub mod Told
 pub mod Remotes

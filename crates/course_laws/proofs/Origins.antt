@@ -24,7 +24,7 @@ use Rattle.repo_laws.proofs.Proxied.{all-proxied}
 use Rattle.repo_course.specs.Serving.{print_of}
 use Rattle.course_laws.specs.Duties.{landing_of}
 use Rattle.course_laws.specs.Landed.{AllLandWhatCame, FileWasFetched, HasOrigin, LandsWhatCame, WasFetched}
-use Rattle.course_laws.proofs.Counts.{rose-before}
+use Rattle.course_laws.proofs.Rising.{rose-before}
 
 rose-behind : (before after later : ℕ) → Rose before after → after ≤ later → Rose before later
 rose-behind before after later rose le = (omega arith, omega arith)

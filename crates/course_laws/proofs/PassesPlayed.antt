@@ -18,9 +18,9 @@ use Rattle.repo_course.specs.declared.outcomes.Cleaned.{Cleaned}
 use Rattle.repo_course.specs.declared.outcomes.CleanFault.TheVariants as clean
 use Rattle.course_laws.specs.Faultless.{done_by, due_entries, due_entry, garbage_by, pass_entries, unlisted_by}
 use Rattle.course_laws.proofs.Alls.{all-joined, all-mapped}
-use Rattle.course_laws.proofs.Counts.{Calm, not-risen}
 use Rattle.course_laws.proofs.Told.{clock-stays, due-is, faults-are, faults-grow, moment-is}
 use Rattle.course_laws.proofs.Passes.{ArePass, IsPassCommand, all-last, all-over, all-under}
+use Rattle.course_laws.proofs.Rising.{Calm, not-risen}
 
 -- their replies
 

@@ -18,7 +18,7 @@ use Rattle.repo_model.specs.Settings.{Settings}
 use Rattle.repo_routes.specs.Intent.{Intent, Judged, reads as reads_path, puts_file, puts_side, puts_document, asks as asks_one, cleans as cleans_all, opens, commits, aborts}
 use Rattle.repo_routes.specs.Judge.{judge}
 use Rattle.repo_routes.specs.declared.judging.Refused.{Refused}
-use Rattle.repo_course.specs.Course.{Body, Close, Course, Deed, Fetch, Kept, Outcome, Stored, speaks, rests, answers, asks, says, stops, closes, does, take_body, read_body, fetch, after_continue, after_fetch, after_land, after_store, fetch_fault, fetched, gives_any_up, is_group, lands, looks, rounds_of, said_missed, stores, with_fault, without_memory, after_document, after_look, after_may_put, after_put, after_side, after_take, behind_fault, compares, course_for, course_of, cut_off, gives_up, invites, leaves_draft, manner_for, notes, of_fault, of_pass, of_sent, of_store, said_of, tells, with_unread}
+use Rattle.repo_course.specs.Course.{Body, Close, Course, Fetch, Kept, Outcome, Stored, speaks, rests, answers, asks, says, stops, closes, does, take_body, read_body, fetch, after_continue, after_fetch, after_land, after_store, fetch_fault, fetched, gives_any_up, is_group, lands, looks, rounds_of, said_missed, stores, with_fault, without_memory, after_document, after_look, after_may_put, after_put, after_side, after_take, behind_fault, compares, course_for, course_of, cut_off, gives_up, invites, leaves_draft, manner_for, notes, of_fault, of_pass, of_sent, of_store, said_of, tells, with_unread}
 use Rattle.repo_course.specs.declared.fetched.FetchFault.{FetchFault}
 use Rattle.repo_course.specs.declared.fetched.Verdict.{Verdict}
 use Rattle.repo_course.specs.declared.fetched.Verdict.TheVariants as verdict
@@ -29,6 +29,7 @@ use Rattle.repo_course.specs.declared.said.Said.{Said}
 use Rattle.repo_course.specs.declared.said.Said.TheVariants.{NoMemory}
 use Rattle.repo_course.specs.Serving.{Opens, clean, torn, failed, refused, unread_head, starved, served, Outside}
 use Rattle.course_laws.specs.AsPlayed.{planned_by}
+use Rattle.course_laws.proofs.Deeds.{FetchesNone}
 
 -- a course that looks for nothing more, fetches nothing and ends the stream by an answer
 abbrev pub Ends : Course → Type 0
@@ -36,10 +37,6 @@ Ends (asks command next) = (reply : Reply) → (planned_by command reply ≡ [])
 Ends (does deed next) = ⊥
 Ends (says said manner) = manner.close ≡ true
 Ends (stops end) = ⊥
-
-abbrev pub FetchesNone : Deed → Type 0
-FetchesNone (fetch plan) = ⊥
-FetchesNone deed = Unit {0}
 
 -- a course before which these plans are to be fetched
 abbrev pub AsPlanned : List Plan → Course → Type 0

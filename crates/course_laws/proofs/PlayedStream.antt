@@ -25,18 +25,19 @@ use Rattle.repo_course.specs.Serving.{Begins, IsFrontOf, IsWhole, Opens, clean, 
 use Rattle.course_laws.specs.AsPlayed.{AreFetched, plans_of, AsksHead, BeginsAt, IsAnswers, IsAsPlayed, in_full, wants_memory, IsPlayedUpTo, unbroken, broken, cut_starved, NoFaults, StoodStill}
 use Rattle.course_laws.specs.Duties.{Duty, Fulfils, Stand, duty_of, to_end}
 use Rattle.course_laws.specs.Faultless.{Played, Scene, play, play_turn, play_stream, then_play}
-use Rattle.course_laws.proofs.Counts.{Calm, Grew, calm-first, calm-then, follows-grew, not-risen, opens-grew, rose-before, serves-grew, turn-grew}
+use Rattle.course_laws.proofs.Counts.{follows-grew, opens-grew, serves-grew, turn-grew}
 use Rattle.course_laws.proofs.Early.{ComesTo, Ready, early-before, no-more, outcome-before, outcome-so, says-memory, source-failed}
 use Rattle.course_laws.proofs.HeadOnly.{judged-head}
 use Rattle.course_laws.proofs.Kept.{duty_at, opens-keeps}
 use Rattle.course_laws.proofs.LeftBehind.{end_append, legal_cut}
 use Rattle.course_laws.proofs.Fetched.{Fetched, FollowsBy, IsLast, fetched-before, followed-by, plain, plans-joined}
-use Rattle.course_laws.proofs.PlayedActs.{InHandTold}
 use Rattle.course_laws.proofs.Planned.{opens-plan}
 use Rattle.course_laws.proofs.Remotes.{opens-still}
 use Rattle.course_laws.proofs.PlayedCourse.{course-play}
 use Rattle.course_laws.proofs.Told.{faults-grow}
 use Rattle.course_laws.proofs.Unsent.{MayStarve}
+use Rattle.course_laws.proofs.Deeds.{InHandTold}
+use Rattle.course_laws.proofs.Rising.{Calm, Grew, calm-first, calm-then, not-risen, rose-before}
 
 -- an answer to this is its head alone only to HEAD
 abbrev MayBeAlone : Front → Bool → Type 0

@@ -2,7 +2,6 @@
 use Rattle.std.proofs.Common.{◌≡◌, ◌⊎◌, inl, inr, ℕ, zero, suc, ◌<◌, Bool, true, List, [], ◌++◌, length, Option, Some, arith, refl, sym, subst, ap, ◌∙◌}
 use Rattle.std.specs.Prelude.{IfSome, if◌then◌else◌}
 use Rattle.outside.specs.Blobs.{Shelf}
-use Rattle.outside.specs.Faults.{Rose}
 use Rattle.outside.specs.Told.{behind}
 use Rattle.outside_remote.specs.Exchanges.{Sees}
 use Rattle.outside.proofs.ToldLemmas.{behind-behind}
@@ -23,29 +22,9 @@ use Rattle.repo_course.specs.declared.said.Said.TheVariants as said
 use Rattle.repo_course.specs.Serving.{Follows, Outside, Says, whole, memory, cut, writes}
 use Rattle.course_laws.specs.Duties.{MayAsk, Rounds, Stand, due_after, due_planned}
 use Rattle.course_laws.specs.Granted.{BodyIsTaken, Grants, HasRound, IsGood, IsMore, IsServed, IsSuccess, answered, sent as file_sent, differs, file_cut, starved}
-use Rattle.course_laws.proofs.Counts.{Calm, Grew, calm-first, calm-then, deed-grew, follows-grew}
+use Rattle.course_laws.proofs.Counts.{deed-grew, follows-grew}
 use Rattle.course_laws.proofs.Early.{IsTold, SaysMemory, due-moves}
-use Rattle.course_laws.proofs.PlayedActs.{risen}
-
--- no count rose
-pub record Quiet (old new : Outside) : Type 0 where
-  pub reads : Calm old.read_faults new.read_faults
-  pub writes : Calm old.write_faults new.write_faults
-  pub blobs : Calm old.blob_faults new.blob_faults
-
-pub quiet-first : (old mid new : Outside) → Grew mid new → Quiet old new → Quiet old mid
-quiet-first old mid new g q = record {
-  reads = calm-first old.read_faults mid.read_faults new.read_faults g.reads q.reads;
-  writes = calm-first old.write_faults mid.write_faults new.write_faults g.writes q.writes;
-  blobs = calm-first old.blob_faults mid.blob_faults new.blob_faults g.blobs q.blobs;
-}
-
-pub quiet-then : (old mid new : Outside) → Grew old mid → Grew mid new → Quiet old new → Quiet mid new
-quiet-then old mid new first more q = record {
-  reads = calm-then old.read_faults mid.read_faults new.read_faults first.reads more.reads q.reads;
-  writes = calm-then old.write_faults mid.write_faults new.write_faults first.writes more.writes q.writes;
-  blobs = calm-then old.blob_faults mid.blob_faults new.blob_faults first.blobs more.blobs q.blobs;
-}
+use Rattle.course_laws.proofs.Rising.{Quiet, no-write-fault, quiet-first, quiet-then}
 
 -- no count rose by a deed, nor behind it
 pub deed-quiet : (tells : Type 0) (deed : Deed) (next : Outcome deed → Course) (entries : List Entry) (old new : Outside) (end : Option End) → Quiet old new
@@ -54,16 +33,6 @@ deed-quiet tells deed next entries old new end q f =
     let first = deed-grew tells deed f.0 f.1 old f.3 f.5 in
     let rest = follows-grew tells (next f.0) f.2 f.3 new end f.6 in
     (quiet-first old f.3 new rest q, quiet-then old f.3 new first rest q)
-
--- a count that rose, where none did
-pub no-write-fault : {P : Type 0} (old new : Outside) (faults : ℕ) → Rose old.write_faults faults → new.write_faults ≡ faults → Quiet old new → P
-no-write-fault old new faults rose is q = risen old.write_faults faults new.write_faults rose (omega arith) q.writes
-
-pub no-blob-fault : {P : Type 0} (old new : Outside) (faults : ℕ) → Rose old.blob_faults faults → new.blob_faults ≡ faults → Quiet old new → P
-no-blob-fault old new faults rose is q = risen old.blob_faults faults new.blob_faults rose (omega arith) q.blobs
-
-pub no-read-fault : {P : Type 0} (old new : Outside) (faults : ℕ) → Rose old.read_faults faults → new.read_faults ≡ faults → Quiet old new → P
-no-read-fault old new faults rose is q = risen old.read_faults faults new.read_faults rose (omega arith) q.reads
 
 -- an answer is written whole, or that of want of memory is
 pub whole-said : (answer memory_said : Answer) (next : Option End) (old new : Outside) (end : Option End) → Quiet old new

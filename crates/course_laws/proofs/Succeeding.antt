@@ -1,18 +1,18 @@
 -- A course that does what it owes succeeds where nothing refuses it and no deed fails.
-use Rattle.std.proofs.Common.{◌≡◌, ℕ, zero, suc, Bool, false, List, Option, Some, None, Ok, refl, sym, subst, ap, ◌∙◌}
+use Rattle.std.proofs.Common.{◌≡◌, ℕ, zero, suc, Bool, false, List, Option, Some, None, Ok, refl, sym, subst, ap, ◌∙◌, Err}
 use Rattle.std.proofs.lemmas.Bool.{false≢true}
 use Rattle.repo_model.specs.Command.{Command, look, done, may_put, put, put_side, put_doc, drop_draft, open_session, stage, commit, abort, unlist, collect, ask, land}
 use Rattle.repo_model.specs.Reply.{Reply, file, text, doc, draft, same, relisted, created, agreed, noted, opened, staged, ended, finds, fetches, landed}
 use Rattle.repo_routes.specs.Intent.{Judged}
-use Rattle.repo_course.specs.Course.{Close, Course, Deed, Outcome, asks, does, says, stops, speaks, invite, take_body, read_body, send_file, clean_all, fetch, store_fetched, course_of, end_of, manner_for}
+use Rattle.repo_course.specs.Course.{Close, Course, Deed, Outcome, asks, does, says, stops, speaks, send_file, clean_all, course_of, end_of, manner_for}
 use Rattle.repo_course.specs.declared.manner.Manner.{Manner}
-use Rattle.repo_course.specs.declared.outcomes.Continued.TheVariants as continued
 use Rattle.repo_course.specs.declared.outcomes.Sent.TheVariants as sent
 use Rattle.repo_course.specs.declared.said.Said.{Said}
 use Rattle.repo_course.specs.declared.said.Said.TheVariants.{NoMemory}
-use Rattle.course_laws.specs.Duties.{Keeps, MayAsk, MayDo, Stand, at_first, due_after, due_done, due_fetched, due_planned, for_text, left_by, manner_of, stand_after, stand_done, to_clean_done, unread_done, waits_done}
+use Rattle.course_laws.specs.Duties.{Keeps, MayAsk, MayDo, Stand, at_first, due_after, due_done, due_planned, for_text, left_by, manner_of, stand_after, stand_done, to_clean_done, unread_done, waits_done}
 use Rattle.course_laws.specs.Granted.{Goes, Grants, HasRound, IsGood, IsMore, Succeeds, cut_by}
 use Rattle.course_laws.proofs.Kept.{judged-keeps}
+use Rattle.course_laws.proofs.Deeds.{goes-undue, no-pass}
 
 module _ (by_text : List ℕ → Option Close) (manner : Manner) where
   -- what is due is good, and nothing else is to be done
@@ -56,17 +56,15 @@ module _ (by_text : List ℕ → Option Close) (manner : Manner) where
 
   deed-fine : (is_cut : Bool) (deed : Deed) (outcome : Outcome deed) (s : Stand) → MayDo manner deed s → Goes by_text deed outcome → Fine is_cut s.due s.unread s.to_clean s.waits
       → Fine (cut_by deed outcome is_cut) (due_done by_text deed outcome s.due) (unread_done deed outcome s.unread) (to_clean_done deed s.to_clean) (waits_done deed s.waits)
-  deed-fine is_cut invite continued.Written s may goes fine = going is_cut s.due s.unread s.to_clean false may.0
-  deed-fine is_cut (take_body n count) (Ok blob) s may goes fine = going is_cut s.due None s.to_clean s.waits may.0
-  deed-fine is_cut (read_body count) (Ok bytes) s may goes fine = going is_cut (by_text bytes) None s.to_clean s.waits goes
-  deed-fine is_cut (send_file blob own) sent.Whole s may goes fine = (ap end_of may.3, may.0.1)
-  deed-fine is_cut (send_file blob own) (sent.BlobDiffers recorded found) s may goes fine = (tt, may.0.1)
-  deed-fine is_cut (send_file blob own) (sent.CutDiffers recorded found) s may goes fine = (refl, may.0.1)
-  deed-fine is_cut (clean_all repos) (Ok did) s may goes fine = (tt, (may.1, refl, may.3))
-  deed-fine is_cut (fetch plan) outcome s may goes fine =
-      going is_cut (due_fetched outcome plan.draft s.due) s.unread s.to_clean s.waits (subst (λ d. due_fetched outcome plan.draft d ≡ None) (sym may.0.0) goes)
-  deed-fine is_cut (store_fetched n checked) (Ok blob) s may goes fine = going is_cut s.due s.unread s.to_clean s.waits may.0.0
-  deed-fine is_cut _ _ s may goes fine = absurd goes
+  deed-fine is_cut (send_file blob own) sent.Whole s may goes fine = (ap end_of may.1.3, may.1.0)
+  deed-fine is_cut (send_file blob own) (sent.BlobDiffers recorded found) s may goes fine = (tt, may.1.0)
+  deed-fine is_cut (send_file blob own) (sent.CutDiffers recorded found) s may goes fine = (refl, may.1.0)
+  deed-fine is_cut (send_file blob own) _ s may goes fine = absurd goes
+  deed-fine is_cut (clean_all repos) (Ok did) s may goes fine = (tt, (may.1.0, refl, may.1.2))
+  deed-fine is_cut (clean_all repos) (Err fault) s may goes fine = absurd (no-pass by_text fault goes)
+  deed-fine is_cut deed outcome s may goes fine =
+      going (cut_by deed outcome is_cut) (due_done by_text deed outcome s.due) (unread_done deed outcome s.unread) (to_clean_done deed s.to_clean) (waits_done deed s.waits)
+      (ap (due_done by_text deed outcome) may.0 ∙ goes-undue by_text deed outcome tt goes)
 
   pub own-is : (is_cut : Bool) (said : Said) → IsGood manner is_cut (speaks said) → manner_of said None manner ≡ manner
   own-is is_cut NoMemory good = absurd good

@@ -1,6 +1,6 @@
 -- What a course owes, step by step: the draft and the lease that it holds, the body and the pass that it has not done, the one
 -- answer that it gives and how the stream ends behind it, and the commands that it may still ask.
-use Rattle.std.specs.Prelude.{◌≡◌, ℕ, zero, suc, ◌+◌, ◌≤◌, max, min, length, Bool, true, false, if◌then◌else◌, List, [], ◌∷◌, ◌++◌, Option, Some, None, IsSome, Result, Ok, Err, unwrap_or}
+use Rattle.std.specs.Prelude.{◌≡◌, ℕ, zero, suc, ◌+◌, ◌≤◌, max, min, length, Bool, true, false, if◌then◌else◌, List, [], ◌∷◌, ◌++◌, Option, Some, None, Result, Ok, Err, unwrap_or}
 use Rattle.std.specs.Option.{option_map}
 use Rattle.fetch_plan.specs.declared.Outcome.{Outcome as Came}
 use Rattle.fetch_plan.specs.declared.Outcome.TheVariants as came
@@ -18,70 +18,14 @@ use Rattle.repo_model.specs.Reply.{Reply, file, missed, draft, taken, same, reli
 use Rattle.repo_model.specs.Settings.{GroupRule, Settings}
 use Rattle.repo_routes.specs.Intent.{Intent, Judged, reads as reads_path, puts_file, puts_side, puts_document, asks as asks_one, cleans as cleans_all, opens, commits, aborts}
 use Rattle.repo_routes.specs.declared.judging.Refused.{Refused}
-use Rattle.repo_course.specs.declared.fetched.Verdict.{Verdict}
 use Rattle.repo_course.specs.declared.fetched.Verdict.TheVariants as verdict
 use Rattle.repo_course.specs.Answers.{at_end}
-use Rattle.repo_course.specs.Course.{Close, Course, Deed, Fetch, Outcome, asks, does, says, stops, speaks, rests, invite, take_body, read_body, send_file, clean_all, fetch, store_fetched, fetch_fault, head_said, is_group, manner_for, manner_refused, of_fault, of_pass, of_sent, of_store, rounds_of, said_missed, said_of, with_fault, with_unread}
+use Rattle.repo_course.specs.Course.{Close, Course, Fetch, Outcome, asks, does, says, stops, speaks, rests, fetch_fault, head_said, is_group, manner_for, manner_refused, rounds_of, said_missed, said_of, with_fault, with_unread}
 use Rattle.repo_course.specs.declared.manner.Manner.{Manner}
-use Rattle.repo_course.specs.declared.outcomes.Continued.TheVariants as continued
-use Rattle.repo_course.specs.declared.outcomes.End.TheVariants as stream
-use Rattle.repo_course.specs.declared.outcomes.Took.TheVariants as took
 use Rattle.repo_course.specs.declared.said.Said.{Said}
 use Rattle.repo_course.specs.declared.said.Said.TheVariants as said
-
--- how often something may still be fetched for a look, which members were tried for it, and what their fetches came to
-pub record Rounds : Type 0 where
-  pub left : ℕ
-  pub tried : List ℕ
-  pub so_far : Verdict
-
--- nothing is looked for
-abbrev pub no_rounds : Rounds
-no_rounds = record { left = 0; tried = []; so_far = verdict.Unasked false }
-
--- where a course stands
-pub record Stand : Type 0 where
-  -- the draft that it must put or give up
-  pub draft : Option ℕ
-  -- the lease that it must give back
-  pub lease : Option ℕ
-  -- the body that was stored, and the file that was lent
-  pub stored : Option Blob
-  pub lent : Option Blob
-  -- the length of the body that is to be read
-  pub unread : Option ℕ
-  -- the client waits for `100 Continue` before it
-  pub waits : Bool
-  -- the repositories that are to be passed over
-  pub to_clean : Option (List (List ℕ))
-  -- what is looked at: the repository and the path
-  pub target : Option (List ℕ × List ℕ)
-  -- what is to be fetched, and then landed; what came of it, once it was fetched; and a file of it, once it is stored
-  pub plan : Option Plan
-  pub came : Fetch
-  pub kept : Option Blob
-  -- what the look that is made has behind it, and may have before it
-  pub rounds : Rounds
-  -- how it must end, once that is known
-  pub due : Option Close
-
--- nothing is held, and nothing is to be done
-abbrev pub idle : Stand
-idle = record {
-  draft = None;
-  lease = None;
-  stored = None;
-  lent = None;
-  unread = None;
-  waits = false;
-  to_clean = None;
-  target = None;
-  plan = None;
-  came = None;
-  kept = None;
-  rounds = no_rounds;
-  due = None;
-}
+pub use Rattle.course_laws.specs.Stands.{Rounds, no_rounds, Stand, idle, IsReady, IsFree, HoldsNothing}
+pub use Rattle.course_laws.specs.Deeds.{IsInPlace, MayDo, asked_by, left_by, stored_done, unread_done, waits_done, to_clean_done, came_done, kept_done, due_behind, due_done, stand_done}
 
 -- the length of the body that comes with what is asked for
 abbrev pub body_length : Intent → Option ℕ
@@ -212,14 +156,6 @@ stand_after command reply s = record s {
   due = due_after s.rounds command reply s.due;
 }
 
--- the body is read and the pass made, where there is one, and nobody waits
-abbrev pub IsReady : Stand → Type 0
-IsReady s = (s.unread ≡ None) × (s.to_clean ≡ None) × (s.waits ≡ false)
-
--- and no end is due yet
-abbrev pub IsFree : Stand → Type 0
-IsFree s = (s.due ≡ None) × IsReady s
-
 -- what lands of a fetch, with the file that was stored, if it was: a file as that, and all else as it came
 abbrev pub landing_of : Came Content → Option Blob → Option Landing
 landing_of (came.Got (content.File checked)) kept = option_map (λ (blob : Blob). came.Got (got_file blob)) kept
@@ -258,94 +194,6 @@ MayAsk collect s = ⊥
 MayAsk (ask question) s = IsFree s
 MayAsk (land plan outcome) s =
     IsFree s × (s.plan ≡ Some plan) × (s.draft ≡ plan.draft) × (landing_by s.came s.kept ≡ Some outcome)
-
-abbrev pub HoldsNothing : Stand → Type 0
-HoldsNothing s = (s.draft ≡ None) × (s.lease ≡ None)
-
--- What it must hold for a deed: the body is invited where the client waits for that, and read by its length; the file that was lent
--- is sent in the manner of the request, and under its lease; the pass goes over the repositories that are asked for; and what is planned is
--- fetched once, of which a file is stored under the draft.
-abbrev pub MayDo : Manner → Deed → Stand → Type 0
-MayDo manner invite s = (s.due ≡ None) × (s.waits ≡ true)
-MayDo manner (take_body n count) s = (s.due ≡ None) × (s.waits ≡ false) × (s.unread ≡ Some count) × (s.draft ≡ Some n)
-MayDo manner (read_body count) s = (s.due ≡ None) × (s.waits ≡ false) × (s.unread ≡ Some count)
-MayDo manner (send_file blob own) s = IsFree s × (s.lent ≡ Some blob) × IsSome s.lease × (own ≡ manner)
-MayDo manner (clean_all repos) s = (s.due ≡ None) × (s.unread ≡ None) × (s.to_clean ≡ Some repos) × (s.waits ≡ false) × HoldsNothing s
-MayDo manner (fetch plan) s = IsFree s × (s.plan ≡ Some plan) × (s.draft ≡ plan.draft) × (s.came ≡ None)
-MayDo manner (store_fetched n checked) s = IsFree s × (s.draft ≡ Some n) × (s.came ≡ Some (came.Got (content.File checked)))
-
--- how many commands it asks at most, and how many may follow it
-abbrev pub asked_by : Deed → ℕ
-asked_by (clean_all repos) = length repos + 1
-asked_by deed = 0
-
-abbrev pub left_by : Deed → ℕ → ℕ
-left_by (clean_all repos) n = 0
-left_by deed n = n
-
--- What an outcome makes of where it stands. What is not named stays: a deed changes neither draft nor lease.
-abbrev pub stored_done : (deed : Deed) → Outcome deed → Option Blob → Option Blob
-stored_done (take_body n count) (Ok blob) held = Some blob
-stored_done deed outcome held = held
-
--- the body is read, but where some of it is unread behind a fault
-abbrev pub unread_done : (deed : Deed) → Outcome deed → Option ℕ → Option ℕ
-unread_done (take_body n count) (Err (took.BlobFault true)) unread = unread
-unread_done (take_body n count) stored unread = None
-unread_done (read_body count) body unread = None
-unread_done deed outcome unread = unread
-
-abbrev pub waits_done : Deed → Bool → Bool
-waits_done invite waits = false
-waits_done deed waits = waits
-
-abbrev pub to_clean_done : Deed → Option (List (List ℕ)) → Option (List (List ℕ))
-to_clean_done (clean_all repos) asked = None
-to_clean_done deed asked = asked
-
-abbrev pub came_done : (deed : Deed) → Outcome deed → Fetch → Fetch
-came_done (fetch plan) outcome came = outcome
-came_done deed outcome came = came
-
-abbrev pub kept_done : (deed : Deed) → Outcome deed → Option Blob → Option Blob
-kept_done (fetch plan) outcome kept = None
-kept_done (store_fetched n checked) (Ok blob) kept = Some blob
-kept_done deed outcome kept = kept
-
--- a file that was fetched under no draft counts as want of memory
-abbrev pub due_undrawn : Option ℕ → Option Close → Option Close
-due_undrawn None due = Some (speaks said.NoMemory)
-due_undrawn (Some n) due = due
-
-abbrev pub due_fetched : Fetch → Option ℕ → Option Close → Option Close
-due_fetched None under due = Some (speaks said.NoMemory)
-due_fetched (Some (came.Got (content.File checked))) under due = due_undrawn under due
-due_fetched (Some outcome) under due = due
-
--- a deed that fails is answered, or ends the stream; and so does what the bytes of a small body say, where they are refused
-abbrev pub due_done : (List ℕ → Option Close) → (deed : Deed) → Outcome deed → Option Close → Option Close
-due_done by_text invite continued.Written due = due
-due_done by_text invite continued.SinkFault due = Some (rests (Some stream.SinkFault))
-due_done by_text (take_body n count) (Ok blob) due = due
-due_done by_text (take_body n count) (Err fault) due = Some (of_fault fault)
-due_done by_text (read_body count) (Ok bytes) due = by_text bytes
-due_done by_text (read_body count) (Err fault) due = Some (of_fault fault)
-due_done by_text (send_file blob own) result due = Some (of_sent own result)
-due_done by_text (clean_all repos) pass due = Some (of_pass pass)
-due_done by_text (fetch plan) outcome due = due_fetched outcome plan.draft due
-due_done by_text (store_fetched n checked) (Ok blob) due = due
-due_done by_text (store_fetched n checked) (Err why) due = Some (of_store why)
-
-abbrev pub stand_done : (List ℕ → Option Close) → (deed : Deed) → Outcome deed → Stand → Stand
-stand_done by_text deed outcome s = record s {
-  stored = stored_done deed outcome s.stored;
-  unread = unread_done deed outcome s.unread;
-  waits = waits_done deed s.waits;
-  to_clean = to_clean_done deed s.to_clean;
-  came = came_done deed outcome s.came;
-  kept = kept_done deed outcome s.kept;
-  due = due_done by_text deed outcome s.due;
-}
 
 -- the manner of an answer, where this body is not read
 abbrev pub manner_of : Said → Option ℕ → Manner → Manner

@@ -1,5 +1,5 @@
 -- How a request is answered that nothing refuses, neither its head, nor a reply to its commands, nor what its body says.
-use Rattle.std.specs.Prelude.{◌≡◌, ◌⊎◌, ℕ, zero, suc, ◌≤◌, Bool, true, false, ◌&&◌, IsTrue, if◌then◌else◌, List, [], ◌∷◌, ◌++◌, length, take, drop, Option, Some, None, Ok, Err}
+use Rattle.std.specs.Prelude.{◌≡◌, ◌⊎◌, ℕ, zero, suc, ◌≤◌, Bool, true, false, ◌&&◌, IsTrue, if◌then◌else◌, List, [], ◌∷◌, ◌++◌, length, take, drop, Option, Some, None, Ok}
 use Rattle.std.specs.List.{AllByRecursion}
 use Rattle.outside.specs.Blobs.{Shelf}
 use Rattle.outside.specs.Told.{IsWhereTold, behind}
@@ -14,17 +14,18 @@ use Rattle.repo_model.specs.History.{Entry}
 use Rattle.repo_model.specs.Reply.{Reply, can_get, fetches, blocked, negative, never_asked, landed, file, text, doc, missed, given_back, kind_refused, draft, no_draft, taken, same, relisted, created, not_there, differs as digest_differs, agreed, noted, dropped, no_session, sessions_full, opened, session_full, staged, offends, missing_pom, ended, unlisted, collected, finds, spent, no_memory, store_fault}
 use Rattle.repo_routes.specs.Intent.{Intent, Judged, cleans as cleans_all}
 use Rattle.repo_course.specs.Answers.{answer_of, file_answer, full_answer, memory_answer}
-use Rattle.repo_course.specs.Course.{Close, Course, Deed, Outcome, asks, does, says, stops, speaks, rests, invite, take_body, read_body, send_file, clean_all, fetch, store_fetched, end_of, manner_for, of_pass}
+use Rattle.repo_course.specs.Course.{Close, Course, Deed, Outcome, asks, does, says, stops, speaks, rests, send_file, end_of, manner_for, of_pass}
 use Rattle.repo_course.specs.Serving.{IsCut, IsOtherContent, Outside, print_of, writes}
 use Rattle.repo_course.specs.declared.manner.Manner.{Manner}
-use Rattle.repo_course.specs.declared.outcomes.Continued.TheVariants as continued
 use Rattle.repo_course.specs.declared.outcomes.End.{End}
 use Rattle.repo_course.specs.declared.outcomes.End.TheVariants as stream
 use Rattle.repo_course.specs.declared.outcomes.Sent.TheVariants as sending
 use Rattle.repo_course.specs.declared.said.Said.{Said}
 use Rattle.repo_course.specs.declared.said.Said.TheVariants.{BlobDiffers}
-use Rattle.course_laws.specs.Duties.{IsReady, MayAsk, MayDo, Rounds, Stand, at_first, body_length, due_after, due_fetched, for_text, lent_after, rounds_after, rounds_for, stand_after, stand_done}
+use Rattle.course_laws.specs.Duties.{IsReady, MayAsk, MayDo, Rounds, Stand, at_first, body_length, due_after, for_text, lent_after, rounds_after, rounds_for, stand_after, stand_done}
 use Rattle.course_laws.specs.Faultless.{done_by}
+use Rattle.repo_course.specs.Deeds.{Sequel, goes_on, by_its_text, ends_by, sequel}
+use Rattle.repo_course.specs.declared.outcomes.Sent.{Sent}
 
 -- 200 or 201
 abbrev pub IsSuccess : Status → Type 0
@@ -90,26 +91,27 @@ abbrev pub HasRound : Rounds → Command → Reply → Type 0
 HasRound r (look repo path tried) (fetches plan) = IsMore r.left
 HasRound r command reply = Unit {0}
 
--- the deed does not fail, and a body is refused by nothing that it says; a blob may have another content than was recorded
+-- nothing ends by it, and a body is refused by nothing that it says; or it is answered by 200 or 201
+abbrev pub GoesBy : (List ℕ → Option Close) → Sequel → Type 0
+GoesBy by_text goes_on = Unit {0}
+GoesBy by_text (by_its_text bytes) = by_text bytes ≡ None
+GoesBy by_text (ends_by (speaks said)) = IsSuccess (full_answer said).status
+GoesBy by_text (ends_by (rests end)) = ⊥
+
+-- it is sent whole, or its blob has another content than was recorded
+abbrev pub IsWellSent : Sent → Type 0
+IsWellSent sending.Whole = Unit {0}
+IsWellSent sending.BlobFault = ⊥
+IsWellSent (sending.BlobDiffers recorded found) = Unit {0}
+IsWellSent sending.CutFault = ⊥
+IsWellSent (sending.CutDiffers recorded found) = Unit {0}
+IsWellSent sending.SinkFault = ⊥
+IsWellSent sending.NoMemory = ⊥
+
+-- the deed does not fail, by what follows its outcome; behind a file that is sent the course ends, so that is told by its outcome
 abbrev pub Goes : (List ℕ → Option Close) → (deed : Deed) → Outcome deed → Type 0
-Goes by_text invite continued.Written = Unit {0}
-Goes by_text invite continued.SinkFault = ⊥
-Goes by_text (take_body n count) (Ok blob) = Unit {0}
-Goes by_text (take_body n count) (Err fault) = ⊥
-Goes by_text (read_body count) (Ok bytes) = by_text bytes ≡ None
-Goes by_text (read_body count) (Err fault) = ⊥
-Goes by_text (send_file blob own) sending.Whole = Unit {0}
-Goes by_text (send_file blob own) sending.BlobFault = ⊥
-Goes by_text (send_file blob own) (sending.BlobDiffers recorded found) = Unit {0}
-Goes by_text (send_file blob own) sending.CutFault = ⊥
-Goes by_text (send_file blob own) (sending.CutDiffers recorded found) = Unit {0}
-Goes by_text (send_file blob own) sending.SinkFault = ⊥
-Goes by_text (send_file blob own) sending.NoMemory = ⊥
-Goes by_text (clean_all repos) (Ok did) = Unit {0}
-Goes by_text (clean_all repos) (Err fault) = ⊥
-Goes by_text (fetch plan) outcome = due_fetched outcome plan.draft None ≡ None
-Goes by_text (store_fetched n checked) (Ok blob) = Unit {0}
-Goes by_text (store_fetched n checked) (Err why) = ⊥
+Goes by_text (send_file blob own) result = IsWellSent result
+Goes by_text deed outcome = GoesBy by_text (sequel deed outcome)
 
 -- whether the last file that was sent is cut
 abbrev pub cut_by : (deed : Deed) → Outcome deed → Bool → Bool

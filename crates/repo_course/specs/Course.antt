@@ -11,8 +11,6 @@ use Rattle.mvn_digest.specs.Hex.{hex_text}
 use Rattle.mvn_digest.specs.Sides.{read_side}
 use Rattle.mvn_doc.specs.Reading.{reading}
 use Rattle.mvn_metadata.specs.Document.{Document}
-use Rattle.outside.specs.declared.faults.BlobFault.{BlobFault}
-use Rattle.outside.specs.declared.faults.BlobFault.TheVariants as unstored
 use Rattle.repo_model.specs.Data.{Blob, Place, repository, session}
 use Rattle.remote_fetch.specs.declared.contents.Content.{Content}
 use Rattle.remote_fetch.specs.declared.contents.Content.TheVariants as content
@@ -32,66 +30,15 @@ use Rattle.repo_course.specs.declared.fetched.FetchFault.TheVariants as unfetche
 use Rattle.repo_course.specs.declared.fetched.Verdict.{Verdict}
 use Rattle.repo_course.specs.declared.fetched.Verdict.TheVariants as verdict
 use Rattle.repo_course.specs.declared.manner.Manner.{Manner}
-use Rattle.repo_course.specs.declared.outcomes.CleanFault.{CleanFault}
-use Rattle.repo_course.specs.declared.outcomes.CleanFault.TheVariants as clean
-use Rattle.repo_course.specs.declared.outcomes.Cleaned.{Cleaned}
 use Rattle.repo_course.specs.declared.outcomes.Continued.{Continued}
 use Rattle.repo_course.specs.declared.outcomes.Continued.TheVariants as continued
 use Rattle.repo_course.specs.declared.outcomes.End.{End}
 use Rattle.repo_course.specs.declared.outcomes.End.TheVariants as stream
-use Rattle.repo_course.specs.declared.outcomes.Sent.{Sent}
-use Rattle.repo_course.specs.declared.outcomes.Sent.TheVariants as sent
 use Rattle.repo_course.specs.declared.outcomes.Took.{Took}
 use Rattle.repo_course.specs.declared.outcomes.Took.TheVariants as took
 use Rattle.repo_course.specs.declared.said.Said.{Said}
 use Rattle.repo_course.specs.declared.said.Said.TheVariants as said
-
--- what comes of taking a file's body: a stored blob, or none
-abbrev pub Stored : Type 0
-Stored = Result Blob Took
-
--- what comes of reading a small body: its bytes, or none
-abbrev pub Body : Type 0
-Body = Result (List ℕ) Took
-
--- what comes of a pass over the repositories
-abbrev pub Pass : Type 0
-Pass = Result Cleaned CleanFault
-
--- what comes of a fetch; nothing where memory was wanted
-abbrev pub Fetch : Type 0
-Fetch = Option (Came Content)
-
--- what comes of storing a file that was fetched: a stored blob, or none
-abbrev pub Kept : Type 0
-Kept = Result Blob BlobFault
-
--- what is done outside the machine between two commands
-pub data Deed : Type 0 where
-  -- `100 Continue` is written
-  invite : Deed
-  -- the body of a length is taken and stored under a draft
-  take_body : (draft length : ℕ) → Deed
-  -- the body of a length is read
-  read_body : (length : ℕ) → Deed
-  -- the head of the answer with a file is written, and the bytes of its blob where it is not the head alone
-  send_file : Blob → Manner → Deed
-  -- a pass over these repositories
-  clean_all : (repos : List (List ℕ)) → Deed
-  -- a file or a document is fetched of a remote
-  fetch : Plan → Deed
-  -- a file that was fetched is stored under a draft
-  store_fetched : (draft : ℕ) → Checked → Deed
-
--- what it may come to
-abbrev pub Outcome : Deed → Type 0
-Outcome invite = Continued
-Outcome (take_body number count) = Stored
-Outcome (read_body count) = Body
-Outcome (send_file blob manner) = Sent
-Outcome (clean_all repos) = Pass
-Outcome (fetch plan) = Fetch
-Outcome (store_fetched number checked) = Kept
+pub use Rattle.repo_course.specs.Deeds.{Stored, Body, Pass, Fetch, Kept, Deed, invite, take_body, read_body, send_file, clean_all, fetch, store_fetched, Outcome, Close, speaks, rests, end_of, of_fault, of_sent, of_pass, of_store}
 
 -- what comes next, and then what follows each result
 pub data Course : Type 0 where
@@ -104,10 +51,6 @@ pub data Course : Type 0 where
   -- nothing more is written; then the stream ends so, or goes on
   stops : Option End → Course
 
--- how the stream ends behind an answer of this manner, if it does
-abbrev pub end_of : Manner → Option End
-end_of manner = if manner.close then Some stream.Closed else None
-
 abbrev pub without_memory : Manner → Course
 without_memory manner = says said.NoMemory (at_end manner.head_only)
 
@@ -116,41 +59,9 @@ abbrev pub answers : Manner → Said → Course
 answers manner said.NoMemory = without_memory manner
 answers manner said = says said manner
 
--- what ends a course: an answer, or none, and then the stream ends so or goes on
-pub data Close : Type 0 where
-  speaks : Said → Close
-  rests : Option End → Close
-
 abbrev pub closes : Manner → Close → Course
 closes manner (speaks said) = answers manner said
 closes manner (rests end) = stops end
-
--- what is due for a body that was not taken, a file that was sent or not, and a pass
-abbrev pub of_fault : Took → Close
-of_fault took.Torn = rests (Some stream.TornRequest)
-of_fault took.SourceFault = rests (Some stream.SourceFault)
-of_fault (took.BlobFault unread) = speaks said.BlobFault
-of_fault took.NoMemory = speaks said.NoMemory
-
-abbrev pub of_sent : Manner → Sent → Close
-of_sent manner sent.Whole = rests (end_of manner)
-of_sent manner sent.BlobFault = speaks said.BlobFault
-of_sent manner (sent.BlobDiffers recorded found) = speaks (said.BlobDiffers recorded found)
-of_sent manner sent.CutFault = rests (Some stream.Closed)
-of_sent manner (sent.CutDiffers recorded found) = rests (Some stream.Closed)
-of_sent manner sent.SinkFault = rests (Some stream.SinkFault)
-of_sent manner sent.NoMemory = speaks said.NoMemory
-
-abbrev pub of_pass : Pass → Close
-of_pass (Ok pass) = speaks (said.Cleaned pass.unlisted pass.removed)
-of_pass (Err clean.StoreFault) = speaks said.StoreFault
-of_pass (Err clean.BlobFault) = speaks said.BlobFault
-of_pass (Err clean.NoMemory) = speaks said.NoMemory
-
--- what is due for a fetched file that was not stored
-abbrev pub of_store : BlobFault → Close
-of_store unstored.Failed = speaks said.BlobFault
-of_store unstored.NoMemory = speaks said.NoMemory
 
 abbrev pub gives_up : ℕ → Course → Course
 gives_up n course = asks (drop_draft n) (λ reply. course)
