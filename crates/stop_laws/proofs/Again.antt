@@ -26,6 +26,7 @@ use Rattle.repo_laws.proofs.Looks.{rows-looked}
 use Rattle.repo_laws.proofs.Completing.{completed-order, completed-range, completed-rows, since-blob}
 use Rattle.repo_laws.proofs.StartedSound.{started-rows, started-sound}
 use Rattle.stop_laws.specs.Found.{IsRecordedAs}
+use Rattle.stop_laws.specs.Runs.{IsFoundAgain}
 use Rattle.stop_laws.specs.Stops.{MayNotGo}
 use Rattle.stop_laws.proofs.Outlasting.{row-stays}
 
@@ -52,7 +53,7 @@ pub answered-again : (settings : Settings) (u : Tables) (tells : ℕ → Option 
     (repo tried : List ℕ) (row : Row) (c : Coordinates) (whole : Tables) → AreNamedApart settings.hosted → AreProxiesApart settings.proxies → InOrder u → InRange u → Completes u whole → IsTrue (is_there repo settings)
     → kind row.path ≡ Ok (File c) → IsRecordedAs repo row u → Legal settings (started settings tells stored clock faults whole) (before ++ e ∷ rest) → MayNotGo before row.path
     → e.command ≡ look repo row.path tried
-    → (kept : Blob) × IsSameBlob kept row.blob × GivesFile (end settings (started settings tells stored clock faults whole) before) kept e.reply
+    → (kept : Blob) × IsFoundAgain tells kept row.blob × GivesFile (end settings (started settings tells stored clock faults whole) before) kept e.reply
 answered-again settings u tells stored clock faults before e rest repo tried row c whole apart proxies order range completes there kind_is (recorded_row, recorded_so, number, print) legal stays looks =
     let s : State = started settings tells stored clock faults whole in
     let parts = cut settings before e rest s legal in
@@ -66,8 +67,11 @@ answered-again settings u tells stored clock faults before e rest repo tried row
     let (kept, found, same) = row-stays settings s before repo row.path (with_bytes tells first) apart sound parts.0 stays here in (
       kept.blob,
       (
-        ap (λ (b : Blob). b.number) same ∙ blob_is.0 ∙ number,
-        subst (λ (p : Print). IsSince p row.blob.print) (sym (ap (λ (b : Blob). b.print) same)) (subst (IsSince first.blob.print) print blob_is.1),
+        (
+          ap (λ (b : Blob). b.number) same ∙ blob_is.0 ∙ number,
+          subst (λ (p : Print). IsSince p row.blob.print) (sym (ap (λ (b : Blob). b.print) same)) (subst (IsSince first.blob.print) print blob_is.1),
+        ),
+        ap (λ (b : Blob). b.bytes) same ∙ ap tells (blob_is.0 ∙ number),
       ),
       gives settings (end settings s before) e repo row.path tried c kept parts.1.reply looks kind_is found,
     )

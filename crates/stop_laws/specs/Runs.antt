@@ -41,11 +41,16 @@ FindsAlways P (Some old) (Some new) = Throughout (λ file. (u : Tables) × (tabl
 abbrev pub IsLeftBySome : Settings → State → Tables → List Entry → Tables → Type 0
 IsLeftBySome settings s t entries u = (front rest : List Entry) × (entries ≡ front ++ rest) × IsLeft settings s t front u
 
+-- a blob of this number and fingerprint, with the bytes that the store tells of the number
+abbrev pub IsFoundAgain : (ℕ → Option (List ℕ)) → Blob → Blob → Type 0
+IsFoundAgain tells kept earlier = IsSameBlob kept earlier × (kept.bytes ≡ tells earlier.number)
+
 -- A start over these tables, once it has completed them, and any entries, without a Collect where the file is a snapshot's: who looks at
--- this file then is given it, with its number and its fingerprint; or memory is wanting, or no lease is left.
+-- this file then is given it, with its number and its fingerprint, and with the bytes that the store told of the number as it was opened;
+-- or memory is wanting, or no lease is left.
 abbrev pub IsAnsweredAgain : Settings → List ℕ → Row → Tables → Type 0
 IsAnsweredAgain settings repo row u =
     (tells : ℕ → Option (List ℕ)) (stored : List ℕ) (clock : Option Moments) (faults : ℕ) (whole : Tables) (before rest : List Entry) (e : Entry) (tried : List ℕ)
     → InOrder u → InRange u → Completes u whole → Legal settings (started settings tells stored clock faults whole) (before ++ e ∷ rest) → MayNotGo before row.path
     → e.command ≡ look repo row.path tried
-    → (kept : Blob) × IsSameBlob kept row.blob × GivesFile (end settings (started settings tells stored clock faults whole) before) kept e.reply
+    → (kept : Blob) × IsFoundAgain tells kept row.blob × GivesFile (end settings (started settings tells stored clock faults whole) before) kept e.reply

@@ -23,7 +23,7 @@ ghost use Rattle.repo_laws.specs.InRange.{InRange, Completes, IsSameBlob};
 ghost use Rattle.repo_laws.specs.Sound.{AreNamedApart, AreProxiesApart, IsSound};
 ghost use Rattle.stop_laws.specs.Found.{AreStored, IsCachedAs, IsRecordedAs, KeepsBlobs, KeepsOthers, NamesNone};
 ghost use Rattle.row_tables.specs.Stops.{Rests, Unsettled};
-ghost use Rattle.stop_laws.specs.Runs.{FindsAlways, IsAnsweredAgain, IsLeftBySome, StopsAlong, tables_after};
+ghost use Rattle.stop_laws.specs.Runs.{FindsAlways, IsAnsweredAgain, IsFoundAgain, IsLeftBySome, StopsAlong, tables_after};
 ghost use Rattle.stop_laws.specs.Stops.{IsFrontOf, IsLeft, MayNotGo};
 
 /// A start over a store that keeps what it acknowledged finds none of these files damaged, where each of them names a blob that
@@ -78,8 +78,8 @@ pub fn created_files_outlast_stops_of_runs()
 {}
 
 /// So a start over these tables, under the same settings, once it has completed them, and any entries behind it, without a Collect where
-/// the file is a snapshot's: who looks at the file then is given it, with the number and the fingerprint that were put; or memory is
-/// wanting, or no lease is left.
+/// the file is a snapshot's: who looks at the file then is given it, with the number and the fingerprint that were put and the bytes that the
+/// store told of the number; or memory is wanting, or no lease is left.
 pub fn created_files_are_answered_behind_stops()
     ensures { (settings : Settings) (s : State) (t : Tables) (e : Entry) (later : List Entry) (before old new : Unsettled) (repo path : List ℕ) (n : ℕ) (blob : Blob) (c : Coordinates)
         → AreNamedApart settings.hosted → AreProxiesApart settings.proxies → IsSound settings s → InOrder t → Holds t s → Legal settings s (e ∷ later) → MayNotGo later path
@@ -113,15 +113,15 @@ pub fn kept_files_outlast_stops()
 {}
 
 /// A start over tables in which a file is recorded, once it has completed them, and then any entries, without a Collect where the file is a
-/// snapshot's: who looks there is given the file, with the number and the fingerprint that were recorded; or memory is wanting, or no
-/// lease is left.
+/// snapshot's: who looks there is given the file, with the number and the fingerprint that were recorded, and the bytes that the store told
+/// of that number as the start looked; or memory is wanting, or no lease is left.
 pub fn starts_answer_what_is_recorded()
     ensures { (settings : Settings) (u : Tables) (tells : ℕ → Option (List ℕ)) (stored : List ℕ) (clock : Option Moments) (faults : ℕ) (before : List Entry) (e : Entry)
         (rest : List Entry) (repo tried : List ℕ) (row : Row) (c : Coordinates) (whole : Tables) → AreNamedApart settings.hosted → AreProxiesApart settings.proxies → InOrder u → InRange u → Completes u whole
         → IsTrue (is_there repo settings)
         → kind row.path ≡ Ok (File c) → IsRecordedAs repo row u → Legal settings (started settings tells stored clock faults whole) (before ++ e ∷ rest)
         → MayNotGo before row.path → e.command ≡ look repo row.path tried
-        → (kept : Blob) × IsSameBlob kept row.blob × GivesFile (end settings (started settings tells stored clock faults whole) before) kept e.reply }
+        → (kept : Blob) × IsFoundAgain tells kept row.blob × GivesFile (end settings (started settings tells stored clock faults whole) before) kept e.reply }
 {}
 
 /// A start over tables in which a file of a proxy is recorded, once it has completed them, and then any entries, also where a Collect is
