@@ -7,8 +7,9 @@ use std::io::Eprint;
 use std::marker::Model;
 
 /// A disk over another one, which says on standard error how many bytes each cut takes off, before it is made. A journal cuts
-/// what stands behind its last record, and nothing else. Where the line cannot be written the cut is made all the same. Contracts
-/// see how many calls have failed.
+/// what stands behind its last record, and nothing else. Where the line cannot be written the cut is made all the same, and so it
+/// is where the size is not known: then nothing is said, and the call fails. Contracts see the trace of the disk below, where it
+/// tells one, and how many of its calls have failed.
 #[derive(Drop)]
 pub struct ReportingDisk<D: Disk + Drop, R: Eprint + Drop> {
     disk: D,
@@ -16,24 +17,30 @@ pub struct ReportingDisk<D: Disk + Drop, R: Eprint + Drop> {
 }
 
 impl<D: Disk + Drop, R: Eprint + Drop> Model for ReportingDisk<D, R> {
-    ghost use Rattle.std.specs.Prelude.{ℕ};
+    ghost use Rattle.std.specs.Coded.{codes};
+    ghost use Rattle.record_disk.specs.Codes.{trace_code};
+    ghost use Rattle.data_folder.specs.Reporting.{DiskState};
 
-    ghost Value = { ℕ };
+    ghost Value = { DiskState };
 
-    ghost view = { λ d. D.faults d.disk };
+    ghost coded = { Prim.hlevel (codes, trace_code) };
+
+    ghost view = { λ d. record { trace = D.trace d.disk; faults = D.faults d.disk } };
 }
 
 impl<D: Disk + Drop, R: Eprint + Drop> ReportingDisk<D, R> {
     /// A disk over this one.
     pub fn new(disk: D, rt: R) -> ReportingDisk<D, R>
-        ensures { result ≡ D.faults disk }
+        ensures { (result.trace ≡ D.trace disk) × (result.faults ≡ D.faults disk) }
     {
         ReportingDisk { disk, rt }
     }
 }
 
 impl<D: Disk + Drop, R: Eprint + Drop> Disk for ReportingDisk<D, R> {
-    ghost faults = { λ faults. faults };
+    ghost faults = { λ d. d.faults };
+
+    ghost trace = { λ d. d.trace };
 
     fn size(&mut self) -> Result<u64, Failed> {
         self.disk.size()
@@ -48,11 +55,15 @@ impl<D: Disk + Drop, R: Eprint + Drop> Disk for ReportingDisk<D, R> {
     }
 
     fn cut(&mut self, size: u64) -> Result<(), Failed> {
-        let before = self.disk.size()?;
-        if size < before {
+        let before = self.disk.size();
+        if let Ok(before) = before
+            && size < before
+        {
             let _ = eprintln!(self.rt; "mvnrepod: tail {}", before - size);
         }
-        self.disk.cut(size)
+        self.disk.cut(size)?;
+        before?;
+        Ok(())
     }
 
     fn sync(&mut self) -> Result<(), Failed> {

@@ -74,6 +74,7 @@ sync data of orders_rows/rows
 sync orders_rows
 write orders_rows/rows
 sync data of orders_rows/rows
+say mvnrepod: tail 2
 cut orders_rows/rows
 sync data of orders_rows/rows
 ";
@@ -95,7 +96,8 @@ enum Way {
 // Opens a folder whose calls are noted, and whether they are as they should be.
 fn does(rt: &HostRuntime, folder: &str, way: Way) -> Result<bool, AllocError> {
     let notes = Notes::new(rt.alloc())?;
-    let mut disk = open_disk(&Noted::new(rt, &notes)?, folder)?;
+    let noted = Noted::new(rt, &notes)?;
+    let mut disk = ReportingDisk::new(open_disk(&noted, folder)?, noted);
     match way {
         Way::New => Ok(is_made(rt, &notes, &mut disk)),
         Way::Old => Ok(are(rt, &notes, OLD_FOLDER)),
