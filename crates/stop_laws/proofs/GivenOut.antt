@@ -102,7 +102,7 @@ module _ (grace now n : ℕ) where
   names-item s t nowhere none (marks_missing id path moment) may = none
   names-item s t nowhere none (clears_mark id path) may = none
 
-  names-items : (es : List Effect) (s : State) (t : Tables) → AllMay grace now s es → IsGone n s → named_in t n ≡ 0 → named_in (with_items t (recorded es)) n ≡ 0
+  pub names-items : (es : List Effect) (s : State) (t : Tables) → AllMay grace now s es → IsGone n s → named_in t n ≡ 0 → named_in (with_items t (recorded es)) n ≡ 0
   names-items [] s t all gone none = none
   names-items (e ∷ es) s t all gone none =
       subst (λ (u : Tables). named_in u n ≡ 0) (sym (fold-append item_on t (items_of e) (recorded es)))

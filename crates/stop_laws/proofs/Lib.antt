@@ -8,3 +8,7 @@ pub mod Created
 pub mod RunLaws
 pub mod GivenOut
 mod Spared
+mod AllRows
+mod Stored
+mod Missed
+mod Begun

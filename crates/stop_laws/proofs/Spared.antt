@@ -1,31 +1,16 @@
 -- A store that keeps what it acknowledged, but for what was given out, has no damaged file where no row names that.
-use Rattle.std.proofs.Common.{◌≡◌, ℕ, Bool, true, false, cond, List, [], ◌∷◌, map, Option, Some, None, refl, sym, ap, ◌∙◌}
+use Rattle.std.proofs.Common.{◌≡◌, ℕ, Bool, true, false, List, [], ◌∷◌, Option, Some, None, refl, sym, ap, ◌∙◌}
 use Rattle.std.specs.Prelude.{◌==◌, IfSome}
 use Rattle.std.specs.List.{AllByRecursion, list_any}
 use Rattle.std.specs.Option.{ForSome, option_map}
 use Rattle.std.proofs.lemmas.Bool.{eq-eqb, false≢true, false_from_ne_true, or_parts}
-use Rattle.itertools.specs.List.{merge_at, merge_by}
 use Rattle.outside.specs.Blobs.{Numbered, Shelf, bytes_at}
 use Rattle.repo_model.specs.State.{is_among}
 use Rattle.repo_model.specs.Tables.{RecordedRow, Tables}
 use Rattle.blob_audit.specs.Damages.{AreDamaged, none, print_of, whole}
-use Rattle.blob_audit.specs.Order.{File, all_rows, comes_first, files_of}
+use Rattle.blob_audit.specs.Order.{all_rows}
 use Rattle.stop_laws.specs.Found.{AreStored, KeepsOthers, NamesNone}
-
-module _ {A : Type 0} (P : A → Type 0) (first : A → A → Bool) where
-  all-at : (x : A) → P x → (xs : List A) → AllByRecursion P xs → (after : List A → List A) → ((ys : List A) → AllByRecursion P ys → AllByRecursion P (after ys))
-      → (ys : List A) → AllByRecursion P ys → AllByRecursion P (merge_at first x xs after ys)
-  all-at x is xs all after so [] more = (is, all)
-  all-at x is xs all after so (y ∷ ys) more =
-      elim (first x y) as (λ b. AllByRecursion P (cond b (x ∷ after (y ∷ ys)) (y ∷ merge_at first x xs after ys))) [
-        | true ↦ (is, so (y ∷ ys) more)
-        | false ↦ (more.0, all-at x is xs all after so ys more.1)
-      ]
-
-  -- what holds of all of two lists holds of all of their merge
-  all-merge : (xs ys : List A) → AllByRecursion P xs → AllByRecursion P ys → AllByRecursion P (merge_by first xs ys)
-  all-merge [] ys all more = more
-  all-merge (x ∷ xs) ys all more = all-at x all.0 xs all.1 (merge_by first xs) (λ zs so. all-merge xs zs all.1 so) ys more
+use Rattle.stop_laws.proofs.AllRows.{rows-all}
 
 module _ (gone : List ℕ) where
   abbrev IsSpared : RecordedRow → Type 0
@@ -42,21 +27,11 @@ module _ (gone : List ℕ) where
         (λ n among. (or_parts (r.row.blob.number == n) (list_any (λ (x : RecordedRow). x.row.blob.number == n) rows) (unnamed n among)).1),
   )
 
-  spared-files : (is_hosted : Bool) (rows : List RecordedRow) → AllByRecursion IsSpared rows → AllByRecursion (λ (f : File). IsSpared f.row) (files_of is_hosted rows)
-  spared-files is_hosted [] all = tt
-  spared-files is_hosted (r ∷ rows) all = (all.0, spared-files is_hosted rows all.1)
-
-  rows-spared : (files : List File) → AllByRecursion (λ (f : File). IsSpared f.row) files → AllByRecursion IsSpared (map (λ (f : File). f.row) files)
-  rows-spared [] all = tt
-  rows-spared (f ∷ files) all = (all.0, rows-spared files all.1)
-
   all-spared : (t : Tables) → NamesNone gone t → AllByRecursion IsSpared (all_rows t)
   all-spared t unnamed =
       let names : ℕ → RecordedRow → Bool = λ n r. r.row.blob.number == n in
-      rows-spared (merge_by comes_first (files_of true t.hosted) (files_of false t.cached))
-      (all-merge (λ (f : File). IsSpared f.row) comes_first (files_of true t.hosted) (files_of false t.cached)
-      (spared-files true t.hosted (spared-rows t.hosted (λ n among. (or_parts (list_any (names n) t.hosted) (list_any (names n) t.cached) (unnamed n among)).0)))
-      (spared-files false t.cached (spared-rows t.cached (λ n among. (or_parts (list_any (names n) t.hosted) (list_any (names n) t.cached) (unnamed n among)).1))))
+      rows-all IsSpared t (spared-rows t.hosted (λ n among. (or_parts (list_any (names n) t.hosted) (list_any (names n) t.cached) (unnamed n among)).0))
+      (spared-rows t.cached (λ n among. (or_parts (list_any (names n) t.hosted) (list_any (names n) t.cached) (unnamed n among)).1))
 
   -- what such a store has under a number
   found-still : (acknowledged : Shelf) (n : ℕ) (those : List (ℕ × List ℕ)) (bytes : List ℕ) → acknowledged.blobs ≡ Some those → bytes_at n those ≡ Some bytes → is_among n gone ≡ false → (o : Option Numbered)

@@ -3,7 +3,7 @@ ghost use Rattle.std.specs.Prelude.{◌≡◌, ◌≢◌, ℕ, IsTrue, List, [],
 ghost use Rattle.mvn_coords.specs.Kind.{kind};
 ghost use Rattle.mvn_coords.specs.Layout.{Coordinates};
 ghost use Rattle.mvn_coords.specs.declared.kind.Kind.TheVariants.{File};
-ghost use Rattle.outside.specs.Blobs.{Shelf};
+ghost use Rattle.outside.specs.Blobs.{Numbered, Shelf};
 ghost use Rattle.outside.specs.Moments.{Moments};
 ghost use Rattle.repo_model.specs.Command.{collect, is_there, look, put};
 ghost use Rattle.repo_model.specs.Restart.{started};
@@ -17,11 +17,11 @@ ghost use Rattle.repo_model.specs.Tables.{RecordedRow, Tables};
 ghost use Rattle.blob_audit.specs.Damages.{AreDamaged};
 ghost use Rattle.blob_audit.specs.Order.{all_rows};
 ghost use Rattle.proxy_laws.specs.Asked.{AsksFirst, LetsThrough};
-ghost use Rattle.repo_laws.specs.Closed.{Answers, GivesFile};
+ghost use Rattle.repo_laws.specs.Closed.{Answers, GivesFile, all_given_out};
 ghost use Rattle.repo_laws.specs.Holds.{Holds, InOrder, told, with_items};
 ghost use Rattle.repo_laws.specs.InRange.{InRange, Completes, IsSameBlob};
 ghost use Rattle.repo_laws.specs.Sound.{AreNamedApart, AreProxiesApart, IsSound};
-ghost use Rattle.stop_laws.specs.Found.{AreStored, IsCachedAs, IsRecordedAs, KeepsBlobs, KeepsOthers, NamesNone};
+ghost use Rattle.stop_laws.specs.Found.{AllHandOver, AreStagedStored, AreStored, HasStored, IsCachedAs, IsRecordedAs, IsWholeWithout, KeepsBlobs, KeepsOthers, NamesNone};
 ghost use Rattle.row_tables.specs.Stops.{Rests, Unsettled};
 ghost use Rattle.stop_laws.specs.Runs.{FindsAlways, IsAnsweredAgain, IsFoundAgain, IsLeftBySome, StopsAlong, tables_after};
 ghost use Rattle.stop_laws.specs.Stops.{IsFrontOf, IsLeft, MayNotGo};
@@ -103,6 +103,49 @@ pub fn blobs_given_out_are_named_no_more()
 pub fn blobs_given_out_are_missed_by_no_start()
     ensures { (t : Tables) (gone : List ℕ) (acknowledged found : Shelf) → NamesNone gone t → AreStored acknowledged (all_rows t) → KeepsOthers gone acknowledged found
         → AreDamaged found (all_rows t) [] }
+{}
+
+/// Each file that is recorded in whatever a start may find behind a stop names a blob that was acknowledged, with its fingerprint, where
+/// so does each file that was recorded before the entries, or was staged then, and each blob that one of them hands over, to be put, staged
+/// or landed, was acknowledged with its fingerprint. The shelf may be any that has these blobs, also such as were removed since.
+pub fn stops_leave_stored_files()
+    ensures { (settings : Settings) (s : State) (t u : Tables) (entries : List Entry) (acknowledged : Shelf) → Legal settings s entries → HasStored acknowledged t
+        → AreStagedStored acknowledged s → AllHandOver acknowledged entries → IsLeft settings s t entries u → HasStored acknowledged u }
+{}
+
+/// So it is of what a start reads from whatever file a stop leaves at any moment of a run, between its calls and inside each of them.
+pub fn stops_of_runs_leave_stored_files()
+    ensures { (settings : Settings) (s : State) (t : Tables) (entries : List Entry) (old new : Unsettled) (acknowledged : Shelf) → Legal settings s entries
+        → HasStored acknowledged t → AreStagedStored acknowledged s → AllHandOver acknowledged entries → old.pending ≡ None → Rests (Some t) old
+        → StopsAlong settings s t entries old new → FindsAlways (HasStored acknowledged) old.trace new.trace }
+{}
+
+/// So a start over it finds no file damaged, where the store keeps what it acknowledged.
+pub fn stops_leave_no_file_damaged()
+    ensures { (settings : Settings) (s : State) (t u : Tables) (entries : List Entry) (acknowledged found : Shelf) → Legal settings s entries → HasStored acknowledged t
+        → AreStagedStored acknowledged s → AllHandOver acknowledged entries → IsLeft settings s t entries u → KeepsBlobs acknowledged found → AreDamaged found (all_rows u) [] }
+{}
+
+/// At each moment of a run behind its earlier entries, between calls and inside each of them: a start over what it reads finds no file
+/// damaged, where the store keeps what it acknowledged, be it that it has lost any of the blobs that Collects among the earlier entries gave
+/// out to be removed.
+pub fn stops_of_runs_leave_no_file_damaged()
+    ensures { (settings : Settings) (s : State) (t : Tables) (earlier later : List Entry) (old mid new : Unsettled) (acknowledged : Shelf)
+        → AreNamedApart settings.hosted → IsSound settings s → InOrder t → Holds t s → Legal settings s (earlier ++ later)
+        → HasStored acknowledged t → AreStagedStored acknowledged s → AllHandOver acknowledged (earlier ++ later) → old.pending ≡ None → Rests (Some t) old
+        → StopsAlong settings s t earlier old mid → StopsAlong settings (end settings s earlier) (with_items t (told settings s earlier)) later mid new
+        → FindsAlways (IsWholeWithout (all_given_out earlier) acknowledged) mid.trace new.trace }
+{}
+
+/// Where a start found no file damaged, in a store that tells its blobs, each file names one of them, with its fingerprint.
+pub fn whole_files_are_stored()
+    ensures { (shelf : Shelf) (those : Numbered) (rows : List RecordedRow) → shelf.blobs ≡ Some those → AreDamaged shelf rows [] → AreStored shelf rows }
+{}
+
+/// Behind a start nothing is staged that would have to be stored.
+pub fn starts_stage_nothing()
+    ensures { (settings : Settings) (tells : ℕ → Option (List ℕ)) (stored : List ℕ) (clock : Option Moments) (faults : ℕ) (t : Tables) (shelf : Shelf)
+        → AreStagedStored shelf (started settings tells stored clock faults t) }
 {}
 
 /// A file that a proxy keeps is recorded so in whatever a start may find behind a stop at any later moment.

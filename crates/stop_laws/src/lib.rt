@@ -10,5 +10,7 @@ pub use laws::{
     created_files_are_answered_behind_stops, created_files_outlast_stops_of_runs,
     files_outlast_stops_of_runs, kept_blobs_are_whole, kept_files_outlast_stops,
     rows_outlast_stops, starts_answer_kept_files, starts_answer_what_is_recorded,
-    stops_leave_fronts_of_histories, stops_of_runs_find_what_is_left,
+    starts_stage_nothing, stops_leave_fronts_of_histories, stops_leave_no_file_damaged,
+    stops_leave_stored_files, stops_of_runs_find_what_is_left, stops_of_runs_leave_no_file_damaged,
+    stops_of_runs_leave_stored_files, whole_files_are_stored,
 };
