@@ -1,5 +1,5 @@
-//! Rows that are recorded and then stored: room and the documents first, then the commit, and the change last, as it is seen from
-//! outside.
+//! Rows that are recorded and stored: the documents, and a new row, change before the commit, and are as before where it fails. That
+//! takes no memory, and is not seen from outside.
 ghost use Rattle.std.specs.Prelude.{◌≡◌, ◌≤◌, ◌∷◌, [], None, OnOk, OnErr};
 ghost use Rattle.repo_model.specs.declared.item.Item.TheVariants.{HostedPut, Relisted};
 ghost use Rattle.repo_model.specs.Effect.{list_again, new_row, with_row};
@@ -16,7 +16,7 @@ ghost use Rattle.kept_docs.specs.Kept.{AreOf};
 ghost use Rattle.hosted_repo.specs.Releases.{FadesAt};
 
 use crate::changes::{put_change, relist_change};
-use kept_docs::{Docs, prepared_row};
+use kept_docs::{Docs, add_row, undo_row};
 use ordered_rows::{CountedRows, Phase, Row, print_of};
 use outside::{Held, Parcel};
 use row_tables::{CommitFault, Records};
@@ -56,18 +56,18 @@ pub fn create<H: Held, K: Records>(
         accepted,
         phase: Phase::Listed,
     };
-    let pages = prepared_row(alloc, docs, path, accepted)?;
+    let described = add_row(alloc, docs, path, accepted)?;
     // The row makes its own room, and goes again where it is not recorded.
     let Ok(()) = rows.add(alloc, path, row) else {
-        docs.give_up(pages.as_slice());
+        undo_row(docs, described);
         return Err(CommitFault::NoMemory);
     };
     if let Err(fault) = records.commit(alloc, &change) {
         rows.remove(path);
-        docs.give_up(pages.as_slice());
+        undo_row(docs, described);
         return Err(fault);
     }
-    docs.place(pages);
+    drop(described);
     Ok(())
 }
 
@@ -99,12 +99,12 @@ pub fn relist<H: Held, K: Records>(
     // Its contract says that each path stands once.
     let _len = rows.map().len();
     let change = relist_change(alloc, repo, path, accepted)?;
-    let pages = prepared_row(alloc, docs, path, accepted)?;
+    let described = add_row(alloc, docs, path, accepted)?;
     if let Err(fault) = records.commit(alloc, &change) {
-        docs.give_up(pages.as_slice());
+        undo_row(docs, described);
         return Err(fault);
     }
     rows.list_again(path, accepted);
-    docs.place(pages);
+    drop(described);
     Ok(())
 }

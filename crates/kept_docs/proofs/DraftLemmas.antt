@@ -17,7 +17,7 @@ use Rattle.repo_model.specs.Paths.{file_at, file_in, stands_in}
 use Rattle.directory_rows.specs.Documents.{added}
 use Rattle.kept_docs.specs.declared.docs.Docs.{Docs}
 use Rattle.kept_docs.specs.declared.drafts.Drafts.{Drafts}
-use Rattle.kept_docs.specs.Drafted.{AreRight, HasFileMore, HasWalked, IsDraftedAt, KeepsDrafts, draft_at, drafted, with_file_of}
+use Rattle.kept_docs.specs.Drafted.{AreRight, HasDraftMore, HasFileMore, HasWalked, IsDraftedAt, KeepsDrafts, draft_at, drafted, with_file_of}
 use Rattle.kept_docs.specs.Kept.{kept_at}
 use Rattle.kept_docs.proofs.Homes.{IsHome, added_once, added_row, artifact_document, at_one, is_home, version_document}
 use Rattle.kept_docs.proofs.Texts.{no_document, same_directory}
@@ -31,9 +31,9 @@ paths_differ : (d e : Directory) → bytes_eq (text_of_document d) (text_of_docu
 paths_differ d e off is = differs (text_of_document d) (text_of_document e) off (ap (λ t. t ++ 47 ∷ codes "maven-metadata.xml") is)
 
 -- ---- a file that does not stand in the directory
-pub file_elsewhere : (dir : Directory) (c : Coordinates) (accepted : ℕ) (docs : Docs) (drafts : Drafts) → IsDirectory dir → stands_in dir (Some c) ≡ false → HasFileMore (text_of_document dir) c accepted docs drafts drafts
-file_elsewhere dir c accepted docs drafts ruled none = λ d rule.
-    let x = drafted (text_of_directory d) docs drafts in
+pub file_elsewhere : (dir : Directory) (c : Coordinates) (accepted : ℕ) (docs : List ℕ → Option Document) → IsDirectory dir → stands_in dir (Some c) ≡ false → HasFileMore (text_of_document dir) c accepted docs docs
+file_elsewhere dir c accepted docs ruled none = λ d rule.
+    let x = docs (text_of_directory d) in
     elim (bytes_eq (text_of_document d) (text_of_document dir)) as (λ b. bytes_eq (text_of_document d) (text_of_document dir) ≡ b → x ≡ cond b (with_file_of d c accepted x) x) [
       | true ↦ λ is.
           let one : d ≡ dir = same_directory d dir rule ruled ((bytes_eq-Decides (text_of_document d) (text_of_document dir)).0 is) in
@@ -42,41 +42,45 @@ file_elsewhere dir c accepted docs drafts ruled none = λ d rule.
     ] refl
 
 -- a path that is no document's
-pub no_file_more : (path : List ℕ) (k : Result Kind PathFault) (c : Coordinates) (accepted : ℕ) (docs : Docs) (drafts : Drafts) → k ≡ kind path → ((e : Directory) → k ≡ Ok (Doc e) → ⊥) → HasFileMore path c accepted docs drafts drafts
-no_file_more path k c accepted docs drafts is none = λ d rule.
-    let x = drafted (text_of_directory d) docs drafts in
+pub no_file_more : (path : List ℕ) (k : Result Kind PathFault) (c : Coordinates) (accepted : ℕ) (docs : List ℕ → Option Document) → k ≡ kind path → ((e : Directory) → k ≡ Ok (Doc e) → ⊥) → HasFileMore path c accepted docs docs
+no_file_more path k c accepted docs is none = λ d rule.
+    let x = docs (text_of_directory d) in
     sym (ap (λ b. cond b (with_file_of d c accepted x) x) (no_document path k is none d rule))
 
 -- ---- a file that does
-pub file_more : (dir : Directory) (c : Coordinates) (accepted : ℕ) (docs : Docs) (old mid new : Drafts) (doc after : Document) → IsDirectory dir → stands_in dir (Some c) ≡ true
+pub file_more : (dir : Directory) (c : Coordinates) (accepted : ℕ) (old new : List ℕ → Option Document) → IsDirectory dir
+    → new (text_of_directory dir) ≡ with_file_of dir c accepted (old (text_of_directory dir))
+    → ((text : List ℕ) → (text ≡ text_of_directory dir → ⊥) → new text ≡ old text) → HasFileMore (text_of_document dir) c accepted old new
+file_more dir c accepted old new ruled here others = λ d rule.
+    let F : Directory → Option Document → Option Document = λ e. with_file_of e c accepted in
+    elim (bytes_eq (text_of_document d) (text_of_document dir)) as (λ b. bytes_eq (text_of_document d) (text_of_document dir) ≡ b → new (text_of_directory d) ≡ cond b (F d (old (text_of_directory d))) (old (text_of_directory d))) [
+      | true ↦ λ is.
+          let one : d ≡ dir = same_directory d dir rule ruled ((bytes_eq-Decides (text_of_document d) (text_of_document dir)).0 is) in
+          subst (λ (e : Directory). new (text_of_directory e) ≡ F e (old (text_of_directory e))) (sym one) here
+      | false ↦ λ no. others (text_of_directory d) (paths_differ d dir no)
+    ] refl
+
+pub draft_more : (dir : Directory) (c : Coordinates) (accepted : ℕ) (docs : Docs) (old mid new : Drafts) (doc after : Document) → IsDirectory dir → stands_in dir (Some c) ≡ true
     → doc ≡ unwrap_or (drafted (text_of_directory dir) docs old) (settled blank dir)
     → ((text : List ℕ) → (text ≡ text_of_directory dir → ⊥) → draft_at text mid ≡ draft_at text old)
     → after ≡ record doc { listing = with_coordinates accepted (Some c) doc.listing }
-    → IsDraftedAt (text_of_directory dir) (Some after) mid new → HasFileMore (text_of_document dir) c accepted docs old new
-file_more dir c accepted docs old mid new doc after ruled there taken others made put = λ d rule.
-    let F : Directory → Option Document → Option Document = λ e. with_file_of e c accepted in
-    let x : Directory → Option Document = λ e. drafted (text_of_directory e) docs old in
-    elim (bytes_eq (text_of_document d) (text_of_document dir)) as (λ b. bytes_eq (text_of_document d) (text_of_document dir) ≡ b → drafted (text_of_directory d) docs new ≡ cond b (F d (x d)) (x d)) [
-      | true ↦ λ is.
-          let one : d ≡ dir = same_directory d dir rule ruled ((bytes_eq-Decides (text_of_document d) (text_of_document dir)).0 is) in
-          let here : drafted (text_of_directory dir) docs new ≡ F dir (x dir) =
-          ap (λ o. unwrap_or o (kept_at (text_of_directory dir) docs)) put.here
-          ∙ ap Some (made ∙ ap (λ (k : Document). record k { listing = with_coordinates accepted (Some c) k.listing }) taken)
-          ∙ sym (ap (λ s. cond s (Some (let was = unwrap_or (x dir) (settled blank dir) in record was { listing = with_coordinates accepted (Some c) was.listing })) (x dir)) there) in
-          subst (λ (e : Directory). drafted (text_of_directory e) docs new ≡ F e (x e)) (sym one) here
-      | false ↦ λ no.
-          let apart = paths_differ d dir no in
-          ap (λ o. unwrap_or o (kept_at (text_of_directory d) docs)) (put.others (text_of_directory d) apart ∙ others (text_of_directory d) apart)
-    ] refl
+    → IsDraftedAt (text_of_directory dir) (Some after) mid new → HasDraftMore (text_of_document dir) c accepted docs old new
+draft_more dir c accepted docs old mid new doc after ruled there taken others made put =
+    let x : Option Document = drafted (text_of_directory dir) docs old in
+    file_more dir c accepted (λ text. drafted text docs old) (λ text. drafted text docs new) ruled
+    (ap (λ o. unwrap_or o (kept_at (text_of_directory dir) docs)) put.here
+    ∙ ap Some (made ∙ ap (λ (k : Document). record k { listing = with_coordinates accepted (Some c) k.listing }) taken)
+    ∙ sym (ap (λ s. cond s (Some (let was = unwrap_or x (settled blank dir) in record was { listing = with_coordinates accepted (Some c) was.listing })) x) there))
+    (λ text apart. ap (λ o. unwrap_or o (kept_at text docs)) (put.others text apart ∙ others text apart))
 
 -- a file that is added at its two documents
-pub file_twice : (c : Coordinates) (accepted : ℕ) (docs : Docs) (old mid new : Drafts) (artifact version : List ℕ) → is_filled c.group ≡ true → artifact ≡ artifact_document c → version ≡ version_document c
-    → HasFileMore artifact c accepted docs old mid → HasFileMore version c accepted docs mid new
-    → (d : Directory) → IsDirectory d → drafted (text_of_directory d) docs new ≡ with_file_of d c accepted (drafted (text_of_directory d) docs old)
-file_twice c accepted docs old mid new artifact version filled at_artifact at_version one two d rule =
+pub file_twice : (c : Coordinates) (accepted : ℕ) (old mid new : List ℕ → Option Document) (artifact version : List ℕ) → is_filled c.group ≡ true → artifact ≡ artifact_document c → version ≡ version_document c
+    → HasFileMore artifact c accepted old mid → HasFileMore version c accepted mid new
+    → (d : Directory) → IsDirectory d → new (text_of_directory d) ≡ with_file_of d c accepted (old (text_of_directory d))
+file_twice c accepted old mid new artifact version filled at_artifact at_version one two d rule =
     let F : Option Document → Option Document = with_file_of d c accepted in
-    let x : Option Document = drafted (text_of_directory d) docs old in
-    let y : Option Document = drafted (text_of_directory d) docs mid in
+    let x : Option Document = old (text_of_directory d) in
+    let y : Option Document = mid (text_of_directory d) in
     let text = text_of_document d in
     let first : y ≡ cond (bytes_eq text (artifact_document c)) (F x) x = one d rule ∙ ap (λ t. cond (bytes_eq text t) (F x) x) at_artifact in
     two d rule ∙ ap (λ t. cond (bytes_eq text t) (F y) y) at_version
@@ -84,16 +88,16 @@ file_twice c accepted docs old mid new artifact version filled at_artifact at_ve
     ∙ added_once d c accepted x filled
 
 -- ---- a row at a path of a file, or of none
-pub row_more : (path : List ℕ) (c : Coordinates) (k : Result Kind PathFault) (accepted : ℕ) (docs : Docs) (old new : Drafts) → k ≡ kind path → file_in k ≡ Some c
-    → ((d : Directory) → IsDirectory d → drafted (text_of_directory d) docs new ≡ with_file_of d c accepted (drafted (text_of_directory d) docs old))
-    → (d : Directory) (blob : Blob) → IsDirectory d → drafted (text_of_directory d) docs new ≡ added d (drafted (text_of_directory d) docs old) (new_row path blob accepted)
-row_more path c k accepted docs old new is names made d blob rule =
-    made d rule ∙ added_row d c path blob accepted (drafted (text_of_directory d) docs old) (ap file_in (sym is) ∙ names)
+pub row_more : (path : List ℕ) (c : Coordinates) (k : Result Kind PathFault) (accepted : ℕ) (old new : List ℕ → Option Document) → k ≡ kind path → file_in k ≡ Some c
+    → ((d : Directory) → IsDirectory d → new (text_of_directory d) ≡ with_file_of d c accepted (old (text_of_directory d)))
+    → (d : Directory) (blob : Blob) → IsDirectory d → new (text_of_directory d) ≡ added d (old (text_of_directory d)) (new_row path blob accepted)
+row_more path c k accepted old new is names made d blob rule =
+    made d rule ∙ added_row d c path blob accepted (old (text_of_directory d)) (ap file_in (sym is) ∙ names)
 
-pub no_row_more : (path : List ℕ) (k : Result Kind PathFault) (accepted : ℕ) (docs : Docs) (drafts : Drafts) → k ≡ kind path → file_in k ≡ None
-    → (d : Directory) (blob : Blob) → IsDirectory d → drafted (text_of_directory d) docs drafts ≡ added d (drafted (text_of_directory d) docs drafts) (new_row path blob accepted)
-no_row_more path k accepted docs drafts is none d blob rule =
-    let x = drafted (text_of_directory d) docs drafts in
+pub no_row_more : (path : List ℕ) (k : Result Kind PathFault) (accepted : ℕ) (docs : List ℕ → Option Document) → k ≡ kind path → file_in k ≡ None
+    → (d : Directory) (blob : Blob) → IsDirectory d → docs (text_of_directory d) ≡ added d (docs (text_of_directory d)) (new_row path blob accepted)
+no_row_more path k accepted docs is none d blob rule =
+    let x = docs (text_of_directory d) in
     sym (ap (λ o. cond (stands_in d o) (Some (let old = unwrap_or x (settled blank d) in record old { listing = with_coordinates accepted o old.listing })) x) (ap file_in (sym is) ∙ none))
 
 -- ---- what the rows have

@@ -54,6 +54,13 @@ module _ (bs : List ℕ) (m n : BTreeMap (String Global) (Option WrittenDoc)) wh
       ∙ ap (λ b. document_of_place (cond b (Some kept) (get_by_text m text))) (turned bs text)
       ∙ elim (bytes_eq text bs) as (λ b. document_of_place (cond b (Some kept) (get_by_text m text)) ≡ cond b (document_in kept) (document_of_place (get_by_text m text))) [ true ↦ refl | false ↦ refl ]
 
+  -- a place goes with what is in it
+  pub removed-place : Updates None → (text : List ℕ) → document_of_place (get_by_text n text) ≡ cond (bytes_eq text bs) None (document_of_place (get_by_text m text))
+  removed-place up text =
+      ap document_of_place (btree_map_updates_text bs m n None up text)
+      ∙ ap (λ b. document_of_place (cond b None (get_by_text m text))) (turned bs text)
+      ∙ elim (bytes_eq text bs) as (λ b. document_of_place (cond b None (get_by_text m text)) ≡ cond b None (document_of_place (get_by_text m text))) [ true ↦ refl | false ↦ refl ]
+
   -- no place goes
   pub kept-place : (kept : Option WrittenDoc) → Updates (Some kept) → (text : List ℕ) → IsSome (get_by_text m text) → IsSome (get_by_text n text)
   kept-place kept up text some =

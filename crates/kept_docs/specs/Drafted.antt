@@ -30,10 +30,14 @@ with_file_of d c accepted doc =
     then Some (let old = unwrap_or doc (settled blank d) in record old { listing = with_coordinates accepted (Some c) old.listing })
     else doc
 
--- the document at this path has this file more, where that stands in its directory, and those at others are as they were
-abbrev pub HasFileMore : List ℕ → Coordinates → ℕ → Docs → Drafts → Drafts → Type 0
-HasFileMore document c accepted docs old new = (d : Directory) → IsDirectory d → drafted (text_of_directory d) docs new
-    ≡ (if bytes_eq (text_of_document d) document then with_file_of d c accepted (drafted (text_of_directory d) docs old) else drafted (text_of_directory d) docs old)
+-- documents by the paths of their directories: the one at this path has this file more, where that stands in its directory, and those at others are as they were
+abbrev pub HasFileMore : List ℕ → Coordinates → ℕ → (List ℕ → Option Document) → (List ℕ → Option Document) → Type 0
+HasFileMore document c accepted old new = (d : Directory) → IsDirectory d → new (text_of_directory d)
+    ≡ (if bytes_eq (text_of_document d) document then with_file_of d c accepted (old (text_of_directory d)) else old (text_of_directory d))
+
+-- the same of the documents that will be
+abbrev pub HasDraftMore : List ℕ → Coordinates → ℕ → Docs → Drafts → Drafts → Type 0
+HasDraftMore document c accepted docs old new = HasFileMore document c accepted (λ text. drafted text docs old) (λ text. drafted text docs new)
 
 -- a path is drafted, and others are as they were
 pub record IsDraftedAt (path : List ℕ) (doc : Option Document) (old new : Drafts) : Type 0 where

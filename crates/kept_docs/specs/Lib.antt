@@ -1,3 +1,4 @@
 pub mod Drafted
 pub mod Kept
 pub mod Placed
+pub mod Undone

@@ -11,6 +11,7 @@ use mvn_coords::Dir;
 use outside::NoMemory;
 use std::alloc::Global;
 use std::collections::BTreeMap;
+use std::mem;
 use written_docs::WrittenDoc;
 
 /// Documents by the paths of their directories. A path may have a place in which no document is.
@@ -41,7 +42,7 @@ impl Docs {
     }
 
     // Gives a path a place.
-    fn add_place(&mut self, alloc: Global, path: &str) -> Result<(), NoMemory>
+    pub(crate) fn add_place(&mut self, alloc: Global, path: &str) -> Result<(), NoMemory>
         ensures same { AreSame self.old self.new }
         ensures kept { (text : List ℕ) → IsSome (place_at text self.old) → IsSome (place_at text self.new) }
         ensures place { OnOk result (IsSome (place_at path.now self.new)) }
@@ -55,7 +56,7 @@ impl Docs {
     }
 
     // Takes the place of a path away where no document is in it.
-    fn drop_place(&mut self, path: &str)
+    pub(crate) fn drop_place(&mut self, path: &str)
         ensures { AreSame self.old self.new }
     {
         if let Some(None) = self.map.get(path) {
@@ -63,8 +64,27 @@ impl Docs {
         }
     }
 
+    // Takes the document of a path out of its place.
+    pub(crate) fn take(&mut self, path: &str) -> Option<WrittenDoc>
+        ensures taken { document_in result ≡ kept_at path.now self.old }
+        ensures rest { (text : List ℕ) → kept_at text self.new ≡ (if bytes_eq text path.now then None else kept_at text self.old) }
+        ensures places { (text : List ℕ) → IsSome (place_at text self.old) → IsSome (place_at text self.new) }
+    {
+        match self.map.get_mut(path) {
+            Some(place) => mem::take(place),
+            None => None,
+        }
+    }
+
+    // Takes the place of a path away, with what is in it.
+    pub(crate) fn remove(&mut self, path: &str)
+        ensures { (text : List ℕ) → kept_at text self.new ≡ (if bytes_eq text path.now then None else kept_at text self.old) }
+    {
+        self.map.remove(path);
+    }
+
     // Puts a document, or none, in the place of a path.
-    fn set(&mut self, path: &str, kept: Option<WrittenDoc>)
+    pub(crate) fn set(&mut self, path: &str, kept: Option<WrittenDoc>)
         requires { IsSome (place_at path.now self.old) }
         ensures set { (text : List ℕ) → kept_at text self.new ≡ (if bytes_eq text path.now then document_in kept else kept_at text self.old) }
         ensures places { (text : List ℕ) → IsSome (place_at text self.old) → IsSome (place_at text self.new) }

@@ -10,7 +10,7 @@ ghost use Rattle.repo_model.specs.Effect.{new_row};
 ghost use Rattle.repo_model.specs.History.{latest_moment};
 ghost use Rattle.repo_model.specs.Paths.{file_at, stands_in};
 ghost use Rattle.directory_rows.specs.Documents.{added};
-ghost use Rattle.kept_docs.specs.Drafted.{AreRight, HasFileMore, HasWalked, IsDraftedAt, KeepsDrafts, draft_at, drafted, with_file_of};
+ghost use Rattle.kept_docs.specs.Drafted.{AreRight, HasDraftMore, HasWalked, IsDraftedAt, KeepsDrafts, draft_at, drafted, with_file_of};
 ghost use Rattle.kept_docs.specs.Kept.{kept_at};
 ghost use Rattle.kept_docs.specs.Placed.{page_at};
 
@@ -32,7 +32,7 @@ pub struct Drafts {
 }
 
 // The path of the document of a file's artifact.
-fn artifact_document(alloc: Global, c: &Coord<'_>) -> Result<String, NoMemory>
+pub(crate) fn artifact_document(alloc: Global, c: &Coord<'_>) -> Result<String, NoMemory>
     ensures { IfOk result (λ t. string_bytes t ≡ artifact_directory_of c.now ++ 47 ∷ codes "maven-metadata.xml") }
 {
     let path = joined(
@@ -47,7 +47,7 @@ fn artifact_document(alloc: Global, c: &Coord<'_>) -> Result<String, NoMemory>
 }
 
 // The path of the document of a file's version directory.
-fn version_document(alloc: Global, c: &Coord<'_>) -> Result<String, NoMemory>
+pub(crate) fn version_document(alloc: Global, c: &Coord<'_>) -> Result<String, NoMemory>
     ensures { IfOk result (λ t. string_bytes t ≡ version_directory_of c.now ++ 47 ∷ codes "maven-metadata.xml") }
 {
     let mut path = joined(alloc, c.group(), "/", c.artifact(), "/", c.dir())?;
@@ -111,7 +111,7 @@ impl Drafts {
         accepted: u64,
     ) -> Result<(), NoMemory>
         requires { accepted ≤ latest_moment }
-        ensures { OnOk result (HasFileMore (text_of_document dir.now) c.now accepted docs.now self.old self.new) }
+        ensures { OnOk result (HasDraftMore (text_of_document dir.now) c.now accepted docs.now self.old self.new) }
     {
         // It tells that the directory has a document.
         let _path = dir.path();
@@ -133,7 +133,7 @@ impl Drafts {
         accepted: u64,
     ) -> Result<(), NoMemory>
         requires { accepted ≤ latest_moment }
-        ensures { OnOk result (HasFileMore document.now c.now accepted docs.now self.old self.new) }
+        ensures { OnOk result (HasDraftMore document.now c.now accepted docs.now self.old self.new) }
     {
         match kind_of(document) {
             Ok(Kind::Doc(dir)) => self.add_in(alloc, docs, &dir, c, accepted),

@@ -2,14 +2,16 @@
 //! takes the place of the old at once, without memory.
 #![tactic(auto)]
 
+mod changing;
 mod docs;
 mod drafts;
 mod laws;
 mod pages;
 mod preparing;
 
+pub use changing::{RowChange, add_row, undo_row};
 pub use docs::Docs;
 pub use drafts::Drafts;
 pub use laws::document_laws;
 pub use pages::Page;
-pub use preparing::{prepared, prepared_row};
+pub use preparing::prepared;

@@ -4,18 +4,19 @@ use group_view::merged;
 use mvn_coords::{Build, Dir, Kind, Stamp, is_artifact, is_version_directory, kind_of};
 use mvn_doc::{DocFault, read, write};
 use mvn_metadata::{
-    Doc, Listing, Pair, SnapshotBuild, Versions, empty, is_entry, is_group, merge, settle,
+    Doc, Listing, Pair, SnapshotBuild, Undo, Versions, empty, is_entry, is_group, merge, settle,
 };
 use mvn_version::Version;
 use std::alloc::{AllocError, Global};
 use std::mem;
 use texts::{Bytes, Text};
 
-/// The document that is made, and those that were kept.
+/// The document that is made, what undoes its last change in place, and documents that were kept.
 #[derive(Drop)]
 pub(crate) struct Documents {
     alloc: Global,
     doc: Doc,
+    undo: Option<Undo>,
     kept: Vec<Doc>,
 }
 
@@ -113,6 +114,7 @@ impl Documents {
         Documents {
             alloc,
             doc: nothing(alloc),
+            undo: None,
             kept: Vec::new(alloc),
         }
     }
@@ -172,6 +174,34 @@ impl Documents {
         Ok("done")
     }
 
+    /// Adds a version and a moment in place.
+    fn add_version(
+        &mut self,
+        version: &str,
+        moment: Option<u64>,
+    ) -> Result<&'static str, AllocError> {
+        let version = Version::parse(self.alloc, version)?;
+        match moment {
+            Some(moment)
+                if moment <= Stamp::LAST_MOMENT && is_version_directory(version.as_str()) => {
+                let undo: Undo = self.doc.add_version(version, Stamp::from_moment(moment))?;
+                self.undo = Some(undo);
+                Ok("done")
+            }
+            _ => Ok("no version"),
+        }
+    }
+
+    fn undo_version(&mut self) -> &'static str {
+        match mem::take(&mut self.undo) {
+            Some(undo) => {
+                self.doc.undo_version(&undo);
+                "done"
+            }
+            None => "nothing",
+        }
+    }
+
     fn update(&mut self, moment: Option<u64>) -> &'static str {
         match moment {
             Some(moment) if moment <= Stamp::LAST_MOMENT => {
@@ -228,6 +258,10 @@ impl Documents {
             ("empty", [path]) => self.empty(path.as_str()),
             ("settle", [path]) => self.settle(path.as_str()),
             ("add-versions", versions) => self.add_versions(versions),
+            ("add-version", [version, moment]) => {
+                self.add_version(version.as_str(), moment.as_str().parse::<u64>().ok())
+            }
+            ("undo-version", []) => Ok(self.undo_version()),
             ("update", [moment]) => Ok(self.update(moment.as_str().parse::<u64>().ok())),
             ("add-build", [classifier, extension, base, stamp, number]) => self.add_build([
                 classifier.as_str(),

@@ -2,6 +2,7 @@ pub mod Bools
 pub mod MergeLemmas
 pub mod Directories
 pub mod FormLemmas
+pub mod UndoLemmas
 pub mod MergeLaws
 pub mod DocumentLaws
 pub mod Bases

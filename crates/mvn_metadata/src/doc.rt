@@ -1,11 +1,14 @@
 //! The document of a directory.
-ghost use Rattle.std.specs.Prelude.{◌≡◌, IfOk, IsTrue};
+ghost use Rattle.std.specs.Prelude.{◌≡◌, IfOk, IsTrue, OnErr, OnOk};
 ghost use Rattle.std.specs.Option.{option_copied};
-ghost use Rattle.mvn_metadata.specs.Form.{is_listing};
+ghost use Rattle.mvn_coords.specs.Civil.{is_civil};
+ghost use Rattle.mvn_metadata.specs.Form.{is_fit, is_listing};
 ghost use Rattle.mvn_metadata.specs.Document.{joined, latest_time, merged, newest_build, nothing, with_build, with_update, with_version};
+ghost use Rattle.mvn_metadata.specs.Undo.{undone};
 
 use crate::pair::compare_builds;
-use crate::{Entries, Listing, NoMemory, Pair, SnapshotBuild, Versions};
+use crate::undo::{add_version, undo_version};
+use crate::{Entries, Listing, NoMemory, Pair, SnapshotBuild, Undo, Versions};
 use mvn_coords::laws::stamp_is_civil;
 use mvn_coords::{Build, Stamp};
 use mvn_version::Version;
@@ -35,7 +38,7 @@ impl Model for Doc {
     ghost invariant = { λ d. IsTrue (is_document (record { group = d.group; artifact = d.artifact; listing = d.listing })) };
 }
 
-fn latest_time(left: Option<Stamp>, right: Option<Stamp>) -> Option<Stamp>
+pub(crate) fn latest_time(left: Option<Stamp>, right: Option<Stamp>) -> Option<Stamp>
     ensures { result ≡ latest_time left right }
 {
     let (Some(time), Some(other)) = (left, right) else {
@@ -46,6 +49,15 @@ fn latest_time(left: Option<Stamp>, right: Option<Stamp>) -> Option<Stamp>
     } else {
         time
     })
+}
+
+// A time that is known is one of the calendar.
+fn time_is_civil(time: Option<Stamp>)
+    ensures { IsTrue (is_fit is_civil time) }
+{
+    if let Some(stamp) = time {
+        stamp_is_civil(stamp);
+    }
 }
 
 fn newest_build(left: Option<Build>, right: Option<Build>) -> Option<Build>
@@ -272,6 +284,26 @@ impl Doc {
             artifact,
             listing,
         })
+    }
+
+    /// Adds a version (a version directory of the layout) to an artifact's document, which changes at this moment, and gives what undoes
+    /// that. A snapshot directory's document lists no versions and stays as it is. On an `Err` the document is as before.
+    pub fn add_version(&mut self, version: Version, moment: Stamp) -> Result<Undo, NoMemory>
+        requires { IsTrue (is_version_directory version) }
+        ensures ok { OnOk result (self.new ≡ record self.old { listing = with_update (with_version self.old.listing version) moment }) }
+        ensures undo { IfOk result (λ undo. record self.new { listing = undone self.new.listing undo } ≡ self.old) }
+        ensures err { OnErr result (self.new ≡ self.old) }
+    {
+        stamp_is_civil(moment);
+        add_version(&mut self.listing, version, moment)
+    }
+
+    /// Undoes one more version. It takes no memory.
+    pub fn undo_version(&mut self, undo: &Undo)
+        ensures { self.new ≡ record self.old { listing = undone self.old.listing undo.now } }
+    {
+        time_is_civil(undo.updated);
+        undo_version(&mut self.listing, undo);
     }
 
     /// The document of an artifact that also changed at this moment; another one stays as it is.

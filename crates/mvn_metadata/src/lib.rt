@@ -10,6 +10,7 @@ mod listing;
 mod merging;
 mod pair;
 mod settling;
+mod undo;
 mod versions;
 
 pub use doc::Doc;
@@ -20,6 +21,7 @@ pub use merging::merge;
 pub use pair::{Pair, SnapshotBuild};
 pub use settling::{empty, settle};
 use std::alloc::AllocError;
+pub use undo::Undo;
 pub use versions::Versions;
 
 /// There was no memory left.

@@ -1,8 +1,10 @@
 //! The versions that a document lists.
-ghost use Rattle.std.specs.Prelude.{◌≡◌, ◌↔◌, [], IfOk, IsTrue, OnOk, OnErr};
+ghost use Rattle.std.specs.Prelude.{◌≡◌, ◌↔◌, [], if◌then◌else◌, IfOk, IsTrue, OnOk, OnErr};
+ghost use Rattle.std.specs.BTreeMap.{is_at};
 ghost use Rattle.std.specs.Option.{option_copied};
 ghost use Rattle.mvn_metadata.specs.Document.{is_snapshot, latest, release};
 ghost use Rattle.std.specs.BTreeSet.{insert_key};
+ghost use Rattle.std.specs.Set.{remove_key};
 ghost use Rattle.mvn_metadata.specs.Merge.{with_versions};
 ghost use Rattle.mvn_version.specs.Order.{list_cmp};
 
@@ -37,13 +39,22 @@ impl Versions {
         }
     }
 
-    /// Adds a version, unless its text is there. On an `Err` the versions are as before.
-    pub fn add(&mut self, version: Version) -> Result<(), NoMemory>
+    /// Adds a version, unless its text is there, and tells whether it was not: then the versions without it are those before. On an
+    /// `Err` the versions are as before.
+    pub fn add(&mut self, version: Version) -> Result<bool, NoMemory>
         ensures ok { OnOk result (self.new ≡ insert_key list_cmp self.old version) }
+        ensures undo { IfOk result (λ is_new. self.old ≡ (if is_new then remove_key (is_at (list_cmp version)) self.new else self.new)) }
         ensures err { OnErr result (self.new ≡ self.old) }
     {
-        self.set.insert(version)?;
-        Ok(())
+        let is_new = self.set.insert(version)?;
+        Ok(is_new)
+    }
+
+    /// Takes a version out, where its text is there. It takes no memory.
+    pub(crate) fn remove(&mut self, version: &Version)
+        ensures { self.new ≡ remove_key (is_at (list_cmp version.now)) self.old }
+    {
+        self.set.remove(version);
     }
 
     /// Adds each of the versions, which are shared. On an `Err` some may have been added.

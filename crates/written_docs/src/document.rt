@@ -28,16 +28,21 @@ fn digests_of(text: &[u8]) -> Digests
     hashes.finish()
 }
 
-/// The document with its text and digests, which are made once.
+/// The text of a document and its digests, which are made once.
+pub fn text_of(alloc: Global, doc: &Doc) -> Result<(SharedBytes, Digests), NoMemory>
+    ensures text { IfOk result (λ made. made.0 ≡ form.text doc.now) }
+    ensures digests { IfOk result (λ made. made.1 ≡ digests_of made.0) }
+{
+    let text = write(alloc, doc)?;
+    let digests = digests_of(text.as_slice());
+    let shared = SharedBytes::from_vec(text)?;
+    Ok((shared, digests))
+}
+
+/// The document with its text and digests.
 pub fn written(alloc: Global, doc: Doc) -> Result<WrittenDoc, NoMemory>
     ensures { IfOk result (λ w. w.doc ≡ doc) }
 {
-    let text = write(alloc, &doc)?;
-    let digests = digests_of(text.as_slice());
-    let shared = SharedBytes::from_vec(text)?;
-    Ok(WrittenDoc {
-        doc,
-        text: shared,
-        digests,
-    })
+    let (text, digests) = text_of(alloc, &doc)?;
+    Ok(WrittenDoc { doc, text, digests })
 }

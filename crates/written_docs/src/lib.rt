@@ -3,4 +3,4 @@
 
 mod document;
 
-pub use document::{WrittenDoc, written};
+pub use document::{WrittenDoc, text_of, written};
