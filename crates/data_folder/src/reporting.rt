@@ -7,8 +7,8 @@ use std::io::Eprint;
 use std::marker::Model;
 
 /// A disk over another one, which says on standard error how many bytes each cut takes off, before it is made. A journal cuts
-/// what stands behind its last record, and nothing else. Where the line cannot be written the cut is made all the same, and so it
-/// is where the size is not known: then nothing is said, and the call fails. Contracts see the trace of the disk below, where it
+/// what stands behind its last record, and nothing else. Where the line cannot be written the cut is made all the same. Where the
+/// size is not known nothing is cut and nothing said, and the call fails. Contracts see the trace of the disk below, where it
 /// tells one, and how many of its calls have failed.
 #[derive(Drop)]
 pub struct ReportingDisk<D: Disk + Drop, R: Eprint + Drop> {
@@ -55,15 +55,11 @@ impl<D: Disk + Drop, R: Eprint + Drop> Disk for ReportingDisk<D, R> {
     }
 
     fn cut(&mut self, size: u64) -> Result<(), Failed> {
-        let before = self.disk.size();
-        if let Ok(before) = before
-            && size < before
-        {
+        let before = self.disk.size()?;
+        if size < before {
             let _ = eprintln!(self.rt; "mvnrepod: tail {}", before - size);
         }
-        self.disk.cut(size)?;
-        before?;
-        Ok(())
+        self.disk.cut(size)
     }
 
     fn sync(&mut self) -> Result<(), Failed> {

@@ -4,7 +4,7 @@ use crate::noted::{Noted, Notes};
 use crate::places::{clears, makes, puts};
 use data_folder::{ReportingDisk, open_disk};
 use outside::Failed;
-use record_disk::Disk;
+use record_disk::{Disk, DiskRoom, DiskScript, MemDisk};
 use std::alloc::AllocError;
 
 // Whether these are the calls since they were last looked at. Others are written to standard error.
@@ -158,4 +158,25 @@ fn a_tail_is_told_before_it_goes(rt: HostRuntime) {
     let _ = clears(&rt, "orders_tail");
     assert!(rt; matches!(is_reported(&rt), Ok(true)));
     assert!(rt; clears(&rt, "orders_tail"));
+}
+
+fn is_left(rt: &HostRuntime) -> Result<bool, AllocError> {
+    let alloc = rt.alloc();
+    let notes = Notes::new(alloc)?;
+    let script = DiskScript::failing_at([0].to_vec(alloc)?, 0);
+    let room = DiskRoom {
+        file: 4,
+        written: 0,
+        calls: 1,
+    };
+    let disk = MemDisk::new(alloc, b"abcd", room, script)?;
+    let mut disk = ReportingDisk::new(disk, Noted::new(rt, &notes)?);
+    let refused = disk.cut(1).is_err();
+    Ok(refused && disk.size() == Ok(4) && are(rt, &notes, ""))
+}
+
+// A tail whose length can't be told stays.
+#[test]
+fn a_tail_that_cannot_be_told_stays(rt: HostRuntime) {
+    assert!(rt; matches!(is_left(&rt), Ok(true)));
 }

@@ -1,7 +1,7 @@
 -- How runs of disk calls are put together.
-use Rattle.std.proofs.Common.{◌≡◌, ◌⊎◌, inl, inr, ℕ, List, take, refl, sym, ◌∙◌, subst, arith}
+use Rattle.std.proofs.Common.{◌≡◌, ◌⊎◌, inl, inr, ℕ, List, take, refl, sym, subst, arith}
 use Rattle.std.specs.Prelude.{Option, None, Some, Result, Ok, Err, MatchResult}
-use Rattle.record_disk.specs.Disk.{Call, Write, Cut, Sync, Trace, After, content, Torn, IsImage, AllImages, Throughout, Here, Then, Told, MayHave, IsDurable, Tears, Cuts}
+use Rattle.record_disk.specs.Disk.{Call, Write, Cut, Sync, Trace, After, content, Torn, IsImage, AllImages, Throughout, Here, Then, Told, MayHave, Tears, Cuts}
 
 pub torn_same : (at n : ℕ) (file : List ℕ) → Torn at n file file
 torn_same at n file = record { before = refl; after = refl; no_shorter = omega arith; no_longer = omega arith }
@@ -78,7 +78,3 @@ tears_sync at n (Err e) s t u tears is = subst (Tears at n s) (sym is) tears
 pub cuts_sync : {T E : Type 0} (size : ℕ) (result : Result T E) (s t u : Trace) → Cuts size s t → Syncs result t u → Cuts size s u
 cuts_sync size (Ok x) s t u cuts is = subst (Cuts size s) (sym is) (record { moments = synced (λ image. (from : List ℕ) × IsImage s from × ((image ≡ from) ⊎ (image ≡ take size from))) s t cuts.moments cuts.image; image = refl })
 cuts_sync size (Err e) s t u cuts is = subst (Cuts size s) (sym is) cuts
-
--- after a sync that succeeds
-pub safe : (file : List ℕ) (t u : Trace) → content t ≡ file → u ≡ After Sync (content t) t → IsDurable file u
-safe file t u holds is = subst (IsDurable file) (sym is) (record { reads = holds; only = λ image same. same ∙ holds; image = refl })

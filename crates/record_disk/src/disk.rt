@@ -1,6 +1,6 @@
 ghost use Rattle.std.specs.Prelude.{◌≡◌, ◌≤◌, ◌<◌, ◌+◌, ◌^◌, ℕ, Option, None, length, take, drop, IfOk, IfSome, OnOk, MatchResult};
 ghost use Rattle.outside.specs.Faults.{HasCause};
-ghost use Rattle.record_disk.specs.Disk.{Trace, Write, Cut, Sync, After, content, Told, MayHave, written};
+ghost use Rattle.record_disk.specs.Disk.{Trace, Write, Cut, Sync, After, content, IsImage, Told, MayHave, written};
 
 use outside::Failed;
 
@@ -14,11 +14,12 @@ pub trait Disk {
     // and what a crash may leave is read off it.
     ghost trace: { Self → Option Trace } = { λ _. None };
 
-    /// How many bytes the file has.
+    /// How many bytes the file has. What a read gives is one of the images that a crash may leave.
     fn size(&mut self) -> Result<u64, Failed>
         ensures cause { HasCause (faults self.old) (faults self.new) result }
         ensures within { IfOk result (λ size. size < 2 ^ 63) }
         ensures told { IfOk result (λ size. IfSome (trace self.old) (λ s. size ≡ length (content s))) }
+        ensures image { IfSome (trace self.old) (λ s. IsImage s (content s)) }
         ensures same { trace self.new ≡ trace self.old };
 
     /// Reads as many bytes as `buffer` has, from the place `at` on. Fewer are `Failed`.

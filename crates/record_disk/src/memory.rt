@@ -1,7 +1,7 @@
 ghost use Rattle.std.specs.Prelude.{◌≡◌, ◌⊎◌, ◌≤◌, ◌<◌, ◌+◌, ◌^◌, length, take, drop, Some, IfOk, IfSome, IsErr, OnOk, OnErr, MatchResult};
 ghost use Rattle.outside.specs.Faults.{HasCause};
 ghost use Rattle.outside_memory.specs.Script.{script_of, script_passed, script_failed};
-ghost use Rattle.record_disk.specs.Disk.{Opened, After, Write, Cut, Sync, content, Told, MayHave, written};
+ghost use Rattle.record_disk.specs.Disk.{Opened, After, Write, Cut, Sync, content, IsImage, Told, MayHave, written};
 ghost use Rattle.record_disk.specs.Memory.{IsDue, FindsNoRoom};
 
 use crate::disk::Disk;
@@ -116,6 +116,7 @@ impl Disk for MemDisk {
         ensures cause { HasCause self.old.script.faults self.new.script.faults result }
         ensures within { IfOk result (λ size. size < 2 ^ 63) }
         ensures told { IfOk result (λ size. size ≡ length (content self.old.trace)) }
+        ensures image { IsImage self.old.trace (content self.old.trace) }
         ensures same { self.new.trace ≡ self.old.trace }
         ensures reason { OnErr result (IsDue self.old) }
         ensures due { IsDue self.old → IsErr result }
