@@ -220,9 +220,9 @@ impl<R: Net> Door<R> {
         Some(kept)
     }
 
-    /// Closes the connection that has been kept longest. Whether there was one.
+    /// Closes the connection that goes first. Whether there was one.
     pub fn make_room<W: Wait>(&self, waits: &W) -> bool {
-        self.lose(self.room.take_oldest(waits))
+        self.lose(self.room.take_first(waits))
     }
 
     /// Closes the connections that have been kept too long, once a second.

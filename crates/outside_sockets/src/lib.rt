@@ -3,6 +3,7 @@
 //! No contract knows what a peer sends or takes: the adapters count their faults and tell no bytes.
 #![tactic(auto)]
 
+mod choice;
 mod closing;
 mod crowd;
 mod door;

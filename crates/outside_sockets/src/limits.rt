@@ -1,8 +1,9 @@
 //! The numbers of the doorman and of connections, all of them.
 use std::time::Duration;
 
-/// How many connections are open at most: 900 that are idle, and one for each desk. One more closes the one that has been idle
-/// longest. The usual limit of a process is 1,024 descriptors.
+/// How many connections are open at most: 900 that are idle, and one for each desk. One more closes one: of those of which no byte
+/// has come since they were accepted the oldest, and only where there is none of these the one that has been idle longest. The
+/// usual limit of a process is 1,024 descriptors.
 pub const MOST_OPEN: u64 = 904;
 
 /// How many places there are for connections that no desk has: one for each number of a descriptor.

@@ -1,4 +1,9 @@
 //! The places of the connections that no desk has, one for each number of a descriptor.
+ghost use Rattle.std.specs.Prelude.{◌≡◌, List, [], ◌∷◌, ◌++◌};
+ghost use Rattle.outside_sockets.specs.Choice.{GoesFirst};
+ghost use Rattle.outside_sockets.specs.Standing.{StandsAs};
+
+use crate::choice::{Rank, Standing, is_first};
 use crate::front::Front;
 use crate::limits::{COLD, FIRST_BYTE, IDLE, LINGER, PLACES, WHOLE_HEAD};
 use std::alloc::{AllocError, Global};
@@ -65,6 +70,41 @@ impl<N: OpenStream + Drop> Kept<N> {
         !self.is_closing() && (self.has_request() || has_unread(&self.stream))
     }
 
+    fn rank(&self) -> Rank
+        ensures { StandsAs self.now.state result }
+    {
+        match self.state {
+            State::New => Rank::Silent,
+            State::Heading | State::Idle => Rank::Heard,
+            State::Closing(_) => Rank::Closing,
+        }
+    }
+
+    /// Sets it beside those that were met, of which `first` goes first. Whether bytes of a new one lie unread is asked of the
+    /// system only where that decides.
+    pub fn weigh(&self, number: usize, first: &mut Option<Standing>)
+        ensures { (met : List Standing) → GoesFirst met first.old → (standing : Standing) × StandsAs self.now.state standing.rank
+            × (standing.since ≡ self.now.since) × (standing.number ≡ number) × GoesFirst (met ++ standing ∷ []) first.new }
+    {
+        let mut standing = Standing {
+            rank: self.rank(),
+            since: self.since,
+            number,
+        };
+        if !is_first(*first, standing) {
+            return;
+        }
+        if let State::New = self.state {
+            if has_unread(&self.stream) {
+                standing.rank = Rank::Heard;
+                if !is_first(*first, standing) {
+                    return;
+                }
+            }
+        }
+        *first = Some(standing);
+    }
+
     /// Whether a request is held of it.
     pub fn has_request(&self) -> bool {
         match &self.front {
@@ -117,33 +157,21 @@ impl<N: OpenStream + Drop> Room<N> {
         self.place(number)?.lock(waits).take()
     }
 
-    // The number of the one that has been kept longest, among those that are closing or among the others.
-    fn oldest<W: Wait>(&self, waits: &W, closing: bool) -> Option<i32> {
-        let mut found: Option<(u64, i32)> = None;
-        let mut number = 0i32;
-        for place in &self.places {
+    // The one that goes first where one has to be closed.
+    fn first_to_go<W: Wait>(&self, waits: &W) -> Option<Standing> {
+        let mut first = None;
+        for (number, place) in self.places.iter().enumerate() {
             if let Some(kept) = &*place.lock(waits) {
-                let is_older = match found {
-                    Some((since, _)) => kept.since < since,
-                    None => true,
-                };
-                if is_older && kept.is_closing() == closing {
-                    found = Some((kept.since, number));
-                }
+                kept.weigh(number, &mut first);
             }
-            number = number.saturating_add(1);
         }
-        let (_, number) = found?;
-        Some(number)
+        first
     }
 
-    /// The one that has been kept longest; one that is closing only where there is no other.
-    pub fn take_oldest<W: Wait>(&self, waits: &W) -> Option<Kept<N>> {
-        let number = match self.oldest(waits, false) {
-            Some(number) => number,
-            None => self.oldest(waits, true)?,
-        };
-        self.take(waits, number)
+    /// The one that goes first, which is kept no longer.
+    pub fn take_first<W: Wait>(&self, waits: &W) -> Option<Kept<N>> {
+        let first = self.first_to_go(waits)?;
+        self.places.get(first.number)?.lock(waits).take()
     }
 
     /// Closes those that have been kept too long, unless something has come of them that no desk has looked at, and has others be

@@ -8,6 +8,8 @@ mod answers;
 #[cfg(test)]
 mod connections;
 #[cfg(test)]
+mod crowds;
+#[cfg(test)]
 mod servers;
 #[cfg(test)]
 mod stand_in;

@@ -20,7 +20,7 @@ use std::time::{Clock, Duration};
 /// What the stand-in does, and what it was asked.
 #[derive(Drop)]
 pub struct Script {
-    /// The errors of the listener's first calls, and how often it was called.
+    /// The errors of the listener's first calls, 0 where one is to accept a connection, and how often it was called.
     pub errors: Vec<i32>,
     pub asked: Cell<usize>,
     /// What the reads of a connection give, one after the other, and behind them nothing in time, or 7,000 bytes each; how many
@@ -162,7 +162,9 @@ impl OpenListener for FailingListener {
     fn accept(&self) -> io::Result<(Scripted, SocketAddr)> {
         let asked = self.script.asked.get();
         self.script.asked.set(asked.saturating_add(1));
-        if let Some(number) = self.script.errors.get(asked) {
+        if let Some(number) = self.script.errors.get(asked)
+            && *number != 0
+        {
             return Err(io::Error::from_raw_os_error(*number));
         }
         let (stream, address) = self.listener.accept()?;
@@ -216,6 +218,10 @@ impl OpenStream for Scripted {
 
     fn set_nonblocking(&self, nonblocking: bool) -> io::Result<()> {
         self.stream.set_nonblocking(nonblocking)
+    }
+
+    fn peek(&self, buf: &mut [u8]) -> io::Result<usize> {
+        self.stream.peek(buf)
     }
 
     fn set_read_timeout(&self, longest: Option<Duration>) -> io::Result<()> {
@@ -281,6 +287,16 @@ impl Write for Scripted {
 
 pub type Link = TcpLink<Scripted, StandIn>;
 
+/// A client of a port by a script.
+pub fn client<W: Wait + Drop>(
+    rt: &HostRuntime,
+    port: &TcpPort<StandIn, W>,
+) -> Result<TcpStream, Fail> {
+    let number = port.number().ok_or("no port")?;
+    let address = SocketAddr::V4(SocketAddrV4::new(Ipv4Addr::LOCALHOST, number));
+    Ok(rt.connect(address)?)
+}
+
 /// A port by a script, with a client that has sent a byte, so that the system tells of its connection.
 #[derive(Drop)]
 pub struct Trial<W: Wait + Drop> {
@@ -297,9 +313,7 @@ impl<W: Wait + Drop> Trial<W> {
         };
         let running = Running::new(rt.alloc(), 1)?;
         let port = TcpPort::bind(net, waits, rt.alloc(), 0, running.share()?);
-        let number = port.number().ok_or("no port")?;
-        let address = SocketAddr::V4(SocketAddrV4::new(Ipv4Addr::LOCALHOST, number));
-        let mut peer = rt.connect(address)?;
+        let mut peer = client(rt, &port)?;
         peer.write_all(b"x")?;
         Ok(Trial {
             port,
