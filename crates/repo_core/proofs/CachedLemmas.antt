@@ -1,11 +1,10 @@
 -- The blobs of files that proxies keep are in use: as the rows of repositories.
 use native.Mathlib.Omega.{arith}
-use Rattle.std.proofs.Common.{◌≡◌, ℕ, ◌+◌, ◌≤◌, ◌==◌, Bool, true, false, cond, List, [], ◌∷◌, map, find, Option, Some, None, refl, sym, ap, ◌∙◌, subst, bytes_eq}
-use Rattle.std.specs.Prelude.{count_by, IsTrue}
-use Rattle.std.specs.List.{AllByRecursion}
+use Rattle.std.proofs.Common.{◌≡◌, ℕ, ◌≤◌, true, false, cond, List, [], ◌∷◌, map, find, Some, refl, sym, subst, bytes_eq}
+use Rattle.std.specs.Prelude.{IsTrue}
 use Rattle.std.specs.Option.{option_map_or}
 use Rattle.repo_model.specs.Data.{Row, Hosted, Proxy}
-use Rattle.repo_model.specs.Effect.{new_row, with_number, with_row}
+use Rattle.repo_model.specs.Effect.{with_number, with_row}
 use Rattle.repo_model.specs.Reply.{Reply, created, staged}
 use Rattle.repo_model.specs.Settings.{ProxyRule, Rule}
 use Rattle.repo_model.specs.State.{change_first, is_proxy, is_repository, is_among}
@@ -19,7 +18,7 @@ use Rattle.repo_core.specs.Numbers.{kept_put}
 use Rattle.repo_core.specs.Proxies.{AreCachedInUse}
 use Rattle.repo_core.specs.Purge.{kept_without}
 use Rattle.repo_core.proofs.BlobLemmas.{all-still}
-use Rattle.repo_core.proofs.UseLemmas.{RowsUsed, all-more, more-used, row-more, rows-used}
+use Rattle.repo_core.proofs.UseLemmas.{RowsUsed, all-more, row-more}
 
 -- a proxy's files as the rows of a repository
 abbrev pub as_rule : ProxyRule → Rule
@@ -45,9 +44,6 @@ rows-are-files id (p ∷ proxies) =
       | true ↦ refl
       | false ↦ rows-are-files id proxies
     ]
-
-pub files-used : (kept id : List ℕ) (proxies : List Proxy) → AreCachedInUse kept proxies → RowsUsed kept (files_in id proxies)
-files-used kept id proxies used = subst (RowsUsed kept) (rows-are-files id proxies) (rows-used kept id (map as_hosted proxies) (as-rows kept proxies used))
 
 -- ---- more numbers are in use
 pub cached-more : (kept : List ℕ) (n : ℕ) (proxies : List Proxy) → AreCachedInUse kept proxies → AreCachedInUse (with_number n kept) proxies

@@ -1,7 +1,7 @@
 -- The commands of deployment sessions, as turns of the machine: those that open a session and that stage in it.
 use Rattle.std.proofs.Common.{◌≡◌, ◌⊎◌, ℕ, ◌+◌, Bool, true, false, not, if◌then◌else◌, List, [], ◌∷◌, ◌++◌, length, Option, Some, None, inl, inr, refl, sym, ap, ◌∙◌, subst, eqb-true}
 use Rattle.std.specs.Prelude.{◌==◌, IsTrue, count_by, nat_le, nat_lt}
-use Rattle.std.proofs.lemmas.Bool.{and_parts, false≢true}
+use Rattle.std.proofs.lemmas.Bool.{and_parts}
 use Rattle.mvn_coords.specs.Kind.{kind}
 use Rattle.deploy_session.specs.Known.{Known, begin_turn, known_after, sessions_after_all}
 use Rattle.ordered_rows.specs.Recording.{HasReplyCause}
@@ -16,7 +16,7 @@ use Rattle.repo_model.specs.Settings.{Settings}
 use Rattle.repo_model.specs.Tables.{Tables}
 use Rattle.repo_model.specs.Turn.{Turn, draws_draft, draws_or_spent, has_room, in_repository, judged, may_put_in, says, stage_at, stage_in, staged_at, turn, with_open}
 use Rattle.row_tables.specs.Commits.{tables_with}
-use Rattle.repo_core.specs.Deploys.{AreStagedInUse, Draws, kept_staged, yard_drawn, yard_opened, yard_staged}
+use Rattle.repo_core.specs.Deploys.{AreStagedInUse, kept_staged, yard_opened, yard_staged}
 use Rattle.repo_core.specs.Hosted.{AreInUse}
 use Rattle.repo_core.specs.Turn.{IsAnswer, Recorded, Turned, due, failed, wants_memory}
 use Rattle.repo_core.specs.Whole.{Parts}
@@ -59,33 +59,6 @@ recorded-given t reply (inr so) = inr (so.0, λ _. so.1)
 abbrev draft_by : Bool → ℕ → Turn
 draft_by end next = if end then says spent else record { reply = draft next; effects = draws ∷ [] }
 
-module _ (s : State) where
-  abbrev LeftDrawn : Turn → Reply → Type 0
-  LeftDrawn t r = record s { yard = yard_drawn r s.yard } ≡ with_effects s (if is_free r then [] else t.effects)
-
-  drawn-as-due : (end : Bool) → LeftDrawn (draft_by end s.yard.next_draft) (draft_by end s.yard.next_draft).reply
-  drawn-as-due true = refl
-  drawn-as-due false = refl
-
-  drawn-left : (reply : Reply) (yard : Yard) → Draws reply s.yard yard → record s { yard = yard } ≡ with_effects s (if is_free reply then [] else (draws_draft s.yard.next_draft).effects)
-  drawn-left reply yard did = ap (λ y. record s { yard = y }) did.1 ∙ so did.0 where
-    so : (reply ≡ (draws_draft s.yard.next_draft).reply) ⊎ (reply ≡ no_memory) → LeftDrawn (draws_draft s.yard.next_draft) reply
-    so (inl is) = subst (LeftDrawn (draws_draft s.yard.next_draft)) (sym is) (drawn-as-due (s.yard.next_draft == number_end))
-    so (inr is) = subst (LeftDrawn (draws_draft s.yard.next_draft)) (sym is) refl
-
-pub turned-may_stage : (w : Parts) (n : ℕ) (path : List ℕ) (reply : Reply) (yard : Yard) → may_put_in w.state path (open_of n w.state) ≡ draws_draft w.state.yard.next_draft → Draws reply w.state.yard yard
-    → Turned w (record w { state = record w.state { yard = yard } }) (may_put (session n) path) reply
-turned-may_stage w n path reply yard is did =
-    record {
-      settings = refl;
-      calls = refl;
-      answered = elim did.0 as (λ _. (reply ≡ (may_put_in w.state path (open_of n w.state)).reply) ⊎ ((reply ≡ no_memory) × IsTrue (takes_memory (may_put (session n) path)))) [
-        | (inl so) ↦ inl (so ∙ ap (λ (t : Turn). t.reply) (sym is))
-        | (inr so) ↦ inr (so, refl)
-      ];
-      left = drawn-left w.state reply yard did ∙ ap (λ (t : Turn). with_effects w.state (if is_free reply then [] else t.effects)) (sym is);
-    }
-
 -- ---- a session is opened
 module _ (s : State) (repo : List ℕ) (k : Known) (sessions : k.sessions ≡ s.sessions) (next : k.next ≡ s.yard.next_session) where
   abbrev due_open : Turn
@@ -111,18 +84,6 @@ module _ (s : State) (repo : List ℕ) (k : Known) (sessions : k.sessions ≡ s.
   pub open-left : (reply : Reply) → (reply ≡ due_open.reply) ⊎ IsTrue (is_free reply) → Leaves due_open reply
   open-left reply (inl is) = subst (Leaves due_open) (sym is) (open-by (nat_le most_sessions (count_by is_open k.sessions)) (k.next == number_end))
   open-left reply (inr is) = by-free (Leaves due_open) reply is (ap (λ ss. record s { sessions = ss }) sessions) (ap (λ ss. record s { sessions = ss }) sessions)
-
-  -- the number that is answered was drawn
-  drawn-by : (full end : Bool) (n : ℕ) → (k.next == number_end) ≡ end → opened n ≡ (open_by full end).reply → (n ≡ k.next) × (end ≡ false)
-  drawn-by true end n is so = absurd (let e : opened n ≡ sessions_full = so in cc)
-  drawn-by false true n is so = absurd (let e : opened n ≡ spent = so in cc)
-  drawn-by false false n is so = (let e : opened n ≡ opened k.next = so in cc, refl)
-
-  pub open-drawn : (n : ℕ) → (opened n ≡ due_open.reply) ⊎ IsTrue (is_free (opened n)) → (n ≡ s.yard.next_session) × ((s.yard.next_session == number_end) ≡ false)
-  open-drawn n (inl so) =
-      let got = drawn-by (nat_le most_sessions (count_by is_open k.sessions)) (k.next == number_end) n refl so in
-      (got.0 ∙ next, ap (λ m. m == number_end) (sym next) ∙ got.1)
-  open-drawn n (inr is) = absurd (false≢true is)
 
   -- the next number stays the same in both places
   next-by : (full end : Bool) → (yard_opened (open_by full end).reply s.yard).next_session ≡ (if is_free (open_by full end).reply then k else known_after (open_by full end).effects k).next

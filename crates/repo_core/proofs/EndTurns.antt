@@ -1,13 +1,11 @@
 -- The ends of deployment sessions, by a commit or an abort, as turns of the machine.
 use native.Mathlib.Omega.{arith}
-use Rattle.std.proofs.Common.{◌≡◌, ◌⊎◌, ℕ, ◌<◌, Bool, true, false, cond, if◌then◌else◌, get_or, set, List, [], ◌∷◌, ◌++◌, map, length, Option, Some, None, inl, inr, refl, sym, ap, ◌∙◌, subst}
+use Rattle.std.proofs.Common.{◌≡◌, ◌⊎◌, ℕ, Bool, true, false, cond, if◌then◌else◌, List, [], ◌∷◌, ◌++◌, map, length, Option, Some, None, inl, inr, refl, sym, ap, ◌∙◌, subst}
 use Rattle.std.specs.Prelude.{◌&&◌, IsTrue, bytes_eq, find, is_none, is_some}
 use Rattle.std.specs.List.{AllByRecursion, flat_map, list_any}
 use Rattle.std.specs.Option.{option_and_then}
 use Rattle.std.proofs.lemmas.Bool.{and_parts, false≢true}
-use Rattle.std.proofs.lemmas.List.{get_or_default}
-use Rattle.std.proofs.lemmas.Option.{none-some}
-use Rattle.deploy_session.specs.Known.{Known, abort_turn, commit_turn, garbage_by, known_after, next_after_all, sessions_after_all}
+use Rattle.deploy_session.specs.Known.{Known, abort_turn, commit_turn, known_after, sessions_after_all}
 use Rattle.deploy_session.specs.Shown.{shown_commit}
 use Rattle.deploy_session.specs.declared.answers.Commit.{Commit}
 use Rattle.deploy_session.specs.declared.answers.Commit.TheVariants.{Aborted as GivenUp, Done as Deployed, MissingPom, NoMemory, NoSession, Offends, StoreFault}
@@ -18,12 +16,12 @@ use Rattle.repo_model.specs.Deploy.{Offence, deliver_again, deliver_all, deliver
 use Rattle.repo_model.specs.Effect.{Effect, delivers, discards, ends, hosted_after, recorded, relists, rows_after, with_effects}
 use Rattle.repo_model.specs.May.{AllMay}
 use Rattle.repo_laws.specs.Sound.{OnePlace}
-use Rattle.repo_model.specs.Reply.{Reply, ended, is_free, no_session, opened, same, staged, store_fault}
+use Rattle.repo_model.specs.Reply.{Reply, ended, is_free, no_session, opened, staged, store_fault}
 use Rattle.repo_model.specs.State.{State, change_first, is_open, is_open_at, is_repository, is_session, row_at}
 use Rattle.repo_laws.proofs.Lists.{found-passes}
 use Rattle.repo_laws.proofs.Orderly.{found-has}
 use Rattle.repo_laws.specs.Sound.{IsInOrder}
-use Rattle.repo_core.proofs.HostedLemmas.{rule-there}
+use Rattle.repo_core.proofs.HostedLemmas.{lent-rows, lent-still, rows-found, rule-there, with_lent}
 use Rattle.repo_model.specs.Settings.{Rule, Settings}
 use Rattle.repo_model.specs.Tables.{Tables}
 use Rattle.repo_model.specs.Turn.{Turn, abort_of, commit_by, commit_of, says, with_open}
@@ -37,10 +35,10 @@ use Rattle.repo_core.specs.Purge.{AreKeptOnce, condemned_by, kept_without}
 use Rattle.repo_core.proofs.CachedLemmas.{cached-still}
 use Rattle.repo_core.proofs.GarbageLemmas.{IsGoing, covered-then, garbage-once, garbage_of, going-state, next-still, none-cached}
 use Rattle.repo_core.proofs.PurgeLemmas.{change-twice}
-use Rattle.repo_core.proofs.PutReplies.{rows-by, unchanged}
+use Rattle.repo_core.proofs.PlacedLemmas.{same-all}
+use Rattle.repo_core.proofs.PutReplies.{rows-by}
 use Rattle.repo_core.proofs.SessionNumbers.{session-condemned}
 use Rattle.repo_core.proofs.StagedLemmas.{Covers, covered-files, covered-rows, covers}
-use Rattle.repo_core.proofs.PurgeTurns.{untouched-place}
 use Rattle.repo_core.proofs.Turning.{quiet}
 
 -- ---- a session's end
@@ -70,7 +68,7 @@ module _ (repo : List ℕ) where
   first-then e es hosted here rest = ap (hosted_after_all es) here ∙ rest (changed_rows (rows_after e) hosted) ∙ change-twice repo (rows_after e) (rows_after_all es) hosted
 
   pub ending-rows : (es : List Effect) (hosted : List Hosted) → AllByRecursion (IsEnding repo) es → hosted_after_all es hosted ≡ changed_rows (rows_after_all es) hosted
-  ending-rows [] hosted all = sym (unchanged repo hosted)
+  ending-rows [] hosted all = sym (same-all (is_repository repo) hosted)
   ending-rows (delivers n id path blob moment ∷ es) hosted all =
       first-then (delivers n id path blob moment) es hosted (ap (λ r. change_first (is_repository r) (λ (h : Hosted). record h { rows = rows_after (delivers n id path blob moment) h.rows }) hosted) all.0) (λ hs. ending-rows es hs all.1)
   ending-rows (relists id path moment ∷ es) hosted all =
@@ -208,10 +206,6 @@ module _ (grace now : ℕ) (s : State) (es : List Effect) (going : AllByRecursio
   end-left true = refl
   end-left false = sym (going-state es s going)
 
-  pub end-next : (free : Bool) (next : ℕ) → (if free then next else next_after_all es next) ≡ next
-  end-next true next = refl
-  end-next false next = next-still es next going
-
   pub end-yard : (free : Bool) → (condemned_by (garbage_if free) s.yard).next_session ≡ s.yard.next_session
   end-yard free = session-condemned (garbage_if free) s.yard
 
@@ -234,13 +228,6 @@ module _ (n now : ℕ) (sessions : List Session) (hosted : List Hosted) where
       → commit_in n now sessions hosted ≡ with_open found (λ (known : Session). commit_of known now (rows_in known.repo hosted) known.ended)
   by-found found is = ap (λ o. with_open o (λ (known : Session). commit_of known now (rows_in known.repo hosted) known.ended)) is
 
-  -- it has ended
-  pub commit-known : (result : SessionResult) → Some result ≡ how n (find (is_session n) sessions) → commit_in n now sessions hosted ≡ says (ended result)
-  commit-known result = by (find (is_session n) sessions) where
-    by : (found : Option Session) → Some result ≡ how n found → with_open found (λ (known : Session). commit_of known now (rows_in known.repo hosted) known.ended) ≡ says (ended result)
-    by None is = absurd (none-some result (sym is))
-    by (Some one) is = ap (commit_of one now (rows_in one.repo hosted)) (sym is)
-
   module _ (still : None ≡ how n (find (is_session n) sessions)) where
     as-open : find (is_session n) sessions ≡ find (is_open_at n) sessions
     as-open = known-open n sessions (sym still)
@@ -254,11 +241,11 @@ module _ (n now : ℕ) (sessions : List Session) (hosted : List Hosted) where
       pub commit-open : commit_in n now sessions hosted ≡ commit_of one now (rows_in one.repo hosted) one.ended
       commit-open = by-found (Some one) (as-open ∙ there)
 
-      pub commit-same : (k : Known) → k.sessions ≡ sessions → (rows : List Row) → rows ≡ rows_in one.repo hosted → commit_turn k n now rows ≡ commit_in n now sessions hosted
-      commit-same k sessions_so rows rows_is =
-          ap (λ ss. with_open (find (is_session n) ss) (λ (known : Session). commit_of known now rows known.ended)) sessions_so
-          ∙ ap (λ o. with_open o (λ (known : Session). commit_of known now rows known.ended)) (as-open ∙ there)
-          ∙ ap (λ rs. commit_of one now rs one.ended) rows_is
+      pub commit-same : (k : Known) (old : Hosted) → k.sessions ≡ sessions → find (is_repository one.repo) hosted ≡ Some old → commit_turn k n now old.rows ≡ commit_in n now sessions hosted
+      commit-same k old sessions_so here =
+          ap (λ ss. with_open (find (is_session n) ss) (λ (known : Session). commit_of known now old.rows known.ended)) sessions_so
+          ∙ ap (λ o. with_open o (λ (known : Session). commit_of known now old.rows known.ended)) (as-open ∙ there)
+          ∙ ap (λ rs. commit_of one now rs one.ended) (rows-found one.repo hosted old here)
           ∙ sym commit-open
 
       pub commit-ending : AllByRecursion (IsEnding one.repo) (commit_in n now sessions hosted).effects
@@ -279,31 +266,16 @@ module _ (n now : ℕ) (sessions : List Session) (hosted : List Hosted) where
 
 -- a turn that does nothing leaves all as it is
 module _ (t : Turn) (reply : Reply) (is : t ≡ says reply) where
-  pub idle-known : (free : Bool) (k : Known) → k ≡ (if free then k else known_after t.effects k)
-  idle-known true k = refl
-  idle-known false k = ap (λ (u : Turn). known_after u.effects k) (sym is)
-
-  pub idle-hosted : (free : Bool) (hosted : List Hosted) → hosted ≡ (if free then hosted else hosted_after_all t.effects hosted)
-  idle-hosted true hosted = refl
-  idle-hosted false hosted = ap (λ (u : Turn). hosted_after_all u.effects hosted) (sym is)
-
-  pub idle-garbage : (free : Bool) → [] ≡ (if free then [] else flat_map garbage_by t.effects)
-  idle-garbage true = refl
-  idle-garbage false = ap (λ (u : Turn). flat_map garbage_by u.effects) (sym is)
-
   pub idle-tables : (free : Bool) (told : Option Tables) → told ≡ (if free then told else tables_with (recorded t.effects) told)
   idle-tables true told = refl
   idle-tables false told = quiet told ∙ ap (λ (u : Turn). tables_with (recorded u.effects) told) (sym is)
 
--- the repositories with the rows that a commit leaves at the place of the session's
-pub placed : (repo : List ℕ) (es : List Effect) (items : List Hosted) (i : ℕ) (old new : Hosted) (free : Bool) → AllByRecursion (IsEnding repo) es → i < length items → old ≡ get_or items i old
-    → old.rows ≡ rows_in repo items → (new.rule ≡ (get_or items i new).rule → set items i new ≡ with_rows repo new.rows items)
-    → new ≡ (if free then old else record old { rows = rows_after_all es old.rows }) → set items i new ≡ (if free then items else hosted_after_all es items)
-placed repo es items i old new true all within at here change made = untouched-place repo items i old new within at here change made
-placed repo es items i old new false all within at here change made =
-    let rule : new.rule ≡ old.rule = ap (λ (h : Hosted). h.rule) made in
-    let same : old.rule ≡ (get_or items i new).rule = ap (λ (h : Hosted). h.rule) (at ∙ get_or_default items i old new within) in
-    change (rule ∙ same) ∙ ap (λ rs. with_rows repo rs items) (ap (λ (h : Hosted). h.rows) made ∙ ap (rows_after_all es) here) ∙ ending-set repo es items all
+-- the repositories where that of a session comes back from a commit
+pub placed : (repo : List ℕ) (es : List Effect) (items : List Hosted) (old new : Hosted) (free : Bool) → AllByRecursion (IsEnding repo) es → find (is_repository repo) items ≡ Some old
+    → new ≡ (if free then old else record old { rows = rows_after_all es old.rows }) → with_lent repo items new ≡ (if free then items else hosted_after_all es items)
+placed repo es items old new true all here made = lent-still repo items old new here made
+placed repo es items old new false all here made =
+    lent-rows repo items old new (rows_after_all es old.rows) here made ∙ ap (λ rs. with_rows repo (rows_after_all es rs) items) (rows-found repo items old here) ∙ ending-set repo es items all
 
 pub rules-if : (free : Bool) (es : List Effect) (hosted : List Hosted) → rules_of (hosted_after_all es hosted) ≡ rules_of hosted → rules_of (if free then hosted else hosted_after_all es hosted) ≡ rules_of hosted
 rules-if true es hosted rules = refl

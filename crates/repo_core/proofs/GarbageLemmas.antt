@@ -1,6 +1,6 @@
 -- Effects by which blobs become garbage: each of these blobs was in use and goes once, and what rows and staged files have stays in use.
 use native.Mathlib.Omega.{arith}
-use Rattle.std.proofs.Common.{◌≡◌, ℕ, ◌+◌, ◌<◌, ◌≤◌, ◌==◌, Bool, true, false, cond, ◌&&◌, List, [], ◌∷◌, ◌++◌, refl, sym, ap, ◌∙◌, subst}
+use Rattle.std.proofs.Common.{◌≡◌, ℕ, ◌+◌, ◌≤◌, ◌==◌, Bool, true, false, List, [], ◌∷◌, refl, ap, ◌∙◌, subst}
 use Rattle.std.specs.Prelude.{IsTrue, nat_lt}
 use Rattle.std.specs.List.{AllByRecursion, flat_map}
 use Rattle.std.proofs.lemmas.Bool.Decides.{nat_tests}
@@ -8,8 +8,8 @@ use borrow.Author.Tests.{ltb-false, ltb-true}
 use Rattle.deploy_session.specs.Known.{garbage_by, next_after_all, sessions_after_all}
 use Rattle.repo_model.specs.Data.{Hosted, Proxy, Session}
 use Rattle.repo_model.specs.May.{AllMay, May}
-use Rattle.repo_model.specs.State.{State, Yard, change_first, is_among, is_repository}
-use Rattle.repo_model.specs.Effect.{Effect, condemning, delivers, discards, ends, expires, hosted_after, relists, with_effect, with_effects, yard_after}
+use Rattle.repo_model.specs.State.{State, Yard, is_among}
+use Rattle.repo_model.specs.Effect.{Effect, condemning, delivers, discards, ends, expires, relists, with_effect, with_effects, yard_after}
 use Rattle.repo_laws.specs.Laws.{cached_with, count_of, places_of, rows_with, staged_with}
 use Rattle.repo_laws.specs.Sound.{OnePlace}
 use Rattle.repo_laws.proofs.Counts.{count-cons, one_if}

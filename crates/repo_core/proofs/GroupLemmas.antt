@@ -1,5 +1,5 @@
 -- Whose turn it is in a group, by what its members do.
-use Rattle.std.proofs.Common.{◌≡◌, ◌⊎◌, inl, inr, ℕ, ◌+◌, ◌<◌, ◌≤◌, Bool, true, false, cond, not, List, [], ◌∷◌, ◌++◌, map, length, get_or, take, Option, Some, None, Result, refl, sym, ap, ◌∙◌, subst, zero, suc, arith, append_assoc}
+use Rattle.std.proofs.Common.{◌≡◌, ◌⊎◌, inl, inr, ℕ, ◌+◌, ◌<◌, ◌≤◌, Bool, true, false, cond, not, List, [], ◌∷◌, ◌++◌, map, length, get_or, take, Option, Some, None, Result, refl, sym, ap, ◌∙◌, subst, zero, suc, arith}
 use Rattle.std.specs.Prelude.{find, slice_get, nat_lt}
 use Rattle.std.specs.List.{position, position_or_len}
 use Rattle.std.proofs.lemmas.Bool.{ltb-true}
@@ -27,11 +27,6 @@ fetches-so (is_to_fetch member rule path of_file) = refl
 fetches-so is_blocked = refl
 fetches-so is_negative = refl
 fetches-so is_never = refl
-
--- the stance itself serves for a document too
-pub stance-so : (of_document : Bool) (seen : Seen) → IsStance of_document seen (stance_of seen)
-stance-so true seen = fetches-so seen
-stance-so false seen = refl
 
 -- of files the stances are these
 same-stances : (seens : List Seen) (stances : List Stance) → AreStances false seens stances → stances ≡ map stance_of seens

@@ -16,11 +16,11 @@ use Rattle.repo_model.specs.Command.{is_landing, land, meets, proxy_rule_of}
 use Rattle.repo_model.specs.Data.{Blob, Hosted, Proxy, Row, Session}
 use Rattle.repo_model.specs.Effect.{Effect, caches, clears_mark, proxies_after, recorded, with_effects, with_number, without_mark}
 use Rattle.repo_model.specs.Fetched.{Landing, got_doc, got_file}
-use Rattle.repo_model.specs.Reply.{Reply, is_free, landed, no_draft, no_memory, store_fault}
+use Rattle.repo_model.specs.Reply.{is_free, landed, no_draft, no_memory, store_fault}
 use Rattle.repo_model.specs.Settings.{ProxyRule, Settings}
 use Rattle.repo_model.specs.State.{State, change_first, is_among, is_proxy, number_end, row_at}
 use Rattle.repo_model.specs.Tables.{Tables}
-use Rattle.repo_model.specs.Turn.{Turn, gives_draft_up, is_drawn, lands, lands_by, lands_file, says, turn}
+use Rattle.repo_model.specs.Turn.{gives_draft_up, is_drawn, lands, lands_by, lands_file, says, turn}
 use Rattle.repo_laws.specs.Files.{files_in}
 use Rattle.row_tables.specs.Commits.{tables_with}
 use Rattle.ordered_rows.specs.Recording.{HasReplyCause}

@@ -1,16 +1,6 @@
 -- Lists as they are shown: what is found and what is kept is the same before and after.
-use Rattle.std.proofs.Common.{◌≡◌, Bool, true, false, cond, List, [], ◌∷◌, map, Option, Some, None, find, refl, ap}
-use Rattle.std.specs.Option.{option_map, option_map_or}
-use Rattle.std.specs.List.{filter}
-
-map-cond : {X Y : Type 0} (f : X → Y) (b : Bool) (x : X) (xs : List X) (ys : List Y) → ys ≡ map f xs → cond b (f x ∷ ys) ys ≡ map f (cond b (x ∷ xs) xs)
-map-cond f true x xs ys e = ap (λ l. f x ∷ l) e
-map-cond f false x xs ys e = e
-
--- what passes a test once it is shown
-pub filter-map : {X Y : Type 0} (f : X → Y) (p : Y → Bool) (xs : List X) → filter p (map f xs) ≡ map f (filter (λ x. p (f x)) xs)
-filter-map f p [] = refl
-filter-map f p (x ∷ xs) = map-cond f (p (f x)) x (filter (λ x. p (f x)) xs) (filter p (map f xs)) (filter-map f p xs)
+use Rattle.std.proofs.Common.{◌≡◌, Bool, true, false, cond, List, [], ◌∷◌, map, Option, Some, None, find, refl}
+use Rattle.std.specs.Option.{option_map}
 
 cond-found : {X Y : Type 0} (f : X → Y) (b : Bool) (x : X) (o : Option X) (r : Option Y) → r ≡ option_map f o → cond b (Some (f x)) r ≡ option_map f (cond b (Some x) o)
 cond-found f true x o r e = refl
@@ -24,7 +14,3 @@ find-map f p (x ∷ xs) = cond-found f (p (f x)) x (find (λ x. p (f x)) xs) (fi
 pub option_map-map : {X Y Z : Type 0} (f : X → Y) (g : Y → Z) (o : Option X) → option_map g (option_map f o) ≡ option_map (λ x. g (f x)) o
 option_map-map f g None = refl
 option_map-map f g (Some x) = refl
-
-pub option_map_or-map : {X Y Z : Type 0} (f : X → Y) (g : Y → Z) (o : Option X) (d : Z) → option_map_or g (option_map f o) d ≡ option_map_or (λ x. g (f x)) o d
-option_map_or-map f g None d = refl
-option_map_or-map f g (Some x) d = refl

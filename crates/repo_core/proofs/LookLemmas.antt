@@ -1,7 +1,6 @@
 -- A look, as a turn of the machine.
 use Rattle.std.proofs.Common.{◌≡◌, ℕ, Bool, true, false, if◌then◌else◌, List, [], ◌∷◌, Option, Some, None, Result, Ok, Err, ◌⊎◌, inl, inr, refl, sym, ap, ◌∙◌, subst}
 use Rattle.std.specs.Prelude.{◌==◌, IsTrue}
-use Rattle.mvn_coords.specs.Kind.{kind}
 use Rattle.mvn_coords.specs.declared.kind.Kind.{Kind}
 use Rattle.mvn_coords.specs.declared.kind.Kind.TheVariants.{File, FileSide, Doc, DocSide}
 use Rattle.mvn_coords.specs.declared.fault.PathFault.{PathFault}

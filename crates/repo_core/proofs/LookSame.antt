@@ -7,7 +7,7 @@ use Rattle.mvn_coords.specs.Kind.{kind}
 use Rattle.mvn_coords.specs.declared.kind.Kind.{Kind}
 use Rattle.mvn_coords.specs.declared.fault.PathFault.{PathFault}
 use Rattle.mvn_coords.specs.Layout.{Directory}
-use Rattle.mvn_metadata.specs.Document.{Document, merge}
+use Rattle.mvn_metadata.specs.Document.{merge}
 use Rattle.repo_model.specs.Data.{Hosted}
 use Rattle.repo_model.specs.Proxies.{subject_of}
 use Rattle.repo_model.specs.Settings.{GroupRule, Settings}

@@ -95,11 +95,6 @@ module _ (grace now : ℕ) where
   abbrev without_rows : ℕ → Hosted → Hosted
   without_rows n h = record h { rows = rows_after_all (take n (expired_of grace now h)) h.rows }
 
-  pub dropped-length : (ns : List ℕ) (hosted : List Hosted) → length ns ≤ length hosted → length (dropped_by grace now ns hosted) ≡ length hosted
-  dropped-length [] hosted few = refl
-  dropped-length (n ∷ ns) [] few = refl
-  dropped-length (n ∷ ns) (h ∷ hosted) few = ap suc (dropped-length ns hosted (omega (arith, few)))
-
   pub dropped-at : (ns : List ℕ) (hosted : List Hosted) (d : Hosted) → length ns < length hosted → get_or (dropped_by grace now ns hosted) (length ns) d ≡ get_or hosted (length ns) d
   dropped-at [] hosted d few = refl
   dropped-at (n ∷ ns) [] d few = absurd (omega (arith, few))

@@ -1,5 +1,5 @@
 -- What a member of a group does about a path, and what it has there.
-use Rattle.std.proofs.Common.{◌≡◌, ◌≢◌, ℕ, Bool, true, false, if◌then◌else◌, List, Option, Some, None, Result, Ok, Err, refl, sym, ap, ◌∙◌, subst}
+use Rattle.std.proofs.Common.{◌≡◌, ◌≢◌, ℕ, Bool, true, false, if◌then◌else◌, List, Option, Some, None, Result, Ok, Err, refl, subst}
 use Rattle.std.specs.Prelude.{find, is_some}
 use Rattle.mvn_coords.specs.Kind.{kind}
 use Rattle.mvn_coords.specs.Layout.{Coordinates, Directory, text_of, text_of_document}
@@ -13,10 +13,9 @@ use Rattle.group_view.specs.declared.stances.Stance.TheVariants as stance
 use Rattle.group_laws.specs.Seen.{stance_of}
 use Rattle.hosted_repo.specs.Seens.{is_of_document}
 use Rattle.repo_model.specs.Data.{Kept, Proxy, Row}
-use Rattle.repo_model.specs.Proxies.{asks_never, decided, document_step, instead, is_fresh, is_marked, kept_at, step_for, step_out, subject_of}
+use Rattle.repo_model.specs.Proxies.{asks_never, decided, document_step, is_marked, kept_at, step_for, step_out, subject_of}
 use Rattle.repo_model.specs.State.{is_mark, row_at}
-use Rattle.repo_model.specs.Turn.{document_shown, file_shown, is_of_file, or_nothing, served_by}
-use Rattle.repo_model.specs.declared.step.Step.{Step}
+use Rattle.repo_model.specs.Turn.{document_shown, file_shown, or_nothing, served_by}
 use Rattle.repo_model.specs.declared.step.Step.TheVariants.{Serve, Missed, Blocked, Negative, Never, Fetch}
 use Rattle.repo_core.specs.Looks.{document_kind}
 

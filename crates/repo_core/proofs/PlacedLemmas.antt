@@ -1,6 +1,6 @@
 -- A landing changes one proxy: among others, that of its plan.
-use Rattle.std.proofs.Common.{◌≡◌, ◌<◌, ◌+◌, ◌||◌, ℕ, Bool, true, false, cond, not, List, [], ◌∷◌, length, get_or, set, arith, Option, Some, None, zero, suc, refl, sym, ap, ◌∙◌, bytes_eq}
-use Rattle.std.specs.Prelude.{IsTrue}
+use Rattle.std.proofs.Common.{◌≡◌, ◌<◌, ◌+◌, ◌||◌, ℕ, Bool, true, false, cond, not, List, [], ◌∷◌, length, find, get_or, set, arith, Option, Some, None, zero, suc, refl, sym, ap, ◌∙◌, bytes_eq}
+use Rattle.std.specs.Prelude.{IsTrue, nat_lt}
 use Rattle.std.specs.List.{AllByRecursion, list_any, position, position_or_len}
 use Rattle.std.proofs.lemmas.Bool.{lt-ltb}
 use Rattle.fetch_plan.specs.declared.Plan.{Plan}
@@ -15,12 +15,13 @@ use Rattle.repo_laws.proofs.Lists.{found-passes}
 use Rattle.repo_restart.proofs.PlaceLemmas.{find-at}
 use Rattle.repo_core.specs.Proxies.{proxies_after_all}
 
-same-all : (id : List ℕ) (proxies : List Proxy) → change_first (is_proxy id) (λ (p : Proxy). p) proxies ≡ proxies
-same-all id [] = refl
-same-all id (p ∷ proxies) =
-    elim (is_proxy id p) as (λ b. cond b (p ∷ proxies) (p ∷ change_first (is_proxy id) (λ (q : Proxy). q) proxies) ≡ p ∷ proxies) [
+-- what passes first is changed to itself
+pub same-all : {X : Type 0} (p : X → Bool) (xs : List X) → change_first p (λ x. x) xs ≡ xs
+same-all p [] = refl
+same-all p (x ∷ xs) =
+    elim (p x) as (λ b. cond b (x ∷ xs) (x ∷ change_first p (λ y. y) xs) ≡ x ∷ xs) [
       | true ↦ refl
-      | false ↦ ap (λ rest. p ∷ rest) (same-all id proxies)
+      | false ↦ ap (λ rest. x ∷ rest) (same-all p xs)
     ]
 
 -- one change after another of the same proxy
@@ -43,7 +44,7 @@ record OnlyAt (id : List ℕ) (e : Effect) : Type 0 where
   pub rule : (p : Proxy) → (proxy_after e p).rule ≡ p.rule
 
 all-at : (id : List ℕ) (effects : List Effect) → AllByRecursion (OnlyAt id) effects → (proxies : List Proxy) → proxies_after_all effects proxies ≡ change_first (is_proxy id) (proxy_after_all effects) proxies
-all-at id [] at proxies = sym (same-all id proxies)
+all-at id [] at proxies = sym (same-all (is_proxy id) proxies)
 all-at id (e ∷ effects) at proxies =
     all-at id effects at.1 (proxies_after e proxies)
     ∙ ap (change_first (is_proxy id) (proxy_after_all effects)) (at.0.here proxies)
@@ -51,7 +52,7 @@ all-at id (e ∷ effects) at proxies =
 
 up-at : (id : List ℕ) (draft : Option ℕ) → AllByRecursion (OnlyAt id) (gives_draft_up draft)
 up-at id None = tt
-up-at id (Some n) = (record { here = λ proxies. sym (same-all id proxies); rule = λ p. refl }, tt)
+up-at id (Some n) = (record { here = λ proxies. sym (same-all (is_proxy id) proxies); rule = λ p. refl }, tt)
 
 file-at : (plan : Plan) (blob : Blob) (now : ℕ) (found : Option Row) → AllByRecursion (OnlyAt plan.proxy) (lands_file plan blob now found)
 file-at plan blob now None = (record { here = λ proxies. refl; rule = λ p. refl }, (record { here = λ proxies. refl; rule = λ p. refl }, tt))
@@ -98,3 +99,18 @@ none-there p xs some none =
     let n = position_or_len p xs in
     let there : position p xs ≡ Some n = ap (λ b. cond b (Some n) None) (lt-ltb n (length xs) (any-within p xs some)) in
     cc
+
+pub place-so : {X : Type 0} (p : X → Bool) (xs : List X) (i : ℕ) → position p xs ≡ Some i → position_or_len p xs ≡ i
+place-so p xs i is =
+    let n = position_or_len p xs in
+    elim (nat_lt n (length xs)) as (λ b. cond b (Some n) None ≡ Some i → n ≡ i) [ true ↦ λ some. cc | false ↦ λ none. cc ] is
+
+-- what passes first is set at its place
+pub set-found : {X : Type 0} (p : X → Bool) (f : X → X) (xs : List X) (old : X) → find p xs ≡ Some old → set xs (position_or_len p xs) (f old) ≡ change_first p f xs
+set-found p f [] old is = cc
+set-found p f (x ∷ xs) old is =
+    let n = position_or_len p xs in
+    elim (p x) as (λ b. cond b (Some x) (find p xs) ≡ Some old → set (x ∷ xs) (cond (not b) (1 + n) 0) (f old) ≡ cond b (f x ∷ xs) (x ∷ change_first p f xs)) [
+      | true ↦ λ here. let is_first : old ≡ x = cc in ap (λ y. f y ∷ xs) is_first
+      | false ↦ λ later. let next : 1 + n ≡ suc n = omega arith in ap (λ k. set (x ∷ xs) k (f old)) next ∙ ap (λ rest. x ∷ rest) (set-found p f xs old later)
+    ] is

@@ -21,7 +21,7 @@ use Rattle.repo_core.specs.Deploys.{hosted_after_all}
 use Rattle.repo_core.specs.Hosted.{AreInUse}
 use Rattle.hosted_repo.specs.Expired.{blob_of}
 use Rattle.repo_core.specs.Purge.{condemned_by, dropped_by, shares}
-use Rattle.repo_core.proofs.PutReplies.{unchanged}
+use Rattle.repo_core.proofs.PlacedLemmas.{same-all}
 use Rattle.repo_core.proofs.UseLemmas.{IsUsed, RowsUsed}
 
 -- two changes of one repository
@@ -46,7 +46,7 @@ module _ (repo : List ℕ) (now : ℕ) where
   fading_all rows = map (λ row. fades repo row.path now) rows
 
   pub faded : (rows : List Row) (s : State) → with_effects s (fading_all rows) ≡ record s { hosted = change_first (is_repository repo) (λ h. record h { rows = rows_after_all (fading_all rows) h.rows }) s.hosted }
-  faded [] s = ap (λ hs. record s { hosted = hs }) (sym (unchanged repo s.hosted))
+  faded [] s = ap (λ hs. record s { hosted = hs }) (sym (same-all (is_repository repo) s.hosted))
   faded (row ∷ rows) s =
       let one = rows_after (fades repo row.path now) in
       let s' : State = record s { hosted = change_first (is_repository repo) (λ h. record h { rows = one h.rows }) s.hosted } in

@@ -1,14 +1,15 @@
 -- Unlist and Collect, as turns of the machine.
 use native.Mathlib.Omega.{arith}
-use Rattle.std.proofs.Common.{◌≡◌, ℕ, ◌<◌, ◌≤◌, false, if◌then◌else◌, get_or, set, List, [], ◌∷◌, length, map, Option, Some, None, Result, Ok, Err, inl, inr, refl, sym, ap, ◌∙◌, subst}
-use Rattle.std.specs.Prelude.{IfOk, OnErr, OnOk, find}
+use Rattle.std.proofs.Common.{◌≡◌, ℕ, ◌≤◌, false, if◌then◌else◌, List, [], ◌∷◌, length, map, Option, Some, None, Result, Ok, Err, inl, inr, refl, sym, ap, ◌∙◌, subst}
+use Rattle.std.specs.Prelude.{IsTrue, OnErr, OnOk, find}
 use Rattle.std.specs.List.{AllByRecursion}
 use Rattle.std.specs.Option.{option_map_or}
 use Rattle.std.proofs.lemmas.Grind.{flat_map-append}
-use Rattle.std.proofs.lemmas.List.{append-nil, get_or_default}
+use Rattle.std.proofs.lemmas.List.{append-nil}
 use Rattle.ordered_rows.specs.Rows.{rows_after_all}
 use Rattle.repo_model.specs.Command.{collect, unlist}
-use Rattle.repo_model.specs.Data.{Row, Hosted, Session}
+use Rattle.repo_model.specs.Data.{Hosted, Session}
+use Rattle.repo_model.specs.History.{commits}
 use Rattle.repo_model.specs.Effect.{Effect, expires, forgets, items_of, recorded, with_effect, with_effects, yard_after}
 use Rattle.repo_model.specs.Purge.{due_rows, expire_all, fade_all, most_rows}
 use Rattle.repo_model.specs.Reply.{Reply, collected, is_free, no_memory, store_fault, unlisted}
@@ -40,42 +41,30 @@ use Rattle.repo_core.proofs.CachedLemmas.{cached-still}
 use Rattle.repo_core.proofs.PurgeLemmas.{IsRemoval, dropped-used, expired-all, faded, fading_all, removals}
 use Rattle.repo_core.proofs.GarbageLemmas.{IsGoing, covered-then, garbage_of}
 use Rattle.repo_core.proofs.StagedLemmas.{covered-files, covers}
+use Rattle.repo_core.proofs.HostedLemmas.{lent-rows, lent-still, with_lent}
 use Rattle.repo_core.proofs.PutReplies.{rows-by, same-rows}
 use Rattle.repo_core.proofs.Turning.{failed-so, recorded-so, some-items}
-
-pub ok-then : {A E : Type 0} (P Q : A → Type 0) → ((x : A) → P x → Q x) → (r : Result A E) → IfOk r P → IfOk r Q
-ok-then P Q f (Ok x) p = f x p
-ok-then P Q f (Err e) p = tt
-
-pub on-ok-then : {A E : Type 0} (P Q : Type 0) → (P → Q) → (r : Result A E) → OnOk r P → OnOk r Q
-on-ok-then P Q f (Ok x) p = f p
-on-ok-then P Q f (Err e) p = tt
-
-pub on-err-then : {A E : Type 0} (P Q : Type 0) → (P → Q) → (r : Result A E) → OnErr r P → OnErr r Q
-on-err-then P Q f (Ok x) p = tt
-on-err-then P Q f (Err e) p = f p
 
 -- the rows of one repository, once those that are due are unlisted
 abbrev pub rows_unlisted : List ℕ → ℕ → List Hosted → List Hosted
 rows_unlisted repo now hosted = with_rows repo (rows_after_all (unlist_of now (find (is_repository repo) hosted)).effects (rows_in repo hosted)) hosted
 
--- the rows at the place of a repository were unlisted
-pub unlisted-place : (id : List ℕ) (items : List Hosted) (i now : ℕ) (old new : Hosted) → i < length items → old ≡ get_or items i old → find (is_repository id) items ≡ Some old
-    → (new.rule ≡ (get_or items i new).rule → set items i new ≡ with_rows id new.rows items) → new ≡ record old { rows = rows_after_all (fade_all old now) old.rows }
-    → set items i new ≡ rows_unlisted id now items
-unlisted-place id items i now old new within at here change made =
-    let faded : List Row = rows_after_all (fade_all old now) old.rows in
-    let P : Option Hosted → Type 0 = λ found. faded ≡ rows_after_all (unlist_of now found).effects (option_map_or (λ (h : Hosted). h.rows) found []) in
-    let rows : P (find (is_repository id) items) = subst P (sym here) refl in
-    let rule : new.rule ≡ old.rule = ap (λ (h : Hosted). h.rule) made in
-    let same : old.rule ≡ (get_or items i new).rule = ap (λ (h : Hosted). h.rule) (at ∙ get_or_default items i old new within) in
-    change (rule ∙ same) ∙ ap (λ rs. with_rows id rs items) (ap (λ (h : Hosted). h.rows) made ∙ rows)
+-- a repository that was found is lent, and its rows that are due are unlisted, or it comes back as it was
+module _ (id : List ℕ) (items : List Hosted) (now : ℕ) (old new : Hosted) (here : find (is_repository id) items ≡ Some old) where
+  pub unlisted-lent : new ≡ record old { rows = rows_after_all (fade_all old now) old.rows } → with_lent id items new ≡ rows_unlisted id now items
+  unlisted-lent made =
+      let faded = rows_after_all (fade_all old now) old.rows in
+      lent-rows id items old new faded here made
+      ∙ ap (λ rows. with_rows id rows items) (subst (λ found. faded ≡ rows_after_all (unlist_of now found).effects (option_map_or (λ (h : Hosted). h.rows) found [])) (sym here) refl)
 
-pub untouched-place : (id : List ℕ) (items : List Hosted) (i : ℕ) (old new : Hosted) → i < length items → old ≡ get_or items i old → old.rows ≡ rows_in id items
-    → (new.rule ≡ (get_or items i new).rule → set items i new ≡ with_rows id new.rows items) → new ≡ old → set items i new ≡ items
-untouched-place id items i old new within at here change made =
-    let same : new.rule ≡ (get_or items i new).rule = ap (λ (h : Hosted). h.rule) (made ∙ at ∙ get_or_default items i old new within) in
-    change same ∙ ap (λ rs. with_rows id rs items) (ap (λ (h : Hosted). h.rows) made ∙ here) ∙ same-rows id items
+  pub unlisted-count : (n : ℕ) → n ≡ length (due_rows old.rule now old.rows) → unlisted n ≡ (unlist_of now (find (is_repository id) items)).reply
+  unlisted-count n count = ap unlisted count ∙ ap (λ found. (unlist_of now found).reply) (sym here)
+
+  -- what holds of the repositories either way
+  pub unlisted-or-not : {E : Type 0} (P : List Hosted → Type 0) (did : Result ℕ E) → OnOk did (new ≡ record old { rows = rows_after_all (fade_all old now) old.rows }) → OnErr did (new ≡ old)
+      → ((n : ℕ) → did ≡ Ok n → P (rows_unlisted id now items)) → P items → P (with_lent id items new)
+  unlisted-or-not P (Ok n) rows err done still = subst P (sym (unlisted-lent rows)) (done n refl)
+  unlisted-or-not P (Err e) rows err done still = subst P (sym (lent-still id items old new here err)) still
 
 left-by : (s : State) (repo : List ℕ) (found : Option Hosted) → hosted_of repo s ≡ found
     → record s { hosted = with_rows repo (rows_after_all (unlist_of s.last found).effects (rows_in repo s.hosted)) s.hosted } ≡ with_effects s (unlist_of s.last found).effects
@@ -97,28 +86,29 @@ turned-unlisted w repo n hosted count rows = record {
   left = ap (λ hs. record w.state { hosted = hs }) rows ∙ left-by w.state repo (hosted_of repo w.state) refl;
 }
 
--- what is recorded of the repository that was found
-pub told-by : (id : List ℕ) (items : List Hosted) (now : ℕ) (old : Hosted) (told told' : Option Tables) → find (is_repository id) items ≡ Some old → told' ≡ tables_with (recorded (fade_all old now)) told
-    → told' ≡ tables_with (recorded (unlist_of now (find (is_repository id) items)).effects) told
-told-by id items now old told told' here made = made ∙ ap (λ found. tables_with (recorded (unlist_of now found).effects) told) (sym here)
-
 -- rows of a repository were unlisted, once that was recorded; or memory was wanting; or the records failed
-module _ (w : Parts) (repo : List ℕ) (hosted : List Hosted) (told told' : Option Tables) (faults faults' : ℕ) where
+module _ (w : Parts) (repo : List ℕ) (old new : Hosted) (here : find (is_repository repo) w.state.hosted ≡ Some old) (told told' : Option Tables) (faults faults' : ℕ) where
   abbrev then_left : Parts
-  then_left = record w { state = record w.state { hosted = hosted } }
+  then_left = record w { state = record w.state { hosted = with_lent repo w.state.hosted new } }
 
-  pub unlist-done : (n : ℕ) → unlisted n ≡ (unlist_of w.state.last (hosted_of repo w.state)).reply → hosted ≡ rows_unlisted repo w.state.last w.state.hosted
-      → told' ≡ tables_with (recorded (unlist_of w.state.last (hosted_of repo w.state)).effects) told → faults' ≡ faults → Recorded w then_left (unlist repo) (unlisted n) told told' faults faults'
-  unlist-done n count rows tables same = recorded-so w then_left (unlist repo) (unlisted n) told told' faults faults' (turned-unlisted w repo n hosted count rows) tables same
+  pub unlist-done : (n : ℕ) → n ≡ length (due_rows old.rule w.state.last old.rows) → new ≡ record old { rows = rows_after_all (fade_all old w.state.last) old.rows }
+      → told' ≡ tables_with (recorded (fade_all old w.state.last)) told → faults' ≡ faults → Recorded w then_left (unlist repo) (unlisted n) told told' faults faults'
+  unlist-done n count rows tables same =
+      recorded-so w then_left (unlist repo) (unlisted n) told told' faults faults'
+      (turned-unlisted w repo n (with_lent repo w.state.hosted new) (unlisted-count repo w.state.hosted w.state.last old new here n count) (unlisted-lent repo w.state.hosted w.state.last old new here rows))
+      (tables ∙ ap (λ found. tables_with (recorded (unlist_of w.state.last found).effects) told) (sym here)) same
 
-  pub unlist-without : hosted ≡ w.state.hosted → told' ≡ told → faults' ≡ faults → Recorded w then_left (unlist repo) no_memory told told' faults faults'
-  unlist-without still tables same =
-      recorded-so w then_left (unlist repo) no_memory told told' faults faults' (record { settings = refl; calls = refl; answered = inr (refl, refl); left = ap (λ hs. record w.state { hosted = hs }) still }) tables same
+  module _ (still : new ≡ old) (tables : told' ≡ told) where
+    left-still : then_left.state ≡ w.state
+    left-still = ap (λ hs. record w.state { hosted = hs }) (lent-still repo w.state.hosted old new here still)
 
-  pub unlist-failed : hosted ≡ w.state.hosted → told' ≡ told → (recorded (unlist_of w.state.last (hosted_of repo w.state)).effects ≡ [] → ⊥) → Rose faults faults'
-      → Recorded w then_left (unlist repo) store_fault told told' faults faults'
-  unlist-failed still tables asked rose =
-      failed-so w then_left (unlist repo) told told' faults faults' refl refl (ap (λ hs. record w.state { hosted = hs }) still) (some-items (recorded (unlist_of w.state.last (hosted_of repo w.state)).effects) asked) tables rose
+    pub unlist-without : faults' ≡ faults → Recorded w then_left (unlist repo) no_memory told told' faults faults'
+    unlist-without same = recorded-so w then_left (unlist repo) no_memory told told' faults faults' (record { settings = refl; calls = refl; answered = inr (refl, refl); left = left-still }) tables same
+
+    pub unlist-failed : (recorded (fade_all old w.state.last) ≡ [] → ⊥) → Rose faults faults' → Recorded w then_left (unlist repo) store_fault told told' faults faults'
+    unlist-failed asked rose =
+        failed-so w then_left (unlist repo) told told' faults faults' refl refl left-still
+        (subst (λ found. IsTrue (commits (unlist repo) (unlist_of w.state.last found).effects)) (sym here) (some-items (recorded (fade_all old w.state.last)) asked)) tables rose
 
 -- what a Collect records
 pub collect-items : (w : Parts) → recorded (turn w.settings w.state w.state.last collect).effects ≡ recorded (expire_all w.settings.grace w.state.last w.state.hosted)

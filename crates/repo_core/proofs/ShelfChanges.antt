@@ -1,5 +1,5 @@
 -- What changes of repositories and proxies leave on shelves.
-use Rattle.std.proofs.Common.{◌≡◌, ℕ, ◌-◌, Bool, true, false, cond, ◌==◌, if◌then◌else◌, List, [], ◌∷◌, ◌++◌, take, length, map, filter, Option, Some, None, option_map, find, bytes_eq, Less, Equal, Greater, nat_cmp, is_eq, codes, ◌⊎◌, inl, inr, Ok, refl, sym, ap, ◌∙◌, subst}
+use Rattle.std.proofs.Common.{◌≡◌, ℕ, ◌-◌, Bool, true, false, cond, ◌==◌, if◌then◌else◌, List, [], ◌∷◌, take, length, map, Option, Some, None, option_map, find, bytes_eq, Less, Equal, Greater, nat_cmp, is_eq, codes, ◌⊎◌, inl, inr, Ok, refl, sym, ap, ◌∙◌, subst}
 use Rattle.std.specs.Cmp.Lexicographic.{slice_cmp}
 use Rattle.std.specs.List.{AllByRecursion}
 use Rattle.std.specs.Prelude.{IsTrue}
@@ -11,7 +11,6 @@ use Rattle.std.proofs.lemmas.Map.Text.{is_eq-slice_cmp}
 use Rattle.std.proofs.lemmas.Slice.Eq.{bytes_eq-Decides}
 use Rattle.mvn_coords.specs.Kind.{kind}
 use Rattle.mvn_coords.specs.Layout.{Directory, text_of_directory, text_of_document}
-use Rattle.mvn_coords.specs.Path.{IsDirectory}
 use Rattle.mvn_coords.specs.Segment.{levels}
 use Rattle.mvn_coords.proofs.Levels.{levels_below}
 use Rattle.mvn_metadata.specs.Document.{Document}
@@ -24,7 +23,7 @@ use Rattle.hosted_repo.proofs.Expiry.{dropped}
 use Rattle.kept_docs.proofs.Beside.{document_after_first, document_elsewhere, document-with_row}
 use Rattle.repo_model.specs.Data.{Blob, Hosted, Kept, Proxy, Row, Session}
 use Rattle.repo_model.specs.Document.{document}
-use Rattle.repo_model.specs.Effect.{Effect, caches, clears_mark, drops, fades, keeps_doc, list_again, marks_missing, new_row, proxies_after, proxy_after, with_kept}
+use Rattle.repo_model.specs.Effect.{caches, clears_mark, fades, keeps_doc, list_again, marks_missing, new_row, proxies_after, proxy_after, with_kept}
 use Rattle.repo_model.specs.Fetched.{Landing, got_doc, got_file}
 use Rattle.repo_model.specs.Proxies.{kept_at, settled_at}
 use Rattle.repo_model.specs.Reply.{Reply, created, ended, is_free, relisted, unlisted}
@@ -43,8 +42,8 @@ use Rattle.repo_core.specs.Deploys.{commit_in, hosted_after_all}
 use Rattle.repo_core.specs.Hosted.{rows_in, rows_put, with_rows}
 use Rattle.repo_core.specs.Proxies.{proxies_after_all}
 use Rattle.repo_core.specs.Purge.{dropped_by}
-use Rattle.repo_core.specs.Shelves.{AreShelved, HaveForgotten, document_kept, document_now, everywhere, is_above, nowhere}
-use Rattle.repo_core.proofs.ShelfLemmas.{AreStill, right-above, shelves-still, stands-not}
+use Rattle.repo_core.specs.Shelves.{AreShelved, HaveForgotten, document_kept, everywhere, is_above, nowhere}
+use Rattle.repo_core.proofs.ShelfLemmas.{right-above, shelves-still, stands-not}
 
 -- ---- other rows in one repository
 -- the document of a repository, or what a proxy has

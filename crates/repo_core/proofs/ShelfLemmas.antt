@@ -1,11 +1,10 @@
 -- What stays on shelves, and what is forgotten.
 use native.Mathlib.Omega.{arith}
-use Rattle.std.proofs.Common.{◌≡◌, ◌≢◌, ℕ, ◌+◌, ◌<◌, ◌≤◌, Bool, true, false, cond, ◌||◌, List, [], ◌∷◌, ◌++◌, length, get_or, set, suc, zero, Option, Some, None, ◌⊎◌, inl, inr, find, bytes_eq, append-nil, refl, sym, ap, ◌∙◌, subst}
-use Rattle.std.specs.Option.{ForSome, option_map_or}
+use Rattle.std.proofs.Common.{◌≡◌, ℕ, ◌+◌, ◌<◌, ◌≤◌, Bool, true, false, cond, ◌||◌, List, [], ◌∷◌, ◌++◌, length, get_or, set, suc, zero, Option, Some, None, inl, inr, bytes_eq, append-nil, refl, sym, ap, ◌∙◌, subst}
 use Rattle.std.proofs.lemmas.Bool.{cases_order, false_from_ne_true}
 use Rattle.std.proofs.lemmas.List.{get_or_default, get_or-set_other, get_or-set_same, length-set}
 use Rattle.std.proofs.lemmas.Slice.Eq.{bytes_eq-Decides}
-use Rattle.mvn_coords.specs.Layout.{Directory, below_group, text_of_directory, text_of_document, version_part}
+use Rattle.mvn_coords.specs.Layout.{Directory, text_of_directory, version_part}
 use Rattle.mvn_coords.specs.Path.{IsDirectory}
 use Rattle.mvn_coords.specs.Segment.{levels, path_of_levels}
 use Rattle.mvn_coords.proofs.Levels.{filled, levels_below, path_of_levels-levels}

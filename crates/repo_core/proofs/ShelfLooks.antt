@@ -12,7 +12,7 @@ use Rattle.mvn_coords.specs.Path.{IsDirectory}
 use Rattle.mvn_coords.specs.declared.fault.PathFault.{PathFault}
 use Rattle.mvn_coords.specs.declared.fault.Side.{Side}
 use Rattle.mvn_coords.specs.declared.kind.Kind.{Kind}
-use Rattle.mvn_coords.specs.declared.kind.Kind.TheVariants.{Doc, DocSide}
+use Rattle.mvn_coords.specs.declared.kind.Kind.TheVariants.{Doc}
 use Rattle.mvn_coords.proofs.ExactPaths.{exact_path, kind_of_document}
 use Rattle.path_patterns.specs.Pattern.{is_let_through}
 use Rattle.group_view.specs.Members.{next}

@@ -1,6 +1,6 @@
 -- The blobs of staged files are in use: they stay so where numbers come into use, and where others become garbage.
 use native.Mathlib.Omega.{arith}
-use Rattle.std.proofs.Common.{◌≡◌, ℕ, zero, suc, ◌+◌, ◌≤◌, ◌==◌, Bool, true, false, cond, List, [], ◌∷◌, ◌++◌, refl, sym, ap, ◌∙◌, subst, eqb-true}
+use Rattle.std.proofs.Common.{◌≡◌, ℕ, zero, suc, ◌+◌, ◌≤◌, ◌==◌, Bool, true, false, List, [], ◌∷◌, ◌++◌, refl, ap, subst, eqb-true}
 use Rattle.std.specs.Prelude.{IsTrue, count_by}
 use Rattle.std.specs.List.{AllByRecursion}
 use Rattle.std.specs.Ordering.{match_ordering, nat_cmp}
@@ -15,10 +15,10 @@ use Rattle.repo_laws.specs.Laws.{rows_with, staged_with}
 use Rattle.repo_laws.proofs.Counts.{count-cons, names, one_if, rows_with-cons, staged_with-cons, stages_it}
 use Rattle.repo_laws.proofs.HoldingLists.{all-change_first, all-push}
 use Rattle.repo_laws.proofs.Lists.{all-then}
-use Rattle.repo_core.specs.Deploys.{AreStagedInUse, kept_staged}
+use Rattle.repo_core.specs.Deploys.{AreStagedInUse}
 use Rattle.repo_core.specs.Hosted.{AreInUse}
 use Rattle.repo_core.specs.Numbers.{kept_put}
-use Rattle.repo_core.proofs.UseLemmas.{RowsUsed, among-more, IsUsed}
+use Rattle.repo_core.proofs.UseLemmas.{RowsUsed, among-more}
 
 abbrev pub FileUsed : List ℕ → Staged → Type 0
 FileUsed kept file = IsTrue (is_among file.blob.number kept)

@@ -1,6 +1,6 @@
 -- What a start makes of tables that were built up: a sound state that stands for them, whose parts fit one another.
 use native.Mathlib.Omega.{arith}
-use Rattle.std.proofs.Common.{◌≡◌, ℕ, ◌+◌, ◌<◌, ◌≤◌, ◌==◌, Bool, true, false, cond, List, [], ◌∷◌, ◌++◌, map, Option, Some, None, refl, sym, ap, ◌∙◌, subst, rules}
+use Rattle.std.proofs.Common.{◌≡◌, ℕ, ◌+◌, ◌<◌, ◌≤◌, ◌==◌, true, false, cond, List, [], ◌∷◌, ◌++◌, map, Option, Some, None, refl, sym, ap, ◌∙◌, subst, rules}
 use Rattle.std.specs.Prelude.{filter, IfSome, IsTrue, unwrap_or}
 use Rattle.std.specs.List.{All, AllByRecursion}
 use Rattle.std.specs.Map.{keys_of}
@@ -172,9 +172,6 @@ none-cleared named shelf =
 
 -- ---- the state
 module _ (settings : Settings) (t : Tables) (old new : Shelf) (clock : Option Moments) (s : State) (built : IsBuiltUp t) (form : IsSettings settings) (starts : Starts settings t old new clock 0 s) where
-  made_at : ℕ → State
-  made_at faults = started settings starts.tells starts.stored clock faults t
-
   counted_is : (faults : ℕ) → started settings starts.tells starts.stored clock faults t ≡ counting faults s
   counted_is faults = ap (counting faults) (sym starts.state)
 

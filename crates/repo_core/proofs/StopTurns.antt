@@ -1,8 +1,6 @@
 -- A turn of the core, as what it does to what a stop leaves of the records.
-use Rattle.std.proofs.Common.{◌≡◌, ◌⊎◌, ◌++◌, ℕ, true, false, List, [], ◌∷◌, Option, Some, None, inl, inr, refl, sym, ap, subst, ◌∙◌}
+use Rattle.std.proofs.Common.{◌≡◌, ◌⊎◌, List, [], Option, Some, None, inl, inr, refl, sym, ap, subst, ◌∙◌}
 use Rattle.std.specs.Prelude.{if◌then◌else◌}
-use Rattle.record_disk.specs.Disk.{Trace}
-use Rattle.record_disk.proofs.Moments.{weaker}
 use Rattle.repo_model.specs.declared.item.Item.{Item}
 use Rattle.repo_model.specs.Command.{Command, collect}
 use Rattle.repo_model.specs.Effect.{recorded}
@@ -13,8 +11,8 @@ use Rattle.repo_model.specs.State.{State}
 use Rattle.repo_model.specs.Tables.{Tables}
 use Rattle.repo_model.specs.Turn.{turn}
 use Rattle.row_tables.specs.Commits.{tables_with}
-use Rattle.row_tables.specs.Stopping.{HasCollected, Pends, Stopping, fails, stays, tried, undone}
-use Rattle.row_tables.specs.Stops.{HasReplyStop, IsOneOf, StopsLeave, StopsInside, ReadsAmong, Rests, Unsettled, left_by}
+use Rattle.row_tables.specs.Stopping.{HasCollected, Stopping, fails, stays, tried, undone}
+use Rattle.row_tables.specs.Stops.{HasReplyStop, StopsInside, Rests, Unsettled, left_by}
 use Rattle.row_tables.proofs.OneOf.{leaves-more}
 use Rattle.repo_core.specs.Turn.{IsSettled}
 use Rattle.repo_core.proofs.Turning.{quiet}

@@ -1,7 +1,7 @@
 -- One turn of the parts of the repository, as an entry that fits the machine's state.
 use native.Mathlib.Omega.{arith}
-use Rattle.std.proofs.Common.{◌≡◌, ℕ, ◌≤◌, min, max, Bool, true, false, cond, ◌&&◌, if◌then◌else◌, List, [], ◌∷◌, Option, Some, None, Result, Ok, inl, inr, refl, sym, ap, ◌∙◌, subst}
-use Rattle.std.specs.Prelude.{IfSome, MatchOption, IsTrue, ◌==◌, bytes_eq, count_by, find, length, not, sum_by}
+use Rattle.std.proofs.Common.{◌≡◌, ℕ, ◌≤◌, min, max, Bool, true, false, if◌then◌else◌, List, [], ◌∷◌, Option, Some, None, Result, Ok, inl, inr, refl, sym, ap, ◌∙◌, subst}
+use Rattle.std.specs.Prelude.{IfSome, MatchOption, IsTrue, ◌==◌, bytes_eq, count_by, length, not, sum_by}
 use Rattle.ordered_rows.specs.Rows.{fades}
 use Rattle.mvn_coords.specs.Kind.{kind}
 use Rattle.outside.specs.Moments.{Moments, moments_after}
@@ -11,10 +11,10 @@ use Rattle.mvn_coords.specs.declared.kind.Kind.TheVariants.{FileSide}
 use Rattle.mvn_coords.specs.Layout.{text_of}
 use Rattle.mvn_digest.specs.Sides.{side_of}
 use Rattle.std.specs.Option.{option_map}
-use Rattle.repo_model.specs.Data.{Blob, Row, Hosted, Proxy, Session, repository, session}
+use Rattle.repo_model.specs.Data.{Blob, Row, Hosted, Proxy, repository}
 use Rattle.repo_model.specs.Paths.{takes}
 use Rattle.repo_model.specs.Settings.{Settings}
-use Rattle.repo_model.specs.State.{State, Yard, hosted_of, is_open, is_open_at, is_session, number_end, open_of, row_at, rows_of}
+use Rattle.repo_model.specs.State.{State, Yard, hosted_of, is_open, number_end, row_at, rows_of}
 use Rattle.repo_model.specs.Effect.{Effect, draws, lends, recorded, with_effect, with_effects}
 use Rattle.repo_model.specs.Tables.{Tables}
 use Rattle.repo_model.specs.declared.item.Item.{Item}
@@ -24,9 +24,9 @@ use Rattle.repo_model.specs.declared.question.Finding.{Finding}
 use Rattle.repo_model.specs.declared.question.Finding.TheVariants.{Counts}
 use Rattle.repo_model.specs.Asked.{finding_of}
 use Rattle.repo_model.specs.Command.{Command, look, may_put, put_side, put_doc, collect, ask, meets}
-use Rattle.repo_model.specs.Reply.{Reply, agreed, collected, differs, draft, fetches, file, finds, kind_refused, no_memory, no_session, noted, spent, store_fault, is_free, takes_memory}
+use Rattle.repo_model.specs.Reply.{Reply, agreed, collected, differs, draft, fetches, file, finds, kind_refused, no_memory, spent, store_fault, is_free, takes_memory}
 use Rattle.repo_model.specs.Purge.{expire_all}
-use Rattle.repo_model.specs.Turn.{Seen, Turn, compared, draws_draft, file_limit, in_repository, is_blocked, is_doc, is_file, is_negative, is_never, is_nothing, is_text, is_to_fetch, look_at, plan_of, shows, turn, says, collect_of, judged, may_put_in, staged_at, with_open}
+use Rattle.repo_model.specs.Turn.{Seen, Turn, compared, draws_draft, file_limit, in_repository, is_blocked, is_doc, is_file, is_negative, is_never, is_nothing, is_text, is_to_fetch, look_at, plan_of, shows, turn, says, collect_of, judged}
 use Rattle.repo_model.specs.History as history
 use Rattle.repo_model.specs.History.{Entry, IsReply, MomentFits, commits, latest_moment, ticked, Fits, effects_of, after}
 use Rattle.outside.specs.Faults.{Rose}
@@ -238,10 +238,6 @@ alone old new command reply tables n none turned =
         | (inr is) ↦ let x : no_memory ≡ store_fault = sym is.0 ∙ failed in cc
       ]);
     }
-
--- a command that says something and does nothing
-alone-says : (w : Parts) (command : Command) (reply : Reply) (tables : Option Tables) (n : ℕ) → turn w.settings w.state w.state.last command ≡ says reply → Recorded w w command reply tables tables n n
-alone-says w command reply tables n is = alone w w command reply tables n (ap (λ (t : Turn). recorded t.effects) is) (turned-says w command reply is)
 
 -- the commands that record nothing
 shows-nothing : (settings : Settings) (y : Yard) (seen : Seen) → recorded (shows settings y seen).effects ≡ []

@@ -1,5 +1,5 @@
 -- The rows of hosted repositories, and what putting a blob does to them.
-use Rattle.std.specs.Prelude.{ℕ, List, [], map, find, Option}
+use Rattle.std.specs.Prelude.{ℕ, List, [], map, find}
 use Rattle.std.specs.Option.{option_map_or}
 use Rattle.std.specs.List.{AllByRecursion}
 use Rattle.std.specs.Prelude.{IsTrue}
@@ -21,10 +21,6 @@ rows_in id hosted = option_map_or (λ h. h.rows) (find (is_repository id) hosted
 -- the repositories with other rows at one of them
 abbrev pub with_rows : List ℕ → List Row → List Hosted → List Hosted
 with_rows id rows hosted = change_first (is_repository id) (λ h. record h { rows = rows }) hosted
-
--- the reply that is due to a put where that is the row at its path; it depends on nothing else
-abbrev pub put_due : Blob → Option Row → Reply
-put_due blob found = (put_at [] [] 0 blob 0 found).reply
 
 -- the turn of a put of a blob at a path of one of the repositories
 abbrev pub put_in : List ℕ → List ℕ → Blob → ℕ → List Hosted → Turn

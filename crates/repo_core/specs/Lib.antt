@@ -10,5 +10,6 @@ pub mod Purge
 pub mod Shelves
 pub mod Stock
 pub mod Deploys
+pub mod Lending
 pub mod Start
 pub mod StartFaults

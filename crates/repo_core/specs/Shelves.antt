@@ -1,5 +1,5 @@
 -- The shelves of groups: what their documents are, and what is forgotten of them.
-use Rattle.std.specs.Prelude.{◌≡◌, ℕ, ◌==◌, Bool, true, false, not, ◌||◌, if◌then◌else◌, List, [], ◌∷◌, find, Option, Some, None, bytes_eq}
+use Rattle.std.specs.Prelude.{◌≡◌, ℕ, Bool, true, false, ◌||◌, if◌then◌else◌, List, [], ◌∷◌, find, Option, Some, None, bytes_eq}
 use Rattle.std.specs.Option.{ForSome, option_map, option_map_or}
 use Rattle.mvn_coords.specs.Layout.{Directory, text_of_directory, text_of_document}
 use Rattle.mvn_coords.specs.Path.{IsDirectory}

@@ -13,12 +13,9 @@ use Rattle.row_tables.specs.Commits.{tables_with}
 use Rattle.row_tables.specs.Stops.{Unsettled}
 use Rattle.repo_core.specs.Whole.{Parts}
 
--- the reply that is due, or want of memory; or one of those that change nothing
+-- the reply that is due, or want of memory
 abbrev pub IsDueOr : Reply → Reply → Type 0
 IsDueOr due reply = (reply ≡ due) ⊎ (reply ≡ no_memory)
-
-abbrev pub IsDueOrFree : Reply → Reply → Type 0
-IsDueOrFree due reply = (reply ≡ due) ⊎ IsTrue (is_free reply)
 
 -- what a command did that got this reply
 abbrev pub done_by : Settings → State → Command → Reply → List Effect

@@ -19,7 +19,7 @@ ghost use Rattle.row_tables.specs.Stops.{HasReplyStop};
 ghost use Rattle.repo_core.specs.Purge.{AreKeptOnce, condemned_by, kept_without};
 ghost use Rattle.repo_core.specs.Deploys.{Draws, commit_in, drawn_unless, hosted_after_all, kept_staged, yard_opened, yard_staged};
 
-use crate::hosted::{place_of, takes};
+use crate::hosted::{repo_mut, takes};
 use crate::purges::condemn_all;
 use blob_yard::{DrawFault, Yard};
 use deploy_session::{Abort, Begin, Commit, Sessions, Stage, has_room, staged_file};
@@ -227,6 +227,6 @@ pub fn commit<H: Held, K: Records>(
     let Some((repo, _)) = sessions.opened(session) else {
         return Commit::NoSession;
     };
-    let place = place_of(repos, repo);
-    sessions.commit(records, &mut repos[place], session, now)
+    let hosted = repo_mut(repos, repo);
+    sessions.commit(records, hosted, session, now)
 }

@@ -1,30 +1,18 @@
 //! The hosted repositories: which one is meant, which files it takes, and its rows.
-ghost use Rattle.std.specs.Prelude.{◌≡◌, ◌≢◌, ◌≤◌, ◌<◌, ◌^◌, [], if◌then◌else◌, length, find, count_by, sum_by, bytes_eq, slice_index_or, slice_set, IsTrue, IfOk, OnOk, OnErr};
+ghost use Rattle.std.specs.Prelude.{◌≡◌, ◌<◌, ◌^◌, find, length, count_by, sum_by, bytes_eq, IsTrue};
+ghost use Rattle.std.specs.Borrow.{sem};
+ghost use Rattle.std.specs.List.{list_any, position};
 ghost use Rattle.std.specs.Option.{option_map};
-ghost use Rattle.std.specs.List.{list_any};
 ghost use Rattle.repo_model.specs.Command.{is_fit};
-ghost use Rattle.repo_model.specs.History.{latest_moment};
 ghost use Rattle.repo_model.specs.Paths.{takes};
-ghost use Rattle.repo_model.specs.State.{number_end, row_at, is_repository};
-ghost use Rattle.repo_model.specs.Shown.{shown_parcel};
-ghost use Rattle.repo_model.specs.Reply.{unlisted};
-ghost use Rattle.repo_model.specs.Turn.{unlist_of};
-ghost use Rattle.hosted_repo.specs.Puts.{shown_put};
-ghost use Rattle.ordered_rows.specs.Rows.{fades, rows_after_all, shown_at};
-ghost use Rattle.ordered_rows.specs.Recording.{FitWhereTold, HasReplyCause};
-ghost use Rattle.row_tables.specs.Records.{HasCommitCause};
-ghost use Rattle.repo_model.specs.Effect.{recorded};
-ghost use Rattle.repo_model.specs.Reply.{is_free};
-ghost use Rattle.row_tables.specs.Commits.{tables_with};
-ghost use Rattle.row_tables.specs.Stops.{HasCommitStop, HasReplyStop};
-ghost use Rattle.row_tables.specs.Items.{is_file_path, is_number};
-ghost use Rattle.repo_core.specs.Hosted.{rules_of, rows_in, with_rows, put_due, put_in, rows_put};
-ghost use Rattle.repo_core.specs.Turn.{IsDueOrFree};
+ghost use Rattle.repo_model.specs.State.{row_at, is_repository};
+ghost use Rattle.ordered_rows.specs.Rows.{fades, shown_at};
+ghost use Rattle.repo_core.specs.Hosted.{rules_of, rows_in};
+ghost use Rattle.repo_core.specs.Lending.{LendsRepository};
 
-use hosted_repo::{Hosted, Put, Row};
+use hosted_repo::{Hosted, Row};
 use mvn_coords::kind_of;
-use outside::{Held, Parcel};
-use row_tables::{CommitFault, Records};
+use outside::Held;
 
 /// The repository of an id.
 pub fn repo_at<'a, H: Held>(repos: &'a [Hosted<H>], id: &str) -> Option<&'a Hosted<H>>
@@ -34,21 +22,23 @@ pub fn repo_at<'a, H: Held>(repos: &'a [Hosted<H>], id: &str) -> Option<&'a Host
     repos.iter().find(|repo| repo.has_id(id))
 }
 
-/// The place of the repository of an id, which is there.
-pub fn place_of<H: Held>(repos: &[Hosted<H>], id: &str) -> usize
-    requires { IsTrue (list_any (is_repository id.now) repos.now) }
-    ensures bound { result < length repos.now }
-    ensures rows { (repo : _) → (slice_index_or repos.now result repo).rows ≡ rows_in id.now repos.now }
-    ensures found { (repo : _) → find (is_repository id.now) repos.now ≡ Some (slice_index_or repos.now result repo) }
-    ensures change { (repo : _) → repo.rule ≡ (slice_index_or repos.now result repo).rule
-        → slice_set repos.now result repo ≡ with_rows id.now repo.rows repos.now }
+// The place of the repository of an id.
+fn place_of<H: Held>(repos: &[Hosted<H>], id: &str) -> Option<usize>
+    ensures { result ≡ position (is_repository id.now) repos.now }
 {
-    for (place, repo) in repos.iter().enumerate() {
-        if repo.has_id(id) {
-            return place;
-        }
+    repos.iter().position(|repo| repo.has_id(id))
+}
+
+/// The repository of an id, which is there.
+pub fn repo_mut<'a, H: Held>(repos: &'a mut Vec<Hosted<H>>, id: &str) -> &'a mut Hosted<H>
+    requires { IsTrue (list_any (is_repository id.now) repos.old.items) }
+    ensures* lends { sem 𝓛 (LendsRepository H.row H.Held repos.entry id.now result) }
+    ensures found { find (is_repository id.now) repos.old.items ≡ Some result.now }
+{
+    match place_of(repos, id) {
+        Some(place) => &mut repos[place],
+        None => unreachable!(),
     }
-    unreachable!()
 }
 
 /// Whether the repository of an id is there and takes the file of the path.
@@ -67,66 +57,6 @@ pub fn row_of<'a, H: Held>(repos: &'a [Hosted<H>], id: &str, path: &str) -> Opti
     ensures { option_map (λ row. shown_at path.now row.now) result ≡ row_at path.now (rows_in id.now repos.now) }
 {
     repo_at(repos, id)?.row(path)
-}
-
-/// Puts a stored blob at a path of the repository of an id, which is there, once that is recorded.
-pub fn put<H: Held, K: Records>(
-    repos: &mut Vec<Hosted<H>>,
-    records: &mut K,
-    id: &str,
-    path: &str,
-    parcel: Parcel<H>,
-    moment: u64,
-) -> Put<H>
-    requires there { IsTrue (list_any (is_repository id.now) repos.old.items) }
-    requires moment { moment ≤ latest_moment }
-    requires ready { K.ready records.old }
-    requires path { IsTrue (is_file_path path.now) }
-    requires blob { IsTrue (is_number parcel.blob) }
-    requires length { parcel.length < number_end }
-    requires fits { FitWhereTold (K.tables records.old) (recorded (put_in id.now path.now (shown_parcel parcel) moment repos.old.items).effects) }
-    ensures reply { IsDueOrFree (put_due (shown_parcel parcel) (row_at path.now (rows_in id.now repos.old.items))) (shown_put result) }
-    ensures asked { IsTrue (is_free (shown_put result)) → recorded (put_in id.now path.now (shown_parcel parcel) moment repos.old.items).effects ≢ [] }
-    ensures rows { repos.new.items ≡ with_rows id.now
-        (rows_put path.now (shown_parcel parcel) moment (shown_put result) (rows_in id.now repos.old.items)) repos.old.items }
-    ensures tables { K.tables records.new ≡ (if is_free (shown_put result) then K.tables records.old
-        else tables_with (recorded (put_in id.now path.now (shown_parcel parcel) moment repos.old.items).effects) (K.tables records.old)) }
-    ensures cause { HasReplyCause (K.faults records.old) (K.faults records.new) (shown_put result) }
-    ensures stops { HasReplyStop (recorded (put_in id.now path.now (shown_parcel parcel) moment repos.old.items).effects)
-        (K.tables records.old) (K.unsettled records.old) (K.unsettled records.new) (shown_put result) }
-    ensures ready { K.ready records.new }
-{
-    let place = place_of(repos, id);
-    repos[place].put(records, path, parcel, moment)
-}
-
-/// Unlists the rows of the repository of an id, which is there, that it no longer keeps at a moment, once that is recorded, and
-/// gives how many. Where memory is wanting, or the records fail, nothing is changed.
-pub fn unlist<H: Held, K: Records>(
-    repos: &mut Vec<Hosted<H>>,
-    records: &mut K,
-    id: &str,
-    moment: u64,
-) -> Result<u64, CommitFault>
-    requires there { IsTrue (list_any (is_repository id.now) repos.old.items) }
-    requires moment { moment ≤ latest_moment }
-    requires ready { K.ready records.old }
-    requires fits { FitWhereTold (K.tables records.old) (recorded (unlist_of moment (find (is_repository id.now) repos.old.items)).effects) }
-    ensures count { IfOk result (λ n. unlisted n ≡ (unlist_of moment (find (is_repository id.now) repos.old.items)).reply) }
-    ensures rows { OnOk result (repos.new.items ≡ with_rows id.now
-        (rows_after_all (unlist_of moment (find (is_repository id.now) repos.old.items)).effects (rows_in id.now repos.old.items)) repos.old.items) }
-    ensures tables { OnOk result (K.tables records.new
-        ≡ tables_with (recorded (unlist_of moment (find (is_repository id.now) repos.old.items)).effects) (K.tables records.old)) }
-    ensures err { OnErr result (repos.new.items ≡ repos.old.items) }
-    ensures untold { OnErr result (K.tables records.new ≡ K.tables records.old) }
-    ensures cause { HasCommitCause (K.faults records.old) (K.faults records.new) result }
-    ensures asked { result ≡ Err CommitFault.Failed → recorded (unlist_of moment (find (is_repository id.now) repos.old.items)).effects ≢ [] }
-    ensures stops { HasCommitStop (recorded (unlist_of moment (find (is_repository id.now) repos.old.items)).effects)
-        (K.tables records.old) (K.unsettled records.old) (K.unsettled records.new) result }
-    ensures ready { K.ready records.new }
-{
-    let place = place_of(repos, id);
-    repos[place].unlist(records, moment)
 }
 
 /// How many rows the repositories have, and how many of them are unlisted.

@@ -2,7 +2,7 @@
 ghost use Rattle.std.specs.Prelude.{◌≡◌};
 
 use crate::deploys::{reply_of_abort, reply_of_begin, reply_of_commit};
-use crate::hosted::{counts, put, takes, unlist};
+use crate::hosted::{counts, repo_mut, takes};
 use crate::looked::{Asked, Goods};
 use crate::looks::look;
 use crate::proxies::counts_kept;
@@ -323,7 +323,7 @@ impl<C: Clock, H: Held> Machine<C, H> {
         if !self.yard.is_draft(draft) {
             return Reply::NoDraft;
         }
-        let outcome = put(&mut self.repos, records, repo, path, parcel, self.last);
+        let outcome = repo_mut(&mut self.repos, repo).put(records, path, parcel, self.last);
         forget(&mut self.shelves, &changed_by_put(path, &outcome));
         settle(&mut self.yard, draft, &outcome);
         reply_of(outcome)
@@ -351,7 +351,7 @@ impl<C: Clock, H: Held> Machine<C, H> {
         ensures stops { HasReplyStop (recorded (turn self.old.settings self.old.state self.old.state.last (unlist repo.now)).effects) (K.tables records.old) (K.unsettled records.old) (K.unsettled records.new) (shown_reply result) }
         ensures ready { K.ready records.new }
     {
-        let did = unlist(&mut self.repos, records, repo, self.last);
+        let did = repo_mut(&mut self.repos, repo).unlist(records, self.last);
         forget(&mut self.shelves, &changed_by_unlist(did));
         match did {
             Ok(count) => Reply::Unlisted(count),

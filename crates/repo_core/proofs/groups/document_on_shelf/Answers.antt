@@ -1,4 +1,4 @@
-use Rattle.std.proofs.Common.{◌≡◌, Some, Ok, option_map, refl, sym, ap, ◌∙◌}
+use Rattle.std.proofs.Common.{◌≡◌, Some, option_map, refl, sym, ap, ◌∙◌}
 use Rattle.mvn_coords.specs.Kind.{kind}
 use Rattle.mvn_metadata.specs.Document.{merge}
 use Rattle.repo_model.specs.Proxies.{subject_of}

@@ -1,4 +1,4 @@
-use Rattle.std.proofs.Common.{◌≡◌, ◌++◌, ◌∷◌, [], Some, None, take, append-nil, refl, sym, ap, ◌∙◌, subst}
+use Rattle.std.proofs.Common.{◌≡◌, ◌++◌, ◌∷◌, [], take, append-nil, sym, ap, ◌∙◌}
 use Rattle.mvn_coords.specs.Kind.{kind}
 use Rattle.repo_model.specs.Proxies.{subject_of}
 use Rattle.repo_model.specs.Turn.{each_document, member_document, with_some}

@@ -1,4 +1,4 @@
-use Rattle.std.proofs.Common.{◌≡◌, false, map, refl, sym, ap, ◌∙◌, subst}
+use Rattle.std.proofs.Common.{map, sym, ap, ◌∙◌}
 use Rattle.mvn_coords.specs.Kind.{kind}
 use Rattle.group_view.specs.Members.{next}
 use Rattle.group_laws.specs.Seen.{seen_of, stance_of}

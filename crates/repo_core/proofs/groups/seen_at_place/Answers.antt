@@ -1,4 +1,4 @@
-use Rattle.std.proofs.Common.{◌≡◌, refl, sym, ap, ◌∙◌, subst}
+use Rattle.std.proofs.Common.{refl}
 use Rattle.mvn_coords.specs.Kind.{kind}
 use Rattle.repo_core.proofs.GroupLemmas.{none-at-place, seen-at}
 use Rattle.repo_core.proofs.groups.seen_at_place.Goals as goal

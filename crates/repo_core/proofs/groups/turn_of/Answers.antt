@@ -1,11 +1,9 @@
-use Rattle.std.proofs.Common.{◌≡◌, ◌≤◌, ◌++◌, ◌∷◌, List, [], length, map, take, sym, ap, ◌∙◌, subst, arith}
+use Rattle.std.proofs.Common.{◌≤◌, ◌++◌, ◌∷◌, [], length, take, sym, ap, ◌∙◌, subst, arith}
 use Rattle.std.proofs.lemmas.List.{take_all}
 use Rattle.mvn_coords.specs.Kind.{kind}
 use Rattle.group_view.specs.Members.{next}
-use Rattle.group_view.specs.declared.stances.Stance.{Stance}
-use Rattle.group_laws.specs.Seen.{stance_of}
 use Rattle.hosted_repo.specs.Seens.{is_of_document}
-use Rattle.repo_model.specs.Turn.{Seen, each_seen, member_seen}
+use Rattle.repo_model.specs.Turn.{each_seen, member_seen}
 use Rattle.repo_core.specs.Looks.{AreStances, IsStance}
 use Rattle.repo_core.proofs.GroupLemmas.{next-so, seens-at, stances-more}
 use Rattle.repo_core.proofs.groups.turn_of.Goals as goal

@@ -1,4 +1,4 @@
-use Rattle.std.proofs.Common.{None, Option, [], refl, sym, subst}
+use Rattle.std.proofs.Common.{None, [], refl, sym, subst}
 use Rattle.repo_model.specs.Shown.{shown_reply}
 use Rattle.repo_model.specs.State.{State}
 use Rattle.repo_model.specs.Turn.{Seen, shows}

@@ -1,13 +1,11 @@
-use Rattle.std.proofs.Common.{◌≡◌, ℕ, true, false, if◌then◌else◌, cond, List, Some, None, get_or, set, refl, sym, ap, ◌∙◌, subst, bytes_eq}
-use Rattle.std.specs.Prelude.{IsTrue}
-use Rattle.std.specs.List.{list_any, position}
+use Rattle.std.proofs.Common.{◌≡◌, true, false, if◌then◌else◌, List, Some, None, set, sym, ap, ◌∙◌, subst}
+use Rattle.std.specs.List.{position}
 use Rattle.std.proofs.lemmas.Slice.Eq.{bytes_eq-Decides}
 use Rattle.repo_model.specs.Data.{Proxy, Row}
 use Rattle.repo_model.specs.Effect.{recorded}
 use Rattle.repo_model.specs.Shown.{outcome_map, shown_got}
-use Rattle.repo_model.specs.State.{change_first, is_proxy}
+use Rattle.repo_model.specs.State.{is_proxy}
 use Rattle.repo_model.specs.Turn.{lands_by}
-use Rattle.repo_laws.specs.Files.{files_in}
 use Rattle.ordered_rows.specs.Recording.{FitWhereTold}
 use Rattle.proxy_rules.specs.Landings.{has_failed, proxy_after_all, shown_landed}
 use Rattle.repo_restart.proofs.PlaceLemmas.{changed-at, files-at}

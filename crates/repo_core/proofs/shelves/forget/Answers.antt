@@ -1,6 +1,6 @@
-use Rattle.std.proofs.Common.{◌≤◌, ◌<◌, length, sym, ap, ◌∙◌, subst, arith}
+use Rattle.std.proofs.Common.{◌≤◌, ◌<◌, length, arith}
 use Rattle.repo_core.specs.Shelves.{is_gone}
-use Rattle.repo_core.proofs.ShelfLemmas.{IsSwept, swept-all, swept-more, swept-start}
+use Rattle.repo_core.proofs.ShelfLemmas.{swept-all, swept-more, swept-start}
 use Rattle.repo_core.proofs.shelves.forget.Goals as goal
 
 pub loop-place-init : goal.loop-place-init

@@ -1,15 +1,14 @@
-use Rattle.std.proofs.Common.{◌≡◌, [], refl, sym, ap, ◌∙◌, subst}
+use Rattle.std.proofs.Common.{[], refl, sym, ap, ◌∙◌, subst}
 use Rattle.std.specs.Prelude.{if◌then◌else◌}
-use Rattle.std.specs.List.{AllByRecursion}
 use Rattle.blob_yard.specs.Numbers.{Numbers}
-use Rattle.deploy_session.specs.Known.{Known, abort_turn, known_after, sessions_after_all}
-use Rattle.deploy_session.specs.Shown.{blobs_left, shown_abort}
+use Rattle.deploy_session.specs.Known.{Known, abort_turn, sessions_after_all}
+use Rattle.deploy_session.specs.Shown.{shown_abort}
 use Rattle.repo_model.specs.Command.{abort}
 use Rattle.repo_model.specs.May.{AllMay}
 use Rattle.repo_model.specs.Reply.{is_free}
 use Rattle.repo_model.specs.State.{State}
 use Rattle.repo_laws.proofs.Turns.{turn-can}
-use Rattle.repo_core.specs.Deploys.{AreStagedInUse, hosted_after_all}
+use Rattle.repo_core.specs.Deploys.{AreStagedInUse}
 use Rattle.repo_core.specs.Hosted.{AreInUse}
 use Rattle.repo_core.specs.Proxies.{AreCachedInUse}
 use Rattle.repo_core.specs.Purge.{AreKeptOnce, condemned_by, kept_without}

@@ -1,8 +1,7 @@
-use Rattle.std.proofs.Common.{◌≡◌, ◌⊎◌, [], None, inl, inr, refl, sym, ap, ◌∙◌, subst}
+use Rattle.std.proofs.Common.{refl, sym, ap, ◌∙◌, subst}
 use Rattle.std.specs.Prelude.{if◌then◌else◌}
-use Rattle.std.specs.List.{AllByRecursion}
 use Rattle.blob_yard.specs.Numbers.{Numbers}
-use Rattle.deploy_session.specs.Known.{Known, known_after, sessions_after_all}
+use Rattle.deploy_session.specs.Known.{Known, sessions_after_all}
 use Rattle.deploy_session.specs.Shown.{shown_commit}
 use Rattle.ordered_rows.specs.Recording.{FitWhereTold}
 use Rattle.repo_model.specs.Command.{commit}
@@ -20,7 +19,6 @@ use Rattle.repo_core.proofs.DeployTurns.{recorded-by}
 use Rattle.repo_core.proofs.EndTurns.{commit-given, commit-going, commit-rules, end-cached, end-files, end-left, end-once, end-rows, end-yard, known-if, next-if, open-there, rules-if}
 use Rattle.repo_core.specs.Shelves.{AreShelved, HaveForgotten}
 use Rattle.repo_core.proofs.ShelfChanges.{committed-still}
-use Rattle.repo_core.proofs.GarbageLemmas.{garbage_of}
 use Rattle.settings_laws.proofs.Apart.{named-apart}
 use Rattle.repo_core.proofs.machine.Machine.commit.Goals as goal
 

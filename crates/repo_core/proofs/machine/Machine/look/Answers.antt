@@ -1,4 +1,4 @@
-use Rattle.std.proofs.Common.{refl, sym, ap, ◌∙◌, subst}
+use Rattle.std.proofs.Common.{sym, ap, ◌∙◌, subst}
 use Rattle.repo_model.specs.Shown.{shown_reply}
 use Rattle.repo_model.specs.State.{State}
 use Rattle.blob_yard.specs.Numbers.{Numbers}

@@ -1,4 +1,4 @@
-use Rattle.std.proofs.Common.{◌≡◌, ◌⊎◌, inl, inr, refl, sym, ap, ◌∙◌, subst}
+use Rattle.std.proofs.Common.{refl, sym, ap, ◌∙◌, subst}
 use Rattle.std.specs.Prelude.{if◌then◌else◌}
 use Rattle.blob_yard.specs.Numbers.{Numbers}
 use Rattle.deploy_session.specs.Known.{Known, begin_turn, known_after}
@@ -6,7 +6,7 @@ use Rattle.deploy_session.specs.Shown.{shown_begin}
 use Rattle.repo_model.specs.Command.{open_session}
 use Rattle.repo_model.specs.Reply.{is_free}
 use Rattle.repo_model.specs.State.{State}
-use Rattle.repo_core.specs.Deploys.{AreStagedInUse, yard_opened}
+use Rattle.repo_core.specs.Deploys.{AreStagedInUse}
 use Rattle.repo_core.specs.Hosted.{AreInUse}
 use Rattle.repo_core.specs.Proxies.{AreCachedInUse}
 use Rattle.repo_core.specs.Whole.{Parts}

@@ -1,9 +1,8 @@
-use Rattle.std.proofs.Common.{◌≡◌, ◌⊎◌, inl, inr, refl, sym, ap, ◌∙◌, subst}
-use Rattle.std.specs.Prelude.{IsTrue, find, if◌then◌else◌}
-use Rattle.blob_yard.specs.Numbers.{Numbers}
-use Rattle.deploy_session.specs.Known.{Known, known_after}
+use Rattle.std.proofs.Common.{sym, ap, ◌∙◌, subst}
+use Rattle.std.specs.Prelude.{IsTrue, find}
+use Rattle.deploy_session.specs.Known.{Known}
 use Rattle.deploy_session.specs.Shown.{shown_stage}
-use Rattle.repo_model.specs.Reply.{is_free, no_memory}
+use Rattle.repo_model.specs.Reply.{is_free}
 use Rattle.repo_model.specs.Shown.{shown_parcel}
 use Rattle.repo_model.specs.State.{State, is_among, is_open_at}
 use Rattle.repo_model.specs.Turn.{stage_in}
