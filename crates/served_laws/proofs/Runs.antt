@@ -22,6 +22,8 @@ use Rattle.repo_laws.proofs.Untouched.{untouched}
 use Rattle.table_laws.proofs.Building.{built-order, built-range}
 use Rattle.row_tables.specs.Commits.{tables_with}
 use Rattle.row_tables.specs.Stops.{IsOneOf, Rests, Unsettled, left_by}
+use Rattle.stop_laws.specs.Found.{AreStagedStored}
+use Rattle.stop_laws.proofs.Begun.{starts-staged}
 use Rattle.stop_laws.proofs.RunLaws.{among-finds}
 use Rattle.row_completion.specs.Completion.{IsDigestedWhereTold}
 use Rattle.row_completion.proofs.Digesting.{completes-so}
@@ -99,6 +101,10 @@ module _ (settings : Settings) (records : Recorded) (old cleared : Store) (clock
     untouched = untouched settings apart history core.state begun-sound.order begun-sound.places legal;
   }
 
+  begun-unstaged : (shelf : Shelf) → AreStagedStored shelf core.state
+  begun-unstaged shelf =
+      subst (AreStagedStored shelf) (sym begins.starts.state) (starts-staged settings begins.starts.tells begins.starts.stored clock records.faults begins.tables shelf)
+
   begun-stands : StandsFor begins.tables core.state
   begun-stands =
       subst (StandsFor begins.tables) (sym begins.starts.state)
@@ -141,7 +147,7 @@ module _ (settings : Settings) (records : Recorded) (old cleared : Store) (clock
         completes = subst (λ (t : Tables). Completes t begins.tables) (loaded-told before told_so) completes;
         settled = begins.settled;
         outlasts = outlasts settings apart (proxies-apart settings begins.form) core.state begins.tables core.unsettled made begun-sound whole-order begun-stands.holds on.legal on.are
-            begins.settled (subst (λ (told_so : Option Tables). Rests told_so core.unsettled) told_core begins.rests);
+            begun-unstaged begins.settled (subst (λ (told_so : Option Tables). Rests told_so core.unsettled) told_core begins.rests);
         told_back = holds.0 ∙ on.tables;
         unsettled_back = unsettled_back;
         found_back =

@@ -1,5 +1,5 @@
 -- The turns of a core one after another, each with what is unsettled behind it, and what a start finds then.
-use Rattle.std.proofs.Common.{◌≡◌, ◌≢◌, ℕ, Bool, List, [], ◌∷◌, ◌++◌, Option, Some, None, Ok, Err, refl, sym, subst, ap, ◌∙◌}
+use Rattle.std.proofs.Common.{◌≡◌, ◌≢◌, inl, ℕ, Bool, false, List, [], ◌∷◌, ◌++◌, Option, Some, None, Ok, Err, refl, sym, subst, ap, append_assoc, ◌∙◌}
 use Rattle.std.specs.Prelude.{◌&&◌, IsTrue, Result, is_some}
 use Rattle.std.proofs.lemmas.List.Sums.{fold-append}
 use Rattle.mvn_coords.specs.Kind.{kind}
@@ -7,6 +7,7 @@ use Rattle.mvn_coords.specs.Layout.{Coordinates}
 use Rattle.mvn_coords.specs.declared.fault.PathFault.{PathFault}
 use Rattle.mvn_coords.specs.declared.kind.Kind.{Kind}
 use Rattle.mvn_coords.specs.declared.kind.Kind.TheVariants.{File, FileSide, Doc, DocSide}
+use Rattle.outside.specs.Blobs.{Shelf}
 use Rattle.repo_model.specs.declared.item.Item.{Item}
 use Rattle.repo_model.specs.Command.{Command, collect, is_fit, is_parcel, is_there, meets, put, rule_of}
 use Rattle.repo_model.specs.Data.{Blob, Row}
@@ -15,8 +16,9 @@ use Rattle.repo_model.specs.History.{Entry, Fits, Legal, after, effects_of, end}
 use Rattle.repo_model.specs.Paths.{file_in, takes_file}
 use Rattle.repo_model.specs.Reply.{collected, created}
 use Rattle.repo_model.specs.Settings.{Rule, Settings}
-use Rattle.repo_model.specs.State.{State, row_at, rows_of}
+use Rattle.repo_model.specs.State.{State, is_among, row_at, rows_of}
 use Rattle.repo_model.specs.Tables.{Tables, item_on}
+use Rattle.repo_laws.specs.Closed.{all_given_out}
 use Rattle.repo_laws.specs.Holds.{Holds, InOrder, told, with_items}
 use Rattle.repo_laws.specs.Sound.{AreNamedApart, AreProxiesApart, IsSound}
 use Rattle.repo_laws.proofs.Holding.{history-recorded}
@@ -24,19 +26,21 @@ use Rattle.repo_laws.proofs.Keeping.{keeps-sound}
 use Rattle.row_tables.specs.Commits.{tables_with}
 use Rattle.row_tables.specs.Stopping.{Stopping}
 use Rattle.row_tables.specs.Stops.{IsOneOf, Rests, Unsettled, left_by}
-use Rattle.stop_laws.specs.Found.{NamesNone}
-use Rattle.stop_laws.specs.Runs.{IsAnsweredAgain, StopsAlong, tables_after}
+use Rattle.stop_laws.specs.Found.{AllHandOver, AreStagedStored, HasStored, IsWholeWithout, NamesNone}
+use Rattle.stop_laws.specs.Runs.{FindsAlways, IsAnsweredAgain, StopsAlong, tables_after}
 use Rattle.stop_laws.specs.Stops.{MayNotGo, PendAlong}
+use Rattle.stop_laws.proofs.Bytes.{answered-whole}
 use Rattle.stop_laws.proofs.Created.{created-records, created-stands}
 use Rattle.stop_laws.proofs.GivenOut.{collected-settles, given-out-left, given-out-unnamed}
-use Rattle.stop_laws.proofs.RunLaws.{entry-again, entry-finds, left-again, left-between, runs-find}
+use Rattle.stop_laws.proofs.Missed.{left-whole, recorded-kept, run-whole, runs-pend}
+use Rattle.stop_laws.proofs.RunLaws.{entry-again, entry-finds, finds-more, left-again, left-between, left-recorded, runs-find}
 use Rattle.repo_core.specs.CoreTurn.{CoreTurn}
 use Rattle.repo_core.specs.Whole.{Whole}
 use Rattle.repo_run.specs.FirstConnection.{Makes}
 use Rattle.turn_lock.specs.declared.view.Entry.{Entry as Call}
 use Rattle.turn_lock.specs.History as calls
 use Rattle.turn_seats.specs.Seated.{Sight, entry_of}
-use Rattle.served_laws.specs.Stopped.{AreMade, FindsSince, Made, OutlastsStops, calls_made, entries_made, left_behind, turns_made, unsettled_behind}
+use Rattle.served_laws.specs.Stopped.{AreMade, FindsSince, IsAnsweredStill, Made, OutlastsStops, calls_made, entries_made, left_behind, turns_made, unsettled_behind}
 
 -- a rule that takes a file is there, and the path is that of a file
 takes-what : (rule : Option Rule) (k : Result Kind PathFault) (b : Bool) → IsTrue (is_fit (λ (r : Rule). takes_file r (file_in k)) rule && b)
@@ -47,6 +51,11 @@ takes-what (Some rule) (Ok (File c)) b met = (refl, (c, refl))
 takes-what (Some rule) (Ok (FileSide c side)) b met = absurd (cc)
 takes-what (Some rule) (Ok (Doc d)) b met = absurd (cc)
 takes-what (Some rule) (Ok (DocSide d side)) b met = absurd (cc)
+
+-- the tables are the first that a stop leaves between calls
+first-left : (t : Tables) (pending : Option (List Item)) → IsOneOf t (left_by t pending)
+first-left t None = inl refl
+first-left t (Some items) = inl refl
 
 -- a core went on from tables to another one by what was made
 pub record GoesOn (settings : Settings) (old : Whole) (t : Tables) (made : List Made) (new : Whole) : Type 0 where
@@ -150,6 +159,49 @@ module _ (settings : Settings) where
       (sym (fold-append item_on t (recorded (effects_of settings s x.entry)) (told settings (after settings s x.entry) (entries_made front))))
       (stops-at front rest m (after settings s x.entry) (tables_after settings s x.entry t) x.leaves are.1)
 
+  -- a front of what was made, and what was made behind it
+  made-on : (xs ys : List Made) → entries_made (xs ++ ys) ≡ entries_made xs ++ entries_made ys
+  made-on [] ys = refl
+  made-on (x ∷ xs) ys = ap (λ (es : List Entry). x.entry ∷ es) (made-on xs ys)
+
+  unsettled-on : (xs ys : List Made) (old : Unsettled) → unsettled_behind old (xs ++ ys) ≡ unsettled_behind (unsettled_behind old xs) ys
+  unsettled-on [] ys old = refl
+  unsettled-on (x ∷ xs) ys old = unsettled-on xs ys x.leaves
+
+  told-on : (xs ys : List Entry) (s : State) (t : Tables) → with_items t (told settings s (xs ++ ys)) ≡ with_items (with_items t (told settings s xs)) (told settings (end settings s xs) ys)
+  told-on [] ys s t = refl
+  told-on (x ∷ xs) ys s t =
+      let items : List Item = recorded (effects_of settings s x) in
+      fold-append item_on t items (told settings (after settings s x) (xs ++ ys)) ∙ told-on xs ys (after settings s x) (tables_after settings s x t)
+      ∙ ap (λ (u : Tables). with_items u (told settings (end settings s (x ∷ xs)) ys)) (sym (fold-append item_on t items (told settings (after settings s x) xs)))
+
+  -- what is found since one of them returned
+  since : (P : Tables → Type 0) (s : State) (t : Tables) (old : Unsettled) (first later : List Made) (m : Made)
+      → ((u : Tables) → IsOneOf u (left_behind settings s t old (first ++ m ∷ later)) → P u) → FindsAlways P m.leaves.trace (unsettled_behind m.leaves later).trace
+      → FindsSince settings s t old P (first ++ m ∷ []) later
+  since P s t old first later m between always =
+      let there : unsettled_behind old (first ++ m ∷ []) ≡ m.leaves = unsettled-on first (m ∷ []) old in
+      let last : unsettled_behind old ((first ++ m ∷ []) ++ later) ≡ unsettled_behind m.leaves later =
+      unsettled-on (first ++ m ∷ []) later old ∙ ap (λ (w : Unsettled). unsettled_behind w later) there in (
+        (λ u found. between u (subst (λ (l : List Made). IsOneOf u (left_behind settings s t old l)) (append_assoc first (m ∷ []) later) found)),
+        subst (λ (w : Unsettled). FindsAlways P w.trace (unsettled_behind old ((first ++ m ∷ []) ++ later)).trace) (sym there)
+            (subst (λ (w : Unsettled). FindsAlways P m.leaves.trace w.trace) (sym last) always),
+      )
+
+  parted : (front later : List Made) (s : State) (t : Tables) (old : Unsettled) → AreMade settings s t (front ++ later) old
+      → StopsAlong settings s t (entries_made front) old (unsettled_behind old front)
+      × StopsAlong settings (end settings s (entries_made front)) (with_items t (told settings s (entries_made front))) (entries_made later) (unsettled_behind old front)
+      (unsettled_behind (unsettled_behind old front) later)
+  parted [] later s t old are = (refl, runs-of later s t old are)
+  parted (x ∷ front) later s t old are =
+      let (runs, goes) = parted front later (after settings s x.entry) (tables_after settings s x.entry t) x.leaves are.1 in (
+        (x.leaves, are.0, runs),
+        subst
+            (λ (there : Tables). StopsAlong settings (end settings s (entries_made (x ∷ front))) there (entries_made later) (unsettled_behind x.leaves front)
+            (unsettled_behind (unsettled_behind x.leaves front) later))
+            (sym (fold-append item_on t (recorded (effects_of settings s x.entry)) (told settings (after settings s x.entry) (entries_made front)))) goes,
+      )
+
   module _ (apart : AreNamedApart settings.hosted) (proxies : AreProxiesApart settings.proxies) where
     -- where one that was made stands: the tables there and what was unsettled before it, what is known of these, and what is left behind it
     reached : (first later rest : List Made) (m : Made) (s : State) (t : Tables) (old : Unsettled) → IsSound settings s → InOrder t → Holds t s
@@ -199,25 +251,39 @@ module _ (settings : Settings) where
           → recorded (effects_of settings (end settings s (entries_made first)) m.entry) ≢ []
           → row_at row.path (rows_of repo (after settings (end settings s (entries_made first)) m.entry)) ≡ Some row
           → IsTrue (is_there repo settings) → kind row.path ≡ Ok (File c) → MayNotGo (entries_made later) row.path
-          → FindsSince settings s t old (IsAnsweredAgain settings repo row) first m later
+          → FindsSince settings s t old (IsAnsweredStill settings (first ++ m ∷ later) repo row) (first ++ m ∷ []) later
       standing-again first later rest m repo row c parts some stands known named stay =
           let at = end settings s (entries_made first) in
           let (there, left, sound', order', holds', legal', are', behind) =
           reached first later rest m s t old sound order holds (subst (λ (all : List Made). Legal settings s (entries_made all)) parts legal)
           (subst (λ (all : List Made). AreMade settings s t all old) parts are) in
           let next : Tables = tables_after settings at m.entry there in
-          let front = first-ones later rest (after settings at m.entry) next m.leaves legal'.1 are'.1 in (
-            (λ u found.
-                left-again settings at there u m.entry (entries_made later) left.pending m.leaves.pending (unsettled_behind m.leaves later).pending repo row c apart proxies sound' order' holds' (legal'.0, front.0) stay
-                known named some stands are'.0.pends (pend-of later (after settings at m.entry) next m.leaves front.1) (behind u found)),
-            entry-again settings at there m.entry (entries_made later) left m.leaves (unsettled_behind m.leaves later) repo row c apart proxies sound' order' holds' (legal'.0, front.0) stay
-                known named some stands (m.leaves, are'.0, refl) (runs-of later (after settings at m.entry) next m.leaves front.1),
-          )
+          let front = first-ones later rest (after settings at m.entry) next m.leaves legal'.1 are'.1 in
+          let last = unsettled_behind m.leaves later in
+          let along = pend-of later (after settings at m.entry) next m.leaves front.1 in
+          let so_far : List Made = first ++ m ∷ later in
+          let whole : made ≡ so_far ++ rest = parts ∙ sym (append_assoc first (m ∷ later) rest) in
+          let firsts = first-ones so_far rest s t old (subst (λ (all : List Made). Legal settings s (entries_made all)) whole legal) (subst (λ (all : List Made). AreMade settings s t all old) whole are) in
+          let now : Tables = with_items t (told settings s (entries_made so_far)) in
+          let off : is_among row.blob.number (all_given_out (entries_made so_far)) ≡ false =
+          recorded-kept settings s t (entries_made so_far) old.pending (unsettled_behind old so_far).pending repo row apart sound order holds firsts.0 (pend-of so_far s t old firsts.1)
+          (left-recorded settings at there now m.entry (entries_made later) left.pending m.leaves.pending last.pending repo row apart sound' order' holds' (legal'.0, front.0) stay some stands are'.0.pends along
+          (behind now (first-left now (unsettled_behind old so_far).pending))) in
+          let still : (u : Tables) → IsAnsweredAgain settings repo row u → IsAnsweredStill settings so_far repo row u =
+          λ u again. (again, answered-whole settings repo row (all_given_out (entries_made so_far)) u off again) in
+          since (IsAnsweredStill settings so_far repo row) s t old first later m
+          (λ u found.
+          still u
+          (left-again settings at there u m.entry (entries_made later) left.pending m.leaves.pending last.pending repo row c apart proxies sound' order' holds' (legal'.0, front.0) stay
+          known named some stands are'.0.pends along (behind u found)))
+          (finds-more (IsAnsweredAgain settings repo row) (IsAnsweredStill settings so_far repo row) m.leaves.trace last.trace still
+          (entry-again settings at there m.entry (entries_made later) left m.leaves last repo row c apart proxies sound' order' holds' (legal'.0, front.0) stay
+          known named some stands (m.leaves, are'.0, refl) (runs-of later (after settings at m.entry) next m.leaves front.1)))
 
       -- what a put created
       created-there : (first later rest : List Made) (m : Made) (repo path : List ℕ) (n : ℕ) (blob : Blob) → made ≡ first ++ m ∷ (later ++ rest)
           → m.entry.command ≡ put repo path n blob → m.entry.reply ≡ created → MayNotGo (entries_made later) path
-          → FindsSince settings s t old (IsAnsweredAgain settings repo (new_row path blob m.entry.moment)) first m later
+          → FindsSince settings s t old (IsAnsweredStill settings (first ++ m ∷ later) repo (new_row path blob m.entry.moment)) (first ++ m ∷ []) later
       created-there first later rest m repo path n blob parts is done stay =
           let at = end settings s (entries_made first) in
           let (there, left, sound', order', holds', legal', are', behind) =
@@ -229,7 +295,7 @@ module _ (settings : Settings) where
 
       -- what a Collect gave out
       given-away : (first later rest : List Made) (m : Made) (expired : ℕ) (blobs : List ℕ) → made ≡ first ++ m ∷ (later ++ rest)
-          → m.entry.command ≡ collect → m.entry.reply ≡ collected expired blobs → FindsSince settings s t old (NamesNone blobs) first m later
+          → m.entry.command ≡ collect → m.entry.reply ≡ collected expired blobs → FindsSince settings s t old (NamesNone blobs) (first ++ m ∷ []) later
       given-away first later rest m expired blobs parts is done =
           let at = end settings s (entries_made first) in
           let (there, left, sound', order', holds', legal', are', behind) =
@@ -241,17 +307,45 @@ module _ (settings : Settings) where
           let quiet : m.leaves.pending ≡ None = collected-settles settings at m.entry expired blobs left.pending m.leaves.pending is done are'.0.pends in
           let along : PendAlong settings (after settings at m.entry) (entries_made later) None last.pending =
           subst (λ (p : Option (List Item)). PendAlong settings (after settings at m.entry) (entries_made later) p last.pending) quiet
-          (pend-of later (after settings at m.entry) next m.leaves front.1) in (
+          (pend-of later (after settings at m.entry) next m.leaves front.1) in
+          since (NamesNone blobs) s t old first later m
+          (λ u found.
+          given-out-left settings at there u m.entry (entries_made later) expired blobs apart sound' order' holds' (legal'.0, front.0) is done
+          (left-between settings (after settings at m.entry) next u (entries_made later) last.pending along (behind u found)))
+          (given-out-unnamed settings at there m.entry (entries_made later) left m.leaves last expired blobs apart sound' order' holds' (legal'.0, front.0) is done
+          (m.leaves, are'.0, refl) (runs-of later (after settings at m.entry) next m.leaves front.1))
+
+      -- what a store that keeps what it acknowledged may lack
+      never-damaged : ((shelf : Shelf) → AreStagedStored shelf s) → old.pending ≡ None → Rests (Some t) old → (front later rest : List Made) (acknowledged : Shelf) → made ≡ front ++ (later ++ rest)
+          → HasStored acknowledged t → AllHandOver acknowledged (entries_made (front ++ later))
+          → FindsSince settings s t old (IsWholeWithout (all_given_out (entries_made front)) acknowledged) front later
+      never-damaged staged settled rests front later rest acknowledged parts rows each =
+          let earlier : List Entry = entries_made front in
+          let more : List Entry = entries_made later in
+          let mid : Unsettled = unsettled_behind old front in
+          let last : Unsettled = unsettled_behind mid later in
+          let whole : made ≡ (front ++ later) ++ rest = parts ∙ sym (append_assoc front later rest) in
+          let firsts =
+          first-ones (front ++ later) rest s t old (subst (λ (all : List Made). Legal settings s (entries_made all)) whole legal) (subst (λ (all : List Made). AreMade settings s t all old) whole are) in
+          let legal' : Legal settings s (earlier ++ more) = subst (Legal settings s) (made-on front later) firsts.0 in
+          let each' : AllHandOver acknowledged (earlier ++ more) = subst (AllHandOver acknowledged) (made-on front later) each in
+          let (runs, goes) = parted front later s t old firsts.1 in
+          let there : Tables = with_items t (told settings s earlier) in
+          let next : State = end settings s earlier in
+          let told_is : with_items t (told settings s (entries_made (front ++ later))) ≡ with_items there (told settings next more) =
+          ap (λ (es : List Entry). with_items t (told settings s es)) (made-on front later) ∙ told-on earlier more s t in (
             (λ u found.
-                given-out-left settings at there u m.entry (entries_made later) expired blobs apart sound' order' holds' (legal'.0, front.0) is done
-                (left-between settings (after settings at m.entry) next u (entries_made later) last.pending along (behind u found))),
-            given-out-unnamed settings at there m.entry (entries_made later) left m.leaves last expired blobs apart sound' order' holds' (legal'.0, front.0) is done
-                (m.leaves, are'.0, refl) (runs-of later (after settings at m.entry) next m.leaves front.1),
+                left-whole settings s t earlier more old.pending mid.pending last.pending acknowledged apart sound order holds legal' rows (staged acknowledged) each' settled
+                (runs-pend settings earlier s t old mid runs) (runs-pend settings more next there mid last goes) u
+                (subst (λ (x : Tables). IsOneOf u (left_by x last.pending)) told_is
+                (subst (λ (w : Unsettled). IsOneOf u (left_by (with_items t (told settings s (entries_made (front ++ later)))) w.pending)) (unsettled-on front later old) found))),
+            subst (λ (w : Unsettled). FindsAlways (IsWholeWithout (all_given_out earlier) acknowledged) mid.trace w.trace) (sym (unsettled-on front later old))
+                (run-whole settings s t earlier more old mid last acknowledged apart sound order holds legal' rows (staged acknowledged) each' settled rests runs goes),
           )
 
-      -- what was made from a sound state, over tables that hold it, with nothing pending, where a stop leaves these
-      pub outlasts : old.pending ≡ None → Rests (Some t) old → OutlastsStops settings s t old made
-      outlasts settled rests = record {
+      -- what was made from a sound state in which no file is staged, over tables that hold it, with nothing pending, where a stop leaves these
+      pub outlasts : ((shelf : Shelf) → AreStagedStored shelf s) → old.pending ≡ None → Rests (Some t) old → OutlastsStops settings s t old made
+      outlasts staged settled rests = record {
         are = are;
         fronts = λ front rest u parts found.
             left-between settings s t u (entries_made front) (unsettled_behind old front).pending (pends front rest parts) found;
@@ -262,6 +356,7 @@ module _ (settings : Settings) where
         standing = standing-again;
         created_files = created-there;
         given_out = given-away;
+        undamaged = never-damaged staged settled rests;
       }
         where
           pends : (front rest : List Made) → made ≡ front ++ rest → PendAlong settings s (entries_made front) None (unsettled_behind old front).pending

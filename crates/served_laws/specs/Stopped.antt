@@ -3,6 +3,7 @@ use Rattle.std.specs.Prelude.{◌≡◌, ◌≢◌, ℕ, List, [], ◌∷◌, �
 use Rattle.mvn_coords.specs.Kind.{kind}
 use Rattle.mvn_coords.specs.Layout.{Coordinates}
 use Rattle.mvn_coords.specs.declared.kind.Kind.TheVariants.{File}
+use Rattle.outside.specs.Blobs.{Shelf}
 use Rattle.repo_model.specs.Command.{collect, is_there, put}
 use Rattle.repo_model.specs.Data.{Blob, Row}
 use Rattle.repo_model.specs.Effect.{new_row, recorded}
@@ -11,12 +12,13 @@ use Rattle.repo_model.specs.Reply.{collected, created}
 use Rattle.repo_model.specs.Settings.{Settings}
 use Rattle.repo_model.specs.State.{State, row_at, rows_of}
 use Rattle.repo_model.specs.Tables.{Tables}
+use Rattle.repo_laws.specs.Closed.{all_given_out}
 use Rattle.repo_laws.specs.Holds.{told, with_items}
 use Rattle.repo_laws.specs.InRange.{Completes}
 use Rattle.row_tables.specs.Stopping.{Stopping}
 use Rattle.row_tables.specs.Stops.{IsOneOf, Unsettled, left_by}
-use Rattle.stop_laws.specs.Found.{NamesNone}
-use Rattle.stop_laws.specs.Runs.{FindsAlways, IsAnsweredAgain, IsLeftBySome, tables_after}
+use Rattle.stop_laws.specs.Found.{AllHandOver, HasStored, IsWholeWithout, NamesNone}
+use Rattle.stop_laws.specs.Runs.{FindsAlways, IsAnsweredAgain, IsAnsweredWhole, IsLeftBySome, tables_after}
 use Rattle.stop_laws.specs.Stops.{IsLeft, MayNotGo}
 use Rattle.repo_core.specs.Whole.{Whole}
 use Rattle.repo_course.specs.Cleaning.{Store}
@@ -61,22 +63,29 @@ AreMade settings s t (m ∷ made) old =
     Stopping settings s m.entry (Some t) (Some (tables_after settings s m.entry t)) old m.leaves
     × AreMade settings (after settings s m.entry) (tables_after settings s m.entry t) made m.leaves
 
+-- A start over these tables answers this file, and with the bytes that were acknowledged under its number, where the store keeps what it
+-- acknowledged, be it that it has lost what these gave out.
+abbrev pub IsAnsweredStill : Settings → List Made → List ℕ → Row → Tables → Type 0
+IsAnsweredStill settings made repo row u = IsAnsweredAgain settings repo row u × IsAnsweredWhole settings (all_given_out (entries_made made)) repo row u
+
 module _ (settings : Settings) (start : State) (t : Tables) (old : Unsettled) where
   -- what a start may find between calls, behind these: the tables then, or these with the change that is pending
   abbrev pub left_behind : List Made → List Tables
   left_behind made = left_by (with_items t (told settings start (entries_made made))) (unsettled_behind old made).pending
 
   -- This is true of what a start may find behind these, between calls; and of what it reads, from whatever file a stop leaves, at each
-  -- moment from where the one in the middle returned until the last did.
-  abbrev pub FindsSince : (Tables → Type 0) → List Made → Made → List Made → Type 0
-  FindsSince P first m later =
-      ((u : Tables) → IsOneOf u (left_behind (first ++ m ∷ later)) → P u)
-      × FindsAlways P m.leaves.trace (unsettled_behind m.leaves later).trace
+  -- moment from where the last of the first ones returned, or the repository was opened, until the last of the later ones did.
+  abbrev pub FindsSince : (Tables → Type 0) → (front later : List Made) → Type 0
+  FindsSince P front later =
+      ((u : Tables) → IsOneOf u (left_behind (front ++ later)) → P u)
+      × FindsAlways P (unsettled_behind old front).trace (unsettled_behind old (front ++ later)).trace
 
   -- What was made so outlasts stops. Behind each front of it a start may find what the front recorded; and at each moment, between calls and
   -- inside each, it reads that of a front, from whatever file a stop then leaves. Where a call recorded something, from its return on a
-  -- start answers each file that stood in a repository then, as long as no call takes it away; so it does of what a `Put` created. What a
-  -- Collect gave out to be removed is named by nothing that is found from its return on.
+  -- start answers each file that stood in a repository then, as long as no call takes it away, with the bytes that were acknowledged; so it
+  -- does of what a `Put` created. What a Collect gave out to be removed is named by nothing that is found from its return on. And no file is
+  -- damaged in a store that keeps what it acknowledged, be it that it has lost what was given out before, where each blob that was handed
+  -- over, and that of each file as the repository was opened, was acknowledged with its fingerprint.
   pub record OutlastsStops (made : List Made) : Type 0 where
     pub are : AreMade settings start t made old
     pub fronts : (front rest : List Made) (u : Tables) → made ≡ front ++ rest → IsOneOf u (left_behind front) → IsLeft settings start t (entries_made front) u
@@ -87,12 +96,14 @@ module _ (settings : Settings) (start : State) (t : Tables) (old : Unsettled) wh
         → recorded (effects_of settings (end settings start (entries_made first)) m.entry) ≢ []
         → row_at row.path (rows_of repo (after settings (end settings start (entries_made first)) m.entry)) ≡ Some row
         → IsTrue (is_there repo settings) → kind row.path ≡ Ok (File c) → MayNotGo (entries_made later) row.path
-        → FindsSince (IsAnsweredAgain settings repo row) first m later
+        → FindsSince (IsAnsweredStill settings (first ++ m ∷ later) repo row) (first ++ m ∷ []) later
     pub created_files : (first later rest : List Made) (m : Made) (repo path : List ℕ) (n : ℕ) (blob : Blob) → made ≡ first ++ m ∷ (later ++ rest)
         → m.entry.command ≡ put repo path n blob → m.entry.reply ≡ created → MayNotGo (entries_made later) path
-        → FindsSince (IsAnsweredAgain settings repo (new_row path blob m.entry.moment)) first m later
+        → FindsSince (IsAnsweredStill settings (first ++ m ∷ later) repo (new_row path blob m.entry.moment)) (first ++ m ∷ []) later
     pub given_out : (first later rest : List Made) (m : Made) (expired : ℕ) (blobs : List ℕ) → made ≡ first ++ m ∷ (later ++ rest)
-        → m.entry.command ≡ collect → m.entry.reply ≡ collected expired blobs → FindsSince (NamesNone blobs) first m later
+        → m.entry.command ≡ collect → m.entry.reply ≡ collected expired blobs → FindsSince (NamesNone blobs) (first ++ m ∷ []) later
+    pub undamaged : (front later rest : List Made) (acknowledged : Shelf) → made ≡ front ++ (later ++ rest) → HasStored acknowledged t
+        → AllHandOver acknowledged (entries_made (front ++ later)) → FindsSince (IsWholeWithout (all_given_out (entries_made front)) acknowledged) front later
 
 -- So does what a repository made that was opened over records which told their tables, from these as its start completed them, when no
 -- change was pending. The records that are given back tell the tables then, what is unsettled then, and that a stop now leaves no more.

@@ -28,12 +28,15 @@ use turn_seats::Repository;
 ///
 /// Where the call of a `Put` returned `Created`, a start answers the file at each moment from then on, over what it may find between calls
 /// and over what it reads: once it has completed that, and behind any entries, who looks at the file is given it, with the number and the
-/// fingerprint that were put; or memory is wanting, or no lease is left. So it is of each file that stood in a repository where any call
-/// returned that recorded something, as the commit of a session. Of a snapshot's file this is said up to the first Collect that is asked
-/// for, be it that it fails; of a release's it is said to the end. Which call an answer of a desk told, `desks_are_answered_by_cause` of
-/// `desk_laws` says, in the same history.
+/// fingerprint that were put; or memory is wanting, or no lease is left. It is given with the bytes that were acknowledged under its number,
+/// where the store that is found tells its blobs and keeps what it acknowledged, be it that it has lost what Collects gave out up to then.
+/// So it is of each file that stood in a repository where any call returned that recorded something, as the commit of a session. Of a
+/// snapshot's file this is said up to the first Collect that is asked for, be it that it fails; of a release's it is said to the end. Which
+/// call an answer of a desk told, `desks_are_answered_by_cause` of `desk_laws` says, in the same history.
 ///
-/// What a Collect gave out to be removed is named by no row of what is found at any moment from its return on.
+/// What a Collect gave out to be removed is named by no row of what is found at any moment from its return on. So no file that is found is
+/// damaged in a store that keeps what it acknowledged, be it that it has lost what Collects gave out before, where each file that was
+/// recorded as the repository was opened, and each blob that an entry hands over, was acknowledged with its fingerprint.
 ///
 /// The records that are given back tell the tables then and what is unsettled then, and a stop now leaves no more of them. Where records
 /// tell no file, nothing is said of what is read from it.

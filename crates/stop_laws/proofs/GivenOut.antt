@@ -39,6 +39,7 @@ use Rattle.stop_laws.specs.Runs.{FindsAlways, IsLeftBySome, StopsAlong, tables_a
 use Rattle.stop_laws.specs.Stops.{IsLeft, Pends, fails, stays, undone}
 use Rattle.stop_laws.proofs.Fronts.{is-front, legal-front}
 use Rattle.stop_laws.proofs.RunLaws.{finds-more, runs-find}
+use Rattle.stop_laws.proofs.Spared.{none-named}
 
 count-filter : {X : Type 0} (p q : X → Bool) (xs : List X) → count_by p (filter q xs) ≤ count_by p xs
 count-filter p q [] = omega arith
@@ -186,7 +187,8 @@ collected-settles settings s e expired blobs old new is_collect done (fails wron
 -- what is left behind such an entry and others
 pub given-out-left : (settings : Settings) (s : State) (t u : Tables) (e : Entry) (later : List Entry) (expired : ℕ) (blobs : List ℕ) → AreNamedApart settings.hosted → IsSound settings s → InOrder t
     → Holds t s → Legal settings s (e ∷ later) → e.command ≡ collect → e.reply ≡ collected expired blobs → IsLeft settings (after settings s e) (tables_after settings s e t) later u → NamesNone blobs u
-given-out-left settings s t u e later expired blobs apart sound ordered holds legal is_collect done left n among =
+given-out-left settings s t u e later expired blobs apart sound ordered holds legal is_collect done left =
+    none-named blobs u (λ n among.
     let next : State = after settings s e in
     let there : Tables = tables_after settings s e t in
     let given : is_among n (given_out collect e.reply) ≡ true = subst (λ r. is_among n (given_out collect r) ≡ true) (sym done) among in
@@ -195,7 +197,7 @@ given-out-left settings s t u e later expired blobs apart sound ordered holds le
     let none : named_in u n ≡ 0 =
     subst (λ (x : Tables). named_in x n ≡ 0) (sym front.left)
     (names-none settings apart n front.history next there (keeps-sound settings apart s e sound legal.0).order front.legal gone (unnamed settings apart n s e t sound legal.0 ordered holds is_collect given)) in
-    false_from_ne_true (names_blob n u) (λ named. omega (arith, none, named-counts n u named))
+    false_from_ne_true (names_blob n u) (λ named. omega (arith, none, named-counts n u named)))
 
 pub given-out-unnamed : (settings : Settings) (s : State) (t : Tables) (e : Entry) (later : List Entry) (old a b : Unsettled) (expired : ℕ) (blobs : List ℕ) → AreNamedApart settings.hosted → IsSound settings s → InOrder t
     → Holds t s → Legal settings s (e ∷ later) → e.command ≡ collect → e.reply ≡ collected expired blobs → StopsAlong settings s t (e ∷ []) old a

@@ -1,4 +1,3 @@
-mod Found
 mod Fronts
 mod Outlasting
 mod OutlastingFiles
@@ -10,5 +9,7 @@ pub mod GivenOut
 mod Spared
 mod AllRows
 mod Stored
-mod Missed
-mod Begun
+pub mod Missed
+pub mod Begun
+mod Stores
+pub mod Bytes

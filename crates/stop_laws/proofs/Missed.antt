@@ -1,11 +1,13 @@
 -- A start finds no file damaged in a store that lost only what the Collects before gave out to be removed.
 use native.Mathlib.Omega.{arith}
-use Rattle.std.proofs.Common.{◌≡◌, inl, inr, ℕ, true, false, ◌||◌, List, [], ◌∷◌, ◌++◌, Option, Some, None, refl, sym, ◌∙◌, ap, subst}
-use Rattle.std.specs.Prelude.{◌==◌}
-use Rattle.std.specs.List.{AllByRecursion}
-use Rattle.std.proofs.lemmas.Bool.{false≢true, false_from_ne_true}
+use Rattle.std.proofs.Common.{◌≡◌, inl, inr, ℕ, Bool, true, false, cond, ◌||◌, List, [], ◌∷◌, ◌++◌, Option, Some, None, refl, sym, ◌∙◌, ap, subst}
+use Rattle.std.specs.Prelude.{◌==◌, find}
+use Rattle.std.specs.List.{AllByRecursion, list_any}
+use Rattle.std.specs.Option.{option_map, unwrap_or}
+use Rattle.std.proofs.lemmas.Bool.{eq-eqb, false≢true, false_from_ne_true, or_parts}
 use Rattle.std.proofs.lemmas.List.Folds.{list_any-append}
 use Rattle.std.proofs.lemmas.List.Sums.{fold-append}
+use Rattle.std.proofs.lemmas.Option.{none-some}
 use Rattle.outside.specs.Blobs.{Shelf}
 use Rattle.repo_model.specs.declared.item.Item.{Item}
 use Rattle.repo_model.specs.Command.{Command, collect, look}
@@ -14,7 +16,8 @@ use Rattle.repo_model.specs.History.{Entry, Fits, Legal, after, effects_of, end,
 use Rattle.repo_model.specs.Reply.{Reply, collected}
 use Rattle.repo_model.specs.Settings.{Settings}
 use Rattle.repo_model.specs.State.{State, is_among}
-use Rattle.repo_model.specs.Tables.{Tables, item_on, names_blob}
+use Rattle.repo_model.specs.Data.{Row}
+use Rattle.repo_model.specs.Tables.{RecordedRow, Tables, is_recorded, item_on, names_blob, recorded_at}
 use Rattle.repo_laws.specs.Closed.{IsGone, all_given_out, given_out}
 use Rattle.repo_laws.specs.Holds.{Holds, InOrder, named_in, told, with_items}
 use Rattle.repo_laws.specs.Sound.{AreNamedApart, IsSound, Sound}
@@ -27,14 +30,15 @@ use Rattle.repo_laws.proofs.Untouched.{given-gone, gone-kept, only-collect}
 use Rattle.row_tables.specs.Stopping.{HasCollected}
 use Rattle.row_tables.specs.Stops.{IsOneOf, Rests, Unsettled, left_by}
 use Rattle.row_tables.proofs.OneOf.{either}
-use Rattle.stop_laws.specs.Found.{AllHandOver, AreStagedStored, HandsOver, HasStored, IsStored, IsWholeWithout}
+use Rattle.blob_audit.specs.Order.{all_rows}
+use Rattle.stop_laws.specs.Found.{AllHandOver, AreStagedStored, HandsOver, HasStored, IsRecordedAs, IsStored, IsWholeWithout}
 use Rattle.stop_laws.specs.Runs.{FindsAlways, StopsAlong, tables_after}
 use Rattle.stop_laws.specs.Stops.{PendAlong, Pends, as_done, fails, stays, undone}
 use Rattle.stop_laws.proofs.AllRows.{all-rows, rows-all}
 use Rattle.stop_laws.proofs.Fronts.{done-fits, done-records, failed-records, legal-front}
 use Rattle.stop_laws.proofs.GivenOut.{names-items, unnamed}
 use Rattle.stop_laws.proofs.RunLaws.{among-finds, finds-more, finds-on}
-use Rattle.stop_laws.proofs.Spared.{spared-whole}
+use Rattle.stop_laws.proofs.Spared.{none-named, others-whole}
 use Rattle.stop_laws.proofs.Stored.{RowsStored, stays-stored}
 
 -- the tables with what is pending, if anything is
@@ -102,7 +106,7 @@ module _ (settings : Settings) where
   legal-behind [] ys s legal = legal
   legal-behind (x ∷ xs) ys s legal = legal-behind xs ys (after settings s x) legal.1
 
-  runs-pend : (entries : List Entry) (s : State) (t : Tables) (a b : Unsettled) → StopsAlong settings s t entries a b → PendAlong settings s entries a.pending b.pending
+  pub runs-pend : (entries : List Entry) (s : State) (t : Tables) (a b : Unsettled) → StopsAlong settings s t entries a b → PendAlong settings s entries a.pending b.pending
   runs-pend [] s t a b is = ap (λ (w : Unsettled). w.pending) is
   runs-pend (e ∷ entries) s t a b (mid, did, runs) = (mid.pending, did.pends, runs-pend entries (after settings s e) (tables_after settings s e t) mid b runs)
 
@@ -205,9 +209,27 @@ module _ (settings : Settings) (apart : AreNamedApart settings.hosted) (acknowle
 
     is-whole : (t : Tables) → Spared t → IsWholeWithout gone acknowledged t
     is-whole t (nothing, rows) found others =
-        spared-whole gone t acknowledged found
-        (λ n among. let none : named_in t n ≡ 0 = nothing n among in false_from_ne_true (names_blob n t) (λ named. omega (arith, none, named-counts n t named)))
-        (rows-all (IsStored acknowledged) t rows.0 rows.1) others
+        others-whole gone acknowledged found others (all_rows t) (rows-all (IsStored acknowledged) t rows.0 rows.1)
+        (none-named gone t
+        (λ n among. let none : named_in t n ≡ 0 = nothing n among in false_from_ne_true (names_blob n t) (λ named. omega (arith, none, named-counts n t named))))
+
+-- behind the earlier entries of a history: what they gave out is named by nothing, and each file names a blob that was acknowledged
+goes-there : (settings : Settings) (apart : AreNamedApart settings.hosted) (s : State) (t : Tables) (earlier later : List Entry) (old mid : Option (List Item)) (acknowledged : Shelf) → IsSound settings s → InOrder t
+    → Holds t s → Legal settings s (earlier ++ later) → HasStored acknowledged t → AreStagedStored acknowledged s → AllHandOver acknowledged (earlier ++ later) → old ≡ None → PendAlong settings s earlier old mid
+    → Goes settings apart acknowledged (all_given_out earlier) (end settings s earlier) (with_items t (told settings s earlier))
+    × Left (Spared settings apart acknowledged (all_given_out earlier)) (with_items t (told settings s earlier)) mid
+goes-there settings apart s t earlier later old mid acknowledged sound ordered holds legal rows staged each quiet pends =
+    let gone : List ℕ = all_given_out earlier in
+    let there : Tables = with_items t (told settings s earlier) in
+    let front : Legal settings s earlier = legal-front settings earlier later s legal in
+    let each_before = (all-split (λ (e : Entry). HandsOver acknowledged e.command) earlier later each).0 in
+    let (stored, stored_left) =
+    along settings (HandsOver acknowledged) (Stored settings apart acknowledged) (stored-then settings apart acknowledged) (RowsStored acknowledged) (is-stored settings apart acknowledged) earlier s t old mid front
+    each_before (staged, all-rows (IsStored acknowledged) t rows) (subst (Left (RowsStored acknowledged) t) (sym quiet) tt) pends in
+    let nothing = λ (n : ℕ) (among : is_among n gone ≡ true). given-unnamed settings apart n earlier s t old mid sound ordered holds front pends among in (
+      ((λ n among. (nothing n among).0), stored),
+      both-left settings apart acknowledged gone there mid (λ n among. (nothing n among).1) stored_left,
+    )
 
 pub run-whole : (settings : Settings) (s : State) (t : Tables) (earlier later : List Entry) (old mid new : Unsettled) (acknowledged : Shelf) → AreNamedApart settings.hosted → IsSound settings s → InOrder t
     → Holds t s → Legal settings s (earlier ++ later) → HasStored acknowledged t → AreStagedStored acknowledged s → AllHandOver acknowledged (earlier ++ later) → old.pending ≡ None
@@ -215,16 +237,51 @@ pub run-whole : (settings : Settings) (s : State) (t : Tables) (earlier later : 
     → FindsAlways (IsWholeWithout (all_given_out earlier) acknowledged) mid.trace new.trace
 run-whole settings s t earlier later old mid new acknowledged apart sound ordered holds legal rows staged each quiet rests runs goes =
     let gone : List ℕ = all_given_out earlier in
+    let (now, left) = goes-there settings apart s t earlier later old.pending mid.pending acknowledged sound ordered holds legal rows staged each quiet (runs-pend settings earlier s t old mid runs) in
+    finds-more (Spared settings apart acknowledged gone) (IsWholeWithout gone acknowledged) mid.trace new.trace (is-whole settings apart acknowledged gone)
+    (finds settings (HandsOver acknowledged) (Goes settings apart acknowledged gone) (goes-on settings apart acknowledged gone) (Spared settings apart acknowledged gone) (is-spared settings apart acknowledged gone) later
+    (end settings s earlier) (with_items t (told settings s earlier)) mid new
+    (legal-behind settings earlier later s legal) (all-split (λ (e : Entry). HandsOver acknowledged e.command) earlier later each).1 now left (runs-rest settings earlier s t old mid rests runs) goes)
+
+-- and between calls, over what is pending then
+pub left-whole : (settings : Settings) (s : State) (t : Tables) (earlier later : List Entry) (old mid new : Option (List Item)) (acknowledged : Shelf) → AreNamedApart settings.hosted → IsSound settings s → InOrder t
+    → Holds t s → Legal settings s (earlier ++ later) → HasStored acknowledged t → AreStagedStored acknowledged s → AllHandOver acknowledged (earlier ++ later) → old ≡ None
+    → PendAlong settings s earlier old mid → PendAlong settings (end settings s earlier) later mid new → (u : Tables)
+    → IsOneOf u (left_by (with_items (with_items t (told settings s earlier)) (told settings (end settings s earlier) later)) new) → IsWholeWithout (all_given_out earlier) acknowledged u
+left-whole settings s t earlier later old mid new acknowledged apart sound ordered holds legal rows staged each quiet pends more u found =
+    let gone : List ℕ = all_given_out earlier in
     let next : State = end settings s earlier in
     let there : Tables = with_items t (told settings s earlier) in
-    let front : Legal settings s earlier = legal-front settings earlier later s legal in
-    let (each_before, each_behind) = all-split (λ (e : Entry). HandsOver acknowledged e.command) earlier later each in
-    let pends : PendAlong settings s earlier old.pending mid.pending = runs-pend settings earlier s t old mid runs in
-    let (stored, stored_left) =
-    along settings (HandsOver acknowledged) (Stored settings apart acknowledged) (stored-then settings apart acknowledged) (RowsStored acknowledged) (is-stored settings apart acknowledged) earlier s t old.pending mid.pending front
-    each_before (staged, all-rows (IsStored acknowledged) t rows) (subst (Left (RowsStored acknowledged) t) (sym quiet) tt) pends in
-    let nothing = λ (n : ℕ) (among : is_among n gone ≡ true). given-unnamed settings apart n earlier s t old.pending mid.pending sound ordered holds front pends among in
-    finds-more (Spared settings apart acknowledged gone) (IsWholeWithout gone acknowledged) mid.trace new.trace (is-whole settings apart acknowledged gone)
-    (finds settings (HandsOver acknowledged) (Goes settings apart acknowledged gone) (goes-on settings apart acknowledged gone) (Spared settings apart acknowledged gone) (is-spared settings apart acknowledged gone) later next there mid new
-    (legal-behind settings earlier later s legal) each_behind ((λ n among. (nothing n among).0), stored)
-    (both-left settings apart acknowledged gone there mid.pending (λ n among. (nothing n among).1) stored_left) (runs-rest settings earlier s t old mid rests runs) goes)
+    let (now, left) = goes-there settings apart s t earlier later old mid acknowledged sound ordered holds legal rows staged each quiet pends in
+    let (then_now, then_left) =
+    along settings (HandsOver acknowledged) (Goes settings apart acknowledged gone) (goes-on settings apart acknowledged gone) (Spared settings apart acknowledged gone) (is-spared settings apart acknowledged gone) later next
+    there mid new (legal-behind settings earlier later s legal) (all-split (λ (e : Entry). HandsOver acknowledged e.command) earlier later each).1 now left more in
+    is-whole settings apart acknowledged gone u
+    (one-of settings (HandsOver acknowledged) (Goes settings apart acknowledged gone) (goes-on settings apart acknowledged gone) (Spared settings apart acknowledged gone) (is-spared settings apart acknowledged gone)
+    (end settings next later) (with_items there (told settings next later)) new then_now then_left u found)
+
+-- a row that is recorded where no row names a number has another one
+recorded-other : (n : ℕ) (repo path : List ℕ) (rows : List RecordedRow) (kept : Row) → list_any (λ (r : RecordedRow). r.row.blob.number == n) rows ≡ false → recorded_at repo path rows ≡ Some kept
+    → (kept.blob.number == n) ≡ false
+recorded-other n repo path [] kept none is = absurd (none-some kept is)
+recorded-other n repo path (r ∷ rows) kept none is =
+    let (off, others) = or_parts (r.row.blob.number == n) (list_any (λ (x : RecordedRow). x.row.blob.number == n) rows) none in
+    elim (is_recorded repo path r)
+    as (λ b. option_map (λ (x : RecordedRow). x.row) (cond b (Some r) (find (is_recorded repo path) rows)) ≡ Some kept → (kept.blob.number == n) ≡ false) [
+      | true ↦ λ same. subst (λ (o : Option Row). ((unwrap_or o r.row).blob.number == n) ≡ false) same off
+      | false ↦ λ more. recorded-other n repo path rows kept others more
+    ] is
+
+-- what is recorded behind entries was given out by none of them
+pub recorded-kept : (settings : Settings) (s : State) (t : Tables) (entries : List Entry) (old new : Option (List Item)) (repo : List ℕ) (row : Row) → AreNamedApart settings.hosted → IsSound settings s → InOrder t
+    → Holds t s → Legal settings s entries → PendAlong settings s entries old new → IsRecordedAs repo row (with_items t (told settings s entries))
+    → is_among row.blob.number (all_given_out entries) ≡ false
+recorded-kept settings s t entries old new repo row apart sound ordered holds legal pends (kept, at, number, print) =
+    let u : Tables = with_items t (told settings s entries) in
+    let n = row.blob.number in
+    let names : RecordedRow → Bool = λ r. r.row.blob.number == n in
+    false_from_ne_true (is_among n (all_given_out entries))
+    (λ among.
+    let none : named_in u n ≡ 0 = (given-unnamed settings apart n entries s t old new sound ordered holds legal pends among).0.2 in
+    let unnamed : names_blob n u ≡ false = false_from_ne_true (names_blob n u) (λ named. omega (arith, none, named-counts n u named)) in
+    false≢true (sym (recorded-other n repo row.path u.hosted kept (or_parts (list_any names u.hosted) (list_any names u.cached) unnamed).0 at) ∙ eq-eqb kept.blob.number n number))

@@ -195,32 +195,30 @@ created-again settings s t e later old a b repo path n blob c apart proxies soun
     entry-again settings s t e later old a b repo (new_row path blob e.moment) c apart proxies sound ordered holds legal none there named
     (created-records settings s e repo path n blob apart sound legal.0 is done) (created-stands settings s e repo path n blob apart sound legal.0 is done) made runs
 
--- Behind an entry that recorded something and others that do not take the file away, this is pending: over the tables then, and over these with that
--- change, a start answers what stood behind the entry.
+-- Behind an entry that recorded something and others that do not take the file away, this is pending: in the tables then, and in these with that
+-- change, what stood behind the entry is recorded.
+pub left-recorded : (settings : Settings) (s : State) (t u : Tables) (e : Entry) (later : List Entry) (old mid new : Option (List Item)) (repo : List ℕ) (row : Row) → AreNamedApart settings.hosted → IsSound settings s
+    → InOrder t → Holds t s → Legal settings s (e ∷ later) → MayNotGo later row.path → recorded (effects_of settings s e) ≢ [] → row_at row.path (rows_of repo (after settings s e)) ≡ Some row
+    → Pends settings s e old mid → PendAlong settings (after settings s e) later mid new
+    → IsOneOf u (left_by (with_items (tables_after settings s e t) (told settings (after settings s e) later)) new) → IsRecordedAs repo row u
+left-recorded settings s t u e later old mid new repo row apart sound ordered holds legal none some is pends along left =
+    let made = history-recorded settings apart (e ∷ []) s t (legal.0, tt) sound.order sound.places sound.sessions ordered holds in
+    let same : with_items t (told settings s (e ∷ [])) ≡ tables_after settings s e t = told-on settings [] e s t in
+    let along' : PendAlong settings (after settings s e) later None new =
+    subst (λ (p : Option (List Item)). PendAlong settings (after settings s e) later p new) (settled-by settings s e old mid some pends) along in
+    outlasts-stops settings (after settings s e) (tables_after settings s e t) u later repo row apart (keeps-sound settings apart s e sound legal.0)
+    (subst InOrder same made.1) (subst (λ x. Holds x (after settings s e)) same made.2) legal.1 none is
+    (between new along' (among u (left_by (with_items (tables_after settings s e t) (told settings (after settings s e) later)) new) left))
+
+-- and a start over them answers it
 pub left-again : (settings : Settings) (s : State) (t u : Tables) (e : Entry) (later : List Entry) (old mid new : Option (List Item)) (repo : List ℕ) (row : Row) (c : Coordinates) → AreNamedApart settings.hosted
     → AreProxiesApart settings.proxies → IsSound settings s → InOrder t → Holds t s → Legal settings s (e ∷ later) → MayNotGo later row.path → IsTrue (is_there repo settings) → kind row.path ≡ Ok (File c)
     → recorded (effects_of settings s e) ≢ [] → row_at row.path (rows_of repo (after settings s e)) ≡ Some row → Pends settings s e old mid → PendAlong settings (after settings s e) later mid new
     → IsOneOf u (left_by (with_items (tables_after settings s e t) (told settings (after settings s e) later)) new) → IsAnsweredAgain settings repo row u
 left-again settings s t u e later old mid new repo row c apart proxies sound ordered holds legal none there named some is pends along left tells stored clock faults whole before rest look_entry tried in_order in_range completes
     goes_on no_collects looks =
-    let made = history-recorded settings apart (e ∷ []) s t (legal.0, tt) sound.order sound.places sound.sessions ordered holds in
-    let same : with_items t (told settings s (e ∷ [])) ≡ tables_after settings s e t = told-on settings [] e s t in
-    let along' : PendAlong settings (after settings s e) later None new =
-    subst (λ (p : Option (List Item)). PendAlong settings (after settings s e) later p new) (settled-by settings s e old mid some pends) along in
-    let found : IsRecordedAs repo row u =
-    outlasts-stops settings (after settings s e) (tables_after settings s e t) u later repo row apart (keeps-sound settings apart s e sound legal.0)
-    (subst InOrder same made.1) (subst (λ x. Holds x (after settings s e)) same made.2) legal.1 none is
-    (between new along' (among u (left_by (with_items (tables_after settings s e t) (told settings (after settings s e) later)) new) left)) in
-    answered-again settings u tells stored clock faults before look_entry rest repo tried row c whole apart proxies in_order in_range completes there named found goes_on no_collects looks
-
--- so what a put created
-pub created-left : (settings : Settings) (s : State) (t u : Tables) (e : Entry) (later : List Entry) (old mid new : Option (List Item)) (repo path : List ℕ) (n : ℕ) (blob : Blob) (c : Coordinates) → AreNamedApart settings.hosted
-    → AreProxiesApart settings.proxies → IsSound settings s → InOrder t → Holds t s → Legal settings s (e ∷ later) → MayNotGo later path → IsTrue (is_there repo settings) → kind path ≡ Ok (File c)
-    → e.command ≡ put repo path n blob → e.reply ≡ created → Pends settings s e old mid → PendAlong settings (after settings s e) later mid new
-    → IsOneOf u (left_by (with_items (tables_after settings s e t) (told settings (after settings s e) later)) new) → IsAnsweredAgain settings repo (new_row path blob e.moment) u
-created-left settings s t u e later old mid new repo path n blob c apart proxies sound ordered holds legal none there named is done pends along left =
-    left-again settings s t u e later old mid new repo (new_row path blob e.moment) c apart proxies sound ordered holds legal none there named
-    (created-records settings s e repo path n blob apart sound legal.0 is done) (created-stands settings s e repo path n blob apart sound legal.0 is done) pends along left
+    answered-again settings u tells stored clock faults before look_entry rest repo tried row c whole apart proxies in_order in_range completes there named
+    (left-recorded settings s t u e later old mid new repo row apart sound ordered holds legal none some is pends along left) goes_on no_collects looks
 
 -- and what stands over the tables in the end is left by all of the entries
 pub left-between : (settings : Settings) (s : State) (t u : Tables) (entries : List Entry) (new : Option (List Item)) → PendAlong settings s entries None new

@@ -6,10 +6,9 @@ use Rattle.std.specs.Option.{ForSome, option_map}
 use Rattle.std.proofs.lemmas.Bool.{eq-eqb, false≢true, false_from_ne_true, or_parts}
 use Rattle.outside.specs.Blobs.{Numbered, Shelf, bytes_at}
 use Rattle.repo_model.specs.State.{is_among}
-use Rattle.repo_model.specs.Tables.{RecordedRow, Tables}
+use Rattle.repo_model.specs.Tables.{RecordedRow, Tables, names_blob}
 use Rattle.blob_audit.specs.Damages.{AreDamaged, none, print_of, whole}
-use Rattle.blob_audit.specs.Order.{all_rows}
-use Rattle.stop_laws.specs.Found.{AreStored, KeepsOthers, NamesNone}
+use Rattle.stop_laws.specs.Found.{AreStored, KeepsOthers, NameOthers, NamesNone}
 use Rattle.stop_laws.proofs.AllRows.{rows-all}
 
 module _ (gone : List ℕ) where
@@ -27,8 +26,9 @@ module _ (gone : List ℕ) where
         (λ n among. (or_parts (r.row.blob.number == n) (list_any (λ (x : RecordedRow). x.row.blob.number == n) rows) (unnamed n among)).1),
   )
 
-  all-spared : (t : Tables) → NamesNone gone t → AllByRecursion IsSpared (all_rows t)
-  all-spared t unnamed =
+  -- tables that name none of some blobs, of each of which it is known
+  pub none-named : (t : Tables) → ((n : ℕ) → is_among n gone ≡ true → names_blob n t ≡ false) → NamesNone gone t
+  none-named t unnamed =
       let names : ℕ → RecordedRow → Bool = λ n r. r.row.blob.number == n in
       rows-all IsSpared t (spared-rows t.hosted (λ n among. (or_parts (list_any (names n) t.hosted) (list_any (names n) t.cached) (unnamed n among)).0))
       (spared-rows t.cached (λ n among. (or_parts (list_any (names n) t.hosted) (list_any (names n) t.cached) (unnamed n among)).1))
@@ -40,11 +40,8 @@ module _ (gone : List ℕ) where
   found-still acknowledged n those bytes told at stays None keeps = tt
   found-still acknowledged n those bytes told at stays (Some them) keeps = sym (ap (option_map print_of) (keeps those told n bytes stays at))
 
-  others-whole : (acknowledged found : Shelf) → KeepsOthers gone acknowledged found → (rows : List RecordedRow) → AreStored acknowledged rows → AllByRecursion IsSpared rows → AreDamaged found rows []
+  pub others-whole : (acknowledged found : Shelf) → KeepsOthers gone acknowledged found → (rows : List RecordedRow) → AreStored acknowledged rows → NameOthers gone rows → AreDamaged found rows []
   others-whole acknowledged found keeps [] stored spared = none
   others-whole acknowledged found keeps (r ∷ rows) stored spared =
       let (those, bytes, told, at, is_whole) = stored.0 in
       whole r rows [] (Some (print_of bytes)) (found-still acknowledged r.row.blob.number those bytes told at spared.0 found.blobs keeps) is_whole (others-whole acknowledged found keeps rows stored.1 spared.1)
-
-pub spared-whole : (gone : List ℕ) (t : Tables) (acknowledged found : Shelf) → NamesNone gone t → AreStored acknowledged (all_rows t) → KeepsOthers gone acknowledged found → AreDamaged found (all_rows t) []
-spared-whole gone t acknowledged found unnamed stored keeps = others-whole gone acknowledged found keeps (all_rows t) stored (all-spared gone t unnamed)

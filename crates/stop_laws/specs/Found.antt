@@ -1,5 +1,5 @@
 -- What a start finds of the blobs after a stop, where their store keeps what it acknowledged.
-use Rattle.std.specs.Prelude.{◌≡◌, ℕ, false, List, [], Some, IfSome, IsTrue}
+use Rattle.std.specs.Prelude.{◌≡◌, ℕ, false, List, [], Some, IfSome}
 use Rattle.std.specs.List.{AllByRecursion}
 use Rattle.std.specs.Option.{ForSome}
 use Rattle.fetch_plan.specs.declared.Outcome.TheVariants.{Got}
@@ -9,17 +9,12 @@ use Rattle.repo_model.specs.Data.{Blob, Row, Session, Staged}
 use Rattle.repo_model.specs.Fetched.{Landing, got_file}
 use Rattle.repo_model.specs.History.{Entry}
 use Rattle.repo_model.specs.State.{State, is_among}
-use Rattle.repo_model.specs.Tables.{RecordedRow, names_blob, recorded_at, Tables}
+use Rattle.repo_model.specs.Tables.{RecordedRow, recorded_at, Tables}
 use Rattle.blob_audit.specs.Damages.{AreDamaged, IsWhole, print_of}
 use Rattle.blob_audit.specs.Order.{all_rows}
 
--- The store was stopped when it told the first shelf, and is found with the second: each blob that was acknowledged, and not removed
--- since, has its bytes. What was being stored or removed then may be there or not.
-abbrev pub KeepsBlobs : Shelf → Shelf → Type 0
-KeepsBlobs acknowledged found =
-    IfSome found.blobs (λ them. ForSome acknowledged.blobs (λ those. (n : ℕ) (bytes : List ℕ) → bytes_at n those ≡ Some bytes → bytes_at n them ≡ Some bytes))
-
--- so it is found, but that these blobs may be there or not
+-- The store was stopped when it told the first shelf, or later, and is found with the second: each blob that was acknowledged has its bytes,
+-- but that those of some numbers may be there or not, as what was removed since. What was being stored then may be there or not.
 abbrev pub KeepsOthers : List ℕ → Shelf → Shelf → Type 0
 KeepsOthers gone acknowledged found =
     IfSome found.blobs (λ them. ForSome acknowledged.blobs (λ those. (n : ℕ) (bytes : List ℕ) → is_among n gone ≡ false → bytes_at n those ≡ Some bytes → bytes_at n them ≡ Some bytes))
@@ -60,9 +55,12 @@ HandsOver shelf command = Unit {0}
 abbrev pub AllHandOver : Shelf → List Entry → Type 0
 AllHandOver shelf entries = AllByRecursion (λ (e : Entry). HandsOver shelf e.command) entries
 
--- no row of these tables names one of these blobs
+-- each of these rows names another blob than these, and so does each that these tables record
+abbrev pub NameOthers : List ℕ → List RecordedRow → Type 0
+NameOthers numbers rows = AllByRecursion (λ (r : RecordedRow). is_among r.row.blob.number numbers ≡ false) rows
+
 abbrev pub NamesNone : List ℕ → Tables → Type 0
-NamesNone numbers t = (n : ℕ) → IsTrue (is_among n numbers) → names_blob n t ≡ false
+NamesNone numbers t = NameOthers numbers (all_rows t)
 
 -- A start over these tables finds no file damaged in a store that keeps what it acknowledged, but for some blobs.
 abbrev pub IsWholeWithout : List ℕ → Shelf → Tables → Type 0

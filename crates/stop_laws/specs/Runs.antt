@@ -1,6 +1,8 @@
 -- A run of a repository, entry by entry, and what a start may find behind a stop at each of its moments.
 use Rattle.std.specs.Prelude.{◌≡◌, ℕ, List, [], ◌∷◌, ◌++◌, Option, Some, None}
 use Rattle.record_disk.specs.Disk.{Throughout, Trace}
+use Rattle.std.specs.Option.{ForSome}
+use Rattle.outside.specs.Blobs.{Shelf, bytes_at, standing_at}
 use Rattle.outside.specs.Moments.{Moments}
 use Rattle.repo_model.specs.Command.{look}
 use Rattle.repo_model.specs.Data.{Blob, Row}
@@ -16,6 +18,7 @@ use Rattle.repo_laws.specs.InRange.{Completes, InRange, IsSameBlob}
 use Rattle.row_tables.specs.Stopping.{Stopping}
 use Rattle.row_tables.specs.Loading.{tables_in}
 use Rattle.row_tables.specs.Stops.{Unsettled}
+use Rattle.stop_laws.specs.Found.{KeepsOthers}
 use Rattle.stop_laws.specs.Stops.{IsLeft, MayNotGo}
 
 -- the tables behind an entry
@@ -45,12 +48,23 @@ IsLeftBySome settings s t entries u = (front rest : List Entry) × (entries ≡ 
 abbrev pub IsFoundAgain : (ℕ → Option (List ℕ)) → Blob → Blob → Type 0
 IsFoundAgain tells kept earlier = IsSameBlob kept earlier × (kept.bytes ≡ tells earlier.number)
 
--- A start over these tables, once it has completed them, and any entries, without a Collect where the file is a snapshot's: who looks at
--- this file then is given it, with its number and its fingerprint, and with the bytes that the store told of the number as it was opened;
--- or memory is wanting, or no lease is left.
-abbrev pub IsAnsweredAgain : Settings → List ℕ → Row → Tables → Type 0
-IsAnsweredAgain settings repo row u =
-    (tells : ℕ → Option (List ℕ)) (stored : List ℕ) (clock : Option Moments) (faults : ℕ) (whole : Tables) (before rest : List Entry) (e : Entry) (tried : List ℕ)
+-- A start over these tables, where the store tells these bytes, once it has completed them, and any entries, without a Collect where the file
+-- is a snapshot's: who looks at this file then is given it, with its number and its fingerprint, and with these bytes, where any are told; or
+-- memory is wanting, or no lease is left.
+abbrev pub IsAnsweredWith : Settings → (ℕ → Option (List ℕ)) → List ℕ → Row → Option (List ℕ) → Tables → Type 0
+IsAnsweredWith settings tells repo row bytes u =
+    (stored : List ℕ) (clock : Option Moments) (faults : ℕ) (whole : Tables) (before rest : List Entry) (e : Entry) (tried : List ℕ)
     → InOrder u → InRange u → Completes u whole → Legal settings (started settings tells stored clock faults whole) (before ++ e ∷ rest) → MayNotGo before row.path
     → e.command ≡ look repo row.path tried
-    → (kept : Blob) × IsFoundAgain tells kept row.blob × GivesFile (end settings (started settings tells stored clock faults whole) before) kept e.reply
+    → (kept : Blob) × (IsSameBlob kept row.blob × (kept.bytes ≡ bytes)) × GivesFile (end settings (started settings tells stored clock faults whole) before) kept e.reply
+
+-- so with the bytes that the store told of the number as it was opened
+abbrev pub IsAnsweredAgain : Settings → List ℕ → Row → Tables → Type 0
+IsAnsweredAgain settings repo row u = (tells : ℕ → Option (List ℕ)) → IsAnsweredWith settings tells repo row (tells row.blob.number) u
+
+-- and with the bytes that were acknowledged under its number, where the store that is found tells its blobs, and keeps what it acknowledged,
+-- but that it may have lost those of some numbers
+abbrev pub IsAnsweredWhole : Settings → List ℕ → List ℕ → Row → Tables → Type 0
+IsAnsweredWhole settings gone repo row u =
+    (acknowledged found : Shelf) (bytes : List ℕ) → standing_at row.blob.number acknowledged ≡ Some bytes → KeepsOthers gone acknowledged found
+    → (tells : ℕ → Option (List ℕ)) → ForSome found.blobs (λ them. ((n : ℕ) → tells n ≡ bytes_at n them) → IsAnsweredWith settings tells repo row (Some bytes) u)

@@ -1,35 +1,58 @@
 //! What follows for a start behind a stop. No function here has code: its contract is the law.
-ghost use Rattle.std.specs.Prelude.{◌≡◌, ◌≢◌, ℕ, IsTrue, List, [], ◌∷◌, ◌++◌, Option, Some, None, Ok};
+ghost use Rattle.std.specs.Prelude.{◌≡◌, ◌≢◌, ℕ, IsTrue, false, List, [], ◌∷◌, ◌++◌, Option, Some, None, OnErr, OnOk, Ok, Result, ⊤};
 ghost use Rattle.mvn_coords.specs.Kind.{kind};
 ghost use Rattle.mvn_coords.specs.Layout.{Coordinates};
 ghost use Rattle.mvn_coords.specs.declared.kind.Kind.TheVariants.{File};
-ghost use Rattle.outside.specs.Blobs.{Numbered, Shelf};
+ghost use Rattle.outside.specs.Blobs.{Numbered, Shelf, sealed, without_blob, without_bytes};
+ghost use Rattle.outside.specs.declared.faults.BlobFault.{BlobFault};
 ghost use Rattle.outside.specs.Moments.{Moments};
 ghost use Rattle.repo_model.specs.Command.{collect, is_there, look, put};
 ghost use Rattle.repo_model.specs.Restart.{started};
+ghost use Rattle.repo_model.specs.declared.item.Item.{Item};
 ghost use Rattle.repo_model.specs.Data.{Blob, Row};
 ghost use Rattle.repo_model.specs.Effect.{new_row, recorded};
 ghost use Rattle.repo_model.specs.Reply.{collected, created};
 ghost use Rattle.repo_model.specs.History.{Entry, Legal, after, effects_of, end};
 ghost use Rattle.repo_model.specs.Settings.{Settings};
-ghost use Rattle.repo_model.specs.State.{State, files_of, row_at, rows_of};
+ghost use Rattle.repo_model.specs.State.{State, files_of, is_among, row_at, rows_of};
 ghost use Rattle.repo_model.specs.Tables.{RecordedRow, Tables};
 ghost use Rattle.blob_audit.specs.Damages.{AreDamaged};
-ghost use Rattle.blob_audit.specs.Order.{all_rows};
 ghost use Rattle.proxy_laws.specs.Asked.{AsksFirst, LetsThrough};
 ghost use Rattle.repo_laws.specs.Closed.{Answers, GivesFile, all_given_out};
 ghost use Rattle.repo_laws.specs.Holds.{Holds, InOrder, told, with_items};
 ghost use Rattle.repo_laws.specs.InRange.{InRange, Completes, IsSameBlob};
 ghost use Rattle.repo_laws.specs.Sound.{AreNamedApart, AreProxiesApart, IsSound};
-ghost use Rattle.stop_laws.specs.Found.{AllHandOver, AreStagedStored, AreStored, HasStored, IsCachedAs, IsRecordedAs, IsWholeWithout, KeepsBlobs, KeepsOthers, NamesNone};
+ghost use Rattle.stop_laws.specs.Found.{AllHandOver, AreStagedStored, AreStored, HasStored, IsCachedAs, IsRecordedAs, IsWholeWithout, KeepsOthers, NameOthers, NamesNone};
+ghost use Rattle.stop_laws.specs.Stores.{AllStayStored, IsLeftOfStore, MayDo, StoreCall, begins, removes, stores, with_call, with_calls};
 ghost use Rattle.row_tables.specs.Stops.{Rests, Unsettled};
-ghost use Rattle.stop_laws.specs.Runs.{FindsAlways, IsAnsweredAgain, IsFoundAgain, IsLeftBySome, StopsAlong, tables_after};
-ghost use Rattle.stop_laws.specs.Stops.{IsFrontOf, IsLeft, MayNotGo};
+ghost use Rattle.stop_laws.specs.Runs.{FindsAlways, IsAnsweredAgain, IsAnsweredWhole, IsFoundAgain, IsLeftBySome, StopsAlong, tables_after};
+ghost use Rattle.stop_laws.specs.Stops.{IsFrontOf, IsLeft, MayNotGo, PendAlong};
 
-/// A start over a store that keeps what it acknowledged finds none of these files damaged, where each of them names a blob that
-/// was acknowledged.
+use outside::Blobs;
+
+/// A start finds none of these files damaged, where each of them names a blob that was acknowledged, with its fingerprint, in a store that
+/// keeps what it acknowledged, be it that it has lost some blobs of which the files name none.
 pub fn kept_blobs_are_whole()
-    ensures { (rows : List RecordedRow) (acknowledged found : Shelf) → AreStored acknowledged rows → KeepsBlobs acknowledged found → AreDamaged found rows [] }
+    ensures { (rows : List RecordedRow) (gone : List ℕ) (acknowledged found : Shelf) → NameOthers gone rows → AreStored acknowledged rows → KeepsOthers gone acknowledged found
+        → AreDamaged found rows [] }
+{}
+
+/// What the clauses of a store's trait say of a call is what it does of these: a blob is begun, stored with the bytes of its pen, where the
+/// pen tells them, or removed; or the call failed and did nothing. All other calls leave what the store tells.
+pub fn stores_do_as_their_clauses_say<B: Blobs>()
+    ensures begin { (n : ℕ) (old new : Shelf) (result : Result B.Pen BlobFault) → OnOk result (new ≡ without_bytes n old) → OnErr result (new ≡ old) → MayDo (begins n) old new }
+    ensures seal { (pen : B.Pen) (bytes : List ℕ) (old new : Shelf) (result : Result B.Held BlobFault) → B.Pen.bytes pen ≡ Some bytes
+        → OnOk result (new ≡ sealed (B.Pen.number pen) (B.Pen.bytes pen) old) → OnErr result (new ≡ old) → MayDo (stores (B.Pen.number pen) bytes) old new }
+    ensures remove { (n : ℕ) (old new : Shelf) (result : Result ⊤ BlobFault) → OnOk result (new ≡ without_blob n old) → OnErr result (new ≡ old) → MayDo (removes n) old new }
+{}
+
+/// At each moment of a run of calls of a store that tells its blobs, between its calls and inside each of them: what a stop leaves of it keeps
+/// each blob that was acknowledged before, as the run began or by a call that returned, where no call since, nor the one that is under way,
+/// begins, stores or removes a blob of its number. Of the numbers in `gone`, as of blobs that were given out to be removed, nothing is asked
+/// and nothing is said.
+pub fn stops_leave_stored_blobs()
+    ensures { (shelf acknowledged found : Shelf) (calls : List StoreCall) (now : StoreCall) (gone : List ℕ) → AllStayStored gone acknowledged shelf calls now
+        → IsLeftOfStore gone (with_calls shelf calls) (with_call (with_calls shelf calls) now) found → KeepsOthers gone acknowledged found }
 {}
 
 /// Whatever a start may find behind a stop, between the calls of a run or in the last of them, is what a legal history records that
@@ -98,13 +121,6 @@ pub fn blobs_given_out_are_named_no_more()
         → FindsAlways (NamesNone blobs) old.trace new.trace }
 {}
 
-/// So a start over such tables finds no file damaged, be it that the store has lost any of the blobs that were given out, where each recorded
-/// file names a blob that was acknowledged, with its fingerprint, and the store keeps the others that it acknowledged.
-pub fn blobs_given_out_are_missed_by_no_start()
-    ensures { (t : Tables) (gone : List ℕ) (acknowledged found : Shelf) → NamesNone gone t → AreStored acknowledged (all_rows t) → KeepsOthers gone acknowledged found
-        → AreDamaged found (all_rows t) [] }
-{}
-
 /// Each file that is recorded in whatever a start may find behind a stop names a blob that was acknowledged, with its fingerprint, where
 /// so does each file that was recorded before the entries, or was staged then, and each blob that one of them hands over, to be put, staged
 /// or landed, was acknowledged with its fingerprint. The shelf may be any that has these blobs, also such as were removed since.
@@ -118,12 +134,6 @@ pub fn stops_of_runs_leave_stored_files()
     ensures { (settings : Settings) (s : State) (t : Tables) (entries : List Entry) (old new : Unsettled) (acknowledged : Shelf) → Legal settings s entries
         → HasStored acknowledged t → AreStagedStored acknowledged s → AllHandOver acknowledged entries → old.pending ≡ None → Rests (Some t) old
         → StopsAlong settings s t entries old new → FindsAlways (HasStored acknowledged) old.trace new.trace }
-{}
-
-/// So a start over it finds no file damaged, where the store keeps what it acknowledged.
-pub fn stops_leave_no_file_damaged()
-    ensures { (settings : Settings) (s : State) (t u : Tables) (entries : List Entry) (acknowledged found : Shelf) → Legal settings s entries → HasStored acknowledged t
-        → AreStagedStored acknowledged s → AllHandOver acknowledged entries → IsLeft settings s t entries u → KeepsBlobs acknowledged found → AreDamaged found (all_rows u) [] }
 {}
 
 /// At each moment of a run behind its earlier entries, between calls and inside each of them: a start over what it reads finds no file
@@ -146,6 +156,20 @@ pub fn whole_files_are_stored()
 pub fn starts_stage_nothing()
     ensures { (settings : Settings) (tells : ℕ → Option (List ℕ)) (stored : List ℕ) (clock : Option Moments) (faults : ℕ) (t : Tables) (shelf : Shelf)
         → AreStagedStored shelf (started settings tells stored clock faults t) }
+{}
+
+/// A start that answers a file answers it with the bytes that were acknowledged under its number, where the store keeps what it acknowledged, be
+/// it that it has lost the blobs of some numbers of which this is none.
+pub fn answered_files_have_their_bytes()
+    ensures { (settings : Settings) (repo : List ℕ) (row : Row) (gone : List ℕ) (u : Tables) → is_among row.blob.number gone ≡ false → IsAnsweredAgain settings repo row u
+        → IsAnsweredWhole settings gone repo row u }
+{}
+
+/// And a file that is recorded behind some entries is none whose blob a Collect among them gave out to be removed.
+pub fn recorded_files_are_not_given_out()
+    ensures { (settings : Settings) (s : State) (t : Tables) (entries : List Entry) (old new : Option (List Item)) (repo : List ℕ) (row : Row)
+        → AreNamedApart settings.hosted → IsSound settings s → InOrder t → Holds t s → Legal settings s entries → PendAlong settings s entries old new
+        → IsRecordedAs repo row (with_items t (told settings s entries)) → is_among row.blob.number (all_given_out entries) ≡ false }
 {}
 
 /// A file that a proxy keeps is recorded so in whatever a start may find behind a stop at any later moment.
