@@ -1,9 +1,9 @@
 -- A repository in which nothing stands, and which is asked for its status alone.
-use Rattle.std.proofs.Common.{◌≡◌, [], None, refl, arith}
+use Rattle.std.proofs.Common.{[], None, refl, arith}
 use Rattle.repo_model.specs.declared.question.Question.TheVariants.{Status}
-use Rattle.repo_model.specs.Command.{Command, ask}
+use Rattle.repo_model.specs.Command.{ask}
 use Rattle.repo_model.specs.History.{wants_memory}
-use Rattle.repo_model.specs.Reply.{Reply, no_memory}
+use Rattle.repo_model.specs.Reply.{no_memory}
 use Rattle.repo_model.specs.Settings.{Settings}
 use Rattle.repo_model.specs.State.{State}
 use Rattle.turn_seats.specs.Turning.{IsTurn}

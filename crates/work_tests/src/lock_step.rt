@@ -1,13 +1,15 @@
 // A stream in lock step: its second request comes only once the answer to the first was taken whole.
 ghost use Rattle.std.specs.Prelude.{◌≡◌};
+ghost use Rattle.repo_model.specs.Shown.{shown_command, shown_reply};
 
 use crate::literals::SETTINGS;
 use crate::seats::{core_of, settings_of};
-use outside::{Failed, Sink, Source, Stream, Tells};
+use outside::{Blobs, Failed, Sink, Source, Stream, Tells};
 use outside_memory::{FaultScript, MemBlobs};
-use outside_remote::ScriptRemote;
+use outside_remote::{Remote, ScriptRemote};
 use repo_config::Settings;
 use repo_course::End;
+use repo_model::{Ask, Command, Reply};
 use repo_server::serve_stream;
 use std::alloc::Global;
 use std::test::Fail;
@@ -97,28 +99,62 @@ impl Sink for LockStep {
 
 impl Stream for LockStep {}
 
-// How the stream ends, served by a repository over nothing; nothing where there is none.
-fn end_of(alloc: Global, settings: &Settings, stream: &mut LockStep) -> Option<End> {
-    let mut blobs = MemBlobs::new(alloc, FaultScript::none(alloc));
-    let mut core = core_of(alloc, settings, &mut blobs)?;
-    let mut remote = ScriptRemote::new(alloc, Vec::new(alloc), Vec::new(alloc));
-    Some(serve_stream(alloc, settings, &mut core, &mut blobs, &mut remote, stream))
+// How a stream ends, served by whoever takes the commands. Nothing more is said of it.
+fn served_by<
+    B: Blobs,
+    R: Remote,
+    A: Ask<Call = Command<B::Held>, Given = Reply<B::Held>>,
+    T: Stream,
+>(
+    alloc: Global,
+    settings: &Settings,
+    asker: &mut A,
+    blobs: &mut B,
+    remote: &mut R,
+    stream: &mut T,
+) -> End
+    requires asked { (call : _) → A.asked call ≡ shown_command call }
+    requires answered { (reply : _) → A.answered reply ≡ shown_reply reply }
+    requires ready { A.ready asker.old }
+    requires settings { A.settings asker.old ≡ settings.now }
+{
+    serve_stream(alloc, settings, asker, blobs, remote, stream)
 }
 
-#[test]
-fn an_answer_is_written_before_the_next_request_comes(rt: HostRuntime) -> Result<(), Fail> {
-    let alloc = rt.alloc();
-    let Some(settings) = settings_of(alloc, SETTINGS) else {
-        return Err("no settings")?;
-    };
+// Served by a repository over nothing; nothing where there is none.
+fn end_of<T: Stream>(alloc: Global, settings: &Settings, stream: &mut T) -> Option<End> {
+    let mut blobs = MemBlobs::new(alloc, FaultScript::none(alloc));
+    let mut remote = ScriptRemote::new(alloc, Vec::new(alloc), Vec::new(alloc));
+    match core_of(alloc, settings, &mut blobs) {
+        Some(mut core) => Some(served_by(
+            alloc,
+            settings,
+            &mut core,
+            &mut blobs,
+            &mut remote,
+            stream,
+        )),
+        None => None,
+    }
+}
+
+// Whether a stream is served to its end, and took the right answers.
+fn is_in_step(alloc: Global, settings: &Settings) -> bool {
     let mut stream = LockStep {
         given: 0,
         taken: 0,
         right: true,
         faults: 0,
     };
-    assert_eq!(rt; end_of(alloc, &settings, &mut stream), Some(End::Closed));
-    assert_eq!(rt; stream.taken, CREATED.len() + ABC_LAST.len());
-    assert!(rt; stream.right);
+    let end = end_of(alloc, settings, &mut stream);
+    end == Some(End::Closed) && stream.right && stream.taken == CREATED.len() + ABC_LAST.len()
+}
+
+#[test]
+fn an_answer_is_written_before_the_next_request_comes(rt: HostRuntime) -> Result<(), Fail> {
+    match settings_of(rt.alloc(), SETTINGS) {
+        Some(settings) => assert!(rt; is_in_step(rt.alloc(), &settings)),
+        None => Err("no settings")?,
+    }
     Ok(())
 }

@@ -2,46 +2,52 @@
 use crate::cases::{Case, SERVER};
 use crate::literals::{INPUT_1, INPUT_2, INPUT_3, INPUT_4, UNREAD};
 use crate::serving::{first_twin, serve};
-use outside::{BlobFault, Blobs};
-use outside_meeting::HeldBlobs;
+use outside::Blobs;
 use outside_memory::{read_whole, store_whole};
 use std::alloc::Global;
 use std::test::Fail;
 
-// Whether the second finds and reads what the first stores.
-fn finds(alloc: Global, first: &mut HeldBlobs, second: &mut HeldBlobs) -> Result<bool, BlobFault> {
-    let _ = store_whole(first, 7, b"abc")?;
-    match second.adopt(7)? {
-        Some(held) => Ok(read_whole(alloc, second, &held)?.as_slice() == b"abc".as_slice()),
-        None => Ok(false),
+// Whether a blob is the bytes `abc`.
+fn reads_abc<B: Blobs>(alloc: Global, blobs: &mut B, held: &B::Held) -> bool {
+    match read_whole(alloc, blobs, held) {
+        Ok(bytes) => bytes.as_slice() == b"abc".as_slice(),
+        Err(_) => false,
     }
 }
 
-// Whether the first lists that blob alone, and none once the second has removed it.
-fn loses(first: &mut HeldBlobs, second: &mut HeldBlobs) -> Result<bool, BlobFault> {
-    if first.list()?.as_slice() != [7].as_slice() {
-        return Ok(false);
+fn finds<B: Blobs>(alloc: Global, blobs: &mut B) -> bool {
+    match blobs.adopt(7) {
+        Ok(Some(held)) => reads_abc(alloc, blobs, &held),
+        _ => false,
     }
-    second.remove(7)?;
-    Ok(first.list()?.is_empty())
 }
 
-// Whether all that is so, and no call fails.
-fn are_shared(
-    alloc: Global,
-    first: &mut HeldBlobs,
-    second: &mut HeldBlobs,
-) -> Result<bool, BlobFault> {
-    let same = finds(alloc, first, second)? && loses(first, second)?;
-    Ok(same && first.faults() == 0 && second.faults() == 0)
+fn lists<B: Blobs>(blobs: &mut B, numbers: &[u64]) -> bool {
+    match blobs.list() {
+        Ok(listed) => listed.as_slice() == numbers,
+        Err(_) => false,
+    }
 }
 
-// What one twin stores or removes all others see. The second is the only one that is to meet, so its read goes on at once.
+// Whether the second finds and reads what the first stores, and the first lists that blob alone, and none once the second has
+// removed it.
+fn share<B: Blobs>(alloc: Global, first: &mut B, second: &mut B) -> bool {
+    let stored = store_whole(first, 7, b"abc").is_ok();
+    let found = finds(alloc, second);
+    let listed = lists(first, &[7]);
+    let removed = second.remove(7).is_ok();
+    let lost = lists(first, &[]);
+    stored && found && listed && removed && lost
+}
+
+// What one twin stores or removes all others see, and no call fails. The second is the only one that is to meet, so its read goes
+// on at once.
 #[test]
 fn twins_share_their_blobs(rt: HostRuntime) -> Result<(), Fail> {
     let mut first = first_twin(rt.alloc(), 1)?;
     let mut second = first.member()?;
-    assert!(rt; are_shared(rt.alloc(), &mut first, &mut second)?);
+    assert!(rt; share(rt.alloc(), &mut first, &mut second));
+    assert!(rt; first.faults() == 0 && second.faults() == 0);
     Ok(())
 }
 

@@ -6,7 +6,7 @@ ghost use Rattle.turn_lock.specs.Seats.{opening, parts_of, IsSeatOf};
 
 use crate::literals::SETTINGS;
 use mvn_digest::Hashes;
-use outside::{Blobs, Clock, Parcel};
+use outside::{BlobFault, Blobs, Clock, Parcel};
 use outside_memory::{FaultScript, MemBlobs, MemHeld, ScriptClock, store_whole};
 use repo_config::Settings;
 use repo_core::Core;
@@ -26,13 +26,25 @@ pub type MemCore = Core<MemRecords, ScriptClock, MemHeld>;
 
 type Commands = (Command<MemHeld>, Command<MemHeld>, Command<MemHeld>);
 
-// What came of three commands.
-#[derive(Drop)]
-struct Told {
-    drawn: Option<Reply<MemHeld>>,
-    put: Option<Reply<MemHeld>>,
-    found: Option<Reply<MemHeld>>,
-    calls: u64,
+// Whether this is the first draft.
+fn is_draft(told: Option<Reply<MemHeld>>) -> bool {
+    matches!(&told, Some(Reply::Draft(1)))
+}
+
+fn is_created(told: Option<Reply<MemHeld>>) -> bool {
+    matches!(&told, Some(Reply::Created))
+}
+
+// Whether this is the file `abc`, lent for the first time.
+fn is_abc(found: Option<Reply<MemHeld>>) -> bool {
+    match &found {
+        Some(Reply::File { lease, parcel }) => {
+            *lease == 1
+                && parcel.length == 3
+                && parcel.digests.sha1_text() == *b"a9993e364706816aba3e25717850c26c9cd0d89d"
+        }
+        _ => false,
+    }
 }
 
 // What a seat is told; nothing where the command does not fit the settings.
@@ -55,14 +67,15 @@ fn ask<T: Repository<Call = Command<MemHeld>, Reply = Reply<MemHeld>>, W: Wait>(
     Some(seat.call(rt, turns, command))
 }
 
-// One seat asks the first two commands and makes a note; the other learns it, and asks the third.
-fn ask_by_two<T: Repository<Call = Command<MemHeld>, Reply = Reply<MemHeld>>, W: Wait>(
+// One seat asks the first two commands and makes a note; the other learns it, and asks the third. Whether the file was put under
+// the first draft, and found.
+fn finds_by_two<T: Repository<Call = Command<MemHeld>, Reply = Reply<MemHeld>> + Drop, W: Wait>(
     rt: &W,
     turns: Turns<T>,
     settings: &Settings,
     seat: Seat<T>,
     commands: Commands,
-) -> (T, Told)
+) -> bool
     requires asked { (call : _) → T.sight.asked call ≡ shown_command call }
     requires seat { IsSeatOf (IsStep T.fixed T.may_ask T.turned) turns seat }
     requires parts { parts_of seat ≡ 2 ^ 64 }
@@ -71,20 +84,14 @@ fn ask_by_two<T: Repository<Call = Command<MemHeld>, Reply = Reply<MemHeld>>, W:
     let (may_put, put, look) = commands;
     let mut first = seat;
     let mut second = first.split(&turns, 7);
-    let drawn = ask(rt, &turns, settings, &mut first, may_put);
-    let put = ask(rt, &turns, settings, &mut first, put);
+    let drawn = is_draft(ask(rt, &turns, settings, &mut first, may_put));
+    let put = is_created(ask(rt, &turns, settings, &mut first, put));
     let note = first.note(&turns);
     second.learn(&turns, note);
-    let found = ask(rt, &turns, settings, &mut second, look);
+    let found = is_abc(ask(rt, &turns, settings, &mut second, look));
     first.join(&turns, second);
-    let (thing, calls) = close(turns, first);
-    let told = Told {
-        drawn,
-        put,
-        found,
-        calls,
-    };
-    (thing, told)
+    let (_, calls) = close(turns, first);
+    calls == 3 && drawn && put && found
 }
 
 // The settings that a text says. Where the text stood here, what is known of them would be computed.
@@ -142,14 +149,15 @@ fn look(alloc: Global) -> Result<Command<MemHeld>, AllocError> {
 }
 
 // The bytes `abc`, stored under the first draft.
-fn put(alloc: Global, blobs: &mut MemBlobs) -> Result<Command<MemHeld>, Fail> {
+fn put<B: Blobs>(alloc: Global, blobs: &mut B) -> Result<Command<B::Held>, BlobFault> {
     let mut hashes = Hashes::new();
     hashes.update(b"abc");
+    let digests = hashes.finish();
     let parcel = Parcel {
         blob: 1,
         held: store_whole(blobs, 1, b"abc")?,
         length: 3,
-        digests: hashes.finish(),
+        digests,
     };
     let repo = text_of(alloc, "releases")?;
     let path = text_of(alloc, PATH)?;
@@ -162,71 +170,44 @@ fn put(alloc: Global, blobs: &mut MemBlobs) -> Result<Command<MemHeld>, Fail> {
 }
 
 // The draft, the file under it, and the look at it.
-fn commands_of(alloc: Global, blobs: &mut MemBlobs) -> Result<Commands, Fail> {
+fn commands_of(alloc: Global, blobs: &mut MemBlobs) -> Result<Commands, BlobFault> {
     Ok((may_put(alloc)?, put(alloc, blobs)?, look(alloc)?))
 }
 
-// What two seats of a repository are told.
-fn told_of<K: Records + Drop, C: Clock + Drop, W: Wait>(
+// Whether two seats of a repository find what is put.
+fn finds_in<K: Records + Drop, C: Clock + Drop, W: Wait>(
     rt: &W,
     alloc: Global,
     settings: &Settings,
     core: Core<K, C, MemHeld>,
     commands: Commands,
-) -> Option<Told>
+) -> bool
     requires { core.settings ≡ settings.now }
 {
-    let Ok((turns, seat)) = Turns::begin(alloc, core) else {
-        return None;
-    };
-    let (_, told) = ask_by_two(rt, turns, settings, seat, commands);
-    Some(told)
+    match Turns::begin(alloc, core) {
+        Ok((turns, seat)) => finds_by_two(rt, turns, settings, seat, commands),
+        Err(_) => false,
+    }
 }
 
-// What two seats are told of a repository with these settings, over nothing.
-fn told_by<W: Wait>(rt: &W, alloc: Global, settings: &Settings) -> Result<Option<Told>, Fail> {
+// The same of a repository with these settings, over nothing.
+fn finds_with<W: Wait>(rt: &W, alloc: Global, settings: &Settings) -> bool {
     let mut blobs = MemBlobs::new(alloc, FaultScript::none(alloc));
     let core = core_of(alloc, settings, &mut blobs);
-    let commands = commands_of(alloc, &mut blobs)?;
+    let Ok(commands) = commands_of(alloc, &mut blobs) else {
+        return false;
+    };
     match core {
-        Some(core) => Ok(told_of(rt, alloc, settings, core, commands)),
-        None => Ok(None),
+        Some(core) => finds_in(rt, alloc, settings, core, commands),
+        None => false,
     }
-}
-
-// The same with settings that a text says.
-fn told_by_two<W: Wait>(rt: &W, alloc: Global, text: &str) -> Result<Option<Told>, Fail> {
-    match settings_of(alloc, text) {
-        Some(settings) => told_by(rt, alloc, &settings),
-        None => Ok(None),
-    }
-}
-
-// Whether this is the file `abc`, lent for the first time.
-fn is_abc(found: &Option<Reply<MemHeld>>) -> bool {
-    match found {
-        Some(Reply::File { lease, parcel }) => {
-            *lease == 1
-                && parcel.length == 3
-                && parcel.digests.sha1_text() == *b"a9993e364706816aba3e25717850c26c9cd0d89d"
-        }
-        _ => false,
-    }
-}
-
-// Whether the file was put under the first draft, and found.
-fn is_as_said(told: &Told) -> bool {
-    told.calls == 3
-        && matches!(&told.drawn, Some(Reply::Draft(1)))
-        && matches!(&told.put, Some(Reply::Created))
-        && is_abc(&told.found)
 }
 
 #[test]
 fn a_seat_finds_what_it_learns_was_put(rt: HostRuntime) -> Result<(), Fail> {
-    match told_by_two(&rt, rt.alloc(), SETTINGS)? {
-        Some(told) => assert!(rt; is_as_said(&told)),
-        None => Err("no repository")?,
+    match settings_of(rt.alloc(), SETTINGS) {
+        Some(settings) => assert!(rt; finds_with(&rt, rt.alloc(), &settings)),
+        None => Err("no settings")?,
     }
     Ok(())
 }

@@ -152,13 +152,6 @@ fn ends_of(alloc: Global, case: &Case) -> Result<Ends, AllocError> {
     Ok(Ends { settings, out })
 }
 
-// A server that has ended, and the sink that took its line.
-#[derive(Drop)]
-struct Over {
-    ran: HeldRan,
-    out: MemSink,
-}
-
 // Whether so many connections came back, each of which took this output.
 fn are_given(links: &[MemLink], count: usize, output: &str) -> bool {
     for link in links {
@@ -174,34 +167,43 @@ fn is_left(desk: &HeldDesk, count: usize, case: &Case) -> bool {
     desk.blobs.faults() == case.faults && are_given(desk.port.given_back(), count, case.output)
 }
 
-impl Over {
-    fn has_ended(&self, case: &Case) -> bool {
-        self.ran.status == case.status && self.out.bytes() == case.line.as_bytes()
-    }
-
-    fn has_desks(&self, case: &Case) -> bool {
-        for (desk, count) in self.ran.desks.iter().zip(case.given) {
-            if !is_left(desk, *count, case) {
-                return false;
-            }
+fn are_left(desks: &[HeldDesk], case: &Case) -> bool {
+    for (desk, count) in desks.iter().zip(case.given) {
+        if !is_left(desk, *count, case) {
+            return false;
         }
-        self.ran.desks.len() == case.given.len()
     }
+    desks.len() == case.given.len()
+}
 
-    fn has_paused(&self, case: &Case) -> bool {
-        self.ran.cleaner.pace.kept() == case.pauses
+fn has_ended(status: u8, out: &MemSink, case: &Case) -> bool {
+    status == case.status && out.bytes() == case.line.as_bytes()
+}
+
+// What is not as the case says, of a server that has ended and of the sink that took its line.
+fn other_in(ran: &HeldRan, out: &MemSink, case: &Case) -> Option<&'static str> {
+    if !has_ended(ran.status, out, case) {
+        return Some("the end");
     }
+    if !are_left(ran.desks.as_slice(), case) {
+        return Some("the desks");
+    }
+    if ran.cleaner.pace.kept() != case.pauses {
+        return Some("the pauses");
+    }
+    None
 }
 
 // Runs the program as a server over no records.
-fn over_of<R: Threads + Wait + Sync>(
+fn other_of<R: Threads + Wait + Sync>(
     rt: &R,
     alloc: Global,
     words: &[String],
     desks: Vec<HeldDesk>,
     cleaner: HeldCleaner,
     ends: Ends,
-) -> Over
+    case: &Case,
+) -> Option<&'static str>
     requires { 0 < vec_len desks }
 {
     let Ends { settings, out } = ends;
@@ -220,49 +222,24 @@ fn over_of<R: Threads + Wait + Sync>(
         clock,
         &mut out,
     );
-    Over { ran, out }
+    other_in(&ran, &out, case)
 }
 
-// Runs the server of a case; nothing where it has no desk.
-fn over_by<R: Threads + Wait + Sync>(
+// Runs the server of a case, and says what is not as the case says.
+fn first_other<R: Threads + Wait + Sync>(
     rt: &R,
     alloc: Global,
     case: &Case,
-) -> Result<Option<Over>, AllocError> {
+) -> Result<Option<&'static str>, AllocError> {
     let twin = first_twin(alloc, case.members)?;
     let desks = desks_of(alloc, &twin, case)?;
     let cleaner = cleaner_of(alloc, twin, case.passes)?;
     let ends = ends_of(alloc, case)?;
     let words = words_of(alloc)?;
     if desks.is_empty() {
-        return Ok(None);
+        return Ok(Some("no desk"));
     }
-    Ok(Some(over_of(rt, alloc, words.as_slice(), desks, cleaner, ends)))
-}
-
-// What is not as the case says.
-fn other_of(over: &Over, case: &Case) -> Option<&'static str> {
-    if !over.has_ended(case) {
-        return Some("the end");
-    }
-    if !over.has_desks(case) {
-        return Some("the desks");
-    }
-    if !over.has_paused(case) {
-        return Some("the pauses");
-    }
-    None
-}
-
-fn first_other<R: Threads + Wait + Sync>(
-    rt: &R,
-    alloc: Global,
-    case: &Case,
-) -> Result<Option<&'static str>, AllocError> {
-    match over_by(rt, alloc, case)? {
-        Some(over) => Ok(other_of(&over, case)),
-        None => Ok(Some("no desk")),
-    }
+    Ok(other_of(rt, alloc, words.as_slice(), desks, cleaner, ends, case))
 }
 
 /// A server comes to what its case says.

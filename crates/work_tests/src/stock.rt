@@ -1,9 +1,9 @@
-// Folders with recorded files, and the words of runs over them.
-use repo_run::{Wanted, wanted};
+// Folders with recorded files, and the words of runs over them. What is asked of the system is answered by a `bool`.
+use repo_run::wanted;
 use run_system::status_for;
+use std::alloc::{AllocError, Global};
 use std::fs;
 use std::sync::Wait;
-use std::test::Fail;
 use std::thread::Threads;
 
 /// Two builds of one snapshot, each a jar of `abc`, that were accepted on 2024-02-29: the older one with blob 1, the newer one
@@ -18,54 +18,84 @@ pub const LATER: u64 = 1_711_800_000;
 const SETTINGS: &str =
     "[[hosted]]\nid = \"snapshots\"\nreleases = false\nsnapshots = true\nkeep_count = 1\nkeep_days = 30\n";
 
+fn path_of(alloc: Global, folder: &str, name: &str) -> Result<String, AllocError> {
+    format!(in alloc; "{folder}/{name}")
+}
+
 /// Writes a file of a folder.
-pub fn put(rt: &HostRuntime, folder: &str, name: &str, bytes: &[u8]) -> Result<(), Fail> {
-    let path = format!(in rt.alloc(); "{folder}/{name}")?;
-    fs::write(rt, path.as_str(), bytes)?;
-    Ok(())
+pub fn put(rt: &HostRuntime, folder: &str, name: &str, bytes: &[u8]) -> bool {
+    match path_of(rt.alloc(), folder, name) {
+        Ok(path) => fs::write(rt, path.as_str(), bytes).is_ok(),
+        Err(_) => false,
+    }
 }
 
 /// Whether a folder has this file.
-pub fn has(rt: &HostRuntime, folder: &str, name: &str) -> Result<bool, Fail> {
-    let path = format!(in rt.alloc(); "{folder}/{name}")?;
-    Ok(fs::metadata(rt, path.as_str()).is_ok())
+pub fn has(rt: &HostRuntime, folder: &str, name: &str) -> bool {
+    match path_of(rt.alloc(), folder, name) {
+        Ok(path) => fs::metadata(rt, path.as_str()).is_ok(),
+        Err(_) => false,
+    }
+}
+
+/// Whether a folder does not have this file.
+pub fn lacks(rt: &HostRuntime, folder: &str, name: &str) -> bool {
+    match path_of(rt.alloc(), folder, name) {
+        Ok(path) => fs::metadata(rt, path.as_str()).is_err(),
+        Err(_) => false,
+    }
+}
+
+// Makes an empty folder, and one for its contents.
+fn make_places(rt: &HostRuntime, folder: &str) -> bool {
+    let _ = fs::remove_dir_all(rt, folder);
+    let made = fs::create_dir(rt, folder).is_ok();
+    match path_of(rt.alloc(), folder, "blobs") {
+        Ok(blobs) => made && fs::create_dir(rt, blobs.as_str()).is_ok(),
+        Err(_) => false,
+    }
 }
 
 /// Makes a folder with both builds and a content that nothing names, and with the settings.
-pub fn make_folder(rt: &HostRuntime, folder: &str) -> Result<(), Fail> {
-    let _ = fs::remove_dir_all(rt, folder);
-    fs::create_dir(rt, folder)?;
-    let blobs = format!(in rt.alloc(); "{folder}/blobs")?;
-    fs::create_dir(rt, blobs.as_str())?;
-    put(rt, folder, "s.toml", SETTINGS.as_bytes())?;
-    put(rt, folder, "rows", TWO_BUILDS)?;
-    put(rt, folder, "blobs/1", b"abc")?;
-    put(rt, folder, "blobs/2", b"abc")?;
-    put(rt, folder, "blobs/7", b"left over")
+pub fn make_folder(rt: &HostRuntime, folder: &str) -> bool {
+    make_places(rt, folder)
+        && put(rt, folder, "s.toml", SETTINGS.as_bytes())
+        && put(rt, folder, "rows", TWO_BUILDS)
+        && put(rt, folder, "blobs/1", b"abc")
+        && put(rt, folder, "blobs/2", b"abc")
+        && put(rt, folder, "blobs/7", b"left over")
 }
 
 /// The words of a command over a folder and its settings.
-pub fn words_over(rt: &HostRuntime, command: &str, folder: &str) -> Result<Vec<String>, Fail> {
-    let mut words = Vec::new(rt.alloc());
-    words.push(String::from_str(rt.alloc(), command)?)?;
-    words.push(format!(in rt.alloc(); "{folder}/s.toml")?)?;
-    words.push(String::from_str(rt.alloc(), folder)?)?;
+pub fn words_over(alloc: Global, command: &str, folder: &str) -> Result<Vec<String>, AllocError> {
+    let mut words = Vec::new(alloc);
+    words.push(String::from_str(alloc, command)?)?;
+    words.push(path_of(alloc, folder, "s.toml")?)?;
+    words.push(String::from_str(alloc, folder)?)?;
     Ok(words)
 }
 
-/// What words ask for.
-pub fn wanted_by(rt: &HostRuntime, words: &[String]) -> Result<Wanted, Fail> {
-    Ok(wanted(rt.alloc(), words)?)
-}
-
-/// The status of a command over a folder.
-pub fn status_over<R: Threads + Wait + Sync>(
+fn status_over<R: Threads + Wait + Sync>(
     threads: &R,
     rt: &HostRuntime,
     command: &str,
     folder: &str,
-) -> Result<u8, Fail> {
-    let words = words_over(rt, command, folder)?;
-    let wanted = wanted_by(rt, words.as_slice())?;
-    Ok(status_for(threads, rt, words.as_slice(), &wanted)?)
+) -> Result<u8, AllocError> {
+    let words = words_over(rt.alloc(), command, folder)?;
+    let wanted = wanted(rt.alloc(), words.as_slice())?;
+    status_for(threads, rt, words.as_slice(), &wanted)
+}
+
+/// Whether a command over a folder ends with this status.
+pub fn ends_with<R: Threads + Wait + Sync>(
+    threads: &R,
+    rt: &HostRuntime,
+    command: &str,
+    folder: &str,
+    status: u8,
+) -> bool {
+    match status_over(threads, rt, command, folder) {
+        Ok(ended) => ended == status,
+        Err(_) => false,
+    }
 }
