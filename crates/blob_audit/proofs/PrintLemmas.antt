@@ -35,25 +35,6 @@ Covers r print = (print.length ≡ r.length) × Agrees r.digests print.digests
 abbrev digest_of : (Print → List ℕ) → Option Print → List ℕ
 digest_of f found = option_map_or f found []
 
-pub covered : (r : Recorded) → IsSized r → (print : Print) → Covers r print → IsWhole (print_in r) (Some print)
-covered r sized print is = by r.digests.further sized is
-  where
-    by : (further : Option Further) → IfSome further (λ (f : Further). length f.sha256 ≡ 32)
-        → Covers (record { length = r.length; digests = record { sha1 = r.digests.sha1; md5 = r.digests.md5; further = further } }) print
-        → IsWhole (print_in (record { length = r.length; digests = record { sha1 = r.digests.sha1; md5 = r.digests.md5; further = further } })) (Some print)
-    by None so covers = λ i. Some (record { length = covers.0 i; digests = record { sha1 = (covers.1 i).sha1; md5 = (covers.1 i).md5; sha256 = []; sha512 = [] } })
-    by (Some f) so covers =
-        ap (λ b. Some (cond b (without_further print) print)) (not-none (length f.sha256) so)
-        ∙ (λ i. Some (record {
-          length = covers.0 i;
-          digests = record {
-            sha1 = (covers.1 i).sha1;
-            md5 = (covers.1 i).md5;
-            sha256 = option_map_or (λ (g : Further). g.sha256) (covers.1 i).further [];
-            sha512 = option_map_or (λ (g : Further). g.sha512) (covers.1 i).further [];
-          };
-        }))
-
 pub covers : (r : Recorded) → IsSized r → (print : Print) → IsWhole (print_in r) (Some print) → Covers r print
 covers r sized print is = by r.digests.further sized is
   where

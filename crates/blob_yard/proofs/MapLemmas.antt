@@ -68,10 +68,6 @@ module _ {X : Type 0} where
         | false ↦ λ there at. found-above k n x es above.1 at
       ] refl is
 
-  pub found-nowhere : (n : ℕ) (es : List (ℕ × X)) → AreAbove n es → lookup (nat_eq n) es ≡ None
-  found-nowhere n [] above = refl
-  found-nowhere n (e ∷ es) above = ap (λ b. cond b (Some e.1) (lookup (nat_eq n) es)) (less_eqb_flip n e.0 above.0) ∙ found-nowhere n es above.1
-
   -- what is found behind the first is found in the whole
   pub found-behind : (n : ℕ) (x : X) (e : ℕ × X) (es : List (ℕ × X)) → AreRising (e ∷ es) → lookup (nat_eq n) es ≡ Some x → lookup (nat_eq n) (e ∷ es) ≡ Some x
   found-behind n x e es up is = ap (λ b. cond b (Some e.1) (lookup (nat_eq n) es)) (less_eqb e.0 n (found-above e.0 n x es up.0 is)) ∙ is

@@ -1,14 +1,14 @@
 -- The numbers as contracts see them, after a step.
 use Rattle.std.proofs.Common.{◌≡◌, ℕ, ◌+◌, ◌-◌, Bool, true, false, cond, not, ◌&&◌, ◌||◌, List, [], ◌∷◌, ◌++◌, map, filter, take, drop, Option, Some, None, is_some, option_map, nat_eq, eqb, count_by, refl, sym, ap, ◌∙◌, subst, arith, zero-add, add-zero}
 use Rattle.std.proofs.lemmas.Bool.{false≢true, eqb-true, ne_eqb, and_parts, or_left, false_from_ne_true}
-use Rattle.std.proofs.lemmas.List.{append-nil, map-append, take-append-drop}
+use Rattle.std.proofs.lemmas.List.{map-append, take-append-drop}
 use Rattle.std.proofs.lemmas.List.Folds.{list_any-append}
 use Rattle.std.proofs.lemmas.List.Sums.{sum_by-cons, sum_by_push}
 use Rattle.std.proofs.lemmas.Map.Entries.{lookup-filter-keys}
 use Rattle.std.specs.List.{list_any}
 use Rattle.std.specs.Map.{keys_of, values_of, lookup}
 use Rattle.std.specs.Option.{option_map_or}
-use Rattle.repo_model.specs.Effect.{draws, drops, lends, returns, forgets, with_number, without_number, without_draft, condemning, yard_after}
+use Rattle.repo_model.specs.Effect.{drops, lends, returns, forgets, with_number, without_number, without_draft, condemning, yard_after}
 use Rattle.repo_model.specs.State as plain
 use Rattle.repo_model.specs.State.{is_among}
 use Rattle.repo_model.specs.Turn.{unlent}
@@ -19,7 +19,7 @@ use Rattle.blob_yard.specs.declared.places.Place.{Place}
 use Rattle.blob_yard.specs.declared.places.Stand.{Stand}
 use Rattle.blob_yard.specs.declared.places.Stand.TheVariants.{Draft, Kept, Condemned}
 use Rattle.blob_yard.proofs.MapLemmas.{eqb_sym, found-behind, found-first, lookup-changed}
-use Rattle.blob_yard.proofs.PlaceLemmas.{passing, among-passing, passing_same, passing_still, passing_out, passing_in, passing-push, found_so}
+use Rattle.blob_yard.proofs.PlaceLemmas.{passing, among-passing, passing_same, passing_still, passing_out, passing_in, found_so}
 
 abbrev numbers_by : List ℕ → List plain.Lease → List ℕ → List ℕ → ℕ → ℕ → ℕ → Numbers
 numbers_by drafts leases condemned kept a b c = record {
@@ -40,11 +40,6 @@ kept_alone : (s : Stand) → is_kept s ≡ true → (is_draft s ≡ false) × (i
 kept_alone Draft h = absurd (false≢true h)
 kept_alone Kept h = (refl, refl)
 kept_alone Condemned h = absurd (false≢true h)
-
-condemned_alone : (s : Stand) → is_condemned s ≡ true → (is_draft s ≡ false) × (is_kept s ≡ false)
-condemned_alone Draft h = absurd (false≢true h)
-condemned_alone Kept h = absurd (false≢true h)
-condemned_alone Condemned h = (refl, refl)
 
 abbrev drafts_at : Place → Bool
 drafts_at p = is_draft p.stand
@@ -135,14 +130,6 @@ unreturned_shown lease es ls a b c = same_numbers _ _ _ _ _ _ _ _ a b c refl (sh
 pub found-lease : (lease : ℕ) (ls : List (ℕ × ℕ)) → list_any (λ (l : plain.Lease). eqb l.number lease) (shown_leases ls) ≡ list_any (λ m. eqb m lease) (keys_of ls)
 found-lease lease [] = refl
 found-lease lease (e ∷ ls) = ap (λ b. eqb e.0 lease || b) (found-lease lease ls)
-
--- a draft is drawn
-pub drawn_shown : (n : ℕ) (es : List (ℕ × Place)) (ls : List (ℕ × ℕ)) (b c : ℕ) → numbers_from (es ++ (n, record { stand = Draft; leases = 0 }) ∷ []) ls (n + 1) b c
-    ≡ record (numbers_from es ls n b c) { yard = yard_after draws (numbers_from es ls n b c).yard }
-drawn_shown n es ls b c =
-    same_numbers _ _ _ _ _ _ _ _ (n + 1) b c (passing-push drafts_at es n (record { stand = Draft; leases = 0 })) refl
-    (passing-push condemned_at es n (record { stand = Draft; leases = 0 }) ∙ append-nil (passing condemned_at es))
-    (passing-push kept_at es n (record { stand = Draft; leases = 0 }) ∙ append-nil (passing kept_at es))
 
 -- numbers of which each is in use
 kept_none : (test : Stand → Bool) (es : List (ℕ × Place)) → test Kept ≡ false → AreKept es → numbers_of test es ≡ []

@@ -1,6 +1,6 @@
 -- What single acts of a course that nothing refuses write and read, where no count rose.
-use Rattle.std.proofs.Common.{◌≡◌, ◌⊎◌, inl, inr, ℕ, zero, suc, ◌<◌, Bool, true, List, [], ◌++◌, length, Option, Some, arith, refl, sym, subst, ap, ◌∙◌}
-use Rattle.std.specs.Prelude.{IfSome, if◌then◌else◌}
+use Rattle.std.proofs.Common.{◌≡◌, ◌⊎◌, inl, inr, ℕ, zero, suc, Bool, true, List, [], ◌++◌, Option, Some, refl, sym, subst, ap, ◌∙◌}
+use Rattle.std.specs.Prelude.{if◌then◌else◌}
 use Rattle.outside.specs.Blobs.{Shelf}
 use Rattle.outside.specs.Told.{behind}
 use Rattle.outside_remote.specs.Exchanges.{Sees}
@@ -21,7 +21,7 @@ use Rattle.repo_course.specs.declared.said.Said.{Said}
 use Rattle.repo_course.specs.declared.said.Said.TheVariants as said
 use Rattle.repo_course.specs.Serving.{Follows, Outside, Says, whole, memory, cut, writes}
 use Rattle.course_laws.specs.Duties.{MayAsk, Rounds, Stand, due_after, due_planned}
-use Rattle.course_laws.specs.Granted.{BodyIsTaken, Grants, HasRound, IsGood, IsMore, IsServed, IsSuccess, answered, sent as file_sent, differs, file_cut, starved}
+use Rattle.course_laws.specs.Granted.{Grants, HasRound, IsGood, IsMore, IsServed, IsSuccess, answered, sent as file_sent, differs, file_cut, starved}
 use Rattle.course_laws.proofs.Counts.{deed-grew, follows-grew}
 use Rattle.course_laws.proofs.Early.{IsTold, SaysMemory, due-moves}
 use Rattle.course_laws.proofs.Rising.{Quiet, no-write-fault, quiet-first, quiet-then}
@@ -51,14 +51,6 @@ memory-said head_only old new end q said =
 -- bytes written behind others
 writes-writes : (a b : List ℕ) (o : Outside) → writes b (writes a o) ≡ writes (a ++ b) o
 writes-writes a b o = ap (λ (out : Option (List ℕ)). record o { output = out }) (behind-behind o.output a b)
-
--- the whole of a body is there
-pub body-is-there : {P : Type 0} (by_text : List ℕ → Option Close) (unread : Option ℕ) (count : ℕ) (input : List ℕ) (old : Outside) → unread ≡ Some count
-    → old.input ≡ Some input → BodyIsTaken by_text unread input → IfSome old.input (λ bytes. length bytes < count) → P
-body-is-there by_text unread count input old is input-is taken short =
-    let enough = (subst (λ u. BodyIsTaken by_text u input) is taken).0 in
-    let few : length input < count = subst (λ i. IfSome i (λ bytes. length bytes < count)) input-is short in
-    absurd (omega arith)
 
 module _ (manner : Manner) where
   -- seen from before bytes that were written first

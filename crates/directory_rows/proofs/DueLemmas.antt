@@ -1,26 +1,22 @@
 -- Which rows are to fade, directory by directory.
-use Rattle.std.proofs.Common.{Bor, ◌≡◌, ℕ, ◌<◌, ◌≤◌, Bool, true, false, cond, ◌&&◌, List, [], ◌∷◌, ◌++◌, length, take, map, filter, fold, Option, Some, None, String, Global, string_bytes, bytes_eq, refl, sym, ap, ◌∙◌, subst, arith, append_assoc, length-append}
-use Rattle.std.specs.List.{AllByRecursion, list_any}
-use Rattle.std.specs.Map.Iter.{deref_pair}
+use Rattle.std.proofs.Common.{◌≡◌, ℕ, Bool, true, false, cond, ◌&&◌, List, [], ◌∷◌, ◌++◌, filter, fold, Option, Some, None, bytes_eq, refl, sym, ap, ◌∙◌, subst, append_assoc}
+use Rattle.std.specs.List.{AllByRecursion}
 use Rattle.std.specs.Ordering.{is_le}
 use Rattle.std.proofs.lemmas.Bool.{and_parts, and_right, both_ways, false_from_ne_true}
-use Rattle.std.proofs.lemmas.List.{append-nil, length-map, length-take, map-append, take_all, take-append-le}
+use Rattle.std.proofs.lemmas.List.{append-nil}
 use Rattle.std.proofs.lemmas.List.Elements.{filter-append}
 use Rattle.std.proofs.lemmas.List.Sums.{fold-append}
 use Rattle.std.proofs.lemmas.Slice.Eq.{bytes_eq-Decides}
-use Rattle.outside.specs.declared.stores.Held.{Ghosts}
 use Rattle.mvn_coords.specs.FileName.{BuildOf, is_filled}
 use Rattle.mvn_coords.specs.Layout.{Coordinates, Directory, text_of_directory}
 use Rattle.repo_model.specs.Data as plain
 use Rattle.repo_model.specs.Document.{is_listed, listed_in}
-use Rattle.repo_model.specs.Effect.{Effect, fades, rows_after}
 use Rattle.repo_model.specs.Paths.{file_at, stands_in}
-use Rattle.repo_model.specs.Purge.{Aged, build_at, builds_of, due, is_due_at, is_due_build, is_same_build, snapshot_directory, with_aged}
-use Rattle.repo_model.specs.Settings.{Rule}
+use Rattle.repo_model.specs.Purge.{Aged, build_at, builds_of, snapshot_directory, with_aged}
 use Rattle.snapshot_purge.specs.Ages.{HaveSameBuilds}
 use Rattle.snapshot_purge.proofs.AgeLemmas.{aged_same}
 use Rattle.directory_rows.specs.Documents.{rest_from}
-use Rattle.directory_rows.specs.Dues.{directory_of, with_build_of_row, IsRight}
+use Rattle.directory_rows.specs.Dues.{directory_of, with_build_of_row}
 use Rattle.directory_rows.specs.Walks.{IsWalkOf}
 use Rattle.directory_rows.specs.declared.dues.Known.{Known}
 use Rattle.ordered_rows.specs.declared.row.Row.{Row}
@@ -110,10 +106,3 @@ same_directory k c h =
     let artifact : c.artifact ≡ k.artifact = (bytes_eq-Decides c.artifact k.artifact).0 b.0 in
     let version : k.version ≡ c.directory = (bytes_eq-Decides k.version c.directory).0 b.1 in
     λ i. record { group = sym group i; artifact = sym artifact i; version = Some (version i) }
-
-pub known_due : (rule : Rule) (now : ℕ) (rows : List plain.Row) (k : Known) (c : Coordinates) (build : BuildOf) → IsRight rule now rows k → directory_of k ≡ snapshot_directory c → c.build ≡ Some build
-    → list_any (is_same_build build) k.due ≡ is_due_at rule now rows (Some c)
-known_due rule now rows k c build right same is =
-    right build
-    ∙ ap (λ d. list_any (is_same_build build) (due (builds_of (listed_in d rows)) rule.keep_count rule.keep_days now)) same
-    ∙ ap (λ o. is_due_build o (due (builds_of (listed_in (snapshot_directory c) rows)) rule.keep_count rule.keep_days now)) (sym is)

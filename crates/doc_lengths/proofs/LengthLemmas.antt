@@ -1,7 +1,7 @@
 -- Lengths of lines, and of counts that stay at their greatest value.
 use native.Mathlib.Omega.{arith}
-use Rattle.std.proofs.Common.{◌≡◌, ℕ, suc, ◌+◌, ◌≤◌, ◌<◌, ◌^◌, min, Bool, true, false, List, [], ◌∷◌, ◌++◌, length, refl, sym, ◌∙◌, ap, subst}
-use Rattle.std.specs.Prelude.{codes, ◌==◌}
+use Rattle.std.proofs.Common.{◌≡◌, ℕ, suc, ◌+◌, ◌≤◌, ◌<◌, ◌^◌, Bool, true, false, List, [], ◌∷◌, ◌++◌, length, refl, sym, ◌∙◌, ap}
+use Rattle.std.specs.Prelude.{codes}
 use Rattle.std.specs.List.{flat_map}
 use Rattle.std.proofs.lemmas.Bool.{false≢true}
 use Rattle.mvn_coords.specs.Civil.{CivilTime, text_of_time}
@@ -10,14 +10,6 @@ use Rattle.mvn_metadata.specs.Document.{Document}
 use Rattle.mvn_metadata.specs.Merge.{Entry}
 use Rattle.mvn_metadata.specs.Written.{block, classifier_line, close_tag, declaration, element, element_if, entries_lines, entry_lines, listing_lines, moment_text, open_tag, text, version_line, version_lines}
 use Rattle.doc_lengths.specs.Counts.{counted}
-
--- two counts and their sum
-pub sum-counted : (a b x y r : ℕ) → x ≡ counted a → y ≡ counted b → r ≡ counted (x + y) → r ≡ counted (a + b)
-sum-counted a b x y r is is' sum = omega (arith, is, is', sum)
-
--- a count and a constant
-pub more-counted : (a n x r : ℕ) → x ≡ counted a → r ≡ counted (x + n) → r ≡ counted (a + n)
-more-counted a n x r is sum = omega (arith, is, sum)
 
 length-open : (name : List ℕ) → length (open_tag name) ≡ length name + 2
 length-open name =

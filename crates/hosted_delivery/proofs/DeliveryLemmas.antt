@@ -217,10 +217,6 @@ recording-more s now rows files file left items after item told short is at =
       formed = (and_parts (is_recordable file) (list_all is_recordable left) at.formed).1;
     })
 
--- the blob of a file whose path has a row
-pub left-at : (s : Session) (now : ℕ) (file : Staged) (row : plain.Row) → flat_map left_by (deliver_at s now file (Some row)) ≡ file.blob.number ∷ []
-left-at s now file row = elim (row.phase) as (λ p. flat_map left_by (deliver_again s now file p) ≡ file.blob.number ∷ []) [ plain.listed ↦ refl | plain.fading since ↦ refl ]
-
 pub left-more : (s : Session) (now : ℕ) (rows : List plain.Row) (file : Staged) (left : List Staged) (blobs some : List ℕ) → some ≡ flat_map left_by (deliver_at s now file (row_at file.path rows))
     → (blobs ++ some) ++ flat_map left_by (effects_by s now rows left) ≡ blobs ++ flat_map left_by (effects_by s now rows (file ∷ left))
 left-more s now rows file left blobs some is =

@@ -1,49 +1,19 @@
 -- Staged files and rows by path, as they are judged.
-use Rattle.std.proofs.Common.{◌≡◌, ℕ, Bool, true, false, cond, ◌&&◌, ◌||◌, List, [], ◌∷◌, ◌++◌, fold, Option, Some, None, String, Global, string_bytes, bytes_eq, is_eq, refl, sym, ◌∙◌, ap, append_assoc}
+use Rattle.std.proofs.Common.{◌≡◌, ℕ, Bool, true, false, cond, ◌&&◌, ◌||◌, List, [], ◌∷◌, Option, Some, None, String, Global, string_bytes, bytes_eq, is_eq, refl, sym, ◌∙◌, ap}
 use Rattle.std.specs.Prelude.{is_some}
 use Rattle.std.proofs.lemmas.Slice.Eq.{bytes_eq-Decides}
-use Rattle.std.proofs.lemmas.List.Sums.{fold-append}
 use Rattle.std.specs.List.{list_any}
 use Rattle.std.specs.Map.{lookup}
 use Rattle.outside.specs.declared.parcels.Parcel.{Parcel}
 use Rattle.outside.specs.declared.stores.Held.{Ghosts}
-use Rattle.repo_model.specs.declared.print.Print.{Print}
 use Rattle.repo_model.specs.Data as plain
-use Rattle.repo_model.specs.Data.{Staged, is_same_print}
-use Rattle.repo_model.specs.Deploy.{Offence, has_pom, least, offence_at}
+use Rattle.repo_model.specs.Data.{Staged}
+use Rattle.repo_model.specs.Deploy.{has_pom}
 use Rattle.repo_model.specs.Document.{is_listed}
 use Rattle.repo_model.specs.State.{is_row, is_staged, row_at}
 use Rattle.hosted_delivery.specs.Deliveries.{shown_files}
-use Rattle.ordered_rows.specs.Standings.{standing, standing_by}
-use Rattle.ordered_rows.specs.declared.standings.Standing.TheVariants as stands
 use Rattle.ordered_rows.proofs.MapLemmas.{at_text, same_test}
 use Rattle.ordered_rows.proofs.Rising.{AreAfter, AreRising}
-
--- ---- what stands against a file
-phase-other : (p : plain.Phase) (kept : Print) → standing_by p ≡ stands.Other kept → ⊥
-phase-other plain.listed kept e = cc
-phase-other (plain.fading since) kept e = cc
-
-pub other-is : (file : Staged) (o : Option plain.Row) (kept : Print) → standing file.blob.print o ≡ stands.Other kept
-    → offence_at file o ≡ Some (record { path = file.path; kept = kept; sent = file.blob.print })
-other-is file None kept e = cc
-other-is file (Some row) kept e =
-    let found : Print → Offence = λ k. record { path = file.path; kept = k; sent = file.blob.print } in
-    elim (is_same_print row.blob.print file.blob.print)
-    as (λ b. cond b (standing_by row.phase) (stands.Other row.blob.print) ≡ stands.Other kept → cond b None (Some (found row.blob.print)) ≡ Some (found kept)) [
-      | true ↦ λ h. absurd (phase-other row.phase kept h)
-      | false ↦ λ h. let alike : row.blob.print ≡ kept = cc in ap (λ k. Some (found k)) alike
-    ] e
-
-pub none-other : (file : Staged) (o : Option plain.Row) → ((kept : Print) → standing file.blob.print o ≡ stands.Other kept → ⊥) → offence_at file o ≡ None
-none-other file None other = refl
-none-other file (Some row) other =
-    let found : Offence = record { path = file.path; kept = row.blob.print; sent = file.blob.print } in
-    elim (is_same_print row.blob.print file.blob.print)
-    as (λ b. ((kept : Print) → cond b (standing_by row.phase) (stands.Other row.blob.print) ≡ stands.Other kept → ⊥) → cond b None (Some found) ≡ None) [
-      | true ↦ λ h. refl
-      | false ↦ λ h. absurd (h row.blob.print refl)
-    ] other
 
 -- ---- whether a pom is there
 some-cond : {A : Type 0} (b : Bool) (x : A) (o : Option A) → is_some (cond b (Some x) o) ≡ (b || is_some o)
@@ -86,14 +56,3 @@ listed-there path (row ∷ rows) up =
 
 pub pom-there : (pom : List ℕ) (files : List Staged) (rows : List plain.Row) → AreRising rows → list_any (is_staged pom) files ≡ false → has_pom rows files pom ≡ shows_listed (row_at pom rows)
 pom-there pom files rows up none = ap (λ b. b || list_any (λ (row : plain.Row). is_row pom row && is_listed row.phase) rows) none ∙ listed-there pom rows up
-
--- ---- the first directory
-pub directory-text : (g a v : List ℕ) → g ++ (47 ∷ [] ++ (a ++ (47 ∷ [] ++ v))) ≡ (g ++ 47 ∷ a) ++ 47 ∷ v
-directory-text g a v = sym (append_assoc g (47 ∷ a) (47 ∷ v))
-
-pub pom-text : (d a v : List ℕ) → d ++ (47 ∷ [] ++ (a ++ (45 ∷ [] ++ v))) ≡ (d ++ 47 ∷ a) ++ 45 ∷ v
-pom-text d a v = sym (append_assoc d (47 ∷ a) (45 ∷ v))
-
--- the least of some and of those that are left
-pub least-more : (best after : Option (List ℕ)) (some rest : List (List ℕ)) → after ≡ fold least best some → fold least after rest ≡ fold least best (some ++ rest)
-least-more best after some rest is = ap (λ o. fold least o rest) is ∙ sym (fold-append least best some rest)

@@ -15,7 +15,7 @@ use Rattle.repo_run.specs.Replay.{Finishes, Replays, ReplaysBy, Reports, accepte
 use Rattle.repo_run.specs.Status.{HasStatus, done, memory_wanted, out_failed, sink_failed, source_failed}
 use Rattle.repo_run.specs.Surroundings.{DeskState, View, connection}
 use Rattle.memory_laws.specs.Failed as failed
-use Rattle.memory_laws.specs.Failed.{HasFailed, IsStarved, is_found}
+use Rattle.memory_laws.specs.Failed.{HasFailed, IsStarved}
 
 -- what a stream's end has printed, where the status is 8
 starved-line : (calls : ℕ) (ending : End) (out out' : Output) (status : ℕ) → status ≡ 8 → Finishes calls ending out out' status → IsStarved out out' status

@@ -24,10 +24,6 @@ then {a} {b} {c} {s} {t} p q = record { gains = two_gained a b c s t p.gains q.g
 pub nothing : (a : Option (List ℕ)) → Adds a a []
 nothing a = record { gains = none_gained a }
 
--- what stands on a sheet that was empty
-pub from_empty : {all text : List ℕ} → Adds (Some []) (Some all) text → all ≡ text
-from_empty p = p.gains
-
 -- a piece that is the same as another
 pub same : {a b : Option (List ℕ)} {s t : List ℕ} → s ≡ t → Adds a b s → Adds a b t
 same {a} {b} {s} {t} e p = subst (λ u. Adds a b u) e p
@@ -36,9 +32,6 @@ same {a} {b} {s} {t} e p = subst (λ u. Adds a b u) e p
 pub one_more : {A : Type 0} (f : A → List ℕ) (begun out new : Option (List ℕ)) (x : A) (left rest all : List A) → left ≡ x ∷ rest → Adds out new (f x) → ((end : Option (List ℕ)) → Adds out end (flat_map f left) → Adds begun end (flat_map f all)) → (end : Option (List ℕ)) → Adds new end (flat_map f rest) → Adds begun end (flat_map f all)
 one_more f begun out new x left rest all is made left_over end p =
     left_over end (same (ap (λ l. flat_map f l) (sym is)) (then made p))
-
-pub all_written : {A : Type 0} (f : A → List ℕ) (begun out : Option (List ℕ)) (left all : List A) → left ≡ [] → ((end : Option (List ℕ)) → Adds out end (flat_map f left) → Adds begun end (flat_map f all)) → Adds begun out (flat_map f all)
-all_written f begun out left all is left_over = left_over out (same (ap (λ l. flat_map f l) (sym is)) (nothing out))
 
 pub versions_block : (vs : List (List ℕ)) (b : Bool) {begun end : Option (List ℕ)} → b ≡ false → (vs ≡ [] → b ≡ true) → Adds begun end (block (codes "    ") (codes "versions") (flat_map version_line vs)) → Adds begun end (version_lines vs)
 versions_block [] b f t p = absurd (let e : true ≡ false = sym (t refl) ∙ f in cc)

@@ -3,7 +3,7 @@ use Rattle.std.proofs.Common.{◌≡◌, ℕ, Bool, true, false, ◌||◌, List,
 use Rattle.std.proofs.lemmas.Bool.{false≢true}
 use Rattle.std.proofs.lemmas.Slice.Eq.{bytes_eq-Decides}
 use Rattle.std.specs.BTreeSet.{insert_key}
-use Rattle.std.specs.List.{AllByRecursion, list_any}
+use Rattle.std.specs.List.{list_any}
 use Rattle.std.specs.Ordering.{match_ordering}
 use Rattle.std.specs.String.{string_cmp}
 use Rattle.mvn_coords.specs.Segment.{levels, path_of_levels}
@@ -49,9 +49,6 @@ some-same x y e = cc
 
 pub homed-by : (ks : List (String Global)) (path home : List ℕ) → home_of path ≡ Some home → has_home ks home ≡ true → IsHomed ks path
 homed-by ks path home is has other e = ap (has_home ks) (some-same other home (sym e ∙ is)) ∙ has
-
-pub homed-none : (ks : List (String Global)) (path : List ℕ) → home_of path ≡ None → IsHomed ks path
-homed-none ks path none other e = let both : None ≡ Some other = sym none ∙ e in cc
 
 pub homed-new : (ks after : List (String Global)) (k : String Global) (path home : List ℕ) → home_of path ≡ Some home → string_bytes k ≡ home → after ≡ insert_key string_cmp ks k → IsHomed after path
 homed-new ks after k path home is text made = homed-by after path home is (ap (has_home after) (sym text) ∙ ap (λ s. has_home s (string_bytes k)) made ∙ new-key k ks)

@@ -63,12 +63,3 @@ by_one false test rest x xs RunsOut e t h = rw (head_of_run rest xs h, run_of_on
     no : (a : Bool) → (a && false || false) ≡ false
     no true = refl
     no false = refl
-
-pub by_other : {A : Type 0} (is_run : Bool) (test : A → Bool) (rest : List A → Bool) (x : A) (xs : List A) → is_run ≡ false
-    → test x ≡ false → chosen is_run test rest (x ∷ xs) ≡ false
-by_other true test rest x xs e t = cc
-by_other false test rest x xs e t = rw t refl
-
-pub by_none : {A : Type 0} (is_run : Bool) (test : A → Bool) (rest : List A → Bool) → is_run ≡ false → run_then (chosen is_run test rest) [] ≡ false
-by_none true test rest e = cc
-by_none false test rest e = refl

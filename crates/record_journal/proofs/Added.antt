@@ -188,6 +188,3 @@ none_crash old new items same undone ready =
     subst (λ (v : LogState). Told old.trace v.trace (Adds (tables_of old) items)) (sym same)
     (subst (λ t. Told old.trace old.trace (Adds t items)) (ap (tables_by old.trace old.gate) (sym undone))
     (nothing_added old.trace old.gate items (subst (λ o. IfSome old.trace (IsStanding old.gate o)) undone ready.standing)))
-
-pub none_ready : (old new : LogState) → new ≡ old → IsReady old → IsReady new
-none_ready old new same ready = subst IsReady (sym same) ready

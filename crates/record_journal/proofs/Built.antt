@@ -1,14 +1,11 @@
 -- Changes that are applied one after the other build up tables.
-use Rattle.std.proofs.Common.{◌≡◌, ℕ, ◌+◌, Bool, true, false, cond, List, [], ◌∷◌, ◌++◌, Ok, Err, refl, sym, ◌∙◌, ap, subst}
+use Rattle.std.proofs.Common.{◌≡◌, ℕ, ◌+◌, Bool, true, false, cond, List, [], ◌∷◌, ◌++◌, Ok, Err, sym, ◌∙◌, ap, subst}
 use Rattle.repo_model.specs.declared.item.Item.{Item}
 use Rattle.repo_model.specs.Tables.{Tables, no_tables, fits_on, item_on, applied_from, applied}
 use Rattle.row_tables.specs.Applying.{with_items}
 use Rattle.row_tables.specs.Items.{IsChange}
 use Rattle.row_tables.specs.Recorded.{IsBuiltUp}
 use Rattle.row_tables.proofs.Applied.{with_items-append, recorded_more}
-
-pub none_built : IsBuiltUp no_tables
-none_built = record { items = []; recorded = record { form = refl; fit = refl }; built = refl }
 
 after_items : (p : ℕ) (t u : Tables) (items : List Item) → applied_from p t items ≡ Ok u → u ≡ with_items t items
 after_items p t u [] is = cc

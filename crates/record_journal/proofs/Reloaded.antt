@@ -1,6 +1,6 @@
 -- What is left once a journal's file is synced, and once its end is mended.
 use Rattle.std.proofs.Common.{◌≡◌, ◌≤◌, inl, inr, ℕ, List, Result, Ok, Err, refl, sym, ◌∙◌, ap, subst}
-use Rattle.std.specs.Prelude.{Option, Some, None, IsSome, IfSome, OnOk, IfOk, false, true, is_some}
+use Rattle.std.specs.Prelude.{Option, Some, None, IsSome, IfSome, false, true, is_some}
 use Rattle.std.specs.Option.{option_map}
 use Rattle.std.specs.Result.{result_ok}
 use Rattle.record_disk.specs.Disk.{Trace, After, Sync, content, AllImages, Throughout, Here, Then, Told, Keeps, IsDurable}
@@ -91,14 +91,6 @@ pub told_if : (a b : Option Trace) (R : Trace → Trace → Type 0) (P Q : Trace
 told_if None b R P Q f told is = tt
 told_if (Some s) None R P Q f told is = absurd told
 told_if (Some s) (Some t) R P Q f told is = f s t told is
-
-pub on_ok : {T E : Type 0} (r : Result T E) (P Q : Type 0) → (P → Q) → OnOk r P → OnOk r Q
-on_ok (Ok x) P Q f is = f is
-on_ok (Err e) P Q f is = tt
-
-pub if_ok : {T E : Type 0} (r : Result T E) (P Q : T → Type 0) → ((x : T) → P x → Q x) → IfOk r P → IfOk r Q
-if_ok (Ok x) P Q f is = f x is
-if_ok (Err e) P Q f is = tt
 
 -- what mending the end of a file with these bytes says
 abbrev pub Mending : List ℕ → Trace → Trace → Type 0
@@ -202,10 +194,6 @@ refused_left old mid bytes r steady told synced reads loads refused = by old.tra
     by (Some s) (Some t) (Some p) stands told synced reads =
         let known = stands refl in
         absurd (not_refused (loading bytes) r known.tables (sym reads ∙ standing_loads old.gate (Some p) known.payloads s known.stands ∙ known.builds) loads refused)
-
-pub none_told : (a : Option Trace) (expected : Trace → Expected) → IfSome (option_map expected a) (λ e. LoadsUnlessFailed e (Err Failed))
-none_told None expected = tt
-none_told (Some s) expected = tt
 
 -- a load of a file whose frames build up tables, once its bytes are read: its end is mended, or that fails
 module _ (old mid new : LogState) (bytes : List ℕ) (t : Tables) (loads : loading bytes ≡ Ok t) (mid_none : mid.pending ≡ None) (new_none : new.pending ≡ None)

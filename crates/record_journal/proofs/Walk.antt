@@ -46,9 +46,6 @@ module _ (all : Result Tables LoadFault) (frame : ℕ) (t : Tables) (left : Foun
   pub stops : (payload : List ℕ) (rest : Found) (at : ℕ) → left ≡ in_front payload rest → after_frame t payload ≡ Err at → all ≡ Err (Row frame at)
   stops payload rest at is next = sym (front payload rest is) ∙ ap (next_frame frame (λ v. after_frames (frame + 1) rest.is_cut v rest.payloads)) next
 
-  pub is_cut_short : left ≡ cut_short → all ≡ Err (Row frame 0)
-  is_cut_short is = sym so_far ∙ (λ i. after_frames frame (is i).is_cut t (is i).payloads)
-
   pub ends : left ≡ nothing → all ≡ Ok t
   ends is = sym so_far ∙ (λ i. after_frames frame (is i).is_cut t (is i).payloads)
 

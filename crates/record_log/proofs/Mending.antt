@@ -4,7 +4,7 @@ use Rattle.std.specs.Prelude.{min, if◌then◌else◌, unwrap_or, Option, None,
 use Rattle.std.specs.List.{flat_map}
 use Rattle.std.proofs.lemmas.List.{drop_more, drop_all, take_at}
 use Rattle.std.proofs.lemmas.Option.{get_or_from_slice_get}
-use Rattle.record_disk.specs.Disk.{Trace, content, written, Torn, AllImages, Throughout, Here, Told, Keeps, IsDurable, Tears}
+use Rattle.record_disk.specs.Disk.{Trace, content, Torn, AllImages, Throughout, Here, Told, Keeps, IsDurable, Tears}
 use Rattle.record_log.specs.Frames.{Frames, New, Foreign, Framed, frames, payloads_of, gate_of, end_of, EndsAt, HoldsFrames, IsLong, framed, magic, head_of}
 use Rattle.record_log.specs.Log.{at_rest, IsAtRest, HasFront, HasTail}
 use Rattle.record_disk.proofs.Moments.{weaker}
@@ -41,14 +41,6 @@ head_long ps = omega (arith, length-append magic (flat_map framed ps))
 
 front_long : (ps : List (List ℕ)) (c : List ℕ) → take (length (head_of ps)) c ≡ head_of ps → IsLong 8 c
 front_long ps c front = omega (arith, ap length front, length-take (length (head_of ps)) c, head_long ps)
-
--- a file of at most 9 bytes, with those of a new one written over them
-pub renew_rests : (s t : Trace) → IsDurable (written (content s) 0 (at_rest [])) t → IsFew (content s) → IsAtRest 8 [] t
-renew_rests s t durable few = record {
-  durable = subst (λ f. IsDurable f t) (ap (λ (l : List ℕ). at_rest [] ++ l) (drop_all 9 (content s) few)) durable;
-  place = refl;
-  short = tt;
-}
 
 abbrev the : Option (List (List ℕ)) → List (List ℕ)
 the None = []
@@ -117,10 +109,6 @@ module _ (bytes : List ℕ) (gate : ℕ) (are : AreBytes bytes) (is : gate_of (f
 module _ (bytes : List ℕ) (ps : List (List ℕ)) (holds : HoldsFrames ps bytes) (none : gate_of (frames bytes) ≡ None) where
   pub is_few : IsFew bytes
   is_few = new_is_short bytes ps holds none
-
-  pub fresh_moments : (s t : Trace) → (AllImages IsFew s → Keeps (HoldsFrames []) s t) → IsDurable bytes s → (qs : List (List ℕ)) → HoldsFrames qs bytes → Keeps (HoldsFrames qs) s t
-  fresh_moments s t renewed durable qs held =
-      subst (λ rs. Keeps (HoldsFrames rs) s t) (one_list bytes [] qs (few_holds bytes is_few) held) (renewed (λ c image. subst IsFew (sym (durable.only c image)) is_few))
 
 pub fresh_rests : (bytes : List ℕ) → gate_of (frames bytes) ≡ None → (s t : Trace) → (IsFew (content s) → IsAtRest 8 [] t) → IsDurable bytes s → (qs : List (List ℕ)) → HoldsFrames qs bytes → IsAtRest 8 qs t
 fresh_rests bytes none s t rests durable qs held =

@@ -80,11 +80,6 @@ pub first_twice-next : (seen : List (List ℕ)) (text : Option (List ℕ)) (rest
 first_twice-next seen None rest h = rw (append-nil seen) refl
 first_twice-next seen (Some text) rest h = rw h refl
 
-pub first_twice-end : (seen : List (List ℕ)) (text : Option (List ℕ)) (rest : List (List ℕ)) → option_map_or (is_among seen) text false ≡ true
-    → is_none (first_twice seen (cons_option text rest)) ≡ false
-first_twice-end seen None rest h = cc
-first_twice-end seen (Some text) rest h = rw h refl
-
 -- one item of a list more is looked at
 pub first_twice-more : (items : List Value) (i : ℕ) (x : Value) → i < length items → x ≡ get_or items i x
     → option_map_or (is_among (texts (take i items))) (as_str (view x)) false ≡ false
@@ -92,13 +87,6 @@ pub first_twice-more : (items : List Value) (i : ℕ) (x : Value) → i < length
 first_twice-more items i x h e new =
     rw (texts-drop items i x h, texts-take items i x h, ← e)
     (first_twice-next (texts (take i items)) (as_str (view x)) (texts (drop (i + 1) items)) new)
-
-pub first_twice-found : (items : List Value) (i : ℕ) (x : Value) → i < length items → x ≡ get_or items i x
-    → option_map_or (is_among (texts (take i items))) (as_str (view x)) false ≡ true
-    → is_none (first_twice (texts (take i items)) (texts (drop i items))) ≡ false
-first_twice-found items i x h e again =
-    rw (texts-drop items i x h, ← e)
-    (first_twice-end (texts (take i items)) (as_str (view x)) (texts (drop (i + 1) items)) again)
 
 -- as many strings as items, where all are strings
 pub length-texts : (items : List Value) → list_all (λ item. is_some (as_str item)) (map view items) ≡ true → length (texts items) ≡ length items
@@ -132,9 +120,6 @@ pub member_list-view : (value : Data) (items : List Value) → map view items �
     && list_all (λ item. option_map_or is_id (as_str (view item)) true) items && is_none (first_twice [] (texts items)))
 member_list-view value items e h =
     rw (h, texts_in-view value items e, count_in-view value items e h, all_texts is_id items) refl
-
-pub other_value : (test : List (List ℕ) → Bool) (value : Data) → is_text_array value ≡ false → are_texts test value ≡ false
-other_value test value h = rw h refl
 
 pub table_array-view : (value : Data) (items : List Value) → map view items ≡ items_in value
     → are_tables value ≡ (is_some (as_array value) && list_all (λ item. is_some (as_table (view item))) items)

@@ -1,14 +1,13 @@
 -- What is read of a text that is too long.
-use Rattle.std.proofs.Common.{◌≡◌, ℕ, ◌≤◌, Bool, true, false, ltb, List, [], ◌++◌, length, Option, Some, None, Result, Ok, Err, refl, ap, subst, sym, ◌∙◌, arith}
+use Rattle.std.proofs.Common.{◌≡◌, ℕ, ◌≤◌, Bool, true, false, ltb, List, [], ◌++◌, length, Option, Some, None, Ok, Err, refl, ap, sym, ◌∙◌, arith}
 use Rattle.std.proofs.lemmas.Bool.{lt-ltb, ltb-false, ltb-true}
 use Rattle.std.proofs.lemmas.List.{append-nil, length-append}
 use Rattle.std.proofs.lemmas.Option.{none-some, same_Some}
 use Rattle.outside.specs.Told.{IsAtEnd, in_front}
 use Rattle.repo_model.specs.Settings.{Settings}
-use Rattle.repo_config.specs.Refusal.{IsFault, reading}
+use Rattle.repo_config.specs.Refusal.{reading}
 use Rattle.repo_config.specs.Source.{IsReadFrom}
-use Rattle.repo_config.specs.declared.faults.SettingsFault.{SettingsFault}
-use Rattle.repo_config.specs.declared.source.SourceFault.TheVariants.{Failed, Refused}
+use Rattle.repo_config.specs.declared.source.SourceFault.TheVariants.{Failed}
 
 -- a text that is too long is refused, whatever stands behind it
 long : (front rest : List ℕ) (b : Bool) → ltb 65536 (length front) ≡ b → (length front ≤ 65536 → rest ≡ []) → reading (front ++ rest) ≡ reading front
@@ -31,11 +30,3 @@ read_ok None rest front s told whole h = tt
 read_ok (Some text) None front s told whole h = absurd (none-some text (sym told))
 read_ok (Some text) (Some rest) front s told whole h =
     ap reading (same_Some text (front ++ rest) told) ∙ reading-front front rest whole ∙ h
-
-pub read_refused : (left rest : Option (List ℕ)) (front : List ℕ) (f : SettingsFault) → left ≡ in_front front rest
-    → (length front ≤ 65536 → IsAtEnd rest) → IsFault (reading front) f → IsReadFrom left (Err (Refused f))
-read_refused None rest front f told whole h = tt
-read_refused (Some text) None front f told whole h = absurd (none-some text (sym told))
-read_refused (Some text) (Some rest) front f told whole h =
-    let P : Result Settings SettingsFault → Type 0 = λ r. IsFault r f in
-    subst P (sym (ap reading (same_Some text (front ++ rest) told) ∙ reading-front front rest whole)) h

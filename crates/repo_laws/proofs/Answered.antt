@@ -4,7 +4,6 @@ use Rattle.std.proofs.Common.{◌≡◌, ◌≢◌, ℕ, true, false, ◌&&◌, 
 use Rattle.std.specs.Prelude.{◌==◌, ◌↔◌, ◌<◌, IsTrue, nat_le, count_by, if◌then◌else◌}
 use Rattle.std.specs.List.{AllZip}
 use Rattle.std.proofs.lemmas.Bool.{eq-eqb, false≢true, leb-true, leb-false}
-use Rattle.mvn_coords.specs.Kind.{kind}
 use Rattle.repo_model.specs.declared.session.SessionResult.TheVariants.{Aborted}
 use Rattle.mvn_digest.specs.Digests.{digests_of}
 use Rattle.repo_model.specs.Data.{Blob, Row, Hosted, Staged, Session, repository, session}
@@ -13,11 +12,11 @@ use Rattle.fetch_plan.specs.declared.Outcome.TheVariants.{Got, Gone, Refused, No
 use Rattle.repo_model.specs.Fetched.{Landing, got_file, got_doc}
 use Rattle.repo_model.specs.Settings.{Settings, ProxyRule}
 use Rattle.repo_model.specs.Paths.{takes}
-use Rattle.repo_model.specs.State.{State, hosted_of, open_of, row_at, rows_of, files_of, is_open, number_end, most_sessions}
+use Rattle.repo_model.specs.State.{State, hosted_of, open_of, row_at, files_of, is_open, number_end, most_sessions}
 use Rattle.repo_model.specs.Effect.{draws, discards, lends, opens, ends, marks_missing, clears_mark, with_effects}
 use Rattle.repo_model.specs.Command.{Command, look, done, may_put, open_session, is_fit}
 use Rattle.repo_model.specs.Reply.{Reply, file, text, doc, missed, given_back, draft, opened, spent, kind_refused, no_session, session_full, sessions_full, no_memory, store_fault, is_free, can_get, takes_memory, fetches, blocked, negative, never_asked}
-use Rattle.repo_model.specs.Turn.{Turn, turn, says, draws_or_spent, draws_draft, in_repository, may_put_in, has_room, Seen, is_file, is_text, is_doc, is_nothing, seen_at, shows, gives_draft_up, lands_file, lands, look_at, is_to_fetch, is_blocked, is_negative, is_never, plan_of, longest_document, file_limit}
+use Rattle.repo_model.specs.Turn.{Turn, turn, says, draws_or_spent, draws_draft, in_repository, may_put_in, has_room, Seen, is_file, is_text, is_doc, is_nothing, shows, gives_draft_up, lands_file, lands, look_at, is_to_fetch, is_blocked, is_negative, is_never, plan_of, longest_document, file_limit}
 use Rattle.repo_model.specs.History.{Entry, IsReply, due, wants_memory, failed, Fits, ticked, commits, effects_of, after, Legal}
 use Rattle.repo_laws.specs.Replies.{is_refusal, given_up, may_change_rows, takes_at, takes_in, AsksAlike}
 use Rattle.repo_laws.proofs.Cases.{Case, lends_file, plans_file, lands_one, shows_text, shows_doc, misses, takes_back, gives_draft, makes_row, has_same, lists_again, gives_up, opens_one, stages_one, stage_same, deploys, aborts, unlists, collects, turn-case}
@@ -302,17 +301,3 @@ sessions-spent settings s now repo =
       | true ↦ λ full. ((λ is. absurd (let e : sessions_full ≡ spent = is in cc)), (λ both. absurd (omega (arith, leb-true most_sessions many full, both.0))))
       | false ↦ λ few. ((λ is. (leb-false most_sessions many few, (opens-spent next repo).0 is)), (λ both. (opens-spent next repo).1 both.1))
     ] refl
-
--- a draft that is answered is below the end of numbers, where the next one is
-pub draft-below : (settings : Settings) (old : State) (e : Entry) (n : ℕ) → Fits settings old e → e.reply ≡ draft n → (n ≡ old.yard.next_draft) × (n ≢ number_end)
-draft-below settings old e n fits says_it = by fits.reply where
-  by_case : (c : Command) (t : Turn) → Case settings old e.moment c t → t.reply ≡ draft n → (n ≡ old.yard.next_draft) × (n ≢ number_end)
-  by_case c t (gives_draft place path more) is =
-      let same : old.yard.next_draft ≡ n = let both : draft old.yard.next_draft ≡ draft n = is in cc in
-      (sym same, λ last. false≢true (sym more ∙ eq-eqb old.yard.next_draft number_end (same ∙ last)))
-  by_case c t case is = absurd (cc)
-
-  by : IsReply settings old e → (n ≡ old.yard.next_draft) × (n ≢ number_end)
-  by (due is _) = by_case e.command (turn settings old e.moment e.command) (turn-case settings old e.moment e.command) (sym is ∙ says_it)
-  by (wants_memory is _ _) = absurd (let x : draft n ≡ no_memory = sym says_it ∙ is in cc)
-  by (failed is _ _) = absurd (let x : draft n ≡ store_fault = sym says_it ∙ is in cc)

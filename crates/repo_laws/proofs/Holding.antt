@@ -8,7 +8,7 @@ use Rattle.std.proofs.lemmas.Bool.{false≢true, and_from, eq-eqb, lt-ltb, false
 use Rattle.std.proofs.lemmas.List.Sums.{fold-append}
 use Rattle.outside.specs.Moments.{Moments}
 use Rattle.repo_model.specs.declared.item.Item.{Item}
-use Rattle.repo_model.specs.declared.item.Item.TheVariants.{HostedPut, Faded, Relisted, Removed, CachedFile, CachedDoc}
+use Rattle.repo_model.specs.declared.item.Item.TheVariants.{HostedPut, Faded, Relisted, Removed, CachedFile}
 use Rattle.repo_model.specs.declared.session.SessionResult.{SessionResult}
 use Rattle.repo_model.specs.Data.{Blob, Hosted}
 use Rattle.repo_model.specs.Document.{is_listed}
@@ -26,7 +26,6 @@ use Rattle.repo_laws.specs.Laws.{rows_with, cached_with, without_bytes}
 use Rattle.repo_laws.specs.Sound.{AreNamedApart, Sound, OnePlace}
 use Rattle.repo_laws.specs.Numbered.{Numbered}
 use Rattle.repo_laws.specs.Holds.{InOrder, Holds, StandsFor, named_in, loose_in, with_items, told}
-use Rattle.repo_laws.specs.Closed.{Throughout}
 use Rattle.repo_laws.proofs.Counts.{one_if, among-counts, given-up, count-with_number, found-goes, staged-counted, stages_it}
 use Rattle.repo_laws.proofs.Rows.{rows_in}
 use Rattle.repo_laws.proofs.ByPath.{all-apart}
@@ -382,11 +381,6 @@ module _ (settings : Settings) (apart : AreNamedApart settings.hosted) where
   numbered-entry s e fits sound old =
       all-keep settings.grace e.moment Numbered (λ t f may before. numbered-kept settings.grace e.moment t f may before) (effects_of settings s e) (ticked s e.moment e.faults) (entry-may settings apart s e sound fits)
       (numbered-ticked s e.moment e.faults old)
-
-  pub numbered-throughout : (entries : List Entry) (s : State) → Sound settings s → Numbered s → Legal settings s entries → Throughout Numbered settings s entries
-  numbered-throughout [] s sound old legal = old
-  numbered-throughout (e ∷ entries) s sound old legal =
-      (old, numbered-throughout entries (after settings s e) (sound-entry settings apart s e legal.0 sound) (numbered-entry s e legal.0 sound old) legal.1)
 
   entry-steps : (s : State) (e : Entry) (t : Tables) → Fits settings s e → Sound settings s → OnePlace s → Numbered s → InOrder t → Holds t s
       → AllFit t (recorded (effects_of settings s e)) × Whole (with_items t (recorded (effects_of settings s e))) (after settings s e)

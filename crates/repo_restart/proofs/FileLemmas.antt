@@ -13,14 +13,12 @@ use Rattle.repo_model.specs.Settings.{ProxyRule, Rule}
 use Rattle.repo_model.specs.State.{row_at}
 use Rattle.repo_model.specs.Tables.{RecordedRow}
 use Rattle.row_tables.specs.Items.{is_file_path}
-use Rattle.blob_audit.specs.Damages.{AreDamaged}
 use Rattle.blob_audit.specs.Files.{shown_file}
 use Rattle.blob_audit.specs.Order.{File}
 use Rattle.blob_audit.specs.declared.damages.Damaged.{Damaged}
 use Rattle.blob_audit.specs.declared.order.RecordedFile.{RecordedFile}
 use Rattle.repo_laws.specs.Holds.{row_cmp}
 use Rattle.repo_model.specs.Paths.{FadesRightly}
-use Rattle.repo_laws.specs.Files.{files_in}
 use Rattle.repo_laws.specs.Sound.{AreNamedApart, AreProxiesApart}
 use Rattle.repo_restart.specs.declared.faults.RestoreFault.{RestoreFault}
 use Rattle.repo_restart.specs.declared.faults.RestoreFault.TheVariants as fault

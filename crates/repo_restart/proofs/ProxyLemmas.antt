@@ -1,14 +1,14 @@
 -- Proxies that have the files so far have them and one more, once it is taken up: as repositories of these rows.
-use Rattle.std.proofs.Common.{◌≡◌, ℕ, Bool, true, false, cond, List, [], ◌∷◌, ◌++◌, map, find, Option, Some, None, refl, sym, ap, ◌∙◌, subst, bytes_eq}
+use Rattle.std.proofs.Common.{◌≡◌, ℕ, Bool, true, false, cond, List, [], ◌∷◌, map, find, Option, Some, None, refl, sym, ap, ◌∙◌, subst, bytes_eq}
 use Rattle.std.specs.Option.{option_map_or}
 use Rattle.std.proofs.lemmas.Option.{none-some}
 use Rattle.outside.specs.Blobs.{Shelf}
-use Rattle.repo_model.specs.Data.{Row, Kept, Mark, Hosted, Proxy, listed, fading}
+use Rattle.repo_model.specs.Data.{Hosted, Proxy}
 use Rattle.repo_model.specs.Effect.{with_row}
 use Rattle.repo_model.specs.Prints.{lacks_further}
 use Rattle.repo_model.specs.Restart.{hosted_from, recorded_of}
 use Rattle.repo_model.specs.Settings.{ProxyRule, Rule}
-use Rattle.repo_model.specs.State.{change_first, is_proxy, is_repository, new_hosted, new_proxy, row_at}
+use Rattle.repo_model.specs.State.{is_proxy, is_repository, new_hosted, new_proxy}
 use Rattle.repo_model.specs.Tables.{RecordedRow}
 use Rattle.repo_laws.specs.Files.{files_in}
 use Rattle.repo_laws.specs.Sound.{AreNamedApart, AreProxiesApart}

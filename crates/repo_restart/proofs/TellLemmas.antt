@@ -1,15 +1,15 @@
 -- Bytes that are told of the blobs of hosted rows, and of those of proxies' files, told together.
 use native.Mathlib.Omega.{arith}
 use Rattle.std.proofs.Common.{◌≡◌, ℕ, ◌+◌, ◌≤◌, Bool, true, false, cond, ◌||◌, List, [], ◌∷◌, map, filter, Option, Some, None, refl, sym, ap, ◌∙◌, bytes_eq}
-use Rattle.std.specs.Prelude.{◌==◌, count_by, IfSome}
+use Rattle.std.specs.Prelude.{count_by, IfSome}
 use Rattle.std.specs.List.{AllByRecursion, list_any}
 use Rattle.std.proofs.lemmas.Bool.{eq-eqb}
 use Rattle.std.proofs.lemmas.List.Sums.{sum_by-cons}
 use Rattle.outside.specs.Blobs.{Shelf, Numbered, bytes_at}
-use Rattle.repo_model.specs.Data.{Row, Hosted, Proxy}
+use Rattle.repo_model.specs.Data.{Hosted, Proxy}
 use Rattle.repo_model.specs.Restart.{documents_of, hosted_from, is_of, proxy_from, recorded_of, with_bytes}
 use Rattle.repo_model.specs.Settings.{ProxyRule, Rule}
-use Rattle.repo_model.specs.Tables.{RecordedDocument, RecordedRow, Tables}
+use Rattle.repo_model.specs.Tables.{RecordedRow, Tables}
 use Rattle.repo_laws.specs.Holds.{named_in}
 use Rattle.repo_restart.specs.Rows.{AreFilesRestored, AreRestored, AreRowsRestored, caching_from}
 use Rattle.repo_restart.specs.Taking.{with_documents}

@@ -13,7 +13,6 @@ use Rattle.mvn_coords.specs.FileName.{◌>>=◌}
 use Rattle.mvn_coords.specs.Kind.{kind, kind_of_parts}
 use Rattle.mvn_coords.specs.Path.{Parts, parts_of}
 use Rattle.mvn_coords.specs.Segment.{Segment, levels, is_segment, is_path_byte}
-use Rattle.repo_model.specs.Paths.{file_at}
 use Rattle.row_tables.specs.Items.{is_id, is_id_byte, is_file_path, directory_at}
 
 pub both : (x y : Bool) → x && y ≡ true → (x ≡ true) × (y ≡ true)
@@ -46,11 +45,6 @@ segments_bytes [] all = refl
 segments_bytes (s ∷ ss) all =
     let parts = both (is_segment s) (list_all is_segment ss) all in
     λ i. segment_bytes s parts.0 i && segments_bytes ss parts.1 i
-
-swap_true : (x y : Bool) → x && y ≡ true → y && x ≡ true
-swap_true true true is = refl
-swap_true true false is = absurd cc
-swap_true false y is = absurd cc
 
 onto_bytes : (p : ℕ → Bool) (x : ℕ) (ss : List (List ℕ)) → list_all (list_all p) (onto_first x ss) ≡ true → (p x ≡ true) × (list_all (list_all p) ss ≡ true)
 onto_bytes p x [] all = ((both (p x) true (both (p x && true) true all).0).0, refl)

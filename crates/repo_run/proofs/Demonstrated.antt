@@ -7,7 +7,6 @@ use Rattle.repo_core.specs.CoreTurn.{CoreTurn}
 use Rattle.repo_core.specs.Whole.{Whole}
 use Rattle.repo_course.specs.Cleaning.{Store}
 use Rattle.repo_model.specs.History.{Entry}
-use Rattle.repo_model.specs.Settings.{Settings}
 use Rattle.run_desks.specs.Seen.{Kit, with_blobs}
 use Rattle.repo_server.proofs.Entries.{leads_on}
 use Rattle.repo_run.specs.declared.tally.Tally.{Tally}

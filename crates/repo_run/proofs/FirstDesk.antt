@@ -17,12 +17,6 @@ pub first-set : {D : Type 0} (desks : List D) (old new : D) (R : D → D → Typ
 first-set [] old new R some is related = absurd (omega arith)
 first-set (desk ∷ desks) old new R some is related = (subst (λ d. R d new) is related, refl)
 
--- what relates the first desks so relates them otherwise too
-pub first-map : {D : Type 0} (R S : D → D → Type 0) → ((old new : D) → R old new → S old new) → (olds news : List D) → FirstOnly R olds news → FirstOnly S olds news
-first-map R S also (old ∷ olds) (new ∷ news) (related, same) = (also old new related, same)
-first-map R S also [] news none = none
-first-map R S also (old ∷ olds) [] none = none
-
 -- no desk became another
 pub first-same : {D : Type 0} (desks : List D) (R : D → D → Type 0) → 0 < length desks → ((desk : D) → R desk desk) → FirstOnly R desks desks
 first-same [] R some each = absurd (omega arith)

@@ -1,5 +1,5 @@
 -- A repository that begins where nothing is recorded or stored.
-use Rattle.std.proofs.Common.{◌≡◌, ℕ, List, [], Option, Some, refl, sym, ap, ◌∙◌, subst}
+use Rattle.std.proofs.Common.{◌≡◌, ℕ, [], Option, Some, refl, sym, ap, ◌∙◌, subst}
 use Rattle.std.specs.Prelude.{IfSome}
 use Rattle.std.specs.Option.{option_map}
 use Rattle.std.specs.Map.{keys_of}
@@ -8,7 +8,7 @@ use Rattle.outside.specs.Moments.{Moments}
 use Rattle.outside.specs.Told.{IsWhereTold}
 use Rattle.repo_model.specs.Restart.{blobs_named}
 use Rattle.repo_model.specs.Settings.{Settings}
-use Rattle.repo_model.specs.State.{State, opening}
+use Rattle.repo_model.specs.State.{opening}
 use Rattle.repo_model.specs.Tables.{Tables, no_tables}
 use Rattle.repo_restart.specs.Leftovers.{left_over, without_blobs}
 use Rattle.repo_core.specs.Whole.{Whole, counting}

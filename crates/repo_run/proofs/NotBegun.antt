@@ -1,5 +1,5 @@
 -- A repository that is opened under a copy of its settings, or not.
-use Rattle.std.proofs.Common.{◌≡◌, ℕ, Option, Some, None, refl, inl}
+use Rattle.std.proofs.Common.{Option, Some, None, refl, inl}
 use Rattle.std.specs.Prelude.{IfSome}
 use Rattle.repo_core.specs.StartFaults.{RefusesAs}
 use Rattle.repo_core.specs.declared.faults.StartFault.TheVariants.{NoMemory}

@@ -1,5 +1,5 @@
 -- The repository of a run: opened over what is recorded and stored, or not.
-use Rattle.std.specs.Prelude.{◌≡◌, ◌⊎◌, ℕ, List, [], Option, Some, None, IfSome}
+use Rattle.std.specs.Prelude.{◌≡◌, ◌⊎◌, ℕ, [], Option, Some, None, IfSome}
 use Rattle.std.specs.Option.{option_map}
 use Rattle.outside.specs.Moments.{Moments}
 use Rattle.repo_config.specs.Form.{IsSettings}

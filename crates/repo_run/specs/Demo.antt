@@ -1,5 +1,5 @@
 -- A demonstration: a repository is opened over what is recorded and stored and answers requests that are made of numbers, each over a connection of its own; lines tell how many were answered how.
-use Rattle.std.specs.Prelude.{◌≡◌, ◌⊎◌, ℕ, zero, suc, ◌≤◌, Bool, nat_eq, List, [], ◌∷◌, ◌++◌, length, count_by, Option, Some, None, codes}
+use Rattle.std.specs.Prelude.{◌≡◌, ◌⊎◌, ℕ, zero, suc, ◌≤◌, Bool, nat_eq, List, [], ◌∷◌, ◌++◌, length, count_by, Some, codes}
 use Rattle.std.specs.Fmt.{decimal}
 use Rattle.std.specs.List.{AllByRecursion, starts_with}
 use Rattle.demo_requests.specs.Numbers.{number_at}

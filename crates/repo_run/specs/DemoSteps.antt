@@ -1,5 +1,5 @@
 -- The steps of a demonstration: a request that is answered, all of them, and what is told of them.
-use Rattle.std.specs.Prelude.{◌≡◌, ◌⊎◌, ℕ, ◌+◌, ◌≤◌, Bool, false, if◌then◌else◌, List, [], ◌∷◌, Option, Some, None, Result, Ok, Err, codes}
+use Rattle.std.specs.Prelude.{◌≡◌, ◌⊎◌, ℕ, ◌+◌, ◌≤◌, Bool, false, if◌then◌else◌, List, Option, Some, None, Result, Ok, Err, codes}
 use Rattle.outside_memory.specs.Memory.{SinkState}
 use Rattle.outside_remote.specs.Exchanges.{Sees}
 use Rattle.repo_core.specs.CoreTurn.{CoreTurn}

@@ -1,6 +1,5 @@
 -- Items applied one after the other, as a loop does.
-use Rattle.std.proofs.Common.{◌≡◌, ℕ, suc, ◌+◌, ◌<◌, ◌≤◌, Bool, true, false, cond, ◌&&◌, IsTrue, List, [], ◌∷◌, ◌++◌, length, get_or, take, drop, Ok, Err, refl, sym, ◌∙◌, ap, subst, drop-cons, take-suc, add-one}
-use Rattle.std.proofs.lemmas.List.{drop_all}
+use Rattle.std.proofs.Common.{◌≡◌, ℕ, suc, ◌+◌, ◌<◌, Bool, true, false, cond, ◌&&◌, IsTrue, List, [], ◌∷◌, ◌++◌, length, get_or, take, drop, Ok, Err, refl, sym, ◌∙◌, ap, subst, drop-cons, take-suc, add-one}
 use Rattle.repo_model.specs.declared.item.Item.{Item}
 use Rattle.repo_model.specs.Tables.{Tables, no_tables, fits_on, item_on, applied_from, applied}
 use Rattle.row_tables.specs.Recorded.{AreRecorded}
@@ -67,16 +66,6 @@ module _ (old now : Tables) (items : List Item) (place : ℕ) (item : Item) (kno
         rest = ap (λ t. applied_from (place + 1) t (drop (place + 1) items)) then_so ∙ ap (λ k. applied_from (place + 1) (item_on now item) (drop k items)) (sym one)
             ∙ sym (ap (λ b. cond b (applied_from (place + 1) (item_on now item) (drop (suc place) items)) (Err place)) (sym fits)) ∙ sym by_fit ∙ known.rest;
       }
-
-  pub misfits : (after : Tables) → false ≡ fits_on now item → after ≡ now → (applied old items ≡ Err place) × (after ≡ with_items old (take place items))
-  misfits after misfit same =
-      (sym known.rest ∙ by_fit ∙ ap (λ b. cond b (applied_from (place + 1) (item_on now item) (drop (suc place) items)) (Err place)) (sym misfit), same ∙ known.so_far)
-
-pub all_applied : (old now : Tables) (items : List Item) (place : ℕ) → SoFar old now items place → length items ≤ place → applied old items ≡ Ok now
-all_applied old now items place known past = sym known.rest ∙ ap (applied_from place now) (drop_past items place past)
-  where
-    drop_past : (xs : List Item) (k : ℕ) → length xs ≤ k → drop k xs ≡ []
-    drop_past xs k le = drop_all k xs le
 
 pub with_items-append : (t : Tables) (items more : List Item) → with_items t (items ++ more) ≡ with_items (with_items t items) more
 with_items-append t [] more = refl

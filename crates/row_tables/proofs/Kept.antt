@@ -76,9 +76,6 @@ module _ (numbers : BTreeSet ℕ) (rows other new : List RecordedRow) (documents
       let (apart, before) = neither (is_eq (nat_cmp blob n)) (contains nat_cmp numbers n) (sym (added.0 n) ∙ is) in
       (apart_numbers blob n (blob == n) refl apart, before)
 
-  pub among_more : (blob : ℕ) (more : BTreeSet ℕ) (t : Tables) → Updates nat_cmp numbers more blob true → NamesAmong numbers t → NamesAmong more t
-  among_more blob more t added among n is = among n (not_among blob more added n is).1
-
   pub among_hosted : (r : RecordedRow) (more : BTreeSet ℕ) → Updates nat_cmp numbers more r.row.blob.number true → new ≡ with_recorded r rows → NamesAmong numbers (of_hosted rows) → NamesAmong more (of_hosted new)
   among_hosted r more added is among n none =
       let (apart, before) = not_among r.row.blob.number more added n none in

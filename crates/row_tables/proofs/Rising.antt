@@ -1,5 +1,5 @@
 -- Sessions in rising order of number.
-use Rattle.std.proofs.Common.{◌≡◌, ℕ, zero, suc, ◌+◌, ◌-◌, ◌<◌, Bool, true, false, cond, ◌&&◌, List, [], ◌∷◌, find, length, get_or, set, drop, Some, None, refl, sym, ◌∙◌, ap, subst, arith}
+use Rattle.std.proofs.Common.{◌≡◌, ℕ, zero, suc, ◌-◌, ◌<◌, Bool, true, false, cond, ◌&&◌, List, [], ◌∷◌, find, length, get_or, set, Some, refl, sym, ◌∙◌, ap, subst, arith}
 use Rattle.std.specs.Prelude.{slice_get, nat_lt, ◌==◌}
 use Rattle.std.specs.List.{list_all}
 use Rattle.std.proofs.lemmas.Bool.Decides.{nat_tests}
@@ -80,17 +80,6 @@ first_found n (s ∷ ss) (suc i) d rising within is =
     let up : nat_lt s.number n ≡ true = subst (λ k. nat_lt s.number k ≡ true) is (number_above s.number ss i d rising.0 (omega (arith, within))) in
     let other : (s.number == n) ≡ false = grind (arith, nat_tests) in
     rw other (first_found n ss i d rising.1 (omega (arith, within)) is)
-
--- no session behind a place has the number, nor has the one at the place
-pub none_more : (n : ℕ) (ss : List SessionRow) (i : ℕ) (d : SessionRow) → i < length ss → ((get_or ss i d).number ≡ n → ⊥)
-    → find (is_session n) (shown_sessions (drop (i + 1) ss)) ≡ None → find (is_session n) (shown_sessions (drop i ss)) ≡ None
-none_more n [] i d within other none = absurd (omega arith)
-none_more n (s ∷ ss) zero d within other none =
-    let test : (s.number == n) ≡ false = grind (arith, nat_tests) in
-    rw test none
-none_more n (s ∷ ss) (suc i) d within other none =
-    let same : suc (i + 1) ≡ suc i + 1 = omega arith in
-    none_more n ss i d (omega (arith, within)) other (ap (λ k. find (is_session n) (shown_sessions (drop k (s ∷ ss)))) same ∙ none)
 
 -- where all have greater numbers, none is changed
 none_changed : (n : ℕ) (f : RecordedSession → RecordedSession) (ss : List SessionRow) → list_all (above n) (shown_sessions ss) ≡ true → change_where (is_session n) f (shown_sessions ss) ≡ shown_sessions ss

@@ -157,9 +157,6 @@ added accepted b newest es new up newest_is new_is found =
           ∙ sym (ages-aged q accepted b (shown_ages es));
     }
 
-pub same_refl : (xs : List Aged) → HaveSameBuilds xs xs
-same_refl xs = record { sums = λ f. refl; ages = λ b. refl }
-
 pub same_trans : (xs ys zs : List Aged) → HaveSameBuilds xs ys → HaveSameBuilds ys zs → HaveSameBuilds xs zs
 same_trans xs ys zs g h = record { sums = λ f. g.sums f ∙ h.sums f; ages = λ b. g.ages b ∙ h.ages b }
 

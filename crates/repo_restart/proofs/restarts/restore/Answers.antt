@@ -2,7 +2,6 @@ use Rattle.std.proofs.Common.{◌≡◌, List, [], map, refl, sym, ap, ◌∙◌
 use Rattle.std.specs.List.{AllByRecursion}
 use Rattle.repo_model.specs.Data.{Proxy}
 use Rattle.repo_model.specs.Restart.{blobs_named}
-use Rattle.repo_model.specs.Settings.{ProxyRule}
 use Rattle.repo_model.specs.Tables.{RecordedRow}
 use Rattle.blob_audit.specs.Files.{shown_file}
 use Rattle.repo_laws.specs.Sound.{AreProxiesApart}

@@ -1,5 +1,5 @@
 -- The connection gives the request, and has taken the answer.
-use Rattle.std.proofs.Common.{ℕ, Some, [], refl, subst}
+use Rattle.std.proofs.Common.{Some, [], refl, subst}
 use Rattle.outside.specs.Told.{in_front}
 use Rattle.repo_course.specs.Serving.{AllTell, ServesStream}
 use Rattle.run_desks.specs.Seen.{store_seen}

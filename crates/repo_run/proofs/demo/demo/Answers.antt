@@ -1,6 +1,5 @@
 -- The repository is opened, the requests are answered and the lines printed; or it is not opened.
-use Rattle.std.proofs.Common.{ℕ, ◌<◌, ◌^◌, refl, subst, ap, arith}
-use Rattle.demo_requests.specs.Settings as fixed
+use Rattle.std.proofs.Common.{◌<◌, ◌^◌, refl, subst, ap, arith}
 use Rattle.repo_course.specs.Serving.{AllTell}
 use Rattle.repo_model.specs.Settings.{Settings}
 use Rattle.run_desks.specs.Seen.{store_seen}
