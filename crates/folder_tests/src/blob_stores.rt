@@ -6,7 +6,7 @@ ghost use Rattle.mvn_digest.specs.Digests.{digests_of as digests_in};
 
 use crate::places::{clears, holds, makes, puts, stands};
 use mvn_digest::{Digests, Hashes, Known};
-use outside::{BlobFault, Blobs, CheckFault, Held, Parcel, Piece, adopt_checked};
+use outside::{BlobFault, Blobs, CheckFault, Parcel, Piece, adopt_checked};
 use outside_memory::{FaultScript, MemBlobs, WrongBlobs, read_whole, store_whole};
 use outside_system::FolderBlobs;
 use std::alloc::{AllocError, Global};
@@ -79,12 +79,11 @@ fn removes_one<B: Blobs>(blobs: &mut B) -> Result<bool, BlobFault> {
     Ok(lists(blobs, &[7])? && lacks(blobs, 10)?)
 }
 
-// Seventeen calls.
 fn keeps_by_number<B: Blobs>(alloc: Global, blobs: &mut B) -> Result<bool, BlobFault> {
     Ok(stores_two(blobs)? && removes_one(blobs)? && reads_adopted(alloc, blobs)?)
 }
 
-// Three calls: number 7 is taken into use again and read, to its end.
+// Number 7 is taken into use again and read, to its end.
 fn reads_adopted<B: Blobs>(alloc: Global, blobs: &mut B) -> Result<bool, BlobFault> {
     match blobs.adopt(7)? {
         Some(held) => Ok(read_whole(alloc, blobs, &held)?.as_slice() == b"abc".as_slice()),
@@ -102,29 +101,6 @@ fn memory_keeps(alloc: Global) -> bool {
 #[test]
 fn a_store_in_memory_keeps_by_number(rt: HostRuntime) {
     assert!(rt; memory_keeps(rt.alloc()));
-}
-
-// Whether the same calls fail once, and it is counted, where this one is told to fail.
-fn fails_once(alloc: Global, call: u64) -> Result<bool, AllocError> {
-    let script = FaultScript::failing_at(Vec::from_slice(alloc, &[call])?);
-    let mut blobs = MemBlobs::new(alloc, script);
-    let failed = has_failed(keeps_by_number(alloc, &mut blobs));
-    Ok(failed && blobs.faults() == 1)
-}
-
-// The first call with which that is not so.
-fn first_unfailing(alloc: Global) -> Result<Option<u64>, AllocError> {
-    for call in 0..20 {
-        if !fails_once(alloc, call)? {
-            return Ok(Some(call));
-        }
-    }
-    Ok(None)
-}
-
-#[test]
-fn each_call_fails_where_it_is_told_to(rt: HostRuntime) {
-    assert_eq!(rt; first_unfailing(rt.alloc()).ok(), Some(Some(17)));
 }
 
 fn folder_blobs(rt: &HostRuntime, folder: &str) -> Result<FolderBlobs<HostRuntime>, AllocError> {
@@ -303,64 +279,6 @@ fn memory_gives_abc(alloc: Global) -> bool {
     let stored = stores(&mut blobs, 1, b"abc").is_ok();
     let adopted = is_checked(adopts_abc(alloc, &mut blobs));
     stored && adopted
-}
-
-// Whether it is as is wanted that a look gave `abc`, with all its digests, or found other digests.
-fn is_found<H: Held>(look: Result<Option<Parcel<H>>, CheckFault>, wanted: bool) -> bool {
-    match look {
-        Ok(Some(parcel)) => (parcel.digests == digests_of(b"abc")) == wanted,
-        Err(CheckFault::Differs { .. }) => !wanted,
-        _ => false,
-    }
-}
-
-// Whether `abc`, which stands under 1, is adopted where this is known of it.
-fn is_adopted(alloc: Global, known: &Known, wanted: bool) -> bool {
-    let mut blobs = MemBlobs::new(alloc, FaultScript::none(alloc));
-    let stored = stores(&mut blobs, 1, b"abc").is_ok();
-    let found = is_found(look(alloc, &mut blobs, 1, known), wanted);
-    stored && found
-}
-
-// What is known of `abc`, where its SHA-256 is that of other bytes.
-fn with_other_sha256() -> Known {
-    let mut digests = digests_of(b"abc");
-    let other = digests_of(b"abd").sha256;
-    digests.sha256 = other;
-    digests.known()
-}
-
-// The same with its SHA-512.
-fn with_other_sha512() -> Known {
-    let mut digests = digests_of(b"abc");
-    let other = digests_of(b"abd").sha512;
-    digests.sha512 = other;
-    digests.known()
-}
-
-// Its SHA-1 and MD5 alone.
-fn without_further() -> Known {
-    let mut known = digests_of(b"abc").known();
-    known.further = None;
-    known
-}
-
-// The same with the MD5 of other bytes.
-fn with_other_md5() -> Known {
-    let mut known = without_further();
-    let other = digests_of(b"abd").md5;
-    known.md5 = other;
-    known
-}
-
-// SHA-256 and SHA-512 are compared where they are known, and may be unknown.
-#[test]
-fn each_known_digest_is_compared(rt: HostRuntime) {
-    assert!(rt; is_adopted(rt.alloc(), &digests_of(b"abc").known(), true));
-    assert!(rt; is_adopted(rt.alloc(), &without_further(), true));
-    assert!(rt; is_adopted(rt.alloc(), &with_other_sha256(), false));
-    assert!(rt; is_adopted(rt.alloc(), &with_other_sha512(), false));
-    assert!(rt; is_adopted(rt.alloc(), &with_other_md5(), false));
 }
 
 #[test]

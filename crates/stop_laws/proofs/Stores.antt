@@ -16,7 +16,7 @@ use Rattle.outside.specs.Blobs.{Numbered, Shelf, bytes_at, standing_at}
 use Rattle.outside.specs.declared.faults.BlobFault.{BlobFault}
 use Rattle.repo_model.specs.State.{is_among}
 use Rattle.stop_laws.specs.Found.{KeepsOthers}
-use Rattle.stop_laws.specs.Stores.{AllStayStored, IsLeftOfStore, MayDo, StoreCall, begins, looks, number_of, numbers_changed, removes, stores, with_call, with_calls}
+use Rattle.stop_laws.specs.Stores.{AllStayStored, IsLeftOfStore, MayHaveDone, StoreCall, begins, looks, number_of, numbers_changed, removes, stores, with_call, with_calls}
 
 module _ (n m : ℕ) (other : is_eq (nat_cmp n m) ≡ false) where
   -- an entry of the number m is none of n
@@ -110,6 +110,6 @@ stores-keep shelf acknowledged found calls now gone stored left = found-there sh
 
 -- what a call says of a store is what it does
 pub may-do : {T : Type 0} (call : StoreCall) (old new then_told : Shelf) (result : Result T BlobFault) → then_told ≡ with_call old call → OnOk result (new ≡ then_told) → OnErr result (new ≡ old)
-    → MayDo call old new
+    → MayHaveDone call old new
 may-do call old new then_told (Ok value) is done failed = inl (done ∙ is)
 may-do call old new then_told (Err fault) is done failed = inr failed

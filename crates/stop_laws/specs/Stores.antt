@@ -23,8 +23,8 @@ abbrev pub with_calls : Shelf → List StoreCall → Shelf
 with_calls shelf calls = fold with_call shelf calls
 
 -- a call did this, or it failed and did nothing
-abbrev pub MayDo : StoreCall → Shelf → Shelf → Type 0
-MayDo call old new = (new ≡ with_call old call) ⊎ (new ≡ old)
+abbrev pub MayHaveDone : StoreCall → Shelf → Shelf → Type 0
+MayHaveDone call old new = (new ≡ with_call old call) ⊎ (new ≡ old)
 
 -- the numbers that calls begin, store or remove a blob of
 abbrev pub number_of : StoreCall → List ℕ

@@ -23,7 +23,7 @@ ghost use Rattle.repo_laws.specs.Holds.{Holds, InOrder, told, with_items};
 ghost use Rattle.repo_laws.specs.InRange.{InRange, Completes, IsSameBlob};
 ghost use Rattle.repo_laws.specs.Sound.{AreNamedApart, AreProxiesApart, IsSound};
 ghost use Rattle.stop_laws.specs.Found.{AllHandOver, AreStagedStored, AreStored, HasStored, IsCachedAs, IsRecordedAs, IsWholeWithout, KeepsOthers, NameOthers, NamesNone};
-ghost use Rattle.stop_laws.specs.Stores.{AllStayStored, IsLeftOfStore, MayDo, StoreCall, begins, removes, stores, with_call, with_calls};
+ghost use Rattle.stop_laws.specs.Stores.{AllStayStored, IsLeftOfStore, MayHaveDone, StoreCall, begins, removes, stores, with_call, with_calls};
 ghost use Rattle.row_tables.specs.Stops.{Rests, Unsettled};
 ghost use Rattle.stop_laws.specs.Runs.{FindsAlways, IsAnsweredAgain, IsAnsweredWhole, IsFoundAgain, IsLeftBySome, StopsAlong, tables_after};
 ghost use Rattle.stop_laws.specs.Stops.{IsFrontOf, IsLeft, MayNotGo, PendAlong};
@@ -40,10 +40,10 @@ pub fn kept_blobs_are_whole()
 /// What the clauses of a store's trait say of a call is what it does of these: a blob is begun, stored with the bytes of its pen, where the
 /// pen tells them, or removed; or the call failed and did nothing. All other calls leave what the store tells.
 pub fn stores_do_as_their_clauses_say<B: Blobs>()
-    ensures begin { (n : ℕ) (old new : Shelf) (result : Result B.Pen BlobFault) → OnOk result (new ≡ without_bytes n old) → OnErr result (new ≡ old) → MayDo (begins n) old new }
+    ensures begin { (n : ℕ) (old new : Shelf) (result : Result B.Pen BlobFault) → OnOk result (new ≡ without_bytes n old) → OnErr result (new ≡ old) → MayHaveDone (begins n) old new }
     ensures seal { (pen : B.Pen) (bytes : List ℕ) (old new : Shelf) (result : Result B.Held BlobFault) → B.Pen.bytes pen ≡ Some bytes
-        → OnOk result (new ≡ sealed (B.Pen.number pen) (B.Pen.bytes pen) old) → OnErr result (new ≡ old) → MayDo (stores (B.Pen.number pen) bytes) old new }
-    ensures remove { (n : ℕ) (old new : Shelf) (result : Result ⊤ BlobFault) → OnOk result (new ≡ without_blob n old) → OnErr result (new ≡ old) → MayDo (removes n) old new }
+        → OnOk result (new ≡ sealed (B.Pen.number pen) (B.Pen.bytes pen) old) → OnErr result (new ≡ old) → MayHaveDone (stores (B.Pen.number pen) bytes) old new }
+    ensures remove { (n : ℕ) (old new : Shelf) (result : Result ⊤ BlobFault) → OnOk result (new ≡ without_blob n old) → OnErr result (new ≡ old) → MayHaveDone (removes n) old new }
 {}
 
 /// At each moment of a run of calls of a store that tells its blobs, between its calls and inside each of them: what a stop leaves of it keeps

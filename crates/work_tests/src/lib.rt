@@ -1,4 +1,4 @@
-//! Tests of `turn_seats`, of `run_serve` and of what it stands on: seats that ask through the trait, servers over objects in memory
+//! Tests of `turn_seats`, of `run_serve` and of what it stands on: two seats of a repository, servers over objects in memory
 //! and over a folder, and a stream whose client waits for each answer. They stand apart from these, since a crate is proved once
 //! more with its tests.
 #![tactic(auto)]
@@ -9,10 +9,6 @@ mod cases;
 mod folder_servers;
 #[cfg(test)]
 mod folders;
-#[cfg(test)]
-mod idle;
-#[cfg(test)]
-mod idle_seats;
 #[cfg(test)]
 mod literals;
 #[cfg(test)]
