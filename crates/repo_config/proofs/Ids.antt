@@ -5,8 +5,8 @@ use Rattle.std.proofs.lemmas.List.Folds.{find-append}
 use Rattle.std.specs.List.{find, flat_map, list_any}
 use Rattle.std.specs.Option.{option_or}
 use Rattle.std.specs.Str.{bytes_eq}
-use Rattle.repo_config.specs.Names.{is_among}
 use Rattle.repo_model.specs.Settings.{GroupRule}
+use Rattle.settings_keys.specs.Ids.{is_among}
 
 pub some_id : (ids : List (Bor (List ℕ))) (id : List ℕ) → is_among (map (λ id. id.now) ids) id ≡ list_any (λ other. bytes_eq other.now id) ids
 some_id [] id = refl

@@ -7,21 +7,22 @@ use Rattle.toml.specs.Data.{Data, Members, get_member}
 use Rattle.repo_model.specs.Settings.{Settings}
 use Rattle.path_patterns.specs.Pattern.{is_pattern}
 use Rattle.path_patterns.proofs.Bad.{filter-all}
+use Rattle.settings_keys.specs.declared.kinds.TableKind.{TableKind}
+use Rattle.settings_keys.specs.declared.kinds.TableKind.TheVariants.{Top, Hosted, Proxy, Group}
+use Rattle.settings_keys.specs.declared.kinds.Walk.{Walk}
+use Rattle.settings_keys.specs.declared.kinds.Walk.TheVariants as walk
+use Rattle.settings_keys.specs.Keys as keys
+use Rattle.settings_keys.specs.Keys.{keys_of, missing_in, unfit_in}
+use Rattle.settings_keys.specs.Ids.{first_twice, is_id}
+use Rattle.settings_keys.specs.Values.{number_at, tables_at, texts_in}
+use Rattle.settings_keys.specs.Walks.{fault_among, fault_in, first_fault}
+use Rattle.settings_keys.proofs.Fits.{all_fit, all_there, flags_on, number_within, optional_text, required_text}
 use Rattle.repo_config.specs.declared.faults.SettingsFault.{SettingsFault}
 use Rattle.repo_config.specs.declared.faults.SettingsFault.TheVariants as fault
-use Rattle.repo_config.specs.declared.kinds.TableKind.{TableKind}
-use Rattle.repo_config.specs.declared.kinds.TableKind.TheVariants.{Top, Hosted, Proxy, Group}
-use Rattle.repo_config.specs.declared.kinds.Walk.{Walk}
-use Rattle.repo_config.specs.declared.kinds.Walk.TheVariants as walk
 use Rattle.repo_config.specs.Form.{IsSettings, is_group_rule, is_proxy_rule, is_rule}
-use Rattle.repo_config.specs.Keys as keys
-use Rattle.repo_config.specs.Keys.{keys_of, missing_in, unfit_in}
-use Rattle.repo_config.specs.Names.{first_twice, ids_of, is_id, no_member}
+use Rattle.repo_config.specs.Names.{ids_of, no_member}
 use Rattle.repo_config.specs.Reading.{group_rule, hosted_rule, proxy_rule, settings_of}
 use Rattle.repo_config.specs.Refusal.{key_refusal, name_refusal, wrong_count}
-use Rattle.repo_config.specs.Values.{number_at, tables_at, text_at, texts_in}
-use Rattle.repo_config.specs.Walks.{fault_among, fault_in, first_fault}
-use Rattle.repo_config.proofs.Fits.{all_fit, all_there, flags_on, number_within, optional_text, required_text}
 
 abbrev fits : (Data → Bool) → List ℕ → Members → Bool
 fits test name table = keys.passes test name table
@@ -78,7 +79,7 @@ proxy_form table no_missing no_unfit =
     ) refl
 
 members_form : (value : Option Data) → option_map_or (keys.are_texts keys.is_member_list) value true ≡ true → not (is_none value) ≡ true
-    → keys.is_member_list (Rattle.std.specs.List.filter_map Rattle.toml.specs.Data.as_str (option_map_or Rattle.repo_config.specs.Values.items_in value [])) ≡ true
+    → keys.is_member_list (Rattle.std.specs.List.filter_map Rattle.toml.specs.Data.as_str (option_map_or Rattle.settings_keys.specs.Values.items_in value [])) ≡ true
 members_form None fit is = cc
 members_form (Some value) fit is = (and_parts (keys.is_text_array value) _ fit).1
 

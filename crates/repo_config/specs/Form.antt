@@ -2,8 +2,9 @@
 use Rattle.std.specs.Prelude.{◌≡◌, ℕ, ◌≤◌, Bool, true, ◌&&◌, ◌||◌, nat_le, [], length, None}
 use Rattle.std.specs.List.{list_all}
 use Rattle.repo_model.specs.Settings.{GroupRule, ProxyRule, Rule, Settings}
-use Rattle.repo_config.specs.Keys.{is_host, is_member_list, is_pattern_list, is_prefix}
-use Rattle.repo_config.specs.Names.{first_twice, ids_of, is_id, member_is_group, no_member}
+use Rattle.settings_keys.specs.Keys.{is_host, is_member_list, is_pattern_list, is_prefix}
+use Rattle.settings_keys.specs.Ids.{first_twice, is_id}
+use Rattle.repo_config.specs.Names.{ids_of, member_is_group, no_member}
 
 -- a number from 1 on, or from 0 on, up to a limit
 abbrev pub is_from_1_to : ℕ → ℕ → Bool

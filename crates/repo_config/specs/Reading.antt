@@ -8,7 +8,7 @@ use Rattle.path_patterns.specs.Pattern.{is_pattern}
 use Rattle.repo_model.specs.Settings.{GroupRule, ProxyRule, Rule, Settings}
 use Rattle.repo_model.specs.declared.update.Update.{Update}
 use Rattle.repo_model.specs.declared.update.Update.TheVariants.{Always, Hourly, Daily, Once, Never}
-use Rattle.repo_config.specs.Values.{flag_at, items_at, number_at, tables_at, text_at, texts_in}
+use Rattle.settings_keys.specs.Values.{flag_at, items_at, number_at, tables_at, text_at, texts_in}
 
 abbrev pub hosted_rule : Members → Rule
 hosted_rule table = record {

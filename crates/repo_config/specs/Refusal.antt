@@ -5,12 +5,13 @@ use Rattle.std.specs.Str.{is_utf8}
 use Rattle.toml.specs.Data.{Members}
 use Rattle.toml.specs.Parse.{parse_document}
 use Rattle.repo_model.specs.Settings.{GroupRule, Settings}
-use Rattle.repo_config.specs.Names.{first_twice, ids_of, member_is_group, no_member}
+use Rattle.settings_keys.specs.Ids.{first_twice}
+use Rattle.settings_keys.specs.Walks.{first_fault}
+use Rattle.settings_keys.specs.declared.kinds.Walk.TheVariants as walk
+use Rattle.repo_config.specs.Names.{ids_of, member_is_group, no_member}
 use Rattle.repo_config.specs.Reading.{settings_of}
-use Rattle.repo_config.specs.Walks.{first_fault}
 use Rattle.repo_config.specs.declared.faults.SettingsFault.{SettingsFault}
 use Rattle.repo_config.specs.declared.faults.SettingsFault.TheVariants as fault
-use Rattle.repo_config.specs.declared.kinds.Walk.TheVariants as walk
 
 -- there are to be 1 to 64 ids of repositories
 abbrev pub wrong_count : List (List ℕ) → Option SettingsFault

@@ -6,6 +6,7 @@ ghost use Rattle.std.specs.Str.{bytes_eq};
 ghost use Rattle.repo_config.specs.Names as spec;
 ghost use Rattle.repo_config.specs.Refusal as refusal;
 ghost use Rattle.repo_config.specs.Refusal.{IsDue};
+ghost use Rattle.settings_keys.specs.Ids.{first_twice, is_among};
 
 use crate::faults::{SettingsFault, name_of};
 use crate::parts::Parts;
@@ -48,9 +49,9 @@ fn is_count(count: usize) -> bool
 }
 
 fn check_twice(alloc: Global, ids: &[&str]) -> Result<(), SettingsFault>
-    ensures ok { OnOk result (spec.first_twice [] (map (λ id. id.now) ids.now) ≡ None) }
+    ensures ok { OnOk result (first_twice [] (map (λ id. id.now) ids.now) ≡ None) }
     ensures err { IfErr result
-        (IsDue (option_map SettingsFault.TwiceNamed (spec.first_twice [] (map (λ id. id.now) ids.now)))) }
+        (IsDue (option_map SettingsFault.TwiceNamed (first_twice [] (map (λ id. id.now) ids.now)))) }
 {
     match first_twice(ids) {
         Some(id) => Err(SettingsFault::TwiceNamed(name_of(alloc, id)?)),
@@ -90,7 +91,7 @@ fn check_groups(alloc: Global, groups: &[GroupRule]) -> Result<(), SettingsFault
 
 /// The first id that stands among those before it.
 fn first_twice<'a>(ids: &[&'a str]) -> Option<&'a str>
-    ensures { option_copied result ≡ spec.first_twice [] (map (λ id. id.now) ids.now) }
+    ensures { option_copied result ≡ first_twice [] (map (λ id. id.now) ids.now) }
 {
     for (index, id) in ids.iter().enumerate() {
         if is_among(&ids[..index], id) {
@@ -101,7 +102,7 @@ fn first_twice<'a>(ids: &[&'a str]) -> Option<&'a str>
 }
 
 fn is_among(ids: &[&str], id: &str) -> bool
-    ensures { result ≡ spec.is_among (map (λ id. id.now) ids.now) id.now }
+    ensures { result ≡ is_among (map (λ id. id.now) ids.now) id.now }
 {
     some_is(ids, id)
 }

@@ -6,7 +6,7 @@ ghost use Rattle.repo_config.specs.Reading.{settings_of};
 use crate::faults::SettingsFault;
 use crate::reading::{group_rules, hosted_rules, proxy_rules};
 use crate::rules::{GroupRule, HostedRule, ProxyRule};
-use crate::values::{items_at, number_at};
+use settings_keys::{items_at, number_at};
 use std::alloc::Global;
 use std::marker::Model;
 use toml::Table;

@@ -5,13 +5,13 @@ ghost use Rattle.toml.specs.Data.{as_str, as_table};
 ghost use Rattle.toml.specs.View.{table_view, view};
 ghost use Rattle.path_patterns.specs.Pattern.{is_pattern};
 ghost use Rattle.repo_config.specs.Reading as spec;
-ghost use Rattle.repo_config.specs.Values.{texts_in};
+ghost use Rattle.settings_keys.specs.Values.{texts_in};
 
 use crate::faults::{SettingsFault, name_of};
 use crate::rules::{GroupRule, HostedRule, ProxyRule};
-use crate::values::{flag_at, items_at, items_in, number_at, text_at, value_at};
 use path_patterns::Patterns;
 use repo_model::Update;
+use settings_keys::{flag_at, items_at, items_in, number_at, text_at, value_at};
 use std::alloc::Global;
 use texts::Text;
 use toml::{Table, Value};

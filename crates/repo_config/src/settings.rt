@@ -5,12 +5,11 @@ ghost use Rattle.repo_config.specs.Refusal as spec;
 
 use crate::copies::copy_parts;
 use crate::faults::{SettingsFault, name_of};
-use crate::kinds::Walk;
 use crate::names::check_parts;
 use crate::parts::{Parts, parts_of};
 use crate::rules::{GroupRule, HostedRule, ProxyRule};
-use crate::walks::first_fault;
 use outside::NoMemory;
+use settings_keys::{Walk, first_fault};
 use std::alloc::Global;
 use std::marker::Model;
 use toml::Table;

@@ -7,7 +7,7 @@ use Rattle.std.proofs.lemmas.List.Folds.{list_any-append}
 use Rattle.std.proofs.lemmas.Option.{none-some}
 use Rattle.repo_model.specs.Settings.{GroupRule, ProxyRule, Rule, Settings}
 use Rattle.repo_config.specs.Form.{IsSettings}
-use Rattle.repo_config.specs.Names.{first_twice, is_among}
+use Rattle.settings_keys.specs.Ids.{first_twice, is_among}
 use Rattle.repo_laws.specs.Sound.{AreNamedApart, AreProxiesApart}
 use Rattle.repo_laws.proofs.Releases.{same_path, is_itself}
 

@@ -1,5 +1,5 @@
 use Rattle.std.proofs.Common.{◌≡◌, [], drop, map, take}
-use Rattle.repo_config.specs.Names.{first_twice}
+use Rattle.settings_keys.specs.Ids.{first_twice}
 use Rattle.repo_config.proofs.names.first_twice.Given as goal
 
 abbrev pub invariant-loop-index : goal.invariant-loop-index

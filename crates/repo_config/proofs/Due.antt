@@ -1,1 +1,0 @@
--- Which of several refusals is the first.

@@ -1,8 +1,0 @@
-use Rattle.std.proofs.Common.{sym, ◌∙◌}
-use Rattle.repo_config.proofs.Items.{first_twice-more}
-use Rattle.repo_config.proofs.lists.are_distinct.Goals as goal
-
-pub loop-index-preserved : goal.loop-index-preserved
-loop-index-preserved c =
-    c.loop-index.invariant ∙ first_twice-more c.args.items.now c.loop-index.index c.index-items-index.result c.loop-index-test.true
-    c.index-items-index.is (sym c.is_again.ensures ∙ c.if-is_again.false)

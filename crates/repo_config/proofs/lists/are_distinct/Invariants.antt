@@ -1,8 +1,0 @@
-use Rattle.std.proofs.Common.{◌≡◌, [], drop, take}
-use Rattle.repo_config.specs.Names.{first_twice}
-use Rattle.repo_config.proofs.Items.{texts}
-use Rattle.repo_config.proofs.lists.are_distinct.Given as goal
-
-abbrev pub invariant-loop-index : goal.invariant-loop-index
-invariant-loop-index l =
-    first_twice [] (texts l.items) ≡ first_twice (texts (take l.index l.items)) (texts (drop l.index l.items))

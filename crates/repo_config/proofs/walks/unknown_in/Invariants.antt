@@ -1,7 +1,0 @@
-use Rattle.std.proofs.Common.{◌≡◌}
-use Rattle.toml.specs.View.{members_view, table_view}
-use Rattle.repo_config.specs.Keys.{unknown_in}
-use Rattle.repo_config.proofs.walks.unknown_in.Given as goal
-
-abbrev pub invariant-names : goal.invariant-names
-invariant-names l = unknown_in l.kind (members_view l.name-iterator) ≡ unknown_in l.kind (table_view l.table)
