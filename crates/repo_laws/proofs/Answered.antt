@@ -1,25 +1,24 @@
 -- What replies say: a command gets one of its own, refusals change nothing, and all is determined but for want of memory and failing records.
 use native.Mathlib.Omega.{arith}
-use Rattle.std.proofs.Common.{◌≡◌, ◌≢◌, ℕ, true, false, ◌&&◌, List, [], ◌∷◌, ◌++◌, map, Option, Some, None, refl, sym, ◌∙◌, ap, subst, eqb-true, ◌⊎◌, inl, inr}
+use Rattle.std.proofs.Common.{◌≡◌, ℕ, true, false, ◌&&◌, List, [], ◌∷◌, ◌++◌, map, Option, Some, None, refl, sym, ◌∙◌, ap, subst, eqb-true, ◌⊎◌, inl, inr}
 use Rattle.std.specs.Prelude.{◌==◌, ◌↔◌, ◌<◌, IsTrue, nat_le, count_by, if◌then◌else◌}
 use Rattle.std.specs.List.{AllZip}
 use Rattle.std.proofs.lemmas.Bool.{eq-eqb, false≢true, leb-true, leb-false}
 use Rattle.repo_model.specs.declared.session.SessionResult.TheVariants.{Aborted}
-use Rattle.mvn_digest.specs.Digests.{digests_of}
 use Rattle.repo_model.specs.Data.{Blob, Row, Hosted, Staged, Session, repository, session}
 use Rattle.fetch_plan.specs.declared.Plan.{Plan}
-use Rattle.fetch_plan.specs.declared.Outcome.TheVariants.{Got, Gone, Refused, NoChecksum, Differs, TooLarge, BadAnswer, BadDocument, Fault}
+use Rattle.fetch_plan.specs.declared.Outcome.TheVariants.{Got, Gone}
 use Rattle.repo_model.specs.Fetched.{Landing, got_file, got_doc}
 use Rattle.repo_model.specs.Settings.{Settings, ProxyRule}
 use Rattle.repo_model.specs.Paths.{takes}
 use Rattle.repo_model.specs.State.{State, hosted_of, open_of, row_at, files_of, is_open, number_end, most_sessions}
 use Rattle.repo_model.specs.Effect.{draws, discards, lends, opens, ends, marks_missing, clears_mark, with_effects}
 use Rattle.repo_model.specs.Command.{Command, look, done, may_put, open_session, is_fit}
-use Rattle.repo_model.specs.Reply.{Reply, file, text, doc, missed, given_back, draft, opened, spent, kind_refused, no_session, session_full, sessions_full, no_memory, store_fault, is_free, can_get, takes_memory, fetches, blocked, negative, never_asked}
-use Rattle.repo_model.specs.Turn.{Turn, turn, says, draws_or_spent, draws_draft, in_repository, may_put_in, has_room, Seen, is_file, is_text, is_doc, is_nothing, shows, gives_draft_up, lands_file, lands, look_at, is_to_fetch, is_blocked, is_negative, is_never, plan_of, longest_document, file_limit}
+use Rattle.repo_model.specs.Reply.{Reply, file, given_back, draft, opened, spent, kind_refused, no_session, session_full, sessions_full, no_memory, store_fault, is_free, can_get, takes_memory, fetches}
+use Rattle.repo_model.specs.Turn.{Turn, turn, says, draws_or_spent, draws_draft, in_repository, may_put_in, has_room, Seen, is_file, shows, gives_draft_up, lands_file, lands, look_at, is_to_fetch, plan_of, file_limit}
 use Rattle.repo_model.specs.History.{Entry, IsReply, due, wants_memory, failed, Fits, ticked, commits, effects_of, after, Legal}
 use Rattle.repo_laws.specs.Replies.{is_refusal, given_up, may_change_rows, takes_at, takes_in, AsksAlike}
-use Rattle.repo_laws.proofs.Cases.{Case, lends_file, plans_file, lands_one, shows_text, shows_doc, misses, takes_back, gives_draft, makes_row, has_same, lists_again, gives_up, opens_one, stages_one, stage_same, deploys, aborts, unlists, collects, turn-case}
+use Rattle.repo_laws.proofs.Cases.{Case, lands_one, misses, aborts, unlists, turn-case}
 
 module _ (settings : Settings) (s : State) (now : ℕ) where
   case-can_get : (c : Command) (t : Turn) → Case settings s now c t → can_get c t.reply ≡ true
@@ -31,25 +30,8 @@ module _ (settings : Settings) (s : State) (now : ℕ) where
   turn-can_get c = case-can_get c (turn settings s now c) (turn-case settings s now c)
 
   case-refused : (c : Command) (t : Turn) → Case settings s now c t → is_refusal t.reply ≡ true → t.effects ≡ given_up c t.reply
-  case-refused c t (lends_file repo path tried blob more is) refused = absurd (false≢true refused)
-  case-refused c t (shows_text repo path tried bytes) refused = absurd (false≢true refused)
-  case-refused c t (shows_doc repo path tried bytes) refused = absurd (false≢true refused)
-  case-refused c t (plans_file repo path tried member rule at more is) refused = absurd (false≢true refused)
-  case-refused c t (lands_one plan outcome drawn) refused = absurd (false≢true refused)
-  case-refused c t (takes_back lease) refused = absurd (false≢true refused)
-  case-refused c t (gives_draft place path more) refused = absurd (false≢true refused)
-  case-refused c t (makes_row repo path n blob among free) refused = absurd (false≢true refused)
-  case-refused c t (has_same repo path n blob among) refused = absurd (false≢true refused)
-  case-refused c t (lists_again repo path n blob among row since found phase_is) refused = absurd (false≢true refused)
-  case-refused c t (gives_up n among) refused = absurd (false≢true refused)
-  case-refused c t (opens_one repo more few) refused = absurd (false≢true refused)
-  case-refused c t (stages_one at path n blob one among known free room) refused = absurd (false≢true refused)
-  case-refused c t (stage_same at path n blob among) refused = absurd (false≢true refused)
-  case-refused c t (deploys n one is going) refused = absurd (false≢true refused)
-  case-refused c t (aborts n one is going) refused = absurd (false≢true refused)
-  case-refused c t (unlists repo h is) refused = absurd (false≢true refused)
-  case-refused c t collects refused = absurd (false≢true refused)
-  case-refused c t case refused = refl
+  case-refused c t (misses repo path tried) refused = refl
+  case-refused c t case refused = cc
 
   -- discarding files changes no rows, and opens none: whatever follows does
   discards-hosted : (number : ℕ) (files : List Staged) (u : State)
@@ -70,23 +52,12 @@ module _ (settings : Settings) (s : State) (now : ℕ) where
   lands-hosted plan (Got (got_file blob)) u = file-hosted plan blob (row_at plan.path (files_of plan.proxy s)) u
   lands-hosted plan (Got (got_doc document)) u = refl
   lands-hosted plan Gone u = draft-hosted plan.draft (with_effects u (marks_missing plan.proxy plan.path now ∷ []))
-  lands-hosted plan (Refused status) u = draft-hosted plan.draft u
-  lands-hosted plan NoChecksum u = draft-hosted plan.draft u
-  lands-hosted plan (Differs said found) u = draft-hosted plan.draft u
-  lands-hosted plan TooLarge u = draft-hosted plan.draft u
-  lands-hosted plan (BadAnswer at) u = draft-hosted plan.draft u
-  lands-hosted plan (BadDocument at) u = draft-hosted plan.draft u
-  lands-hosted plan Fault u = draft-hosted plan.draft u
+  lands-hosted plan outcome u = draft-hosted plan.draft u
 
   case-rows : (c : Command) (t : Turn) → Case settings s now c t → may_change_rows t.reply ≡ false → (u : State) → (with_effects u t.effects).hosted ≡ u.hosted
-  case-rows c t (makes_row repo path n blob among free) still u = absurd (false≢true (sym still))
-  case-rows c t (lists_again repo path n blob among row since found phase_is) still u = absurd (false≢true (sym still))
-  case-rows c t (deploys n one is going) still u = absurd (false≢true (sym still))
   case-rows c t (aborts n one is going) still u = discards-hosted one.number one.staged u
   case-rows c t (lands_one plan outcome drawn) still u = lands-hosted plan outcome u
-  case-rows c t (unlists repo h is) still u = absurd (false≢true (sym still))
-  case-rows c t collects still u = absurd (false≢true (sym still))
-  case-rows c t case still u = refl
+  case-rows c t case still u = cc
 
 -- what an entry does, by its reply
 pub free-none : (settings : Settings) (s : State) (e : Entry) → is_free e.reply ≡ true → effects_of settings s e ≡ []
@@ -186,12 +157,16 @@ histories_same settings start (e ∷ one) (f ∷ other) legal legal' alike =
     cc
 
 -- numbers that are spent
-draft-spent : (next : ℕ) → ((draws_draft next).reply ≡ spent) ↔ (next ≡ number_end)
-draft-spent next =
-    elim (next == number_end) as (λ b. (next == number_end) ≡ b → ((if b then says spent else record { reply = draft next; effects = draws ∷ [] }).reply ≡ spent) ↔ (next ≡ number_end)) [
+-- what draws the next number is refused exactly where there is none
+spent-by : (next : ℕ) (t : Turn) → (t.reply ≡ spent → ⊥) → ((draws_or_spent next t).reply ≡ spent) ↔ (next ≡ number_end)
+spent-by next t other =
+    elim (next == number_end) as (λ b. (next == number_end) ≡ b → ((if b then says spent else t).reply ≡ spent) ↔ (next ≡ number_end)) [
       | true ↦ λ last. ((λ _. eqb-true next number_end last), (λ _. refl))
-      | false ↦ λ more. ((λ is. absurd (let e : draft next ≡ spent = is in cc)), (λ is. absurd (false≢true (sym more ∙ eq-eqb next number_end is))))
+      | false ↦ λ more. ((λ is. absurd (other is)), (λ is. absurd (false≢true (sym more ∙ eq-eqb next number_end is))))
     ] refl
+
+draft-spent : (next : ℕ) → ((draws_draft next).reply ≡ spent) ↔ (next ≡ number_end)
+draft-spent next = spent-by next (record { reply = draft next; effects = draws ∷ [] }) (λ is. let e : draft next ≡ spent = is in cc)
 
 abbrev SpendsIn : ℕ → List ℕ → Option Hosted → Type 0
 SpendsIn next path found = ((in_repository path found (draws_draft next)).reply ≡ spent) ↔ (IsTrue (is_fit (λ h. takes h.rule path) found) × (next ≡ number_end))
@@ -246,49 +221,26 @@ never-spent s seen r other no_file no_fetch = ((λ is. absurd (other is)), (λ e
 
 shows-spent : (settings : Settings) (s : State) (seen : Seen) → ((shows settings s.yard seen).reply ≡ spent) ↔ (LacksLease s seen ⊎ LacksDraft s seen)
 shows-spent settings s (is_file blob) =
-    elim (s.yard.next_lease == number_end)
-    as (λ b. (s.yard.next_lease == number_end) ≡ b
-    → ((if b then says spent else record { reply = file s.yard.next_lease blob; effects = lends blob.number ∷ [] }).reply ≡ spent) ↔ (LacksLease s (is_file blob) ⊎ LacksDraft s (is_file blob))) [
-      | true ↦ λ last. ((λ _. inl ((blob, refl), eqb-true s.yard.next_lease number_end last)), (λ _. refl))
-      | false ↦ λ more. ((λ is. absurd (let e : file s.yard.next_lease blob ≡ spent = is in cc)), (λ either. match-lease more either))
-    ] refl where
-      match-lease : (s.yard.next_lease == number_end) ≡ false → LacksLease s (is_file blob) ⊎ LacksDraft s (is_file blob) → file s.yard.next_lease blob ≡ spent
-      match-lease more (inl lacks) = absurd (false≢true (sym more ∙ eq-eqb s.yard.next_lease number_end lacks.1))
-      match-lease more (inr ((member, rule, at, is), _)) = absurd (let e : is_file blob ≡ is_to_fetch member rule at true = is in cc)
+    let (lacks, spends) = spent-by s.yard.next_lease (record { reply = file s.yard.next_lease blob; effects = lends blob.number ∷ [] }) (λ is. let e : file s.yard.next_lease blob ≡ spent = is in cc) in
+    ((λ is. inl ((blob, refl), lacks is)), (λ either. spends (by either))) where
+      by : LacksLease s (is_file blob) ⊎ LacksDraft s (is_file blob) → s.yard.next_lease ≡ number_end
+      by (inl lacking) = lacking.1
+      by (inr ((member, rule, at, is), _)) = absurd (let e : is_file blob ≡ is_to_fetch member rule at true = is in cc)
 shows-spent settings s (is_to_fetch member rule at true) =
-    elim (s.yard.next_draft == number_end)
-    as (λ b. (s.yard.next_draft == number_end) ≡ b
-    → ((if b then says spent else record { reply = fetches (plan_of member rule at (Some s.yard.next_draft) (file_limit settings)); effects = draws ∷ [] }).reply ≡ spent)
-    ↔ (LacksLease s (is_to_fetch member rule at true) ⊎ LacksDraft s (is_to_fetch member rule at true))) [
-      | true ↦ λ last. ((λ _. inr ((member, rule, at, refl), eqb-true s.yard.next_draft number_end last)), (λ _. refl))
-      | false ↦ λ more. ((λ is. absurd (let e : fetches (plan_of member rule at (Some s.yard.next_draft) (file_limit settings)) ≡ spent = is in cc)), (λ either. match-draft more either))
-    ] refl where
-      match-draft : (s.yard.next_draft == number_end) ≡ false → LacksLease s (is_to_fetch member rule at true) ⊎ LacksDraft s (is_to_fetch member rule at true)
-          → fetches (plan_of member rule at (Some s.yard.next_draft) (file_limit settings)) ≡ spent
-      match-draft more (inl ((blob, is), _)) = absurd (let e : is_to_fetch member rule at true ≡ is_file blob = is in cc)
-      match-draft more (inr lacks) = absurd (false≢true (sym more ∙ eq-eqb s.yard.next_draft number_end lacks.1))
-shows-spent settings s (is_to_fetch member rule at false) =
-    ((λ is. absurd (let e : fetches (plan_of member rule at None longest_document) ≡ spent = is in cc)), (λ either. none either)) where
-      none : LacksLease s (is_to_fetch member rule at false) ⊎ LacksDraft s (is_to_fetch member rule at false) → fetches (plan_of member rule at None longest_document) ≡ spent
-      none (inl ((blob, is), _)) = absurd (let e : is_to_fetch member rule at false ≡ is_file blob = is in cc)
-      none (inr ((m, r, p, is), _)) = absurd (let e : is_to_fetch member rule at false ≡ is_to_fetch m r p true = is in cc)
-shows-spent settings s (is_text bytes) = never-spent s (is_text bytes) (text bytes) (λ e. cc) (λ blob e. cc) (λ m r p e. cc)
-shows-spent settings s (is_doc bytes) = never-spent s (is_doc bytes) (doc bytes (digests_of bytes)) (λ e. cc) (λ blob e. cc) (λ m r p e. cc)
-shows-spent settings s is_nothing = never-spent s is_nothing missed (λ e. cc) (λ blob e. cc) (λ m r p e. cc)
-shows-spent settings s is_blocked = never-spent s is_blocked blocked (λ e. cc) (λ blob e. cc) (λ m r p e. cc)
-shows-spent settings s is_negative = never-spent s is_negative negative (λ e. cc) (λ blob e. cc) (λ m r p e. cc)
-shows-spent settings s is_never = never-spent s is_never never_asked (λ e. cc) (λ blob e. cc) (λ m r p e. cc)
+    let planned : Reply = fetches (plan_of member rule at (Some s.yard.next_draft) (file_limit settings)) in
+    let (lacks, spends) = spent-by s.yard.next_draft (record { reply = planned; effects = draws ∷ [] }) (λ is. let e : planned ≡ spent = is in cc) in
+    ((λ is. inr ((member, rule, at, refl), lacks is)), (λ either. spends (by either))) where
+      by : LacksLease s (is_to_fetch member rule at true) ⊎ LacksDraft s (is_to_fetch member rule at true) → s.yard.next_draft ≡ number_end
+      by (inl ((blob, is), _)) = absurd (let e : is_to_fetch member rule at true ≡ is_file blob = is in cc)
+      by (inr lacking) = lacking.1
+shows-spent settings s seen = never-spent s seen (shows settings s.yard seen).reply (λ e. cc) (λ blob e. cc) (λ m r p e. cc)
 
 pub leases-spent : (settings : Settings) (s : State) (now : ℕ) (repo path tried : List ℕ)
     → ((turn settings s now (look repo path tried)).reply ≡ spent) ↔ (LacksLease s (look_at settings s now repo tried path) ⊎ LacksDraft s (look_at settings s now repo tried path))
 leases-spent settings s now repo path tried = shows-spent settings s (look_at settings s now repo tried path)
 
 opens-spent : (next : ℕ) (repo : List ℕ) → ((draws_or_spent next (record { reply = opened next; effects = opens next repo ∷ [] })).reply ≡ spent) ↔ (next ≡ number_end)
-opens-spent next repo =
-    elim (next == number_end) as (λ b. (next == number_end) ≡ b → ((if b then says spent else record { reply = opened next; effects = opens next repo ∷ [] }).reply ≡ spent) ↔ (next ≡ number_end)) [
-      | true ↦ λ last. ((λ _. eqb-true next number_end last), (λ _. refl))
-      | false ↦ λ more. ((λ is. absurd (let e : opened next ≡ spent = is in cc)), (λ is. absurd (false≢true (sym more ∙ eq-eqb next number_end is))))
-    ] refl
+opens-spent next repo = spent-by next (record { reply = opened next; effects = opens next repo ∷ [] }) (λ is. let e : opened next ≡ spent = is in cc)
 
 pub sessions-spent : (settings : Settings) (s : State) (now : ℕ) (repo : List ℕ)
     → ((turn settings s now (open_session repo)).reply ≡ spent) ↔ ((count_by is_open s.sessions < most_sessions) × (s.yard.next_session ≡ number_end))

@@ -1,10 +1,10 @@
 -- Each turn by what it comes to: one case for each reply that a command can get.
-use Rattle.std.proofs.Common.{◌≡◌, ℕ, Bool, true, false, List, [], ◌∷◌, ◌++◌, length, Option, Some, None, Result, Ok, Err, refl}
+use Rattle.std.proofs.Common.{◌≡◌, ℕ, Bool, true, false, List, [], ◌∷◌, ◌++◌, length, Option, Some, None, Result, Ok, refl}
 use Rattle.std.specs.Prelude.{◌==◌, nat_le, count_by, find, if◌then◌else◌, bytes_eq}
 use Rattle.std.specs.Option.{option_map}
 use Rattle.mvn_coords.specs.Kind.{kind}
 use Rattle.mvn_coords.specs.declared.kind.Kind.{Kind}
-use Rattle.mvn_coords.specs.declared.kind.Kind.TheVariants.{File, FileSide, Doc, DocSide}
+use Rattle.mvn_coords.specs.declared.kind.Kind.TheVariants.{FileSide}
 use Rattle.mvn_coords.specs.declared.fault.PathFault.{PathFault}
 use Rattle.mvn_coords.specs.Layout.{text_of}
 use Rattle.mvn_digest.specs.Digests.{digests_of}
@@ -159,10 +159,7 @@ module _ (settings : Settings) (s : State) (now : ℕ) where
 
   judged-case : (place : Place) (path said : List ℕ) (k : Result Kind PathFault) (blob_at : List ℕ → Option Blob) → Is (put_side place path said) (judged k said blob_at)
   judged-case place path said (Ok (FileSide c side)) blob_at = compared-case place path said (option_map (λ (blob : Blob). side_of blob.print.digests side) (blob_at (text_of c)))
-  judged-case place path said (Ok (File c)) blob_at = side_agrees place path said
-  judged-case place path said (Ok (Doc d)) blob_at = side_agrees place path said
-  judged-case place path said (Ok (DocSide d side)) blob_at = side_agrees place path said
-  judged-case place path said (Err fault) blob_at = side_agrees place path said
+  judged-case place path said k blob_at = side_agrees place path said
 
   open-case : (c : Command) (found : Option Session) (f : Session → Turn) → Is c (says no_session) → ((one : Session) → found ≡ Some one → Is c (f one)) → Is c (with_open found f)
   open-case c None f none some = none

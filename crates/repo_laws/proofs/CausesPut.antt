@@ -21,7 +21,7 @@ use Rattle.repo_model.specs.State.{State, hosted_of, row_at, rows_of, is_among, 
 use Rattle.repo_model.specs.Effect.{draws, drops, lends}
 use Rattle.repo_model.specs.Command.{is_fit, group_rule_of}
 use Rattle.repo_model.specs.Reply.{Reply, file, text, doc, missed, kind_refused, no_draft, taken, same, relisted, created, draft, spent, fetches, blocked, negative, never_asked}
-use Rattle.repo_model.specs.Turn.{Turn, says, draws_draft, document_text, Seen, is_file, is_text, is_doc, is_nothing, or_nothing, seen_at, shows, in_repository, put_again, put_at, is_to_fetch, is_blocked, is_negative, is_never, look_at, plan_of, longest_document, group_seen, member_seen, directory_of, file_limit}
+use Rattle.repo_model.specs.Turn.{Turn, says, draws_or_spent, draws_draft, document_text, Seen, is_file, is_text, is_doc, is_nothing, or_nothing, seen_at, shows, in_repository, put_again, put_at, is_to_fetch, is_blocked, is_negative, is_never, look_at, plan_of, longest_document, group_seen, member_seen, directory_of, file_limit}
 use Rattle.repo_laws.specs.Causes.{HasNothing, LookRefused, MayPutRefused, PutRefused, HostedRefused, SeenRefused, RefusedAt}
 use Rattle.repo_laws.specs.Replies.{is_refusal, takes_at}
 use Rattle.repo_laws.proofs.Prints.{prints-compare}
@@ -30,6 +30,17 @@ use Rattle.repo_model.specs.Settings.{GroupRule, ProxyRule, Settings}
 -- a reply that is no refusal is none of the refusals
 pub no-refusal : (x r : Reply) → is_refusal x ≡ false → x ≡ r → is_refusal r ≡ true → ⊥
 no-refusal x r fine is refused = false≢true (sym fine ∙ ap is_refusal is ∙ refused)
+
+-- what draws the next number is refused where there is none
+pub spent-caused : (P : Reply → Type 0) (next : ℕ) (t : Turn) → is_refusal t.reply ≡ false → (next ≡ number_end → P spent) → (r : Reply) → is_refusal r ≡ true → (draws_or_spent next t).reply ≡ r → P r
+spent-caused P next t fine so r refused is =
+    elim (next == number_end) as (λ b. (next == number_end) ≡ b → (if b then says spent else t).reply ≡ r → P r) [
+      | true ↦ λ last e. subst P e (so (eqb-true next number_end last))
+      | false ↦ λ more e. absurd (no-refusal t.reply r fine e refused)
+    ] refl is
+
+pub spent-so : (next : ℕ) (t : Turn) → next ≡ number_end → (draws_or_spent next t).reply ≡ spent
+spent-so next t last = ap (λ b. (if b then says spent else t).reply) (eq-eqb next number_end last)
 
 -- what is nothing was not found
 or_nothing-none : {A : Type 0} (f : A → Seen) → ((x : A) → f x ≡ is_nothing → ⊥) → (found : Option A) → or_nothing f found ≡ is_nothing → found ≡ None
@@ -104,27 +115,20 @@ module _ (settings : Settings) (s : State) where
   abbrev said : Seen → Reply
   said seen = (shows settings s.yard seen).reply
 
-  abbrev lease_or_spent : Blob → Bool → Reply
-  lease_or_spent blob b = (if b then says spent else record { reply = file s.yard.next_lease blob; effects = lends blob.number ∷ [] }).reply
+  abbrev lent : Blob → Turn
+  lent blob = record { reply = file s.yard.next_lease blob; effects = lends blob.number ∷ [] }
 
-  abbrev plan_or_spent : ℕ → ProxyRule → List ℕ → Bool → Reply
-  plan_or_spent member rule at b = (if b then says spent else record { reply = fetches (plan_of member rule at (Some s.yard.next_draft) (file_limit settings)); effects = draws ∷ [] }).reply
+  abbrev planned : ℕ → ProxyRule → List ℕ → Turn
+  planned member rule at = record { reply = fetches (plan_of member rule at (Some s.yard.next_draft) (file_limit settings)); effects = draws ∷ [] }
 
   -- by what is seen
   seen-caused : (r : Reply) → is_refusal r ≡ true → (seen : Seen) → said seen ≡ r → SeenRefused s seen r
-  seen-caused r refused (is_file blob) is =
-      elim (s.yard.next_lease == number_end) as (λ b. (s.yard.next_lease == number_end) ≡ b → lease_or_spent blob b ≡ r → SeenRefused s (is_file blob) r) [
-        | true ↦ λ last e. subst (SeenRefused s (is_file blob)) e (eqb-true s.yard.next_lease number_end last)
-        | false ↦ λ more e. absurd (no-refusal (file s.yard.next_lease blob) r refl e refused)
-      ] refl is
+  seen-caused r refused (is_file blob) is = spent-caused (SeenRefused s (is_file blob)) s.yard.next_lease (lent blob) refl (λ last. last) r refused is
   seen-caused r refused (is_text bytes) is = absurd (no-refusal (text bytes) r refl is refused)
   seen-caused r refused (is_doc bytes) is = absurd (no-refusal (doc bytes (digests_of bytes)) r refl is refused)
   seen-caused r refused is_nothing is = subst (SeenRefused s is_nothing) is tt
   seen-caused r refused (is_to_fetch member rule at true) is =
-      elim (s.yard.next_draft == number_end) as (λ b. (s.yard.next_draft == number_end) ≡ b → plan_or_spent member rule at b ≡ r → SeenRefused s (is_to_fetch member rule at true) r) [
-        | true ↦ λ last e. subst (SeenRefused s (is_to_fetch member rule at true)) e (eqb-true s.yard.next_draft number_end last)
-        | false ↦ λ more e. absurd (no-refusal (fetches (plan_of member rule at (Some s.yard.next_draft) (file_limit settings))) r refl e refused)
-      ] refl is
+      spent-caused (SeenRefused s (is_to_fetch member rule at true)) s.yard.next_draft (planned member rule at) refl (λ last. last) r refused is
   seen-caused r refused (is_to_fetch member rule at false) is = absurd (no-refusal (fetches (plan_of member rule at None longest_document)) r refl is refused)
   seen-caused r refused is_blocked is = subst (SeenRefused s is_blocked) is tt
   seen-caused r refused is_negative is = subst (SeenRefused s is_negative) is tt
@@ -135,8 +139,8 @@ module _ (settings : Settings) (s : State) where
   seen-refused is_blocked blocked cause = refl
   seen-refused is_negative negative cause = refl
   seen-refused is_never never_asked cause = refl
-  seen-refused (is_file blob) spent last = ap (lease_or_spent blob) (eq-eqb s.yard.next_lease number_end last)
-  seen-refused (is_to_fetch member rule at true) spent last = ap (plan_or_spent member rule at) (eq-eqb s.yard.next_draft number_end last)
+  seen-refused (is_file blob) spent last = spent-so s.yard.next_lease (lent blob) last
+  seen-refused (is_to_fetch member rule at true) spent last = spent-so s.yard.next_draft (planned member rule at) last
   seen-refused seen r cause = absurd cause
 
   module _ (path : List ℕ) (rows : List Row) where
@@ -145,10 +149,7 @@ module _ (settings : Settings) (s : State) where
 
     hosted-caused : (r : Reply) → is_refusal r ≡ true → (seen : Seen) → seen_at rows path (kind path) ≡ seen → said seen ≡ r → HostedRefused s rows path r
     hosted-caused r refused (is_file blob) there is =
-        elim (s.yard.next_lease == number_end) as (λ b. (s.yard.next_lease == number_end) ≡ b → lease_or_spent blob b ≡ r → HostedRefused s rows path r) [
-          | true ↦ λ last e. subst (HostedRefused s rows path) e (file-seen rows path blob (kind path) there, eqb-true s.yard.next_lease number_end last)
-          | false ↦ λ more e. absurd (no-refusal (file s.yard.next_lease blob) r refl e refused)
-        ] refl is
+        spent-caused (HostedRefused s rows path) s.yard.next_lease (lent blob) refl (λ last. (file-seen rows path blob (kind path) there, last)) r refused is
     hosted-caused r refused (is_text bytes) there is = absurd (no-refusal (text bytes) r refl is refused)
     hosted-caused r refused (is_doc bytes) there is = absurd (no-refusal (doc bytes (digests_of bytes)) r refl is refused)
     hosted-caused r refused is_nothing there is = subst (HostedRefused s rows path) is (none-seen rows path (kind path) there)
@@ -160,7 +161,7 @@ module _ (settings : Settings) (s : State) where
     hosted-refused : (r : Reply) → HostedRefused s rows path r → said (seen_at rows path (kind path)) ≡ r
     hosted-refused missed none = ap said (none-there rows path (kind path) none)
     hosted-refused spent ((c, row, is_kind, found), last) =
-        ap said (ap (seen_at rows path) is_kind ∙ ap (or_nothing (λ (r : Row). is_file r.blob)) found) ∙ ap (lease_or_spent row.blob) (eq-eqb s.yard.next_lease number_end last)
+        ap said (ap (seen_at rows path) is_kind ∙ ap (or_nothing (λ (r : Row). is_file r.blob)) found) ∙ spent-so s.yard.next_lease (lent row.blob) last
     hosted-refused r cause = absurd cause
 
   module _ (now : ℕ) (id path tried : List ℕ) where
@@ -197,14 +198,10 @@ in-refused path None t is = refl
 in-refused path (Some h) t is = ap (λ b. if b then t else says kind_refused) is
 
 pub draft-caused : (P : Reply → Type 0) (next : ℕ) → (next ≡ number_end → P spent) → (r : Reply) → is_refusal r ≡ true → (draws_draft next).reply ≡ r → P r
-draft-caused P next so r refused is =
-    elim (next == number_end) as (λ b. (next == number_end) ≡ b → (if b then says spent else record { reply = draft next; effects = draws ∷ [] }).reply ≡ r → P r) [
-      | true ↦ λ last e. subst P e (so (eqb-true next number_end last))
-      | false ↦ λ more e. absurd (no-refusal (draft next) r refl e refused)
-    ] refl is
+draft-caused P next = spent-caused P next (record { reply = draft next; effects = draws ∷ [] }) refl
 
 pub draft-refused : (next : ℕ) → next ≡ number_end → (draws_draft next).reply ≡ spent
-draft-refused next last = ap (λ b. (if b then says spent else record { reply = draft next; effects = draws ∷ [] }).reply) (eq-eqb next number_end last)
+draft-refused next = spent-so next (record { reply = draft next; effects = draws ∷ [] })
 
 module _ (s : State) (repo path : List ℕ) where
   pub may_put-caused : (r : Reply) → is_refusal r ≡ true → (in_repository path (hosted_of repo s) (draws_draft s.yard.next_draft)).reply ≡ r → MayPutRefused s (repository repo) path r

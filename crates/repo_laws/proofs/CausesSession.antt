@@ -1,46 +1,32 @@
 -- Why a file that is sent to a session, a side file, a document and a new session are refused.
 use native.Mathlib.Omega.{arith}
-use Rattle.std.proofs.Common.{◌≡◌, ◌≢◌, ℕ, Bool, true, false, not, cond, ◌||◌, List, [], ◌∷◌, length, Option, Some, None, Result, Ok, Err, refl, sym, ◌∙◌, ap, subst, eqb-true}
-use Rattle.std.specs.Prelude.{◌==◌, ◌<◌, nat_le, find, count_by, if◌then◌else◌, bytes_eq, IsTrue}
+use Rattle.std.proofs.Common.{◌≡◌, ◌≢◌, ℕ, Bool, true, false, not, ◌||◌, List, [], ◌∷◌, length, Option, Some, None, Result, Ok, refl, sym, ◌∙◌, ap, subst}
+use Rattle.std.specs.Prelude.{◌<◌, nat_le, find, count_by, if◌then◌else◌, bytes_eq, IsTrue}
 use Rattle.std.specs.Option.{option_map, option_and_then}
 use Rattle.std.specs.List.{list_any}
-use Rattle.std.proofs.lemmas.Bool.{false≢true, eq-eqb, leb-true, leb-false, le-leb, or_parts}
+use Rattle.std.proofs.lemmas.Bool.{false≢true, leb-true, leb-false, le-leb, not-false, or_parts}
 use Rattle.std.proofs.lemmas.Option.{none-some}
 use Rattle.std.proofs.lemmas.Slice.Eq.{bytes_eq-Decides}
 use Rattle.mvn_coords.specs.Kind.{kind}
 use Rattle.mvn_coords.specs.declared.kind.Kind.{Kind}
-use Rattle.mvn_coords.specs.declared.kind.Kind.TheVariants.{File, FileSide, Doc, DocSide}
+use Rattle.mvn_coords.specs.declared.kind.Kind.TheVariants.{FileSide}
 use Rattle.mvn_coords.specs.declared.fault.PathFault.{PathFault}
 use Rattle.mvn_coords.specs.declared.fault.Side.{Side}
 use Rattle.mvn_coords.specs.Layout.{Coordinates, text_of}
 use Rattle.mvn_digest.specs.Sides.{side_of}
 use Rattle.repo_model.specs.Data.{Blob, Staged, Session, Place, repository, session, is_same_print}
-use Rattle.repo_model.specs.State.{State, hosted_of, open_of, is_open, is_staged, is_among, number_end, most_sessions, most_staged}
+use Rattle.repo_model.specs.State.{State, hosted_of, open_of, is_open, is_staged, is_among, most_sessions, most_staged}
 use Rattle.repo_model.specs.Effect.{drops, stages, opens}
 use Rattle.repo_model.specs.Reply.{Reply, kind_refused, session_full, no_session, no_draft, taken, same, staged, not_there, differs, agreed, noted, opened, sessions_full, spent}
 use Rattle.repo_model.specs.Turn.{Turn, says, draws_or_spent, draws_draft, has_room, may_put_in, compared, judged, with_open, staged_at, stage_at, stage_in}
 use Rattle.repo_laws.specs.Causes.{IsFull, MayPutRefused, IsOpenPlace, IsClosedPlace, blob_at, SideRefused, DocRefused, OpenRefused, StageRefused}
 use Rattle.repo_laws.specs.Replies.{is_refusal, takes_at}
-use Rattle.repo_laws.proofs.CausesPut.{no-refusal, in-taken, in-refused, draft-caused, draft-refused, prints-differ, differ-prints, taken-same}
-
--- none passes a test exactly where none is found
-pub any-none : {X : Type 0} (q : X → Bool) (xs : List X) → list_any q xs ≡ false → find q xs ≡ None
-any-none q [] is = refl
-any-none {X} q (x ∷ xs) is =
-    elim (q x) as (λ b. b || list_any q xs ≡ false → cond b (Some x) (find q xs) ≡ None) [ true ↦ λ e. absurd (false≢true (sym e)) | false ↦ λ e. any-none q xs e ] is
-
-pub none-any : {X : Type 0} (q : X → Bool) (xs : List X) → find q xs ≡ None → list_any q xs ≡ false
-none-any q [] is = refl
-none-any {X} q (x ∷ xs) is =
-    elim (q x) as (λ b. cond b (Some x) (find q xs) ≡ None → b || list_any q xs ≡ false) [ true ↦ λ e. absurd (none-some x (sym e)) | false ↦ λ e. none-any q xs e ] is
+use Rattle.repo_laws.proofs.HoldingLists.{any-none, unfound-any}
+use Rattle.repo_laws.proofs.CausesPut.{no-refusal, spent-caused, spent-so, in-taken, in-refused, draft-caused, draft-refused, prints-differ, differ-prints, taken-same}
 
 module _ (path : List ℕ) (files : List Staged) where
   abbrev is_many : Bool
   is_many = nat_le most_staged (length files)
-
-  not-false : (b : Bool) → not b ≡ false → b ≡ true
-  not-false true is = refl
-  not-false false is = absurd (false≢true (sym is))
 
   pub full-so : has_room path files ≡ false → IsFull path files
   full-so is =
@@ -49,7 +35,7 @@ module _ (path : List ℕ) (files : List Staged) where
 
   pub so-full : IsFull path files → has_room path files ≡ false
   so-full (many, none) =
-      ap (λ b. b || not is_many) (none-any (is_staged path) files none) ∙ ap not (le-leb most_staged (length files) many)
+      ap (λ b. b || not is_many) (unfound-any (is_staged path) files none) ∙ ap not (le-leb most_staged (length files) many)
 
   pub room-so : (IsFull path files → ⊥) → has_room path files ≡ true
   room-so other =
@@ -115,10 +101,7 @@ module _ (s : State) (place : Place) (path said : List ℕ) (up : IsOpenPlace s 
 
   pub side-caused : (r : Reply) → is_refusal r ≡ true → (k : Result Kind PathFault) → kind path ≡ k → (judged k said (blob_at s place)).reply ≡ r → Side_so r
   side-caused r refused (Ok (FileSide c side)) is_kind is = compared-caused c side is_kind r refused (blob_at s place (text_of c)) refl is
-  side-caused r refused (Ok (File c)) is_kind is = absurd (no-refusal agreed r refl is refused)
-  side-caused r refused (Ok (Doc d)) is_kind is = absurd (no-refusal agreed r refl is refused)
-  side-caused r refused (Ok (DocSide d side)) is_kind is = absurd (no-refusal agreed r refl is refused)
-  side-caused r refused (Err fault) is_kind is = absurd (no-refusal agreed r refl is refused)
+  side-caused r refused k is_kind is = absurd (no-refusal agreed r refl is refused)
 
   closed-never : IsClosedPlace s place → ⊥
   closed-never closed = by place up closed where
@@ -177,8 +160,11 @@ module _ (s : State) (repo : List ℕ) where
   abbrev many : ℕ
   many = count_by is_open s.sessions
 
+  abbrev opening_one : Turn
+  opening_one = record { reply = opened s.yard.next_session; effects = opens s.yard.next_session repo ∷ [] }
+
   abbrev open_one : Turn
-  open_one = draws_or_spent s.yard.next_session (record { reply = opened s.yard.next_session; effects = opens s.yard.next_session repo ∷ [] })
+  open_one = draws_or_spent s.yard.next_session opening_one
 
   abbrev OpenTurn : Turn
   OpenTurn = if nat_le most_sessions many then says sessions_full else open_one
@@ -187,12 +173,7 @@ module _ (s : State) (repo : List ℕ) where
   open-caused r refused is =
       elim (nat_le most_sessions many) as (λ b. nat_le most_sessions many ≡ b → (if b then says sessions_full else open_one).reply ≡ r → OpenRefused s r) [
         | true ↦ λ full e. subst (OpenRefused s) e (leb-true most_sessions many full)
-        | false ↦ λ few e.
-            elim (s.yard.next_session == number_end)
-            as (λ b. (s.yard.next_session == number_end) ≡ b → (if b then says spent else record { reply = opened s.yard.next_session; effects = opens s.yard.next_session repo ∷ [] }).reply ≡ r → OpenRefused s r) [
-              | true ↦ λ last x. subst (OpenRefused s) x (leb-false most_sessions many few, eqb-true s.yard.next_session number_end last)
-              | false ↦ λ more x. absurd (no-refusal (opened s.yard.next_session) r refl x refused)
-            ] refl e
+        | false ↦ λ few e. spent-caused (OpenRefused s) s.yard.next_session opening_one refl (λ last. (leb-false most_sessions many few, last)) r refused e
       ] refl is
 
   not-many : many < most_sessions → nat_le most_sessions many ≡ false
@@ -203,7 +184,7 @@ module _ (s : State) (repo : List ℕ) where
   open-refused sessions_full full = ap (λ b. (if b then says sessions_full else open_one).reply) (le-leb most_sessions many full)
   open-refused spent (few, last) =
       ap (λ b. (if b then says sessions_full else open_one).reply) (not-many few)
-      ∙ ap (λ b. (if b then says spent else record { reply = opened s.yard.next_session; effects = opens s.yard.next_session repo ∷ [] }).reply) (eq-eqb s.yard.next_session number_end last)
+      ∙ spent-so s.yard.next_session opening_one last
   open-refused r cause = absurd cause
 
 module _ (s : State) (at : ℕ) (path : List ℕ) (n : ℕ) (blob : Blob) where

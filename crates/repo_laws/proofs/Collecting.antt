@@ -1,9 +1,10 @@
 -- A Collect gives out the first of the garbage that nobody has borrowed.
 use native.Mathlib.Omega.{arith}
-use Rattle.std.proofs.Common.{◌≡◌, ◌≤◌, ◌<◌, ℕ, Bool, true, false, not, cond, ◌||◌, ◌⊎◌, inl, inr, List, [], ◌∷◌, ◌++◌, length, take, zero, suc, refl, sym, ◌∙◌, ap, subst, eqb-true}
+use Rattle.std.proofs.Common.{◌≡◌, ◌≤◌, ◌<◌, ℕ, Bool, true, false, not, ◌||◌, ◌⊎◌, inl, inr, List, [], ◌∷◌, ◌++◌, length, take, zero, suc, refl, sym, ◌∙◌, ap, subst, eqb-true, length-take}
 use Rattle.std.specs.Prelude.{◌==◌, nat_lt, filter, if◌then◌else◌}
 use Rattle.std.specs.List.{AllByRecursion, list_any}
-use Rattle.std.proofs.lemmas.Bool.{false≢true, ltb-true, ltb-false}
+use Rattle.std.proofs.lemmas.Bool.{false≢true, ltb-true, ltb-false, not-true}
+use Rattle.std.proofs.lemmas.List.Sums.{sum_by-take-le}
 use Rattle.repo_model.specs.Settings.{Settings}
 use Rattle.repo_model.specs.State.{State, Yard, Lease, is_among}
 use Rattle.repo_model.specs.Effect.{Effect, forgets, with_effect, with_effects}
@@ -16,29 +17,19 @@ use Rattle.repo_laws.specs.Laws.{count_of}
 use Rattle.repo_laws.specs.Sound.{AreNamedApart, AreRising, OnePlace, IsSound}
 use Rattle.repo_laws.specs.Collected.{IsUnlent, IsFirstGarbage, cleared}
 use Rattle.repo_laws.proofs.ByPath.{all-apart}
-use Rattle.repo_laws.proofs.Counts.{count-filter}
-use Rattle.repo_laws.proofs.Given.{count-take}
+use Rattle.repo_laws.proofs.Counts.{one_if, count-filter}
+use Rattle.repo_laws.proofs.HoldingLists.{any-kept}
 use Rattle.repo_laws.proofs.Histories.{ticked-later, with_effects-append}
 use Rattle.repo_laws.proofs.Leases.{filter-rising, condemned-rising}
-use Rattle.repo_laws.proofs.Lists.{all-take}
+use Rattle.repo_laws.proofs.Lists.{all-among, all-take, among-has, filter-has}
 use Rattle.repo_laws.proofs.Places.{one-place-kept}
-use Rattle.repo_laws.proofs.Untouched.{among-has, cleared-keeps}
+use Rattle.repo_laws.proofs.Turns.{unlent-has}
+use Rattle.repo_laws.proofs.Untouched.{cleared-keeps}
 
 take-rising : (k : ℕ) (ns : List ℕ) → AreRising ns → AreRising (take k ns)
 take-rising zero ns rising = tt
 take-rising (suc k) [] rising = tt
 take-rising (suc k) (n ∷ ns) rising = (all-take (λ m. n ≤ m) k ns rising.0, take-rising k ns rising.1)
-
-take-length : (k : ℕ) (ns : List ℕ) → length (take k ns) ≤ k
-take-length zero ns = omega arith
-take-length (suc k) [] = omega arith
-take-length (suc k) (n ∷ ns) = omega (arith, take-length k ns)
-
-among-take : (k n : ℕ) (ns : List ℕ) → is_among n (take k ns) ≡ true → is_among n ns ≡ true
-among-take zero n ns among = absurd (false≢true among)
-among-take (suc k) n [] among = absurd (false≢true among)
-among-take (suc k) n (m ∷ ns) among =
-    elim (m == n) as (λ b. (b || is_among n (take k ns)) ≡ true → (b || is_among n ns) ≡ true) [ true ↦ λ _. refl | false ↦ λ later. among-take k n ns later ] among
 
 -- what is taken is the first, or all
 first-taken : (k n : ℕ) (ns : List ℕ) → AreRising ns → is_among n ns ≡ true → (is_among n (take k ns) ≡ true) ⊎ ((length (take k ns) ≡ k) × AllByRecursion (λ m. m ≤ n) (take k ns))
@@ -57,54 +48,23 @@ first-taken (suc k) n (m ∷ ns) rising among =
     ] refl among
 
 among-filter : (q : ℕ → Bool) (n : ℕ) (ns : List ℕ) → is_among n (filter q ns) ≡ true → (is_among n ns ≡ true) × (q n ≡ true)
-among-filter q n [] among = absurd (false≢true among)
-among-filter q n (m ∷ ns) among =
-    elim (q m) as (λ b. q m ≡ b → is_among n (cond b (m ∷ filter q ns) (filter q ns)) ≡ true → ((m == n || is_among n ns) ≡ true) × (q n ≡ true)) [
-      | true ↦ λ passes any.
-          elim (m == n) as (λ b. (m == n) ≡ b → (b || is_among n (filter q ns)) ≡ true → ((b || is_among n ns) ≡ true) × (q n ≡ true)) [
-            | true ↦ λ same _. (refl, ap q (sym (eqb-true m n same)) ∙ passes)
-            | false ↦ λ _ later. among-filter q n ns later
-          ] refl any
-      | false ↦ λ _ any.
-          let rest = among-filter q n ns any in
-          (elim (m == n) as (λ b. (b || is_among n ns) ≡ true) [ true ↦ refl | false ↦ rest.0 ], rest.1)
-    ] refl among
-
-filter-among : (q : ℕ → Bool) (n : ℕ) (ns : List ℕ) → is_among n ns ≡ true → q n ≡ true → is_among n (filter q ns) ≡ true
-filter-among q n [] among passes = absurd (false≢true among)
-filter-among q n (m ∷ ns) among passes =
-    elim (m == n) as (λ b. (m == n) ≡ b → (b || is_among n ns) ≡ true → is_among n (filter q (m ∷ ns)) ≡ true) [
-      | true ↦ λ same _.
-          let keeps : q m ≡ true = ap q (eqb-true m n same) ∙ passes in
-          subst (λ b. is_among n (cond b (m ∷ filter q ns) (filter q ns)) ≡ true) (sym keeps) (subst (λ b. (b || is_among n (filter q ns)) ≡ true) (sym same) refl)
-      | false ↦ λ _ later.
-          let rest = filter-among q n ns later passes in
-          elim (q m) as (λ b. is_among n (cond b (m ∷ filter q ns) (filter q ns)) ≡ true) [
-            | true ↦ elim (m == n) as (λ b. (b || is_among n (filter q ns)) ≡ true) [ true ↦ refl | false ↦ rest ]
-            | false ↦ rest
-          ]
-    ] refl among
+among-filter q n ns = among-has (λ m. (is_among m ns ≡ true) × (q m ≡ true)) n (filter q ns) (filter-has (λ m. is_among m ns ≡ true) q ns (all-among (λ m. m) ns))
 
 module _ (yard : Yard) where
   abbrev unleased : ℕ → Bool
   unleased n = not (list_any (λ (l : Lease). l.blob == n) yard.leases)
 
-  not-so : (b : Bool) → not b ≡ true → b ≡ false
-  not-so true is = absurd (false≢true is)
-  not-so false is = refl
-
-  so-not : (b : Bool) → b ≡ false → not b ≡ true
-  so-not b is = ap not is
-
   pub first-garbage : AreRising yard.condemned → ((n : ℕ) → count_of n yard.condemned ≤ 1) → IsFirstGarbage yard (unlent yard)
   first-garbage rising once =
       let free : List ℕ = filter unleased yard.condemned in (
-        take-length most_collected free,
+        omega (arith, length-take most_collected free),
         take-rising most_collected free (filter-rising unleased yard.condemned rising),
-        λ n. omega (arith, count-take n most_collected free, count-filter (λ m. m == n) unleased yard.condemned, once n),
-        λ n among. let both = among-filter unleased n yard.condemned (among-take most_collected n free among) in (both.0, not-so (list_any (λ (l : Lease). l.blob == n) yard.leases) both.1),
+        λ n. omega (arith, sum_by-take-le (λ (m : ℕ). one_if (m == n)) free most_collected, count-filter (λ m. m == n) unleased yard.condemned, once n),
+        λ n among.
+            let both = among-has (λ m. (is_among m yard.condemned ≡ true) × (unleased m ≡ true)) n (unlent yard) (unlent-has yard) among in
+            (both.0, not-true (list_any (λ (l : Lease). l.blob == n) yard.leases) both.1),
         λ n unlent_so. first-taken most_collected n free (filter-rising unleased yard.condemned rising)
-            (filter-among unleased n yard.condemned unlent_so.0 (so-not (list_any (λ (l : Lease). l.blob == n) yard.leases) unlent_so.1)),
+            (any-kept (λ m. m == n) unleased (λ m is. ap unleased (eqb-true m n is) ∙ ap not unlent_so.1) yard.condemned unlent_so.0),
       )
 
 once-condemned : (s : State) → OnePlace s → (n : ℕ) → count_of n s.yard.condemned ≤ 1

@@ -1,19 +1,18 @@
 -- Behind a commit that is done each staged file is visible with its content, and so is the pom of each release's version directory.
-use Rattle.std.proofs.Common.{◌≡◌, ℕ, true, false, cond, ◌&&◌, ◌||◌, inl, inr, List, [], ◌∷◌, ◌++◌, length, Option, Some, None, refl, sym, ◌∙◌, ap, subst}
+use Rattle.std.proofs.Common.{◌≡◌, ℕ, true, false, ◌&&◌, ◌||◌, inl, inr, List, [], ◌∷◌, ◌++◌, length, Option, Some, None, refl, sym, ◌∙◌, ap, subst}
 use Rattle.std.specs.Prelude.{fold, find, if◌then◌else◌, bytes_eq, IsTrue}
-use Rattle.std.specs.Option.{option_map_or}
 use Rattle.std.specs.List.{AllByRecursion, list_any, flat_map}
-use Rattle.std.proofs.lemmas.Bool.{false≢true}
+use Rattle.std.proofs.lemmas.Bool.{false≢true, and_parts}
 use Rattle.std.proofs.lemmas.Option.{none-some}
 use Rattle.mvn_coords.specs.Layout.{Coordinates, version_directory_of}
 use Rattle.repo_model.specs.declared.print.Print.{Print}
 use Rattle.repo_model.specs.declared.session.SessionResult.{SessionResult}
 use Rattle.repo_model.specs.declared.session.SessionResult.TheVariants.{Done}
-use Rattle.repo_model.specs.Data.{Row, Phase, listed, fading, Hosted, Staged, Session}
+use Rattle.repo_model.specs.Data.{Row, Phase, listed, fading, Staged, Session}
 use Rattle.repo_model.specs.Settings.{Settings}
 use Rattle.repo_model.specs.Paths.{file_at}
 use Rattle.repo_model.specs.Document.{is_listed}
-use Rattle.repo_model.specs.State.{State, change_where, change_first, is_repository, is_row, is_session, is_staged, row_at, rows_of, session_of}
+use Rattle.repo_model.specs.State.{State, change_where, is_row, is_session, is_staged, row_at, rows_of, session_of}
 use Rattle.repo_model.specs.Effect.{Effect, delivers, discards, relists, ends, with_row, new_row, list_again, with_effect, with_effects}
 use Rattle.repo_model.specs.Command.{commit, is_there}
 use Rattle.repo_model.specs.Reply.{ended, offends, missing_pom, no_memory, store_fault, is_free}
@@ -27,27 +26,16 @@ use Rattle.repo_laws.specs.Deployed.{IsVisible, IsVisibleAs, HasItsPom}
 use Rattle.repo_laws.proofs.ByPath.{all-apart}
 use Rattle.repo_laws.proofs.CausesCommit.{none-offends, Bare, bare, so-lacks, has-least}
 use Rattle.repo_laws.proofs.Commits.{Ready, delivered, discarded, relisted, all-same}
+use Rattle.repo_laws.proofs.HoldingLists.{any-one}
 use Rattle.repo_laws.proofs.HoldingRows.{row-new}
-use Rattle.repo_laws.proofs.Lists.{all-then}
+use Rattle.repo_laws.proofs.Lists.{all-then, each-found}
 use Rattle.repo_laws.proofs.Orderly.{found-has, there-as-set}
 use Rattle.repo_laws.proofs.Places.{rows-apart}
+use Rattle.repo_laws.proofs.Purges.{listed-so}
 use Rattle.repo_laws.proofs.Releases.{same_path, is_itself, other_path, with_row-elsewhere, change-elsewhere}
-use Rattle.repo_laws.proofs.Rows.{RowsApart, rows_in, rows-changed}
+use Rattle.repo_laws.proofs.Rows.{RowsApart, rows-changed, rows-there}
 use Rattle.repo_laws.proofs.Stands.{change-there}
 use Rattle.repo_laws.proofs.Turns.{open-too}
-
--- the rows of a repository that is there, once they are changed
-rows-there : (repo : List ℕ) (f : List Row → List Row) (hosted : List Hosted) → list_any (is_repository repo) hosted ≡ true
-    → rows_in repo (change_first (is_repository repo) (λ h. record h { rows = f h.rows }) hosted) ≡ f (rows_in repo hosted)
-rows-there repo f [] there = absurd (false≢true there)
-rows-there repo f (h ∷ hosted) there =
-    let rest = change_first (is_repository repo) (λ (g : Hosted). record g { rows = f g.rows }) hosted in
-    elim (bytes_eq h.rule.id repo)
-    as (λ b. bytes_eq h.rule.id repo ≡ b → (b || list_any (is_repository repo) hosted) ≡ true
-    → rows_in repo (cond b (record h { rows = f h.rows } ∷ hosted) (h ∷ rest)) ≡ f (option_map_or (λ (g : Hosted). g.rows) (cond b (Some h) (find (is_repository repo) hosted)) [])) [
-      | true ↦ λ is _. ap (λ b. option_map_or (λ (g : Hosted). g.rows) (cond b (Some (record h { rows = f h.rows })) (find (is_repository repo) hosted)) []) is
-      | false ↦ λ is later. ap (λ b. option_map_or (λ (g : Hosted). g.rows) (cond b (Some h) (find (is_repository repo) rest)) []) is ∙ rows-there repo f hosted later
-    ] refl there
 
 module _ (grace now : ℕ) (one : Session) (rows : List Row) where
   abbrev there_rows : State → List Row
@@ -154,28 +142,15 @@ module _ (grace now : ℕ) (one : Session) (rows : List Row) where
 
 -- ---- poms
 any-listed : (pom : List ℕ) (rows : List Row) → RowsApart rows → list_any (λ row. is_row pom row && is_listed row.phase) rows ≡ true → IsVisible pom rows
-any-listed pom [] apart any = absurd (false≢true any)
-any-listed pom (r ∷ rows) apart any =
-    elim (bytes_eq r.path pom)
-    as (λ b. bytes_eq r.path pom ≡ b → ((b && is_listed r.phase) || list_any (λ row. is_row pom row && is_listed row.phase) rows) ≡ true
-    → (row : Row) × (cond b (Some r) (row_at pom rows) ≡ Some row) × (row.phase ≡ listed)) [
-      | true ↦ λ is some. by (any-listed pom rows apart.1) r.phase refl is some
-      | false ↦ λ _ later. any-listed pom rows apart.1 later
-    ] refl any where
-      by : (list_any (λ row. is_row pom row && is_listed row.phase) rows ≡ true → IsVisible pom rows) → (phase : Phase) → r.phase ≡ phase → bytes_eq r.path pom ≡ true
-          → (is_listed phase || list_any (λ row. is_row pom row && is_listed row.phase) rows) ≡ true → (row : Row) × (Some r ≡ Some row) × (row.phase ≡ listed)
-      by rest listed phase_is is some = (r, refl, phase_is)
-      by rest (fading since) phase_is is some =
-          let (row, found, _) = rest some in
-          absurd (none-some row (sym (subst (λ (p : List ℕ). row_at p rows ≡ None) (same_path r.path pom is) apart.0) ∙ found))
+any-listed pom rows apart any =
+    let (row, is, found) = any-one (λ (r : Row). row_at r.path rows ≡ Some r) (λ row. is_row pom row && is_listed row.phase) rows (each-found rows apart) any in
+    let (here, shown) = and_parts (is_row pom row) (is_listed row.phase) is in
+    (row, subst (λ (p : List ℕ). row_at p rows ≡ Some row) (same_path row.path pom here) found, listed-so row.phase shown)
 
 staged-visible : (pom : List ℕ) (rows : List Row) (files : List Staged) → AllByRecursion (λ (file : Staged). IsVisibleAs file.path file.blob.print rows) files → list_any (is_staged pom) files ≡ true → IsVisible pom rows
-staged-visible pom rows [] all any = absurd (false≢true any)
-staged-visible pom rows (file ∷ files) all any =
-    elim (is_staged pom file) as (λ b. is_staged pom file ≡ b → (b || list_any (is_staged pom) files) ≡ true → IsVisible pom rows) [
-      | true ↦ λ is _. let (row, found, phase, _) = all.0 in (row, subst (λ (p : List ℕ). row_at p rows ≡ Some row) (same_path file.path pom is) found, phase)
-      | false ↦ λ _ later. staged-visible pom rows files all.1 later
-    ] refl any
+staged-visible pom rows files all any =
+    let (file, is, (row, found, phase, _)) = any-one (λ (f : Staged). IsVisibleAs f.path f.blob.print rows) (is_staged pom) files all any in
+    (row, subst (λ (p : List ℕ). row_at p rows ≡ Some row) (same_path file.path pom is) found, phase)
 
 least-some : (texts : List (List ℕ)) (text : List ℕ) → AnyByRecursion (λ (other : List ℕ). other ≡ text) texts → fold least None texts ≡ None → ⊥
 least-some [] text among none = among

@@ -1,6 +1,6 @@
 -- A draft serves once: it stands until a command that names it gives it up, and is never drawn again.
 use native.Mathlib.Omega.{arith}
-use Rattle.std.proofs.Common.{◌≡◌, ℕ, ◌<◌, Bool, true, false, not, cond, ◌&&◌, ◌||◌, List, [], ◌∷◌, ◌++◌, length, refl, sym, ◌∙◌, ap, subst, eqb-true, Option, None, Some, Result, Ok, Err}
+use Rattle.std.proofs.Common.{◌≡◌, ℕ, ◌<◌, Bool, true, false, not, ◌&&◌, ◌||◌, List, [], ◌∷◌, ◌++◌, length, refl, sym, ◌∙◌, ap, subst, eqb-true, Option, None, Some, Result, Ok}
 use Rattle.std.specs.Prelude.{◌==◌, IsTrue, if◌then◌else◌, is_some}
 use Rattle.std.specs.List.{AllByRecursion, list_any}
 use Rattle.std.proofs.lemmas.Bool.{false≢true, ne_eqb, eq-eqb, and_parts, or_left, or_right}
@@ -10,7 +10,7 @@ use Rattle.repo_model.specs.Data.{Blob, Row}
 use Rattle.repo_model.specs.Settings.{Settings}
 use Rattle.repo_model.specs.Paths.{takes}
 use Rattle.repo_model.specs.State.{State, rows_of, is_among, row_at, files_of}
-use Rattle.repo_model.specs.Effect.{Effect, draws, drops, creates, stages, relists, without_number, with_effect, with_effects, caches, clears_mark, marks_missing, keeps_doc}
+use Rattle.repo_model.specs.Effect.{Effect, draws, drops, creates, stages, relists, without_number, with_effect, with_effects, caches, clears_mark, marks_missing}
 use Rattle.repo_model.specs.Purge.{expire_all}
 use Rattle.repo_model.specs.Command.{Command, put, stage, drop_draft, land, meets, is_fit, is_parcel, rule_of, is_file_path, is_landing, proxy_rule_of}
 use Rattle.repo_model.specs.Reply.{draft, no_draft, dropped, is_free, takes_memory, Reply, fetches}
@@ -18,19 +18,19 @@ use Rattle.repo_model.specs.Turn.{Turn, turn, unlent, gives_draft_up, lands_file
 use Rattle.repo_model.specs.History.{Entry, IsReply, due, wants_memory, failed, Fits, ticked, commits, effects_of, after, Legal}
 use Rattle.repo_laws.specs.Laws.{count_of}
 use Rattle.repo_laws.specs.Replies.{uses_draft, leaves_drafts, spends, is_under, GivesDraft}
-use Rattle.repo_laws.proofs.Counts.{one_if, count-push, count-filter, count-without_number}
-use Rattle.repo_laws.proofs.Given.{not-among-counts}
-use Rattle.repo_laws.proofs.Making.{Bulk, deploys-made, aborts-made, unlists-made, collects-made}
+use Rattle.repo_laws.proofs.Counts.{one_if, count-push, count-filter, count-without_number, none-counts}
+use Rattle.repo_laws.proofs.HoldingLists.{any-kept}
+use Rattle.repo_laws.proofs.Making.{is_bulk, deploys-made, aborts-made, unlists-made, collects-made}
 use Rattle.repo_laws.proofs.Answered.{free-none, reply-determined, state-determined}
 use Rattle.repo_laws.proofs.Cases.{Case, lends_file, takes_back, gives_draft, not_drawn, makes_row, has_same, lists_again, has_other, gives_up, gives_nothing_up, opens_one, stage_not_drawn, stage_nowhere, stages_one, stage_full, stage_same, stage_other, deploys, aborts, unlists, collects, turn-case, plans_file, lands_one, lands_late, plans_document}
 use Rattle.std.proofs.lemmas.Option.{none-some}
 use Rattle.mvn_coords.specs.Kind.{kind}
 use Rattle.mvn_coords.specs.declared.kind.Kind.{Kind}
-use Rattle.mvn_coords.specs.declared.kind.Kind.TheVariants.{File, FileSide, Doc, DocSide}
+use Rattle.mvn_coords.specs.declared.kind.Kind.TheVariants.{File, Doc}
 use Rattle.mvn_coords.specs.declared.fault.PathFault.{PathFault}
 use Rattle.mvn_metadata.specs.Document.{Document}
 use Rattle.fetch_plan.specs.declared.Plan.{Plan}
-use Rattle.fetch_plan.specs.declared.Outcome.TheVariants.{Got, Gone as Missing, Refused, NoChecksum, Differs, TooLarge, BadAnswer, BadDocument, Fault}
+use Rattle.fetch_plan.specs.declared.Outcome.TheVariants.{Got, Gone as Missing}
 use Rattle.repo_model.specs.Fetched.{Landing, got_file, got_doc}
 
 -- it stands among no drafts once these effects are made
@@ -51,29 +51,19 @@ module _ (settings : Settings) where
 -- a file that lands has the number of its draft
 landed-is : (k : Result Kind PathFault) (under : Option ℕ) (n : ℕ) (blob : Blob) → is_landing k under (Got (got_file blob)) ≡ true → under ≡ Some n → blob.number ≡ n
 landed-is (Ok (File c)) (Some m) n blob landing is = let same : m ≡ n = cc in of-parcel m blob landing ∙ same
-landed-is (Ok (File c)) None n blob landing is = absurd (false≢true landing)
-landed-is (Ok (Doc d)) None n blob landing is = absurd (false≢true landing)
 landed-is (Ok (Doc d)) (Some m) n blob landing is = absurd (false≢true landing)
-landed-is (Ok (FileSide c side)) under n blob landing is = absurd (false≢true landing)
-landed-is (Ok (DocSide d side)) under n blob landing is = absurd (false≢true landing)
-landed-is (Err fault) under n blob landing is = absurd (false≢true landing)
+landed-is k under n blob landing is = absurd (false≢true landing)
 
 -- and none lands without one
 no-file-under : (k : Result Kind PathFault) (blob : Blob) → is_landing k None (Got (got_file blob)) ≡ true → ⊥
 no-file-under (Ok (File c)) blob landing = false≢true landing
-no-file-under (Ok (Doc d)) blob landing = false≢true landing
-no-file-under (Ok (FileSide c side)) blob landing = false≢true landing
-no-file-under (Ok (DocSide d side)) blob landing = false≢true landing
-no-file-under (Err fault) blob landing = false≢true landing
+no-file-under k blob landing = false≢true landing
 
 -- no document lands under a draft
 no-draft-of : (k : Result Kind PathFault) (under : Option ℕ) (n : ℕ) (document : Document) → is_landing k under (Got (got_doc document)) ≡ true → under ≡ Some n → ⊥
-no-draft-of (Ok (File c)) (Some m) n document landing is = false≢true landing
-no-draft-of (Ok (Doc d)) (Some m) n document landing is = false≢true landing
-no-draft-of (Ok (FileSide c side)) under n document landing is = false≢true landing
-no-draft-of (Ok (DocSide d side)) under n document landing is = false≢true landing
-no-draft-of (Err fault) under n document landing is = false≢true landing
 no-draft-of k None n document landing is = none-some n is
+no-draft-of (Ok (File c)) (Some m) n document landing is = false≢true landing
+no-draft-of k (Some m) n document landing is = false≢true landing
 
 under-is : (n : ℕ) (under : Option ℕ) → is_under n under ≡ true → under ≡ Some n
 under-is n None is = absurd (false≢true is)
@@ -96,7 +86,7 @@ module _ (settings : Settings) (s : State) (now : ℕ) (t : State) (same : t.yar
   taken-out n m is = subst (λ k. count_of k (with_effect t (drops m)).yard.drafts ≡ 0) is (count-without_number m t.yard.drafts)
 
   never : (n m : ℕ) → m ≡ n → is_among m s.yard.drafts ≡ false → count_of n t.yard.drafts ≡ 0
-  never n m is none = subst (λ k. count_of k t.yard.drafts ≡ 0) is (ap (count_of m) same ∙ not-among-counts m s.yard.drafts none)
+  never n m is none = subst (λ k. count_of k t.yard.drafts ≡ 0) is (ap (count_of m) same ∙ none-counts (λ (k : ℕ). k == m) s.yard.drafts none)
 
   up-gone : (u : State) (under : Option ℕ) (n : ℕ) → under ≡ Some n → Gone n u (gives_draft_up under)
   up-gone u None n is = absurd (none-some n is)
@@ -110,13 +100,7 @@ module _ (settings : Settings) (s : State) (now : ℕ) (t : State) (same : t.yar
   lands-gone plan (Got (got_file blob)) n landing is = file-gone plan blob n (row_at plan.path (files_of plan.proxy s)) is (landed-is (kind plan.path) plan.draft n blob landing is)
   lands-gone plan (Got (got_doc document)) n landing is = absurd (no-draft-of (kind plan.path) plan.draft n document landing is)
   lands-gone plan Missing n landing is = up-gone (with_effect t (marks_missing plan.proxy plan.path now)) plan.draft n is
-  lands-gone plan (Refused status) n landing is = up-gone t plan.draft n is
-  lands-gone plan NoChecksum n landing is = up-gone t plan.draft n is
-  lands-gone plan (Differs said found) n landing is = up-gone t plan.draft n is
-  lands-gone plan TooLarge n landing is = up-gone t plan.draft n is
-  lands-gone plan (BadAnswer at) n landing is = up-gone t plan.draft n is
-  lands-gone plan (BadDocument at) n landing is = up-gone t plan.draft n is
-  lands-gone plan Fault n landing is = up-gone t plan.draft n is
+  lands-gone plan outcome n landing is = up-gone t plan.draft n is
 
   late-gone : (under : Option ℕ) (n : ℕ) → under ≡ Some n → is_drawn under s.yard.drafts ≡ false → count_of n t.yard.drafts ≡ 0
   late-gone None n is none = absurd (none-some n is)
@@ -198,18 +182,8 @@ abbrev Untaken : ℕ → Effect → Type 0
 Untaken n e = takes_draft n e ≡ false
 
 stays-among : (n m : ℕ) (ns : List ℕ) → (m == n) ≡ false → is_among n ns ≡ true → is_among n (without_number m ns) ≡ true
-stays-among n m [] other among = absurd (false≢true among)
-stays-among n m (k ∷ ks) other among =
-    elim (k == m) as (λ b. (k == m) ≡ b → is_among n (cond (not b) (k ∷ without_number m ks) (without_number m ks)) ≡ true) [
-      | true ↦ λ is.
-          let apart : (k == n) ≡ false = ap (λ i. i == n) (eqb-true k m is) ∙ other in
-          stays-among n m ks other (sym (ap (λ b. b || is_among n ks) apart) ∙ among)
-      | false ↦ λ _.
-          elim (k == n) as (λ b. (b || is_among n ks) ≡ true → (b || is_among n (without_number m ks)) ≡ true) [
-            | true ↦ λ _. refl
-            | false ↦ λ later. stays-among n m ks other later
-          ] among
-    ] refl
+stays-among n m ns other =
+    any-kept (λ k. k == n) (λ k. not (k == m)) (λ k is. ap not (ap (λ i. i == m) (eqb-true k n is) ∙ ne_eqb n m (λ same. false≢true (sym other ∙ eq-eqb m n (sym same))))) ns
 
 still : (s : State) (e : Effect) (n : ℕ) → Untaken n e → is_among n s.yard.drafts ≡ true → is_among n (with_effect s e).yard.drafts ≡ true
 still s draws n untaken among =
@@ -224,15 +198,12 @@ all-still : (es : List Effect) (s : State) (n : ℕ) → AllByRecursion (Untaken
 all-still [] s n untaken among = among
 all-still (e ∷ es) s n untaken among = all-still es (with_effect s e) n untaken.1 (still s e n untaken.0 among)
 
-many-untaken : (n : ℕ) → Bulk (Untaken n)
-many-untaken n = record {
-  delivers_so = λ m repo path blob moment. refl;
-  discards_so = λ m path d. refl;
-  relists_so = λ repo path moment. refl;
-  fades_so = λ repo path moment. refl;
-  expires_so = λ repo path blob. refl;
-  ends_so = λ m result. refl;
-}
+many-untaken : (n : ℕ) (e : Effect) → is_bulk e ≡ true → Untaken n e
+many-untaken n (drops m) is = absurd (false≢true is)
+many-untaken n (creates repo path blob moment) is = absurd (false≢true is)
+many-untaken n (stages at path blob) is = absurd (false≢true is)
+many-untaken n (caches id path blob moment) is = absurd (false≢true is)
+many-untaken n e is = refl
 
 -- what lands takes no draft but its own
 other-up : (n : ℕ) (under : Option ℕ) → is_under n under ≡ false → AllByRecursion (Untaken n) (gives_draft_up under)
@@ -252,13 +223,7 @@ other-lands n s now plan (Got (got_file blob)) landing other =
     other-file n now plan blob (row_at plan.path (files_of plan.proxy s)) other (other-number (kind plan.path) plan.draft n blob landing other)
 other-lands n s now plan (Got (got_doc document)) landing other = (refl, (refl, tt))
 other-lands n s now plan Missing landing other = (refl, other-up n plan.draft other)
-other-lands n s now plan (Refused status) landing other = other-up n plan.draft other
-other-lands n s now plan NoChecksum landing other = other-up n plan.draft other
-other-lands n s now plan (Differs said found) landing other = other-up n plan.draft other
-other-lands n s now plan TooLarge landing other = other-up n plan.draft other
-other-lands n s now plan (BadAnswer at) landing other = other-up n plan.draft other
-other-lands n s now plan (BadDocument at) landing other = other-up n plan.draft other
-other-lands n s now plan Fault landing other = other-up n plan.draft other
+other-lands n s now plan outcome landing other = other-up n plan.draft other
 
 unused : (b : Bool) → (b && true) ≡ false → b ≡ false
 unused true is = is

@@ -5,17 +5,17 @@ use Rattle.std.proofs.lemmas.Bool.{false≢true}
 use Rattle.mvn_coords.specs.Kind.{kind}
 use Rattle.repo_model.specs.Data.{repository, session}
 use Rattle.repo_model.specs.Settings.{Settings}
-use Rattle.repo_model.specs.State.{State, rows_of, session_of, open_of, is_among}
+use Rattle.repo_model.specs.State.{State, session_of, open_of, is_among}
 use Rattle.repo_model.specs.Command.{Command, look, may_put, put, put_side, put_doc, open_session, stage, commit, abort, collect, land}
 use Rattle.repo_model.specs.Effect.{recorded, Effect}
-use Rattle.repo_model.specs.Reply.{Reply, noted, no_session, created, relisted, opened, ended, unlisted, collected, no_memory, is_free, landed, no_draft}
-use Rattle.repo_model.specs.Turn.{Turn, turn, seen_at, says, is_drawn, lands}
+use Rattle.repo_model.specs.Reply.{Reply, missed, noted, no_session, no_memory, is_free, landed, no_draft}
+use Rattle.repo_model.specs.Turn.{Turn, turn, says, is_drawn, lands}
 use Rattle.repo_model.specs.History.{Entry, IsReply, due, wants_memory, failed, Fits, is_collect, commits}
 use Rattle.repo_laws.specs.Causes.{Cause, DocRefused, LandRefused}
 use Rattle.repo_laws.specs.Holds.{can_record}
 use Rattle.repo_laws.specs.Replies.{is_refusal}
 use Rattle.repo_laws.proofs.Answered.{reply-determined}
-use Rattle.repo_laws.proofs.Cases.{Case, takes_back, gives_up, gives_nothing_up, unlists_nothing, unlists, collects, tells, turn-case}
+use Rattle.repo_laws.proofs.Cases.{Case, misses, turn-case}
 use Rattle.repo_laws.proofs.HoldingTurns.{refused-quiet}
 use Rattle.repo_laws.proofs.CausesPut.{no-refusal, look-caused, look-refused, may_put-caused, may_put-refused, put-caused, put-refused}
 use Rattle.repo_laws.proofs.CausesSession.{may_stage-caused, may_stage-refused, side-caused, side-refused, staged_side-caused, staged_side-refused, doc-caused, doc-refused, open-caused, open-refused, stage-caused, stage-refused}
@@ -55,14 +55,8 @@ is_refusable c = false
 module _ (settings : Settings) (s : State) (now : ℕ) where
   -- no other command is
   case-refusable : (c : Command) (t : Turn) → Case settings s now c t → is_refusal t.reply ≡ true → is_refusable c ≡ true
-  case-refusable c t (takes_back lease) refused = absurd (false≢true refused)
-  case-refusable c t (gives_up n among) refused = absurd (false≢true refused)
-  case-refusable c t (gives_nothing_up n none) refused = absurd (false≢true refused)
-  case-refusable c t (unlists_nothing repo) refused = absurd (false≢true refused)
-  case-refusable c t (unlists repo h is) refused = absurd (false≢true refused)
-  case-refusable c t collects refused = absurd (false≢true refused)
-  case-refusable c t (tells question) refused = absurd (false≢true refused)
-  case-refusable c t case refused = refl
+  case-refusable c t (misses repo path tried) refused = refl
+  case-refusable c t case refused = cc
 
   caused : (c : Command) (r : Reply) → is_refusal r ≡ true → (turn settings s now c).reply ≡ r → Cause settings s now c r
   caused (look repo path tried) r refused is = look-caused settings s now repo path tried r refused is
@@ -104,14 +98,8 @@ module _ (settings : Settings) (s : State) (now : ℕ) where
 
 -- ---- entries
 refusal-quiet : (r : Reply) → is_refusal r ≡ true → can_record r ≡ false
-refusal-quiet created refused = absurd (false≢true refused)
-refusal-quiet relisted refused = absurd (false≢true refused)
-refusal-quiet (opened n) refused = absurd (false≢true refused)
-refusal-quiet (ended result) refused = absurd (false≢true refused)
-refusal-quiet (unlisted n) refused = absurd (false≢true refused)
-refusal-quiet (collected expired blobs) refused = absurd (false≢true refused)
-refusal-quiet landed refused = absurd (false≢true refused)
-refusal-quiet r refused = refl
+refusal-quiet missed refused = refl
+refusal-quiet r refused = cc
 
 caused-elsewhere : (settings : Settings) (s : State) (now : ℕ) (c : Command) (r : Reply) → Cause settings s now c r → is_collect c ≡ false
 caused-elsewhere settings s now collect r cause = absurd cause

@@ -1,57 +1,38 @@
 -- A number that was given out counts as standing in one more place: it was condemned, and is so no longer.
 use native.Mathlib.Omega.{arith}
-use Rattle.std.proofs.Common.{◌≡◌, ◌≤◌, ◌<◌, ◌+◌, ℕ, Bool, true, false, not, List, [], ◌∷◌, ◌++◌, map, take, zero, suc, refl, ◌∙◌, ap, subst}
+use Rattle.std.proofs.Common.{◌≡◌, ◌≤◌, ◌<◌, ◌+◌, ℕ, Bool, true, false, not, List, [], ◌∷◌, refl, ◌∙◌, ap, subst}
 use Rattle.std.specs.Prelude.{◌==◌, nat_lt, filter}
-use Rattle.std.specs.List.{AllByRecursion, list_any, flat_map}
-use Rattle.std.proofs.lemmas.Bool.{or_parts, ltb-true, ltb-false}
-use Rattle.repo_model.specs.Data.{Row, Hosted}
+use Rattle.std.specs.List.{AllByRecursion, list_any}
+use Rattle.std.proofs.lemmas.Bool.{ltb-true, ltb-false}
+use Rattle.std.proofs.lemmas.List.Sums.{sum_by-append, sum_by-take-le}
+use Rattle.repo_model.specs.Data.{Hosted}
 use Rattle.repo_model.specs.Settings.{Settings}
 use Rattle.repo_model.specs.State.{State, Yard, Lease, is_among}
-use Rattle.repo_model.specs.Effect.{Effect, expires, forgets, with_effect, with_effects}
-use Rattle.repo_model.specs.Purge.{expire_all, expired_of, is_over, most_rows}
+use Rattle.repo_model.specs.Effect.{Effect, forgets, with_effect, with_effects}
+use Rattle.repo_model.specs.Purge.{expire_all}
 use Rattle.repo_model.specs.Turn.{most_collected, unlent}
 use Rattle.repo_model.specs.History.{Entry, Fits, after, Legal, end}
 use Rattle.repo_laws.specs.Laws.{places_of, count_of}
 use Rattle.repo_laws.specs.Sound.{AreNamedApart, Sound, OnePlace}
 use Rattle.repo_laws.specs.Closed.{given_out, all_given_out}
 use Rattle.repo_laws.proofs.ByPath.{all-apart}
-use Rattle.repo_laws.proofs.Counts.{one_if, count-cons, count-filter, among-counts}
+use Rattle.repo_laws.proofs.Counts.{one_if, count-filter, among-counts, none-counts}
 use Rattle.repo_laws.proofs.Places.{is_draw, one-place-kept, places-counted, next-counted, never-again}
-use Rattle.repo_laws.proofs.Lists.{all-take}
+use Rattle.repo_laws.proofs.Making.{expired-all}
 use Rattle.repo_laws.proofs.Histories.{entry-keeps, sound-entry, one-place-entry}
 use Rattle.repo_laws.proofs.Untouched.{count-forgotten, only-collect, collects, cleared, cleared-keeps}
-
-pub count-append : (n : ℕ) (ms ks : List ℕ) → count_of n (ms ++ ks) ≡ count_of n ms + count_of n ks
-count-append n [] ks = omega arith
-count-append n (m ∷ ms) ks =
-    let is : ℕ → Bool = λ i. i == n in
-    omega (arith, count-cons is m (ms ++ ks), count-cons is m ms, count-append n ms ks)
-
-pub count-take : (n k : ℕ) (ms : List ℕ) → count_of n (take k ms) ≤ count_of n ms
-count-take n zero ms = omega arith
-count-take n (suc k) [] = omega arith
-count-take n (suc k) (m ∷ ms) =
-    let is : ℕ → Bool = λ i. i == n in
-    omega (arith, count-cons is m (take k ms), count-cons is m ms, count-take n k ms)
-
-pub not-among-counts : (n : ℕ) (ms : List ℕ) → is_among n ms ≡ false → count_of n ms ≡ 0
-not-among-counts n [] none = refl
-not-among-counts n (m ∷ ms) none =
-    let (here, later) = or_parts (m == n) (is_among n ms) none in
-    let zero_here : one_if (m == n) ≡ 0 = ap one_if here in
-    omega (arith, count-cons (λ i. i == n) m ms, zero_here, not-among-counts n ms later)
 
 count-unlent : (n : ℕ) (yard : Yard) → count_of n (unlent yard) ≤ count_of n yard.condemned
 count-unlent n yard =
     let unleased : ℕ → Bool = λ m. not (list_any (λ (l : Lease). l.blob == m) yard.leases) in
-    omega (arith, count-take n most_collected (filter unleased yard.condemned), count-filter (λ m. m == n) unleased yard.condemned)
+    omega (arith, sum_by-take-le (λ (m : ℕ). one_if (m == n)) (filter unleased yard.condemned) most_collected, count-filter (λ m. m == n) unleased yard.condemned)
 
 -- what is given out was condemned
 forgets-counted : (t : State) (n : ℕ) → places_of (with_effect t (forgets (unlent t.yard))) n + count_of n (unlent t.yard) ≤ places_of t n
 forgets-counted t n =
     elim (is_among n (unlent t.yard)) as (λ b. is_among n (unlent t.yard) ≡ b → places_of (with_effect t (forgets (unlent t.yard))) n + count_of n (unlent t.yard) ≤ places_of t n) [
       | true ↦ λ among. omega (arith, count-forgotten n (unlent t.yard) t.yard.condemned among, count-unlent n t.yard)
-      | false ↦ λ none. omega (arith, not-among-counts n (unlent t.yard) none, count-filter (λ m. m == n) (λ m. not (is_among m (unlent t.yard))) t.yard.condemned)
+      | false ↦ λ none. omega (arith, none-counts (λ (m : ℕ). m == n) (unlent t.yard) none, count-filter (λ m. m == n) (λ m. not (is_among m (unlent t.yard))) t.yard.condemned)
     ] refl
 
 -- the next number is the same where none is drawn
@@ -62,15 +43,7 @@ next-same (e ∷ es) s none =
     omega (arith, next-counted s e, zero_here, next-same es (with_effect s e) none.1)
 
 expire-draws-none : (grace now : ℕ) (hosted : List Hosted) → AllByRecursion (λ e. is_draw e ≡ false) (expire_all grace now hosted)
-expire-draws-none grace now hosted = all-take (λ e. is_draw e ≡ false) most_rows (flat_map (expired_of grace now) hosted) (of-all hosted) where
-  of-rows : (id : List ℕ) (rows : List Row) (es : List Effect) → AllByRecursion (λ e. is_draw e ≡ false) es
-      → AllByRecursion (λ e. is_draw e ≡ false) (map (λ (row : Row). expires id row.path row.blob.number) rows ++ es)
-  of-rows id [] es none = none
-  of-rows id (row ∷ rows) es none = (refl, of-rows id rows es none)
-
-  of-all : (hosted : List Hosted) → AllByRecursion (λ e. is_draw e ≡ false) (flat_map (expired_of grace now) hosted)
-  of-all [] = tt
-  of-all (h ∷ hosted) = of-rows h.rule.id (filter (λ (row : Row). is_over grace now row.phase) h.rows) (flat_map (expired_of grace now) hosted) (of-all hosted)
+expire-draws-none = expired-all (λ e. is_draw e ≡ false) (λ repo path blob. refl)
 
 module _ (settings : Settings) (apart : AreNamedApart settings.hosted) where
   -- a number that was drawn stands in no more places than it did
@@ -85,7 +58,7 @@ module _ (settings : Settings) (apart : AreNamedApart settings.hosted) where
   given-counted s e n fits sound placed drawn =
       elim (is_among n (given_out e.command e.reply))
       as (λ b. is_among n (given_out e.command e.reply) ≡ b → places_of (after settings s e) n + count_of n (given_out e.command e.reply) ≤ places_of s n) [
-        | false ↦ λ none. omega (arith, not-among-counts n (given_out e.command e.reply) none, (fewer-places s e n fits sound drawn).1)
+        | false ↦ λ none. omega (arith, none-counts (λ (m : ℕ). m == n) (given_out e.command e.reply) none, (fewer-places s e n fits sound drawn).1)
         | true ↦ λ among.
             let is_collect = only-collect n e.command e.reply among in
             let t : State = cleared settings apart s e in
@@ -104,13 +77,13 @@ module _ (settings : Settings) (apart : AreNamedApart settings.hosted) where
   given-through (e ∷ entries) s n sound placed legal drawn =
       let rest = given-through entries (after settings s e) n (sound-entry settings apart s e legal.0 sound) (one-place-entry settings apart s e legal.0 sound placed) legal.1
       (fewer-places s e n legal.0 sound drawn).0 in
-      omega (arith, count-append n (given_out e.command e.reply) (all_given_out entries), rest, given-counted s e n legal.0 sound placed drawn)
+      omega (arith, sum_by-append (λ (m : ℕ). one_if (m == n)) (given_out e.command e.reply) (all_given_out entries), rest, given-counted s e n legal.0 sound placed drawn)
 
   -- a number that is not drawn yet is not given out
   not-yet : (s : State) (e : Entry) (n : ℕ) → Fits settings s e → Sound settings s → OnePlace s → s.yard.next_draft ≤ n → count_of n (given_out e.command e.reply) ≡ 0
   not-yet s e n fits sound placed later =
       elim (is_among n (given_out e.command e.reply)) as (λ b. is_among n (given_out e.command e.reply) ≡ b → count_of n (given_out e.command e.reply) ≡ 0) [
-        | false ↦ λ none. not-among-counts n (given_out e.command e.reply) none
+        | false ↦ λ none. none-counts (λ (m : ℕ). m == n) (given_out e.command e.reply) none
         | true ↦ λ among.
             let is_collect = only-collect n e.command e.reply among in
             let t : State = cleared settings apart s e in
@@ -132,5 +105,5 @@ module _ (settings : Settings) (apart : AreNamedApart settings.hosted) where
             omega (arith, given-through (e ∷ entries) s n sound placed legal before, placed.drawn n before)
         | false ↦ λ is.
             let rest = one-place-or-given entries (after settings s e) n (sound-entry settings apart s e legal.0 sound) (one-place-entry settings apart s e legal.0 sound placed) legal.1 drawn in
-            omega (arith, count-append n (given_out e.command e.reply) (all_given_out entries), rest, not-yet s e n legal.0 sound placed (ltb-false n s.yard.next_draft is))
+            omega (arith, sum_by-append (λ (m : ℕ). one_if (m == n)) (given_out e.command e.reply) (all_given_out entries), rest, not-yet s e n legal.0 sound placed (ltb-false n s.yard.next_draft is))
       ] refl

@@ -1,8 +1,8 @@
 -- Tables that hold a state hold it after each effect and its item, after each entry, and through histories.
 use native.Mathlib.Omega.{arith}
-use Rattle.std.proofs.Common.{◌≡◌, ◌≤◌, ◌<◌, ◌+◌, ℕ, true, false, not, cond, ◌&&◌, List, [], ◌∷◌, ◌++◌, map, length, Option, Some, None, Ok, Err, refl, sym, ◌∙◌, ap, subst}
-use Rattle.std.specs.Prelude.{◌==◌, nat_lt, IsTrue, find, is_none, bytes_eq, if◌then◌else◌}
-use Rattle.std.specs.Option.{option_map, option_map_or}
+use Rattle.std.proofs.Common.{◌≡◌, ◌≤◌, ◌<◌, ◌+◌, ℕ, true, false, not, ◌&&◌, List, [], ◌∷◌, ◌++◌, map, length, Option, None, Ok, Err, refl, sym, ◌∙◌, ap, subst}
+use Rattle.std.specs.Prelude.{◌==◌, nat_lt, IsTrue, is_none, if◌then◌else◌}
+use Rattle.std.specs.Option.{option_map}
 use Rattle.std.specs.List.{list_any}
 use Rattle.std.proofs.lemmas.Bool.{false≢true, and_from, eq-eqb, lt-ltb, false_from_ne_true}
 use Rattle.std.proofs.lemmas.List.Sums.{fold-append}
@@ -10,10 +10,10 @@ use Rattle.outside.specs.Moments.{Moments}
 use Rattle.repo_model.specs.declared.item.Item.{Item}
 use Rattle.repo_model.specs.declared.item.Item.TheVariants.{HostedPut, Faded, Relisted, Removed, CachedFile}
 use Rattle.repo_model.specs.declared.session.SessionResult.{SessionResult}
-use Rattle.repo_model.specs.Data.{Blob, Hosted}
+use Rattle.repo_model.specs.Data.{Blob, Hosted, Proxy}
 use Rattle.repo_model.specs.Document.{is_listed}
 use Rattle.repo_model.specs.Paths.{is_snapshot_path}
-use Rattle.repo_model.specs.Settings.{Rule, Settings}
+use Rattle.repo_model.specs.Settings.{Settings}
 use Rattle.repo_model.specs.Prints.{recorded_print}
 use Rattle.repo_model.specs.State.{State, opening, new_hosted, is_repository, is_staged, is_open_at, row_at, rows_of, new_proxy}
 use Rattle.repo_model.specs.Effect.{Effect, draws, drops, creates, stages, delivers, discards, relists, fades, expires, forgets, lends, returns, opens, ends, with_staged, without_staged, list_again, fade, with_effect, with_effects, items_of, recorded, caches, keeps_doc, marks_missing, clears_mark, proxy_after}
@@ -21,25 +21,25 @@ use Rattle.repo_model.specs.May.{May, AllMay}
 use Rattle.repo_model.specs.Reply.{is_free}
 use Rattle.repo_model.specs.Turn.{turn}
 use Rattle.repo_model.specs.History.{Entry, Fits, Legal, ticked, effects_of, after, end}
-use Rattle.repo_model.specs.Tables.{Tables, RecordedRow, RecordedSession, no_tables, recorded_at, recorded_row, is_recorded, names_blob, is_fading_row, is_listed_row, is_open_session, moment_of, item_on, fits_on, applied_from, applied}
+use Rattle.repo_model.specs.Tables.{Tables, RecordedRow, RecordedDocument, RecordedSession, no_tables, recorded_at, recorded_row, is_recorded, names_blob, is_fading_row, is_listed_row, is_open_session, moment_of, item_on, fits_on, applied_from, applied}
 use Rattle.repo_laws.specs.Laws.{rows_with, cached_with, without_bytes}
 use Rattle.repo_laws.specs.Sound.{AreNamedApart, Sound, OnePlace}
 use Rattle.repo_laws.specs.Numbered.{Numbered}
 use Rattle.repo_laws.specs.Holds.{InOrder, Holds, StandsFor, named_in, loose_in, with_items, told}
-use Rattle.repo_laws.proofs.Counts.{one_if, among-counts, given-up, count-with_number, found-goes, staged-counted, stages_it}
-use Rattle.repo_laws.proofs.Rows.{rows_in}
+use Rattle.repo_laws.proofs.Counts.{one_if, among-counts, given-up, count-with_number, count-with_recorded, found-goes, staged-counted, stages_it}
+use Rattle.repo_laws.proofs.Rows.{all-part}
 use Rattle.repo_laws.proofs.ByPath.{all-apart}
 use Rattle.repo_laws.proofs.Places.{one-place-kept}
 use Rattle.repo_laws.proofs.Orderly.{sound-kept}
 use Rattle.repo_laws.proofs.Lists.{all-then, all-list_all}
 use Rattle.repo_laws.proofs.Histories.{all-keep, entry-may, sound-entry, sound-ticked, moment-rises, one-place-entry, one-place-ticked}
-use Rattle.repo_laws.proofs.HoldingLists.{count-same, all-filter}
-use Rattle.repo_laws.proofs.HoldingOrder.{ordered-kept, count-with_recorded}
+use Rattle.repo_laws.proofs.HoldingLists.{all-filter, all-map, found-any}
+use Rattle.repo_laws.proofs.HoldingOrder.{all-with_document, changed-count, ordered-kept}
 use Rattle.repo_laws.proofs.HoldingRows.{RowsHeld, held-new, held-changed, held-gone, recorded-row}
-use Rattle.repo_laws.proofs.HoldingSessions.{SessionsHeld, numbered-kept, open-there, sessions-staged, sessions-opened, sessions-ended, all-below-next}
-use Rattle.repo_laws.proofs.HoldingBlobs.{BlobsHeld, MomentsHeld, named-counts, counts-named, blobs-new, blobs-same, blobs-gone, loose-kept, moments-all, all-moments, moments-new, moments-relisted, moments-faded, row-gone, moments-document}
+use Rattle.repo_laws.proofs.HoldingSessions.{SessionsHeld, numbered-kept, sessions-staged, sessions-opened, sessions-ended, all-below-next}
+use Rattle.repo_laws.proofs.HoldingBlobs.{BlobsHeld, MomentsHeld, named-counts, counts-named, blobs-new, blobs-same, blobs-gone, loose-kept, moments-all, all-moments, moments-new, moments-relisted, moments-faded, row-gone}
 use Rattle.repo_laws.specs.Files.{FilesHeld, DocumentsHeld}
-use Rattle.repo_laws.proofs.HoldingFiles.{files-held-kept, documents-held-kept, opening-files, opening-documents, no-marks}
+use Rattle.repo_laws.proofs.HoldingFiles.{files-held-kept, documents-held-kept, opening-files, opening-documents}
 use Rattle.repo_laws.proofs.Files.{cached-stays}
 use Rattle.mvn_metadata.specs.Document.{Document}
 
@@ -58,20 +58,11 @@ parts-of t s held = record {
   moments = moments-all t s.last held.moments;
 }
 
--- and the files and documents of proxies
-record Whole (t : Tables) (s : State) : Type 0 where
-  parts : Parts t s
-  files : FilesHeld t.cached s.proxies
-  documents : DocumentsHeld t.documents s.proxies
-
-whole-of : (t : Tables) (s : State) → Holds t s → Whole t s
-whole-of t s held = record { parts = parts-of t s held; files = held.files; documents = held.documents }
-
-from-whole : (t : Tables) (s : State) → Whole t s → Holds t s
-from-whole t s whole = let parts = whole.parts in record {
+from-parts : (t : Tables) (s : State) → Parts t s → FilesHeld t.cached s.proxies → DocumentsHeld t.documents s.proxies → Holds t s
+from-parts t s parts files documents = record {
   rows = parts.rows;
-  files = whole.files;
-  documents = whole.documents;
+  files = files;
+  documents = documents;
   ended = parts.sessions.ended;
   opened = parts.sessions.opened;
   next_session = parts.sessions.next_session;
@@ -150,7 +141,7 @@ module _ (grace now : ℕ) (s : State) (t : Tables) (up : now ≤ s.last) (place
           rows = held-changed t.hosted s.hosted repo path (list_again moment) (λ r. refl) (λ r. refl) parts.rows row found;
           sessions = record { ended = parts.sessions.ended; opened = parts.sessions.opened; next_session = parts.sessions.next_session };
           blobs = blobs-same s (relists repo path moment) (named_in t) (named_in (item_on t (Relisted repo path moment))) (λ n. omega arith)
-              (λ n. omega (arith, count-same (λ (r : RecordedRow). r.row.blob.number == n) (is_recorded repo path) (λ r. record r { row = list_again moment r.row }) (λ r. refl) t.hosted)) parts.blobs;
+              (λ n. omega (arith, changed-count repo path (list_again moment) (λ r. refl) n t.hosted)) parts.blobs;
           moments = (moments-relisted t.hosted repo path moment s.last (omega (arith, at_now, up)) parts.moments.0, parts.moments.1, parts.moments.2);
         },
       )
@@ -168,7 +159,7 @@ module _ (grace now : ℕ) (s : State) (t : Tables) (up : now ≤ s.last) (place
           rows = held-changed t.hosted s.hosted repo path (fade moment) (λ r. refl) (λ r. refl) parts.rows row found;
           sessions = record { ended = parts.sessions.ended; opened = parts.sessions.opened; next_session = parts.sessions.next_session };
           blobs = blobs-same s (fades repo path moment) (named_in t) (named_in (item_on t (Faded repo path moment))) (λ n. omega arith)
-              (λ n. omega (arith, count-same (λ (r : RecordedRow). r.row.blob.number == n) (is_recorded repo path) (λ r. record r { row = fade moment r.row }) (λ r. refl) t.hosted)) parts.blobs;
+              (λ n. omega (arith, changed-count repo path (fade moment) (λ r. refl) n t.hosted)) parts.blobs;
           moments = (moments-faded t.hosted repo path moment s.last (omega (arith, at_now, up)) parts.moments.0, parts.moments.1, parts.moments.2);
         },
       )
@@ -208,7 +199,7 @@ module _ (grace now : ℕ) (s : State) (t : Tables) (up : now ≤ s.last) (place
   ended : (n : ℕ) (result : SessionResult) → May grace now s (ends n result) → Goal (ends n result)
   ended n result may =
       let (one, found, _) = may in
-      let there = open-there n s.sessions one found in (
+      let there = found-any (is_open_at n) s.sessions one found in (
         (ap is_open_session (parts.sessions.opened n there), tt),
         record {
           rows = parts.rows;
@@ -245,7 +236,7 @@ module _ (grace now : ℕ) (s : State) (t : Tables) (up : now ≤ s.last) (place
       blobs = blobs-same s (keeps_doc id path document moment) (named_in t) (named_in t)
           (loose-kept s grace now (keeps_doc id path document moment) may (λ k. refl) (λ k. cached-stays k id (proxy_after (keeps_doc id path document moment)) (λ p. omega arith) s.proxies))
           (λ k. omega arith) parts.blobs;
-      moments = (parts.moments.0, parts.moments.1, moments-document (record { repo = id; path = path; checked = moment; document = document }) s.last (omega (arith, may.0, up)) t.documents parts.moments.2);
+      moments = (parts.moments.0, parts.moments.1, all-with_document (λ (d : RecordedDocument). d.checked ≤ s.last) (record { repo = id; path = path; checked = moment; document = document }) t.documents parts.moments.2 (omega (arith, may.0, up)));
     },
   )
 
@@ -279,11 +270,11 @@ module _ (grace now : ℕ) (s : State) (t : Tables) (up : now ≤ s.last) (place
     quiet (clears_mark id path) refl may refl (λ k. cached-stays k id (proxy_after (clears_mark id path)) (λ p. omega arith) s.proxies) parts.sessions,
   )
 
-step-whole : (grace now : ℕ) (s : State) (t : Tables) → now ≤ s.last → OnePlace s → Numbered s → InOrder t → Whole t s → (e : Effect) → May grace now s e
-    → AllFit t (items_of e) × Whole (with_items t (items_of e)) (with_effect s e)
-step-whole grace now s t up placed numbered ordered whole e may =
-    let (fits, parts) = step grace now s t up placed numbered ordered whole.parts whole.files e may in
-    (fits, record { parts = parts; files = files-held-kept grace now s e t may whole.files; documents = documents-held-kept grace now s e t may whole.documents })
+step-held : (grace now : ℕ) (s : State) (t : Tables) → now ≤ s.last → OnePlace s → Numbered s → InOrder t → Holds t s → (e : Effect) → May grace now s e
+    → AllFit t (items_of e) × Holds (with_items t (items_of e)) (with_effect s e)
+step-held grace now s t up placed numbered ordered held e may =
+    let (fits, parts) = step grace now s t up placed numbered ordered (parts-of t s held) held.files e may in
+    (fits, from-parts (with_items t (items_of e)) (with_effect s e) parts (files-held-kept grace now s e t may held.files) (documents-held-kept grace now s e t may held.documents))
 
 -- items that fit are applied
 fit-applied : (items : List Item) (place : ℕ) (t : Tables) → AllFit t items → applied_from place t items ≡ Ok (with_items t items)
@@ -337,27 +328,27 @@ first-misfit t items place is =
 pub effect-recorded : (grace now : ℕ) (s : State) (e : Effect) (t : Tables) → May grace now s e → now ≤ s.last → OnePlace s → Numbered s → InOrder t → Holds t s
     → (applied t (items_of e) ≡ Ok (with_items t (items_of e))) × InOrder (with_items t (items_of e)) × Holds (with_items t (items_of e)) (with_effect s e)
 effect-recorded grace now s e t may up placed numbered ordered held =
-    let (fits, whole) = step-whole grace now s t up placed numbered ordered (whole-of t s held) e may in
-    (fit-applied (items_of e) 0 t fits, fit-ordered (items_of e) t fits ordered, from-whole (with_items t (items_of e)) (with_effect s e) whole)
+    let (fits, held_then) = step-held grace now s t up placed numbered ordered held e may in
+    (fit-applied (items_of e) 0 t fits, fit-ordered (items_of e) t fits ordered, held_then)
 
 -- all that effects record
 module _ (settings : Settings) (grace now : ℕ) where
-  steps : (es : List Effect) (s : State) (t : Tables) → AllMay grace now s es → now ≤ s.last → Sound settings s → OnePlace s → Numbered s → InOrder t → Whole t s
-      → AllFit t (recorded es) × Whole (with_items t (recorded es)) (with_effects s es)
-  steps [] s t all up sound placed numbered ordered parts = (tt, parts)
-  steps (e ∷ es) s t all up sound placed numbered ordered parts =
-      let (fits, parts_then) = step-whole grace now s t up placed numbered ordered parts e all.0 in
+  steps : (es : List Effect) (s : State) (t : Tables) → AllMay grace now s es → now ≤ s.last → Sound settings s → OnePlace s → Numbered s → InOrder t → Holds t s
+      → AllFit t (recorded es) × Holds (with_items t (recorded es)) (with_effects s es)
+  steps [] s t all up sound placed numbered ordered held = (tt, held)
+  steps (e ∷ es) s t all up sound placed numbered ordered held =
+      let (fits, held_then) = step-held grace now s t up placed numbered ordered held e all.0 in
       let (fit_rest, rest) = steps es (with_effect s e) (with_items t (items_of e)) all.1 up (sound-kept settings grace now s e all.0 sound)
-      (one-place-kept grace now s e (all-apart s.hosted sound.rows) all.0 placed) (numbered-kept grace now s e all.0 numbered) (fit-ordered (items_of e) t fits ordered) parts_then in (
+      (one-place-kept grace now s e (all-apart s.hosted sound.rows) all.0 placed) (numbered-kept grace now s e all.0 numbered) (fit-ordered (items_of e) t fits ordered) held_then in (
         fit-append (items_of e) (recorded es) t fits fit_rest,
-        subst (λ (u : Tables). Whole u (with_effects s (e ∷ es))) (sym (fold-append item_on t (items_of e) (recorded es))) rest,
+        subst (λ (u : Tables). Holds u (with_effects s (e ∷ es))) (sym (fold-append item_on t (items_of e) (recorded es))) rest,
       )
 
   pub effects-recorded : (es : List Effect) (s : State) (t : Tables) → AllMay grace now s es → now ≤ s.last → Sound settings s → OnePlace s → Numbered s → InOrder t → Holds t s
       → (applied t (recorded es) ≡ Ok (with_items t (recorded es))) × InOrder (with_items t (recorded es)) × Holds (with_items t (recorded es)) (with_effects s es)
   effects-recorded es s t all up sound placed numbered ordered held =
-      let (fits, parts) = steps es s t all up sound placed numbered ordered (whole-of t s held) in
-      (fit-applied (recorded es) 0 t fits, fit-ordered (recorded es) t fits ordered, from-whole (with_items t (recorded es)) (with_effects s es) parts)
+      let (fits, held_then) = steps es s t all up sound placed numbered ordered held in
+      (fit-applied (recorded es) 0 t fits, fit-ordered (recorded es) t fits ordered, held_then)
 
 -- the clock and the records' count are no matter of the tables
 held-ticked : (t : Tables) (s : State) (moment faults : ℕ) → s.last ≤ moment → Holds t s → Holds t (ticked s moment faults)
@@ -383,19 +374,19 @@ module _ (settings : Settings) (apart : AreNamedApart settings.hosted) where
       (numbered-ticked s e.moment e.faults old)
 
   entry-steps : (s : State) (e : Entry) (t : Tables) → Fits settings s e → Sound settings s → OnePlace s → Numbered s → InOrder t → Holds t s
-      → AllFit t (recorded (effects_of settings s e)) × Whole (with_items t (recorded (effects_of settings s e))) (after settings s e)
+      → AllFit t (recorded (effects_of settings s e)) × Holds (with_items t (recorded (effects_of settings s e))) (after settings s e)
   entry-steps s e t fits sound placed numbered ordered held =
       let u : State = ticked s e.moment e.faults in
       steps settings settings.grace e.moment (effects_of settings s e) u t (entry-may settings apart s e sound fits) (omega arith) (sound-ticked settings s e.moment e.faults sound)
-      (one-place-ticked s e.moment e.faults placed) (numbered-ticked s e.moment e.faults numbered) ordered (whole-of t u (held-ticked t s e.moment e.faults (moment-rises s e.moment fits.moment) held))
+      (one-place-ticked s e.moment e.faults placed) (numbered-ticked s e.moment e.faults numbered) ordered (held-ticked t s e.moment e.faults (moment-rises s e.moment fits.moment) held)
 
   pub entry-recorded : (s : State) (e : Entry) (t : Tables) → Fits settings s e → Sound settings s → OnePlace s → Numbered s → InOrder t → Holds t s
       → (applied t (recorded (effects_of settings s e)) ≡ Ok (with_items t (recorded (effects_of settings s e)))) × InOrder (with_items t (recorded (effects_of settings s e)))
       × Holds (with_items t (recorded (effects_of settings s e))) (after settings s e)
   entry-recorded s e t fits sound placed numbered ordered held =
       let items : List Item = recorded (effects_of settings s e) in
-      let (fit, parts) = entry-steps s e t fits sound placed numbered ordered held in
-      (fit-applied items 0 t fit, fit-ordered items t fit ordered, from-whole (with_items t items) (after settings s e) parts)
+      let (fit, held_then) = entry-steps s e t fits sound placed numbered ordered held in
+      (fit-applied items 0 t fit, fit-ordered items t fit ordered, held_then)
 
   -- a reply that no state determines records nothing
   pub free-recorded : (s : State) (e : Entry) (t : Tables) → Fits settings s e → Sound settings s → OnePlace s → Numbered s → InOrder t → Holds t s → IsTrue (is_free e.reply)
@@ -410,9 +401,9 @@ module _ (settings : Settings) (apart : AreNamedApart settings.hosted) where
   history-steps [] s t legal sound placed numbered ordered held = (tt, held)
   history-steps (e ∷ entries) s t legal sound placed numbered ordered held =
       let items : List Item = recorded (effects_of settings s e) in
-      let (fit, parts) = entry-steps s e t legal.0 sound placed numbered ordered held in
+      let (fit, held_then) = entry-steps s e t legal.0 sound placed numbered ordered held in
       let (fit_rest, rest) = history-steps entries (after settings s e) (with_items t items) legal.1 (sound-entry settings apart s e legal.0 sound) (one-place-entry settings apart s e legal.0 sound placed)
-      (numbered-entry s e legal.0 sound numbered) (fit-ordered items t fit ordered) (from-whole (with_items t items) (after settings s e) parts) in (
+      (numbered-entry s e legal.0 sound numbered) (fit-ordered items t fit ordered) held_then in (
         fit-append items (told settings (after settings s e) entries) t fit fit_rest,
         subst (λ (u : Tables). Holds u (end settings s (e ∷ entries))) (sym (fold-append item_on t items (told settings (after settings s e) entries))) rest,
       )
@@ -424,17 +415,11 @@ module _ (settings : Settings) (apart : AreNamedApart settings.hosted) where
       (fit-applied (told settings s entries) 0 t fit, fit-ordered (told settings s entries) t fit ordered, then_held)
 
 -- the opening state
-no-rows : (repo : List ℕ) (rules : List Rule) → rows_in repo (map new_hosted rules) ≡ []
-no-rows repo [] = refl
-no-rows repo (rule ∷ rules) =
-    elim (bytes_eq rule.id repo) as (λ b. option_map_or (λ (h : Hosted). h.rows) (cond b (Some (new_hosted rule)) (find (is_repository repo) (map new_hosted rules))) [] ≡ []) [
-      | true ↦ refl
-      | false ↦ no-rows repo rules
-    ]
-
 pub opening-held : (settings : Settings) (clock : Option Moments) → Holds no_tables (opening settings clock)
 opening-held settings clock = record {
-  rows = λ repo path there. ap (λ rows. option_map without_bytes (row_at path rows)) (sym (no-rows repo settings.hosted));
+  rows = λ repo path there.
+      ap (λ rows. option_map without_bytes (row_at path rows))
+      (sym (all-part (λ (h : Hosted). h.rule.id) (λ (h : Hosted). h.rows) (λ rows. rows ≡ []) repo (map new_hosted settings.hosted) refl (all-map new_hosted (λ (h : Hosted). h.rows ≡ []) (λ rule. refl) settings.hosted)));
   files = opening-files settings.proxies;
   documents = opening-documents settings.proxies;
   ended = λ n. refl;
@@ -446,7 +431,7 @@ opening-held settings clock = record {
 }
 
 pub opening-stands : (settings : Settings) (clock : Option Moments) → StandsFor no_tables (opening settings clock)
-opening-stands settings clock = record { holds = opening-held settings clock; last = refl; next_lease = refl; none_open = tt; leases = refl; drafts = refl; condemned = refl; marks = no-marks new_proxy (λ rule. refl) settings.proxies }
+opening-stands settings clock = record { holds = opening-held settings clock; last = refl; next_lease = refl; none_open = tt; leases = refl; drafts = refl; condemned = refl; marks = all-map new_proxy (λ (p : Proxy). p.marks ≡ []) (λ rule. refl) settings.proxies }
 
 pub opening-numbered : (settings : Settings) (clock : Option Moments) → Numbered (opening settings clock)
 opening-numbered settings clock = record { below = tt; apart = tt }

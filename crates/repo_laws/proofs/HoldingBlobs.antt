@@ -9,17 +9,15 @@ use Rattle.repo_model.specs.Data.{Row, Phase, listed, fading}
 use Rattle.repo_model.specs.State.{State}
 use Rattle.repo_model.specs.Effect.{Effect, with_effect, list_again, fade}
 use Rattle.repo_model.specs.May.{May}
-use Rattle.repo_model.specs.Tables.{Tables, RecordedRow, RecordedDocument, is_recorded, recorded_at, with_recorded, change_recorded, names_blob, since_or, moment_of, greatest_moment, with_document, place_cmp}
+use Rattle.repo_model.specs.Tables.{Tables, RecordedRow, RecordedDocument, is_recorded, recorded_at, with_recorded, change_recorded, names_blob, since_or, moment_of, greatest_moment}
 use Rattle.repo_laws.specs.Laws.{rows_with, cached_with}
 use Rattle.repo_laws.specs.Sound.{OnePlace}
 use Rattle.repo_laws.specs.Holds.{IsUpTo, AreUpTo, named_in, loose_in}
-use Rattle.repo_laws.proofs.Counts.{one_if, count-cons, found-goes}
+use Rattle.repo_laws.proofs.Counts.{one_if, any-counts, count-cons, found-goes}
 use Rattle.repo_laws.proofs.Places.{drawn_by, places-counted, next-counted, never-again}
 use Rattle.repo_laws.proofs.Lists.{all-then}
-use Rattle.repo_laws.proofs.HoldingLists.{any-counts, all-change_where, all-split, all-join, greatest-below, all-greatest}
+use Rattle.repo_laws.proofs.HoldingLists.{all-change_where, all-split, all-join, greatest-below, all-greatest}
 use Rattle.repo_laws.proofs.HoldingOrder.{all-with_recorded}
-use Rattle.std.specs.Ordering.{match_ordering}
-use Rattle.std.specs.declared.cmp.Ordering.TheVariants.{Less, Equal, Greater}
 
 -- that a blob is named, and how often
 pub named-counts : (n : ℕ) (t : Tables) → names_blob n t ≡ true → 0 < named_in t n
@@ -164,15 +162,3 @@ row-gone repo path n rows row is =
           let named : one_if (r.row.blob.number == n) ≡ one_if (row.blob.number == n) = ap (λ (x : Row). one_if (x.blob.number == n)) row_is in
           omega (arith, found-goes (λ (x : RecordedRow). x.row.blob.number == n) (is_recorded repo path) rows r found, named)
     ] refl is
-
--- the moment of a document that is kept
-pub moments-document : (new : RecordedDocument) (most : ℕ) → new.checked ≤ most → (documents : List RecordedDocument) → AllByRecursion (λ (d : RecordedDocument). d.checked ≤ most) documents
-    → AllByRecursion (λ (d : RecordedDocument). d.checked ≤ most) (with_document new documents)
-moments-document new most up [] all = (up, tt)
-moments-document new most up (d ∷ documents) all =
-    elim (place_cmp new.repo new.path d.repo d.path)
-    as (λ o. AllByRecursion (λ (x : RecordedDocument). x.checked ≤ most) (match_ordering o (new ∷ d ∷ documents) (new ∷ documents) (d ∷ with_document new documents))) [
-      | Less ↦ (up, all)
-      | Equal ↦ (up, all.1)
-      | Greater ↦ (all.0, moments-document new most up documents all.1)
-    ]

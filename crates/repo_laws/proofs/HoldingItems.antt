@@ -1,15 +1,11 @@
 -- Which items fit, and what stands where after one that fits.
 use Rattle.std.proofs.Common.{◌≡◌, ◌<◌, ℕ, Bool, true, false, not, cond, ◌&&◌, ◌||◌, ◌⊎◌, inl, inr, List, [], ◌∷◌, Option, Some, None, refl, sym, ◌∙◌, ap, subst, option_map, eqb-true}
-use Rattle.std.specs.Prelude.{◌==◌, ◌↔◌, nat_lt, IsTrue, filter, find, bytes_eq, is_none, if◌then◌else◌}
+use Rattle.std.specs.Prelude.{◌==◌, ◌↔◌, nat_lt, IsTrue, find, bytes_eq, is_none, if◌then◌else◌}
 use Rattle.std.specs.Option.{option_or}
 use Rattle.mvn_digest.specs.declared.known.Further.{Further}
 use Rattle.std.specs.List.{AllByRecursion}
-use Rattle.std.specs.Ordering.{match_ordering}
-use Rattle.std.specs.Cmp.{tied_itself}
-use Rattle.std.specs.declared.cmp.Ordering.TheVariants.{Less, Equal, Greater}
-use Rattle.std.proofs.lemmas.Bool.{false≢true, and_parts, and_from, false_from_ne_true, lt-ltb}
+use Rattle.std.proofs.lemmas.Bool.{false≢true, and_parts, and_from, lt-ltb, not-true, or_right}
 use Rattle.std.proofs.lemmas.List.Folds.{find-append}
-use Rattle.repo_model.specs.declared.print.Recorded.{Recorded}
 use Rattle.repo_model.specs.declared.item.Item.{Item}
 use Rattle.repo_model.specs.declared.item.Item.TheVariants.{HostedPut, Faded, Relisted, Removed, CachedFile, CachedDoc, SessionOpened, SessionEnded, Digested}
 use Rattle.repo_model.specs.declared.session.SessionResult.{SessionResult}
@@ -18,27 +14,20 @@ use Rattle.repo_model.specs.Document.{is_listed}
 use Rattle.repo_model.specs.Paths.{is_snapshot_path}
 use Rattle.repo_model.specs.Effect.{list_again, fade}
 use Rattle.repo_model.specs.Prints.{lacks_further}
-use Rattle.repo_model.specs.Tables.{Tables, RecordedRow, RecordedDocument, RecordedSession, place_cmp, is_recorded, recorded_at, recorded_row, with_recorded, with_document, change_recorded, is_session, names_blob, is_listed_row, is_fading_row, is_open_session, digested, lacks_at, with_digests, item_on, fits_on}
+use Rattle.repo_model.specs.Tables.{Tables, RecordedRow, RecordedSession, recorded_at, change_recorded, is_session, is_listed_row, is_fading_row, is_open_session, digested, lacks_at, with_digests, item_on, fits_on}
 use Rattle.repo_laws.specs.Items.{is_place, is_of_row, is_of_file, is_of_document, is_of_session, document_at, completed, lacks_row, row_then, file_then, document_then, session_then}
-use Rattle.repo_laws.proofs.Releases.{same_path, is_itself}
+use Rattle.repo_laws.proofs.Releases.{same_path}
 use Rattle.repo_laws.proofs.Lists.{found-passes, all-then, all-list_all}
-use Rattle.repo_laws.proofs.HoldingLists.{find-changed, find-change-elsewhere, find-gone, find-gone-elsewhere, none-any}
-use Rattle.repo_laws.proofs.HoldingOrder.{documents-order, free-there, all-below, same-place}
-use Rattle.repo_laws.proofs.HoldingRows.{find-new, find-others, other-place}
-use Rattle.repo_laws.proofs.HoldingSessions.{none-recorded}
+use Rattle.repo_laws.proofs.HoldingFiles.{document-then}
+use Rattle.repo_laws.proofs.HoldingLists.{find-changed, find-change-elsewhere, none-any}
+use Rattle.repo_laws.proofs.HoldingOrder.{all-below}
+use Rattle.repo_laws.proofs.HoldingRows.{put-then, changed-then, gone-then}
+use Rattle.repo_laws.proofs.HoldingSessions.{none-is, none-recorded}
 
 -- which items fit
-off : (b : Bool) → not b ≡ true → b ≡ false
-off true is = absurd (false≢true is)
-off false is = refl
-
-none-is : {X : Type 0} (found : Option X) → is_none found ≡ true → found ≡ None
-none-is None is = refl
-none-is (Some x) is = absurd (false≢true is)
-
 pub put-fits : (free named : Bool) (found : Option Row) → free ≡ is_none found → (IsTrue (free && not named)) ↔ ((found ≡ None) × (named ≡ false))
 put-fits free named found same = (
-  λ fits. let (free_is, named_is) = and_parts free (not named) fits in (none-is found (sym same ∙ free_is), off named named_is),
+  λ fits. let (free_is, named_is) = and_parts free (not named) fits in (none-is found (sym same ∙ free_is), not-true named named_is),
   λ both. and_from free (not named) (same ∙ ap is_none both.0) (ap not both.1),
 )
 
@@ -101,10 +90,6 @@ lacking-is : (found : Option Row) → lacks_row found ≡ true → (row : Row) �
 lacking-is None is = absurd (false≢true is)
 lacking-is (Some row) is = (row, refl, is)
 
-or-true : (b : Bool) → (b || true) ≡ true
-or-true true = refl
-or-true false = refl
-
 pub digested-fits : (t : Tables) (repo path : List ℕ) (further : Further) → IsTrue (fits_on t (Digested repo path further))
     ↔ ((row : Row) × ((recorded_at repo path t.hosted ≡ Some row) ⊎ (recorded_at repo path t.cached ≡ Some row)) × IsTrue (lacks_further row.blob.print))
 digested-fits t repo path further = (
@@ -120,7 +105,7 @@ digested-fits t repo path further = (
   by : (row : Row) → IsTrue (lacks_further row.blob.print) → (recorded_at repo path t.hosted ≡ Some row) ⊎ (recorded_at repo path t.cached ≡ Some row)
       → IsTrue (fits_on t (Digested repo path further))
   by row lacks (inl found) = ap (λ b. b || lacks_at repo path t.cached) (ap lacks_row found ∙ lacks)
-  by row lacks (inr found) = ap (λ b. lacks_at repo path t.hosted || b) (ap lacks_row found ∙ lacks) ∙ or-true (lacks_at repo path t.hosted)
+  by row lacks (inr found) = or_right (lacks_at repo path t.hosted) (lacks_at repo path t.cached) (ap lacks_row found ∙ lacks)
 
 -- a row that lacks its further digests gets them, and another stays
 digested-row : (further : Further) (found : Option Row) → lacks_row found ≡ true → option_map (digested further) found ≡ option_map (completed further) found
@@ -131,53 +116,16 @@ whole-row : (further : Further) (found : Option Row) → lacks_row found ≡ fal
 whole-row further None is = refl
 whole-row further (Some row) is = ap (λ b. Some (if b then digested further row else row)) (sym is)
 
--- one place is another
-apart-places : (repo path id at : List ℕ) → is_place repo path id at ≡ false → repo ≡ id → path ≡ at → ⊥
-apart-places repo path id at other repos paths =
-    false≢true (sym other ∙ and_from (bytes_eq repo id) (bytes_eq path at) (ap (λ r. bytes_eq r id) repos ∙ is_itself id) (ap (λ p. bytes_eq p at) paths ∙ is_itself at))
-
 same-there : (repo path id at : List ℕ) (found : List ℕ → List ℕ → Option Row) → is_place repo path id at ≡ true → found id at ≡ found repo path
 same-there repo path id at found is =
     let (repos, paths) = and_parts (bytes_eq repo id) (bytes_eq path at) is in
     ap (λ r. found r at) (sym (same_path repo id repos)) ∙ ap (λ p. found repo p) (sym (same_path path at paths))
 
 module _ (rows : List RecordedRow) (repo path id at : List ℕ) where
-  put-then : (blob : ℕ) (print : Recorded) (accepted : ℕ) → is_none (recorded_at repo path rows) ≡ true
-      → recorded_at id at (with_recorded (recorded_row repo path blob print accepted) rows) ≡ (if is_place repo path id at then Some (recorded_row repo path blob print accepted).row else recorded_at id at rows)
-  put-then blob print accepted free =
-      let new : RecordedRow = recorded_row repo path blob print accepted in
-      elim (is_place repo path id at)
-      as (λ b. is_place repo path id at ≡ b → recorded_at id at (with_recorded new rows) ≡ (if b then Some new.row else recorded_at id at rows)) [
-        | true ↦ λ is.
-            let (repos, paths) = and_parts (bytes_eq repo id) (bytes_eq path at) is in
-            let none : find (is_recorded id at) rows ≡ None =
-            subst (λ (r : List ℕ). find (is_recorded r at) rows ≡ None) (same_path repo id repos) (subst (λ (p : List ℕ). find (is_recorded repo p) rows ≡ None) (same_path path at paths) (free-there repo path rows free)) in
-            ap (option_map (λ (r : RecordedRow). r.row)) (find-new (is_recorded id at) new rows is none)
-        | false ↦ λ other. ap (option_map (λ (r : RecordedRow). r.row)) (find-others (is_recorded id at) new rows other)
-      ] refl
-
-  changed-then : (f : Row → Row) → ((r : Row) → (f r).path ≡ r.path) → recorded_at id at (change_recorded repo path f rows) ≡ (if is_place repo path id at then option_map f (recorded_at id at rows) else recorded_at id at rows)
-  changed-then f keeps =
-      let g : RecordedRow → RecordedRow = λ r. record r { row = f r.row } in
-      elim (is_place repo path id at)
-      as (λ b. is_place repo path id at ≡ b → recorded_at id at (change_recorded repo path f rows) ≡ (if b then option_map f (recorded_at id at rows) else recorded_at id at rows)) [
-        | true ↦ λ is.
-            let (repos, paths) = and_parts (bytes_eq repo id) (bytes_eq path at) is in
-            subst (λ (r : List ℕ). recorded_at r at (change_recorded repo path f rows) ≡ option_map f (recorded_at r at rows)) (same_path repo id repos)
-            (subst (λ (p : List ℕ). recorded_at repo p (change_recorded repo path f rows) ≡ option_map f (recorded_at repo p rows)) (same_path path at paths)
-            (ap (option_map (λ (r : RecordedRow). r.row)) (find-changed (is_recorded repo path) g (λ r. ap (λ p. bytes_eq r.repo repo && bytes_eq p path) (keeps r.row)) rows) ∙ of-found (find (is_recorded repo path) rows)))
-        | false ↦ λ other.
-            ap (option_map (λ (r : RecordedRow). r.row))
-            (find-change-elsewhere (is_recorded id at) (is_recorded repo path) g (other-place repo path id at (apart-places repo path id at other)) (λ r. ap (λ p. bytes_eq r.repo id && bytes_eq p at) (keeps r.row)) rows)
-      ] refl where
-        of-found : (found : Option RecordedRow) → option_map (λ (r : RecordedRow). r.row) (option_map (λ (r : RecordedRow). record r { row = f r.row }) found) ≡ option_map f (option_map (λ (r : RecordedRow). r.row) found)
-        of-found None = refl
-        of-found (Some r) = refl
-
   digested-then : (further : Further) → lacks_at repo path rows ≡ true
       → recorded_at id at (change_recorded repo path (digested further) rows) ≡ (if is_place repo path id at then option_map (completed further) (recorded_at id at rows) else recorded_at id at rows)
   digested-then further lacks =
-      changed-then (digested further) (λ r. refl)
+      changed-then rows repo path (digested further) (λ r. refl) id at
       ∙ elim (is_place repo path id at)
       as (λ b. is_place repo path id at ≡ b
       → (if b then option_map (digested further) (recorded_at id at rows) else recorded_at id at rows) ≡ (if b then option_map (completed further) (recorded_at id at rows) else recorded_at id at rows)) [
@@ -194,24 +142,11 @@ module _ (rows : List RecordedRow) (repo path id at : List ℕ) where
         | false ↦ λ _. refl
       ] refl
 
-  gone-then : recorded_at id at (filter (λ r. not (is_recorded repo path r)) rows) ≡ (if is_place repo path id at then None else recorded_at id at rows)
-  gone-then =
-      elim (is_place repo path id at)
-      as (λ b. is_place repo path id at ≡ b → recorded_at id at (filter (λ r. not (is_recorded repo path r)) rows) ≡ (if b then None else recorded_at id at rows)) [
-        | true ↦ λ is.
-            let (repos, paths) = and_parts (bytes_eq repo id) (bytes_eq path at) is in
-            subst (λ (r : List ℕ). recorded_at r at (filter (λ x. not (is_recorded repo path x)) rows) ≡ None) (same_path repo id repos)
-            (subst (λ (p : List ℕ). recorded_at repo p (filter (λ x. not (is_recorded repo path x)) rows) ≡ None) (same_path path at paths)
-            (ap (option_map (λ (r : RecordedRow). r.row)) (find-gone (is_recorded repo path) rows)))
-        | false ↦ λ other. ap (option_map (λ (r : RecordedRow). r.row)) (find-gone-elsewhere (is_recorded id at) (is_recorded repo path) (other-place repo path id at (apart-places repo path id at other)) rows)
-      ] refl
-
 pub rows-then : (t : Tables) (item : Item) (id at : List ℕ) → IsTrue (fits_on t item)
     → recorded_at id at (item_on t item).hosted ≡ (if is_of_row id at item then row_then item (recorded_at id at t.hosted) else recorded_at id at t.hosted)
-rows-then t (HostedPut repo path blob print accepted) id at fits =
-    put-then t.hosted repo path id at blob print accepted (and_parts (is_none (recorded_at repo path t.hosted)) (not (names_blob blob t)) fits).0
-rows-then t (Faded repo path moment) id at fits = changed-then t.hosted repo path id at (fade moment) (λ r. refl)
-rows-then t (Relisted repo path accepted) id at fits = changed-then t.hosted repo path id at (list_again accepted) (λ r. refl)
+rows-then t (HostedPut repo path blob print accepted) id at fits = put-then t.hosted repo path id at blob print accepted
+rows-then t (Faded repo path moment) id at fits = changed-then t.hosted repo path (fade moment) (λ r. refl) id at
+rows-then t (Relisted repo path accepted) id at fits = changed-then t.hosted repo path (list_again accepted) (λ r. refl) id at
 rows-then t (Removed repo path) id at fits = gone-then t.hosted repo path id at
 rows-then t (Digested repo path further) id at fits =
     elim (lacks_at repo path t.hosted)
@@ -269,8 +204,7 @@ module _ (t : Tables) (repo path id at : List ℕ) (further : Further) where
 
 pub files-then : (t : Tables) (item : Item) (id at : List ℕ) → IsTrue (fits_on t item)
     → recorded_at id at (item_on t item).cached ≡ (if is_of_file id at item then file_then item (recorded_at id at t.hosted) (recorded_at id at t.cached) else recorded_at id at t.cached)
-files-then t (CachedFile repo path blob print accepted) id at fits =
-    put-then t.cached repo path id at blob print accepted (and_parts (is_none (recorded_at repo path t.cached)) (not (names_blob blob t)) fits).0
+files-then t (CachedFile repo path blob print accepted) id at fits = put-then t.cached repo path id at blob print accepted
 files-then t (Digested repo path further) id at fits = digested-file t repo path id at further fits
 files-then t e id at fits = refl
 
@@ -285,39 +219,6 @@ digested-rest t repo path further =
     ]
 
 -- documents
-document-then : (new : RecordedDocument) (id at : List ℕ) (documents : List RecordedDocument)
-    → document_at id at (with_document new documents) ≡ (if is_place new.repo new.path id at then Some new else document_at id at documents)
-document-then new id at [] = refl
-document-then new id at (d ∷ documents) =
-    let rest = document-then new id at documents in
-    elim (place_cmp new.repo new.path d.repo d.path)
-    as (λ o. place_cmp new.repo new.path d.repo d.path ≡ o → document_at id at (match_ordering o (new ∷ d ∷ documents) (new ∷ documents) (d ∷ with_document new documents)) ≡ (if is_place new.repo new.path id at then Some new else document_at id at (d ∷ documents))) [
-      | Less ↦ λ _. refl
-      | Equal ↦ λ same.
-          let (repos, paths) = same-place new.repo new.path d.repo d.path same in
-          let alike : is_place d.repo d.path id at ≡ is_place new.repo new.path id at = ap (λ r. is_place r d.path id at) (sym repos) ∙ ap (λ p. is_place new.repo p id at) (sym paths) in
-          elim (is_place new.repo new.path id at)
-          as (λ b. is_place d.repo d.path id at ≡ b → cond b (Some new) (document_at id at documents) ≡ cond b (Some new) (cond (is_place d.repo d.path id at) (Some d) (document_at id at documents))) [
-            | true ↦ λ _. refl
-            | false ↦ λ other. rw other refl
-          ] alike
-      | Greater ↦ λ behind.
-          elim (is_place d.repo d.path id at)
-          as (λ b. is_place d.repo d.path id at ≡ b → cond b (Some d) (document_at id at (with_document new documents)) ≡ cond (is_place new.repo new.path id at) (Some new) (cond b (Some d) (document_at id at documents))) [
-            | true ↦ λ is.
-                let (repos, paths) = and_parts (bytes_eq d.repo id) (bytes_eq d.path at) is in
-                let other : is_place new.repo new.path id at ≡ false = false_from_ne_true (is_place new.repo new.path id at) (λ new_is.
-                let (new_repos, new_paths) = and_parts (bytes_eq new.repo id) (bytes_eq new.path at) new_is in
-                let same_repo : new.repo ≡ d.repo = same_path new.repo id new_repos ∙ sym (same_path d.repo id repos) in
-                let same_paths : new.path ≡ d.path = same_path new.path at new_paths ∙ sym (same_path d.path at paths) in
-                let tied : place_cmp new.repo new.path d.repo d.path ≡ Equal =
-                ap (λ r. place_cmp r new.path d.repo d.path) same_repo ∙ ap (λ p. place_cmp d.repo p d.repo d.path) same_paths ∙ tied_itself documents-order d in
-                let wrong : Greater ≡ Equal = sym behind ∙ tied in cc) in
-                rw other refl
-            | false ↦ λ _. rest
-          ] refl
-    ] refl
-
 pub documents-then : (t : Tables) (item : Item) (id at : List ℕ)
     → document_at id at (item_on t item).documents ≡ (if is_of_document id at item then document_then item (document_at id at t.documents) else document_at id at t.documents)
 documents-then t (CachedDoc repo path checked document) id at = document-then (record { repo = repo; path = path; checked = checked; document = document }) id at t.documents

@@ -11,25 +11,21 @@ use Rattle.std.proofs.lemmas.List.Sums.{fold_push}
 use Rattle.repo_model.specs.declared.session.SessionResult.{SessionResult}
 use Rattle.repo_model.specs.Data.{Session}
 use Rattle.repo_model.specs.State.{State, is_session, is_open, is_open_at, change_where, change_first}
-use Rattle.repo_model.specs.Effect.{Effect, draws, drops, creates, stages, delivers, discards, relists, fades, expires, forgets, lends, returns, opens, ends, new_session, without_staged, with_staged, with_effect, caches, keeps_doc, marks_missing, clears_mark}
+use Rattle.repo_model.specs.Effect.{Effect, stages, delivers, discards, opens, ends, new_session, without_staged, with_staged, with_effect}
 use Rattle.repo_model.specs.May.{May}
 use Rattle.repo_model.specs.Tables as kept
 use Rattle.repo_laws.specs.Numbered.{NumbersApart, Numbered}
-use Rattle.repo_laws.proofs.HoldingLists.{find-changed, find-change-elsewhere, find-first-elsewhere, any-first, any-first-elsewhere, part-first, part-push, none-any, all-change_first, all-push, greatest-below, greatest-same}
+use Rattle.repo_laws.proofs.Lists.{all-then}
+use Rattle.repo_laws.proofs.HoldingLists.{find-changed, find-change-elsewhere, find-first-elsewhere, any-first, any-first-elsewhere, find-part, part-push, none-any, all-change_first, all-push, greatest-below, greatest-same}
+
+pub none-is : {X : Type 0} (found : Option X) → is_none found ≡ true → found ≡ None
+none-is None is = refl
+none-is (Some x) is = absurd (false≢true is)
 
 -- numbers
 none-first : (n : ℕ) (q : Session → Bool) (f : Session → Session) → ((x : Session) → (f x).number ≡ x.number) → (sessions : List Session) → find (is_session n) sessions ≡ None → find (is_session n) (change_first q f sessions) ≡ None
-none-first n q f keeps [] none = refl
-none-first n q f keeps (x ∷ sessions) none =
-    elim (is_session n x) as (λ b. is_session n x ≡ b → cond b (Some x) (find (is_session n) sessions) ≡ None → find (is_session n) (change_first q f (x ∷ sessions)) ≡ None) [
-      | true ↦ λ _ found. absurd (none-some x (sym found))
-      | false ↦ λ other rest.
-          let other_too : is_session n (f x) ≡ false = ap (λ k. k == n) (keeps x) ∙ other in
-          elim (q x) as (λ b. find (is_session n) (cond b (f x ∷ sessions) (x ∷ change_first q f sessions)) ≡ None) [
-            | true ↦ rw other_too rest
-            | false ↦ rw other (none-first n q f keeps sessions rest)
-          ]
-    ] refl none
+none-first n q f keeps sessions none =
+    none-is (find (is_session n) (change_first q f sessions)) (find-part is_none (is_session n) q f (λ x. ap (λ k. k == n) (keeps x)) (λ x. refl) sessions ∙ ap is_none none)
 
 apart-first : (q : Session → Bool) (f : Session → Session) → ((x : Session) → (f x).number ≡ x.number) → (sessions : List Session) → NumbersApart sessions → NumbersApart (change_first q f sessions)
 apart-first q f keeps [] apart = tt
@@ -54,10 +50,6 @@ first-numbered s q f keeps old = (
   apart-first q f keeps s.sessions old.apart,
 )
 
-more-below : (n : ℕ) (sessions : List Session) → AllByRecursion (λ (one : Session). one.number < n) sessions → AllByRecursion (λ (one : Session). one.number < n + 1) sessions
-more-below n [] all = tt
-more-below n (x ∷ sessions) all = (omega (arith, all.0), more-below n sessions all.1)
-
 same-numbered : (s t : State) → t.sessions ≡ s.sessions → t.yard.next_session ≡ s.yard.next_session → Numbered s → Numbered t
 same-numbered s t sessions next old = record {
   below = subst (λ (n : ℕ). AllByRecursion (λ (one : Session). one.number < n) t.sessions) (sym next) (subst (λ (list : List Session). AllByRecursion (λ (one : Session). one.number < s.yard.next_session) list) (sym sessions) old.below);
@@ -76,22 +68,11 @@ numbered-kept grace now s (ends n result) may old =
 numbered-kept grace now s (opens n repo) may old =
     let below : AllByRecursion (λ (one : Session). one.number < n) s.sessions = subst (λ (k : ℕ). AllByRecursion (λ (one : Session). one.number < k) s.sessions) (sym may.0) old.below in
     record {
-      below = all-push (λ (one : Session). one.number < n + 1) s.sessions (new_session n repo) (more-below n s.sessions below) (omega arith);
+      below = all-push (λ (one : Session). one.number < n + 1) s.sessions (new_session n repo)
+          (all-then (λ (one : Session). one.number < n) (λ (one : Session). one.number < n + 1) (λ one less. omega (arith, less)) s.sessions below) (omega arith);
       apart = apart-push s.sessions (new_session n repo) below old.apart;
     }
-numbered-kept grace now s (caches id path blob moment) may old = same-numbered s (with_effect s (caches id path blob moment)) refl refl old
-numbered-kept grace now s (keeps_doc id path document moment) may old = same-numbered s (with_effect s (keeps_doc id path document moment)) refl refl old
-numbered-kept grace now s (marks_missing id path moment) may old = same-numbered s (with_effect s (marks_missing id path moment)) refl refl old
-numbered-kept grace now s (clears_mark id path) may old = same-numbered s (with_effect s (clears_mark id path)) refl refl old
-numbered-kept grace now s draws may old = same-numbered s (with_effect s draws) refl refl old
-numbered-kept grace now s (drops n) may old = same-numbered s (with_effect s (drops n)) refl refl old
-numbered-kept grace now s (creates repo path blob moment) may old = same-numbered s (with_effect s (creates repo path blob moment)) refl refl old
-numbered-kept grace now s (relists repo path moment) may old = same-numbered s (with_effect s (relists repo path moment)) refl refl old
-numbered-kept grace now s (fades repo path moment) may old = same-numbered s (with_effect s (fades repo path moment)) refl refl old
-numbered-kept grace now s (expires repo path blob) may old = same-numbered s (with_effect s (expires repo path blob)) refl refl old
-numbered-kept grace now s (forgets blobs) may old = same-numbered s (with_effect s (forgets blobs)) refl refl old
-numbered-kept grace now s (lends blob) may old = same-numbered s (with_effect s (lends blob)) refl refl old
-numbered-kept grace now s (returns lease) may old = same-numbered s (with_effect s (returns lease)) refl refl old
+numbered-kept grace now s e may old = same-numbered s (with_effect s e) refl refl old
 
 -- what the tables tell of the sessions
 abbrev pub result_among : ℕ → List kept.RecordedSession → Option SessionResult
@@ -111,34 +92,23 @@ pub record SessionsHeld (tables : List kept.RecordedSession) (sessions : List Se
   pub opened : (n : ℕ) → IsTrue (list_any (is_open_at n) sessions) → find (kept.is_session n) tables ≡ Some (just_opened n)
   pub next_session : next ≡ greatest_among tables + 1
 
--- a session that is found open is there
-pub open-there : (n : ℕ) (sessions : List Session) (one : Session) → find (is_open_at n) sessions ≡ Some one → list_any (is_open_at n) sessions ≡ true
-open-there n [] one found = absurd (none-some one found)
-open-there n (x ∷ sessions) one found =
-    elim (is_open_at n x) as (λ b. cond b (Some x) (find (is_open_at n) sessions) ≡ Some one → (b || list_any (is_open_at n) sessions) ≡ true) [
-      | true ↦ λ _. refl
-      | false ↦ λ later. open-there n sessions one later
-    ] found
-
 -- staged files come and go
 pub sessions-staged : (n : ℕ) (f : Session → Session) → ((x : Session) → (f x).number ≡ x.number) → ((x : Session) → (f x).ended ≡ x.ended) → (tables : List kept.RecordedSession) (sessions : List Session) (next : ℕ)
     → SessionsHeld tables sessions next → SessionsHeld tables (change_first (is_open_at n) f sessions) next
 sessions-staged n f keeps stays tables sessions next old = record {
-  ended = λ k. old.ended k ∙ sym (part-first (λ (one : Session). one.ended) (is_session k) (is_open_at n) f (λ x. ap (λ m. m == k) (keeps x)) stays sessions);
+  ended = λ k. old.ended k ∙ sym (find-part (option_and_then (λ (one : Session). one.ended)) (is_session k) (is_open_at n) f (λ x. ap (λ m. m == k) (keeps x)) stays sessions);
   opened = λ k there. old.opened k (sym (any-first (is_open_at k) (is_open_at n) f (λ x. ap (λ m. (m == k) && is_open (f x)) (keeps x) ∙ ap (λ o. (x.number == k) && is_none o) (stays x)) sessions) ∙ there);
   next_session = old.next_session;
 }
 
 -- a session is opened
 pub none-recorded : (n : ℕ) (tables : List kept.RecordedSession) → AllByRecursion (λ (one : kept.RecordedSession). one.number < n) tables → AllByRecursion (λ (one : kept.RecordedSession). kept.is_session n one ≡ false) tables
-none-recorded n [] all = tt
-none-recorded n (one ∷ tables) all = (ne_eqb one.number n (λ same. omega (arith, same, all.0)), none-recorded n tables all.1)
+none-recorded n = all-then (λ (one : kept.RecordedSession). one.number < n) (λ one. kept.is_session n one ≡ false) (λ one below. ne_eqb one.number n (λ same. omega (arith, same, below)))
 
 pub all-below-next : (n : ℕ) (tables : List kept.RecordedSession) → n ≡ greatest_among tables + 1 → AllByRecursion (λ (one : kept.RecordedSession). one.number < n) tables
-all-below-next n tables is = below tables (greatest-below (λ (one : kept.RecordedSession). one.number) (greatest_among tables) tables 0 (omega arith)).1 where
-  below : (list : List kept.RecordedSession) → AllByRecursion (λ (one : kept.RecordedSession). one.number ≤ greatest_among tables) list → AllByRecursion (λ (one : kept.RecordedSession). one.number < n) list
-  below [] all = tt
-  below (one ∷ list) all = (omega (arith, is, all.0), below list all.1)
+all-below-next n tables is =
+    all-then (λ (one : kept.RecordedSession). one.number ≤ greatest_among tables) (λ one. one.number < n) (λ one up. omega (arith, is, up)) tables
+    (greatest-below (λ (one : kept.RecordedSession). one.number) (greatest_among tables) tables 0 (omega arith)).1
 
 pub sessions-opened : (n : ℕ) (repo : List ℕ) (tables : List kept.RecordedSession) (sessions : List Session) → SessionsHeld tables sessions n
     → SessionsHeld (tables ++ just_opened n ∷ []) (sessions ++ new_session n repo ∷ []) (n + 1)

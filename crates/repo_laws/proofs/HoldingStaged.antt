@@ -1,22 +1,20 @@
 -- Staged files stand in byte order of path, and so do the items of a commit.
-use Rattle.std.proofs.Common.{◌≡◌, ℕ, Bool, true, false, cond, not, List, [], ◌∷◌, ◌++◌, length, Option, Some, None, refl, sym, ◌∙◌, ap, subst}
+use Rattle.std.proofs.Common.{◌≡◌, ℕ, true, false, not, List, [], ◌∷◌, ◌++◌, length, Option, Some, None, refl, sym, ◌∙◌, ap, subst, append-nil}
 use Rattle.std.specs.Prelude.{find, if◌then◌else◌}
 use Rattle.std.specs.List.{AllByRecursion, flat_map}
 use Rattle.std.specs.List.Sorted.{IsStrictlySortedBy}
-use Rattle.std.specs.Ordering.{match_ordering, ordering_reverse}
+use Rattle.std.specs.Ordering.{ordering_reverse}
 use Rattle.std.specs.Cmp.{IsTotalOrder, on_total, tied_itself}
 use Rattle.std.specs.declared.cmp.Ordering.{Ordering}
 use Rattle.std.specs.declared.cmp.Ordering.TheVariants.{Less, Equal, Greater}
 use Rattle.std.specs.Cmp.Lexicographic.{nat_list_cmp_total}
-use Rattle.std.proofs.lemmas.Bool.{false≢true}
 use Rattle.std.proofs.lemmas.Grind.{flat_map-append}
-use Rattle.std.proofs.lemmas.Map.Lookups.{exact_bytes}
 use Rattle.std.proofs.lemmas.Option.{none-some}
 use Rattle.repo_model.specs.declared.session.SessionResult.TheVariants.{Done}
 use Rattle.repo_model.specs.Data.{Row, listed, fading, Staged, Session, is_same_print}
 use Rattle.repo_model.specs.Settings.{Settings}
 use Rattle.repo_model.specs.State.{State, change_first, is_staged, is_session, is_open_at, row_at, rows_of}
-use Rattle.repo_model.specs.Effect.{Effect, draws, drops, creates, stages, delivers, discards, relists, fades, expires, forgets, lends, returns, opens, ends, with_staged, without_staged, new_session, with_effect, recorded}
+use Rattle.repo_model.specs.Effect.{Effect, stages, delivers, discards, opens, ends, with_staged, without_staged, new_session, with_effect, recorded}
 use Rattle.repo_model.specs.May.{May}
 use Rattle.repo_model.specs.Command.{Command, commit}
 use Rattle.repo_model.specs.Deploy.{Offence, or_else, offence_at, offence}
@@ -25,12 +23,12 @@ use Rattle.repo_model.specs.History.{Entry, Fits, Legal, after, end}
 use Rattle.repo_laws.specs.Sound.{AreNamedApart, Sound}
 use Rattle.repo_laws.specs.Holds.{item_again, item_at}
 use Rattle.repo_laws.specs.Staged.{path_cmp, staged_cmp, StagedByPath, row_path, row_paths}
-use Rattle.repo_laws.proofs.Releases.{is_itself}
-use Rattle.repo_laws.proofs.Orderly.{found-has}
+use Rattle.repo_laws.proofs.Orderly.{first-keeps, found-has}
 use Rattle.repo_laws.proofs.Histories.{entry-keeps, sound-entry}
 use Rattle.repo_laws.proofs.Cases.{Case, makes_row, lists_again, opens_one, deploys, aborts, unlists, collects, turn-case, lands_one}
 use Rattle.repo_laws.proofs.HoldingLists.{all-push, all-change_first}
-use Rattle.repo_laws.proofs.HoldingOrder.{after-all, before-it, filter-ordered}
+use Rattle.repo_laws.proofs.Inserted.{filter-ordered, free-keyed, inserted-ordered, with_staged-is}
+use Rattle.repo_laws.proofs.Lists.{all-then}
 use Rattle.repo_laws.proofs.HoldingTurns.{deploy-items}
 
 paths-order : IsTotalOrder path_cmp
@@ -43,41 +41,9 @@ none-rise : {K : Type 0} (c : K → K → Ordering) → IsStrictlySortedBy c []
 unfolding IsStrictlySortedBy
 none-rise c = tt
 
--- one more staged file
-all-with_staged : (P : Staged → Type 0) (new : Staged) (files : List Staged) → AllByRecursion P files → P new → AllByRecursion P (with_staged new files)
-all-with_staged P new [] all here = (here, tt)
-all-with_staged P new (file ∷ files) all here =
-    elim (path_cmp new.path file.path)
-    as (λ o. AllByRecursion P (match_ordering o (new ∷ file ∷ files) (new ∷ file ∷ files) (file ∷ with_staged new files))) [
-      | Less ↦ (here, all)
-      | Equal ↦ (here, all)
-      | Greater ↦ (all.0, all-with_staged P new files all.1 here)
-    ]
-
 with_staged-ordered : (new : Staged) (files : List Staged) → find (is_staged new.path) files ≡ None → IsStrictlySortedBy staged_cmp files → IsStrictlySortedBy staged_cmp (with_staged new files)
-unfolding IsStrictlySortedBy
-with_staged-ordered new [] free rising = (tt, tt)
-with_staged-ordered new (file ∷ files) free rising =
-    elim (is_staged new.path file)
-    as (λ b. is_staged new.path file ≡ b → cond b (Some file) (find (is_staged new.path) files) ≡ None → IsStrictlySortedBy staged_cmp (with_staged new (file ∷ files))) [
-      | true ↦ λ _ found. absurd (none-some file (sym found))
-      | false ↦ λ other free_then.
-          elim (staged_cmp new file)
-          as (λ o. staged_cmp new file ≡ o → IsStrictlySortedBy staged_cmp (match_ordering o (new ∷ file ∷ files) (new ∷ file ∷ files) (file ∷ with_staged new files))) [
-            | Less ↦ λ before. ((before, after-all staged_cmp staged-order new file files before rising.0), rising)
-            | Equal ↦ λ same. absurd (false≢true (sym other ∙ ap (λ p. is_staged p file) (exact_bytes new.path file.path same) ∙ is_itself file.path))
-            | Greater ↦ λ behind. (all-with_staged (λ y. staged_cmp file y ≡ Less) new files rising.0 (before-it staged_cmp staged-order new file behind), with_staged-ordered new files free_then rising.1)
-          ] refl
-    ] refl free
-
--- where the session that is found is changed, all have it still
-all-first : (P : Session → Type 0) (q : Session → Bool) (f : Session → Session) (sessions : List Session) (one : Session) → AllByRecursion P sessions → find q sessions ≡ Some one → P (f one) → AllByRecursion P (change_first q f sessions)
-all-first P q f [] one all found new = tt
-all-first P q f (x ∷ sessions) one all found new =
-    elim (q x) as (λ b. cond b (Some x) (find q sessions) ≡ Some one → AllByRecursion P (cond b (f x ∷ sessions) (x ∷ change_first q f sessions))) [
-      | true ↦ λ is. let one_is : one ≡ x = cc in (subst (λ (y : Session). P (f y)) one_is new, all.1)
-      | false ↦ λ later. (all.0, all-first P q f sessions one all.1 later new)
-    ] found
+with_staged-ordered new files free rising =
+    subst (IsStrictlySortedBy staged_cmp) (sym (with_staged-is new files)) (inserted-ordered staged_cmp staged-order true new files (λ _. free-keyed (λ (file : Staged). file.path) new files free) rising)
 
 module _ (grace now : ℕ) (s : State) where
   abbrev Rises : Session → Type 0
@@ -90,7 +56,7 @@ module _ (grace now : ℕ) (s : State) where
   staged-kept (stages n path blob) may old =
       let (one, found, _, free, _) = may in
       let new : Staged = record { path = path; blob = blob } in
-      all-first Rises (is_open_at n) (λ session. record session { staged = with_staged new session.staged }) s.sessions one old found
+      first-keeps Rises (is_open_at n) (λ session. record session { staged = with_staged new session.staged }) s.sessions one old found
       (with_staged-ordered new one.staged free (found-has Rises (is_open_at n) s.sessions one old found))
   staged-kept (delivers n repo path blob moment) may old = fewer n path old
   staged-kept (discards n path draft) may old = fewer n path old
@@ -135,16 +101,12 @@ module _ (repo : List ℕ) (now : ℕ) (rows : List Row) where
       let rest = paths-rise files rising.1 in
       paths-cons (IsStrictlySortedBy path_cmp) file files rest (paths-above file.path files rising.0, rest)
 
-no-more : (xs : List (List ℕ)) → xs ++ [] ≡ xs
-no-more [] = refl
-no-more (x ∷ xs) = ap (λ rest. x ∷ rest) (no-more xs)
-
 module _ (settings : Settings) (s : State) (now : ℕ) where
   commit-case : (n : ℕ) (c : Command) (t : Turn) → Case settings s now c t → c ≡ commit n → StagedByPath s → IsStrictlySortedBy path_cmp (row_paths (recorded t.effects))
   commit-case n c t (deploys m one known going) is old =
       let rising = found-has (λ (x : Session). IsStrictlySortedBy staged_cmp x.staged) (is_session m) s.sessions one old known in
       subst (λ items. IsStrictlySortedBy path_cmp (row_paths items)) (sym (deploy-items one now (rows_of one.repo s) (Done (length one.staged))))
-      (subst (IsStrictlySortedBy path_cmp) (sym (flat_map-append row_path (flat_map (λ (file : Staged). item_at one.repo now file (row_at file.path (rows_of one.repo s))) one.staged) _ ∙ no-more _))
+      (subst (IsStrictlySortedBy path_cmp) (sym (flat_map-append row_path (flat_map (λ (file : Staged). item_at one.repo now file (row_at file.path (rows_of one.repo s))) one.staged) _ ∙ append-nil _))
       (paths-rise one.repo now (rows_of one.repo s) one.staged rising))
   commit-case n c t (makes_row repo path m blob among free) is old = cc
   commit-case n c t (lists_again repo path m blob among row since found phase_is) is old = cc
@@ -191,6 +153,6 @@ first-offends rows (file ∷ files) other rising is =
 
       all-above : (list : List Staged) → AllByRecursion (λ (f : Staged). staged_cmp file f ≡ Less) list → file.path ≡ other.path
           → AllByRecursion (λ (f : Staged). path_cmp f.path other.path ≡ Less → offence_at f (row_at f.path rows) ≡ None) list
-      all-above [] all at_path = tt
-      all-above (f ∷ list) all at_path =
-          ((λ below. absurd (not-both f.path file.path (subst (λ p. path_cmp f.path p ≡ Less) (sym at_path) below) all.0)), all-above list all.1 at_path)
+      all-above list all at_path =
+          all-then (λ (f : Staged). staged_cmp file f ≡ Less) (λ (f : Staged). path_cmp f.path other.path ≡ Less → offence_at f (row_at f.path rows) ≡ None)
+          (λ f above below. absurd (not-both f.path file.path (subst (λ p. path_cmp f.path p ≡ Less) (sym at_path) below) above)) list all

@@ -1,10 +1,10 @@
 -- What a turn records, by its reply.
 use native.Mathlib.Omega.{arith}
 use Rattle.std.proofs.Common.{◌≡◌, ℕ, Bool, true, false, List, [], ◌∷◌, ◌++◌, map, length, Option, Some, None, refl, sym, ◌∙◌, ap, eqb-true, length-append}
-use Rattle.std.specs.Prelude.{◌==◌, nat_le, filter, count_by, if◌then◌else◌}
+use Rattle.std.specs.Prelude.{◌==◌, nat_le, count_by, if◌then◌else◌}
 use Rattle.std.specs.List.{AllByRecursion, flat_map}
-use Rattle.std.proofs.lemmas.Bool.{false≢true}
 use Rattle.std.proofs.lemmas.Grind.{flat_map-append}
+use Rattle.std.proofs.lemmas.List.{length-map}
 use Rattle.repo_model.specs.declared.item.Item.TheVariants.{HostedPut, Relisted, SessionOpened, SessionEnded}
 use Rattle.repo_model.specs.declared.session.SessionResult.{SessionResult}
 use Rattle.repo_model.specs.declared.session.SessionResult.TheVariants.{Aborted, Done}
@@ -12,27 +12,22 @@ use Rattle.repo_model.specs.Data.{Blob, Row, Phase, listed, fading, Hosted, Stag
 use Rattle.repo_model.specs.Settings.{Settings}
 use Rattle.repo_model.specs.Prints.{recorded_print}
 use Rattle.repo_model.specs.State.{State, is_session, is_open, hosted_of, row_at, rows_of, session_of, is_among, number_end, most_sessions}
-use Rattle.repo_model.specs.Effect.{Effect, drops, discards, fades, expires, forgets, opens, ends, with_effects, items_of, recorded}
+use Rattle.repo_model.specs.Effect.{Effect, drops, discards, fades, forgets, opens, ends, with_effects, items_of, recorded}
 use Rattle.repo_model.specs.Command.{Command, put, open_session, commit, abort, unlist, collect}
 use Rattle.repo_model.specs.Reply as answered
-use Rattle.repo_model.specs.Purge.{expire_all, expired_of, is_over, due_rows, fade_all, most_rows}
+use Rattle.repo_model.specs.Purge.{expire_all, due_rows, fade_all}
 use Rattle.repo_model.specs.Deploy.{Offence, offence, without_pom, deliver_all, deliver_at, deliver_again}
 use Rattle.repo_model.specs.Turn.{Turn, says, draws_or_spent, put_again, put_at, commit_by, unlist_of, unlent, turn}
 use Rattle.repo_laws.specs.Holds.{can_record, item_again, item_at}
-use Rattle.repo_laws.proofs.Cases.{Case, makes_row, lists_again, opens_one, deploys, aborts, unlists, collects, turn-case, lands_one}
-use Rattle.repo_laws.proofs.Lists.{found-passes, all-take}
+use Rattle.repo_laws.proofs.Cases.{Case, misses, turn-case}
+use Rattle.repo_laws.proofs.HoldingLists.{all-map}
+use Rattle.repo_laws.proofs.Lists.{found-passes}
+use Rattle.repo_laws.proofs.Making.{expired-all}
 
 module _ (settings : Settings) (s : State) (now : ℕ) where
   case-quiet : (c : Command) (t : Turn) → Case settings s now c t → can_record t.reply ≡ false → recorded t.effects ≡ []
-  case-quiet c t (makes_row repo path n blob among free) is = absurd (false≢true (sym is))
-  case-quiet c t (lists_again repo path n blob among row since found phase_is) is = absurd (false≢true (sym is))
-  case-quiet c t (opens_one repo more few) is = absurd (false≢true (sym is))
-  case-quiet c t (deploys n one known going) is = absurd (false≢true (sym is))
-  case-quiet c t (aborts n one known going) is = absurd (false≢true (sym is))
-  case-quiet c t (unlists repo h found) is = absurd (false≢true (sym is))
-  case-quiet c t collects is = absurd (false≢true (sym is))
-  case-quiet c t (lands_one plan outcome drawn) is = absurd (false≢true (sym is))
-  case-quiet c t case is = refl
+  case-quiet c t (misses repo path tried) is = refl
+  case-quiet c t case is = cc
 
   -- behind any other reply nothing is recorded
   pub refused-quiet : (c : Command) → can_record (turn settings s now c).reply ≡ false → recorded (turn settings s now c).effects ≡ []
@@ -128,29 +123,17 @@ one-each [] all = refl
 one-each (e ∷ es) all = omega (arith, length-append (items_of e) (recorded es), all.0, one-each es all.1)
 
 fades-one : (id : List ℕ) (now : ℕ) (rows : List Row) → AllByRecursion (λ e. length (items_of e) ≡ 1) (map (λ (row : Row). fades id row.path now) rows)
-fades-one id now [] = tt
-fades-one id now (row ∷ rows) = (refl, fades-one id now rows)
-
-length-fades : (id : List ℕ) (now : ℕ) (rows : List Row) → length (map (λ (row : Row). fades id row.path now) rows) ≡ length rows
-length-fades id now [] = refl
-length-fades id now (row ∷ rows) = omega (arith, length-fades id now rows)
+fades-one id now = all-map (λ (row : Row). fades id row.path now) (λ e. length (items_of e) ≡ 1) (λ row. refl)
 
 expires-one : (grace now : ℕ) (hosted : List Hosted) → AllByRecursion (λ e. length (items_of e) ≡ 1) (expire_all grace now hosted)
-expires-one grace now hosted = all-take (λ e. length (items_of e) ≡ 1) most_rows (flat_map (expired_of grace now) hosted) (of-all hosted) where
-  of-rows : (id : List ℕ) (rows : List Row) (es : List Effect) → AllByRecursion (λ e. length (items_of e) ≡ 1) es → AllByRecursion (λ e. length (items_of e) ≡ 1) (map (λ (row : Row). expires id row.path row.blob.number) rows ++ es)
-  of-rows id [] es all = all
-  of-rows id (row ∷ rows) es all = (refl, of-rows id rows es all)
-
-  of-all : (hosts : List Hosted) → AllByRecursion (λ e. length (items_of e) ≡ 1) (flat_map (expired_of grace now) hosts)
-  of-all [] = tt
-  of-all (h ∷ hosts) = of-rows h.rule.id (filter (λ (row : Row). is_over grace now row.phase) h.rows) (flat_map (expired_of grace now) hosts) (of-all hosts)
+expires-one = expired-all (λ e. length (items_of e) ≡ 1) (λ repo path blob. refl)
 
 -- the numbers that are answered are those of the items
 pub unlist-records : (settings : Settings) (s : State) (now : ℕ) (repo : List ℕ) → (turn settings s now (unlist repo)).reply ≡ answered.unlisted (length (recorded (turn settings s now (unlist repo)).effects))
 unlist-records settings s now repo = by (hosted_of repo s) where
   by : (found : Option Hosted) → (unlist_of now found).reply ≡ answered.unlisted (length (recorded (unlist_of now found).effects))
   by None = refl
-  by (Some h) = ap answered.unlisted (sym (one-each (fade_all h now) (fades-one h.rule.id now (due_rows h.rule now h.rows)) ∙ length-fades h.rule.id now (due_rows h.rule now h.rows)))
+  by (Some h) = ap answered.unlisted (sym (one-each (fade_all h now) (fades-one h.rule.id now (due_rows h.rule now h.rows)) ∙ length-map (due_rows h.rule now h.rows) (λ (row : Row). fades h.rule.id row.path now)))
 
 pub collect-records : (settings : Settings) (s : State) (now : ℕ)
     → (turn settings s now collect).reply ≡ answered.collected (length (recorded (turn settings s now collect).effects)) (unlent (with_effects s (expire_all settings.grace now s.hosted)).yard)

@@ -1,24 +1,25 @@
 -- What lands may land: its effects may be made.
-use Rattle.std.proofs.Common.{◌≡◌, ℕ, Bool, true, false, cond, ◌||◌, ◌&&◌, inl, inr, List, [], ◌∷◌, map, Option, Some, None, Result, Ok, Err, refl, sym, ◌∙◌, ap, subst, eqb-true}
-use Rattle.std.specs.Prelude.{◌==◌, nat_lt, IsTrue, find, is_some, bytes_eq}
+use Rattle.std.proofs.Common.{◌≡◌, ℕ, true, inl, inr, List, map, Option, Some, None, Result, Ok, refl, sym, ◌∙◌, ap, subst, eqb-true}
+use Rattle.std.specs.Prelude.{◌==◌, nat_lt, find, is_some, bytes_eq}
 use Rattle.std.specs.List.{list_any}
 use Rattle.std.proofs.lemmas.Bool.{false≢true, and_parts}
 use Rattle.mvn_coords.specs.Kind.{kind}
 use Rattle.mvn_coords.specs.declared.kind.Kind.{Kind}
-use Rattle.mvn_coords.specs.declared.kind.Kind.TheVariants.{File, FileSide, Doc, DocSide}
+use Rattle.mvn_coords.specs.declared.kind.Kind.TheVariants.{File, Doc}
 use Rattle.mvn_coords.specs.declared.fault.PathFault.{PathFault}
 use Rattle.fetch_plan.specs.declared.Plan.{Plan}
-use Rattle.fetch_plan.specs.declared.Outcome.TheVariants.{Got, Gone, Refused, NoChecksum, Differs, TooLarge, BadAnswer, BadDocument, Fault}
+use Rattle.fetch_plan.specs.declared.Outcome.TheVariants.{Got, Gone}
 use Rattle.repo_model.specs.Fetched.{Landing, got_file, got_doc}
 use Rattle.repo_model.specs.Data.{Blob, Row, Proxy}
 use Rattle.repo_model.specs.Settings.{ProxyRule, Settings}
-use Rattle.repo_model.specs.State.{State, change_first, is_proxy, is_among, row_at, rows_of, files_of, number_end}
+use Rattle.repo_model.specs.State.{State, is_proxy, is_among, row_at, files_of, number_end}
 use Rattle.repo_model.specs.Effect.{Effect, caches, keeps_doc, marks_missing, clears_mark, proxies_after, with_effect}
 use Rattle.repo_model.specs.May.{AllMay, IsRowsBlob}
-use Rattle.repo_model.specs.Command.{proxy_rule_of, is_landing, is_parcel}
+use Rattle.repo_model.specs.Command.{proxy_rule_of, is_landing}
 use Rattle.repo_model.specs.Turn.{is_drawn, gives_draft_up, lands_file, lands}
-use Rattle.repo_laws.specs.Looks.{IsRowOf, IsFileAt, IsSeenFile}
+use Rattle.repo_laws.specs.Looks.{IsFileAt, IsSeenFile}
 use Rattle.repo_laws.proofs.Files.{proxy-rules-kept}
+use Rattle.repo_laws.proofs.HoldingLists.{any-mapped}
 
 file-blob : (s : State) (id path : List ℕ) (blob : Blob) → IsFileAt s id path blob → IsRowsBlob s blob.number
 file-blob s id path blob (inl (row, found, same)) = inl (id, path, row, found, ap (λ (b : Blob). b.number) same)
@@ -30,15 +31,7 @@ seen-blob settings s id path blob (inl here) = file-blob s id path blob here
 seen-blob settings s id path blob (inr (g, _, (member, _, here))) = file-blob s member path blob here
 
 there-by-proxy-rules : (id : List ℕ) (proxies : List Proxy) → list_any (is_proxy id) proxies ≡ is_some (find (λ (rule : ProxyRule). bytes_eq rule.id id) (map (λ (p : Proxy). p.rule) proxies))
-there-by-proxy-rules id [] = refl
-there-by-proxy-rules id (p ∷ proxies) =
-    let rest = there-by-proxy-rules id proxies in
-    let rules : List ProxyRule = map (λ (x : Proxy). x.rule) proxies in
-    elim (is_proxy id p)
-    as (λ b. (b || list_any (is_proxy id) proxies) ≡ is_some (cond b (Some p.rule) (find (λ (rule : ProxyRule). bytes_eq rule.id id) rules))) [
-      | true ↦ refl
-      | false ↦ rest
-    ]
+there-by-proxy-rules id = any-mapped (λ (p : Proxy). p.rule) (λ (rule : ProxyRule). bytes_eq rule.id id)
 
 -- a proxy is there exactly where the settings name it
 pub proxy-there-as-set : (settings : Settings) (s : State) (id : List ℕ) → map (λ (p : Proxy). p.rule) s.proxies ≡ settings.proxies → list_any (is_proxy id) s.proxies ≡ is_some (proxy_rule_of id settings)
@@ -57,12 +50,8 @@ landed-number : (k : Result Kind PathFault) (under : Option ℕ) (blob : Blob) (
 landed-number (Ok (File c)) (Some n) blob drafts landing drawn =
     let named : blob.number ≡ n = eqb-true blob.number n (and_parts (blob.number == n) (nat_lt blob.print.length number_end) landing).0 in
     subst (λ (k : ℕ). is_among k drafts ≡ true) (sym named) drawn
-landed-number (Ok (File c)) None blob drafts landing drawn = absurd (false≢true landing)
-landed-number (Ok (Doc d)) None blob drafts landing drawn = absurd (false≢true landing)
 landed-number (Ok (Doc d)) (Some n) blob drafts landing drawn = absurd (false≢true landing)
-landed-number (Ok (FileSide c side)) under blob drafts landing drawn = absurd (false≢true landing)
-landed-number (Ok (DocSide d side)) under blob drafts landing drawn = absurd (false≢true landing)
-landed-number (Err fault) under blob drafts landing drawn = absurd (false≢true landing)
+landed-number k under blob drafts landing drawn = absurd (false≢true landing)
 
 module _ (grace now : ℕ) where
   given-up-can : (s : State) (under : Option ℕ) → is_drawn under s.yard.drafts ≡ true → AllMay grace now s (gives_draft_up under)
@@ -82,10 +71,4 @@ module _ (grace now : ℕ) where
         file-can blob (landed-number (kind plan.path) plan.draft blob s.yard.drafts landing drawn) (row_at plan.path (files_of plan.proxy s)) refl
     lands-can (Got (got_doc document)) landing = ((refl, there), (still (keeps_doc plan.proxy plan.path _ now), tt))
     lands-can Gone landing = ((refl, there), given-up-can (with_effect s (marks_missing plan.proxy plan.path now)) plan.draft drawn)
-    lands-can (Refused status) landing = given-up-can s plan.draft drawn
-    lands-can NoChecksum landing = given-up-can s plan.draft drawn
-    lands-can (Differs said found) landing = given-up-can s plan.draft drawn
-    lands-can TooLarge landing = given-up-can s plan.draft drawn
-    lands-can (BadAnswer at) landing = given-up-can s plan.draft drawn
-    lands-can (BadDocument at) landing = given-up-can s plan.draft drawn
-    lands-can Fault landing = given-up-can s plan.draft drawn
+    lands-can outcome landing = given-up-can s plan.draft drawn

@@ -1,9 +1,9 @@
 -- The rows of releases stay through a history.
-use Rattle.std.proofs.Common.{◌≡◌, List, [], ◌∷◌, map, Option, Some}
+use Rattle.std.proofs.Common.{◌≡◌, List, [], ◌∷◌, Option, Some}
 use Rattle.std.specs.List.{AllByRecursion}
 use Rattle.outside.specs.Moments.{Moments}
 use Rattle.repo_model.specs.Data.{Hosted}
-use Rattle.repo_model.specs.Settings.{Rule, Settings}
+use Rattle.repo_model.specs.Settings.{Settings}
 use Rattle.repo_model.specs.State.{State, opening, new_hosted, row_at, rows_of}
 use Rattle.repo_model.specs.History.{Entry, Fits, after, Legal, end}
 use Rattle.repo_laws.specs.Laws.{FadingAreSnapshots, KeepsReleases}
@@ -11,13 +11,10 @@ use Rattle.repo_model.specs.Paths.{FadesRightly}
 use Rattle.repo_laws.specs.Sound.{AreNamedApart, Sound}
 use Rattle.repo_laws.proofs.Releases.{releases-kept, rightly-kept}
 use Rattle.repo_laws.proofs.Histories.{entry-keeps, sound-entry}
-
-new-rightly : (rules : List Rule) → AllByRecursion (λ (h : Hosted). AllByRecursion FadesRightly h.rows) (map new_hosted rules)
-new-rightly [] = tt
-new-rightly (rule ∷ rules) = (tt, new-rightly rules)
+use Rattle.repo_laws.proofs.HoldingLists.{all-map}
 
 pub opening-rightly : (settings : Settings) (clock : Option Moments) → FadingAreSnapshots (opening settings clock)
-opening-rightly settings clock = new-rightly settings.hosted
+opening-rightly settings clock = all-map new_hosted (λ (h : Hosted). AllByRecursion FadesRightly h.rows) (λ rule. tt) settings.hosted
 
 module _ (settings : Settings) (apart : AreNamedApart settings.hosted) where
   rightly-entry : (s : State) (e : Entry) → Fits settings s e → Sound settings s → FadingAreSnapshots s → FadingAreSnapshots (after settings s e)

@@ -9,6 +9,7 @@ use Rattle.repo_model.specs.Effect.{Effect, draws, drops, discards, expires, for
 use Rattle.repo_laws.specs.Laws.{leases_of}
 use Rattle.repo_laws.specs.Sound.{LentOnce, AreRising}
 use Rattle.repo_laws.proofs.Counts.{one_if, count-push, count-filter}
+use Rattle.repo_laws.proofs.HoldingLists.{all-filter}
 use Rattle.repo_laws.proofs.Lists.{all-then}
 
 -- no more leases of any number
@@ -72,10 +73,6 @@ with_number-rising n (m ∷ ms) rising =
           let first : n ≤ m = omega (arith, ltb-false m n is) in
           ((first, all-then (λ k. m ≤ k) (λ k. n ≤ k) (λ k le. omega (arith, first, le)) ms rising.0), rising)
     ] refl
-
-all-filter : (P : ℕ → Type 0) (q : ℕ → Bool) (ns : List ℕ) → AllByRecursion P ns → AllByRecursion P (filter q ns)
-all-filter P q [] all = tt
-all-filter P q (n ∷ ns) all = elim (q n) as (λ b. AllByRecursion P (cond b (n ∷ filter q ns) (filter q ns))) [ true ↦ (all.0, all-filter P q ns all.1) | false ↦ all-filter P q ns all.1 ]
 
 pub filter-rising : (q : ℕ → Bool) (ns : List ℕ) → AreRising ns → AreRising (filter q ns)
 filter-rising q [] rising = tt

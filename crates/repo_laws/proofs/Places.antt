@@ -1,20 +1,21 @@
 -- Each blob number stands in one place: kept by each effect.
 use native.Mathlib.Omega.{arith}
-use Rattle.std.proofs.Common.{◌≡◌, ◌≤◌, ◌<◌, ◌+◌, ℕ, Bool, true, false, not, cond, ◌&&◌, ◌⊎◌, inl, inr, List, [], ◌∷◌, ◌++◌, Some, refl, sym, ◌∙◌, ap, subst}
-use Rattle.std.specs.Prelude.{◌==◌, nat_lt, IsTrue, count_by, filter, find}
-use Rattle.std.specs.Option.{option_map_or}
+use Rattle.std.proofs.Common.{◌≡◌, ◌≤◌, ◌<◌, ◌+◌, ℕ, Bool, true, false, not, ◌&&◌, inl, inr, List, [], Some, refl, sym, ◌∙◌, ap, subst}
+use Rattle.std.specs.Prelude.{◌==◌, nat_lt, IsTrue, count_by}
 use Rattle.std.specs.List.{AllByRecursion, list_all, list_any}
-use Rattle.std.proofs.lemmas.Bool.{ne_eqb, eq-eqb, false≢true, and_parts, or_parts, or_from, and_from, ltb-true, ltb-false}
+use Rattle.std.proofs.lemmas.Bool.{ne_eqb, false_from_ne_true, false≢true, and_parts, ltb-true, ltb-false}
 use Rattle.std.proofs.lemmas.List.Sums.{sum_by_push}
 use Rattle.repo_model.specs.Data.{Row, Hosted, Staged, Session}
-use Rattle.repo_model.specs.State.{State, Lease, change_where, is_repository, is_row, is_staged, is_open_at, rows_of, is_among}
+use Rattle.repo_model.specs.State.{State, Lease, change_where, is_row, is_staged, is_open_at, rows_of, is_among}
 use Rattle.repo_model.specs.Effect.{Effect, draws, drops, creates, stages, delivers, discards, relists, fades, expires, forgets, lends, returns, opens, ends, caches, keeps_doc, marks_missing, clears_mark, with_row, new_row, list_again, fade, with_staged, without_row, without_staged, new_session, proxy_after, with_effect}
 use Rattle.repo_model.specs.May.{May, IsRowsBlob}
 use Rattle.repo_laws.specs.Laws.{places_of, rows_with, cached_with, count_of}
 use Rattle.repo_laws.specs.Sound.{OnePlace}
 use Rattle.repo_laws.proofs.Files.{cached-grows, cached-stays, file-counts}
-use Rattle.repo_laws.proofs.Rows.{RowsApart, rows_in}
-use Rattle.repo_laws.proofs.Counts.{one_if, count-cons, count-push, count-filter, found-goes, row-goes, count-with_number, given-up, count-with_row, count-with_staged, count-change_where, names, stages_it, rows-counted, rows-counted-back, staged-counted, row-counts}
+use Rattle.repo_laws.proofs.HoldingLists.{all-filter, all-push}
+use Rattle.repo_laws.proofs.Lists.{all-among, all-both, all-then, among-has, list_all-all}
+use Rattle.repo_laws.proofs.Rows.{RowsApart, all-part, rows_in}
+use Rattle.repo_laws.proofs.Counts.{one_if, count-push, count-filter, found-goes, one-goes, count-with_number, count-others, given-up, count-with_row, count-with_staged, count-same, names, stages_it, rows-counted, rows-counted-back, staged-counted, row-counts}
 
 -- the effect draws the next number
 abbrev pub is_draw : Effect → Bool
@@ -30,7 +31,7 @@ module _ (grace now : ℕ) (s : State) (n : ℕ) where
 
   relisted : (repo path : List ℕ) (f : Row → Row) → ((r : Row) → names n (f r) ≡ names n r) →
       count_by (names n) (change_where (is_row path) f (rows_of repo s)) + 0 ≤ count_by (names n) (rows_of repo s) + 0
-  relisted repo path f keeps = omega (arith, count-change_where (names n) (is_row path) f keeps (rows_of repo s))
+  relisted repo path f keeps = omega (arith, count-same (names n) (is_row path) f keeps (rows_of repo s))
 
   -- a number stands in no more places than before, but for the next one, which is drawn
   pub places-counted : (e : Effect) → May grace now s e → Counted e
@@ -113,77 +114,33 @@ one-at-most : (b : Bool) → one_if b ≤ 1
 one-at-most true = omega arith
 one-at-most false = omega arith
 
-not_off : (b : Bool) → not b ≡ true → b ≡ false
-not_off true is = absurd (false≢true is)
-not_off false is = refl
-
 pub rows-apart : (repo : List ℕ) (hosted : List Hosted) → AllByRecursion (λ (h : Hosted). RowsApart h.rows) hosted → RowsApart (rows_in repo hosted)
-rows-apart repo [] all = tt
-rows-apart repo (h ∷ hosted) all =
-    elim (is_repository repo h) as (λ b. RowsApart (option_map_or (λ (g : Hosted). g.rows) (cond b (Some h) (find (is_repository repo) hosted)) [])) [
-      | true ↦ all.0
-      | false ↦ rows-apart repo hosted all.1
-    ]
+rows-apart repo hosted = all-part (λ (h : Hosted). h.rule.id) (λ (h : Hosted). h.rows) RowsApart repo hosted tt
 
 -- what is borrowed is a row's or condemned
 abbrev IsLent : State → Lease → Type 0
 IsLent t lease = 0 < rows_with lease.blob t.hosted + cached_with lease.blob t.proxies + count_of lease.blob t.yard.condemned
 
-module _ (s : State) where
-  all-lent : (t : State) → ((n : ℕ) → rows_with n s.hosted + cached_with n s.proxies + count_of n s.yard.condemned ≤ rows_with n t.hosted + cached_with n t.proxies + count_of n t.yard.condemned)
-      → (leases : List Lease) → AllByRecursion (IsLent s) leases → AllByRecursion (IsLent t) leases
-  all-lent t more [] all = tt
-  all-lent t more (lease ∷ leases) all = (omega (arith, all.0, more lease.blob), all-lent t more leases all.1)
+all-lent : (s t : State) → ((n : ℕ) → rows_with n s.hosted + cached_with n s.proxies + count_of n s.yard.condemned ≤ rows_with n t.hosted + cached_with n t.proxies + count_of n t.yard.condemned)
+    → (leases : List Lease) → AllByRecursion (IsLent s) leases → AllByRecursion (IsLent t) leases
+all-lent s t more = all-then (IsLent s) (IsLent t) (λ lease is. omega (arith, is, more lease.blob))
 
-  lent-push : (leases : List Lease) (lease : Lease) → AllByRecursion (IsLent s) leases → IsLent s lease → AllByRecursion (IsLent s) (leases ++ lease ∷ [])
-  lent-push [] lease all new = (new, tt)
-  lent-push (first ∷ leases) lease all new = (all.0, lent-push leases lease all.1 new)
+-- none is forgotten that is lent
+forgotten : (s : State) (blobs : List ℕ) → IsTrue (list_all (λ n. is_among n s.yard.condemned && not (list_any (λ (l : Lease). l.blob == n) s.yard.leases)) blobs)
+    → AllByRecursion (IsLent s) s.yard.leases → AllByRecursion (IsLent (with_effect s (forgets blobs))) s.yard.leases
+forgotten s blobs free =
+    all-both (λ (lease : Lease). list_any (λ (l : Lease). l.blob == lease.blob) s.yard.leases ≡ true) (IsLent s) (IsLent (with_effect s (forgets blobs)))
+    (λ lease lent is. omega (arith, is, count-others lease.blob blobs s.yard.condemned (kept lease.blob lent)))
+    s.yard.leases (all-among (λ (l : Lease). l.blob) s.yard.leases) where
+      is_free : ℕ → Bool
+      is_free n = is_among n s.yard.condemned && not (list_any (λ (l : Lease). l.blob == n) s.yard.leases)
 
-  lent-filter : (q : Lease → Bool) (leases : List Lease) → AllByRecursion (IsLent s) leases → AllByRecursion (IsLent s) (filter q leases)
-  lent-filter q [] all = tt
-  lent-filter q (lease ∷ leases) all =
-      elim (q lease) as (λ b. AllByRecursion (IsLent s) (cond b (lease ∷ filter q leases) (filter q leases))) [
-        | true ↦ (all.0, lent-filter q leases all.1)
-        | false ↦ lent-filter q leases all.1
-      ]
-
-  -- what is not among the forgotten stays
-  count-others : (k : ℕ) (blobs ms : List ℕ) → is_among k blobs ≡ false → count_of k (filter (λ m. not (is_among m blobs)) ms) ≡ count_of k ms
-  count-others k blobs [] other = refl
-  count-others k blobs (m ∷ ms) other =
-      let rest = filter (λ i. not (is_among i blobs)) ms in
-      let same = count-others k blobs ms other in
-      let is : ℕ → Bool = λ i. i == k in
-      elim (is_among m blobs)
-      as (λ b. is_among m blobs ≡ b → count_of k (cond (not b) (m ∷ rest) rest) ≡ count_of k (m ∷ ms)) [
-        | true ↦ λ among.
-            let apart : (m == k) ≡ false = ne_eqb m k (λ at. false≢true (sym other ∙ ap (λ i. is_among i blobs) (sym at) ∙ among)) in
-            let zero : one_if (m == k) ≡ 0 = ap one_if apart in
-            omega (arith, count-cons is m ms, zero, same)
-        | false ↦ λ _. omega (arith, count-cons is m rest, count-cons is m ms, same)
-      ] refl
-
-  not_lent : (lease : Lease) (leases : List Lease) (blobs : List ℕ) → IsTrue (list_all (λ n. is_among n s.yard.condemned && not (list_any (λ (l : Lease). l.blob == n) (lease ∷ leases))) blobs)
-      → (is_among lease.blob blobs ≡ false) × IsTrue (list_all (λ n. is_among n s.yard.condemned && not (list_any (λ (l : Lease). l.blob == n) leases)) blobs)
-  not_lent lease leases [] all = (refl, refl)
-  not_lent lease leases (n ∷ ns) all =
-      let Free : ℕ → List Lease → Bool = λ k ls. is_among k s.yard.condemned && not (list_any (λ (l : Lease). l.blob == k) ls) in
-      let (here, then) = and_parts (Free n (lease ∷ leases)) (list_all (λ k. Free k (lease ∷ leases)) ns) all in
-      let (garbage, unlent) = and_parts (is_among n s.yard.condemned) (not (list_any (λ (l : Lease). l.blob == n) (lease ∷ leases))) here in
-      let (apart, others) = or_parts (lease.blob == n) (list_any (λ (l : Lease). l.blob == n) leases) (not_off (list_any (λ (l : Lease). l.blob == n) (lease ∷ leases)) unlent) in
-      let (rest, rest_free) = not_lent lease leases ns then in
-      let apart_too : (n == lease.blob) ≡ false = ne_eqb n lease.blob (λ at. false≢true (sym apart ∙ eq-eqb lease.blob n (sym at))) in (
-        or_from (n == lease.blob) (is_among lease.blob ns) apart_too rest,
-        and_from (Free n leases) (list_all (λ k. Free k leases) ns)
-            (and_from (is_among n s.yard.condemned) (not (list_any (λ (l : Lease). l.blob == n) leases)) garbage (ap not others)) rest_free,
-      )
-
-  forgotten : (leases : List Lease) (blobs : List ℕ) → IsTrue (list_all (λ n. is_among n s.yard.condemned && not (list_any (λ (l : Lease). l.blob == n) leases)) blobs)
-      → AllByRecursion (IsLent s) leases → AllByRecursion (IsLent (with_effect s (forgets blobs))) leases
-  forgotten [] blobs free all = tt
-  forgotten (lease ∷ leases) blobs free all =
-      let (other, rest) = not_lent lease leases blobs free in
-      (omega (arith, all.0, count-others lease.blob blobs s.yard.condemned other), forgotten leases blobs rest all.1)
+      kept : (n : ℕ) → list_any (λ (l : Lease). l.blob == n) s.yard.leases ≡ true → is_among n blobs ≡ false
+      kept n lent =
+          false_from_ne_true (is_among n blobs)
+          (λ given.
+          let unlent = (and_parts (is_among n s.yard.condemned) (not (list_any (λ (l : Lease). l.blob == n) s.yard.leases)) (among-has (λ m. is_free m ≡ true) n blobs (list_all-all is_free blobs free) given)).1 in
+          false≢true (sym (ap not lent) ∙ unlent))
 
 -- what a file has, counts
 pub rows-blob-counts : (s : State) (blob : ℕ) → IsRowsBlob s blob → 0 < rows_with blob s.hosted + cached_with blob s.proxies
@@ -208,20 +165,20 @@ lent-kept grace now s (discards m path draft) apart may all =
     all-lent s (with_effect s (discards m path draft)) (λ n. omega (arith, count-with_number n draft s.yard.condemned)) s.yard.leases all
 lent-kept grace now s (relists repo path moment) apart may all =
     all-lent s (with_effect s (relists repo path moment))
-    (λ n. omega (arith, rows-counted-back n repo (change_where (is_row path) (list_again moment)) 0 s.hosted (omega (arith, count-change_where (names n) (is_row path) (list_again moment) (λ r. refl) (rows_of repo s))))) s.yard.leases all
+    (λ n. omega (arith, rows-counted-back n repo (change_where (is_row path) (list_again moment)) 0 s.hosted (omega (arith, count-same (names n) (is_row path) (list_again moment) (λ r. refl) (rows_of repo s))))) s.yard.leases all
 lent-kept grace now s (fades repo path moment) apart may all =
     all-lent s (with_effect s (fades repo path moment))
-    (λ n. omega (arith, rows-counted-back n repo (change_where (is_row path) (fade moment)) 0 s.hosted (omega (arith, count-change_where (names n) (is_row path) (fade moment) (λ r. refl) (rows_of repo s))))) s.yard.leases all
+    (λ n. omega (arith, rows-counted-back n repo (change_where (is_row path) (fade moment)) 0 s.hosted (omega (arith, count-same (names n) (is_row path) (fade moment) (λ r. refl) (rows_of repo s))))) s.yard.leases all
 lent-kept grace now s (expires repo path blob) apart may all =
     let (row, since, found, _, named, _) = may in
     all-lent s (with_effect s (expires repo path blob))
     (λ n. let same : one_if (row.blob.number == n) ≡ one_if (blob == n) = ap (λ k. one_if (k == n)) named in
-    let rows = rows-counted-back n repo (without_row path) (one_if (row.blob.number == n)) s.hosted (row-goes (names n) path (rows_of repo s) row (rows-apart repo s.hosted apart) found) in
+    let rows = rows-counted-back n repo (without_row path) (one_if (row.blob.number == n)) s.hosted (one-goes (λ (r : Row). r.path) (names n) path (rows_of repo s) row (rows-apart repo s.hosted apart) found) in
     omega (arith, rows, same, count-with_number n blob s.yard.condemned)) s.yard.leases all
-lent-kept grace now s (forgets blobs) apart may all = forgotten s s.yard.leases blobs may all
+lent-kept grace now s (forgets blobs) apart may all = forgotten s blobs may all
 lent-kept grace now s (lends blob) apart may all =
-    lent-push s s.yard.leases (record { number = s.yard.next_lease; blob = blob }) all (omega (arith, rows-blob-counts s blob may.1))
-lent-kept grace now s (returns lease) apart may all = lent-filter s (λ l. not (l.number == lease)) s.yard.leases all
+    all-push (IsLent s) s.yard.leases (record { number = s.yard.next_lease; blob = blob }) all (omega (arith, rows-blob-counts s blob may.1))
+lent-kept grace now s (returns lease) apart may all = all-filter (IsLent s) (λ l. not (l.number == lease)) s.yard.leases all
 lent-kept grace now s (caches id path blob moment) apart may all =
     all-lent s (with_effect s (caches id path blob moment)) (λ n. omega (arith, cached-stays n id (proxy_after (caches id path blob moment)) (λ p. omega (arith, count-with_row (names n) (new_row path blob moment) p.files)) s.proxies)) s.yard.leases all
 lent-kept grace now s (keeps_doc id path document moment) apart may all =

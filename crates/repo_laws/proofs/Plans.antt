@@ -1,29 +1,28 @@
 -- What a look says to fetch is a plan of the settings.
 use native.Mathlib.Omega.{arith}
-use Rattle.std.proofs.Common.{◌≡◌, ◌≢◌, ◌<◌, ◌≤◌, ◌+◌, ℕ, Bool, true, false, cond, List, [], ◌∷◌, map, length, Option, Some, None, Result, Ok, Err, refl, sym, ◌∙◌, ap, subst, suc}
-use Rattle.std.specs.Prelude.{find, bytes_eq, is_some, if◌then◌else◌, ◌==◌}
-use Rattle.std.specs.Option.{option_map, option_map_or}
-use Rattle.std.proofs.lemmas.Bool.{false≢true}
+use Rattle.std.proofs.Common.{◌≡◌, ◌≢◌, ◌<◌, ◌+◌, ℕ, Bool, true, false, cond, List, [], ◌∷◌, map, length, Option, Some, None, Result, Ok, Err, refl, sym, ◌∙◌, ap, subst}
+use Rattle.std.specs.Prelude.{find, bytes_eq, is_some, if◌then◌else◌}
+use Rattle.std.specs.Option.{option_map_or}
 use Rattle.std.proofs.lemmas.Option.{none-some}
 use Rattle.std.proofs.lemmas.Slice.Eq.{bytes_eq-Decides}
 use Rattle.mvn_coords.specs.Kind.{kind}
 use Rattle.mvn_coords.specs.declared.kind.Kind.{Kind}
 use Rattle.mvn_coords.specs.declared.kind.Kind.TheVariants.{File, FileSide, Doc, DocSide}
 use Rattle.mvn_coords.specs.declared.fault.PathFault.{PathFault}
-use Rattle.mvn_coords.specs.Layout.{Coordinates, Directory, text_of, text_of_document}
+use Rattle.mvn_coords.specs.Layout.{Coordinates, Directory, text_of}
 use Rattle.mvn_coords.proofs.ExactPaths.{exact}
 use Rattle.mvn_metadata.specs.Document.{Document}
 use Rattle.path_patterns.specs.Pattern.{is_let_through}
 use Rattle.fetch_plan.specs.declared.Plan.{Plan}
 use Rattle.repo_model.specs.declared.step.Step.{Step}
-use Rattle.repo_model.specs.declared.step.Step.TheVariants.{Serve, Missed, Blocked, Negative, Never, Fetch}
+use Rattle.repo_model.specs.declared.step.Step.TheVariants.{Serve, Missed, Blocked, Fetch}
 use Rattle.repo_model.specs.Data.{Row, Kept, Hosted, Proxy}
 use Rattle.repo_model.specs.Settings.{GroupRule, ProxyRule, Settings}
-use Rattle.repo_model.specs.State.{State, is_proxy, row_at, hosted_of, proxy_of, is_among, number_end}
+use Rattle.repo_model.specs.State.{State, is_proxy, row_at, hosted_of, proxy_of, is_among}
 use Rattle.repo_model.specs.Command.{Command, look, proxy_rule_of, group_rule_of}
-use Rattle.repo_model.specs.Reply.{Reply, fetches}
+use Rattle.repo_model.specs.Reply.{fetches}
 use Rattle.repo_model.specs.Asking.{IsPlanned, IsPlan, members_of}
-use Rattle.repo_model.specs.Proxies.{kept_at, subject_of, decided, step_for, step_out, document_step, instead, is_fresh}
+use Rattle.repo_model.specs.Proxies.{kept_at, subject_of, decided, step_for, document_step, instead, is_fresh}
 use Rattle.repo_model.specs.Turn.{Turn, turn, Seen, is_nothing, is_to_fetch, or_nothing, seen_at, document_text, document_shown, file_shown, is_of_file, served_by, stepped, proxy_seen, member_seen, fetches_one, serves_or_fetches, each_seen, directory_of, merged_of, first_or, group_seen, look_at, plan_of, longest_document, file_limit}
 use Rattle.repo_laws.proofs.Lists.{found-passes}
 use Rattle.repo_laws.proofs.Cases.{Case, plans_file, plans_document, turn-case}
@@ -50,9 +49,7 @@ module _ (p : Proxy) (now : ℕ) (at : List ℕ) where
   for-fetch false (Ok (Doc d)) is = (refl, tt)
   for-fetch true (Ok (File c)) is = absurd (elim (is_some (row_at at p.files)) as (λ b. (if b then Serve else Missed) ≡ Fetch → ⊥) [ true ↦ λ no. cc | false ↦ λ no. cc ] is)
   for-fetch true (Ok (Doc d)) is = absurd (tried-not (kept_at at p.documents) is)
-  for-fetch tried (Ok (FileSide c side)) is = absurd (cc)
-  for-fetch tried (Ok (DocSide d side)) is = absurd (cc)
-  for-fetch tried (Err fault) is = absurd (cc)
+  for-fetch tried k is = absurd (cc)
 
   decided-fetch : (tried : Bool) → decided p now tried at ≡ Fetch → (tried ≡ false) × is_subject_kind (kind at)
   decided-fetch tried is =
@@ -76,17 +73,11 @@ no-plan f (Some x) m r at o other is = other x is
 
 document-none : (k : Result Kind PathFault) (document : Document) (m : ℕ) (r : ProxyRule) (at : List ℕ) (o : Bool) → document_shown k document ≢ is_to_fetch m r at o
 document-none (Ok (DocSide d side)) document m r at o is = absurd (cc)
-document-none (Ok (Doc d)) document m r at o is = absurd (cc)
-document-none (Ok (File c)) document m r at o is = absurd (cc)
-document-none (Ok (FileSide c side)) document m r at o is = absurd (cc)
-document-none (Err fault) document m r at o is = absurd (cc)
+document-none k document m r at o is = absurd (cc)
 
 file-none : (k : Result Kind PathFault) (row : Row) (m : ℕ) (r : ProxyRule) (at : List ℕ) (o : Bool) → file_shown k row ≢ is_to_fetch m r at o
 file-none (Ok (FileSide c side)) row m r at o is = absurd (cc)
-file-none (Ok (File c)) row m r at o is = absurd (cc)
-file-none (Ok (Doc d)) row m r at o is = absurd (cc)
-file-none (Ok (DocSide d side)) row m r at o is = absurd (cc)
-file-none (Err fault) row m r at o is = absurd (cc)
+file-none k row m r at o is = absurd (cc)
 
 served-none : (p : Proxy) (on : List ℕ) (k : Result Kind PathFault) (m : ℕ) (r : ProxyRule) (at : List ℕ) (o : Bool) → served_by p on k ≢ is_to_fetch m r at o
 served-none p on k m r at o is =
@@ -133,10 +124,7 @@ module _ (s : State) (now : ℕ) (tried path : List ℕ) (m : ℕ) (r : ProxyRul
         sym member_is,
       )
   proxy-plan id p member Serve there decides is = absurd (served-none p (subject_of path (kind path)) (kind path) m r at o is)
-  proxy-plan id p member Missed there decides is = absurd (cc)
-  proxy-plan id p member Blocked there decides is = absurd (cc)
-  proxy-plan id p member Negative there decides is = absurd (cc)
-  proxy-plan id p member Never there decides is = absurd (cc)
+  proxy-plan id p member step there decides is = absurd (cc)
 
   member-plan : (member : ℕ) (id : List ℕ) → member_seen s now tried path (kind path) member id ≡ is_to_fetch m r at o → IsSeenPlan s tried path m r at o × (m ≡ member)
   member-plan member id is =

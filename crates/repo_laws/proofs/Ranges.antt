@@ -1,35 +1,32 @@
 -- Tables stay in range under what a turn records.
 use native.Mathlib.Omega.{arith}
-use Rattle.std.proofs.Common.{◌≡◌, ◌≤◌, ◌<◌, ℕ, Bool, true, false, not, cond, ◌||◌, List, [], ◌∷◌, Some, None, Ok, refl, ◌∙◌, ap, subst, eqb-true}
-use Rattle.std.specs.Prelude.{◌==◌, nat_lt, find, count_by, if◌then◌else◌, IsTrue}
+use Rattle.std.proofs.Common.{◌≡◌, ◌≤◌, ◌<◌, ℕ, Bool, true, false, not, ◌||◌, List, [], ◌∷◌, Some, None, Ok, refl, ◌∙◌, ap, subst, eqb-true}
+use Rattle.std.specs.Prelude.{◌==◌, nat_lt, filter, find, count_by, if◌then◌else◌, IsTrue}
 use Rattle.std.specs.List.{AllByRecursion, list_any}
-use Rattle.std.specs.Ordering.{match_ordering}
-use Rattle.std.specs.declared.cmp.Ordering.TheVariants.{Less, Equal, Greater}
 use Rattle.std.proofs.lemmas.Bool.{false≢true, and_parts, eq-eqb, ltb-true, ltb-false}
-use Rattle.std.proofs.lemmas.Option.{none-some}
 use Rattle.repo_model.specs.declared.item.Item.{Item}
 use Rattle.repo_model.specs.declared.item.Item.TheVariants.{HostedPut, Faded, Relisted, Removed, CachedFile, CachedDoc, SessionOpened, SessionEnded, Digested}
 use Rattle.repo_model.specs.declared.print.Recorded.{Recorded}
-use Rattle.repo_model.specs.Data.{listed, fading, Staged, Session}
+use Rattle.repo_model.specs.Data.{Row, listed, fading, Staged, Session}
 use Rattle.repo_model.specs.Paths.{FadesRightly, is_snapshot_path}
 use Rattle.repo_model.specs.Settings.{Settings}
-use Rattle.repo_model.specs.State.{State, change_where, is_open_at, is_staged, number_end}
-use Rattle.repo_model.specs.Effect.{Effect, draws, drops, creates, stages, delivers, discards, relists, fades, expires, forgets, lends, returns, opens, ends, list_again, fade, with_effect, items_of, recorded, caches, keeps_doc, marks_missing, clears_mark}
+use Rattle.repo_model.specs.State.{State, is_open_at, is_staged, number_end}
+use Rattle.repo_model.specs.Effect.{Effect, creates, delivers, relists, fades, expires, opens, ends, list_again, fade, with_effect, items_of, recorded, caches, keeps_doc}
 use Rattle.repo_model.specs.May.{May, AllMay}
-use Rattle.repo_model.specs.Tables.{Tables, RecordedRow, RecordedDocument, RecordedSession, no_tables, place_cmp, is_recorded, recorded_at, recorded_row, with_document, is_session, is_listed_row, change_recorded, digested, lacks_at, names_blob, item_on, fits_on, applied}
+use Rattle.repo_model.specs.Tables.{Tables, RecordedRow, RecordedDocument, RecordedSession, no_tables, is_recorded, recorded_at, recorded_row, with_recorded, is_session, is_listed_row, change_recorded, digested, lacks_at, names_blob, item_on, fits_on, applied}
 use Rattle.repo_model.specs.History.{Entry, Legal, latest_moment, ticked, effects_of, after}
 use Rattle.repo_laws.specs.Laws.{staged_with, places_of}
 use Rattle.repo_laws.specs.Sound.{AreNamedApart, Sound, OnePlace, IsSound}
 use Rattle.repo_laws.specs.Holds.{IsUpTo, AreUpTo, with_items, told}
 use Rattle.repo_laws.specs.InRange.{IsRowInRange, InRange, IsItemInRange}
 use Rattle.repo_laws.proofs.ByPath.{all-apart}
-use Rattle.repo_laws.proofs.Counts.{one_if, stages_it, count-cons, among-counts, staged_with-cons}
+use Rattle.repo_laws.proofs.Counts.{stages_it, among-counts, found-counts, found-sums}
 use Rattle.repo_laws.proofs.Histories.{entry-may, one-place-ticked, sound-ticked}
 use Rattle.repo_laws.proofs.Holding.{AllFit, applied-fit, applied-is}
 use Rattle.repo_laws.proofs.HoldingLists.{all-change_where, all-filter, all-push, all-join}
-use Rattle.repo_laws.proofs.HoldingOrder.{recorded-there, all-with_recorded}
+use Rattle.repo_laws.proofs.HoldingOrder.{recorded-there, all-with_document, all-with_recorded}
 use Rattle.repo_laws.proofs.Keeping.{keeps-sound}
-use Rattle.repo_laws.proofs.Lists.{all-then}
+use Rattle.repo_laws.proofs.Lists.{all-changed, all-then}
 use Rattle.repo_laws.proofs.Moments.{last-after, last-capped}
 use Rattle.repo_laws.proofs.Orderly.{sound-kept}
 use Rattle.repo_laws.proofs.Places.{one-place-kept}
@@ -77,21 +74,6 @@ module _ (t : Tables) (range : InRange t) where
   )
 
 -- ---- items
-all-changed : {X : Type 0} (P : X → Type 0) (q : X → Bool) (f : X → X) → ((x : X) → q x ≡ true → P x → P (f x)) → (xs : List X) → AllByRecursion P xs → AllByRecursion P (change_where q f xs)
-all-changed P q f so [] all = tt
-all-changed P q f so (x ∷ xs) all =
-    (elim (q x) as (λ b. q x ≡ b → P (if b then f x else x)) [ true ↦ λ is. so x is all.0 | false ↦ λ _. all.0 ] refl, all-changed P q f so xs all.1)
-
-all-with_document : (P : RecordedDocument → Type 0) (new : RecordedDocument) (documents : List RecordedDocument) → AllByRecursion P documents → P new → AllByRecursion P (with_document new documents)
-all-with_document P new [] all here = (here, tt)
-all-with_document P new (d ∷ documents) all here =
-    elim (place_cmp new.repo new.path d.repo d.path)
-    as (λ o. AllByRecursion P (match_ordering o (new ∷ d ∷ documents) (new ∷ documents) (d ∷ with_document new documents))) [
-      | Less ↦ (here, all)
-      | Equal ↦ (here, all.1)
-      | Greater ↦ (all.0, all-with_document P new documents all.1 here)
-    ]
-
 -- where an item lets a row fade, it is a snapshot's
 abbrev FadesSnapshot : Item → Type 0
 FadesSnapshot (Faded repo path moment) = is_snapshot_path path ≡ true
@@ -103,46 +85,43 @@ new-in-range repo path blob print accepted (above, below, early) = (refl, above,
 fades-to : (moment since : ℕ) → fading moment ≡ fading since → moment ≡ since
 fades-to moment since is = cc
 
+-- a row of a hosted repository
+abbrev IsHostedInRange : RecordedRow → Type 0
+IsHostedInRange r = IsRowInRange r × FadesRightly r.row
+
+-- tables of which one list is another
+module _ (t : Tables) (old : InRange t) where
+  hosted-range : (rows : List RecordedRow) → AllByRecursion IsHostedInRange rows → InRange (record t { hosted = rows })
+  hosted-range rows all = record { hosted = all; cached = old.cached; documents = old.documents; sessions = old.sessions }
+
+  cached-range : (rows : List RecordedRow) → AllByRecursion IsRowInRange rows → InRange (record t { cached = rows })
+  cached-range rows all = record { hosted = old.hosted; cached = all; documents = old.documents; sessions = old.sessions }
+
+  hosted-changed : (repo path : List ℕ) (f : Row → Row) → ((r : RecordedRow) → is_recorded repo path r ≡ true → IsHostedInRange r → IsHostedInRange (record r { row = f r.row })) → InRange (record t { hosted = change_recorded repo path f t.hosted })
+  hosted-changed repo path f so = hosted-range (change_recorded repo path f t.hosted) (all-changed IsHostedInRange (is_recorded repo path) (λ r. record r { row = f r.row }) so t.hosted old.hosted)
+
+never-fading : (since : ℕ) → listed ≡ fading since → ⊥
+never-fading since is = cc
+
 range-step : (t : Tables) (item : Item) → InRange t → IsItemInRange item → FadesSnapshot item → InRange (item_on t item)
-range-step t (HostedPut repo path blob print accepted) old so rightly = record {
-  hosted = all-with_recorded (λ (r : RecordedRow). IsRowInRange r × FadesRightly r.row) (recorded_row repo path blob print accepted) t.hosted old.hosted
-      (new-in-range repo path blob print accepted so, λ since is. absurd (let e : listed ≡ fading since = is in cc));
-  cached = old.cached;
-  documents = old.documents;
-  sessions = old.sessions;
-}
-range-step t (Faded repo path moment) old so rightly = record {
-  hosted = all-changed (λ (r : RecordedRow). IsRowInRange r × FadesRightly r.row) (is_recorded repo path) (λ r. record r { row = fade moment r.row })
-      (λ r is both. (
-        (both.0.0, both.0.1, both.0.2, (both.0.3.0, λ since fades_since. subst (λ k. k ≤ latest_moment) (fades-to moment since fades_since) so)),
-        λ since _. ap is_snapshot_path (recorded-there repo path r is).1 ∙ rightly,
-      )) t.hosted old.hosted;
-  cached = old.cached;
-  documents = old.documents;
-  sessions = old.sessions;
-}
-range-step t (Relisted repo path accepted) old so rightly = record {
-  hosted = all-changed (λ (r : RecordedRow). IsRowInRange r × FadesRightly r.row) (is_recorded repo path) (λ r. record r { row = list_again accepted r.row })
-      (λ r is both. (
-        (both.0.0, both.0.1, both.0.2, (so, λ since listed_so. absurd (let e : listed ≡ fading since = listed_so in cc))),
-        λ since listed_so. absurd (let e : listed ≡ fading since = listed_so in cc),
-      )) t.hosted old.hosted;
-  cached = old.cached;
-  documents = old.documents;
-  sessions = old.sessions;
-}
-range-step t (Removed repo path) old so rightly = record {
-  hosted = all-filter (λ (r : RecordedRow). IsRowInRange r × FadesRightly r.row) (λ r. not (is_recorded repo path r)) t.hosted old.hosted;
-  cached = old.cached;
-  documents = old.documents;
-  sessions = old.sessions;
-}
-range-step t (CachedFile repo path blob print accepted) old so rightly = record {
-  hosted = old.hosted;
-  cached = all-with_recorded IsRowInRange (recorded_row repo path blob print accepted) t.cached old.cached (new-in-range repo path blob print accepted so);
-  documents = old.documents;
-  sessions = old.sessions;
-}
+range-step t (HostedPut repo path blob print accepted) old so rightly =
+    let new : RecordedRow = recorded_row repo path blob print accepted in
+    hosted-range t old (with_recorded new t.hosted) (all-with_recorded IsHostedInRange new t.hosted old.hosted (new-in-range repo path blob print accepted so, λ since is. absurd (never-fading since is)))
+range-step t (Faded repo path moment) old so rightly =
+    hosted-changed t old repo path (fade moment) (λ r is both. (
+      (both.0.0, both.0.1, both.0.2, (both.0.3.0, λ since fades_since. subst (λ k. k ≤ latest_moment) (fades-to moment since fades_since) so)),
+      λ since _. ap is_snapshot_path (recorded-there repo path r is).1 ∙ rightly,
+    ))
+range-step t (Relisted repo path accepted) old so rightly =
+    hosted-changed t old repo path (list_again accepted) (λ r is both. (
+      (both.0.0, both.0.1, both.0.2, (so, λ since listed_so. absurd (never-fading since listed_so))),
+      λ since listed_so. absurd (never-fading since listed_so),
+    ))
+range-step t (Removed repo path) old so rightly =
+    let left : RecordedRow → Bool = λ r. not (is_recorded repo path r) in hosted-range t old (filter left t.hosted) (all-filter IsHostedInRange left t.hosted old.hosted)
+range-step t (CachedFile repo path blob print accepted) old so rightly =
+    let new : RecordedRow = recorded_row repo path blob print accepted in
+    cached-range t old (with_recorded new t.cached) (all-with_recorded IsRowInRange new t.cached old.cached (new-in-range repo path blob print accepted so))
 range-step t (CachedDoc repo path checked document) old so rightly = record {
   hosted = old.hosted;
   cached = old.cached;
@@ -162,21 +141,10 @@ range-step t (SessionEnded n result) old so rightly = record {
   sessions = all-change_where (λ (one : RecordedSession). one.number < number_end) (is_session n) (λ one. record one { result = Some result }) (λ one below. below) t.sessions old.sessions;
 }
 range-step t (Digested repo path further) old so rightly =
-    let f : RecordedRow → RecordedRow = λ r. record r { row = digested further r.row } in
     elim (lacks_at repo path t.hosted)
     as (λ b. InRange (if b then record t { hosted = change_recorded repo path (digested further) t.hosted } else record t { cached = change_recorded repo path (digested further) t.cached })) [
-      | true ↦ record {
-        hosted = all-changed (λ (r : RecordedRow). IsRowInRange r × FadesRightly r.row) (is_recorded repo path) f (λ r _ both. both) t.hosted old.hosted;
-        cached = old.cached;
-        documents = old.documents;
-        sessions = old.sessions;
-      }
-      | false ↦ record {
-        hosted = old.hosted;
-        cached = all-changed IsRowInRange (is_recorded repo path) f (λ r _ range. range) t.cached old.cached;
-        documents = old.documents;
-        sessions = old.sessions;
-      }
+      | true ↦ hosted-changed t old repo path (digested further) (λ r _ both. both)
+      | false ↦ cached-range t old (change_recorded repo path (digested further) t.cached) (all-change_where IsRowInRange (is_recorded repo path) (λ r. record r { row = digested further r.row }) (λ r range. range) t.cached old.cached)
     ]
 
 -- what fits lets no other row fade
@@ -206,28 +174,14 @@ pub range-applied : (t new : Tables) (items : List Item) → InRange t → AllBy
 range-applied t new items range all is = subst InRange (applied-is t new items is) (range-fit items t (applied-fit items 0 t new is) all range)
 
 -- ---- effects
-file-some : (path : List ℕ) (files : List Staged) (file : Staged) → find (is_staged path) files ≡ Some file → 0 < count_by (stages_it file.blob.number) files
-file-some path [] file found = absurd (none-some file found)
-file-some path (x ∷ files) file found =
-    elim (is_staged path x) as (λ b. cond b (Some x) (find (is_staged path) files) ≡ Some file → 0 < count_by (stages_it file.blob.number) (x ∷ files)) [
-      | true ↦ λ here.
-          let same : x ≡ file = cc in
-          let one : one_if (stages_it file.blob.number x) ≡ 1 = ap one_if (eq-eqb x.blob.number file.blob.number (ap (λ (f : Staged). f.blob.number) same)) in
-          omega (arith, one, count-cons (stages_it file.blob.number) x files)
-      | false ↦ λ later. omega (arith, file-some path files file later, count-cons (stages_it file.blob.number) x files)
-    ] found
-
 staged-some : (m : ℕ) (path : List ℕ) (sessions : List Session) (one : Session) (file : Staged) → find (is_open_at m) sessions ≡ Some one → find (is_staged path) one.staged ≡ Some file
     → 0 < staged_with file.blob.number sessions
-staged-some m path [] one file found is = absurd (none-some one found)
-staged-some m path (x ∷ sessions) one file found is =
-    elim (is_open_at m x) as (λ b. cond b (Some x) (find (is_open_at m) sessions) ≡ Some one → 0 < staged_with file.blob.number (x ∷ sessions)) [
-      | true ↦ λ here.
-          let same : x ≡ one = cc in
-          let some : 0 < count_by (stages_it file.blob.number) x.staged = file-some path x.staged file (ap (λ (y : Session). find (is_staged path) y.staged) same ∙ is) in
-          omega (arith, some, staged_with-cons file.blob.number x sessions)
-      | false ↦ λ later. omega (arith, staged-some m path sessions one file later is, staged_with-cons file.blob.number x sessions)
-    ] found
+staged-some m path sessions one file found is =
+    omega (
+      arith,
+      found-sums (λ (s : Session). count_by (stages_it file.blob.number) s.staged) (is_open_at m) sessions one found,
+      found-counts (stages_it file.blob.number) (is_staged path) one.staged file is (eq-eqb file.blob.number file.blob.number refl),
+    )
 
 placed-range : (s : State) (n : ℕ) → OnePlace s → s.yard.next_draft ≤ number_end → 0 < places_of s n → (0 < n) × (n < number_end)
 placed-range s n placed up some = (

@@ -1,13 +1,13 @@
 -- Who was answered a file can read it until the lease is given back.
-use native.Mathlib.Omega.{arith}
-use Rattle.std.proofs.Common.{◌≡◌, ℕ, Bool, true, false, not, cond, ◌&&◌, ◌||◌, List, [], ◌∷◌, ◌++◌, refl, sym, ◌∙◌, ap, subst, eqb-true}
-use Rattle.std.specs.Prelude.{◌==◌, filter, count_by, if◌then◌else◌}
+use Rattle.std.proofs.Common.{◌≡◌, ℕ, Bool, true, false, not, ◌&&◌, ◌||◌, List, [], ◌∷◌, refl, sym, ◌∙◌, ap, subst, eqb-true}
+use Rattle.std.specs.Prelude.{◌==◌, if◌then◌else◌}
 use Rattle.std.specs.List.{AllByRecursion, list_any}
-use Rattle.std.proofs.lemmas.Bool.{false≢true, and_parts, and_from, or_left, or_right, eq-eqb, ne_eqb, false_from_ne_true}
+use Rattle.std.proofs.lemmas.Bool.{false≢true, and_parts, and_from, or_left, or_right, eq-eqb, ne_eqb, not-true, false_from_ne_true}
+use Rattle.std.proofs.lemmas.List.Folds.{list_any-append}
 use Rattle.repo_model.specs.Data.{Blob, Hosted}
 use Rattle.repo_model.specs.Settings.{Settings}
 use Rattle.repo_model.specs.State.{State, Lease, is_among}
-use Rattle.repo_model.specs.Effect.{Effect, draws, drops, creates, stages, delivers, discards, relists, fades, expires, forgets, lends, returns, opens, ends, caches, keeps_doc, marks_missing, clears_mark, with_effect, with_effects}
+use Rattle.repo_model.specs.Effect.{Effect, lends, returns, with_effect, with_effects}
 use Rattle.repo_model.specs.Command.{Command, done, collect}
 use Rattle.repo_model.specs.Reply.{file, is_free}
 use Rattle.repo_model.specs.Purge.{expire_all}
@@ -15,13 +15,15 @@ use Rattle.repo_model.specs.Turn.{Turn, turn, unlent}
 use Rattle.repo_model.specs.History.{Entry, Fits, ticked, after, Legal}
 use Rattle.repo_laws.specs.Sound.{AreNamedApart}
 use Rattle.repo_laws.specs.Closed.{given_out, IsLentAs, ReadsOn, ReadersLast}
-use Rattle.repo_laws.proofs.Making.{Common, all-expired, turn-makes}
+use Rattle.repo_laws.proofs.Making.{expired-all, is_common, turn-makes}
 use Rattle.repo_laws.proofs.Turns.{unlent-has}
 use Rattle.repo_laws.proofs.Answered.{reply-determined, state-determined, lease-given_back}
 use Rattle.repo_laws.proofs.Cases.{Case, lends_file, turn-case}
-use Rattle.repo_laws.proofs.Counts.{one_if, count-cons}
+use Rattle.repo_laws.proofs.Counts.{count-none}
+use Rattle.repo_laws.proofs.HoldingLists.{any-kept, any-one}
+use Rattle.repo_laws.proofs.Lists.{all-among, among-has}
 use Rattle.repo_laws.specs.Laws.{leases_of}
-use Rattle.repo_laws.proofs.Untouched.{only-collect, collects, cleared, among-has}
+use Rattle.repo_laws.proofs.Untouched.{only-collect, collects, cleared}
 
 module _ (lease : ℕ) where
   abbrev gives_back : Effect → Bool
@@ -32,67 +34,26 @@ module _ (lease : ℕ) where
   abbrev Quiet : List Effect → Type 0
   Quiet es = AllByRecursion (λ e. gives_back e ≡ false) es
 
-  most-quiet : Common (λ e. gives_back e ≡ false)
-  most-quiet = record {
-    draws_so = refl;
-    drops_so = λ n. refl;
-    creates_so = λ repo path blob moment. refl;
-    stages_so = λ n path blob. refl;
-    delivers_so = λ n repo path blob moment. refl;
-    discards_so = λ n path draft. refl;
-    relists_so = λ repo path moment. refl;
-    fades_so = λ repo path moment. refl;
-    expires_so = λ repo path blob. refl;
-    lends_so = λ blob. refl;
-    opens_so = λ n repo. refl;
-    ends_so = λ n result. refl;
-    caches_so = λ id path blob moment. refl;
-    keeps_doc_so = λ id path document moment. refl;
-    marks_so = λ id path moment. refl;
-    clears_so = λ id path. refl;
-  }
+  most-quiet : (e : Effect) → is_common e ≡ true → gives_back e ≡ false
+  most-quiet (returns l) is = absurd (false≢true is)
+  most-quiet e is = refl
 
   expire-quiet : (grace now : ℕ) (hosted : List Hosted) → Quiet (expire_all grace now hosted)
-  expire-quiet = all-expired (λ e. gives_back e ≡ false) most-quiet
+  expire-quiet = expired-all (λ e. gives_back e ≡ false) (λ repo path blob. refl)
 
   -- only Done of this lease gives it back
   turn-quiet : (settings : Settings) (s : State) (now : ℕ) (c : Command) → (c ≡ done lease → ⊥) → Quiet (turn settings s now c).effects
   turn-quiet settings s now c other =
-      turn-makes (λ e. gives_back e ≡ false) most-quiet settings s now c (λ l is. ne_eqb l lease (λ same. other (is ∙ ap done same))) (λ blobs is. refl)
-
-any-more : {X : Type 0} (q : X → Bool) (xs ys : List X) → list_any q xs ≡ true → list_any q (xs ++ ys) ≡ true
-any-more q [] ys is = absurd (false≢true is)
-any-more q (x ∷ xs) ys is =
-    elim (q x) as (λ b. (b || list_any q xs) ≡ true → (b || list_any q (xs ++ ys)) ≡ true) [ true ↦ λ _. refl | false ↦ λ later. any-more q xs ys later ] is
-
-any-last : {X : Type 0} (q : X → Bool) (xs : List X) (x : X) → q x ≡ true → list_any q (xs ++ x ∷ []) ≡ true
-any-last q [] x is = or_left (q x) false is
-any-last q (first ∷ xs) x is = or_right (q first) (list_any q (xs ++ x ∷ [])) (any-last q xs x is)
-
-any-kept : {X : Type 0} (q p : X → Bool) → ((x : X) → q x ≡ true → p x ≡ true) → (xs : List X) → list_any q xs ≡ true → list_any q (filter p xs) ≡ true
-any-kept q p keeps [] is = absurd (false≢true is)
-any-kept q p keeps (x ∷ xs) is =
-    elim (q x) as (λ b. q x ≡ b → (b || list_any q xs) ≡ true → list_any q (cond (p x) (x ∷ filter p xs) (filter p xs)) ≡ true) [
-      | true ↦ λ here _. rw (keeps x here) (or_left (q x) (list_any q (filter p xs)) here)
-      | false ↦ λ _ later.
-          let rest = any-kept q p keeps xs later in
-          elim (p x) as (λ b. list_any q (cond b (x ∷ filter p xs) (filter p xs)) ≡ true) [ true ↦ or_right (q x) (list_any q (filter p xs)) rest | false ↦ rest ]
-    ] refl is
-
-any-weaker : {X : Type 0} (q p : X → Bool) → ((x : X) → q x ≡ true → p x ≡ true) → (xs : List X) → list_any q xs ≡ true → list_any p xs ≡ true
-any-weaker q p weaker [] is = absurd (false≢true is)
-any-weaker q p weaker (x ∷ xs) is =
-    elim (q x) as (λ b. q x ≡ b → (b || list_any q xs) ≡ true → list_any p (x ∷ xs) ≡ true) [
-      | true ↦ λ here _. or_left (p x) (list_any p xs) (weaker x here)
-      | false ↦ λ _ later. or_right (p x) (list_any p xs) (any-weaker q p weaker xs later)
-    ] refl is
+      turn-makes (λ e. gives_back e ≡ false) most-quiet settings s now c (λ l is. ne_eqb l lease (λ same. other (is ∙ ap done same))) (λ blobs is. refl) (λ plan blob is. refl)
 
 module _ (lease n : ℕ) where
   abbrev is_it : Lease → Bool
   is_it l = (l.number == lease) && (l.blob == n)
 
   lent-then : (s : State) (e : Effect) → gives_back lease e ≡ false → IsLentAs lease n s → IsLentAs lease n (with_effect s e)
-  lent-then s (lends blob) quiet lent = any-more is_it s.yard.leases (record { number = s.yard.next_lease; blob = blob } ∷ []) lent
+  lent-then s (lends blob) quiet lent =
+      let new : List Lease = record { number = s.yard.next_lease; blob = blob } ∷ [] in
+      list_any-append is_it s.yard.leases new ∙ or_left (list_any is_it s.yard.leases) (list_any is_it new) lent
   lent-then s (returns l) quiet lent =
       any-kept is_it (λ x. not (x.number == l))
       (λ x is.
@@ -123,7 +84,8 @@ module _ (lease n : ℕ) where
         let (_, unleased) = among-has (λ m. (is_among m t.yard.condemned ≡ true) × (not (list_any (λ (l : Lease). l.blob == m) t.yard.leases) ≡ true)) n (unlent t.yard) (unlent-has t.yard) given in
         let lent_then : IsLentAs lease n t = lent-through (expire_all settings.grace e.moment s.hosted) s (expire-quiet lease settings.grace e.moment s.hosted) lent in
         let borrowed : list_any (λ (l : Lease). l.blob == n) t.yard.leases ≡ true =
-        any-weaker is_it (λ l. l.blob == n) (λ x is. (and_parts (x.number == lease) (x.blob == n) is).1) t.yard.leases lent_then in
+        let (l, is, among_so) = any-one (λ (x : Lease). list_any (λ (y : Lease). y.blob == x.blob) t.yard.leases ≡ true) is_it t.yard.leases (all-among (λ (x : Lease). x.blob) t.yard.leases) lent_then in
+        subst (λ (k : ℕ). list_any (λ (x : Lease). x.blob == k) t.yard.leases ≡ true) (eqb-true l.blob n (and_parts (l.number == lease) (l.blob == n) is).1) among_so in
         false≢true (sym (ap not borrowed) ∙ unleased))
 
     reads-on : (entries : List Entry) (s : State) → Legal settings s entries → IsLentAs lease n s → ReadsOn lease n settings s entries
@@ -148,8 +110,9 @@ answered-lent settings s e lease blob fits says_it =
     (sym (reply-determined settings s e fits bound) ∙ says_it) in
     subst (λ t. IsLentAs lease blob.number t) (sym (state-determined settings s e bound))
     (subst (λ es. IsLentAs lease blob.number (with_effects (ticked s e.moment e.faults) es)) (sym lends_it)
-    (any-last (is_it lease blob.number) s.yard.leases (record { number = next; blob = blob.number })
-    (and_from (next == lease) (blob.number == blob.number) (eq-eqb next lease lease_is) (eq-eqb blob.number blob.number refl))))
+    (list_any-append (is_it lease blob.number) s.yard.leases (record { number = next; blob = blob.number } ∷ [])
+    ∙ or_right (list_any (is_it lease blob.number) s.yard.leases) (((next == lease) && (blob.number == blob.number)) || false)
+    (or_left ((next == lease) && (blob.number == blob.number)) false (and_from (next == lease) (blob.number == blob.number) (eq-eqb next lease lease_is) (eq-eqb blob.number blob.number refl)))))
 
 module _ (settings : Settings) (apart : AreNamedApart settings.hosted) where
   pub readers-last : (entries : List Entry) (s : State) → Legal settings s entries → ReadersLast settings s entries
@@ -160,19 +123,8 @@ module _ (settings : Settings) (apart : AreNamedApart settings.hosted) where
     readers-last entries (after settings s e) legal.1,
   )
 
--- a filter leaves none of what it takes out
-none-left : {X : Type 0} (p : X → Bool) (xs : List X) → count_by p (filter (λ x. not (p x)) xs) ≡ 0
-none-left p [] = refl
-none-left {X} p (x ∷ xs) =
-    let rest = filter (λ (y : X). not (p y)) xs in
-    let none = none-left p xs in
-    elim (p x) as (λ b. p x ≡ b → count_by p (cond (not b) (x ∷ rest) rest) ≡ 0) [
-      | true ↦ λ _. none
-      | false ↦ λ is. let zero : one_if (p x) ≡ 0 = ap one_if is in omega (arith, count-cons p x rest, zero, none)
-    ] refl
-
 pub none-lent : (settings : Settings) (s : State) (e : Entry) (lease : ℕ) → Fits settings s e → e.command ≡ done lease → leases_of (after settings s e) lease ≡ 0
 none-lent settings s e lease fits is =
     ap (λ (t : State). leases_of t lease) (state-determined settings s e (ap is_free (lease-given_back settings s e lease fits is)))
     ∙ ap (λ c. leases_of (with_effects (ticked s e.moment e.faults) (turn settings s e.moment c).effects) lease) is
-    ∙ none-left (λ (l : Lease). l.number == lease) s.yard.leases
+    ∙ count-none (λ (l : Lease). l.number == lease) (λ (l : Lease). not (l.number == lease)) (λ l. not-true (l.number == lease)) s.yard.leases

@@ -1,12 +1,12 @@
 -- A reply with a document, or with the text of its digest, answers the document that the repository of an id serves of a directory.
-use Rattle.std.proofs.Common.{◌≡◌, ℕ, Bool, true, false, cond, ◌||◌, inl, List, [], ◌∷◌, Option, Some, None, Result, Ok, Err, refl, sym, ◌∙◌, ap, subst, option_map}
+use Rattle.std.proofs.Common.{◌≡◌, ℕ, Bool, true, false, cond, inl, List, [], ◌∷◌, Option, Some, None, Result, Ok, refl, sym, ◌∙◌, ap, subst, option_map}
 use Rattle.std.specs.Prelude.{find, if◌then◌else◌, ◌==◌}
 use Rattle.std.specs.Option.{option_map_or}
 use Rattle.std.proofs.lemmas.Bool.{false≢true}
 use Rattle.std.proofs.lemmas.Option.{none-some}
 use Rattle.mvn_coords.specs.Kind.{kind}
 use Rattle.mvn_coords.specs.declared.kind.Kind.{Kind}
-use Rattle.mvn_coords.specs.declared.kind.Kind.TheVariants.{File, FileSide, Doc, DocSide}
+use Rattle.mvn_coords.specs.declared.kind.Kind.TheVariants.{Doc, DocSide}
 use Rattle.mvn_coords.specs.declared.fault.PathFault.{PathFault}
 use Rattle.mvn_coords.specs.declared.fault.Side.{Side}
 use Rattle.mvn_coords.specs.Layout.{Directory, text_of_document}
@@ -17,16 +17,16 @@ use Rattle.mvn_digest.specs.Sides.{side_text}
 use Rattle.mvn_metadata.specs.Document.{Document}
 use Rattle.mvn_metadata.specs.Written as written
 use Rattle.repo_model.specs.declared.step.Step.{Step}
-use Rattle.repo_model.specs.declared.step.Step.TheVariants.{Serve, Missed, Blocked, Negative, Never, Fetch}
-use Rattle.repo_model.specs.Data.{Blob, Row, Hosted, Kept, Proxy}
-use Rattle.repo_model.specs.Settings.{GroupRule, ProxyRule, Settings}
+use Rattle.repo_model.specs.declared.step.Step.TheVariants.{Serve}
+use Rattle.repo_model.specs.Data.{Row, Hosted, Kept, Proxy}
+use Rattle.repo_model.specs.Settings.{GroupRule, Settings}
 use Rattle.repo_model.specs.State.{State, row_at, hosted_of, proxy_of, is_among, number_end}
 use Rattle.repo_model.specs.Document.{document}
 use Rattle.repo_model.specs.Command.{look, group_rule_of}
 use Rattle.repo_model.specs.Proxies.{kept_at, subject_of, decided}
 use Rattle.repo_model.specs.Effect.{draws, lends}
-use Rattle.repo_model.specs.Reply.{Reply, file, text, doc, missed, spent, fetches, blocked, negative, never_asked, no_memory, store_fault, is_free}
-use Rattle.repo_model.specs.Turn.{Turn, turn, says, Seen, is_nothing, is_file, is_text, is_doc, is_to_fetch, is_blocked, is_negative, is_never, or_nothing, seen_at, shows, plan_of, longest_document, document_shown, file_shown, is_of_file, served_by, stepped, proxy_seen, member_seen, fetches_one, each_seen, directory_of, merged_of, first_or, group_seen, look_at, kept_served, proxy_document, member_document, document_at, file_limit}
+use Rattle.repo_model.specs.Reply.{Reply, file, text, doc, missed, spent, fetches, blocked, negative, never_asked, is_free}
+use Rattle.repo_model.specs.Turn.{turn, says, Seen, is_nothing, is_file, is_text, is_doc, is_to_fetch, is_blocked, is_negative, is_never, or_nothing, seen_at, shows, plan_of, longest_document, document_shown, file_shown, is_of_file, stepped, proxy_seen, member_seen, fetches_one, each_seen, directory_of, merged_of, first_or, group_seen, look_at, kept_served, proxy_document, document_at, file_limit}
 use Rattle.repo_model.specs.History.{Entry, Fits}
 use Rattle.repo_laws.specs.Closed.{IsDocumentOf, AnswersDocument, tells_document}
 use Rattle.repo_laws.proofs.Answered.{reply-determined}
@@ -55,11 +55,7 @@ module _ (settings : Settings) (s : State) (now : ℕ) (id path tried : List ℕ
         by : (found : Option Kept) → or_nothing (λ (kept : Kept). document_shown k kept.document) found ≡ seen → Serves (kept_served Serve found) seen
         by None shown = absurd (false≢true (ap told shown ∙ tells))
         by (Some kept) shown = (kept.document, refl, sym shown)
-  by-step p member Fetch seen tells is = absurd (false≢true (ap told is ∙ tells))
-  by-step p member Missed seen tells is = absurd (false≢true (ap told is ∙ tells))
-  by-step p member Blocked seen tells is = absurd (false≢true (ap told is ∙ tells))
-  by-step p member Negative seen tells is = absurd (false≢true (ap told is ∙ tells))
-  by-step p member Never seen tells is = absurd (false≢true (ap told is ∙ tells))
+  by-step p member step seen tells is = absurd (false≢true (ap told is ∙ tells))
 
   none-told : (seen : List Seen) (one : Seen) → find fetches_one seen ≡ Some one → told one ≡ false
   none-told [] one is = absurd (none-some one is)

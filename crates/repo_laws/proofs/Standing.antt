@@ -1,12 +1,10 @@
 -- No blob number is lost: it stands somewhere from when it is drawn until a Collect gives it out.
 use native.Mathlib.Omega.{arith}
-use Rattle.std.proofs.Common.{◌≡◌, ◌≤◌, ◌<◌, ◌+◌, ℕ, Bool, true, false, not, cond, ◌||◌, ◌⊎◌, inl, inr, List, [], ◌∷◌, ◌++◌, length, Some, None, refl, sym, ◌∙◌, ap, subst, eqb-true}
+use Rattle.std.proofs.Common.{◌≡◌, ◌≤◌, ◌<◌, ◌+◌, ℕ, Bool, true, false, not, ◌⊎◌, inl, inr, List, [], ◌∷◌, ◌++◌, length, Some, refl, sym, ◌∙◌, ap, subst, eqb-true}
 use Rattle.std.specs.Prelude.{◌==◌, nat_lt, count_by, filter, find, if◌then◌else◌}
-use Rattle.std.specs.Option.{option_map_or}
 use Rattle.std.specs.List.{AllByRecursion, list_any}
 use Rattle.std.proofs.lemmas.Bool.{eq-eqb, ne_eqb, false≢true, ltb-true, ltb-false}
-use Rattle.std.proofs.lemmas.Option.{none-some}
-use Rattle.std.proofs.lemmas.List.Sums.{sum_by_push}
+use Rattle.std.proofs.lemmas.List.Sums.{sum_by-append, sum_by_push}
 use Rattle.repo_model.specs.Data.{Row, Hosted, Staged, Session}
 use Rattle.repo_model.specs.Settings.{Settings}
 use Rattle.repo_model.specs.State.{State, change_where, change_first, is_repository, is_row, is_staged, is_open_at, rows_of, is_among}
@@ -21,16 +19,15 @@ use Rattle.repo_laws.specs.Laws.{count_of, rows_with, staged_with, places_of, Ar
 use Rattle.repo_laws.specs.Sound.{AreNamedApart, IsInOrder, Sound, OnePlace}
 use Rattle.repo_laws.specs.Closed.{given_out, all_given_out}
 use Rattle.repo_laws.proofs.Rows.{RowsApart, rows_in}
-use Rattle.repo_laws.proofs.Counts.{one_if, count-cons, count-push, none-goes, row-goes, count-with_number, among-counts, count-with_row, count-with_staged, count-change_where, names, stages_it, rows_with-cons, staged_with-cons, rows-counted-back}
+use Rattle.repo_laws.proofs.Counts.{one_if, count-all, count-others, count-push, count-same, one-goes, count-with_number, among-counts, count-with_row, count-with_staged, names, stages_it, rows-counted-back, rows-gained, sum-first}
+use Rattle.repo_laws.proofs.HoldingLists.{unfound-any}
 use Rattle.repo_laws.proofs.Places.{rows-apart, one-place-kept}
 use Rattle.repo_laws.proofs.Lists.{all-then}
-use Rattle.repo_laws.proofs.Releases.{same_path}
 use Rattle.repo_laws.proofs.ByPath.{all-apart}
 use Rattle.repo_laws.proofs.Orderly.{found-has, sound-kept}
 use Rattle.repo_laws.proofs.Answered.{free-none}
-use Rattle.repo_laws.proofs.Given.{count-append}
 use Rattle.repo_laws.proofs.Histories.{all-keep, with_effects-append, sound-ticked, one-place-ticked, entry-may, sound-entry, one-place-entry}
-use Rattle.repo_laws.proofs.Making.{Common, all-expired, turn-makes}
+use Rattle.repo_laws.proofs.Making.{expired-all, is_common, turn-makes}
 use Rattle.repo_laws.proofs.Files.{cached-stays, cached-gains}
 
 -- a number that is taken out of a list where it stands once at most
@@ -38,72 +35,18 @@ one-out : (k n : ℕ) (ms : List ℕ) → count_of k ms ≤ 1 → count_of k ms 
 one-out k n ms once =
     elim (n == k) as (λ b. (n == k) ≡ b → count_of k ms ≤ count_of k (without_number n ms) + one_if b) [
       | true ↦ λ is. omega (arith, once)
-      | false ↦ λ is. omega (arith, others is ms)
-    ] refl where
-      others : (n == k) ≡ false → (ms : List ℕ) → count_of k (without_number n ms) ≡ count_of k ms
-      others is [] = refl
-      others is (m ∷ ms) =
-          let rest = others is ms in
-          let here = count-cons (λ i. i == k) m ms in
-          elim (m == n)
-          as (λ b. (m == n) ≡ b → count_of k (cond (not b) (m ∷ without_number n ms) (without_number n ms)) ≡ count_of k (m ∷ ms)) [
-            | true ↦ λ same.
-                let zero : one_if (m == k) ≡ 0 = ap (λ i. one_if (i == k)) (eqb-true m n same) ∙ ap one_if is in
-                omega (arith, here, zero, rest)
-            | false ↦ λ _. omega (arith, here, count-cons (λ i. i == k) m (without_number n ms), rest)
-          ] refl
+      | false ↦ λ is.
+          omega (arith, count-all (λ m. m == k) (λ m. not (m == n)) (λ m at. ap not (ap (λ i. i == n) (eqb-true m k at) ∙ ne_eqb k n (λ same. false≢true (sym is ∙ eq-eqb n k (sym same))))) ms)
+    ] refl
 
 -- the one file that is staged at a path goes, and no other
 file-goes : (p : Staged → Bool) (path : List ℕ) (files : List Staged) (file : Staged) → AreApart files → find (is_staged path) files ≡ Some file
     → count_by p files ≤ count_by p (filter (λ f. not (is_staged path f)) files) + one_if (p file)
-file-goes p path [] file apart is = absurd (none-some file is)
-file-goes p path (first ∷ files) file apart is =
-    let more = count-cons p first files in
-    let others : List Staged = filter (λ f. not (is_staged path f)) files in
-    elim (is_staged path first)
-    as (λ b. is_staged path first ≡ b → cond b (Some first) (find (is_staged path) files) ≡ Some file → count_by p (first ∷ files) ≤ count_by p (cond (not b) (first ∷ others) others) + one_if (p file)) [
-      | true ↦ λ here found.
-          let first_is : first ≡ file = cc in
-          let same : one_if (p first) ≡ one_if (p file) = ap (λ y. one_if (p y)) first_is in
-          let none : find (is_staged path) files ≡ None = subst (λ (at : List ℕ). find (is_staged at) files ≡ None) (same_path first.path path here) apart.0 in
-          let all : count_by p others ≡ count_by p files = ap (count_by p) (none-goes (is_staged path) files none) in
-          omega (arith, more, same, all)
-      | false ↦ λ here found. omega (arith, more, count-cons p first others, file-goes p path files file apart.1 found)
-    ] refl is
+file-goes = one-goes (λ (file : Staged). file.path)
 
 staged-gained : (n : ℕ) (q : Session → Bool) (f : Session → Session) (a b : ℕ) (sessions : List Session) (one : Session) → find q sessions ≡ Some one
     → count_by (stages_it n) one.staged + a ≤ count_by (stages_it n) (f one).staged + b → staged_with n sessions + a ≤ staged_with n (change_first q f sessions) + b
-staged-gained n q f a b [] one found here = absurd (none-some one found)
-staged-gained n q f a b (s ∷ sessions) one found here =
-    let before = staged_with-cons n s sessions in
-    elim (q s)
-    as (λ there. cond there (Some s) (find q sessions) ≡ Some one → staged_with n (s ∷ sessions) + a ≤ staged_with n (cond there (f s ∷ sessions) (s ∷ change_first q f sessions)) + b) [
-      | true ↦ λ is.
-          let one_is : one ≡ s = cc in
-          let now : count_by (stages_it n) s.staged + a ≤ count_by (stages_it n) (f s).staged + b = subst (λ (x : Session). count_by (stages_it n) x.staged + a ≤ count_by (stages_it n) (f x).staged + b) one_is here in
-          omega (arith, before, staged_with-cons n (f s) sessions, now)
-      | false ↦ λ is. omega (arith, before, staged_with-cons n s (change_first q f sessions), staged-gained n q f a b sessions one is here)
-    ] found
-
-module _ (n : ℕ) (at : List ℕ) (f : List Row → List Row) where
-  abbrev changed : Hosted → Hosted
-  changed h = record h { rows = f h.rows }
-
-  abbrev Gains : ℕ → ℕ → List Row → Type 0
-  Gains a b rows = count_by (names n) rows + a ≤ count_by (names n) (f rows) + b
-
-  -- by as much as the rows of a repository that is there grow, so do all
-  rows-gained : (a b : ℕ) (hosted : List Hosted) → list_any (is_repository at) hosted ≡ true → Gains a b (rows_in at hosted)
-      → rows_with n hosted + a ≤ rows_with n (change_first (is_repository at) changed hosted) + b
-  rows-gained a b [] there here = absurd (false≢true there)
-  rows-gained a b (h ∷ hosted) there here =
-      let before = rows_with-cons n h hosted in
-      elim (is_repository at h)
-      as (λ c. (c || list_any (is_repository at) hosted) ≡ true → Gains a b (option_map_or (λ (g : Hosted). g.rows) (cond c (Some h) (find (is_repository at) hosted)) [])
-      → rows_with n (h ∷ hosted) + a ≤ rows_with n (cond c (changed h ∷ hosted) (h ∷ change_first (is_repository at) changed hosted)) + b) [
-        | true ↦ λ _ now. omega (arith, before, rows_with-cons n (changed h) hosted, now)
-        | false ↦ λ later now. omega (arith, before, rows_with-cons n h (change_first (is_repository at) changed hosted), rows-gained a b hosted later now)
-      ] there here
+staged-gained n q f a b sessions one found here = omega (arith, here, sum-first (λ (s : Session). count_by (stages_it n) s.staged) q f sessions one found)
 
 -- the numbers that an effect forgets
 abbrev pub forgotten_by : Effect → List ℕ
@@ -116,13 +59,13 @@ module _ (grace now : ℕ) (s : State) (n : ℕ) (once : places_of s n ≤ 1) wh
 
   same-rows : (repo path : List ℕ) (f : Row → Row) → ((r : Row) → names n (f r) ≡ names n r)
       → count_by (names n) (rows_in repo s.hosted) ≤ count_by (names n) (change_where (is_row path) f (rows_in repo s.hosted)) + 0
-  same-rows repo path f keeps = omega (arith, count-change_where (names n) (is_row path) f keeps (rows_in repo s.hosted))
+  same-rows repo path f keeps = omega (arith, count-same (names n) (is_row path) f keeps (rows_in repo s.hosted))
 
   one-row-more : (repo path : List ℕ) (number : ℕ) (row : Row) → names n row ≡ (number == n) → list_any (is_repository repo) s.hosted ≡ true
       → rows_with n s.hosted + one_if (number == n) ≤ rows_with n (change_first (is_repository repo) (λ h. record h { rows = with_row row h.rows }) s.hosted) + 0
   one-row-more repo path number row named there =
       let same : one_if (names n row) ≡ one_if (number == n) = ap one_if named in
-      rows-gained n repo (with_row row) (one_if (number == n)) 0 s.hosted there (omega (arith, same, count-with_row (names n) row (rows_in repo s.hosted)))
+      rows-gained n repo (with_row row) (one_if (number == n)) 0 s.hosted (λ none. absurd (false≢true (sym (unfound-any (is_repository repo) s.hosted none) ∙ there))) (omega (arith, same, count-with_row (names n) row (rows_in repo s.hosted)))
 
   -- a number that stands somewhere does so still, but where it is forgotten
   pub places-stay : (e : Effect) → AllByRecursion (λ (h : Hosted). RowsApart h.rows) s.hosted → AllByRecursion (λ (one : Session). AreApart one.staged) s.sessions → May grace now s e → Stays e
@@ -154,27 +97,13 @@ module _ (grace now : ℕ) (s : State) (n : ℕ) (once : places_of s n ≤ 1) wh
   places-stay (expires repo path blob) rows files may =
       let (row, since, found, _, named, _) = may in
       let same : one_if (row.blob.number == n) ≡ one_if (blob == n) = ap (λ k. one_if (k == n)) named in
-      let gone = rows-counted-back n repo (without_row path) (one_if (row.blob.number == n)) s.hosted (row-goes (names n) path (rows_of repo s) row (rows-apart repo s.hosted rows) found) in
+      let gone = rows-counted-back n repo (without_row path) (one_if (row.blob.number == n)) s.hosted (one-goes (λ (r : Row). r.path) (names n) path (rows_of repo s) row (rows-apart repo s.hosted rows) found) in
       omega (arith, gone, same, count-with_number n blob s.yard.condemned)
   places-stay (forgets blobs) rows files may =
       elim (is_among n blobs) as (λ b. is_among n blobs ≡ b → places_of s n ≤ places_of (with_effect s (forgets blobs)) n + one_if b) [
         | true ↦ λ among. omega (arith, once)
-        | false ↦ λ is. omega (arith, unforgotten is s.yard.condemned)
-      ] refl where
-        unforgotten : is_among n blobs ≡ false → (ms : List ℕ) → count_of n ms ≤ count_of n (filter (λ m. not (is_among m blobs)) ms)
-        unforgotten is [] = omega arith
-        unforgotten is (m ∷ ms) =
-            let rest = unforgotten is ms in
-            let kept : List ℕ = filter (λ k. not (is_among k blobs)) ms in
-            let here = count-cons (λ i. i == n) m ms in
-            elim (is_among m blobs)
-            as (λ b. is_among m blobs ≡ b → count_of n (m ∷ ms) ≤ count_of n (cond (not b) (m ∷ kept) kept)) [
-              | true ↦ λ among.
-                  let other : (m == n) ≡ false = ne_eqb m n (λ same. false≢true (sym is ∙ ap (λ k. is_among k blobs) (sym same) ∙ among)) in
-                  let zero : one_if (m == n) ≡ 0 = ap one_if other in
-                  omega (arith, here, zero, rest)
-              | false ↦ λ _. omega (arith, here, count-cons (λ i. i == n) m kept, rest)
-            ] refl
+        | false ↦ λ is. omega (arith, count-others n blobs s.yard.condemned is)
+      ] refl
   places-stay (lends blob) rows files may = omega arith
   places-stay (returns lease) rows files may = omega arith
   places-stay (opens m repo) rows files may =
@@ -227,25 +156,9 @@ module _ (settings : Settings) (grace now n : ℕ) where
       stood-effects es (with_effect s e) given (sound-kept settings grace now s e may.0 sound) (one-place-kept grace now s e (all-apart s.hosted sound.rows) may.0 placed) may.1 quiet.1
       (λ below above. omega (arith, none, stood-effect s e given sound placed may.0 stood below above))
 
-none-forgotten : Common (λ e. forgotten_by e ≡ [])
-none-forgotten = record {
-  draws_so = refl;
-  drops_so = λ n. refl;
-  creates_so = λ repo path blob moment. refl;
-  stages_so = λ n path blob. refl;
-  delivers_so = λ n repo path blob moment. refl;
-  discards_so = λ n path draft. refl;
-  relists_so = λ repo path moment. refl;
-  fades_so = λ repo path moment. refl;
-  expires_so = λ repo path blob. refl;
-  lends_so = λ blob. refl;
-  opens_so = λ n repo. refl;
-  ends_so = λ n result. refl;
-  caches_so = λ id path blob moment. refl;
-  keeps_doc_so = λ id path document moment. refl;
-  marks_so = λ id path moment. refl;
-  clears_so = λ id path. refl;
-}
+none-forgotten : (e : Effect) → is_common e ≡ true → forgotten_by e ≡ []
+none-forgotten (forgets blobs) is = absurd (false≢true is)
+none-forgotten e is = refl
 
 all-may-split : (grace now : ℕ) (es fs : List Effect) (s : State) → AllMay grace now s (es ++ fs) → AllMay grace now s es × AllMay grace now (with_effects s es) fs
 all-may-split grace now [] fs s all = (tt, all)
@@ -287,7 +200,7 @@ module _ (settings : Settings) (apart : AreNamedApart settings.hosted) (n : ℕ)
         quiet-entry
         (elim (is_free e.reply) as (λ b. AllByRecursion (λ f. forgotten_by f ≡ []) (if b then [] else (turn settings s e.moment e.command).effects)) [
           | true ↦ tt
-          | false ↦ turn-makes (λ f. forgotten_by f ≡ []) none-forgotten settings s e.moment e.command (λ lease is. refl) (λ blobs is. absurd (other is))
+          | false ↦ turn-makes (λ f. forgotten_by f ≡ []) none-forgotten settings s e.moment e.command (λ lease is. refl) (λ blobs is. absurd (other is)) (λ plan blob is. refl)
         ])
 
     abbrev expiring : List Effect
@@ -307,7 +220,7 @@ module _ (settings : Settings) (apart : AreNamedApart settings.hosted) (n : ℕ)
         (λ t f can old. (sound-kept settings settings.grace e.moment t f can old.0, one-place-kept settings.grace e.moment t f (all-apart t.hosted old.0.rows) can old.1))
         expiring begun may.0 (sound_so, placed_so) in
         let stood_cleared = stood-effects settings settings.grace e.moment n expiring begun given sound_so placed_so may.0
-        (all-expired (λ f. forgotten_by f ≡ []) none-forgotten settings.grace e.moment s.hosted) stood in
+        (expired-all (λ f. forgotten_by f ≡ []) (λ repo path blob. refl) settings.grace e.moment s.hosted) stood in
         let stood_then = stood-effect settings settings.grace e.moment n cleared (forgets blobs_out) given both.0 both.1 may.1.0 stood_cleared in
         let after_is : after settings s e ≡ with_effect cleared (forgets blobs_out) = ap (with_effects begun) effects_are ∙ with_effects-append expiring (forgets blobs_out ∷ []) begun in
         let count_is : count_of n (given_out e.command e.reply) ≡ count_of n blobs_out = ap (λ c. count_of n (given_out c e.reply)) is_collect ∙ ap (λ r. count_of n (given_out collect r)) reply_is in
@@ -331,4 +244,4 @@ module _ (settings : Settings) (apart : AreNamedApart settings.hosted) (n : ℕ)
   stood-through (e ∷ entries) s given sound placed legal stood below above =
       let rest = stood-through entries (after settings s e) (given + count_of n (given_out e.command e.reply)) (sound-entry settings apart s e legal.0 sound) (one-place-entry settings apart s e legal.0 sound placed) legal.1
       (entry-stood s e given sound placed legal.0 stood) below above in
-      omega (arith, rest, count-append n (given_out e.command e.reply) (all_given_out entries))
+      omega (arith, rest, sum_by-append (λ (m : ℕ). one_if (m == n)) (given_out e.command e.reply) (all_given_out entries))

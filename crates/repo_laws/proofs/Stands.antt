@@ -1,30 +1,22 @@
 -- A row that was visible at a moment stands up to that moment and the grace.
 use native.Mathlib.Omega.{arith}
-use Rattle.std.proofs.Common.{◌≡◌, ◌≤◌, ◌+◌, ℕ, true, false, cond, List, [], ◌∷◌, Some, None, refl, sym, ◌∙◌, ap, subst}
+use Rattle.std.proofs.Common.{◌≡◌, ◌≤◌, ◌+◌, ℕ, true, false, List, Some, None, refl, sym, ◌∙◌, ap, subst, option_map}
 use Rattle.std.specs.Prelude.{bytes_eq}
 use Rattle.std.proofs.lemmas.Bool.{false≢true}
 use Rattle.std.proofs.lemmas.Option.{none-some}
 use Rattle.repo_model.specs.Data.{Blob, Row}
 use Rattle.repo_model.specs.State.{State, change_where, is_row, row_at, rows_of}
-use Rattle.repo_model.specs.Effect.{Effect, draws, drops, creates, stages, delivers, discards, relists, fades, expires, forgets, lends, returns, opens, ends, caches, keeps_doc, marks_missing, clears_mark, with_row, new_row, list_again, fade, without_row, with_effect}
+use Rattle.repo_model.specs.Effect.{Effect, creates, delivers, relists, fades, expires, with_row, new_row, list_again, fade, without_row, with_effect}
 use Rattle.repo_model.specs.May.{May}
 use Rattle.repo_laws.specs.Laws.{Stands, LastsFrom}
+use Rattle.repo_laws.proofs.HoldingLists.{find-changed}
 use Rattle.repo_laws.proofs.Rows.{rows-changed}
 use Rattle.repo_laws.proofs.Releases.{is_itself, with_row-elsewhere, change-elsewhere, without-elsewhere, same_path, other_path}
 
 -- the row at a path after the rows there were changed
 pub change-there : (path : List ℕ) (f : Row → Row) → ((r : Row) → (f r).path ≡ r.path) → (rows : List Row) (row : Row) → row_at path rows ≡ Some row
     → row_at path (change_where (is_row path) f rows) ≡ Some (f row)
-change-there path f keeps [] row found = absurd (none-some row found)
-change-there path f keeps (first ∷ rows) row found =
-    elim (bytes_eq first.path path)
-    as (λ b. bytes_eq first.path path ≡ b → cond b (Some first) (row_at path rows) ≡ Some row → row_at path (cond b (f first) first ∷ change_where (is_row path) f rows) ≡ Some (f row)) [
-      | true ↦ λ is here.
-          let first_is : first ≡ row = cc in
-          let at_path : bytes_eq (f first).path path ≡ true = ap (λ q. bytes_eq q path) (keeps first) ∙ is in
-          rw at_path (ap (λ r. Some (f r)) first_is)
-      | false ↦ λ is here. rw is (change-there path f keeps rows row here)
-    ] refl found
+change-there path f keeps rows row found = find-changed (is_row path) f (λ r. ap (λ p. bytes_eq p path) (keeps r)) rows ∙ ap (option_map f) found
 
 module _ (path : List ℕ) (blob : Blob) (t : ℕ) where
   created : (new : Row) (rows : List Row) → row_at new.path rows ≡ None → Stands path blob t rows → Stands path blob t (with_row new rows)

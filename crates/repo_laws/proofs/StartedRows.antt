@@ -1,35 +1,17 @@
 -- How often the rows of the repositories that a start makes name a blob: no more often than the recorded ones.
 use native.Mathlib.Omega.{arith}
-use Rattle.std.proofs.Common.{◌≡◌, ◌≤◌, ◌<◌, ◌+◌, ℕ, true, false, cond, List, [], ◌∷◌, ◌++◌, map, Option, Some, None, refl, sym, ◌∙◌, ap, subst}
-use Rattle.std.specs.Prelude.{◌==◌, nat_lt, filter, find, count_by, bytes_eq, if◌then◌else◌, IsTrue}
-use Rattle.std.specs.Option.{option_map}
-use Rattle.std.specs.List.{AllByRecursion, list_any}
-use Rattle.std.specs.List.Sorted.{IsStrictlySortedBy}
-use Rattle.std.proofs.lemmas.Bool.{false≢true, ltb-true, ltb-false}
+use Rattle.std.proofs.Common.{◌≡◌, ◌≤◌, ◌+◌, ℕ, true, false, cond, List, [], ◌∷◌, map, Option, Some, None, refl, sym, ◌∙◌, ap, subst}
+use Rattle.std.specs.Prelude.{◌==◌, filter, find, count_by, bytes_eq}
+use Rattle.std.proofs.lemmas.Bool.{false≢true}
 use Rattle.std.proofs.lemmas.Option.{none-some}
-use Rattle.outside.specs.Moments.{Moments}
-use Rattle.repo_model.specs.declared.session.SessionResult.{SessionResult}
-use Rattle.repo_model.specs.Data.{Row, Hosted, Session}
-use Rattle.repo_model.specs.Settings.{Rule, Settings}
-use Rattle.repo_model.specs.State.{State, is_repository, is_session, is_among, row_at, rows_of, number_end}
-use Rattle.repo_model.specs.Command.{is_there}
-use Rattle.repo_model.specs.Tables.{Tables, RecordedRow, RecordedSession, names_blob, recorded_at}
-use Rattle.repo_model.specs.History.{latest_moment}
-use Rattle.repo_model.specs.Restart.{with_bytes, is_of, recorded_of, hosted_from, session_from, sessions_from, greatest_session, greatest_number, blobs_named, started}
-use Rattle.repo_laws.specs.Laws.{rows_with, places_of}
-use Rattle.repo_model.specs.Paths.{FadesRightly}
-use Rattle.repo_laws.specs.Numbered.{NumbersApart}
-use Rattle.repo_laws.specs.Sound.{AreNamedApart, AreByPath, IsInOrder, OnePlace, IsSound}
-use Rattle.repo_laws.specs.Holds.{session_cmp, named_in, InOrder}
-use Rattle.repo_laws.specs.InRange.{InRange}
-use Rattle.repo_laws.proofs.Counts.{one_if, names, count-cons, rows_with-cons}
-use Rattle.repo_laws.proofs.HoldingBlobs.{counts-named, greatest-least}
-use Rattle.repo_laws.proofs.HoldingLists.{none-any, all-split, greatest-below, all-greatest}
-use Rattle.repo_laws.proofs.Lists.{all-then}
-use Rattle.repo_laws.proofs.Orderly.{there-as-set}
-use Rattle.repo_laws.proofs.Ranges.{range-fading, range-numbers, range-moments}
-use Rattle.repo_laws.proofs.Rows.{rows_in}
-use Rattle.repo_laws.proofs.Untouched.{among-has}
+use Rattle.repo_model.specs.Data.{Hosted}
+use Rattle.repo_model.specs.Settings.{Rule}
+use Rattle.repo_model.specs.Tables.{RecordedRow}
+use Rattle.repo_model.specs.Restart.{with_bytes, is_of, recorded_of, hosted_from}
+use Rattle.repo_laws.specs.Laws.{rows_with}
+use Rattle.repo_laws.specs.Sound.{AreNamedApart}
+use Rattle.repo_laws.proofs.Counts.{one_if, names, count-cons, rows_with-cons, sum-none}
+use Rattle.repo_laws.proofs.HoldingLists.{all-map}
 use Rattle.repo_laws.proofs.Releases.{same_path, other_path, is_itself}
 
 module _ (tells : ℕ → Option (List ℕ)) where
@@ -91,13 +73,8 @@ module _ (tells : ℕ → Option (List ℕ)) where
               )
         ] refl
 
-    none-at-first : (rules : List Rule) → with_rows [] rules ≡ 0
-    none-at-first [] = refl
-    none-at-first (rule ∷ rules) =
-        let none : count_by (names n) [] ≡ 0 = refl in
-        omega (arith, none, rows_with-cons n (hosted_from tells [] rule) (map (hosted_from tells []) rules), none-at-first rules)
-
     pub rows-named : (rows : List RecordedRow) (rules : List Rule) → AreNamedApart rules → with_rows rows rules ≤ count_by (λ (r : RecordedRow). r.row.blob.number == n) rows
-    rows-named [] rules apart = omega (arith, none-at-first rules)
+    rows-named [] rules apart =
+        omega (arith, sum-none (λ (h : Hosted). count_by (names n) h.rows) (map (hosted_from tells []) rules) (all-map (hosted_from tells []) (λ (h : Hosted). count_by (names n) h.rows ≡ 0) (λ rule. refl) rules))
     rows-named (r ∷ rows) rules apart =
         omega (arith, once-more r rows rules apart, rows-named rows rules apart, count-cons (λ (x : RecordedRow). x.row.blob.number == n) r rows)

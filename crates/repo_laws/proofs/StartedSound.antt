@@ -1,49 +1,41 @@
 -- The state that a start makes from tables in order is sound.
 use native.Mathlib.Omega.{arith}
-use Rattle.std.proofs.Common.{◌≡◌, ◌≤◌, ◌<◌, ◌+◌, ℕ, true, false, cond, List, [], ◌∷◌, ◌++◌, map, Option, Some, None, refl, sym, ◌∙◌, ap, subst}
-use Rattle.std.specs.Prelude.{◌==◌, nat_lt, filter, find, count_by, bytes_eq, if◌then◌else◌, IsTrue}
+use Rattle.std.proofs.Common.{◌≡◌, ◌≤◌, ◌<◌, ℕ, true, false, cond, List, [], ◌∷◌, ◌++◌, map, Option, Some, None, refl, sym, ◌∙◌, ap, subst}
+use Rattle.std.specs.Prelude.{nat_lt, filter, bytes_eq, if◌then◌else◌, IsTrue}
 use Rattle.std.specs.Option.{option_map}
 use Rattle.std.specs.List.{AllByRecursion, list_any}
 use Rattle.std.specs.List.Sorted.{IsStrictlySortedBy}
-use Rattle.std.proofs.lemmas.Bool.{false≢true, ltb-true, ltb-false}
+use Rattle.std.proofs.lemmas.Bool.{ltb-true, ltb-false}
 use Rattle.std.proofs.lemmas.Option.{none-some}
 use Rattle.outside.specs.Moments.{Moments}
 use Rattle.repo_model.specs.declared.session.SessionResult.{SessionResult}
-use Rattle.repo_model.specs.Data.{Row, Hosted, Session}
+use Rattle.repo_model.specs.Data.{Row, Hosted, Proxy, Session}
 use Rattle.repo_model.specs.Settings.{Rule, Settings}
 use Rattle.repo_model.specs.State.{State, is_repository, is_session, is_among, row_at, rows_of, number_end}
 use Rattle.repo_model.specs.Command.{is_there}
 use Rattle.repo_model.specs.Tables.{Tables, RecordedRow, RecordedSession, names_blob, recorded_at}
 use Rattle.repo_model.specs.History.{latest_moment}
-use Rattle.repo_model.specs.Restart.{with_bytes, is_of, recorded_of, hosted_from, session_from, sessions_from, greatest_session, greatest_number, blobs_named, started}
-use Rattle.repo_laws.specs.Laws.{rows_with, places_of}
+use Rattle.repo_model.specs.Restart.{with_bytes, is_of, recorded_of, hosted_from, session_from, sessions_from, greatest_session, greatest_number, blobs_named, proxy_from, started}
+use Rattle.repo_laws.specs.Laws.{places_of}
 use Rattle.repo_model.specs.Paths.{FadesRightly}
 use Rattle.repo_laws.specs.Numbered.{NumbersApart}
 use Rattle.repo_laws.specs.Sound.{AreNamedApart, AreByPath, IsInOrder, OnePlace, IsSound, AreProxiesApart}
 use Rattle.repo_laws.specs.Holds.{session_cmp, named_in, InOrder}
 use Rattle.repo_laws.specs.InRange.{InRange}
-use Rattle.repo_laws.proofs.Counts.{one_if, names, count-cons, rows_with-cons}
 use Rattle.repo_laws.proofs.HoldingBlobs.{counts-named, greatest-least}
-use Rattle.repo_laws.proofs.HoldingLists.{none-any, all-split, greatest-below, all-greatest}
-use Rattle.repo_laws.proofs.Lists.{all-then}
+use Rattle.repo_laws.proofs.HoldingLists.{all-map, map-undone, none-any, all-split, greatest-below, all-greatest}
 use Rattle.repo_laws.proofs.Orderly.{there-as-set}
 use Rattle.repo_laws.proofs.Ranges.{range-fading, range-numbers, range-moments}
 use Rattle.repo_laws.proofs.Rows.{rows_in}
-use Rattle.repo_laws.proofs.Untouched.{among-has}
-use Rattle.repo_laws.proofs.Releases.{same_path, other_path, is_itself}
+use Rattle.repo_laws.proofs.Lists.{all-then, among-has}
 use Rattle.repo_laws.proofs.StartingRows.{by-path-of, of-found, rows-under, none-under}
 use Rattle.repo_laws.proofs.Starting.{rising-later, later-from, each-from, all-from, greatest-from, greatest-below-end, next-above, started-none-staged}
 use Rattle.repo_laws.proofs.StartedRows.{rows-named}
-use Rattle.repo_laws.proofs.StartingFiles.{files-named, same-proxies, all-files}
+use Rattle.repo_laws.proofs.StartingFiles.{files-named}
 
 module _ (tells : ℕ → Option (List ℕ)) where
   same-rules : (rows : List RecordedRow) (rules : List Rule) → map (λ (h : Hosted). h.rule) (map (hosted_from tells rows) rules) ≡ rules
-  same-rules rows [] = refl
-  same-rules rows (rule ∷ rules) = ap (λ rest. rule ∷ rest) (same-rules rows rules)
-
-  all-hosted : (P : List Row → Type 0) (rows : List RecordedRow) → ((repo : List ℕ) → P (recorded_of tells rows repo)) → (rules : List Rule) → AllByRecursion (λ (h : Hosted). P h.rows) (map (hosted_from tells rows) rules)
-  all-hosted P rows so [] = tt
-  all-hosted P rows so (rule ∷ rules) = (so rule.id, all-hosted P rows so rules)
+  same-rules rows = map-undone (hosted_from tells rows) (λ (h : Hosted). h.rule) (λ rule. refl)
 
   -- what rows have whatever their bytes, those of a repository have
   all-recorded : (P : Row → Type 0) → ((row : Row) → P row → P (with_bytes tells row)) → (rows : List RecordedRow) → AllByRecursion (λ (r : RecordedRow). P r.row) rows → (repo : List ℕ) → AllByRecursion P (recorded_of tells rows repo)
@@ -101,9 +93,9 @@ module _ (settings : Settings) (tells : ℕ → Option (List ℕ)) (stored : Lis
   started-sound = record {
     order = record {
       rules = same-rules tells t.hosted settings.hosted;
-      rows = all-hosted tells AreByPath t.hosted (λ repo. by-path-of tells repo t.hosted order.hosted) settings.hosted;
-      proxies = same-proxies tells t settings.proxies;
-      files = all-files tells t AreByPath (λ id. by-path-of tells id t.cached order.cached) settings.proxies;
+      rows = all-map (hosted_from tells t.hosted) (λ (h : Hosted). AreByPath h.rows) (λ rule. by-path-of tells rule.id t.hosted order.hosted) settings.hosted;
+      proxies = map-undone (proxy_from tells t) (λ (p : Proxy). p.rule) (λ rule. refl) settings.proxies;
+      files = all-map (proxy_from tells t) (λ (p : Proxy). AreByPath p.files) (λ rule. by-path-of tells rule.id t.cached order.cached) settings.proxies;
       sessions = each-from (IsInOrder settings) (λ n result. ((λ none. absurd (none-some result (sym none))), tt)) t.sessions;
       draft = let below = greatest-below-end (blobs_named t ++ stored) 0 (omega arith) in omega (arith, below);
       lease = omega arith;
@@ -118,7 +110,7 @@ module _ (settings : Settings) (tells : ℕ → Option (List ℕ)) (stored : Lis
       apart = apart-from t.sessions order.sessions;
     };
     condemned = tt;
-    fading = all-hosted tells (AllByRecursion FadesRightly) t.hosted (all-recorded tells FadesRightly (λ row so. so) t.hosted (range-fading t range)) settings.hosted;
+    fading = all-map (hosted_from tells t.hosted) (λ (h : Hosted). AllByRecursion FadesRightly h.rows) (λ rule. all-recorded tells FadesRightly (λ row so. so) t.hosted (range-fading t range) rule.id) settings.hosted;
     last = greatest-least t latest_moment (range-moments t range);
   }
 

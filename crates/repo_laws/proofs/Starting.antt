@@ -1,38 +1,31 @@
 -- The state that a start makes stands for the tables.
 use native.Mathlib.Omega.{arith}
-use Rattle.std.proofs.Common.{◌≡◌, ◌≤◌, ◌<◌, ℕ, true, false, cond, ◌&&◌, ◌||◌, List, [], ◌∷◌, ◌++◌, map, Option, Some, None, refl, sym, ◌∙◌, ap, subst}
-use Rattle.std.specs.Prelude.{◌==◌, nat_lt, max, fold, filter, find, count_by, bytes_eq, if◌then◌else◌, IsTrue}
-use Rattle.std.specs.Option.{option_map, option_map_or, option_and_then}
+use Rattle.std.proofs.Common.{◌≡◌, ◌≤◌, ◌<◌, ℕ, true, false, cond, ◌&&◌, ◌||◌, List, [], ◌∷◌, ◌++◌, Option, Some, None, refl, sym, ◌∙◌, ap, subst}
+use Rattle.std.specs.Prelude.{◌==◌, nat_lt, max, fold, find, count_by, if◌then◌else◌, IsTrue}
+use Rattle.std.specs.Option.{option_map, option_and_then}
 use Rattle.std.specs.List.{AllByRecursion, list_any}
 use Rattle.std.specs.List.Sorted.{IsStrictlySortedBy}
-use Rattle.std.specs.Ordering.{nat_cmp, ordering_then}
-use Rattle.std.specs.declared.cmp.Ordering.TheVariants.{Less, Equal}
-use Rattle.std.specs.Cmp.Lexicographic.{slice_cmp, nat_list_cmp_total}
+use Rattle.std.specs.declared.cmp.Ordering.TheVariants.{Less}
 use Rattle.std.proofs.lemmas.Bool.{false≢true, ltb-true, ne_eqb, eqb-true, lt-ltb}
-use Rattle.std.proofs.lemmas.Cmp.{tied_itself, ranked}
+use Rattle.std.proofs.lemmas.Cmp.{ranked}
 use Rattle.outside.specs.Moments.{Moments}
 use Rattle.repo_model.specs.declared.session.SessionResult.{SessionResult}
-use Rattle.repo_model.specs.Data.{Row, Hosted, Session}
-use Rattle.repo_model.specs.Settings.{Rule, Settings}
-use Rattle.repo_model.specs.State.{State, is_repository, is_session, is_open, is_open_at, row_at, number_end}
-use Rattle.repo_model.specs.Tables.{Tables, RecordedRow, RecordedSession, is_recorded, recorded_at, names_blob}
+use Rattle.repo_model.specs.Data.{Proxy, Session}
+use Rattle.repo_model.specs.Settings.{Settings}
+use Rattle.repo_model.specs.State.{State, is_session, is_open, is_open_at, row_at, number_end}
+use Rattle.repo_model.specs.Tables.{Tables, RecordedRow, RecordedSession, names_blob}
 use Rattle.repo_model.specs.Tables as kept
-use Rattle.repo_model.specs.Restart.{with_bytes, is_of, recorded_of, hosted_from, session_from, sessions_from, greatest_number, blobs_named, started, proxy_from}
+use Rattle.repo_model.specs.Restart.{session_from, sessions_from, greatest_number, blobs_named, started, proxy_from}
 use Rattle.repo_laws.specs.Laws.{staged_with, without_bytes}
-use Rattle.repo_laws.specs.Sound.{IsBelow, AreByPath}
-use Rattle.repo_laws.specs.Holds.{row_cmp, session_cmp, InOrder, Holds, StandsFor}
+use Rattle.repo_laws.specs.Holds.{session_cmp, InOrder, Holds, StandsFor}
 use Rattle.repo_laws.specs.InRange.{InRange}
-use Rattle.repo_laws.proofs.Counts.{stages_it, staged_with-cons}
-use Rattle.repo_laws.proofs.HoldingLists.{all-split, none-any}
-use Rattle.repo_laws.proofs.CausesSession.{any-none}
+use Rattle.repo_laws.proofs.Counts.{stages_it, sum-none}
+use Rattle.repo_laws.proofs.HoldingLists.{all-map, all-of-map, all-so, all-split, none-any}
+use Rattle.repo_laws.proofs.HoldingSessions.{ended_among, result_among}
 use Rattle.repo_laws.proofs.Lists.{all-then}
-use Rattle.repo_laws.proofs.Orderly.{found-has}
-use Rattle.repo_laws.proofs.Releases.{same_path}
 use Rattle.repo_laws.proofs.Ranges.{rows-named, range-bare, range-numbers}
-use Rattle.repo_laws.proofs.Rows.{rows_in}
 use Rattle.repo_laws.proofs.StartingRows.{held-rows, rows-under, of-found}
 use Rattle.repo_laws.proofs.StartingFiles.{started-files, started-documents}
-use Rattle.repo_laws.proofs.HoldingFiles.{no-marks}
 
 -- sessions
 abbrev pub later_number : ℕ → RecordedSession → Type 0
@@ -49,12 +42,6 @@ later-from n (x ∷ sessions) all =
       | None ↦ later-from n sessions all.1
       | (Some result) ↦ (ne_eqb x.number n (λ same. omega (arith, all.0, same)), later-from n sessions all.1)
     ]
-
-abbrev result_among : ℕ → List RecordedSession → Option SessionResult
-result_among n sessions = option_and_then (λ (one : RecordedSession). one.result) (find (kept.is_session n) sessions)
-
-abbrev ended_among : ℕ → List Session → Option SessionResult
-ended_among n sessions = option_and_then (λ (one : Session). one.ended) (find (is_session n) sessions)
 
 none-later : (n : ℕ) (sessions : List RecordedSession) → AllByRecursion (later_number n) sessions → ended_among n (sessions_from sessions) ≡ None
 none-later n sessions all = ap (option_and_then (λ (one : Session). one.ended)) (none-any (is_session n) (sessions_from sessions) (later-from n sessions all))
@@ -89,10 +76,6 @@ all-from P (x ∷ sessions) all =
       | (Some result) ↦ (all.0 result, all-from P sessions all.1)
     ]
 
-all-so : {X : Type 0} (P : X → Type 0) → ((x : X) → P x) → (xs : List X) → AllByRecursion P xs
-all-so P so [] = tt
-all-so P so (x ∷ xs) = (so x, all-so P so xs)
-
 pub each-from : (P : Session → Type 0) → ((n : ℕ) (result : SessionResult) → P (record { number = n; repo = []; staged = []; ended = Some result })) → (sessions : List RecordedSession) → AllByRecursion P (sessions_from sessions)
 each-from P so sessions =
     all-from P sessions (all-so (λ (one : RecordedSession). (result : SessionResult) → P (record { number = one.number; repo = []; staged = []; ended = Some result })) (λ one result. so one.number result) sessions)
@@ -125,13 +108,9 @@ greatest-below-end (n ∷ numbers) m below =
       | false ↦ λ is. greatest-below-end numbers m below
     ] refl
 
-all-of-map : (P : ℕ → Type 0) (rows : List RecordedRow) → AllByRecursion P (map (λ (r : RecordedRow). r.row.blob.number) rows) → AllByRecursion (λ (r : RecordedRow). P r.row.blob.number) rows
-all-of-map P [] all = tt
-all-of-map P (r ∷ rows) all = (all.0, all-of-map P rows all.1)
-
 pub named-has : (P : ℕ → Type 0) (n : ℕ) (t : Tables) → AllByRecursion P (blobs_named t) → IsTrue (names_blob n t) → P n
 named-has P n t all named =
-    let each = all-split (λ (r : RecordedRow). P r.row.blob.number) t.hosted t.cached (all-of-map P (t.hosted ++ t.cached) all) in
+    let each = all-split (λ (r : RecordedRow). P r.row.blob.number) t.hosted t.cached (all-of-map (λ (r : RecordedRow). r.row.blob.number) P (t.hosted ++ t.cached) all) in
     rows-named P n t each.0 each.1 named
 
 module _ (settings : Settings) (tells : ℕ → Option (List ℕ)) (stored : List ℕ) (clock : Option Moments) (faults : ℕ) (t : Tables) (order : InOrder t) (range : InRange t) where
@@ -145,14 +124,9 @@ module _ (settings : Settings) (tells : ℕ → Option (List ℕ)) (stored : Lis
       let below = named-has (λ k. k < number_end → k ≤ greatest_number (blobs_named t ++ stored)) n t all named (range-numbers t range n named).1 in
       omega (arith, below)
 
-  none-staged : (n : ℕ) (sessions : List Session) → AllByRecursion (λ (one : Session). one.staged ≡ []) sessions → staged_with n sessions ≡ 0
-  none-staged n [] all = refl
-  none-staged n (one ∷ sessions) all =
-      let none : count_by (stages_it n) one.staged ≡ 0 = ap (count_by (stages_it n)) all.0 in
-      omega (arith, staged_with-cons n one sessions, none, none-staged n sessions all.1)
-
   pub started-none-staged : (n : ℕ) → staged_with n s.sessions ≡ 0
-  started-none-staged n = none-staged n s.sessions (each-from (λ (one : Session). one.staged ≡ []) (λ m result. refl) t.sessions)
+  started-none-staged n =
+      sum-none (λ (one : Session). count_by (stages_it n) one.staged) s.sessions (each-from (λ (one : Session). count_by (stages_it n) one.staged ≡ 0) (λ m result. refl) t.sessions)
 
   closed-all : AllByRecursion (λ (one : Session). is_open one ≡ false) s.sessions
   closed-all = each-from (λ (one : Session). is_open one ≡ false) (λ m result. refl) t.sessions
@@ -181,5 +155,5 @@ module _ (settings : Settings) (tells : ℕ → Option (List ℕ)) (stored : Lis
     leases = refl;
     drafts = refl;
     condemned = refl;
-    marks = no-marks (proxy_from tells t) (λ rule. refl) settings.proxies;
+    marks = all-map (proxy_from tells t) (λ (p : Proxy). p.marks ≡ []) (λ rule. refl) settings.proxies;
   }

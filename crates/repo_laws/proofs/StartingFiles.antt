@@ -1,48 +1,41 @@
 -- The files and documents of proxies that a start makes are the recorded ones.
 use native.Mathlib.Omega.{arith}
-use Rattle.std.proofs.Common.{◌≡◌, ◌≤◌, ◌+◌, ℕ, true, false, cond, ◌&&◌, ◌||◌, List, [], ◌∷◌, map, Option, Some, None, refl, sym, ◌∙◌, ap}
-use Rattle.std.specs.Prelude.{◌==◌, filter, find, count_by, bytes_eq, IsTrue}
+use Rattle.std.proofs.Common.{◌≡◌, ◌≤◌, ℕ, true, false, cond, ◌&&◌, List, [], ◌∷◌, map, Option, Some, None, refl, sym, ◌∙◌, ap}
+use Rattle.std.specs.Prelude.{◌==◌, filter, find, count_by, bytes_eq}
 use Rattle.std.specs.Option.{option_map, option_map_or}
-use Rattle.std.specs.List.{AllByRecursion, list_any}
-use Rattle.std.proofs.lemmas.Bool.{false≢true}
+use Rattle.std.specs.List.{list_any}
 use Rattle.std.proofs.lemmas.Option.{none-some}
-use Rattle.repo_model.specs.Data.{Row, Kept, Proxy}
+use Rattle.repo_model.specs.Data.{Kept, Proxy}
 use Rattle.repo_model.specs.Settings.{ProxyRule, Rule}
-use Rattle.repo_model.specs.State.{is_proxy, new_proxy, row_at}
+use Rattle.repo_model.specs.State.{is_proxy, row_at}
 use Rattle.repo_model.specs.Proxies.{kept_at}
-use Rattle.repo_model.specs.Tables.{Tables, RecordedRow, RecordedDocument, no_tables, recorded_at}
+use Rattle.repo_model.specs.Tables.{Tables, RecordedRow, RecordedDocument}
 use Rattle.repo_model.specs.Restart.{recorded_of, hosted_from, documents_of, proxy_from}
 use Rattle.repo_laws.specs.Laws.{rows_with, cached_with, without_bytes}
 use Rattle.repo_laws.specs.Sound.{AreNamedApart, AreProxiesApart}
-use Rattle.repo_laws.specs.Files.{files_in, documents_in, FilesHeld, DocumentsHeld, recorded_kept}
+use Rattle.repo_laws.specs.Files.{FilesHeld, DocumentsHeld, recorded_kept}
 use Rattle.repo_laws.specs.Items.{document_at}
 use Rattle.repo_laws.specs.InRange.{InRange}
-use Rattle.repo_laws.proofs.Counts.{names, rows_with-cons}
+use Rattle.repo_laws.proofs.Counts.{rows_with-cons}
 use Rattle.repo_laws.proofs.Files.{cached_with-cons}
-use Rattle.repo_laws.proofs.HoldingFiles.{part_in}
+use Rattle.repo_laws.proofs.HoldingLists.{all-map}
 use Rattle.repo_laws.proofs.Ranges.{cached-bare}
 use Rattle.repo_laws.proofs.Releases.{same_path}
-use Rattle.repo_laws.proofs.StartingRows.{of-found, held-rows}
+use Rattle.repo_laws.proofs.StartingRows.{of-found, held-rows, part-under}
 use Rattle.repo_laws.proofs.StartedRows.{rows-named}
 
 module _ (tells : ℕ → Option (List ℕ)) (t : Tables) where
   -- a part of the proxy of an id
-  part-under : {X : Type 0} (part : Proxy → List X) (of : List ℕ → List X) → ((rule : ProxyRule) → part (proxy_from tells t rule) ≡ of rule.id) → (id : List ℕ) (rules : List ProxyRule)
-      → list_any (is_proxy id) (map (proxy_from tells t) rules) ≡ true → part_in part id (map (proxy_from tells t) rules) ≡ of id
-  part-under part of is id [] there = absurd (false≢true there)
-  part-under part of is id (rule ∷ rules) there =
-      elim (bytes_eq rule.id id)
-      as (λ b. bytes_eq rule.id id ≡ b → (b || list_any (is_proxy id) (map (proxy_from tells t) rules)) ≡ true
-      → option_map_or part (cond b (Some (proxy_from tells t rule)) (find (is_proxy id) (map (proxy_from tells t) rules))) [] ≡ of id) [
-        | true ↦ λ same _. is rule ∙ ap of (same_path rule.id id same)
-        | false ↦ λ _ later. part-under part of is id rules later
-      ] refl there
+  part-from : {X : Type 0} (part : Proxy → List X) (of : List ℕ → List X) → ((rule : ProxyRule) → part (proxy_from tells t rule) ≡ of rule.id) → (id : List ℕ) (rules : List ProxyRule)
+      → list_any (is_proxy id) (map (proxy_from tells t) rules) ≡ true → option_map_or part (find (is_proxy id) (map (proxy_from tells t) rules)) [] ≡ of id
+  part-from part of is id rules =
+      part-under (λ (p : Proxy). p.rule.id) part of id (map (proxy_from tells t) rules) (all-map (proxy_from tells t) (λ (p : Proxy). part p ≡ of p.rule.id) is rules)
 
   pub started-files : InRange t → (rules : List ProxyRule) → FilesHeld t.cached (map (proxy_from tells t) rules)
   started-files range rules id path there =
       held-rows tells id path t.cached (cached-bare t range)
       ∙ ap (option_map without_bytes)
-      (sym (ap (row_at path) (part-under (λ (p : Proxy). p.files) (recorded_of tells t.cached) (λ rule. refl) id rules there) ∙ of-found tells id path t.cached))
+      (sym (ap (row_at path) (part-from (λ (p : Proxy). p.files) (recorded_of tells t.cached) (λ rule. refl) id rules there) ∙ of-found tells id path t.cached))
 
   abbrev kept_of : RecordedDocument → Kept
   kept_of d = record { path = d.path; checked = d.checked; document = d.document }
@@ -67,15 +60,7 @@ module _ (tells : ℕ → Option (List ℕ)) (t : Tables) where
   pub started-documents : (rules : List ProxyRule) → DocumentsHeld t.documents (map (proxy_from tells t) rules)
   started-documents rules id path there =
       documents-told id path t.documents
-      ∙ ap (λ kept. option_map (recorded_kept id) (kept_at path kept)) (sym (part-under (λ (p : Proxy). p.documents) (documents_of t.documents) (λ rule. refl) id rules there))
-
-  pub same-proxies : (rules : List ProxyRule) → map (λ (p : Proxy). p.rule) (map (proxy_from tells t) rules) ≡ rules
-  same-proxies [] = refl
-  same-proxies (rule ∷ rules) = ap (λ rest. rule ∷ rest) (same-proxies rules)
-
-  pub all-files : (P : List Row → Type 0) → ((id : List ℕ) → P (recorded_of tells t.cached id)) → (rules : List ProxyRule) → AllByRecursion (λ (p : Proxy). P p.files) (map (proxy_from tells t) rules)
-  all-files P so [] = tt
-  all-files P so (rule ∷ rules) = (so rule.id, all-files P so rules)
+      ∙ ap (λ kept. option_map (recorded_kept id) (kept_at path kept)) (sym (part-from (λ (p : Proxy). p.documents) (documents_of t.documents) (λ rule. refl) id rules there))
 
   -- how often their files name a blob
   abbrev as_rule : ProxyRule → Rule

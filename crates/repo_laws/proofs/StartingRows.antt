@@ -1,35 +1,33 @@
 -- The rows of the repositories that a start makes are the recorded ones, with their bytes, in byte order of path.
-use native.Mathlib.Omega.{arith}
-use Rattle.std.proofs.Common.{◌≡◌, ◌≤◌, ◌<◌, ℕ, true, false, cond, ◌&&◌, ◌||◌, List, [], ◌∷◌, ◌++◌, map, Option, Some, None, refl, sym, ◌∙◌, ap, subst}
-use Rattle.std.specs.Prelude.{◌==◌, nat_lt, max, fold, filter, find, count_by, bytes_eq, if◌then◌else◌, IsTrue}
-use Rattle.std.specs.Option.{option_map, option_map_or, option_and_then}
+use Rattle.std.proofs.Common.{◌≡◌, ℕ, true, false, cond, ◌&&◌, List, [], ◌∷◌, map, Option, Some, None, refl, sym, ◌∙◌, ap}
+use Rattle.std.specs.Prelude.{filter, find, bytes_eq}
+use Rattle.std.specs.Option.{option_map, option_map_or}
 use Rattle.std.specs.List.{AllByRecursion, list_any}
 use Rattle.std.specs.List.Sorted.{IsStrictlySortedBy}
 use Rattle.std.specs.Ordering.{nat_cmp, ordering_then}
 use Rattle.std.specs.declared.cmp.Ordering.TheVariants.{Less, Equal}
 use Rattle.std.specs.Cmp.Lexicographic.{slice_cmp, nat_list_cmp_total}
-use Rattle.std.proofs.lemmas.Bool.{false≢true, ltb-true, ne_eqb, eqb-true, lt-ltb}
-use Rattle.std.proofs.lemmas.Cmp.{tied_itself, ranked}
-use Rattle.outside.specs.Moments.{Moments}
-use Rattle.repo_model.specs.declared.session.SessionResult.{SessionResult}
-use Rattle.repo_model.specs.Data.{Row, Hosted, Session}
-use Rattle.repo_model.specs.Settings.{Rule, Settings}
-use Rattle.repo_model.specs.State.{State, is_repository, is_session, is_open, is_open_at, row_at, number_end}
-use Rattle.repo_model.specs.Tables.{Tables, RecordedRow, RecordedSession, is_recorded, recorded_at, names_blob}
-use Rattle.repo_model.specs.Tables as kept
-use Rattle.repo_model.specs.Restart.{with_bytes, is_of, recorded_of, hosted_from, session_from, sessions_from, greatest_number, blobs_named, started}
-use Rattle.repo_laws.specs.Laws.{staged_with, without_bytes}
+use Rattle.std.proofs.lemmas.Bool.{false≢true}
+use Rattle.std.proofs.lemmas.Cmp.{tied_itself}
+use Rattle.repo_model.specs.Data.{Row, Hosted}
+use Rattle.repo_model.specs.Settings.{Rule}
+use Rattle.repo_model.specs.State.{is_repository, row_at}
+use Rattle.repo_model.specs.Tables.{RecordedRow, is_recorded, recorded_at}
+use Rattle.repo_model.specs.Restart.{with_bytes, is_of, recorded_of, hosted_from}
+use Rattle.repo_laws.specs.Laws.{without_bytes}
 use Rattle.repo_laws.specs.Sound.{IsBelow, AreByPath}
-use Rattle.repo_laws.specs.Holds.{row_cmp, session_cmp, InOrder, Holds, StandsFor}
-use Rattle.repo_laws.specs.InRange.{InRange}
-use Rattle.repo_laws.proofs.Counts.{stages_it, staged_with-cons}
-use Rattle.repo_laws.proofs.HoldingLists.{all-split, none-any}
-use Rattle.repo_laws.proofs.CausesSession.{any-none}
-use Rattle.repo_laws.proofs.Lists.{all-then}
-use Rattle.repo_laws.proofs.Orderly.{found-has}
-use Rattle.repo_laws.proofs.Releases.{same_path}
-use Rattle.repo_laws.proofs.Ranges.{rows-named, range-bare, range-numbers}
-use Rattle.repo_laws.proofs.Rows.{rows_in}
+use Rattle.repo_laws.specs.Holds.{row_cmp}
+use Rattle.repo_laws.proofs.HoldingLists.{all-map, any-none, unfound-any}
+use Rattle.repo_laws.proofs.Lists.{found-has, found-passes}
+use Rattle.repo_laws.proofs.Rows.{is_at, rows_in, same_path}
+
+-- where the part of each is that of its id, the one that is found at an id has that of the id
+pub part-under : {X Y : Type 0} (id_of : X → List ℕ) (part : X → List Y) (of : List ℕ → List Y) (id : List ℕ) (xs : List X) → AllByRecursion (λ x. part x ≡ of (id_of x)) xs → list_any (is_at id_of id) xs ≡ true
+    → option_map_or part (find (is_at id_of id) xs) [] ≡ of id
+part-under {X} id_of part of id xs all there = by (find (is_at id_of id) xs) refl where
+  by : (found : Option X) → find (is_at id_of id) xs ≡ found → option_map_or part found [] ≡ of id
+  by None none = absurd (false≢true (sym (unfound-any (is_at id_of id) xs none) ∙ there))
+  by (Some x) found = found-has (λ y. part y ≡ of (id_of y)) (is_at id_of id) xs x all found ∙ ap of (same_path (id_of x) id (found-passes (is_at id_of id) xs x found))
 
 module _ (tells : ℕ → Option (List ℕ)) where
   -- a row that is found is the recorded one, with its bytes
@@ -45,24 +43,16 @@ module _ (tells : ℕ → Option (List ℕ)) where
         | false ↦ of-found repo path rows
       ]
 
-  abbrev rows_or : Option Hosted → List Row
-  rows_or found = option_map_or (λ (h : Hosted). h.rows) found []
-
   -- the repositories' rows are those that are recorded of their ids
   pub rows-under : (repo : List ℕ) (rows : List RecordedRow) (rules : List Rule) → list_any (is_repository repo) (map (hosted_from tells rows) rules) ≡ true
       → rows_in repo (map (hosted_from tells rows) rules) ≡ recorded_of tells rows repo
-  rows-under repo rows [] there = absurd (false≢true there)
-  rows-under repo rows (rule ∷ rules) there =
-      elim (bytes_eq rule.id repo)
-      as (λ b. bytes_eq rule.id repo ≡ b → (b || list_any (is_repository repo) (map (hosted_from tells rows) rules)) ≡ true
-      → rows_or (cond b (Some (hosted_from tells rows rule)) (find (is_repository repo) (map (hosted_from tells rows) rules))) ≡ recorded_of tells rows repo) [
-        | true ↦ λ is _. ap (recorded_of tells rows) (same_path rule.id repo is)
-        | false ↦ λ _ later. rows-under repo rows rules later
-      ] refl there
+  rows-under repo rows rules =
+      part-under (λ (h : Hosted). h.rule.id) (λ (h : Hosted). h.rows) (recorded_of tells rows) repo (map (hosted_from tells rows) rules)
+      (all-map (hosted_from tells rows) (λ (h : Hosted). h.rows ≡ recorded_of tells rows h.rule.id) (λ rule. refl) rules)
 
   pub none-under : (repo : List ℕ) (rows : List RecordedRow) (rules : List Rule) → list_any (is_repository repo) (map (hosted_from tells rows) rules) ≡ false
       → rows_in repo (map (hosted_from tells rows) rules) ≡ []
-  none-under repo rows rules none = ap rows_or (any-none (is_repository repo) (map (hosted_from tells rows) rules) none)
+  none-under repo rows rules none = ap (λ (found : Option Hosted). option_map_or (λ (h : Hosted). h.rows) found []) (any-none (is_repository repo) (map (hosted_from tells rows) rules) none)
 
   bare-again : (row : Row) → row.blob.bytes ≡ None → without_bytes (with_bytes tells row) ≡ row
   bare-again row is = ap (λ bytes. record row { blob = record row.blob { bytes = bytes } }) (sym is)

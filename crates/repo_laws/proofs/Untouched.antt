@@ -1,12 +1,13 @@
 -- What a Collect gave out to be removed stands nowhere from then on.
 use native.Mathlib.Omega.{arith}
-use Rattle.std.proofs.Common.{◌≡◌, ◌<◌, ◌+◌, ℕ, Bool, true, false, not, cond, ◌||◌, List, [], ◌∷◌, ◌++◌, length, refl, sym, ◌∙◌, ap, subst, eqb-true}
+use Rattle.std.proofs.Common.{◌≡◌, ◌<◌, ◌+◌, ℕ, true, false, not, ◌||◌, List, [], ◌∷◌, ◌++◌, length, refl, sym, ◌∙◌, ap, subst}
 use Rattle.std.specs.Prelude.{◌==◌, nat_lt, filter, if◌then◌else◌}
-use Rattle.std.specs.List.{AllByRecursion, list_any}
-use Rattle.std.proofs.lemmas.Bool.{false≢true, ne_eqb, or_from, or_parts, false_from_ne_true, ltb-true, ltb-false}
+use Rattle.std.specs.List.{list_any}
+use Rattle.std.proofs.lemmas.Bool.{false≢true, ne_eqb, not-true, or_from, false_from_ne_true, ltb-true, ltb-false}
+use Rattle.std.proofs.lemmas.List.Folds.{list_any-append}
 use Rattle.repo_model.specs.Settings.{Settings}
 use Rattle.repo_model.specs.State.{State, Lease, is_among}
-use Rattle.repo_model.specs.Effect.{Effect, draws, drops, creates, stages, delivers, discards, relists, fades, expires, forgets, lends, returns, opens, ends, caches, keeps_doc, marks_missing, clears_mark, with_effect, with_effects}
+use Rattle.repo_model.specs.Effect.{Effect, forgets, lends, returns, with_effect, with_effects}
 use Rattle.repo_model.specs.May.{May}
 use Rattle.repo_model.specs.Command.{Command, look, collect}
 use Rattle.repo_model.specs.Reply.{Reply, collected, is_free}
@@ -17,59 +18,28 @@ use Rattle.repo_laws.specs.Laws.{places_of, rows_with, cached_with, count_of}
 use Rattle.repo_laws.specs.Sound.{AreNamedApart, Sound, OnePlace}
 use Rattle.repo_laws.specs.Closed.{given_out, IsGone, StaysGone, Untouched}
 use Rattle.repo_laws.proofs.ByPath.{all-apart}
-use Rattle.repo_laws.proofs.Counts.{one_if, count-cons, among-counts}
+use Rattle.repo_laws.proofs.Counts.{among-counts, count-none}
+use Rattle.repo_laws.proofs.HoldingLists.{any-filter}
+use Rattle.repo_laws.proofs.Lists.{among-has}
 use Rattle.repo_laws.proofs.Places.{rows-blob-counts, places-counted, next-counted, never-again, one-place-kept}
 use Rattle.repo_laws.proofs.Orderly.{sound-kept}
 use Rattle.repo_laws.proofs.Purges.{expires-all}
 use Rattle.repo_laws.proofs.Turns.{unlent-has}
 use Rattle.repo_laws.proofs.Histories.{all-keep, with_effects-append, ticked-later, entry-keeps, sound-entry, one-place-entry}
 
-off : (b : Bool) → not b ≡ true → b ≡ false
-off true is = absurd (false≢true is)
-off false is = refl
-
-any-push : {X : Type 0} (q : X → Bool) (xs : List X) (x : X) → list_any q xs ≡ false → q x ≡ false → list_any q (xs ++ x ∷ []) ≡ false
-any-push q [] x none new = or_from (q x) false new refl
-any-push q (first ∷ xs) x none new =
-    let (here, later) = or_parts (q first) (list_any q xs) none in
-    or_from (q first) (list_any q (xs ++ x ∷ [])) here (any-push q xs x later new)
-
-any-filter : {X : Type 0} (q p : X → Bool) (xs : List X) → list_any q xs ≡ false → list_any q (filter p xs) ≡ false
-any-filter q p [] none = refl
-any-filter q p (x ∷ xs) none =
-    let (here, later) = or_parts (q x) (list_any q xs) none in
-    let rest = any-filter q p xs later in
-    elim (p x) as (λ b. list_any q (cond b (x ∷ filter p xs) (filter p xs)) ≡ false) [ true ↦ or_from (q x) (list_any q (filter p xs)) here rest | false ↦ rest ]
-
-pub among-has : (P : ℕ → Type 0) (n : ℕ) (ns : List ℕ) → AllByRecursion P ns → is_among n ns ≡ true → P n
-among-has P n [] all among = absurd (false≢true among)
-among-has P n (m ∷ ns) all among =
-    elim (m == n) as (λ b. (m == n) ≡ b → (b || is_among n ns) ≡ true → P n) [
-      | true ↦ λ is _. subst P (eqb-true m n is) all.0
-      | false ↦ λ _ later. among-has P n ns all.1 later
-    ] refl among
-
 pub count-forgotten : (k : ℕ) (blobs ms : List ℕ) → is_among k blobs ≡ true → count_of k (filter (λ m. not (is_among m blobs)) ms) ≡ 0
-count-forgotten k blobs [] among = refl
-count-forgotten k blobs (m ∷ ms) among =
-    let rest = filter (λ i. not (is_among i blobs)) ms in
-    let none = count-forgotten k blobs ms among in
-    elim (is_among m blobs)
-    as (λ b. is_among m blobs ≡ b → count_of k (cond (not b) (m ∷ rest) rest) ≡ 0) [
-      | true ↦ λ _. none
-      | false ↦ λ is.
-          let apart : (m == k) ≡ false = ne_eqb m k (λ at. false≢true (sym is ∙ ap (λ i. is_among i blobs) at ∙ among)) in
-          let zero : one_if (m == k) ≡ 0 = ap one_if apart in
-          omega (arith, count-cons (λ i. i == k) m rest, zero, none)
-    ] refl
+count-forgotten k blobs ms among =
+    count-none (λ m. m == k) (λ m. not (is_among m blobs))
+    (λ m kept. ne_eqb m k (λ at. false≢true (sym (not-true (is_among m blobs) kept) ∙ ap (λ i. is_among i blobs) at ∙ among))) ms
 
 -- a number that is gone stays so
 unborrowed : (grace now : ℕ) (s : State) (e : Effect) (n : ℕ) → May grace now s e → places_of s n ≡ 0
     → list_any (λ (l : Lease). l.blob == n) s.yard.leases ≡ false → list_any (λ (l : Lease). l.blob == n) (with_effect s e).yard.leases ≡ false
 unborrowed grace now s (lends blob) n may nowhere none =
     let there : 0 < rows_with blob s.hosted + cached_with blob s.proxies = rows-blob-counts s blob may.1 in
-    any-push (λ l. l.blob == n) s.yard.leases (record { number = s.yard.next_lease; blob = blob }) none
-    (ne_eqb blob n (λ same. let here : 0 < rows_with n s.hosted + cached_with n s.proxies = subst (λ (k : ℕ). 0 < rows_with k s.hosted + cached_with k s.proxies) same there in omega (arith, here, nowhere)))
+    let other : (blob == n) ≡ false = ne_eqb blob n (λ same. let here : 0 < rows_with n s.hosted + cached_with n s.proxies = subst (λ (k : ℕ). 0 < rows_with k s.hosted + cached_with k s.proxies) same there in omega (arith, here, nowhere)) in
+    list_any-append (λ l. l.blob == n) s.yard.leases (record { number = s.yard.next_lease; blob = blob } ∷ [])
+    ∙ or_from (list_any (λ (l : Lease). l.blob == n) s.yard.leases) ((blob == n) || false) none (or_from (blob == n) false other refl)
 unborrowed grace now s (returns lease) n may nowhere none = any-filter (λ l. l.blob == n) (λ l. not (l.number == lease)) s.yard.leases none
 unborrowed grace now s e n may nowhere none = none
 
@@ -85,7 +55,7 @@ forgets-gone t n placed among =
     elim (nat_lt n t.yard.next_draft) as (λ b. nat_lt n t.yard.next_draft ≡ b → IsGone n (with_effect t (forgets (unlent t.yard)))) [
       | true ↦ λ is.
           let drawn : n < t.yard.next_draft = ltb-true n t.yard.next_draft is in
-          (drawn, omega (arith, counts, placed.drawn n drawn, count-forgotten n (unlent t.yard) t.yard.condemned among), off (list_any (λ (l : Lease). l.blob == n) t.yard.leases) unleased)
+          (drawn, omega (arith, counts, placed.drawn n drawn, count-forgotten n (unlent t.yard) t.yard.condemned among), not-true (list_any (λ (l : Lease). l.blob == n) t.yard.leases) unleased)
       | false ↦ λ is. absurd (omega (arith, counts, placed.later n (ltb-false n t.yard.next_draft is)))
     ] refl
 

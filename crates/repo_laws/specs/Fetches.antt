@@ -1,5 +1,5 @@
 -- Worked histories of a proxy and a group: a file whose checksum differs, one that is gone, one that is got; a document that is asked for again after an hour.
-use Rattle.std.specs.Prelude.{ℕ, List, [], ◌∷◌, ◌++◌, Option, Some, None, codes}
+use Rattle.std.specs.Prelude.{ℕ, List, [], ◌∷◌, Some, None, codes}
 use Rattle.mvn_digest.specs.declared.digests.Digest.TheVariants.{Sha1}
 use Rattle.mvn_digest.specs.Digests.{digests_of}
 use Rattle.mvn_metadata.specs.Document.{Document}
@@ -15,7 +15,7 @@ use Rattle.repo_model.specs.declared.question.Question.TheVariants.{Status}
 use Rattle.repo_model.specs.declared.update.Update.TheVariants.{Daily, Hourly}
 use Rattle.repo_model.specs.Turn.{plan_of, longest_document}
 use Rattle.repo_model.specs.Command.{look, done, may_put, put, collect, ask, land}
-use Rattle.repo_model.specs.Reply.{file, text, doc, missed, given_back, draft, created, collected, finds, fetches, negative, landed}
+use Rattle.repo_model.specs.Reply.{file, doc, missed, given_back, draft, created, collected, finds, fetches, negative, landed}
 use Rattle.repo_model.specs.History.{Entry}
 use Rattle.repo_laws.specs.Worked.{shop, at, abc, releases, release_jar, sha1_of_abc, sha1_of_nothing}
 

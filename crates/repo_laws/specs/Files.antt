@@ -1,5 +1,5 @@
 -- What the tables tell of proxies: their files and their documents.
-use Rattle.std.specs.Prelude.{◌≡◌, ℕ, List, [], find, Option, IsTrue}
+use Rattle.std.specs.Prelude.{◌≡◌, ℕ, List, [], find, IsTrue}
 use Rattle.std.specs.Option.{option_map, option_map_or}
 use Rattle.std.specs.List.{list_any}
 use Rattle.repo_model.specs.Data.{Row, Kept, Proxy}

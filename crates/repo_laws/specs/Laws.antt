@@ -1,5 +1,5 @@
 -- Words of the laws.
-use Rattle.std.specs.Prelude.{◌≡◌, ℕ, ◌+◌, ◌≤◌, ◌==◌, ◌⊎◌, true, false, List, [], ◌∷◌, find, None, Some, sum_by, count_by}
+use Rattle.std.specs.Prelude.{◌≡◌, ℕ, ◌+◌, ◌≤◌, ◌==◌, ◌⊎◌, Bool, false, List, [], ◌∷◌, find, None, Some, sum_by, count_by}
 use Rattle.std.specs.List.{AllByRecursion}
 use Rattle.repo_model.specs.Data.{Blob, Row, Phase, listed, fading, Hosted, Proxy, Session, Staged}
 use Rattle.repo_model.specs.Paths.{FadesRightly, is_snapshot_path}
@@ -39,10 +39,14 @@ places_of s n = count_of n s.yard.drafts + rows_with n s.hosted + cached_with n 
 abbrev pub leases_of : State → ℕ → ℕ
 leases_of s n = count_by (λ (l : Lease). l.number == n) s.yard.leases
 
+-- no later one is the same as an earlier one, by a test
+abbrev pub AreApartBy : {X : Type 0} → (X → X → Bool) → List X → Type 0
+AreApartBy same [] = Unit {0}
+AreApartBy same (x ∷ xs) = (find (same x) xs ≡ None) × AreApartBy same xs
+
 -- no later file has the path of an earlier one
 abbrev pub AreApart : List Staged → Type 0
-AreApart [] = Unit {0}
-AreApart (file ∷ files) = (find (is_staged file.path) files ≡ None) × AreApart files
+AreApart = AreApartBy (λ (file : Staged). is_staged file.path)
 
 -- a row that is visible, or fades since no earlier than a moment
 abbrev pub LastsFrom : ℕ → Phase → Type 0

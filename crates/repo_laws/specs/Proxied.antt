@@ -1,13 +1,12 @@
 -- Where the files come from that proxies keep and answer: a fetch that landed them, or the start.
-use Rattle.std.specs.Prelude.{◌≡◌, ◌⊎◌, ℕ, List, ◌∷◌, ◌++◌, Some, IsTrue, bytes_eq}
-use Rattle.std.specs.List.{list_any}
+use Rattle.std.specs.Prelude.{◌≡◌, ◌⊎◌, ℕ, List, ◌∷◌, ◌++◌}
 use Rattle.fetch_plan.specs.declared.Plan.{Plan}
 use Rattle.fetch_plan.specs.declared.Outcome.TheVariants.{Got}
 use Rattle.repo_model.specs.Fetched.{got_file}
 use Rattle.repo_model.specs.Data.{Blob}
-use Rattle.repo_model.specs.Settings.{GroupRule, Settings}
+use Rattle.repo_model.specs.Settings.{Settings}
 use Rattle.repo_model.specs.State.{State, rows_of, files_of}
-use Rattle.repo_model.specs.Command.{Command, look, land, group_rule_of}
+use Rattle.repo_model.specs.Command.{Command, look, land}
 use Rattle.repo_model.specs.Reply.{file, landed}
 use Rattle.repo_model.specs.History.{Entry, end}
 use Rattle.repo_laws.specs.Laws.{AnyByRecursion}

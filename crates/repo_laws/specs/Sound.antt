@@ -1,26 +1,24 @@
 -- What each state of a history keeps: it is in order, and each blob number stands in one place.
-use Rattle.std.specs.Prelude.{◌≡◌, ℕ, ◌+◌, ◌<◌, ◌≤◌, List, [], ◌∷◌, map, find, None, IsTrue, bytes_eq}
+use Rattle.std.specs.Prelude.{◌≡◌, ℕ, ◌+◌, ◌<◌, ◌≤◌, List, [], ◌∷◌, map, None, IsTrue, bytes_eq}
 use Rattle.std.specs.List.{AllByRecursion}
 use Rattle.std.specs.Ordering.{nat_cmp}
 use Rattle.std.specs.declared.cmp.Ordering.TheVariants.{Less}
 use Rattle.std.specs.Cmp.Lexicographic.{slice_cmp}
 use Rattle.repo_model.specs.Data.{Row, Hosted, Proxy, Session}
 use Rattle.repo_model.specs.Settings.{Rule, Settings, ProxyRule}
-use Rattle.repo_model.specs.State.{State, Lease, row_at, number_end}
+use Rattle.repo_model.specs.State.{State, Lease, number_end}
 use Rattle.repo_model.specs.Command.{is_there}
 use Rattle.repo_model.specs.History.{latest_moment}
 use Rattle.repo_laws.specs.Numbered.{Numbered}
-use Rattle.repo_laws.specs.Laws.{FadingAreSnapshots, AreApart, places_of, leases_of, rows_with, cached_with, count_of}
+use Rattle.repo_laws.specs.Laws.{FadingAreSnapshots, AreApartBy, AreApart, places_of, leases_of, rows_with, cached_with, count_of}
 
 -- no later rule has the id of an earlier one
 abbrev pub AreNamedApart : List Rule → Type 0
-AreNamedApart [] = Unit {0}
-AreNamedApart (rule ∷ rules) = (find (λ other. bytes_eq other.id rule.id) rules ≡ None) × AreNamedApart rules
+AreNamedApart = AreApartBy (λ (rule other : Rule). bytes_eq other.id rule.id)
 
 -- no later proxy has the id of an earlier one
 abbrev pub AreProxiesApart : List ProxyRule → Type 0
-AreProxiesApart [] = Unit {0}
-AreProxiesApart (rule ∷ rules) = (find (λ other. bytes_eq other.id rule.id) rules ≡ None) × AreProxiesApart rules
+AreProxiesApart = AreApartBy (λ (rule other : ProxyRule). bytes_eq other.id rule.id)
 
 -- the path is below that of a row, in byte order
 abbrev pub IsBelow : List ℕ → Row → Type 0

@@ -7,7 +7,7 @@ use Rattle.outside.specs.Moments.{Moments}
 use Rattle.repo_model.specs.Data.{Staged, Session}
 use Rattle.repo_model.specs.Settings.{Settings}
 use Rattle.repo_model.specs.State.{State, change_first, is_open, is_open_at, is_staged, most_sessions, most_staged, opening}
-use Rattle.repo_model.specs.Effect.{Effect, draws, drops, creates, stages, delivers, discards, relists, fades, expires, forgets, lends, returns, opens, ends, with_staged, without_staged, new_session, with_effect}
+use Rattle.repo_model.specs.Effect.{Effect, stages, delivers, discards, opens, ends, with_staged, without_staged, new_session, with_effect}
 use Rattle.repo_model.specs.May.{May}
 use Rattle.repo_model.specs.Tables.{Tables}
 use Rattle.repo_model.specs.Restart.{started}

@@ -9,7 +9,7 @@ use Rattle.repo_model.specs.declared.session.SessionResult.{SessionResult}
 use Rattle.repo_model.specs.Data.{Session}
 use Rattle.repo_model.specs.Settings.{Settings}
 use Rattle.repo_model.specs.State.{State, change_first, is_session, is_open, is_open_at}
-use Rattle.repo_model.specs.Effect.{Effect, draws, drops, creates, stages, delivers, discards, relists, fades, expires, forgets, lends, returns, opens, ends, new_session, with_staged, without_staged, sessions_after, with_effect, with_effects}
+use Rattle.repo_model.specs.Effect.{Effect, stages, delivers, discards, opens, ends, new_session, with_staged, without_staged, sessions_after, with_effect, with_effects}
 use Rattle.repo_model.specs.Tables.{Tables, RecordedSession, is_session as is_recorded_session}
 use Rattle.repo_model.specs.Restart.{started}
 use Rattle.repo_model.specs.History.{Entry, ticked, effects_of, after, Legal, end}
