@@ -14,7 +14,7 @@ use Rattle.repo_model.specs.Turn.{Turn, says, in_repository, draws_draft}
 use Rattle.repo_model.specs.History.{Entry, IsReply, due, wants_memory, failed, Fits}
 use Rattle.repo_laws.specs.Sound.{IsSound}
 use Rattle.repo_laws.proofs.Plans.{look-plans}
-use Rattle.repo_core.proofs.HostedLemmas.{rule-found}
+use Rattle.repo_parts.proofs.HostedLemmas.{rule-found}
 
 fit-mapped : (path : List ℕ) (found : Option Hosted) → is_fit (λ rule. takes rule path) (option_map (λ (h : Hosted). h.rule) found) ≡ is_fit (λ (h : Hosted). takes h.rule path) found
 fit-mapped path None = refl

@@ -1,63 +1,31 @@
 -- The commands of deployment sessions, as turns of the machine: those that open a session and that stage in it.
-use Rattle.std.proofs.Common.{◌≡◌, ◌⊎◌, ℕ, ◌+◌, Bool, true, false, not, if◌then◌else◌, List, [], ◌∷◌, ◌++◌, length, Option, Some, None, inl, inr, refl, sym, ap, ◌∙◌, subst, eqb-true}
+use Rattle.std.proofs.Common.{◌≡◌, ◌⊎◌, ℕ, ◌+◌, Bool, true, false, if◌then◌else◌, List, [], ◌∷◌, ◌++◌, length, Option, Some, None, inl, inr, refl, sym, ap, ◌∙◌, subst, eqb-true}
 use Rattle.std.specs.Prelude.{◌==◌, IsTrue, count_by, nat_le, nat_lt}
 use Rattle.std.proofs.lemmas.Bool.{and_parts}
 use Rattle.mvn_coords.specs.Kind.{kind}
 use Rattle.deploy_session.specs.Known.{Known, begin_turn, known_after, sessions_after_all}
-use Rattle.ordered_rows.specs.Recording.{HasReplyCause}
-use Rattle.repo_model.specs.Command.{Command, is_file_path, is_parcel, may_put, meets, open_session, put_doc, put_side, stage}
+use Rattle.repo_model.specs.Command.{is_file_path, is_parcel, may_put, meets, open_session, put_doc, put_side, stage}
 use Rattle.repo_model.specs.Data.{Blob, Hosted, Session, is_same_print, session}
-use Rattle.repo_model.specs.Effect.{draws, drops, opens, recorded, stages, with_effects, with_number, without_draft, yard_after}
-use Rattle.repo_model.specs.History.{commits, is_collect}
-use Rattle.repo_model.specs.Paths.{takes}
-use Rattle.repo_model.specs.Reply.{Reply, draft, ended, is_free, kind_refused, no_draft, no_memory, no_session, noted, opened, same, session_full, sessions_full, spent, staged, store_fault, taken, takes_memory}
+use Rattle.repo_model.specs.Effect.{drops, opens, recorded, stages, with_effects, with_number, without_draft, yard_after}
+use Rattle.repo_model.specs.Reply.{Reply, ended, is_free, no_draft, no_memory, no_session, noted, opened, same, session_full, sessions_full, spent, staged, store_fault, taken, takes_memory}
 use Rattle.repo_model.specs.State.{State, Yard, hosted_of, is_among, is_open, is_open_at, most_sessions, number_end, open_of}
 use Rattle.repo_model.specs.Settings.{Settings}
-use Rattle.repo_model.specs.Tables.{Tables}
-use Rattle.repo_model.specs.Turn.{Turn, draws_draft, draws_or_spent, has_room, in_repository, judged, may_put_in, says, stage_at, stage_in, staged_at, turn, with_open}
-use Rattle.row_tables.specs.Commits.{tables_with}
-use Rattle.repo_core.specs.Deploys.{AreStagedInUse, kept_staged, yard_opened, yard_staged}
-use Rattle.repo_core.specs.Hosted.{AreInUse}
-use Rattle.repo_core.specs.Turn.{IsAnswer, Recorded, Turned, due, failed, wants_memory}
+use Rattle.repo_model.specs.Turn.{Turn, draws_draft, draws_or_spent, has_room, judged, may_put_in, says, stage_at, stage_in, staged_at, turn, with_open}
+use Rattle.repo_parts.specs.Deploys.{AreStagedInUse, kept_staged, yard_opened, yard_staged}
+use Rattle.repo_parts.specs.Hosted.{AreInUse}
+use Rattle.repo_core.specs.Turn.{Turned}
 use Rattle.repo_core.specs.Whole.{Parts}
 use Rattle.repo_core.proofs.DraftLemmas.{if-so}
-use Rattle.repo_core.proofs.PutReplies.{by-free}
-use Rattle.repo_core.proofs.StagedLemmas.{staged-file, staged-more}
-use Rattle.repo_core.proofs.Turning.{judges-nothing, some-items, unless}
-use Rattle.repo_core.proofs.UseLemmas.{all-more, among-new, or-right}
-
--- ---- any command whose change is recorded
-pub recorded-by : (w new : Parts) (command : Command) (t : Turn) (reply : Reply) (told told' : Option Tables) (faults faults' : ℕ) → turn w.settings w.state w.state.last command ≡ t
-    → takes_memory command ≡ true → (reply ≡ t.reply) ⊎ (IsTrue (is_free reply) × (reply ≡ store_fault → recorded t.effects ≡ [] → ⊥)) → new.settings ≡ w.settings → new.calls ≡ w.calls
-    → new.state ≡ with_effects w.state (if is_free reply then [] else t.effects) → told' ≡ (if is_free reply then told else tables_with (recorded t.effects) told) → HasReplyCause faults faults' reply
-    → Recorded w new command reply told told' faults faults'
-recorded-by w new command t reply told told' faults faults' is memory given settings calls left tables cause = record {
-  settings = settings;
-  calls = calls;
-  answered = elim given as (λ _. IsAnswer w command reply) [
-    | (inl so) ↦ due (so ∙ ap (λ (u : Turn). u.reply) (sym is))
-    | (inr so) ↦ by-free (λ r. (r ≡ reply) → IsAnswer w command r) reply so.0 (λ _. wants_memory refl memory)
-        (λ here. failed refl (subst (λ (u : Turn). IsTrue (commits command u.effects)) (sym is)
-        (or-right (is_collect command) (not (length (recorded t.effects) == 0)) (some-items (recorded t.effects) (so.1 (sym here)))))) refl
-  ];
-  left = left ∙ ap (λ (u : Turn). with_effects w.state (if is_free reply then [] else u.effects)) (sym is);
-  tables = tables ∙ unless (is_free reply) t.effects told ∙ ap (λ (u : Turn). tables_with (recorded (if is_free reply then [] else u.effects)) told) (sym is);
-  cause = cause;
-}
+use Rattle.repo_parts.proofs.PutReplies.{by-free}
+use Rattle.repo_parts.proofs.StagedLemmas.{staged-file, staged-more}
+use Rattle.repo_core.proofs.Turning.{judges-nothing, draws-quiet, if-quiet, in-quiet}
+use Rattle.repo_parts.proofs.UseLemmas.{all-more}
+use Rattle.repo_parts.proofs.AmongLemmas.{among-new}
 
 -- a reply that is due, or one that changes nothing where something was to be recorded
 pub due-or-free : (t : Turn) (reply : Reply) → (reply ≡ t.reply) ⊎ (IsTrue (is_free reply) × (recorded t.effects ≡ [] → ⊥)) → (reply ≡ t.reply) ⊎ IsTrue (is_free reply)
 due-or-free t reply (inl is) = inl is
 due-or-free t reply (inr so) = inr so.0
-
-pub recorded-given : (t : Turn) (reply : Reply) → (reply ≡ t.reply) ⊎ (IsTrue (is_free reply) × (recorded t.effects ≡ [] → ⊥))
-    → (reply ≡ t.reply) ⊎ (IsTrue (is_free reply) × (reply ≡ store_fault → recorded t.effects ≡ [] → ⊥))
-recorded-given t reply (inl is) = inl is
-recorded-given t reply (inr so) = inr (so.0, λ _. so.1)
-
--- ---- a draft at a session
-abbrev draft_by : Bool → ℕ → Turn
-draft_by end next = if end then says spent else record { reply = draft next; effects = draws ∷ [] }
 
 -- ---- a session is opened
 module _ (s : State) (repo : List ℕ) (k : Known) (sessions : k.sessions ≡ s.sessions) (next : k.next ≡ s.yard.next_session) where
@@ -143,7 +111,7 @@ module _ (w : Parts) (at : ℕ) (path : List ℕ) (n : ℕ) (blob : Blob) (among
   abbrev due_stage : Turn
   due_stage = stage_in path n blob (open_of at w.state)
 
-  pub stage-turn : turn w.settings w.state w.state.last (stage at path n blob) ≡ due_stage
+  stage-turn : turn w.settings w.state w.state.last (stage at path n blob) ≡ due_stage
   stage-turn = if-so (is_among n w.state.yard.drafts) due_stage (says _) (sym among)
 
   abbrev LeftSo : Turn → Reply → Type 0
@@ -239,25 +207,11 @@ staged-named settings at path n blob met =
     eqb-true blob.number n (and_parts (blob.number == n) (nat_lt blob.print.length number_end) parts.1).0
 
 -- ---- commands of sessions that record nothing
-draws-quiet : (next : ℕ) → recorded (draws_draft next).effects ≡ []
-draws-quiet next = by (next == number_end) where
-  by : (end : Bool) → recorded (draft_by end next).effects ≡ []
-  by true = refl
-  by false = refl
-
-if-quiet : (b : Bool) (t : Turn) (reply : Reply) → recorded t.effects ≡ [] → recorded (if b then t else says reply).effects ≡ []
-if-quiet true t reply none = none
-if-quiet false t reply none = refl
-
 pub may_stage-quiet : (w : Parts) (n : ℕ) (path : List ℕ) → recorded (turn w.settings w.state w.state.last (may_put (session n) path)).effects ≡ []
 may_stage-quiet w n path = by (open_of n w.state) where
-  in-quiet : (found : Option Hosted) (t : Turn) → recorded t.effects ≡ [] → recorded (in_repository path found t).effects ≡ []
-  in-quiet None t none = refl
-  in-quiet (Some h) t none = if-quiet (takes h.rule path) t kind_refused none
-
   by : (found : Option Session) → recorded (may_put_in w.state path found).effects ≡ []
   by None = refl
-  by (Some one) = in-quiet (hosted_of one.repo w.state) _ (if-quiet (has_room path one.staged) (draws_draft w.state.yard.next_draft) session_full (draws-quiet w.state.yard.next_draft))
+  by (Some one) = in-quiet path (hosted_of one.repo w.state) (if has_room path one.staged then draws_draft w.state.yard.next_draft else says session_full) (if-quiet (has_room path one.staged) (draws_draft w.state.yard.next_draft) session_full (draws-quiet w.state.yard.next_draft))
 
 pub stage_side-quiet : (w : Parts) (n : ℕ) (path said : List ℕ) → recorded (turn w.settings w.state w.state.last (put_side (session n) path said)).effects ≡ []
 stage_side-quiet w n path said = by (open_of n w.state) where

@@ -1,5 +1,5 @@
 -- Blobs that are put under drafts, as turns of the machine.
-use Rattle.std.proofs.Common.{◌≡◌, ℕ, ◌<◌, Bool, true, false, if◌then◌else◌, List, [], Option, Some, find, inl, inr, refl, sym, ap, ◌∙◌, subst, eqb-true}
+use Rattle.std.proofs.Common.{◌≡◌, ℕ, ◌<◌, Bool, true, false, if◌then◌else◌, List, [], Option, Some, find, refl, sym, ap, ◌∙◌, subst, eqb-true}
 use Rattle.std.specs.Prelude.{◌==◌, IsTrue, nat_lt}
 use Rattle.std.proofs.lemmas.Bool.{and_parts, ltb-true}
 use Rattle.repo_model.specs.Data.{Blob, Hosted}
@@ -14,14 +14,13 @@ use Rattle.hosted_repo.specs.Puts.{put_turn}
 use Rattle.ordered_rows.specs.Rows.{rows_after_all}
 use Rattle.ordered_rows.specs.Recording.{HasReplyCause}
 use Rattle.repo_model.specs.Tables.{Tables}
-use Rattle.repo_model.specs.History.{commits}
 use Rattle.row_tables.specs.Commits.{tables_with}
-use Rattle.repo_core.specs.Numbers.{yard_put}
-use Rattle.repo_core.specs.Turn.{IsAnswer, due, wants_memory, failed, Recorded}
+use Rattle.repo_parts.specs.Numbers.{yard_put}
+use Rattle.repo_core.specs.Turn.{Recorded}
 use Rattle.repo_core.specs.Whole.{Parts}
-use Rattle.repo_core.proofs.HostedLemmas.{with_lent}
-use Rattle.repo_core.proofs.PutReplies.{IsGiven, by-free, left-put, put-here, put-left, state_put}
-use Rattle.repo_core.proofs.Turning.{some-items, unless}
+use Rattle.repo_parts.proofs.HostedLemmas.{with_lent}
+use Rattle.repo_parts.proofs.PutReplies.{IsGiven, left-put, put-here, put-left, state_put}
+use Rattle.repo_core.proofs.Turning.{recorded-by, recorded-given}
 
 pub if-so : {X : Type 0} (b : Bool) (x y : X) → true ≡ b → (if b then x else y) ≡ x
 if-so true x y e = refl
@@ -48,21 +47,11 @@ module _ (w : Parts) (repo path : List ℕ) (n : ℕ) (blob : Blob) where
       recorded-put new yard reply told told' faults faults' given made yards tables cause =
           let rows = put-left repo path blob w.state.last w.state.hosted old new reply here given made in
           let there = put-here repo path blob w.state.last w.state.hosted old here in
-          record {
-            settings = refl;
-            calls = refl;
-            answered = elim given as (λ _. IsAnswer w (put repo path n blob) reply) [
-              | (inl is) ↦ due (is ∙ ap (λ (u : Turn). u.reply) turn-at)
-              | (inr is) ↦ by-free (λ r. (r ≡ reply) → IsAnswer w (put repo path n blob) r) reply is.0 (λ _. wants_memory refl refl)
-                  (λ _. failed refl (subst (λ (u : Turn). IsTrue (commits (put repo path n blob) u.effects)) turn-at (some-items (recorded at_place.effects) is.1))) refl
-            ];
-            left =
-                (λ i. record w.state { hosted = rows i; yard = yards i }) ∙ ap (λ k. record (state_put repo path blob reply w.state) { yard = yard_put k reply w.state.yard }) (sym named)
-                ∙ left-put w.state repo path blob reply (subst (λ (u : Turn). IsGiven u reply) there given)
-                ∙ ap (λ (u : Turn). with_effects w.state (if is_free reply then [] else u.effects)) (sym there ∙ turn-at);
-            tables = tables ∙ unless (is_free reply) at_place.effects told ∙ ap (λ (u : Turn). tables_with (recorded (if is_free reply then [] else u.effects)) told) turn-at;
-            cause = cause;
-          }
+          recorded-by w (record w { state = record w.state { hosted = with_lent repo w.state.hosted new; yard = yard } }) (put repo path n blob) at_place reply told told' faults faults'
+          (sym turn-at) refl (recorded-given at_place reply given) refl refl
+          ((λ i. record w.state { hosted = rows i; yard = yards i }) ∙ ap (λ k. record (state_put repo path blob reply w.state) { yard = yard_put k reply w.state.yard }) (sym named)
+          ∙ left-put w.state repo path blob reply (subst (λ (u : Turn). IsGiven u reply) there given) ∙ ap (λ (u : Turn). with_effects w.state (if is_free reply then [] else u.effects)) (sym there))
+          tables cause
 
 module _ (settings : Settings) (repo path : List ℕ) (n : ℕ) (blob : Blob) (asked : IsTrue (meets settings (put repo path n blob))) where
   abbrev taken_there : Bool

@@ -10,8 +10,8 @@ use Rattle.repo_model.specs.Command.{is_fit}
 use Rattle.repo_model.specs.Paths.{file_at, takes, takes_file}
 use Rattle.repo_model.specs.State.{State, is_among, number_end}
 use Rattle.repo_config.specs.Form.{is_from_1_to, is_proxy_rule, is_rule}
-use Rattle.repo_config.specs.Keys.{is_host, is_pattern_list, is_prefix}
-use Rattle.repo_config.specs.Names as names
+use Rattle.settings_keys.specs.Keys.{is_host, is_pattern_list, is_prefix}
+use Rattle.settings_keys.specs.Ids as names
 use Rattle.repo_laws.specs.Sound.{OnePlace}
 use Rattle.repo_laws.proofs.Counts.{among-counts}
 use Rattle.row_tables.specs.Items.{is_file_path, is_id, is_id_byte, is_number}

@@ -1,5 +1,5 @@
 -- What came of a fetch lands: what it leaves, by what it answers.
-use Rattle.std.proofs.Common.{◌≡◌, ◌≢◌, ◌⊎◌, ℕ, Bool, true, false, if◌then◌else◌, List, [], ◌∷◌, Option, Some, None, Result, Ok, Err, inl, inr, refl, sym, ap, ◌∙◌, subst, bytes_eq, cond, eqb-true, ◌||◌}
+use Rattle.std.proofs.Common.{◌≡◌, ◌≢◌, ◌⊎◌, ℕ, Bool, true, false, if◌then◌else◌, List, [], ◌∷◌, Option, Some, None, Result, Ok, inl, inr, refl, sym, ap, ◌∙◌, subst, bytes_eq, cond, eqb-true, ◌||◌}
 use Rattle.std.specs.Prelude.{◌==◌, IsTrue, find, is_some, nat_lt}
 use Rattle.std.specs.List.{list_any}
 use Rattle.std.specs.Option.{ForSome}
@@ -8,17 +8,17 @@ use Rattle.std.proofs.lemmas.Option.{none-some}
 use Rattle.mvn_coords.specs.Kind.{kind}
 use Rattle.mvn_coords.specs.declared.fault.PathFault.{PathFault}
 use Rattle.mvn_coords.specs.declared.kind.Kind.{Kind}
-use Rattle.mvn_coords.specs.declared.kind.Kind.TheVariants.{File, FileSide, Doc, DocSide}
+use Rattle.mvn_coords.specs.declared.kind.Kind.TheVariants.{File, Doc}
 use Rattle.mvn_metadata.specs.Document.{Document}
 use Rattle.fetch_plan.specs.declared.Plan.{Plan}
-use Rattle.fetch_plan.specs.declared.Outcome.TheVariants.{Got, Gone, Refused, NoChecksum, Differs, TooLarge, BadAnswer, BadDocument, Fault}
+use Rattle.fetch_plan.specs.declared.Outcome.TheVariants.{Got, Gone}
 use Rattle.repo_model.specs.Command.{is_landing, land, meets, proxy_rule_of}
 use Rattle.repo_model.specs.Data.{Blob, Hosted, Proxy, Row, Session}
-use Rattle.repo_model.specs.Effect.{Effect, caches, clears_mark, proxies_after, recorded, with_effects, with_number, without_mark}
+use Rattle.repo_model.specs.Effect.{Effect, clears_mark, proxies_after, recorded, with_effects, with_number, without_mark}
 use Rattle.repo_model.specs.Fetched.{Landing, got_doc, got_file}
 use Rattle.repo_model.specs.Reply.{is_free, landed, no_draft, no_memory, store_fault}
 use Rattle.repo_model.specs.Settings.{ProxyRule, Settings}
-use Rattle.repo_model.specs.State.{State, change_first, is_among, is_proxy, number_end, row_at}
+use Rattle.repo_model.specs.State.{State, is_among, is_proxy, number_end, row_at}
 use Rattle.repo_model.specs.Tables.{Tables}
 use Rattle.repo_model.specs.Turn.{gives_draft_up, is_drawn, lands, lands_by, lands_file, says, turn}
 use Rattle.repo_laws.specs.Files.{files_in}
@@ -27,37 +27,31 @@ use Rattle.ordered_rows.specs.Recording.{HasReplyCause}
 use Rattle.proxy_rules.specs.Landings.{answer_of, has_failed, shown_landed}
 use Rattle.proxy_rules.specs.declared.landed.Landed.{Landed}
 use Rattle.proxy_rules.specs.declared.landed.Landed.TheVariants.{Kept, NotKept, StoreFault, NoMemory}
-use Rattle.repo_core.specs.Deploys.{AreStagedInUse}
-use Rattle.repo_core.specs.Hosted.{AreInUse}
-use Rattle.repo_core.specs.Proxies.{AreCachedInUse, kept_landed, proxies_after_all, proxy_rules_of, yard_landed}
+use Rattle.repo_parts.specs.Deploys.{AreStagedInUse}
+use Rattle.repo_parts.specs.Hosted.{AreInUse}
+use Rattle.repo_parts.specs.Proxies.{AreCachedInUse, kept_landed, proxies_after_all, proxy_rules_of, yard_landed}
 use Rattle.repo_core.specs.Turn.{Recorded}
 use Rattle.repo_core.specs.Whole.{Parts}
-use Rattle.repo_core.proofs.CachedLemmas.{cached-more, file-kept, other-kept}
-use Rattle.repo_core.proofs.DeployTurns.{recorded-by}
+use Rattle.repo_parts.proofs.CachedLemmas.{cached-more, file-kept, other-kept}
 use Rattle.repo_core.proofs.DraftLemmas.{if-so}
-use Rattle.repo_core.proofs.StagedLemmas.{staged-more}
-use Rattle.repo_core.proofs.UseLemmas.{all-more, among-new}
+use Rattle.repo_parts.proofs.StagedLemmas.{staged-more}
+use Rattle.repo_parts.proofs.UseLemmas.{all-more}
+use Rattle.repo_core.proofs.Turning.{recorded-by}
+use Rattle.repo_parts.proofs.AmongLemmas.{among-new}
+use Rattle.repo_laws.proofs.Files.{proxy-rules-kept}
 
 -- ---- what may land
 -- a file lands under its draft, whose number its blob has
 as-file : (k : Result Kind PathFault) (draft : Option ℕ) (blob : Blob) → is_landing k draft (Got (got_file blob)) ≡ true → draft ≡ Some blob.number
 as-file (Ok (File c)) (Some n) blob is = ap Some (sym (eqb-true blob.number n (and_parts (blob.number == n) (nat_lt blob.print.length number_end) is).0))
-as-file (Ok (File c)) None blob is = absurd (false≢true is)
-as-file (Ok (FileSide c side)) draft blob is = absurd (false≢true is)
-as-file (Ok (Doc d)) (Some n) blob is = absurd (false≢true is)
 as-file (Ok (Doc d)) None blob is = absurd (false≢true is)
-as-file (Ok (DocSide d side)) draft blob is = absurd (false≢true is)
-as-file (Err fault) draft blob is = absurd (false≢true is)
+as-file k draft blob is = absurd (false≢true is)
 
 -- a document lands under none
 as-document : (k : Result Kind PathFault) (draft : Option ℕ) (document : Document) → is_landing k draft (Got (got_doc document)) ≡ true → draft ≡ None
+as-document k None document is = refl
 as-document (Ok (File c)) (Some n) document is = absurd (false≢true is)
-as-document (Ok (File c)) None document is = refl
-as-document (Ok (FileSide c side)) draft document is = absurd (false≢true is)
-as-document (Ok (Doc d)) (Some n) document is = absurd (false≢true is)
-as-document (Ok (Doc d)) None document is = refl
-as-document (Ok (DocSide d side)) draft document is = absurd (false≢true is)
-as-document (Err fault) draft document is = absurd (false≢true is)
+as-document k (Some n) document is = absurd (false≢true is)
 
 module _ (settings : Settings) (plan : Plan) (landing : Landing) (met : IsTrue (meets settings (land plan landing))) where
   pub there-so : is_some (proxy_rule_of plan.proxy settings) ≡ true
@@ -88,12 +82,10 @@ Left s draft effects answer =
     ≡ with_effects s (if has_failed answer then [] else effects)
 
 failed-left : (s : State) (draft : Option ℕ) (effects : List Effect) (answer : Landed) → has_failed answer ≡ true → Left s draft effects answer
-failed-left s None effects StoreFault is = refl
-failed-left s None effects NoMemory is = refl
-failed-left s (Some n) effects StoreFault is = refl
-failed-left s (Some n) effects NoMemory is = refl
 failed-left s draft effects Kept is = absurd (false≢true is)
 failed-left s draft effects NotKept is = absurd (false≢true is)
+failed-left s None effects answer is = refl
+failed-left s (Some n) effects answer is = refl
 
 -- its draft is given up behind other effects, by which nothing is kept
 up-left : (s : State) (draft : Option ℕ) → Left s draft (gives_draft_up draft) (answer_of (gives_draft_up draft))
@@ -117,18 +109,12 @@ gone-left : (s : State) (plan : Plan) (files : List Row) (now : ℕ) (draft : Op
 gone-left s plan files now None is = rw is refl
 gone-left s plan files now (Some n) is = rw is refl
 
-pub landing-left : (s : State) (files : List Row) (now : ℕ) (plan : Plan) (landing : Landing) → is_landing (kind plan.path) plan.draft landing ≡ true
+landing-left : (s : State) (files : List Row) (now : ℕ) (plan : Plan) (landing : Landing) → is_landing (kind plan.path) plan.draft landing ≡ true
     → Left s plan.draft (lands_by files now plan landing) (answer_of (lands_by files now plan landing))
 landing-left s files now plan (Got (got_file blob)) fits = file-left s plan blob now (row_at plan.path files) (as-file (kind plan.path) plan.draft blob fits)
 landing-left s files now plan (Got (got_doc document)) fits = document-left s plan document files now (as-document (kind plan.path) plan.draft document fits)
 landing-left s files now plan Gone fits = gone-left s plan files now plan.draft refl
-landing-left s files now plan (Refused status) fits = up-left s plan.draft
-landing-left s files now plan NoChecksum fits = up-left s plan.draft
-landing-left s files now plan (Differs said found) fits = up-left s plan.draft
-landing-left s files now plan TooLarge fits = up-left s plan.draft
-landing-left s files now plan (BadAnswer at) fits = up-left s plan.draft
-landing-left s files now plan (BadDocument at) fits = up-left s plan.draft
-landing-left s files now plan Fault fits = up-left s plan.draft
+landing-left s files now plan landing fits = up-left s plan.draft
 
 -- ---- the turn
 free-so : (answer : Landed) → has_failed answer ≡ true → IsTrue (is_free (shown_landed answer))
@@ -174,71 +160,29 @@ module _ (w new : Parts) (plan : Plan) (landing : Landing) (answer : Landed) whe
 
 -- ---- what holds of the parts
 -- the rules of proxies stay
-change-rules : (id : List ℕ) (f : Proxy → Proxy) → ((p : Proxy) → (f p).rule ≡ p.rule) → (proxies : List Proxy) → proxy_rules_of (change_first (is_proxy id) f proxies) ≡ proxy_rules_of proxies
-change-rules id f same [] = refl
-change-rules id f same (p ∷ proxies) =
-    elim (is_proxy id p) as (λ b. proxy_rules_of (cond b (f p ∷ proxies) (p ∷ change_first (is_proxy id) f proxies)) ≡ p.rule ∷ proxy_rules_of proxies) [
-      | true ↦ ap (λ rule. rule ∷ proxy_rules_of proxies) (same p)
-      | false ↦ ap (λ rules. p.rule ∷ rules) (change-rules id f same proxies)
-    ]
-
-up-rules : (draft : Option ℕ) (proxies : List Proxy) → proxy_rules_of (proxies_after_all (gives_draft_up draft) proxies) ≡ proxy_rules_of proxies
-up-rules None proxies = refl
-up-rules (Some n) proxies = refl
-
-cleared-rules : (plan : Plan) (draft : Option ℕ) (proxies : List Proxy) → proxy_rules_of (proxies_after_all (clears_mark plan.proxy plan.path ∷ gives_draft_up draft) proxies) ≡ proxy_rules_of proxies
-cleared-rules plan draft proxies =
-    up-rules draft (proxies_after (clears_mark plan.proxy plan.path) proxies) ∙ change-rules plan.proxy (λ (p : Proxy). record p { marks = without_mark plan.path p.marks }) (λ p. refl) proxies
-
-file-rules : (plan : Plan) (blob : Blob) (now : ℕ) (found : Option Row) (proxies : List Proxy) → proxy_rules_of (proxies_after_all (lands_file plan blob now found) proxies) ≡ proxy_rules_of proxies
-file-rules plan blob now None proxies =
-    change-rules plan.proxy _ (λ p. refl) (proxies_after (caches plan.proxy plan.path blob now) proxies) ∙ change-rules plan.proxy _ (λ p. refl) proxies
-file-rules plan blob now (Some row) proxies = cleared-rules plan plan.draft proxies
-
-landing-rules : (files : List Row) (now : ℕ) (plan : Plan) (landing : Landing) (proxies : List Proxy) → proxy_rules_of (proxies_after_all (lands_by files now plan landing) proxies) ≡ proxy_rules_of proxies
-landing-rules files now plan (Got (got_file blob)) proxies = file-rules plan blob now (row_at plan.path files) proxies
-landing-rules files now plan (Got (got_doc document)) proxies =
-    change-rules plan.proxy _ (λ p. refl) _ ∙ change-rules plan.proxy _ (λ p. refl) proxies
-landing-rules files now plan Gone proxies = up-rules plan.draft _ ∙ change-rules plan.proxy _ (λ p. refl) proxies
-landing-rules files now plan (Refused status) proxies = up-rules plan.draft proxies
-landing-rules files now plan NoChecksum proxies = up-rules plan.draft proxies
-landing-rules files now plan (Differs said found) proxies = up-rules plan.draft proxies
-landing-rules files now plan TooLarge proxies = up-rules plan.draft proxies
-landing-rules files now plan (BadAnswer at) proxies = up-rules plan.draft proxies
-landing-rules files now plan (BadDocument at) proxies = up-rules plan.draft proxies
-landing-rules files now plan Fault proxies = up-rules plan.draft proxies
-
-pub landed-rules : (files : List Row) (now : ℕ) (plan : Plan) (landing : Landing) (failed : Bool) (proxies : List Proxy)
-    → proxy_rules_of (if failed then proxies else proxies_after_all (lands_by files now plan landing) proxies) ≡ proxy_rules_of proxies
-landed-rules files now plan landing true proxies = refl
-landed-rules files now plan landing false proxies = landing-rules files now plan landing proxies
+pub landed-rules : (failed : Bool) (effects : List Effect) (proxies : List Proxy) → proxy_rules_of (if failed then proxies else proxies_after_all effects proxies) ≡ proxy_rules_of proxies
+landed-rules true effects proxies = refl
+landed-rules false [] proxies = refl
+landed-rules false (e ∷ effects) proxies = landed-rules false effects (proxies_after e proxies) ∙ proxy-rules-kept e proxies
 
 -- what is in use stays so
 pub hosted-landed : (draft : Option ℕ) (answer : Landed) (kept : List ℕ) (hosted : List Hosted) → AreInUse kept hosted → AreInUse (kept_landed draft answer kept) hosted
-hosted-landed None answer kept hosted used = used
 hosted-landed (Some n) Kept kept hosted used = all-more kept n hosted used
-hosted-landed (Some n) NotKept kept hosted used = used
-hosted-landed (Some n) StoreFault kept hosted used = used
-hosted-landed (Some n) NoMemory kept hosted used = used
+hosted-landed draft answer kept hosted used = used
 
 pub staged-landed : (draft : Option ℕ) (answer : Landed) (kept : List ℕ) (sessions : List Session) → AreStagedInUse kept sessions → AreStagedInUse (kept_landed draft answer kept) sessions
-staged-landed None answer kept sessions used = used
 staged-landed (Some n) Kept kept sessions used = staged-more kept n sessions used
-staged-landed (Some n) NotKept kept sessions used = used
-staged-landed (Some n) StoreFault kept sessions used = used
-staged-landed (Some n) NoMemory kept sessions used = used
+staged-landed draft answer kept sessions used = used
 
 abbrev CachedLeft : List ℕ → Option ℕ → List Effect → Landed → List Proxy → Type 0
 CachedLeft kept draft effects answer proxies = AreCachedInUse (kept_landed draft answer kept) (if has_failed answer then proxies else proxies_after_all effects proxies)
 
 module _ (kept : List ℕ) (proxies : List Proxy) (used : AreCachedInUse kept proxies) where
   cached-failed : (draft : Option ℕ) (effects : List Effect) (answer : Landed) → has_failed answer ≡ true → CachedLeft kept draft effects answer proxies
-  cached-failed None done StoreFault is = used
-  cached-failed None done NoMemory is = used
-  cached-failed (Some n) done StoreFault is = used
-  cached-failed (Some n) done NoMemory is = used
   cached-failed draft done Kept is = absurd (false≢true is)
   cached-failed draft done NotKept is = absurd (false≢true is)
+  cached-failed None done answer is = used
+  cached-failed (Some n) done answer is = used
 
   cached-up : (draft : Option ℕ) → CachedLeft kept draft (gives_draft_up draft) (answer_of (gives_draft_up draft)) proxies
   cached-up None = used
@@ -273,13 +217,7 @@ module _ (kept : List ℕ) (proxies : List Proxy) (used : AreCachedInUse kept pr
   cached-landing files now plan (Got (got_file blob)) fits = cached-file plan blob now (row_at plan.path files) (as-file (kind plan.path) plan.draft blob fits)
   cached-landing files now plan (Got (got_doc document)) fits = cached-document plan document files now (as-document (kind plan.path) plan.draft document fits)
   cached-landing files now plan Gone fits = cached-gone plan files now plan.draft refl
-  cached-landing files now plan (Refused status) fits = cached-up plan.draft
-  cached-landing files now plan NoChecksum fits = cached-up plan.draft
-  cached-landing files now plan (Differs said found) fits = cached-up plan.draft
-  cached-landing files now plan TooLarge fits = cached-up plan.draft
-  cached-landing files now plan (BadAnswer at) fits = cached-up plan.draft
-  cached-landing files now plan (BadDocument at) fits = cached-up plan.draft
-  cached-landing files now plan Fault fits = cached-up plan.draft
+  cached-landing files now plan landing fits = cached-up plan.draft
 
   pub cached-landed : (files : List Row) (now : ℕ) (plan : Plan) (landing : Landing) (answer : Landed) → is_landing (kind plan.path) plan.draft landing ≡ true
       → (answer ≡ answer_of (lands_by files now plan landing)) ⊎ IsTrue (has_failed answer) → CachedLeft kept plan.draft (lands_by files now plan landing) answer proxies

@@ -28,22 +28,23 @@ use Rattle.repo_laws.proofs.Purges.{expires-all}
 use Rattle.repo_laws.proofs.Histories.{with_effects-append}
 use Rattle.repo_laws.proofs.Lists.{found-passes}
 use Rattle.repo_laws.proofs.Releases.{same_path}
-use Rattle.repo_core.specs.Deploys.{AreStagedInUse}
-use Rattle.repo_core.specs.Hosted.{AreInUse, rows_in, with_rows}
-use Rattle.repo_core.specs.Proxies.{AreCachedInUse}
+use Rattle.repo_parts.specs.Deploys.{AreStagedInUse}
+use Rattle.repo_parts.specs.Hosted.{AreInUse, rows_in, with_rows}
+use Rattle.repo_parts.specs.Proxies.{AreCachedInUse}
 use Rattle.hosted_repo.specs.Expired.{blob_of}
-use Rattle.repo_core.specs.Purge.{AreKeptOnce, condemned_by, dropped_by, kept_without, shares}
+use Rattle.repo_parts.specs.Purge.{AreKeptOnce, condemned_by, dropped_by, kept_without, shares}
 use Rattle.repo_core.specs.Turn.{Recorded, Turned}
 use Rattle.repo_core.specs.Whole.{IsOrderly, Parts}
 use Rattle.settings_laws.proofs.Apart.{named-apart}
-use Rattle.repo_core.proofs.BlobLemmas.{all-still, gone-once, none-gone, none-of-proxies}
-use Rattle.repo_core.proofs.CachedLemmas.{cached-still}
-use Rattle.repo_core.proofs.PurgeLemmas.{IsRemoval, dropped-used, expired-all, faded, fading_all, removals}
-use Rattle.repo_core.proofs.GarbageLemmas.{IsGoing, covered-then, garbage_of}
-use Rattle.repo_core.proofs.StagedLemmas.{covered-files, covers}
-use Rattle.repo_core.proofs.HostedLemmas.{lent-rows, lent-still, with_lent}
-use Rattle.repo_core.proofs.PutReplies.{rows-by, same-rows}
+use Rattle.repo_parts.proofs.BlobLemmas.{gone-once, none-gone, none-of-proxies}
+use Rattle.repo_parts.proofs.CachedLemmas.{cached-still}
+use Rattle.repo_parts.proofs.PurgeLemmas.{IsRemoval, dropped-used, expired-all, faded, fading_all, removals}
+use Rattle.repo_parts.proofs.GarbageLemmas.{IsGoing, covered-then, garbage_of}
+use Rattle.repo_parts.proofs.StagedLemmas.{covered-files, covers}
+use Rattle.repo_parts.proofs.HostedLemmas.{lent-rows, lent-still, with_lent}
+use Rattle.repo_parts.proofs.PutReplies.{rows-by, same-rows}
 use Rattle.repo_core.proofs.Turning.{failed-so, recorded-so, some-items}
+use Rattle.repo_parts.proofs.UseLemmas.{all-still}
 
 -- the rows of one repository, once those that are due are unlisted
 abbrev pub rows_unlisted : List ℕ → ℕ → List Hosted → List Hosted
@@ -51,7 +52,7 @@ rows_unlisted repo now hosted = with_rows repo (rows_after_all (unlist_of now (f
 
 -- a repository that was found is lent, and its rows that are due are unlisted, or it comes back as it was
 module _ (id : List ℕ) (items : List Hosted) (now : ℕ) (old new : Hosted) (here : find (is_repository id) items ≡ Some old) where
-  pub unlisted-lent : new ≡ record old { rows = rows_after_all (fade_all old now) old.rows } → with_lent id items new ≡ rows_unlisted id now items
+  unlisted-lent : new ≡ record old { rows = rows_after_all (fade_all old now) old.rows } → with_lent id items new ≡ rows_unlisted id now items
   unlisted-lent made =
       let faded = rows_after_all (fade_all old now) old.rows in
       lent-rows id items old new faded here made
@@ -77,7 +78,7 @@ left-by s repo (Some h) is =
     ∙ sym (faded h.rule.id s.last due s)
 
 -- rows of a repository were unlisted
-pub turned-unlisted : (w : Parts) (repo : List ℕ) (n : ℕ) (hosted : List Hosted) → unlisted n ≡ (unlist_of w.state.last (hosted_of repo w.state)).reply
+turned-unlisted : (w : Parts) (repo : List ℕ) (n : ℕ) (hosted : List Hosted) → unlisted n ≡ (unlist_of w.state.last (hosted_of repo w.state)).reply
     → hosted ≡ rows_unlisted repo w.state.last w.state.hosted → Turned w (record w { state = record w.state { hosted = hosted } }) (unlist repo) (unlisted n)
 turned-unlisted w repo n hosted count rows = record {
   settings = refl;

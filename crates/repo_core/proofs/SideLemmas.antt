@@ -1,35 +1,16 @@
 -- What a side file says, as a turn of the machine.
-use Rattle.std.proofs.Common.{◌≡◌, ℕ, Bool, true, false, if◌then◌else◌, List, Option, Some, None, Result, Ok, refl, sym, subst}
-use Rattle.std.specs.Prelude.{bytes_eq}
+use Rattle.std.proofs.Common.{◌≡◌, ℕ, List, Option, Some, None, refl, sym, subst}
 use Rattle.std.specs.Option.{option_map}
 use Rattle.mvn_coords.specs.Kind.{kind}
-use Rattle.mvn_coords.specs.Layout.{text_of}
-use Rattle.mvn_coords.specs.declared.kind.Kind.{Kind}
-use Rattle.mvn_coords.specs.declared.kind.Kind.TheVariants.{FileSide}
-use Rattle.mvn_coords.specs.declared.fault.PathFault.{PathFault}
-use Rattle.mvn_digest.specs.Sides.{side_of}
 use Rattle.repo_model.specs.Command.{put_side}
 use Rattle.repo_model.specs.Data.{Blob, Row, Session, repository, session}
-use Rattle.repo_model.specs.Reply.{Reply, agreed, differs}
+use Rattle.repo_model.specs.Reply.{Reply}
 use Rattle.repo_model.specs.State.{open_of, row_at}
-use Rattle.repo_model.specs.Turn.{Turn, compared, judged, says, staged_at, with_open}
-use Rattle.repo_core.specs.Hosted.{rows_in}
+use Rattle.repo_model.specs.Turn.{Turn, judged, says, staged_at, with_open}
+use Rattle.repo_parts.specs.Hosted.{rows_in}
 use Rattle.repo_core.specs.Turn.{Turned}
 use Rattle.repo_core.specs.Whole.{Parts}
-use Rattle.repo_core.proofs.Turning.{turned-says}
-
-by-content : (b : Bool) (said kept : List ℕ) → (if b then says agreed else says (differs said kept)) ≡ says (if b then says agreed else says (differs said kept)).reply
-by-content true said kept = refl
-by-content false said kept = refl
-
--- a digest that is compared does nothing
-compared-says : (said : List ℕ) (found : Option (List ℕ)) → compared said found ≡ says (compared said found).reply
-compared-says said None = refl
-compared-says said (Some kept) = by-content (bytes_eq said kept) said kept
-
-judged-says : (k : Result Kind PathFault) (said : List ℕ) (blob_at : List ℕ → Option Blob) → judged k said blob_at ≡ says (judged k said blob_at).reply
-judged-says (Ok (FileSide c side)) said blob_at = compared-says said (option_map (λ (blob : Blob). side_of blob.print.digests side) (blob_at (text_of c)))
-judged-says k said blob_at = refl
+use Rattle.repo_core.proofs.Turning.{judged-says, turned-says}
 
 pub turned-side : (w : Parts) (repo path said : List ℕ) (reply : Reply)
     → reply ≡ (judged (kind path) said (λ at. option_map (λ (row : Row). row.blob) (row_at at (rows_in repo w.state.hosted)))).reply → Turned w w (put_side (repository repo) path said) reply

@@ -1,6 +1,6 @@
 -- What a start makes of tables that were built up: a sound state that stands for them, whose parts fit one another.
 use native.Mathlib.Omega.{arith}
-use Rattle.std.proofs.Common.{◌≡◌, ℕ, ◌+◌, ◌<◌, ◌≤◌, ◌==◌, true, false, cond, List, [], ◌∷◌, ◌++◌, map, Option, Some, None, refl, sym, ap, ◌∙◌, subst, rules}
+use Rattle.std.proofs.Common.{◌≡◌, ℕ, ◌+◌, ◌<◌, ◌≤◌, ◌==◌, true, false, cond, List, [], ◌∷◌, ◌++◌, map, Option, Some, None, refl, sym, ap, ◌∙◌, subst, rules, append-nil}
 use Rattle.std.specs.Prelude.{filter, IfSome, IsTrue, unwrap_or}
 use Rattle.std.specs.List.{All, AllByRecursion}
 use Rattle.std.specs.Map.{keys_of}
@@ -22,7 +22,7 @@ use Rattle.repo_laws.specs.InRange.{InRange, IsRowInRange}
 use Rattle.repo_model.specs.Paths.{FadesRightly}
 use Rattle.repo_laws.specs.Sound.{IsSound}
 use Rattle.repo_laws.proofs.HoldingLists.{all-join, all-split}
-use Rattle.repo_laws.proofs.Lists.{all-then}
+use Rattle.repo_laws.proofs.Lists.{all-both, all-then}
 use Rattle.repo_laws.proofs.Starting.{each-from, greatest-below-end, greatest-from, started-stands}
 use Rattle.repo_laws.proofs.StartedSound.{started-sound}
 use Rattle.row_tables.specs.Stops.{Unsettled}
@@ -35,9 +35,9 @@ use Rattle.table_laws.specs.Standing.{IsListed, StandsAtFile}
 use Rattle.table_laws.proofs.Building.{built-cached, built-hosted, built-listed, built-order, built-range}
 use Rattle.repo_restart.specs.Leftovers.{Clears, ClearsFront, left_over}
 use Rattle.repo_restart.specs.Rows.{AreRestored, IsRestorable}
-use Rattle.repo_core.specs.Deploys.{AreStagedInUse}
-use Rattle.repo_core.specs.Hosted.{AreInUse, rules_of}
-use Rattle.repo_core.specs.Proxies.{AreCachedInUse, proxy_rules_of}
+use Rattle.repo_parts.specs.Deploys.{AreStagedInUse}
+use Rattle.repo_parts.specs.Hosted.{AreInUse, rules_of}
+use Rattle.repo_parts.specs.Proxies.{AreCachedInUse, proxy_rules_of}
 use Rattle.blob_audit.specs.declared.damages.Damaged.{Damaged}
 use Rattle.repo_core.specs.Start.{AreCompleted, Starts}
 use Rattle.repo_core.specs.StartFaults.{OnDamage}
@@ -45,8 +45,10 @@ use Rattle.repo_core.specs.declared.faults.StartFault.{StartFault}
 use Rattle.repo_core.specs.declared.faults.StartFault.TheVariants as start
 use Rattle.repo_core.specs.Whole.{IsKept, Parts, Tell, counting, whole_of}
 use Rattle.settings_laws.proofs.Apart.{named-apart, proxies-apart}
-use Rattle.repo_core.proofs.StagedLemmas.{SessionUsed}
-use Rattle.repo_core.proofs.UseLemmas.{RowsUsed, here-so, or-right}
+use Rattle.repo_parts.proofs.StagedLemmas.{SessionUsed}
+use Rattle.repo_parts.proofs.UseLemmas.{RowsUsed}
+use Rattle.repo_parts.proofs.AmongLemmas.{here-so, or-right}
+use Rattle.repo_parts.proofs.ListLemmas.{all-map}
 
 abbrev number_in : RecordedRow → ℕ
 number_in r = r.row.blob.number
@@ -84,20 +86,12 @@ restorable t built complete =
       listed-fades row is since fades = absurd (let no : listed ≡ fading since = sym is ∙ fades in cc)
 
 -- ---- numbers
-all-map : (P : ℕ → Type 0) (rows : List RecordedRow) → AllByRecursion (λ (r : RecordedRow). P r.row.blob.number) rows → AllByRecursion P (map number_in rows)
-all-map P [] all = tt
-all-map P (r ∷ rows) all = (all.0, all-map P rows all.1)
-
 named-below : (t : Tables) → InRange t → AllByRecursion (λ n. n < number_end) (blobs_named t)
 named-below t range =
-    all-map (λ n. n < number_end) (t.hosted ++ t.cached)
+    all-map number_in (λ n. n < number_end) (t.hosted ++ t.cached)
     (all-join (λ (r : RecordedRow). r.row.blob.number < number_end) t.hosted t.cached
     (all-then (λ (r : RecordedRow). IsRowInRange r × FadesRightly r.row) (λ (r : RecordedRow). r.row.blob.number < number_end) (λ r so. so.0.2) t.hosted range.hosted)
     (all-then IsRowInRange (λ (r : RecordedRow). r.row.blob.number < number_end) (λ r so. so.2) t.cached range.cached))
-
-all-both : (P Q R : ℕ → Type 0) → ((n : ℕ) → P n → Q n → R n) → (ns : List ℕ) → AllByRecursion P ns → AllByRecursion Q ns → AllByRecursion R ns
-all-both P Q R f [] ps qs = tt
-all-both P Q R f (n ∷ ns) ps qs = (f n ps.0 qs.0, all-both P Q R f ns ps.1 qs.1)
 
 -- each number that rows name is below the next, which is at most the end
 pub next-above : (t : Tables) (stored named : List ℕ) (next : ℕ) → IsBuiltUp t → named ≡ blobs_named t → next ≡ greatest_number (blobs_named t ++ stored) + 1 → All (λ n. n < next) named
@@ -105,7 +99,7 @@ next-above t stored named next built same above =
     let most : ℕ = greatest_number (blobs_named t ++ stored) in
     let bound = (all-split (λ k. k < number_end → k ≤ most) (blobs_named t) stored (greatest-from (blobs_named t ++ stored) 0).1).0 in
     let below : AllByRecursion (λ n. n < next) (blobs_named t) =
-    all-both (λ n. n < number_end) (λ n. n < number_end → n ≤ most) (λ n. n < next) (λ n low up. let le : n ≤ most = up low in omega (arith, le, above)) (blobs_named t) (named-below t (built-range t built)) bound in
+    all-both {X = ℕ} (λ n. n < number_end) (λ n. n < number_end → n ≤ most) (λ n. n < next) (λ n low up. let le : n ≤ most = up low in omega (arith, le, above)) (blobs_named t) (named-below t (built-range t built)) bound in
     All-from_recursion (λ n. n < next) named (subst (AllByRecursion (λ n. n < next)) (sym same) below)
 
 pub next-end : (t : Tables) (stored : List ℕ) (next : ℕ) → next ≡ greatest_number (blobs_named t ++ stored) + 1 → next ≤ number_end
@@ -157,10 +151,7 @@ module _ (t : Tables) (kept named : List ℕ) (same : named ≡ blobs_named t) (
 -- ---- what is left where the call ends early
 pub all-cleared : (named : List ℕ) (old new : Shelf) (next : ℕ) → Clears named old new next → ClearsFront named old new
 all-cleared named old new next clears =
-    record { stored = clears.stored; gone = left_over named clears.stored; rest = []; told = clears.told; parts = sym (append-nothing (left_over named clears.stored)); removed = clears.removed } where
-      append-nothing : (ns : List ℕ) → ns ++ [] ≡ ns
-      append-nothing [] = refl
-      append-nothing (n ∷ ns) = ap (λ xs. n ∷ xs) (append-nothing ns)
+    record { stored = clears.stored; gone = left_over named clears.stored; rest = []; told = clears.told; parts = sym (append-nil (left_over named clears.stored)); removed = clears.removed }
 
 pub none-cleared : (named : List ℕ) (shelf : Shelf) → ClearsFront named shelf shelf
 none-cleared named shelf =
@@ -186,12 +177,12 @@ module _ (settings : Settings) (t : Tables) (old new : Shelf) (clock : Option Mo
     removed = starts.removed;
   }
 
-  pub starts-sound : (faults : ℕ) → IsSound settings (counting faults s)
+  starts-sound : (faults : ℕ) → IsSound settings (counting faults s)
   starts-sound faults =
       subst (IsSound settings) (counted_is faults)
       (started-sound settings starts.tells starts.stored clock faults t (named-apart settings form) (proxies-apart settings form) (built-order t built) (built-range t built))
 
-  pub starts-stand : (faults : ℕ) → StandsFor t (counting faults s)
+  starts-stand : (faults : ℕ) → StandsFor t (counting faults s)
   starts-stand faults =
       subst (StandsFor t) (counted_is faults) (started-stands settings starts.tells starts.stored clock faults t (built-order t built) (built-range t built))
 

@@ -15,7 +15,7 @@ use Rattle.row_tables.specs.Stopping.{HasCollected, Stopping, fails, stays, trie
 use Rattle.row_tables.specs.Stops.{HasReplyStop, StopsInside, Rests, Unsettled, left_by}
 use Rattle.row_tables.proofs.OneOf.{leaves-more}
 use Rattle.repo_core.specs.Turn.{IsSettled}
-use Rattle.repo_core.proofs.Turning.{quiet}
+use Rattle.repo_parts.proofs.EndTurns.{quiet}
 
 -- where nothing is done
 still : (told : Option Tables) (now : Unsettled) → Rests told now → StopsInside told told now now

@@ -1,6 +1,6 @@
 -- One turn of the parts of the repository, as an entry that fits the machine's state.
 use native.Mathlib.Omega.{arith}
-use Rattle.std.proofs.Common.{◌≡◌, ℕ, ◌≤◌, min, max, Bool, true, false, if◌then◌else◌, List, [], ◌∷◌, Option, Some, None, Result, Ok, inl, inr, refl, sym, ap, ◌∙◌, subst}
+use Rattle.std.proofs.Common.{◌≡◌, ℕ, ◌≤◌, min, max, Bool, true, false, if◌then◌else◌, List, [], ◌∷◌, Option, Some, None, Result, Ok, inl, inr, refl, sym, ap, ◌∙◌, subst, ◌⊎◌}
 use Rattle.std.specs.Prelude.{IfSome, MatchOption, IsTrue, ◌==◌, bytes_eq, count_by, length, not, sum_by}
 use Rattle.ordered_rows.specs.Rows.{fades}
 use Rattle.mvn_coords.specs.Kind.{kind}
@@ -26,16 +26,16 @@ use Rattle.repo_model.specs.Asked.{finding_of}
 use Rattle.repo_model.specs.Command.{Command, look, may_put, put_side, put_doc, collect, ask, meets}
 use Rattle.repo_model.specs.Reply.{Reply, agreed, collected, differs, draft, fetches, file, finds, kind_refused, no_memory, spent, store_fault, is_free, takes_memory}
 use Rattle.repo_model.specs.Purge.{expire_all}
-use Rattle.repo_model.specs.Turn.{Seen, Turn, compared, draws_draft, file_limit, in_repository, is_blocked, is_doc, is_file, is_negative, is_never, is_nothing, is_text, is_to_fetch, look_at, plan_of, shows, turn, says, collect_of, judged}
+use Rattle.repo_model.specs.Turn.{Seen, Turn, compared, draws_draft, file_limit, in_repository, is_file, is_to_fetch, look_at, plan_of, shows, turn, says, collect_of, judged, draws_or_spent}
 use Rattle.repo_model.specs.History as history
-use Rattle.repo_model.specs.History.{Entry, IsReply, MomentFits, commits, latest_moment, ticked, Fits, effects_of, after}
+use Rattle.repo_model.specs.History.{Entry, IsReply, MomentFits, commits, latest_moment, ticked, Fits, effects_of, after, is_collect}
 use Rattle.outside.specs.Faults.{Rose}
 use Rattle.ordered_rows.specs.Recording.{FitWhereTold, HasReplyCause}
 use Rattle.repo_config.specs.Form.{IsSettings}
 use Rattle.repo_laws.specs.Sound.{IsSound}
 use Rattle.repo_laws.proofs.Answered.{no-free}
 use Rattle.repo_laws.proofs.Holding.{entry-recorded}
-use Rattle.repo_laws.proofs.Histories.{one-place-ticked, sound-ticked, ticked-later}
+use Rattle.repo_laws.proofs.Histories.{one-place-ticked, sound-ticked}
 use Rattle.repo_laws.proofs.Keeping.{keeps-sound}
 use Rattle.repo_laws.proofs.Moments.{last_of}
 use Rattle.row_tables.specs.Applying.{with_items}
@@ -45,10 +45,13 @@ use Rattle.row_tables.specs.Stops.{HasReplyStop, IsCommitted, Unsettled}
 use Rattle.std.specs.Option.{ForSome}
 use Rattle.std.proofs.lemmas.Bool.{false≢true, ne_eqb}
 use Rattle.std.proofs.lemmas.Option.{none-some}
-use Rattle.repo_core.specs.Turn.{done_by, IsAnswer, IsSettledBy, due, wants_memory, failed, MayRecord, Recorded, Turned}
+use Rattle.repo_core.specs.Turn.{done_by, IsAnswer, IsSettled, IsSettledBy, due, wants_memory, failed, MayRecord, Recorded, Turned}
 use Rattle.repo_core.specs.Whole.{Parts, Whole, IsKept, IsOrderly, Tell, counting}
 use Rattle.settings_laws.proofs.Apart.{named-apart}
+use Rattle.repo_parts.proofs.EndTurns.{quiet}
 use Rattle.repo_core.proofs.LookSame.{look-same}
+use Rattle.repo_parts.proofs.PutReplies.{by-free}
+use Rattle.repo_parts.proofs.AmongLemmas.{or-right}
 
 nothing-done : (b : Bool) (s : State) → s ≡ with_effects s (if b then [] else [])
 nothing-done true s = refl
@@ -79,16 +82,21 @@ pub turned-without : (w : Parts) (command : Command) → takes_memory command �
 turned-without w command takes = record { settings = refl; calls = refl; answered = inr (refl, takes); left = refl }
 
 -- what a turn says and does depends on no moment before, on no clock and on no count
-pub turn-ticked : (settings : Settings) (s : State) (m f now : ℕ) (c : Command) → turn settings (ticked s m f) now c ≡ turn settings s now c
-turn-ticked settings s m f now collect = ap (λ (t : State). collect_of (expire_all settings.grace now s.hosted) t.yard) (ticked-later m f (expire_all settings.grace now s.hosted) s)
-turn-ticked settings s m f now (look repo path tried) = ap (shows settings s.yard) (look-same s m (option_map moments_after s.clock) f settings now repo tried path)
-turn-ticked settings s m f now (may_put (repository repo) path) = refl
-turn-ticked settings s m f now (may_put place path) = refl
-turn-ticked settings s m f now (put_side (repository repo) path said) = refl
-turn-ticked settings s m f now (put_side place path said) = refl
-turn-ticked settings s m f now (put_doc (repository repo) path) = refl
-turn-ticked settings s m f now (put_doc place path) = refl
-turn-ticked settings s m f now c = refl
+later-same : (last : ℕ) (clock : Option Moments) (faults : ℕ) (es : List Effect) (s : State)
+    → with_effects (record s { last = last; clock = clock; faults = faults }) es ≡ record (with_effects s es) { last = last; clock = clock; faults = faults }
+later-same last clock faults [] s = refl
+later-same last clock faults (e ∷ es) s = later-same last clock faults es (with_effect s e)
+
+turn-same : (settings : Settings) (s : State) (last : ℕ) (clock : Option Moments) (faults now : ℕ) (c : Command) → turn settings (record s { last = last; clock = clock; faults = faults }) now c ≡ turn settings s now c
+turn-same settings s last clock faults now collect = ap (λ (t : State). collect_of (expire_all settings.grace now s.hosted) t.yard) (later-same last clock faults (expire_all settings.grace now s.hosted) s)
+turn-same settings s last clock faults now (look repo path tried) = ap (shows settings s.yard) (look-same s last clock faults settings now repo tried path)
+turn-same settings s last clock faults now (may_put (repository repo) path) = refl
+turn-same settings s last clock faults now (may_put place path) = refl
+turn-same settings s last clock faults now (put_side (repository repo) path said) = refl
+turn-same settings s last clock faults now (put_side place path said) = refl
+turn-same settings s last clock faults now (put_doc (repository repo) path) = refl
+turn-same settings s last clock faults now (put_doc place path) = refl
+turn-same settings s last clock faults now c = refl
 
 moment-by : (clock : Option Moments) (last moment : ℕ) → IfSome clock (λ moments. moment ≡ max last (min latest_moment moments.next)) → last ≤ moment → moment ≤ latest_moment → MatchOption clock ((last ≤ moment) × (moment ≤ latest_moment)) (λ moments. moment ≡ max last (min latest_moment moments.next))
 moment-by None last moment given order limit = (order, limit)
@@ -114,18 +122,6 @@ counting-later : (faults : ℕ) (es : List Effect) (s : State) → with_effects 
 counting-later faults [] s = refl
 counting-later faults (e ∷ es) s = counting-later faults es (with_effect s e)
 
--- what a turn says and does depends on no count
-pub turn-counting : (settings : Settings) (s : State) (faults now : ℕ) (c : Command) → turn settings (counting faults s) now c ≡ turn settings s now c
-turn-counting settings s faults now collect = ap (λ (t : State). collect_of (expire_all settings.grace now s.hosted) t.yard) (counting-later faults (expire_all settings.grace now s.hosted) s)
-turn-counting settings s faults now (look repo path tried) = ap (shows settings s.yard) (look-same s s.last s.clock faults settings now repo tried path)
-turn-counting settings s faults now (may_put (repository repo) path) = refl
-turn-counting settings s faults now (may_put place path) = refl
-turn-counting settings s faults now (put_side (repository repo) path said) = refl
-turn-counting settings s faults now (put_side place path said) = refl
-turn-counting settings s faults now (put_doc (repository repo) path) = refl
-turn-counting settings s faults now (put_doc place path) = refl
-turn-counting settings s faults now c = refl
-
 -- a turn that began where the clock was read, as an entry; so often the records had failed before it and after it
 module _ (w begun new : Parts) (moment : ℕ) (command : Command) (reply : Reply) (told told' : Option Tables) (before later : ℕ) (turned : Recorded begun new command reply told told' before later)
     (settings : begun.settings ≡ w.settings) (state : begun.state ≡ ticked w.state moment 0) where
@@ -141,8 +137,8 @@ module _ (w begun new : Parts) (moment : ℕ) (command : Command) (reply : Reply
   turn_is : turn begun.settings begun.state begun.state.last command ≡ turn w.settings old new.state.last command
   turn_is =
       ap (λ st. turn st begun.state begun.state.last command) settings ∙ ap (λ (s : State). turn w.settings s s.last command) state
-      ∙ turn-ticked w.settings w.state moment 0 moment command ∙ ap (λ m. turn w.settings w.state m command) (sym last_is)
-      ∙ sym (turn-counting w.settings w.state before new.state.last command)
+      ∙ turn-same w.settings w.state moment (option_map moments_after w.state.clock) 0 moment command ∙ ap (λ m. turn w.settings w.state m command) (sym last_is)
+      ∙ sym (turn-same w.settings w.state w.state.last w.state.clock before new.state.last command)
 
   reply_is : (turn begun.settings begun.state begun.state.last command).reply ≡ (turn w.settings old new.state.last command).reply
   reply_is = ap (λ (t : Turn). t.reply) turn_is
@@ -194,7 +190,7 @@ pub begun-fit : (w begun : Parts) (tables : Option Tables) (command : Command) (
     → moment ≤ latest_moment → MayRecord w tables command → FitWhereTold tables (recorded (turn begun.settings begun.state begun.state.last command).effects)
 begun-fit w begun tables command moment settings state order limit may =
     let same : turn w.settings w.state moment command ≡ turn begun.settings begun.state begun.state.last command =
-    sym (turn-ticked w.settings w.state moment 0 moment command) ∙ ap (λ (s : State). turn w.settings s s.last command) (sym state) ∙ ap (λ st. turn st begun.state begun.state.last command) (sym settings) in
+    sym (turn-same w.settings w.state moment (option_map moments_after w.state.clock) 0 moment command) ∙ ap (λ (s : State). turn w.settings s s.last command) (sym state) ∙ ap (λ st. turn st begun.state begun.state.last command) (sym settings) in
     subst (λ (t : Turn). FitWhereTold tables (recorded t.effects)) same (may moment order limit)
 
 -- items that are recorded are committed
@@ -207,11 +203,6 @@ pub settled-by : (reply : Reply) (unsettled : Unsettled) → unsettled.pending �
 settled-by (collected expired blobs) unsettled is = is
 settled-by reply unsettled is = tt
 
--- a turn that asks no records records nothing
-pub quiet : (tables : Option Tables) → tables ≡ tables_with [] tables
-quiet None = refl
-quiet (Some t) = refl
-
 -- what is recorded unless the reply is one that changes nothing
 pub unless : (b : Bool) (es : List Effect) (tables : Option Tables) → (if b then tables else tables_with (recorded es) tables) ≡ tables_with (recorded (if b then [] else es)) tables
 unless true es tables = quiet tables
@@ -221,60 +212,52 @@ unfailed : (reply : Reply) (n : ℕ) → (reply ≡ store_fault → ⊥) → Has
 unfailed store_fault n other = absurd (other refl)
 unfailed reply n other = refl
 
-pub alone : (old new : Parts) (command : Command) (reply : Reply) (tables : Option Tables) (n : ℕ) → recorded (turn old.settings old.state old.state.last command).effects ≡ []
-    → Turned old new command reply → Recorded old new command reply tables tables n n
-alone old new command reply tables n none turned =
-    let t = turn old.settings old.state old.state.last command in
-    let nothing : recorded (done_by old.settings old.state command reply) ≡ [] =
-    elim (is_free reply) as (λ b. recorded (if b then [] else t.effects) ≡ []) [ true ↦ refl | false ↦ none ] in
-    record {
-      settings = turned.settings;
-      calls = turned.calls;
-      answered = elim turned.answered as (λ _. IsAnswer old command reply) [ (inl is) ↦ due is | (inr is) ↦ wants_memory is.0 is.1 ];
-      left = turned.left;
-      tables = quiet tables ∙ ap (λ items. tables_with items tables) (sym nothing);
-      cause = unfailed reply n (λ failed. elim turned.answered as (λ _. ⊥) [
-        | (inl is) ↦ false≢true (sym (no-free old.settings old.state old.state.last command) ∙ ap is_free (sym is ∙ failed))
-        | (inr is) ↦ let x : no_memory ≡ store_fault = sym is.0 ∙ failed in cc
-      ]);
-    }
+-- where the records are not asked, they do not fail
+no-failure : (old new : Parts) (command : Command) (reply : Reply) → Turned old new command reply → reply ≡ store_fault → ⊥
+no-failure old new command reply turned fault = elim turned.answered as (λ _. ⊥) [
+  | (inl is) ↦ false≢true (sym (no-free old.settings old.state old.state.last command) ∙ ap is_free (sym is ∙ fault))
+  | (inr is) ↦ let x : no_memory ≡ store_fault = sym is.0 ∙ fault in cc
+]
 
 -- the commands that record nothing
+spent-quiet : (next : ℕ) (t : Turn) → recorded t.effects ≡ [] → recorded (draws_or_spent next t).effects ≡ []
+spent-quiet next t none = elim (next == number_end) as (λ b. recorded (if b then says spent else t).effects ≡ []) [ true ↦ refl | false ↦ none ]
+
 shows-nothing : (settings : Settings) (y : Yard) (seen : Seen) → recorded (shows settings y seen).effects ≡ []
-shows-nothing settings y (is_file blob) =
-    elim (y.next_lease == number_end) as (λ b. recorded (if b then says spent else record { reply = file y.next_lease blob; effects = lends blob.number ∷ [] }).effects ≡ []) [ true ↦ refl | false ↦ refl ]
-shows-nothing settings y (is_text bytes) = refl
-shows-nothing settings y (is_doc bytes) = refl
-shows-nothing settings y is_nothing = refl
+shows-nothing settings y (is_file blob) = spent-quiet y.next_lease (record { reply = file y.next_lease blob; effects = lends blob.number ∷ [] }) refl
 shows-nothing settings y (is_to_fetch member rule path true) =
-    elim (y.next_draft == number_end)
-    as (λ b. recorded (if b then says spent else record { reply = fetches (plan_of member rule path (Some y.next_draft) (file_limit settings)); effects = draws ∷ [] }).effects ≡ []) [ true ↦ refl | false ↦ refl ]
-shows-nothing settings y (is_to_fetch member rule path false) = refl
-shows-nothing settings y is_blocked = refl
-shows-nothing settings y is_negative = refl
-shows-nothing settings y is_never = refl
+    spent-quiet y.next_draft (record { reply = fetches (plan_of member rule path (Some y.next_draft) (file_limit settings)); effects = draws ∷ [] }) refl
+shows-nothing settings y seen = refl
 
-draws-nothing : (path : List ℕ) (found : Option Hosted) (next : ℕ) → recorded (in_repository path found (draws_draft next)).effects ≡ []
-draws-nothing path None next = refl
-draws-nothing path (Some h) next =
-    elim (takes h.rule path) as (λ b. recorded (if b then draws_draft next else says kind_refused).effects ≡ []) [
-      | true ↦ elim (next == number_end) as (λ b. recorded (if b then says spent else record { reply = draft next; effects = draws ∷ [] }).effects ≡ []) [ true ↦ refl | false ↦ refl ]
-      | false ↦ refl
-    ]
+pub draws-quiet : (next : ℕ) → recorded (draws_draft next).effects ≡ []
+draws-quiet next = spent-quiet next (record { reply = draft next; effects = draws ∷ [] }) refl
 
-compares-nothing : (said : List ℕ) (kept : Option (List ℕ)) → recorded (compared said kept).effects ≡ []
-compares-nothing said None = refl
-compares-nothing said (Some kept) = elim (bytes_eq said kept) as (λ b. recorded (if b then says agreed else says (differs said kept)).effects ≡ []) [ true ↦ refl | false ↦ refl ]
+pub if-quiet : (b : Bool) (t : Turn) (reply : Reply) → recorded t.effects ≡ [] → recorded (if b then t else says reply).effects ≡ []
+if-quiet true t reply none = none
+if-quiet false t reply none = refl
+
+pub in-quiet : (path : List ℕ) (found : Option Hosted) (t : Turn) → recorded t.effects ≡ [] → recorded (in_repository path found t).effects ≡ []
+in-quiet path None t none = refl
+in-quiet path (Some h) t none = if-quiet (takes h.rule path) t kind_refused none
+
+-- a digest that is compared does nothing
+compared-says : (said : List ℕ) (found : Option (List ℕ)) → compared said found ≡ says (compared said found).reply
+compared-says said None = refl
+compared-says said (Some kept) =
+    elim (bytes_eq said kept) as (λ b. (if b then says agreed else says (differs said kept)) ≡ says (if b then says agreed else says (differs said kept)).reply) [ true ↦ refl | false ↦ refl ]
+
+pub judged-says : (k : Result Kind PathFault) (said : List ℕ) (blob_at : List ℕ → Option Blob) → judged k said blob_at ≡ says (judged k said blob_at).reply
+judged-says (Ok (FileSide c side)) said blob_at = compared-says said (option_map (λ (blob : Blob). side_of blob.print.digests side) (blob_at (text_of c)))
+judged-says k said blob_at = refl
 
 pub judges-nothing : (k : Result Kind PathFault) (said : List ℕ) (blob_at : List ℕ → Option Blob) → recorded (judged k said blob_at).effects ≡ []
-judges-nothing (Ok (FileSide c side)) said blob_at = compares-nothing said (option_map (λ (blob : Blob). side_of blob.print.digests side) (blob_at (text_of c)))
-judges-nothing k said blob_at = refl
+judges-nothing k said blob_at = ap (λ (t : Turn). recorded t.effects) (judged-says k said blob_at)
 
 pub look-quiet : (w : Parts) (repo path tried : List ℕ) → recorded (turn w.settings w.state w.state.last (look repo path tried)).effects ≡ []
 look-quiet w repo path tried = shows-nothing w.settings w.state.yard (look_at w.settings w.state w.state.last repo tried path)
 
 pub may_put-quiet : (w : Parts) (repo path : List ℕ) → recorded (turn w.settings w.state w.state.last (may_put (repository repo) path)).effects ≡ []
-may_put-quiet w repo path = draws-nothing path (hosted_of repo w.state) w.state.yard.next_draft
+may_put-quiet w repo path = in-quiet path (hosted_of repo w.state) (draws_draft w.state.yard.next_draft) (draws-quiet w.state.yard.next_draft)
 
 pub put_side-quiet : (w : Parts) (repo path said : List ℕ) → recorded (turn w.settings w.state w.state.last (put_side (repository repo) path said)).effects ≡ []
 put_side-quiet w repo path said = judges-nothing (kind path) said (λ at. option_map (λ (row : Row). row.blob) (row_at at (rows_of repo w.state)))
@@ -289,10 +272,7 @@ recorded-so old new command reply told told' faults faults' turned tables same =
   answered = elim turned.answered as (λ _. IsAnswer old command reply) [ (inl is) ↦ due is | (inr is) ↦ wants_memory is.0 is.1 ];
   left = turned.left;
   tables = tables ∙ unless (is_free reply) (turn old.settings old.state old.state.last command).effects told;
-  cause = subst (λ n. HasReplyCause faults n reply) (sym same) (unfailed reply faults (λ failed. elim turned.answered as (λ _. ⊥) [
-    | (inl is) ↦ false≢true (sym (no-free old.settings old.state old.state.last command) ∙ ap is_free (sym is ∙ failed))
-    | (inr is) ↦ let x : no_memory ≡ store_fault = sym is.0 ∙ failed in cc
-  ]));
+  cause = subst (λ n. HasReplyCause faults n reply) (sym same) (unfailed reply faults (no-failure old new command reply turned));
 }
 
 -- a turn whose records failed
@@ -328,16 +308,46 @@ still-stop items told now store_fault none other = absurd (other refl)
 still-stop items told now no_memory none other = inl refl
 still-stop items told now reply none other = inl (none, refl)
 
-pub alone-stop : (old new : Parts) (command : Command) (reply : Reply) (told : Option Tables) (now : Unsettled) → recorded (turn old.settings old.state old.state.last command).effects ≡ []
-    → Turned old new command reply → HasReplyStop (recorded (turn old.settings old.state old.state.last command).effects) told now now reply
-alone-stop old new command reply told now none turned =
-    still-stop (recorded (turn old.settings old.state old.state.last command).effects) told now reply none (λ failed. elim turned.answered as (λ _. ⊥) [
-      | (inl is) ↦ false≢true (sym (no-free old.settings old.state old.state.last command) ∙ ap is_free (sym is ∙ failed))
-      | (inr is) ↦ let x : no_memory ≡ store_fault = sym is.0 ∙ failed in cc
-    ])
+-- a command that records nothing, and what was asked for
+module _ (old new : Parts) (asked command : Command) (reply : Reply) (told : Option Tables) (n : ℕ) (now : Unsettled) where
+  abbrev items : List Item
+  items = recorded (turn old.settings old.state old.state.last asked).effects
+
+  pub alone : asked ≡ command → items ≡ [] → IsSettled asked reply now → Turned old new asked reply
+      → Recorded old new command reply told told n n × IsSettled command reply now × HasReplyStop (recorded (turn old.settings old.state old.state.last command).effects) told now now reply
+  alone same none settled turned =
+      subst (λ q. Recorded old new q reply told told n n × IsSettled q reply now × HasReplyStop (recorded (turn old.settings old.state old.state.last q).effects) told now now reply) same
+      (recorded-so old new asked reply told told n n turned (by (is_free reply)) refl, settled, still-stop items told now reply none (no-failure old new asked reply turned)) where
+        by : (b : Bool) → told ≡ (if b then told else tables_with items told)
+        by true = refl
+        by false = quiet told ∙ ap (λ is. tables_with is told) (sym none)
 
 -- a reply that is none of failure
 pub committed-stop : (items : List Item) (told : Option Tables) (before after : Unsettled) (reply : Reply) → is_free reply ≡ false → IsCommitted items told before after → HasReplyStop items told before after reply
 committed-stop items told before after store_fault bound done = absurd (false≢true (sym bound))
 committed-stop items told before after no_memory bound done = absurd (false≢true (sym bound))
 committed-stop items told before after reply bound done = done
+
+-- any command whose change is recorded
+pub recorded-by : (w new : Parts) (command : Command) (t : Turn) (reply : Reply) (told told' : Option Tables) (faults faults' : ℕ) → turn w.settings w.state w.state.last command ≡ t
+    → takes_memory command ≡ true → (reply ≡ t.reply) ⊎ (IsTrue (is_free reply) × (reply ≡ store_fault → recorded t.effects ≡ [] → ⊥)) → new.settings ≡ w.settings → new.calls ≡ w.calls
+    → new.state ≡ with_effects w.state (if is_free reply then [] else t.effects) → told' ≡ (if is_free reply then told else tables_with (recorded t.effects) told) → HasReplyCause faults faults' reply
+    → Recorded w new command reply told told' faults faults'
+recorded-by w new command t reply told told' faults faults' is memory given settings calls left tables cause = record {
+  settings = settings;
+  calls = calls;
+  answered = elim given as (λ _. IsAnswer w command reply) [
+    | (inl so) ↦ due (so ∙ ap (λ (u : Turn). u.reply) (sym is))
+    | (inr so) ↦ by-free (λ r. (r ≡ reply) → IsAnswer w command r) reply so.0 (λ _. wants_memory refl memory)
+        (λ here. failed refl (subst (λ (u : Turn). IsTrue (commits command u.effects)) (sym is)
+        (or-right (is_collect command) (not (length (recorded t.effects) == 0)) (some-items (recorded t.effects) (so.1 (sym here)))))) refl
+  ];
+  left = left ∙ ap (λ (u : Turn). with_effects w.state (if is_free reply then [] else u.effects)) (sym is);
+  tables = tables ∙ unless (is_free reply) t.effects told ∙ ap (λ (u : Turn). tables_with (recorded (if is_free reply then [] else u.effects)) told) (sym is);
+  cause = cause;
+}
+
+pub recorded-given : (t : Turn) (reply : Reply) → (reply ≡ t.reply) ⊎ (IsTrue (is_free reply) × (recorded t.effects ≡ [] → ⊥))
+    → (reply ≡ t.reply) ⊎ (IsTrue (is_free reply) × (reply ≡ store_fault → recorded t.effects ≡ [] → ⊥))
+recorded-given t reply (inl is) = inl is
+recorded-given t reply (inr so) = inr (so.0, λ _. so.1)

@@ -1,15 +1,6 @@
-pub mod Hosted
-pub mod Changes
-pub mod Looks
-pub mod Numbers
 pub mod Turn
 pub mod Whole
 pub mod CoreTurn
-pub mod Proxies
-pub mod Purge
-pub mod Shelves
 pub mod Stock
-pub mod Deploys
-pub mod Lending
 pub mod Start
 pub mod StartFaults

@@ -13,10 +13,6 @@ use Rattle.row_tables.specs.Commits.{tables_with}
 use Rattle.row_tables.specs.Stops.{Unsettled}
 use Rattle.repo_core.specs.Whole.{Parts}
 
--- the reply that is due, or want of memory
-abbrev pub IsDueOr : Reply → Reply → Type 0
-IsDueOr due reply = (reply ≡ due) ⊎ (reply ≡ no_memory)
-
 -- what a command did that got this reply
 abbrev pub done_by : Settings → State → Command → Reply → List Effect
 done_by settings s command reply = if is_free reply then [] else (turn settings s s.last command).effects

@@ -9,18 +9,17 @@ ghost use Rattle.repo_model.specs.State.{is_among};
 ghost use Rattle.repo_model.specs.Turn.{is_drawn, turn};
 ghost use Rattle.ordered_rows.specs.Recording.{FitWhereTold};
 ghost use Rattle.row_tables.specs.Stops.{HasReplyStop};
-ghost use Rattle.repo_core.specs.Proxies.{kept_landed, yard_landed};
+ghost use Rattle.repo_parts.specs.Proxies.{kept_landed, yard_landed};
 ghost use Rattle.repo_core.specs.Turn.{Recorded};
 ghost use Rattle.repo_core.specs.Whole.{IsOrderly};
 
 use crate::machine::Machine;
-use crate::proxies;
-use crate::shelves::{changed_by_landing, forget, is_of_document};
 use blob_yard::Yard;
 use fetch_plan::{Outcome, Plan};
 use outside::{Clock, Held};
 use proxy_rules::Landed;
 use repo_model::{Got, Reply};
+use repo_parts::{changed_by_landing, forget, is_of_document, land};
 use row_tables::Records;
 
 // Whether the draft of a landing is there, where it has one.
@@ -91,7 +90,7 @@ impl<C: Clock, H: Held> Machine<C, H> {
             return Reply::NoDraft;
         }
         let of_document = is_of_document(&outcome);
-        let did = proxies::land(&mut self.proxies, records, &plan, outcome, self.last);
+        let did = land(&mut self.proxies, records, &plan, outcome, self.last);
         forget(
             &mut self.shelves,
             &changed_by_landing(plan.path.as_str(), of_document, did),

@@ -2,27 +2,14 @@
 #![tactic(auto)]
 
 mod asking;
-mod conditions;
-mod deploys;
 mod faults;
-mod groups;
-mod hosted;
 mod landing;
 mod loading;
-mod looked;
-mod looks;
 mod machine;
-mod members;
-mod plans;
-mod proxies;
-mod purges;
-mod puts;
 mod repository;
 mod session_turns;
-mod shelves;
 mod starting;
 mod thing;
-mod turn;
 
 pub use blob_audit::Damaged;
 pub use faults::StartFault;

@@ -1,15 +1,6 @@
 //! The parts of the repository, and one turn of them.
 ghost use Rattle.std.specs.Prelude.{◌≡◌};
 
-use crate::deploys::{reply_of_abort, reply_of_begin, reply_of_commit};
-use crate::hosted::{counts, repo_mut, takes};
-use crate::looked::{Asked, Goods};
-use crate::looks::look;
-use crate::proxies::counts_kept;
-use crate::purges::{Gone, condemn_all, drop_expired, expiring};
-use crate::puts::{compare_side, reply_of, settle};
-use crate::shelves::{changed_by_put, changed_by_unlist, forget};
-use crate::turn::next_moment;
 use blob_yard::{DrawFault, Yard};
 use deploy_session::Sessions;
 use group_view::GroupShelf;
@@ -19,6 +10,11 @@ use outside::{Clock, Held, Parcel};
 use proxy_rules::Proxy;
 use repo_config::Settings;
 use repo_model::{Command, Finding, Numbers, Place, Question, Reply};
+use repo_parts::{
+    Asked, Gone, Goods, changed_by_put, changed_by_unlist, compare_side, condemn_all, counts,
+    counts_kept, drop_expired, expiring, forget, look, next_moment, reply_of_abort, reply_of_begin,
+    reply_of_commit, reply_of_put, repo_mut, settle_put, takes,
+};
 use row_tables::{CommitFault, Records};
 use std::marker::Model;
 
@@ -56,10 +52,10 @@ impl<C: Clock, H: Held> Model for Machine<C, H> {
 
     ghost Value = { Parts };
 
-    ghost use Rattle.repo_core.specs.Hosted.{rules_of, AreInUse};
-    ghost use Rattle.repo_core.specs.Deploys.{AreStagedInUse};
-    ghost use Rattle.repo_core.specs.Proxies.{AreCachedInUse, proxy_rules_of};
-    ghost use Rattle.repo_core.specs.Shelves.{AreShelved};
+    ghost use Rattle.repo_parts.specs.Hosted.{rules_of, AreInUse};
+    ghost use Rattle.repo_parts.specs.Deploys.{AreStagedInUse};
+    ghost use Rattle.repo_parts.specs.Proxies.{AreCachedInUse, proxy_rules_of};
+    ghost use Rattle.repo_parts.specs.Shelves.{AreShelved};
 
     ghost view = { λ c. record {
       settings = c.settings;
@@ -106,11 +102,11 @@ impl<C: Clock, H: Held> Machine<C, H> {
     ghost use Rattle.row_tables.specs.Stops.{HasReplyStop};
     ghost use Rattle.hosted_repo.specs.Expired.{blob_of};
     ghost use Rattle.ordered_rows.specs.Recording.{FitWhereTold, HasReplyCause};
-    ghost use Rattle.repo_core.specs.Deploys.{AreStagedInUse};
-    ghost use Rattle.repo_core.specs.Hosted.{AreInUse, rules_of};
-    ghost use Rattle.repo_core.specs.Proxies.{AreCachedInUse, proxy_rules_of};
-    ghost use Rattle.repo_core.specs.Purge.{shares};
-    ghost use Rattle.repo_core.specs.Shelves.{AreShelved};
+    ghost use Rattle.repo_parts.specs.Deploys.{AreStagedInUse};
+    ghost use Rattle.repo_parts.specs.Hosted.{AreInUse, rules_of};
+    ghost use Rattle.repo_parts.specs.Proxies.{AreCachedInUse, proxy_rules_of};
+    ghost use Rattle.repo_parts.specs.Purge.{shares};
+    ghost use Rattle.repo_parts.specs.Shelves.{AreShelved};
     ghost use Rattle.repo_core.specs.Stock.{state_of};
     ghost use Rattle.repo_core.specs.Turn.{IsSettled, IsSettledBy, MayRecord, Recorded, Turned};
     ghost use Rattle.repo_core.specs.Whole.{IsOrderly, counting};
@@ -325,8 +321,8 @@ impl<C: Clock, H: Held> Machine<C, H> {
         }
         let outcome = repo_mut(&mut self.repos, repo).put(records, path, parcel, self.last);
         forget(&mut self.shelves, &changed_by_put(path, &outcome));
-        settle(&mut self.yard, draft, &outcome);
-        reply_of(outcome)
+        settle_put(&mut self.yard, draft, &outcome);
+        reply_of_put(outcome)
     }
 
     fn put_side(&mut self, repo: &str, path: &str, said: Digest) -> Reply<H>

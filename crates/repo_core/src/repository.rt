@@ -1,11 +1,11 @@
 //! The repository: each call is one turn of the machine, in a state that is sound.
 ghost use Rattle.std.specs.Prelude.{◌≡◌};
 
-use crate::conditions::fits;
 use crate::machine::Machine;
 use outside::{Clock, Held};
 use repo_config::Settings;
 use repo_model::{Command, Reply};
+use repo_parts::fits;
 use row_tables::Records;
 use std::marker::Model;
 

@@ -1,14 +1,13 @@
 //! The commands of deployment sessions, as turns of the repository's parts.
-use crate::deploys::{
-    commit, compare_staged, condemn_left, condemn_over, drawn, refusal_at, reply_of_stage,
-    settle_begun, settle_staged,
-};
 use crate::machine::Machine;
-use crate::shelves::{changed_by_commit, forget};
 use deploy_session::{Abort, Begin, Commit, Stage};
 use mvn_digest::Digest;
 use outside::{Clock, Held, Parcel};
 use repo_model::Reply;
+use repo_parts::{
+    changed_by_commit, commit, compare_staged, condemn_left, condemn_over, drawn, forget,
+    refusal_at, reply_of_stage, settle_begun, settle_staged,
+};
 use row_tables::Records;
 
 impl<C: Clock, H: Held> Machine<C, H> {

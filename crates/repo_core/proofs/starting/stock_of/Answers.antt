@@ -1,7 +1,7 @@
 use Rattle.std.proofs.Common.{◌∙◌, subst}
 use Rattle.outside.proofs.ToldLemmas.{on_err}
 use Rattle.repo_model.specs.Restart.{blobs_named}
-use Rattle.repo_core.specs.Shelves.{AreShelved}
+use Rattle.repo_parts.specs.Shelves.{AreShelved}
 use Rattle.repo_core.proofs.ItemForms.{ids-so, proxies-so}
 use Rattle.settings_laws.proofs.Apart.{named-apart, proxies-apart}
 use Rattle.repo_core.proofs.StartLemmas.{all-cleared, files-in-use, next-above, next-end, none-cleared, restorable, restored-used}

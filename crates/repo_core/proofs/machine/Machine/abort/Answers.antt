@@ -2,22 +2,23 @@ use Rattle.std.proofs.Common.{[], refl, sym, ap, ◌∙◌, subst}
 use Rattle.std.specs.Prelude.{if◌then◌else◌}
 use Rattle.blob_yard.specs.Numbers.{Numbers}
 use Rattle.deploy_session.specs.Known.{Known, abort_turn, sessions_after_all}
-use Rattle.deploy_session.specs.Shown.{shown_abort}
+use Rattle.deploy_session.specs.Shown.{shown_abort, blobs_left}
 use Rattle.repo_model.specs.Command.{abort}
 use Rattle.repo_model.specs.May.{AllMay}
 use Rattle.repo_model.specs.Reply.{is_free}
 use Rattle.repo_model.specs.State.{State}
 use Rattle.repo_laws.proofs.Turns.{turn-can}
-use Rattle.repo_core.specs.Deploys.{AreStagedInUse}
-use Rattle.repo_core.specs.Hosted.{AreInUse}
-use Rattle.repo_core.specs.Proxies.{AreCachedInUse}
-use Rattle.repo_core.specs.Purge.{AreKeptOnce, condemned_by, kept_without}
+use Rattle.repo_parts.specs.Deploys.{AreStagedInUse}
+use Rattle.repo_parts.specs.Hosted.{AreInUse}
+use Rattle.repo_parts.specs.Proxies.{AreCachedInUse}
+use Rattle.repo_parts.specs.Purge.{AreKeptOnce, condemned_by, kept_without}
 use Rattle.repo_core.specs.Whole.{Parts}
-use Rattle.repo_core.proofs.DeployTurns.{recorded-by, recorded-given}
-use Rattle.repo_core.proofs.EndTurns.{abort-gives, end-cached, end-files, end-left, end-once, end-rows, end-yard, given-hosted, giving-going, known-if, next-if}
-use Rattle.repo_core.proofs.GarbageLemmas.{garbage_of}
+use Rattle.repo_parts.proofs.EndTurns.{abort-gives, end-cached, end-files, end-left, end-once, end-rows, given-hosted, giving-going, known-if, next-if}
+use Rattle.repo_parts.proofs.GarbageLemmas.{garbage_of}
 use Rattle.settings_laws.proofs.Apart.{named-apart}
 use Rattle.repo_core.proofs.machine.Machine.abort.Goals as goal
+use Rattle.repo_core.proofs.Turning.{recorded-by, recorded-given}
+use Rattle.repo_parts.proofs.SessionNumbers.{session-condemned}
 
 pub condemn_left-requires : goal.condemn_left-requires
 condemn_left-requires g c =
@@ -26,15 +27,7 @@ condemn_left-requires g c =
     let es = (abort_turn k n).effects in
     let orderly = rw (← c.self.view_is) at c.requires.orderly in
     let kept = c.self.inside.yard.kept in
-    let s : State = record {
-      hosted = c.self.inside.repos.items;
-      proxies = c.self.inside.proxies.items;
-      sessions = k.sessions;
-      yard = c.self.inside.yard.yard;
-      last = c.self.inside.last;
-      clock = g.C.Clock.moments c.self.inside.clock;
-      faults = 0;
-    } in
+    let s : State = (c.self.view_is 0).state in
     let settings = c.self.inside.settings in
     let may : AllMay settings.grace s.last s es = turn-can settings.grace s.last settings s orderly.order (named-apart settings orderly.form) (abort n) refl refl in
     subst (λ ns. AreKeptOnce ns kept) (sym c.abort-did.ensures.blobs)
@@ -50,22 +43,13 @@ invariant_of-self g c =
     let going = giving-going es gives in
     let orderly = rw (← c.self.view_is) at c.requires.orderly in
     let kept = c.self.inside.yard.kept in
-    let s : State = record {
-      hosted = c.self.inside.repos.items;
-      proxies = c.self.inside.proxies.items;
-      sessions = k.sessions;
-      yard = c.self.inside.yard.yard;
-      last = c.self.inside.last;
-      clock = g.C.Clock.moments c.self.inside.clock;
-      faults = 0;
-    } in
+    let s : State = (c.self.view_is 0).state in
     let settings = c.self.inside.settings in
     let may : AllMay settings.grace s.last s es = turn-can settings.grace s.last settings s orderly.order (named-apart settings orderly.form) (abort n) refl refl in
     let rows = end-rows settings.grace s.last s es going may orderly.places kept c.self.invariant.blobs c.self.invariant.staged free in
     let files = end-files settings.grace s.last s es going may orderly.places kept c.self.invariant.blobs c.self.invariant.staged free in
     let left = c.abort-did.ensures.blobs in
     let kept_is = ap (λ (y : Numbers). y.kept) c.condemn_left.ensures ∙ ap (λ ns. kept_without ns kept) left in
-    let yard_is = ap (λ (y : Numbers). y.yard.next_session) c.condemn_left.ensures ∙ ap (λ ns. (condemned_by ns s.yard).next_session) left in
     record {
       moment = c.self.invariant.moment;
       shelved = c.self.invariant.shelved;
@@ -76,7 +60,7 @@ invariant_of-self g c =
       rules = c.self.invariant.rules;
       staged = subst (λ ns. AreStagedInUse ns c.abort-did.new.self.sessions) (sym kept_is)
           (subst (AreStagedInUse _) (sym (ap (λ (q : Known). q.sessions) c.abort-did.ensures.sessions ∙ known-if free es k)) files);
-      numbers = yard_is ∙ end-yard settings.grace s.last s es going may orderly.places kept c.self.invariant.blobs c.self.invariant.staged free ∙ c.self.invariant.numbers
+      numbers = ap (λ (y : Numbers). y.yard.next_session) c.condemn_left.ensures ∙ session-condemned (blobs_left c.abort-did.result) s.yard ∙ c.self.invariant.numbers
           ∙ sym (ap (λ (q : Known). q.next) c.abort-did.ensures.sessions ∙ next-if free es k going);
     }
 
@@ -92,17 +76,9 @@ returns-clause-turn g c =
     let going = giving-going es gives in
     let orderly = rw (← c.self.view_is) at c.requires.orderly in
     let kept = c.self.inside.yard.kept in
-    let s : State = record {
-      hosted = c.self.inside.repos.items;
-      proxies = c.self.inside.proxies.items;
-      sessions = k.sessions;
-      yard = c.self.inside.yard.yard;
-      last = c.self.inside.last;
-      clock = g.C.Clock.moments c.self.inside.clock;
-      faults = 0;
-    } in
+    let s : State = (c.self.view_is 0).state in
     let settings = c.self.inside.settings in
-    let w : Parts = record { settings = settings; state = s; calls = c.self.inside.calls } in
+    let w : Parts = c.self.view_is 0 in
     let new : Parts = record w { state = record s { sessions = c.abort-did.new.self.sessions; yard = c.condemn_left.new.yard.yard } } in
     let may : AllMay settings.grace s.last s es = turn-can settings.grace s.last settings s orderly.order (named-apart settings orderly.form) (abort n) refl refl in
     let left =

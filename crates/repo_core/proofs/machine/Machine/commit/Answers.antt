@@ -2,7 +2,7 @@ use Rattle.std.proofs.Common.{refl, sym, ap, ◌∙◌, subst}
 use Rattle.std.specs.Prelude.{if◌then◌else◌}
 use Rattle.blob_yard.specs.Numbers.{Numbers}
 use Rattle.deploy_session.specs.Known.{Known, sessions_after_all}
-use Rattle.deploy_session.specs.Shown.{shown_commit}
+use Rattle.deploy_session.specs.Shown.{shown_commit, blobs_over}
 use Rattle.ordered_rows.specs.Recording.{FitWhereTold}
 use Rattle.repo_model.specs.Command.{commit}
 use Rattle.repo_model.specs.Effect.{recorded}
@@ -10,17 +10,18 @@ use Rattle.repo_model.specs.May.{AllMay}
 use Rattle.repo_model.specs.Reply.{is_free}
 use Rattle.repo_model.specs.State.{State}
 use Rattle.repo_laws.proofs.Turns.{turn-can}
-use Rattle.repo_core.specs.Deploys.{AreStagedInUse, commit_in, hosted_after_all}
-use Rattle.repo_core.specs.Hosted.{AreInUse, rules_of}
-use Rattle.repo_core.specs.Proxies.{AreCachedInUse}
-use Rattle.repo_core.specs.Purge.{AreKeptOnce, condemned_by, kept_without}
+use Rattle.repo_parts.specs.Deploys.{AreStagedInUse, commit_in, hosted_after_all}
+use Rattle.repo_parts.specs.Hosted.{AreInUse, rules_of}
+use Rattle.repo_parts.specs.Proxies.{AreCachedInUse}
+use Rattle.repo_parts.specs.Purge.{AreKeptOnce, condemned_by, kept_without}
 use Rattle.repo_core.specs.Whole.{Parts}
-use Rattle.repo_core.proofs.DeployTurns.{recorded-by}
-use Rattle.repo_core.proofs.EndTurns.{commit-given, commit-going, commit-rules, end-cached, end-files, end-left, end-once, end-rows, end-yard, known-if, next-if, open-there, rules-if}
-use Rattle.repo_core.specs.Shelves.{AreShelved, HaveForgotten}
-use Rattle.repo_core.proofs.ShelfChanges.{committed-still}
+use Rattle.repo_parts.proofs.EndTurns.{commit-given, commit-going, end-cached, end-files, end-left, end-once, end-rows, known-if, next-if, open-there, rules-if}
+use Rattle.repo_parts.specs.Shelves.{AreShelved, HaveForgotten}
+use Rattle.repo_parts.proofs.ShelfChanges.{committed-still}
 use Rattle.settings_laws.proofs.Apart.{named-apart}
 use Rattle.repo_core.proofs.machine.Machine.commit.Goals as goal
+use Rattle.repo_core.proofs.Turning.{recorded-by}
+use Rattle.repo_parts.proofs.SessionNumbers.{session-condemned}
 
 pub commit-did-requires-clause-there : goal.commit-did-requires-clause-there
 commit-did-requires-clause-there g c =
@@ -37,15 +38,7 @@ condemn_over-requires g c =
     let n = c.args.number in
     let orderly = rw (← c.self.view_is) at c.requires.orderly in
     let kept = c.self.inside.yard.kept in
-    let s : State = record {
-      hosted = c.self.inside.repos.items;
-      proxies = c.self.inside.proxies.items;
-      sessions = k.sessions;
-      yard = c.self.inside.yard.yard;
-      last = c.self.inside.last;
-      clock = g.C.Clock.moments c.self.inside.clock;
-      faults = 0;
-    } in
+    let s : State = (c.self.view_is 0).state in
     let es = (commit_in n s.last k.sessions s.hosted).effects in
     let settings = c.self.inside.settings in
     let may : AllMay settings.grace s.last s es = turn-can settings.grace s.last settings s orderly.order (named-apart settings orderly.form) (commit n) refl refl in
@@ -59,15 +52,7 @@ invariant_of-self g c =
     let free = is_free (shown_commit c.commit-did.result) in
     let orderly = rw (← c.self.view_is) at c.requires.orderly in
     let kept = c.self.inside.yard.kept in
-    let s : State = record {
-      hosted = c.self.inside.repos.items;
-      proxies = c.self.inside.proxies.items;
-      sessions = k.sessions;
-      yard = c.self.inside.yard.yard;
-      last = c.self.inside.last;
-      clock = g.C.Clock.moments c.self.inside.clock;
-      faults = 0;
-    } in
+    let s : State = (c.self.view_is 0).state in
     let es = (commit_in n s.last k.sessions s.hosted).effects in
     let going = commit-going n s.last k.sessions s.hosted in
     let settings = c.self.inside.settings in
@@ -76,7 +61,6 @@ invariant_of-self g c =
     let files = end-files settings.grace s.last s es going may orderly.places kept c.self.invariant.blobs c.self.invariant.staged free in
     let left = c.commit-did.ensures.blobs in
     let kept_is = ap (λ (y : Numbers). y.kept) c.condemn_over.ensures ∙ ap (λ ns. kept_without ns kept) left in
-    let yard_is = ap (λ (y : Numbers). y.yard.next_session) c.condemn_over.ensures ∙ ap (λ ns. (condemned_by ns s.yard).next_session) left in
     record {
       moment = c.self.invariant.moment;
       shelved = subst (λ hs. AreShelved settings.groups hs s.proxies c.forget.new.shelves.items) (sym c.commit-did.ensures.rows)
@@ -86,10 +70,10 @@ invariant_of-self g c =
       cached = subst (λ ns. AreCachedInUse ns s.proxies) (sym kept_is)
           (end-cached settings.grace s.last s es going may orderly.places kept c.self.invariant.blobs c.self.invariant.staged c.self.invariant.cached free);
       proxy_rules = c.self.invariant.proxy_rules;
-      rules = ap rules_of c.commit-did.ensures.rows ∙ rules-if free es s.hosted (commit-rules n s.last k.sessions s.hosted) ∙ c.self.invariant.rules;
+      rules = ap rules_of c.commit-did.ensures.rows ∙ rules-if free es s.hosted ∙ c.self.invariant.rules;
       staged = subst (λ ns. AreStagedInUse ns c.commit-did.new.sessions.sessions) (sym kept_is)
           (subst (AreStagedInUse _) (sym (ap (λ (q : Known). q.sessions) c.commit-did.ensures.sessions ∙ known-if free es k)) files);
-      numbers = yard_is ∙ end-yard settings.grace s.last s es going may orderly.places kept c.self.invariant.blobs c.self.invariant.staged free ∙ c.self.invariant.numbers
+      numbers = ap (λ (y : Numbers). y.yard.next_session) c.condemn_over.ensures ∙ session-condemned (blobs_over c.commit-did.result) s.yard ∙ c.self.invariant.numbers
           ∙ sym (ap (λ (q : Known). q.next) c.commit-did.ensures.sessions ∙ next-if free es k going);
     }
 
@@ -101,20 +85,12 @@ returns-clause-turn g c =
     let free = is_free r in
     let orderly = rw (← c.self.view_is) at c.requires.orderly in
     let kept = c.self.inside.yard.kept in
-    let s : State = record {
-      hosted = c.self.inside.repos.items;
-      proxies = c.self.inside.proxies.items;
-      sessions = k.sessions;
-      yard = c.self.inside.yard.yard;
-      last = c.self.inside.last;
-      clock = g.C.Clock.moments c.self.inside.clock;
-      faults = 0;
-    } in
+    let s : State = (c.self.view_is 0).state in
     let t = commit_in n s.last k.sessions s.hosted in
     let es = t.effects in
     let going = commit-going n s.last k.sessions s.hosted in
     let settings = c.self.inside.settings in
-    let w : Parts = record { settings = settings; state = s; calls = c.self.inside.calls } in
+    let w : Parts = c.self.view_is 0 in
     let new : Parts = record w { state = record s { hosted = c.commit-did.new.repos.items; sessions = c.commit-did.new.sessions.sessions; yard = c.condemn_over.new.yard.yard } } in
     let may : AllMay settings.grace s.last s es = turn-can settings.grace s.last settings s orderly.order (named-apart settings orderly.form) (commit n) refl refl in
     let left =

@@ -1,4 +1,4 @@
-use Rattle.repo_core.proofs.CountLemmas.{rows-few}
+use Rattle.repo_parts.proofs.CountLemmas.{rows-few}
 use Rattle.repo_core.proofs.Turning.{counts-found}
 use Rattle.repo_core.proofs.machine.Machine.counted.Goals as goal
 

@@ -5,16 +5,16 @@ use Rattle.hosted_repo.specs.Expired.{blob_of}
 use Rattle.repo_model.specs.Purge.{expire_all, most_rows}
 use Rattle.repo_model.specs.Turn.{unlent}
 use Rattle.repo_laws.specs.Sound.{AreNamedApart}
-use Rattle.repo_core.specs.Deploys.{AreStagedInUse}
-use Rattle.repo_core.specs.Hosted.{AreInUse, rules_of}
-use Rattle.repo_core.specs.Proxies.{AreCachedInUse}
-use Rattle.repo_core.specs.Purge.{AreKeptOnce, condemned_by, dropped_by, kept_without, shares}
+use Rattle.repo_parts.specs.Deploys.{AreStagedInUse}
+use Rattle.repo_parts.specs.Hosted.{AreInUse, rules_of}
+use Rattle.repo_parts.specs.Proxies.{AreCachedInUse}
+use Rattle.repo_parts.specs.Purge.{AreKeptOnce, condemned_by, dropped_by, kept_without, shares}
 use Rattle.settings_laws.proofs.Apart.{named-apart}
-use Rattle.repo_core.specs.Shelves.{AreShelved}
-use Rattle.repo_core.proofs.ShelfChanges.{dropped-still}
-use Rattle.repo_core.proofs.PurgeLemmas.{dropped-rules, shares-length}
+use Rattle.repo_parts.specs.Shelves.{AreShelved}
+use Rattle.repo_parts.proofs.ShelfChanges.{dropped-still}
+use Rattle.repo_parts.proofs.PurgeLemmas.{dropped-rules, shares-length}
 use Rattle.repo_core.proofs.PurgeTurns.{blobs-at, collected-cached, collected-once, collected-staged, collected-used, counts-at, turned-collected}
-use Rattle.repo_core.proofs.SessionNumbers.{session-condemned}
+use Rattle.repo_parts.proofs.SessionNumbers.{session-condemned}
 use Rattle.repo_core.proofs.machine.Machine.drop_gone.Goals as goal
 
 pub drop_expired-requires : goal.drop_expired-requires

@@ -8,15 +8,15 @@ use Rattle.repo_model.specs.Shown.{outcome_map, shown_got}
 use Rattle.repo_model.specs.Turn.{Turn, is_drawn}
 use Rattle.repo_laws.specs.Files.{files_in}
 use Rattle.proxy_rules.specs.declared.landed.Landed.TheVariants.{Kept}
-use Rattle.repo_core.specs.Proxies.{landing_in, proxy_rules_of}
-use Rattle.repo_core.specs.Changes.{gone_by_landing, is_of_document}
-use Rattle.repo_core.specs.Shelves.{AreShelved, HaveForgotten, is_gone}
+use Rattle.repo_parts.specs.Proxies.{landing_in, proxy_rules_of}
+use Rattle.repo_parts.specs.Changes.{gone_by_landing, is_of_document}
+use Rattle.repo_parts.specs.Shelves.{AreShelved, HaveForgotten, is_gone}
 use Rattle.repo_core.specs.Whole.{Parts}
 use Rattle.repo_core.proofs.ItemForms.{draft-number}
 use Rattle.repo_core.proofs.LandLemmas.{cached-landed, drawn-so, hosted-landed, land-turn, landed-rules, lands-so, proxy-there, recorded-land, staged-landed, there-so}
-use Rattle.repo_core.proofs.ShelfChanges.{landed-still}
+use Rattle.repo_parts.proofs.ShelfChanges.{landed-still}
 use Rattle.proxy_rules.specs.Landings.{has_failed, shown_landed}
-use Rattle.repo_core.proofs.SessionNumbers.{session-landed}
+use Rattle.repo_parts.proofs.SessionNumbers.{session-landed}
 use Rattle.row_tables.specs.Stops.{HasReplyStop}
 use Rattle.repo_core.proofs.machine.Machine.land.Goals as goal
 
@@ -69,7 +69,7 @@ invariant_of-self g c =
       blobs = rw c.settle_landed.ensures (hosted-landed plan.draft did kept c.self.inside.repos.items c.self.invariant.blobs);
       cached = rw (lands.proxies, c.settle_landed.ensures) (cached-landed kept proxies c.self.invariant.cached files c.self.inside.last plan landing did fits lands.answered);
       rules = c.self.invariant.rules;
-      proxy_rules = ap proxy_rules_of lands.proxies ∙ landed-rules files c.self.inside.last plan landing _ proxies ∙ c.self.invariant.proxy_rules;
+      proxy_rules = ap proxy_rules_of lands.proxies ∙ landed-rules (has_failed did) (landing_in proxies c.self.inside.last plan c.args.outcome) proxies ∙ c.self.invariant.proxy_rules;
       staged = rw c.settle_landed.ensures (staged-landed plan.draft did kept c.self.inside.sessions.sessions c.self.invariant.staged);
       numbers = ap (λ (y : Numbers). y.yard.next_session) c.settle_landed.ensures ∙ session-landed plan.draft did c.self.inside.yard.yard ∙ c.self.invariant.numbers;
     }

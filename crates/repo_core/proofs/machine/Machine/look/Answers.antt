@@ -2,25 +2,17 @@ use Rattle.std.proofs.Common.{sym, ap, ◌∙◌, subst}
 use Rattle.repo_model.specs.Shown.{shown_reply}
 use Rattle.repo_model.specs.State.{State}
 use Rattle.blob_yard.specs.Numbers.{Numbers}
-use Rattle.repo_core.specs.Deploys.{AreStagedInUse}
-use Rattle.repo_core.specs.Hosted.{AreInUse}
-use Rattle.repo_core.specs.Proxies.{AreCachedInUse}
-use Rattle.repo_core.specs.Shelves.{AreShelved}
+use Rattle.repo_parts.specs.Deploys.{AreStagedInUse}
+use Rattle.repo_parts.specs.Hosted.{AreInUse}
+use Rattle.repo_parts.specs.Proxies.{AreCachedInUse}
+use Rattle.repo_parts.specs.Shelves.{AreShelved}
 use Rattle.repo_core.proofs.LookLemmas.{turned-looked}
-use Rattle.repo_core.proofs.SessionNumbers.{session-looked}
+use Rattle.repo_parts.proofs.SessionNumbers.{session-looked}
 use Rattle.repo_core.proofs.machine.Machine.look.Goals as goal
 
 pub returns : goal.returns
 returns g c =
-    let s : State = record {
-      hosted = c.self.inside.repos.items;
-      proxies = c.self.inside.proxies.items;
-      sessions = c.self.inside.sessions.sessions;
-      yard = c.self.inside.yard.yard;
-      last = c.self.inside.last;
-      clock = g.C.Clock.moments c.self.inside.clock;
-      faults = 0;
-    } in
+    let s : State = (c.self.view_is 0).state in
     rw (← c.self.view_is)
     (turned-looked _ c.args.repo.now c.args.path.now c.args.tried.now (shown_reply c.look.result) c.look.new.yard.yard
     (c.look.ensures.reply s (record { hosted_so = sym c.deref.ensures.value; proxies_so = sym c.deref-2.ensures.value })) (ap (λ (y : Numbers). y.yard) c.look.ensures.yard))

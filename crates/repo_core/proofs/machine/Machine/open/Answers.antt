@@ -6,16 +6,17 @@ use Rattle.deploy_session.specs.Shown.{shown_begin}
 use Rattle.repo_model.specs.Command.{open_session}
 use Rattle.repo_model.specs.Reply.{is_free}
 use Rattle.repo_model.specs.State.{State}
-use Rattle.repo_core.specs.Deploys.{AreStagedInUse}
-use Rattle.repo_core.specs.Hosted.{AreInUse}
-use Rattle.repo_core.specs.Proxies.{AreCachedInUse}
+use Rattle.repo_parts.specs.Deploys.{AreStagedInUse}
+use Rattle.repo_parts.specs.Hosted.{AreInUse}
+use Rattle.repo_parts.specs.Proxies.{AreCachedInUse}
 use Rattle.repo_core.specs.Whole.{Parts}
-use Rattle.repo_core.proofs.DeployTurns.{due-or-free, open-all, open-left, open-next, recorded-by, recorded-given, turn-open}
-use Rattle.repo_core.proofs.StagedLemmas.{staged-opened}
+use Rattle.repo_core.proofs.DeployTurns.{due-or-free, open-all, open-left, open-next, turn-open}
+use Rattle.repo_parts.proofs.StagedLemmas.{staged-opened}
 use Rattle.row_tables.specs.Stops.{HasReplyStop}
 use Rattle.repo_model.specs.Effect.{recorded}
 use Rattle.repo_model.specs.Turn.{Turn}
 use Rattle.repo_core.proofs.machine.Machine.open.Goals as goal
+use Rattle.repo_core.proofs.Turning.{recorded-by, recorded-given}
 
 pub invariant_of-self : goal.invariant_of-self
 invariant_of-self g c =
@@ -23,15 +24,7 @@ invariant_of-self g c =
     let r = shown_begin c.begin-begun.result in
     let kept = c.self.inside.yard.kept in
     let repo = c.args.repo.now in
-    let s : State = record {
-      hosted = c.self.inside.repos.items;
-      proxies = c.self.inside.proxies.items;
-      sessions = k.sessions;
-      yard = c.self.inside.yard.yard;
-      last = c.self.inside.last;
-      clock = g.C.Clock.moments c.self.inside.clock;
-      faults = 0;
-    } in
+    let s : State = (c.self.view_is 0).state in
     let kept_so = sym (ap (λ (y : Numbers). y.kept) c.settle_begun.ensures) in
     let given = due-or-free (begin_turn k repo) r c.begin-begun.ensures.reply in
     record {
@@ -53,16 +46,8 @@ returns-clause-turn g c =
     let k : Known = c.self.inside.sessions in
     let r = shown_begin c.begin-begun.result in
     let repo = c.args.repo.now in
-    let s : State = record {
-      hosted = c.self.inside.repos.items;
-      proxies = c.self.inside.proxies.items;
-      sessions = k.sessions;
-      yard = c.self.inside.yard.yard;
-      last = c.self.inside.last;
-      clock = g.C.Clock.moments c.self.inside.clock;
-      faults = 0;
-    } in
-    let w : Parts = record { settings = c.self.inside.settings; state = s; calls = c.self.inside.calls } in
+    let s : State = (c.self.view_is 0).state in
+    let w : Parts = c.self.view_is 0 in
     let new : Parts = record w { state = record s { sessions = c.begin-begun.new.self.sessions; yard = c.settle_begun.new.yard.yard } } in
     let given = due-or-free (begin_turn k repo) r c.begin-begun.ensures.reply in
     let left =
@@ -78,16 +63,8 @@ pub returns-clause-stops : goal.returns-clause-stops
 returns-clause-stops g c =
     let k : Known = c.self.inside.sessions in
     let repo = c.args.repo.now in
-    let s : State = record {
-      hosted = c.self.inside.repos.items;
-      proxies = c.self.inside.proxies.items;
-      sessions = k.sessions;
-      yard = c.self.inside.yard.yard;
-      last = c.self.inside.last;
-      clock = g.C.Clock.moments c.self.inside.clock;
-      faults = 0;
-    } in
-    let w : Parts = record { settings = c.self.inside.settings; state = s; calls = c.self.inside.calls } in
+    let s : State = (c.self.view_is 0).state in
+    let w : Parts = c.self.view_is 0 in
     rw (← c.self.view_is)
     (subst (λ (t : Turn). HasReplyStop (recorded t.effects) (g.K.Records.tables c.args.records.now) (g.K.Records.unsettled c.args.records.now) (g.K.Records.unsettled c.begin-begun.new.records) (shown_begin c.begin-begun.result))
     (sym (turn-open s repo k refl (sym c.self.invariant.numbers) w refl)) c.begin-begun.ensures.stops)

@@ -10,17 +10,17 @@ use Rattle.repo_model.specs.State.{is_among}
 use Rattle.repo_model.specs.Shown.{shown_parcel}
 use Rattle.repo_model.specs.Turn.{Turn}
 use Rattle.row_tables.specs.Items.{is_number}
-use Rattle.repo_core.specs.Hosted.{AreInUse, rules_of}
-use Rattle.repo_core.specs.Shelves.{AreShelved, HaveForgotten}
-use Rattle.repo_core.proofs.CachedLemmas.{cached-put}
+use Rattle.repo_parts.specs.Hosted.{AreInUse, rules_of}
+use Rattle.repo_parts.specs.Shelves.{AreShelved, HaveForgotten}
+use Rattle.repo_parts.proofs.CachedLemmas.{cached-put}
 use Rattle.repo_core.proofs.DraftLemmas.{fit-so, named-so, recorded-put, short-so, turn-at}
-use Rattle.repo_core.proofs.HostedLemmas.{named-there, rules-kept}
+use Rattle.repo_parts.proofs.HostedLemmas.{named-there, rules-kept}
 use Rattle.repo_core.proofs.ItemForms.{draft-number, fit-file}
-use Rattle.repo_core.proofs.PutReplies.{put-left}
-use Rattle.repo_core.proofs.SessionNumbers.{session-put}
-use Rattle.repo_core.proofs.ShelfChanges.{put-still}
-use Rattle.repo_core.proofs.StagedLemmas.{staged-put}
-use Rattle.repo_core.proofs.UseLemmas.{put-used}
+use Rattle.repo_parts.proofs.PutReplies.{put-left}
+use Rattle.repo_parts.proofs.SessionNumbers.{session-put}
+use Rattle.repo_parts.proofs.ShelfChanges.{put-still}
+use Rattle.repo_parts.proofs.StagedLemmas.{staged-put}
+use Rattle.repo_parts.proofs.UseLemmas.{put-used}
 use Rattle.row_tables.specs.Stops.{HasReplyStop}
 use Rattle.repo_core.proofs.machine.Machine.put.Goals as goal
 
@@ -67,12 +67,12 @@ invariant_of-self g c =
       shelved = subst (λ hs. AreShelved c.self.inside.settings.groups hs c.self.inside.proxies.items c.forget.new.shelves.items) (sym left)
           (put-still c.self.inside.settings.groups items c.self.inside.proxies.items id path blob c.self.inside.last reply c.self.inside.shelves.items c.forget.new.shelves.items
           (subst (λ gone. HaveForgotten gone c.self.inside.shelves.items c.forget.new.shelves.items) c.changed_by_put.ensures c.forget.ensures) c.self.invariant.shelved);
-      blobs = rw c.settle.ensures (subst (AreInUse _) (sym left) (put-used c.self.inside.yard.kept id path c.args.draft c.self.inside.last blob reply items c.self.invariant.blobs named));
-      cached = rw c.settle.ensures (cached-put c.args.draft reply c.self.inside.yard.kept c.self.inside.proxies.items c.self.invariant.cached);
+      blobs = rw c.settle_put.ensures (subst (AreInUse _) (sym left) (put-used c.self.inside.yard.kept id path c.args.draft c.self.inside.last blob reply items c.self.invariant.blobs named));
+      cached = rw c.settle_put.ensures (cached-put c.args.draft reply c.self.inside.yard.kept c.self.inside.proxies.items c.self.invariant.cached);
       proxy_rules = c.self.invariant.proxy_rules;
       rules = ap rules_of left ∙ rules-kept id _ items ∙ c.self.invariant.rules;
-      staged = rw c.settle.ensures (staged-put c.args.draft reply c.self.inside.yard.kept c.self.inside.sessions.sessions c.self.invariant.staged);
-      numbers = ap (λ (y : Numbers). y.yard.next_session) c.settle.ensures ∙ session-put c.args.draft reply c.self.inside.yard.yard ∙ c.self.invariant.numbers;
+      staged = rw c.settle_put.ensures (staged-put c.args.draft reply c.self.inside.yard.kept c.self.inside.sessions.sessions c.self.invariant.staged);
+      numbers = ap (λ (y : Numbers). y.yard.next_session) c.settle_put.ensures ∙ session-put c.args.draft reply c.self.inside.yard.yard ∙ c.self.invariant.numbers;
     }
 
 pub returns-clause-turn : goal.returns-clause-turn
@@ -80,14 +80,14 @@ returns-clause-turn g c =
     let among : is_among c.args.draft c.self.inside.yard.yard.drafts ≡ true = cc in
     let named = named-so c.args.self.now.settings c.args.repo.now c.args.path.now c.args.draft (shown_parcel c.args.parcel) c.requires.meets in
     let did = c.put-outcome.ensures in
-    rw (c.reply_of.ensures, ← c.self.view_is)
+    rw (c.reply_of_put.ensures, ← c.self.view_is)
     (recorded-put _ c.args.repo.now c.args.path.now c.args.draft (shown_parcel c.args.parcel) among named c.repo_mut.result.now c.repo_mut.ensures.found c.put-outcome.new.self _ (shown_put c.put-outcome.result) _ _ _ _ did.reply did.rows
-    (ap (λ (y : Numbers). y.yard) c.settle.ensures) did.tables did.cause)
+    (ap (λ (y : Numbers). y.yard) c.settle_put.ensures) did.tables did.cause)
 
 pub returns-clause-stops : goal.returns-clause-stops
 returns-clause-stops g c =
     let among : is_among c.args.draft c.self.inside.yard.yard.drafts ≡ true = cc in
     let named = named-so c.args.self.now.settings c.args.repo.now c.args.path.now c.args.draft (shown_parcel c.args.parcel) c.requires.meets in
-    rw (c.reply_of.ensures, ← c.self.view_is)
+    rw (c.reply_of_put.ensures, ← c.self.view_is)
     (subst (λ (t : Turn). HasReplyStop (recorded t.effects) (g.K.Records.tables c.args.records.now) (g.K.Records.unsettled c.args.records.now) (g.K.Records.unsettled c.put-outcome.new.records) (shown_put c.put-outcome.result))
     (turn-at (c.self.view_is 0) c.args.repo.now c.args.path.now c.args.draft (shown_parcel c.args.parcel) among named c.repo_mut.result.now c.repo_mut.ensures.found) c.put-outcome.ensures.stops)

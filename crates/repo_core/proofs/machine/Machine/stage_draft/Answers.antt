@@ -7,13 +7,13 @@ use Rattle.repo_model.specs.Shown.{shown_parcel}
 use Rattle.repo_model.specs.State.{State, is_among, is_open_at}
 use Rattle.repo_model.specs.Turn.{stage_in}
 use Rattle.row_tables.specs.Items.{is_number}
-use Rattle.repo_core.specs.Deploys.{AreStagedInUse}
-use Rattle.repo_core.specs.Hosted.{AreInUse}
-use Rattle.repo_core.specs.Proxies.{AreCachedInUse}
+use Rattle.repo_parts.specs.Deploys.{AreStagedInUse}
+use Rattle.repo_parts.specs.Hosted.{AreInUse}
+use Rattle.repo_parts.specs.Proxies.{AreCachedInUse}
 use Rattle.repo_core.specs.Whole.{Parts}
-use Rattle.repo_core.proofs.CachedLemmas.{cached-staged}
+use Rattle.repo_parts.proofs.CachedLemmas.{cached-staged}
 use Rattle.repo_core.proofs.DeployTurns.{files-staged, next-staged, rows-staged, session-staged, staged-given, staged-known, staged-named, turned-stage}
-use Rattle.repo_core.proofs.EndTurns.{known-if}
+use Rattle.repo_parts.proofs.EndTurns.{known-if}
 use Rattle.repo_core.proofs.ItemForms.{draft-number}
 use Rattle.repo_core.proofs.machine.Machine.stage_draft.Goals as goal
 
@@ -55,16 +55,8 @@ returns g c =
     let r = shown_stage c.stage-did.result in
     let blob = shown_parcel c.args.parcel in
     let n = c.args.draft in
-    let s : State = record {
-      hosted = c.self.inside.repos.items;
-      proxies = c.self.inside.proxies.items;
-      sessions = k.sessions;
-      yard = c.self.inside.yard.yard;
-      last = c.self.inside.last;
-      clock = g.C.Clock.moments c.self.inside.clock;
-      faults = 0;
-    } in
-    let w : Parts = record { settings = c.self.inside.settings; state = s; calls = c.self.inside.calls } in
+    let s : State = (c.self.view_is 0).state in
+    let w : Parts = c.self.view_is 0 in
     let found = find (is_open_at c.args.number) k.sessions in
     let named = staged-named c.args.self.now.settings c.args.number c.args.path.now n blob c.requires.meets in
     let given = staged-given c.args.path.now n blob named found r c.stage-did.ensures.reply in

@@ -5,14 +5,14 @@ use Rattle.repo_model.specs.Command.{meets, unlist}
 use Rattle.repo_model.specs.Effect.{recorded}
 use Rattle.repo_model.specs.Turn.{unlist_of}
 use Rattle.row_tables.specs.Stops.{HasCommitStop}
-use Rattle.repo_core.specs.Hosted.{AreInUse, rules_of}
-use Rattle.repo_core.specs.Changes.{gone_by_unlist}
-use Rattle.repo_core.specs.Shelves.{AreShelved, HaveForgotten}
+use Rattle.repo_parts.specs.Hosted.{AreInUse, rules_of}
+use Rattle.repo_parts.specs.Changes.{gone_by_unlist}
+use Rattle.repo_parts.specs.Shelves.{AreShelved, HaveForgotten}
 use Rattle.repo_core.specs.Whole.{Parts}
-use Rattle.repo_core.proofs.ShelfChanges.{nothing-changed, unlisted-still}
-use Rattle.repo_core.proofs.HostedLemmas.{rule-there, rules-kept}
+use Rattle.repo_parts.proofs.ShelfChanges.{nothing-changed, unlisted-still}
+use Rattle.repo_parts.proofs.HostedLemmas.{rule-there, rules-kept}
 use Rattle.repo_core.proofs.PurgeTurns.{unlist-done, unlist-failed, unlist-without, unlisted-count, unlisted-or-not}
-use Rattle.repo_core.proofs.UseLemmas.{unlisted-used}
+use Rattle.repo_parts.proofs.UseLemmas.{unlisted-used}
 use Rattle.repo_core.proofs.machine.Machine.unlist.Goals as goal
 use Rattle.repo_core.proofs.machine.Machine.unlist.Goals.{in-Ok, in-Err-Failed, in-Err-NoMemory}
 

@@ -1,0 +1,9 @@
+pub mod Hosted
+pub mod Changes
+pub mod Looks
+pub mod Numbers
+pub mod Proxies
+pub mod Purge
+pub mod Shelves
+pub mod Deploys
+pub mod Lending
