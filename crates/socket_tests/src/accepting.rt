@@ -1,61 +1,40 @@
 //! Errors of accepting a connection: which of them pass, seen from a stand-in for the system's listener.
 
-use crate::stand_in::{Script, Trial};
-use outside::Port;
+use crate::courses::{Act, GET, goes_by};
+use crate::stand_in::Script;
 use std::sync::Wait;
-use std::test::Fail;
-use std::time::Instant;
+use std::thread::Threads;
 
-const GET: &[u8] = b"GET /x HTTP/1.1\r\n\r\n";
-
-// The system's numbers for: a connection that was given up, a call that a signal interrupted, too many open files, and a
-// listener that can't accept.
-const GIVEN_UP: i32 = 103;
-
-const INTERRUPTED: i32 = 4;
-
-const NO_HANDLES: i32 = 24;
-
-const NO_LISTENER: i32 = 22;
-
-// What a listener gives: whether a connection and after how many milliseconds, how often it was asked for one, and whether it
-// still runs.
-#[derive(Clone, Copy)]
-struct Outcome {
-    found: bool,
-    waited: u128,
+// Whether a course goes so over a listener that fails with these errors first and is asked so often.
+fn accepts<W: Threads + Wait>(
+    rt: &HostRuntime,
+    waits: &W,
+    errors: &[i32],
     asked: usize,
-    runs: bool,
+    acts: &[Act],
+) -> bool {
+    let script = Script::of(errors, &[GET]);
+    goes_by(rt, waits, &script, acts) && script.done.get().asked == asked
 }
 
-// A listener whose calls fail with these errors first.
-fn accepted<W: Wait + Drop>(rt: &HostRuntime, waits: W, errors: &[i32]) -> Result<Outcome, Fail> {
-    let script = Script::of(rt.alloc(), errors, &[GET])?;
-    let mut trial = Trial::new(rt, waits, &script)?;
-    let begin = Instant::now(rt)?;
-    let found = matches!(trial.port.next(), Ok(Some(_)));
-    Ok(Outcome {
-        found,
-        waited: begin.elapsed(rt)?.as_millis(),
-        asked: script.asked.get(),
-        runs: trial.running.is_any(),
-    })
-}
+static PASSING: [Act; 4] = [
+    Act::Client(b"x"),
+    Act::Runs(&[]),
+    Act::Takes(90, 60_000),
+    Act::IsAny(true),
+];
 
-// An error that passes is none of the port's, and where no file handle is left it waits a moment. The last call finds no
-// connection more.
+// A connection that was given up (103), a call that a signal interrupted (4) and too many open files (24) are no errors of the
+// port's, and behind the last it waits a moment. The last call finds no connection more.
 #[test]
-fn passing_errors_are_not_told(rt: HostRuntime) -> Result<(), Fail> {
-    let told = accepted(&rt, rt.clone()?, &[GIVEN_UP, INTERRUPTED, NO_HANDLES])?;
-    assert!(rt; told.found && told.asked == 5 && told.runs);
-    assert!(rt; told.waited >= 90);
-    Ok(())
+fn passing_errors_are_not_told(rt: HostRuntime) {
+    assert!(rt; accepts(&rt, &rt, &[103, 4, 24], 5, &PASSING));
 }
 
-// Any other error ends the port.
+static ENDING: [Act; 3] = [Act::Client(b"x"), Act::Fails, Act::IsAny(false)];
+
+// Any other error ends the port, as that a listener can't accept (22).
 #[test]
-fn another_error_ends_the_port(rt: HostRuntime) -> Result<(), Fail> {
-    let told = accepted(&rt, rt.clone()?, &[GIVEN_UP, NO_LISTENER])?;
-    assert!(rt; !told.found && told.asked == 2 && !told.runs);
-    Ok(())
+fn another_error_ends_the_port(rt: HostRuntime) {
+    assert!(rt; accepts(&rt, &rt, &[103, 22], 2, &ENDING));
 }

@@ -3,11 +3,10 @@
 use fetch_plan::{Outcome, Plan};
 use remote_fetch::Content;
 use std::alloc::{AllocError, Global};
-use std::test::Fail;
 use texts::Text;
 
 /// A plan for a file of at most 100 bytes, at a host and port.
-pub fn plan(alloc: Global, host: &str, port: u16) -> Result<Plan, Fail> {
+pub fn plan(alloc: Global, host: &str, port: u16) -> Result<Plan, AllocError> {
     Ok(Plan {
         proxy: Text::new(alloc, "central")?,
         member: 0,
@@ -67,16 +66,15 @@ pub fn answer(alloc: Global, text: &str) -> Result<Vec<u8>, AllocError> {
 }
 
 /// What came of a fetch, as text.
-pub fn outcome(alloc: Global, outcome: &Outcome<Content>) -> Result<String, Fail> {
-    let text = match outcome {
+pub fn outcome(alloc: Global, outcome: &Outcome<Content>) -> Result<String, AllocError> {
+    match outcome {
         Outcome::Got(Content::File(checked)) => {
             let text = str::from_utf8(checked.bytes.as_slice()).unwrap_or("no text");
-            format!(in alloc; "got {text}")?
+            format!(in alloc; "got {text}")
         }
-        Outcome::BadAnswer { at } => format!(in alloc; "bad-answer {}", *at)?,
-        Outcome::TooLarge => String::from_str(alloc, "too-large")?,
-        Outcome::Fault => String::from_str(alloc, "fault")?,
-        _ => String::from_str(alloc, "another")?,
-    };
-    Ok(text)
+        Outcome::BadAnswer { at } => format!(in alloc; "bad-answer {}", *at),
+        Outcome::TooLarge => String::from_str(alloc, "too-large"),
+        Outcome::Fault => String::from_str(alloc, "fault"),
+        _ => String::from_str(alloc, "another"),
+    }
 }

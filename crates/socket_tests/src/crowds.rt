@@ -1,97 +1,45 @@
 //! Which connections go where the system has no room for one more, seen from a stand-in for its listener.
 
-use crate::stand_in::{Script, Trial, client, gives, takes};
-use outside::Port;
-use std::alloc::{AllocError, Global};
-use std::io::{ErrorKind, Read, Write};
-use std::net::TcpStream;
+use crate::courses::{Act, GET, SERVED, goes_by};
+use crate::stand_in::{Does, Script};
 use std::sync::Wait;
-use std::test::Fail;
-use std::time::Duration;
+use std::thread::Threads;
 
-const GET: &[u8] = b"GET /x HTTP/1.1\r\n\r\n";
-
-const ANSWER: &[u8] = b"HTTP/1.1 200 OK\r\n\r\n";
-
-// The system's numbers for: too many open files, and a listener that can't accept.
-const NO_HANDLES: i32 = 24;
-
-const NO_LISTENER: i32 = 22;
-
-// A listener that accepts one connection and finds no more, accepts so many, has no room so often, and then fails.
-fn errors(alloc: Global, many: usize, lost: usize) -> Result<Vec<i32>, AllocError> {
-    let mut errors = Vec::new(alloc);
-    for _ in 0..many.saturating_add(2) {
-        errors.push(0)?;
-    }
-    for _ in 0..lost {
-        errors.push(NO_HANDLES)?;
-    }
-    errors.push(NO_LISTENER)?;
-    Ok(errors)
-}
-
-// Whether nothing comes of the connection in a while, not even its end.
-fn is_open(peer: &mut TcpStream) -> Result<bool, Fail> {
-    peer.set_read_timeout(Some(Duration::from_millis(100)))?;
-    Ok(match peer.read(&mut [0; 64]) {
-        Ok(_) => false,
-        Err(error) => matches!(error.kind(), ErrorKind::WouldBlock | ErrorKind::TimedOut),
-    })
-}
-
-// One that has had an answer, and then a crowd, in which each `b` stands for a connection of which a byte has come and any other
-// letter for one that is silent: which of them are closed where so many have to be. An `x` stands for each of these, the first
-// one's first.
-fn closed<W: Wait + Drop>(
+// Whether that comes of one that has had an answer and of a crowd behind it, where the listener fails so.
+fn is_left<W: Threads + Wait>(
     rt: &HostRuntime,
-    waits: W,
-    crowd: &str,
-    lost: usize,
-) -> Result<String, Fail> {
-    let alloc = rt.alloc();
-    let script = Script::of(alloc, errors(alloc, crowd.len(), lost)?.as_slice(), &[GET])?;
-    script.step.set(1);
-    let mut trial = Trial::new(rt, waits, &script)?;
-    let mut link = trial.link()?;
-    if !(gives(&mut link, GET) && takes(&mut link, ANSWER) && gives(&mut link, b"")) {
-        Err("no answer")?
-    }
-    trial.port.back(link);
-    let mut peers = Vec::new(alloc);
-    for letter in crowd.as_bytes() {
-        let mut peer = client(rt, &trial.port)?;
-        if *letter == b'b' {
-            peer.write_all(b"x")?;
-        }
-        peers.push(peer)?;
-    }
-    if trial.port.next().is_ok() {
-        Err("a connection")?
-    }
-    let mut found = String::new(alloc);
-    found.push(if is_open(&mut trial.peer)? { '.' } else { 'x' })?;
-    for peer in &mut peers {
-        found.push(if is_open(peer)? { '.' } else { 'x' })?;
-    }
-    Ok(found)
+    waits: &W,
+    errors: &[i32],
+    crowd: &'static str,
+    left: &'static str,
+) -> bool {
+    let script = Script::of(errors, &[GET]);
+    script.does.set(Does(false, true, 1));
+    let acts = [
+        Act::Client(b"x"),
+        Act::Runs(&SERVED),
+        Act::Crowd(crowd),
+        Act::Fails,
+        Act::Shows(left),
+    ];
+    goes_by(rt, waits, &script, &acts)
 }
 
-// A crowd of silent ones goes, the oldest first, and the one that has had an answer stays; one of which a byte has come is none
-// of these, though no desk has read it yet. Where none is silent the one goes that has been idle longest.
-const CROWDS: [(&str, usize, &str); 5] = [
-    ("sss", 1, ".x.."),
-    ("ssss", 3, ".xxx."),
-    ("bsbs", 1, "..x.."),
-    ("bsb", 2, "x.x."),
-    ("bb", 1, "x.."),
+// A listener that accepts one connection and finds no more, accepts a crowd, has no room so often (24: too many open files), and
+// then can't accept (22). In a crowd each `b` stands for a connection of which a byte has come, and `s` for a silent one. A crowd
+// of silent ones goes, the oldest first, and the one that has had an answer stays; one of which a byte has come is none of these,
+// though no desk has read it yet. Where none is silent the one goes that has been idle longest.
+const CROWDS: [(&[i32], &str, &str); 5] = [
+    (&[0, 0, 0, 0, 0, 24, 22], "sss", ".x.."),
+    (&[0, 0, 0, 0, 0, 0, 24, 24, 24, 22], "ssss", ".xxx."),
+    (&[0, 0, 0, 0, 0, 0, 24, 22], "bsbs", "..x.."),
+    (&[0, 0, 0, 0, 0, 24, 24, 22], "bsb", "!.x."),
+    (&[0, 0, 0, 0, 24, 22], "bb", "!.."),
 ];
 
 #[test]
-fn the_silent_ones_go_first(rt: HostRuntime) -> Result<(), Fail> {
-    for (crowd, lost, want) in CROWDS {
-        let found = closed(&rt, rt.clone()?, crowd, lost)?;
-        assert_eq!(rt; found.as_str(), want, "{crowd}");
+fn the_silent_ones_go_first(rt: HostRuntime) {
+    for (errors, crowd, left) in CROWDS {
+        assert!(rt; is_left(&rt, &rt, errors, crowd, left), "{crowd}");
     }
-    Ok(())
 }

@@ -8,6 +8,8 @@ mod answers;
 #[cfg(test)]
 mod connections;
 #[cfg(test)]
+mod courses;
+#[cfg(test)]
 mod crowds;
 #[cfg(test)]
 mod servers;

@@ -1,13 +1,11 @@
 //! Fetches over TCP, on the loopback interface.
 
 use crate::answers::{answer, outcome, plan};
-use fetch_plan::{Outcome, Plan};
 use outside_remote::{Remote, RemoteFault};
-use remote_fetch::{Content, LONGEST_BODY, fetch};
-use std::alloc::Global;
+use remote_fetch::{LONGEST_BODY, fetch};
+use std::alloc::{AllocError, Global};
 use std::io::{Read, Write};
 use std::net::{Ipv4Addr, Net, SocketAddr, SocketAddrV4, TcpListener, TcpStream};
-use std::test::Fail;
 use std::thread::{self, Threads};
 use std::time::{Duration, Instant};
 use tcp_remote::{Limits, TcpRemote};
@@ -20,39 +18,35 @@ const SHORT: Limits = Limits {
     pause: 1_500,
 };
 
-fn listen(rt: &HostRuntime) -> Result<TcpListener, Fail> {
+// A listener at a free port, and its number.
+fn listen(rt: &HostRuntime) -> Option<(TcpListener, u16)> {
     let address = SocketAddr::V4(SocketAddrV4::new(Ipv4Addr::LOCALHOST, 0));
-    Ok(rt.bind(address)?)
-}
-
-fn port_of(listener: &TcpListener) -> Result<u16, Fail> {
-    Ok(listener.local_addr()?.port())
-}
-
-fn remote(rt: &HostRuntime) -> Result<TcpRemote<HostRuntime>, Fail> {
-    Ok(TcpRemote::new(rt.alloc(), rt.clone()?, SHORT))
-}
-
-fn fetched(
-    alloc: Global,
-    remote: &mut TcpRemote<HostRuntime>,
-    plan: &Plan,
-) -> Result<Outcome<Content>, Fail> {
-    if plan.limit > LONGEST_BODY {
-        Err("limit")?
-    }
-    Ok(fetch(alloc, remote, plan)?)
+    let listener = rt.bind(address).ok()?;
+    let port = listener.local_addr().ok()?.port();
+    Some((listener, port))
 }
 
 // What a fetch of the file from this port comes to.
-fn file_from(
+fn file_from<R: Remote>(
     alloc: Global,
-    remote: &mut TcpRemote<HostRuntime>,
+    remote: &mut R,
     host: &str,
     port: u16,
-) -> Result<String, Fail> {
-    let came = fetched(alloc, remote, &plan(alloc, host, port)?)?;
+) -> Result<String, AllocError> {
+    let plan = plan(alloc, host, port)?;
+    if plan.limit > LONGEST_BODY {
+        return String::from_str(alloc, "limit");
+    }
+    let came = fetch(alloc, remote, &plan)?;
     outcome(alloc, &came)
+}
+
+// Whether it comes to this.
+fn comes_to<R: Remote>(alloc: Global, remote: &mut R, host: &str, port: u16, want: &str) -> bool {
+    match file_from(alloc, remote, host, port) {
+        Ok(text) => text.as_str() == want,
+        Err(_) => false,
+    }
 }
 
 // Reads a request of some kilobytes up to its empty line.
@@ -91,27 +85,23 @@ localhost << HTTP/1.1 200 OK|Content-Length: 3||abc << A => got abc
 127.0.0.1 << whole 65737 => too-large
 127.0.0.1 <<  => bad-answer 0";
 
-// What a row comes to.
-fn found<R: Threads>(threads: &R, rt: &HostRuntime, row: &'static str) -> Result<String, Fail> {
-    let (host, answers) = row.split_once(" << ").ok_or("no answers")?;
-    let listener = listen(rt)?;
-    let port = port_of(&listener)?;
+// Whether a row comes to what it says.
+fn is_so<R: Threads>(threads: &R, rt: &HostRuntime, row: &'static str) -> Option<bool> {
+    let (asked, want) = row.split_once(" => ")?;
+    let (host, answers) = asked.split_once(" << ")?;
+    let (listener, port) = listen(rt)?;
     let alloc = rt.alloc();
-    let server = thread::spawn(threads, move || serve(alloc, &listener, answers).is_some())?;
-    let text = file_from(rt.alloc(), &mut remote(rt)?, host, port)?;
-    if !server.join(threads) {
-        Err("not served")?
-    }
-    Ok(text)
+    let server = thread::spawn(threads, move || serve(alloc, &listener, answers).is_some()).ok()?;
+    let mut remote = TcpRemote::new(alloc, rt, SHORT);
+    let came = comes_to(alloc, &mut remote, host, port, want);
+    Some(server.join(threads) && came)
 }
 
 #[test]
-fn servers_are_fetched_from(rt: HostRuntime) -> Result<(), Fail> {
-    for line in TABLE.split('\n') {
-        let (row, want) = line.split_once(" => ").ok_or("no outcome")?;
-        assert_eq!(rt; found(&rt, &rt, row)?.as_str(), want, "{row}");
+fn servers_are_fetched_from(rt: HostRuntime) {
+    for row in TABLE.split('\n') {
+        assert!(rt; is_so(&rt, &rt, row) == Some(true), "{row}");
     }
-    Ok(())
 }
 
 // Writes until the peer takes no more, with a pause between two pieces.
@@ -128,86 +118,91 @@ fn write_on(rt: &HostRuntime, listener: &TcpListener, pause: u64) -> Option<()> 
     None
 }
 
+// Whether a fetch from a server that never ends comes to this, and leaves it.
+fn leaves<R: Threads>(threads: &R, rt: &HostRuntime, pause: u64, want: &str) -> Option<bool> {
+    let (listener, port) = listen(rt)?;
+    let own = rt.clone().ok()?;
+    let server = thread::spawn(threads, move || write_on(&own, &listener, pause).is_some()).ok()?;
+    let mut remote = TcpRemote::new(rt.alloc(), rt, SHORT);
+    let came = comes_to(rt.alloc(), &mut remote, "127.0.0.1", port, want);
+    drop(remote);
+    Some(server.join(threads) && came)
+}
+
 // A server that never ends: the file is too long, and where it is slow, the time is over.
 #[test]
-fn an_endless_answer_is_left(rt: HostRuntime) -> Result<(), Fail> {
-    for (pause, want) in [(0, "too-large"), (100, "fault")] {
-        let listener = listen(&rt)?;
-        let port = port_of(&listener)?;
-        let own = rt.clone()?;
-        let server = thread::spawn(&rt, move || write_on(&own, &listener, pause).is_some())?;
-        let mut remote = remote(&rt)?;
-        let text = file_from(rt.alloc(), &mut remote, "127.0.0.1", port)?;
-        assert_eq!(rt; text.as_str(), want);
-        drop(remote);
-        assert!(rt; server.join(&rt));
-    }
-    Ok(())
+fn an_endless_answer_is_left(rt: HostRuntime) {
+    assert!(rt; leaves(&rt, &rt, 0, "too-large") == Some(true));
+    assert!(rt; leaves(&rt, &rt, 100, "fault") == Some(true));
 }
 
 // How many connections a listener has, of which none was accepted.
-fn connections(listener: &TcpListener) -> Result<u64, Fail> {
-    listener.set_nonblocking(true)?;
-    let mut count: u64 = 0;
-    for _ in 0..100 {
-        if listener.accept().is_err() {
-            break;
-        }
-        count = count.saturating_add(1);
+fn connections(listener: &TcpListener) -> u64 {
+    if listener.set_nonblocking(true).is_err() {
+        return 100;
     }
-    Ok(count)
+    for count in 0..100 {
+        if listener.accept().is_err() {
+            return count;
+        }
+    }
+    100
 }
 
-fn exchange_fails(rt: &HostRuntime, remote: &mut TcpRemote<HostRuntime>, port: u16) -> bool {
+fn exchange_fails<R: Remote>(alloc: Global, remote: &mut R, port: u16) -> bool {
     matches!(
-        remote.exchange(
-            rt.alloc(),
-            "127.0.0.1",
-            port,
-            b"GET / HTTP/1.1\r\n\r\n",
-            100
-        ),
+        remote.exchange(alloc, "127.0.0.1", port, b"GET / HTTP/1.1\r\n\r\n", 100),
         Err(RemoteFault::Failed)
     )
+}
+
+fn both_fail<R: Remote>(alloc: Global, remote: &mut R, port: u16) -> bool {
+    exchange_fails(alloc, remote, port) && exchange_fails(alloc, remote, port)
+}
+
+// Whether an exchange fails once its time is over.
+fn fails_late<R: Remote>(rt: &HostRuntime, remote: &mut R, port: u16) -> bool {
+    let Ok(begin) = Instant::now(rt) else {
+        return false;
+    };
+    let failed = exchange_fails(rt.alloc(), remote, port);
+    match begin.elapsed(rt) {
+        Ok(waited) => failed && waited.as_millis() >= 350,
+        Err(_) => false,
+    }
+}
+
+// Whether that is so of a server that says nothing, with five faults in all.
+fn is_left_alone(rt: &HostRuntime) -> Option<bool> {
+    let (listener, port) = listen(rt)?;
+    let mut remote = TcpRemote::new(rt.alloc(), rt, SHORT);
+    let first = fails_late(rt, &mut remote, port);
+    let others = both_fail(rt.alloc(), &mut remote, port);
+    let asked = connections(&listener);
+    thread::sleep(rt, Duration::from_millis(1_600));
+    let later = both_fail(rt.alloc(), &mut remote, port);
+    let again = connections(&listener);
+    Some(first && others && asked == 2 && later && again == 1 && remote.faults() == 5)
 }
 
 // A server that says nothing is left after the time of a read. After two failures it is left alone for a while, each exchange
 // being a fault; then it is tried once.
 #[test]
-fn a_silent_server_is_left_alone(rt: HostRuntime) -> Result<(), Fail> {
-    let listener = listen(&rt)?;
-    let port = port_of(&listener)?;
-    let mut remote = remote(&rt)?;
-    let begin = Instant::now(&rt)?;
-    let first = exchange_fails(&rt, &mut remote, port);
-    let waited = begin.elapsed(&rt)?.as_millis();
-    assert!(rt; first && waited >= 350, "{waited}");
-    assert!(rt; exchange_fails(&rt, &mut remote, port));
-    assert!(rt; exchange_fails(&rt, &mut remote, port));
-    assert_eq!(rt; connections(&listener)?, 2);
-    thread::sleep(&rt, Duration::from_millis(1_600));
-    assert!(rt; exchange_fails(&rt, &mut remote, port));
-    assert!(rt; exchange_fails(&rt, &mut remote, port));
-    assert_eq!(rt; connections(&listener)?, 1);
-    assert_eq!(rt; remote.faults(), 5);
-    Ok(())
+fn a_silent_server_is_left_alone(rt: HostRuntime) {
+    assert!(rt; is_left_alone(&rt) == Some(true));
+}
+
+fn are_faults(rt: &HostRuntime) -> Option<bool> {
+    let (listener, port) = listen(rt)?;
+    drop(listener);
+    let mut remote = TcpRemote::new(rt.alloc(), rt, SHORT);
+    let first = comes_to(rt.alloc(), &mut remote, "127.0.0.1", port, "fault");
+    let second = comes_to(rt.alloc(), &mut remote, "nobody.invalid", port, "fault");
+    Some(first && second && remote.faults() == 2)
 }
 
 // A port on which nobody listens, and a name that nobody has.
 #[test]
-fn a_server_that_is_not_there_is_a_fault(rt: HostRuntime) -> Result<(), Fail> {
-    let listener = listen(&rt)?;
-    let port = port_of(&listener)?;
-    drop(listener);
-    let mut remote = remote(&rt)?;
-    assert_eq!(rt;
-        file_from(rt.alloc(), &mut remote, "127.0.0.1", port)?.as_str(),
-        "fault"
-    );
-    assert_eq!(rt;
-        file_from(rt.alloc(), &mut remote, "nobody.invalid", port)?.as_str(),
-        "fault"
-    );
-    assert_eq!(rt; remote.faults(), 2);
-    Ok(())
+fn a_server_that_is_not_there_is_a_fault(rt: HostRuntime) {
+    assert!(rt; are_faults(&rt) == Some(true));
 }

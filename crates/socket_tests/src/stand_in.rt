@@ -1,104 +1,74 @@
 //! A stand-in for the system's network: its listener fails as it is told, and its connections give the bytes that they are told.
 ghost use Rattle.std.specs.Prelude.{◌≤◌, length, IfOk};
 
-use outside::{Port, Sink, Source};
-use outside_pace::Running;
-use outside_sockets::{TcpLink, TcpPort};
-use std::alloc::{AllocError, Global};
 use std::cell::Cell;
 use std::fmt::Display;
 use std::io::{self, Eprint, ErrorKind, Read, Write};
-use std::net::{
-    Ipv4Addr, Net, OpenListener, OpenStream, Shutdown, SocketAddr, SocketAddrV4, TcpListener,
-    TcpStream,
-};
+use std::net::{Net, OpenListener, OpenStream, Shutdown, SocketAddr, TcpListener, TcpStream};
 use std::os::fd::{AsRawFd, RawFd};
-use std::sync::{Arc, Wait};
-use std::test::Fail;
 use std::time::{Clock, Duration};
 
-/// What the stand-in does, and what it was asked.
-#[derive(Drop)]
-pub struct Script {
-    /// The errors of the listener's first calls, 0 where one is to accept a connection, and how often it was called.
-    pub errors: Vec<i32>,
-    pub asked: Cell<usize>,
-    /// What the reads of a connection give, one after the other, and behind them nothing in time, or 7,000 bytes each; how many
-    /// pieces were given, how many bytes of the one that is next, and how many of those bytes.
-    pub pieces: Vec<Vec<u8>>,
-    pub given: Cell<usize>,
-    pub begun: Cell<usize>,
-    pub goes_on: Cell<bool>,
-    pub more: Cell<usize>,
-    /// Whether writes are taken.
-    pub takes: Cell<bool>,
-    /// What was asked of the system: that writes go out at once, how long a read and a write may wait, in milliseconds, and how
-    /// often the former was said.
-    pub at_once: Cell<bool>,
-    pub read: Cell<u128>,
-    pub write: Cell<u128>,
-    pub told: Cell<usize>,
-    /// How many milliseconds pass at each look at the clock, and how often it was looked at.
-    pub step: Cell<u64>,
-    pub looks: Cell<u64>,
-    /// How many lines were written to standard error.
-    pub lines: Cell<usize>,
+/// What the stand-in does from now on: whether reads give 7,000 bytes each behind the pieces, where else nothing comes in time;
+/// whether writes are taken; and how many milliseconds pass at each look at the clock.
+#[derive(Clone, Copy)]
+pub struct Does(pub bool, pub bool, pub u64);
+
+/// What it has done, and was told.
+#[derive(Clone, Copy, Default)]
+pub struct Done {
+    /// How often the listener and the clock were asked, and how many lines were written to standard error.
+    pub asked: usize,
+    pub looks: u64,
+    pub lines: usize,
+    /// How many pieces were given, how many bytes of the one that is next, and how many behind them.
+    pub given: usize,
+    pub begun: usize,
+    pub more: usize,
+    /// That writes go out at once, how long a read and a write may wait, in milliseconds, and how often the former was told.
+    pub at_once: bool,
+    pub read: u128,
+    pub write: u128,
+    pub told: usize,
 }
 
-impl Script {
-    /// A listener that fails with these errors first, and connections that give these pieces.
-    pub fn of(
-        alloc: Global,
-        errors: &[i32],
-        pieces: &[&[u8]],
-    ) -> Result<Arc<Script, Global>, AllocError> {
-        let mut owned = Vec::new(alloc);
-        for piece in pieces {
-            owned.push(Vec::from_slice(alloc, piece)?)?;
+/// The errors of the listener's first calls, 0 where one is to accept a connection; and what the reads of a connection give.
+#[derive(Drop)]
+pub struct Script<'a> {
+    errors: &'a [i32],
+    pieces: &'a [&'a [u8]],
+    pub does: Cell<Does>,
+    pub done: Cell<Done>,
+}
+
+impl<'a> Script<'a> {
+    pub fn of(errors: &'a [i32], pieces: &'a [&'a [u8]]) -> Script<'a> {
+        Script {
+            errors,
+            pieces,
+            does: Cell::new(Does(false, true, 0)),
+            done: Cell::new(Done::default()),
         }
-        let script = Script {
-            errors: Vec::from_slice(alloc, errors)?,
-            asked: Cell::new(0),
-            pieces: owned,
-            given: Cell::new(0),
-            begun: Cell::new(0),
-            goes_on: Cell::new(false),
-            more: Cell::new(0),
-            takes: Cell::new(true),
-            at_once: Cell::new(false),
-            read: Cell::new(0),
-            write: Cell::new(0),
-            told: Cell::new(0),
-            step: Cell::new(0),
-            looks: Cell::new(0),
-            lines: Cell::new(0),
-        };
-        Ok(Arc::new(alloc, script)?)
     }
 }
 
 /// A network by a script.
-#[derive(Drop)]
-pub struct StandIn {
-    pub rt: HostRuntime,
-    pub script: Arc<Script, Global>,
+#[derive(Clone, Copy)]
+pub struct StandIn<'a> {
+    pub rt: &'a HostRuntime,
+    pub script: &'a Script<'a>,
 }
 
-impl Clone for StandIn {
-    fn clone(&self) -> Result<StandIn, AllocError> {
-        Ok(StandIn {
-            rt: self.rt.clone()?,
-            script: Arc::try_clone(&self.script)?,
-        })
-    }
-}
-
-impl Clock for StandIn {
+impl Clock for StandIn<'_> {
     fn monotonic(&self) -> io::Result<Duration> {
-        let looks = self.script.looks.get();
-        self.script.looks.set(looks.saturating_add(1));
-        let more = Duration::from_millis(looks.saturating_mul(self.script.step.get()));
-        Ok(self.rt.monotonic()?.saturating_add(more))
+        let mut done = self.script.done.get();
+        let more = done.looks.saturating_mul(self.script.does.get().2);
+        done.looks = done.looks.saturating_add(1);
+        self.script.done.set(done);
+        Ok(
+            self.rt
+                .monotonic()?
+                .saturating_add(Duration::from_millis(more)),
+        )
     }
 
     fn since_1970(&self) -> io::Result<Duration> {
@@ -110,65 +80,67 @@ impl Clock for StandIn {
     }
 }
 
-impl Eprint for StandIn {
+impl Eprint for StandIn<'_> {
     fn eprint<D: Display + Drop>(&self, _value: D) -> io::Result<()> {
         Ok(())
     }
 
     fn eprintln<D: Display + Drop>(&self, _value: D) -> io::Result<()> {
-        self.script
-            .lines
-            .set(self.script.lines.get().saturating_add(1));
+        let mut done = self.script.done.get();
+        done.lines = done.lines.saturating_add(1);
+        self.script.done.set(done);
         Ok(())
     }
 }
 
-impl Net for StandIn {
-    type Stream = Scripted;
+impl<'a> Net for StandIn<'a> {
+    type Stream = Scripted<'a>;
 
-    type Listener = FailingListener;
+    type Listener = FailingListener<'a>;
 
-    fn bind(&self, address: SocketAddr) -> io::Result<FailingListener> {
+    fn bind(&self, address: SocketAddr) -> io::Result<FailingListener<'a>> {
+        let listener = self.rt.bind(address)?;
         Ok(FailingListener {
-            listener: self.rt.bind(address)?,
-            script: shared(&self.script)?,
+            listener,
+            script: self.script,
         })
     }
 
-    fn connect(&self, address: SocketAddr) -> io::Result<Scripted> {
+    fn connect(&self, address: SocketAddr) -> io::Result<Scripted<'a>> {
+        let stream = self.rt.connect(address)?;
         Ok(Scripted {
-            stream: self.rt.connect(address)?,
-            script: shared(&self.script)?,
+            stream,
+            script: self.script,
         })
     }
 }
 
 /// A listener that fails with some errors first.
 #[derive(Drop)]
-pub struct FailingListener {
+pub struct FailingListener<'a> {
     listener: TcpListener,
-    script: Arc<Script, Global>,
+    script: &'a Script<'a>,
 }
 
-impl AsRawFd for FailingListener {
+impl AsRawFd for FailingListener<'_> {
     fn as_raw_fd(&self) -> RawFd {
         self.listener.as_raw_fd()
     }
 }
 
-impl OpenListener for FailingListener {
-    type Stream = Scripted;
+impl<'a> OpenListener for FailingListener<'a> {
+    type Stream = Scripted<'a>;
 
-    fn accept(&self) -> io::Result<(Scripted, SocketAddr)> {
-        let asked = self.script.asked.get();
-        self.script.asked.set(asked.saturating_add(1));
-        if let Some(number) = self.script.errors.get(asked)
-            && *number != 0
-        {
-            return Err(io::Error::from_raw_os_error(*number));
+    fn accept(&self) -> io::Result<(Scripted<'a>, SocketAddr)> {
+        let mut done = self.script.done.get();
+        let number = self.script.errors.get(done.asked).copied().unwrap_or(0);
+        done.asked = done.asked.saturating_add(1);
+        self.script.done.set(done);
+        if number != 0 {
+            return Err(io::Error::from_raw_os_error(number));
         }
         let (stream, address) = self.listener.accept()?;
-        let script = shared(&self.script)?;
+        let script = self.script;
         Ok((Scripted { stream, script }, address))
     }
 
@@ -183,36 +155,26 @@ impl OpenListener for FailingListener {
 
 /// A connection whose reads give the script's pieces, whatever its peer sends.
 #[derive(Drop)]
-pub struct Scripted {
+pub struct Scripted<'a> {
     stream: TcpStream,
-    script: Arc<Script, Global>,
+    script: &'a Script<'a>,
 }
 
-// One more owner of a script.
-fn shared(script: &Arc<Script, Global>) -> io::Result<Arc<Script, Global>> {
-    Ok(Arc::try_clone(script)?)
-}
-
-fn milliseconds(longest: Option<Duration>) -> u128 {
-    match longest {
-        Some(time) => time.as_millis(),
-        None => 0,
-    }
-}
-
-impl AsRawFd for Scripted {
+impl AsRawFd for Scripted<'_> {
     fn as_raw_fd(&self) -> RawFd {
         self.stream.as_raw_fd()
     }
 }
 
-impl OpenStream for Scripted {
+impl OpenStream for Scripted<'_> {
     fn shutdown(&self, how: Shutdown) -> io::Result<()> {
         self.stream.shutdown(how)
     }
 
     fn set_nodelay(&self, nodelay: bool) -> io::Result<()> {
-        self.script.at_once.set(nodelay);
+        let mut done = self.script.done.get();
+        done.at_once = nodelay;
+        self.script.done.set(done);
         Ok(())
     }
 
@@ -225,15 +187,17 @@ impl OpenStream for Scripted {
     }
 
     fn set_read_timeout(&self, longest: Option<Duration>) -> io::Result<()> {
-        self.script
-            .told
-            .set(self.script.told.get().saturating_add(1));
-        self.script.read.set(milliseconds(longest));
+        let mut done = self.script.done.get();
+        done.told = done.told.saturating_add(1);
+        done.read = longest.map_or(0, |time| time.as_millis());
+        self.script.done.set(done);
         Ok(())
     }
 
     fn set_write_timeout(&self, longest: Option<Duration>) -> io::Result<()> {
-        self.script.write.set(milliseconds(longest));
+        let mut done = self.script.done.get();
+        done.write = longest.map_or(0, |time| time.as_millis());
+        self.script.done.set(done);
         Ok(())
     }
 }
@@ -242,38 +206,39 @@ impl OpenStream for Scripted {
 fn more(script: &Script, buffer: &mut [u8]) -> io::Result<usize>
     ensures { IfOk result (λ n. n ≤ length buffer.new) }
 {
-    if !script.goes_on.get() {
+    if !script.does.get().0 {
         return Err(io::Error::from(ErrorKind::WouldBlock));
     }
     let count = buffer.len().min(7_000);
-    script.more.set(script.more.get().saturating_add(count));
+    let mut done = script.done.get();
+    done.more = done.more.saturating_add(count);
+    script.done.set(done);
     Ok(count)
 }
 
-impl Read for Scripted {
+impl Read for Scripted<'_> {
     fn read(&mut self, buffer: &mut [u8]) -> io::Result<usize> {
-        let given = self.script.given.get();
-        let Some(piece) = self.script.pieces.get(given) else {
-            return more(&self.script, buffer);
+        let mut done = self.script.done.get();
+        let Some(piece) = self.script.pieces.get(done.given).copied() else {
+            return more(self.script, buffer);
         };
-        let (_, rest) = piece
-            .as_slice()
-            .split_at(self.script.begun.get().min(piece.len()));
+        let (_, rest) = piece.split_at(done.begun.min(piece.len()));
         let count = rest.len().min(buffer.len());
         buffer[..count].copy_from_slice(&rest[..count]);
         if count < rest.len() {
-            self.script.begun.set(piece.len() - rest.len() + count);
+            done.begun = piece.len() - rest.len() + count;
         } else {
-            self.script.given.set(given.saturating_add(1));
-            self.script.begun.set(0);
+            done.given = done.given.saturating_add(1);
+            done.begun = 0;
         }
+        self.script.done.set(done);
         Ok(count)
     }
 }
 
-impl Write for Scripted {
+impl Write for Scripted<'_> {
     fn write(&mut self, piece: &[u8]) -> io::Result<usize> {
-        if self.script.takes.get() {
+        if self.script.does.get().1 {
             Ok(piece.len())
         } else {
             Err(io::Error::from(ErrorKind::WouldBlock))
@@ -283,86 +248,4 @@ impl Write for Scripted {
     fn flush(&mut self) -> io::Result<()> {
         Ok(())
     }
-}
-
-pub type Link = TcpLink<Scripted, StandIn>;
-
-/// A client of a port by a script.
-pub fn client<W: Wait + Drop>(
-    rt: &HostRuntime,
-    port: &TcpPort<StandIn, W>,
-) -> Result<TcpStream, Fail> {
-    let number = port.number().ok_or("no port")?;
-    let address = SocketAddr::V4(SocketAddrV4::new(Ipv4Addr::LOCALHOST, number));
-    Ok(rt.connect(address)?)
-}
-
-/// A port by a script, with a client that has sent a byte, so that the system tells of its connection.
-#[derive(Drop)]
-pub struct Trial<W: Wait + Drop> {
-    pub port: TcpPort<StandIn, W>,
-    pub running: Running,
-    pub peer: TcpStream,
-}
-
-impl<W: Wait + Drop> Trial<W> {
-    pub fn new(rt: &HostRuntime, waits: W, script: &Arc<Script, Global>) -> Result<Trial<W>, Fail> {
-        let net = StandIn {
-            rt: rt.clone()?,
-            script: Arc::try_clone(script)?,
-        };
-        let running = Running::new(rt.alloc(), 1)?;
-        let port = TcpPort::bind(net, waits, rt.alloc(), 0, running.share()?);
-        let mut peer = client(rt, &port)?;
-        peer.write_all(b"x")?;
-        Ok(Trial {
-            port,
-            running,
-            peer,
-        })
-    }
-
-    /// The connection of the client.
-    pub fn link(&mut self) -> Result<Link, Fail> {
-        let link = self.port.next().map_err(|_| "no connection")?;
-        Ok(link.ok_or("no connection")?)
-    }
-}
-
-/// Whether a read gives these bytes.
-pub fn gives(link: &mut Link, want: &[u8]) -> bool {
-    let mut buffer = [0; 256];
-    match link.read(&mut buffer) {
-        Ok(count) => count == want.len() && buffer.starts_with(want),
-        Err(_) => false,
-    }
-}
-
-/// Whether a few reads give these bytes, and none of those behind them.
-pub fn gives_in_parts(link: &mut Link, want: &[u8]) -> bool {
-    let mut buffer = [0; 256];
-    let mut got = 0;
-    for _ in 0..4 {
-        if got >= want.len() {
-            break;
-        }
-        let Ok(count) = link.read(&mut buffer) else {
-            return false;
-        };
-        if !want[got..].starts_with(&buffer[..count]) {
-            return false;
-        }
-        got = got.saturating_add(count).min(want.len());
-    }
-    got == want.len()
-}
-
-/// Whether a read fails.
-pub fn fails(link: &mut Link) -> bool {
-    link.read(&mut [0; 128]).is_err()
-}
-
-/// Whether a piece is taken whole.
-pub fn takes(link: &mut Link, piece: &[u8]) -> bool {
-    link.write(piece) == Ok(piece.len())
 }

@@ -1,22 +1,26 @@
+use crate::courses::moment;
 use outside::Clock;
 use outside_pace::{Pace, Running, SleepingPace};
 use outside_system::SystemClock;
 use std::test::Fail;
-use std::time::Instant;
 
-// A sleeping timer waits as long as a port is running.
+// Whether a timer waits as long as one of two ports is running.
+fn is_held<P: Pace>(rt: &HostRuntime, pace: &mut P, running: &Running) -> bool {
+    let begin = moment(rt);
+    let first = pace.pause(1);
+    let waited = moment(rt).saturating_sub(begin);
+    running.end_one();
+    let second = pace.pause(0);
+    running.end_one();
+    let over = !pace.pause(3_600);
+    first && waited >= 900 && second && over && moment(rt).saturating_sub(begin) < 60_000
+}
+
 #[test]
 fn sleeps_while_a_port_runs(rt: HostRuntime) -> Result<(), Fail> {
     let running = Running::new(rt.alloc(), 2)?;
-    let mut pace = SleepingPace::new(rt.clone()?, running.share()?);
-    let begin = Instant::now(&rt)?;
-    assert!(rt; pace.pause(1));
-    assert!(rt; begin.elapsed(&rt)?.as_millis() >= 900);
-    running.end_one();
-    assert!(rt; pace.pause(0));
-    running.end_one();
-    assert!(rt; !pace.pause(3_600));
-    assert!(rt; begin.elapsed(&rt)?.as_secs() < 60);
+    let mut pace = SleepingPace::new(&rt, running.share()?);
+    assert!(rt; is_held(&rt, &mut pace, &running));
     Ok(())
 }
 

@@ -1,17 +1,11 @@
 //! How long the calls of a connection may wait, seen from a stand-in for the system's connection.
 
-use crate::stand_in::{Link, Script, Trial, fails, gives, gives_in_parts, takes};
-use outside::Port;
-use std::io::{self, Read, Write};
-use std::net::{Ipv4Addr, Net, SocketAddr, SocketAddrV4, TcpStream};
+use crate::courses::{ANSWER, Act, GET, GOES_ON, Step, TELLS, goes_by};
+use crate::stand_in::{Does, Script};
 use std::sync::Wait;
-use std::test::Fail;
-use std::thread::{self, Threads};
-use std::time::Duration;
+use std::thread::Threads;
 
 const HEAD: &[u8] = b"PUT /x HTTP/1.1\r\nContent-Length: 3\r\nExpect: 100-continue\r\n\r\n";
-
-const GET: &[u8] = b"GET /x HTTP/1.1\r\n\r\n";
 
 // A request, then one whose body has 12 bytes, and a third. One field's name begins as another's, one field's value
 // is as another field, and a line of the second head is a CR and a letter.
@@ -25,244 +19,152 @@ const SECOND: &[u8] =
 
 const THIRD: &[u8] = b"GET / HTTP/1.1\r\n\r\n";
 
-const INTERIM: &[u8] = b"HTTP/1.1 100 Continue\r\n\r\n";
+// A head comes, of a PUT or of a GET, or the end, within the time between requests.
+const PUTS: Step = Step::Timed(HEAD, 10);
 
-const ANSWER: &[u8] = b"HTTP/1.1 201 Created\r\n\r\n";
+const GETS: Step = Step::Timed(GET, 10);
 
-/// A call of a connection and what it gives, with the milliseconds that the system was told it may take.
-#[derive(Clone, Copy)]
-enum Step {
-    // a read gives these bytes
-    Gives(&'static [u8], u128),
-    // a read gives the end
-    Ends(u128),
-    // a read fails
-    Fails(u128),
-    // bytes are written
-    Writes(&'static [u8]),
+const ENDS: Step = Step::Timed(b"", 10);
+
+// Whether the connection of one client, which gives these pieces, goes through these calls, and that comes of it.
+fn goes_so<W: Threads + Wait>(rt: &HostRuntime, waits: &W, pieces: &[&[u8]], acts: &[Act]) -> bool {
+    let script = Script::of(&[], pieces);
+    goes_by(rt, waits, &script, acts)
 }
 
-// Whether a call gives what it should.
-fn is_done(script: &Script, link: &mut Link, step: Step) -> bool {
-    match step {
-        Step::Gives(want, longest) => gives(link, want) && script.read.get() == longest,
-        Step::Ends(longest) => gives(link, b"") && script.read.get() == longest,
-        Step::Fails(longest) => fails(link) && script.read.get() == longest,
-        Step::Writes(bytes) => takes(link, bytes),
-    }
+fn ran(steps: &'static [Step]) -> [Act; 2] {
+    [Act::Client(b"x"), Act::Runs(steps)]
 }
 
-// The first of these calls, of a connection that gives these pieces, that gives something else.
-fn first_other<W: Wait + Drop>(
-    rt: &HostRuntime,
-    waits: W,
-    pieces: &[&[u8]],
-    steps: &[Step],
-) -> Result<Option<usize>, Fail> {
-    let script = Script::of(rt.alloc(), &[], pieces)?;
-    let mut trial = Trial::new(rt, waits, &script)?;
-    let mut link = trial.link()?;
-    for (n, step) in steps.iter().enumerate() {
-        if !is_done(&script, &mut link, *step) {
-            return Ok(Some(n));
-        }
-    }
-    Ok(None)
-}
-
-static OF_EACH_CALL: [Step; 7] = [
-    Step::Gives(HEAD, 10),
-    Step::Writes(INTERIM),
-    Step::Gives(b"abc", 1_000),
-    Step::Writes(ANSWER),
-    Step::Gives(GET, 10),
-    Step::Writes(ANSWER),
-    Step::Ends(10),
+static EACH: [Step; 7] = [
+    PUTS,
+    GOES_ON,
+    Step::Timed(b"abc", 1_000),
+    TELLS,
+    GETS,
+    TELLS,
+    ENDS,
 ];
 
 #[test]
-fn each_call_has_its_time(rt: HostRuntime) -> Result<(), Fail> {
-    let pieces = [HEAD, b"abc", GET];
-    assert_eq!(rt;
-        first_other(&rt, rt.clone()?, &pieces, &OF_EACH_CALL)?,
-        None
-    );
-    Ok(())
+fn each_call_has_its_time(rt: HostRuntime) {
+    assert!(rt; goes_so(&rt, &rt, &[HEAD, b"abc", GET], &ran(&EACH)));
 }
 
-static OF_A_MISSING_BODY: [Step; 3] = [
-    Step::Gives(HEAD, 10),
-    Step::Writes(INTERIM),
-    Step::Fails(1_000),
-];
+static WITHOUT_BODY: [Step; 3] = [PUTS, GOES_ON, Step::Fails(1_000)];
 
 // A body that doesn't come is a fault.
 #[test]
-fn a_body_that_does_not_come_is_a_fault(rt: HostRuntime) -> Result<(), Fail> {
-    let steps = &OF_A_MISSING_BODY;
-    assert_eq!(rt; first_other(&rt, rt.clone()?, &[HEAD], steps)?, None);
-    Ok(())
+fn a_body_that_does_not_come_is_a_fault(rt: HostRuntime) {
+    assert!(rt; goes_so(&rt, &rt, &[HEAD], &ran(&WITHOUT_BODY)));
 }
 
-static OF_A_PART: [Step; 3] = [Step::Gives(GET, 10), Step::Writes(ANSWER), Step::Ends(10)];
+const ONE: [Step; 3] = [GETS, TELLS, ENDS];
 
 // The front of a head behind an answer is not given, and stays for the next run.
 #[test]
-fn a_part_of_a_head_is_left(rt: HostRuntime) -> Result<(), Fail> {
-    let pieces = [GET, b"GET / HT"];
-    assert_eq!(rt; first_other(&rt, rt.clone()?, &pieces, &OF_A_PART)?, None);
-    Ok(())
+fn a_part_of_a_head_is_left(rt: HostRuntime) {
+    assert!(rt; goes_so(&rt, &rt, &[GET, b"GET / HT"], &ran(&ONE)));
 }
 
-// Whether each of these requests is given alone, and is answered.
-fn are_given(link: &mut Link, requests: &[&[u8]]) -> bool {
-    for request in requests {
-        if !gives_in_parts(link, request) || !takes(link, ANSWER) {
-            return false;
-        }
-    }
-    true
-}
+static APART: [Step; 7] = [
+    Step::Parts(FIRST),
+    TELLS,
+    Step::Parts(SECOND),
+    TELLS,
+    Step::Parts(THIRD),
+    TELLS,
+    ENDS,
+];
 
 // Whether each request of these bytes is given alone, which come in two pieces.
-fn are_told_apart<W: Wait + Drop>(rt: &HostRuntime, waits: W, cut: usize) -> Result<bool, Fail> {
+fn are_told_apart<W: Threads + Wait>(rt: &HostRuntime, waits: &W, cut: usize) -> bool {
     let (front, rest) = MANY.split_at(cut.min(MANY.len()));
-    let pieces = [front, rest];
-    let script = Script::of(rt.alloc(), &[], &pieces)?;
-    let mut trial = Trial::new(rt, waits, &script)?;
-    let mut link = trial.link()?;
-    Ok(are_given(&mut link, &[FIRST, SECOND, THIRD]) && gives(&mut link, b""))
+    goes_so(rt, waits, &[front, rest], &ran(&APART))
 }
 
 // Wherever what a client sends is cut, a read gives bytes of one request.
 #[test]
-fn requests_are_told_apart(rt: HostRuntime) -> Result<(), Fail> {
+fn requests_are_told_apart(rt: HostRuntime) {
     for cut in 1..MANY.len() {
-        assert!(rt; are_told_apart(&rt, rt.clone()?, cut)?, "{cut}");
+        assert!(rt; are_told_apart(&rt, &rt, cut), "{cut}");
     }
-    Ok(())
 }
 
-static OF_A_FILE: [Step; 7] = [
-    Step::Gives(GET, 10),
-    Step::Writes(ANSWER),
-    Step::Writes(INTERIM),
-    Step::Gives(GET, 10),
-    Step::Writes(ANSWER),
-    Step::Writes(INTERIM),
-    Step::Ends(10),
-];
+static OF_A_FILE: [Step; 7] = [GETS, TELLS, GOES_ON, GETS, TELLS, GOES_ON, ENDS];
 
 // Bytes of a file are no answer, whatever they look like; and the end, once it was given, stays.
 #[test]
-fn a_file_may_look_like_an_answer(rt: HostRuntime) -> Result<(), Fail> {
-    let pieces = [GET, GET];
-    assert_eq!(rt; first_other(&rt, rt.clone()?, &pieces, &OF_A_FILE)?, None);
-    Ok(())
+fn a_file_may_look_like_an_answer(rt: HostRuntime) {
+    assert!(rt; goes_so(&rt, &rt, &[GET, GET], &ran(&OF_A_FILE)));
 }
 
+static THREE: [Step; 6] = [GETS, TELLS, GETS, TELLS, GETS, TELLS];
+
 // What the system was told of a connection behind a number of requests.
-fn told<W: Wait + Drop>(rt: &HostRuntime, waits: W) -> Result<bool, Fail> {
-    let script = Script::of(rt.alloc(), &[], &[GET, GET, GET])?;
-    let mut trial = Trial::new(rt, waits, &script)?;
-    let mut link = trial.link()?;
-    let given = are_given(&mut link, &[GET, GET, GET]);
-    let waits = script.read.get() == 10 && script.write.get() == 1_000;
-    Ok(given && waits && script.at_once.get() && script.told.get() == 1 && script.lines.get() == 1)
+fn is_told_once<W: Threads + Wait>(rt: &HostRuntime, waits: &W) -> bool {
+    let script = Script::of(&[], &[GET, GET, GET]);
+    let ran = goes_by(rt, waits, &script, &ran(&THREE));
+    let done = script.done.get();
+    ran && done.at_once && done.write == 1_000 && done.told == 1 && done.lines == 1
 }
 
 // Writes go out at once, the system is told once how long calls may wait, and one line says where the port listens.
 #[test]
-fn the_system_is_told_once(rt: HostRuntime) -> Result<(), Fail> {
-    assert!(rt; told(&rt, rt.clone()?)?);
-    Ok(())
+fn the_system_is_told_once(rt: HostRuntime) {
+    assert!(rt; is_told_once(&rt, &rt));
 }
 
-// Whether a call of a connection fails whose peer moves a byte, or takes nothing, in each step of the clock.
-fn is_given_up<W: Wait + Drop>(
-    rt: &HostRuntime,
-    waits: W,
-    step: u64,
-    takes_bytes: bool,
-) -> Result<bool, Fail> {
-    let script = Script::of(rt.alloc(), &[], &[HEAD, b"a", b"b", b"c"])?;
-    let mut trial = Trial::new(rt, waits, &script)?;
-    let mut link = trial.link()?;
-    if !gives(&mut link, HEAD) {
-        Err("no head")?
-    }
-    script.step.set(step);
-    script.takes.set(takes_bytes);
-    if takes_bytes {
-        return Ok(!gives(&mut link, b"a") || !gives(&mut link, b"b"));
-    }
-    Ok(!takes(&mut link, ANSWER))
-}
+static IN_SIX_SECONDS: [Step; 3] = [
+    PUTS,
+    Step::Does(Does(false, true, 6_000)),
+    Step::OneFails(b"a", b"b"),
+];
+
+static IN_FOUR_SECONDS: [Step; 4] = [
+    PUTS,
+    Step::Does(Does(false, true, 4_000)),
+    Step::Gives(b"a"),
+    Step::Gives(b"b"),
+];
+
+static REFUSED: [Step; 3] = [
+    PUTS,
+    Step::Does(Does(false, false, 1_000)),
+    Step::Writes(ANSWER, false),
+];
 
 // A byte in each 6 seconds is too little behind the first 10, and a byte in each 4 seconds is not yet. A write that moves nothing
 // fails.
 #[test]
-fn a_slow_peer_is_given_up(rt: HostRuntime) -> Result<(), Fail> {
-    assert!(rt; is_given_up(&rt, rt.clone()?, 6_000, true)?);
-    assert!(rt; !is_given_up(&rt, rt.clone()?, 4_000, true)?);
-    assert!(rt; is_given_up(&rt, rt.clone()?, 1_000, false)?);
-    Ok(())
+fn a_slow_peer_is_given_up(rt: HostRuntime) {
+    let pieces = [HEAD, b"a", b"b", b"c"];
+    assert!(rt; goes_so(&rt, &rt, &pieces, &ran(&IN_SIX_SECONDS)));
+    assert!(rt; goes_so(&rt, &rt, &pieces, &ran(&IN_FOUR_SECONDS)));
+    assert!(rt; goes_so(&rt, &rt, &pieces, &ran(&REFUSED)));
 }
 
-// Whether a connection is kept behind its run: whose request has an answer, or none.
-fn is_kept<W: Wait + Drop>(rt: &HostRuntime, waits: W, answers: bool) -> Result<bool, Fail> {
-    let script = Script::of(rt.alloc(), &[], &[GET])?;
-    let mut trial = Trial::new(rt, waits, &script)?;
-    let mut link = trial.link()?;
-    let given = gives(&mut link, GET) && (!answers || takes(&mut link, ANSWER));
-    let ended = gives(&mut link, b"");
-    trial.port.back(link);
-    let mut peer = trial.peer;
-    peer.set_read_timeout(Some(Duration::from_millis(300)))?;
-    let closed = matches!(peer.read(&mut [0; 1]), Ok(0));
-    Ok(given && ended && !closed)
-}
+static ANSWERED: [Act; 3] = [Act::Client(b"x"), Act::Runs(&ONE), Act::Shows(".")];
+
+static UNANSWERED: [Act; 3] = [Act::Client(b"x"), Act::Runs(&[GETS, ENDS]), Act::Shows("x")];
 
 // A connection whose request was not answered does not go on: what would come next might be the rest of that request.
 #[test]
-fn an_unanswered_one_is_closed(rt: HostRuntime) -> Result<(), Fail> {
-    assert!(rt; is_kept(&rt, rt.clone()?, true)?);
-    assert!(rt; !is_kept(&rt, rt.clone()?, false)?);
-    Ok(())
+fn an_unanswered_one_is_closed(rt: HostRuntime) {
+    assert!(rt; goes_so(&rt, &rt, &[GET], &ANSWERED));
+    assert!(rt; goes_so(&rt, &rt, &[GET], &UNANSWERED));
 }
 
-// How many bytes are dropped of a client that sends on and on behind a refusal. Behind them another one is listened to.
-fn dropped<W: Wait + Drop>(
-    threads: &impl Threads,
-    rt: &HostRuntime,
-    waits: W,
-) -> Result<usize, Fail> {
-    let script = Script::of(rt.alloc(), &[], &[HEAD])?;
-    let mut trial = Trial::new(rt, waits, &script)?;
-    let mut link = trial.link()?;
-    if !gives(&mut link, HEAD) || !takes(&mut link, ANSWER) {
-        Err("not refused")?
-    }
-    script.goes_on.set(true);
-    trial.port.back(link);
-    let number = trial.port.number().ok_or("no port")?;
-    let address = SocketAddr::V4(SocketAddrV4::new(Ipv4Addr::LOCALHOST, number));
-    let own = rt.clone()?;
-    let later = thread::spawn(threads, move || {
-        thread::sleep(&own, Duration::from_millis(1_200));
-        let mut other = own.connect(address)?;
-        other.write_all(b"x")?;
-        Ok::<TcpStream, io::Error>(other)
-    })?;
-    let _link = trial.link()?;
-    let _other = later.join(threads)?;
-    Ok(script.more.get())
-}
+// A client that sends on and on behind a refusal. Behind it another one is listened to.
+static DROPPED: [Act; 4] = [
+    Act::Client(b"x"),
+    Act::Runs(&[PUTS, TELLS, Step::Does(Does(true, true, 0))]),
+    Act::Client(b""),
+    Act::Meanwhile(1_200, b"x", &[Step::Gave(16_777_216, 16_900_000)]),
+];
 
 // Up to 16 MiB are dropped, however small the pieces are that come.
 #[test]
-fn what_a_client_still_sends_is_dropped(rt: HostRuntime) -> Result<(), Fail> {
-    let found = dropped(&rt, &rt, rt.clone()?)?;
-    assert!(rt; found >= 16_777_216 && found < 16_900_000, "{found}");
-    Ok(())
+fn what_a_client_still_sends_is_dropped(rt: HostRuntime) {
+    assert!(rt; goes_so(&rt, &rt, &[HEAD], &DROPPED));
 }
