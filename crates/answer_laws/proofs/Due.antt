@@ -7,38 +7,24 @@ use Rattle.repo_model.specs.State.{State}
 use Rattle.repo_routes.specs.Intent.{Judged}
 use Rattle.repo_routes.specs.Judge.{judge}
 use Rattle.repo_routes.specs.declared.judging.Refused.{Refused}
-use Rattle.repo_course.specs.Course.{Close, Course}
-use Rattle.repo_course.specs.Serving.{Opens, clean, torn, failed, refused, unread_head, starved, served, Outside, ServesStream, RequestTurn}
+use Rattle.repo_course.specs.Course.{Course}
+use Rattle.repo_course.specs.Serving.{Opens, clean, served, Outside, ServesStream, RequestTurn}
 use Rattle.repo_course.specs.declared.outcomes.End.{End}
-use Rattle.course_laws.specs.Duties.{Duty, Fulfils, Rounds, duty_of}
+use Rattle.course_laws.specs.Duties.{Duty, Fulfils, duty_of}
 use Rattle.course_laws.proofs.Counts.{opens-grew}
 use Rattle.course_laws.proofs.Kept.{duty_at, opens-keeps}
 use Rattle.closed_laws.specs.Streams.{AreTurns, Seen}
-use Rattle.answer_laws.specs.Why.{AllAnsweredByCause, AllCaused, IsAnsweredByCause, NoneFell, Why, by_head, by_reply, by_deed, entries_in, owed}
+use Rattle.answer_laws.specs.Why.{AllAnsweredByCause, AllCaused, IsAnsweredByCause, entries_in, owed}
 use Rattle.answer_laws.specs.Marked.{Mark, entries_of, own_of}
-use Rattle.answer_laws.specs.Steps.{Step}
 use Rattle.answer_laws.proofs.Given.{AllAskWith, FitsOne, follows-ask}
 use Rattle.answer_laws.proofs.Placed.{all-caused, own-fit}
-use Rattle.answer_laws.proofs.Walked.{fell-then, walked}
-
-module _ {X : Type 0} (P : X → Type 0) where
-  all-cut : (xs ys : List X) → AllByRecursion P (xs ++ ys) → AllByRecursion P xs
-  all-cut [] ys all = tt
-  all-cut (x ∷ xs) ys all = (all.0, all-cut xs ys all.1)
-
-  all-behind : (xs ys : List X) → AllByRecursion P (xs ++ ys) → AllByRecursion P ys
-  all-behind [] ys all = all
-  all-behind (x ∷ xs) ys all = all-behind xs ys all.1
+use Rattle.answer_laws.proofs.Walked.{walked}
+use Rattle.repo_laws.proofs.HoldingLists.{all-split}
 
 module _ (settings : Settings) where
   owed-is : (last : Bool) (old mid : Outside) (c : Course) (o : Opens settings last old mid c) → duty_at o ≡ owed settings o
   owed-is last old mid c (clean begins still is) = refl
-  owed-is last old mid c (torn begins still is) = refl
-  owed-is last old mid c (failed faults rose still is) = refl
-  owed-is last old mid c (refused fault begins still is) = refl
-  owed-is last old mid c (unread_head begins still is) = refl
-  owed-is last old mid c (starved head rest begins uses is) = refl
-  owed-is last old mid c (served head rest begins uses is) = refl
+  owed-is last old mid c _ = refl
 
   keeps : (last : Bool) (old mid : Outside) (c : Course) (o : Opens settings last old mid c) → Fulfils (owed settings o) c
   keeps last old mid c o = subst (λ (duty : Duty). Fulfils duty c) (owed-is last old mid c o) (opens-keeps settings last old mid c o)
@@ -48,44 +34,19 @@ module _ (settings : Settings) where
   none-first last (Err cause) = refl
 
   none-held : (last : Bool) (old mid : Outside) (c : Course) (o : Opens settings last old mid c) → (owed settings o).stand.draft ≡ None
-  none-held last old mid c (clean begins still is) = refl
-  none-held last old mid c (torn begins still is) = refl
-  none-held last old mid c (failed faults rose still is) = refl
-  none-held last old mid c (refused fault begins still is) = refl
-  none-held last old mid c (unread_head begins still is) = refl
-  none-held last old mid c (starved head rest begins uses is) = refl
   none-held last old mid c (served head rest begins uses is) = none-first last (judge settings head)
+  none-held last old mid c _ = refl
 
   module _ (tells : Type 0) where
-    -- the counts of a deed lie behind those before the turn's head too
-    since-head : (by_text : List ℕ → Option Close) (r : Rounds) (due : Option Close) (steps : List Step) (old mid new : Outside) (close : Close) → NoneFell old mid
-        → Why tells by_text r due steps mid new close → Why tells by_text r due steps old new close
-    since-head by_text r due steps old mid new close grew (by_head is quiet) = by_head is quiet
-    since-head by_text r due steps old mid new close grew (by_reply before behind e parts free is quiet later) = by_reply before behind e parts free is quiet later
-    since-head by_text r due steps old mid new close grew (by_deed before behind deed outcome mine from seen parts free does_so first rest is quiet later) =
-        by_deed before behind deed outcome mine from seen parts free does_so (fell-then old mid from grew first) rest is quiet later
-
     turn-ends : (last : Bool) (entries : List Entry) (old new : Outside) (stop : Option End) → RequestTurn settings tells last entries old new stop
         → IsAnsweredByCause settings tells last entries old new stop
     turn-ends last entries old new stop t =
         let duty = owed settings t.2 in
-        let grew = opens-grew settings last old t.1 t.0 t.2 in
-        let walk = walked tells duty t.0 duty.most duty.stand (keeps last old t.1 t.0 t.2) entries t.1 new stop t.3 in
         record {
           course = t.0;
           mid = t.1;
           opens = t.2;
-          steps = walk.steps;
-          finish = walk.finish;
-          stand = walk.stand;
-          to = walk.to;
-          leads = walk.leads;
-          entries_are = walk.entries_are;
-          holds = walk.holds;
-          close = walk.close;
-          due = walk.due;
-          why = since-head duty.by_text duty.stand.rounds duty.stand.due walk.steps old t.1 new walk.close (record { reads = grew.reads; writes = grew.writes; blobs = grew.blobs; remote = grew.remote }) walk.why;
-          ends = walk.ends;
+          walked = walked tells duty t.0 duty.most duty.stand (keeps last old t.1 t.0 t.2) entries old t.1 new stop (opens-grew settings last old t.1 t.0 t.2) t.3;
         }
 
     module _ (start : State) (history : List Mark) (legal : Legal settings start (entries_of history)) where
@@ -106,8 +67,8 @@ module _ (settings : Settings) where
           → RequestTurn settings tells last entries old new stop
           → IsAnsweredByCause settings tells last entries old new stop × AllCaused settings tells start history past [] entries rest
       turn-first last past entries rest old new stop own t =
-          let fit = all-cut (FitsOne settings) entries rest (all-behind (FitsOne settings) past (entries ++ rest)
-          (subst (AllByRecursion (FitsOne settings)) own (own-fit settings history start legal))) in (
+          let fit = (all-split (FitsOne settings) entries rest (all-split (FitsOne settings) past (entries ++ rest)
+          (subst (AllByRecursion (FitsOne settings)) own (own-fit settings history start legal))).1).0 in (
             turn-ends last entries old new stop t,
             all-caused settings start history legal tells past [] entries rest
                 (own ∙ ap (λ (l : List Entry). l ++ (entries ++ rest)) (sym (append-nil past))) (turn-asks last entries old new stop fit t),

@@ -1,41 +1,27 @@
 -- Where a turn asks with a draft, an earlier entry of it gave the draft, and none between the two has spent it.
-use Rattle.std.proofs.Common.{◌≡◌, ◌⊎◌, inl, inr, ℕ, zero, suc, ◌==◌, ◌&&◌, not, Bool, true, false, List, [], ◌∷◌, ◌++◌, Option, Some, None, refl, sym, subst, ap, ◌∙◌, append_assoc, IsTrue}
+use Rattle.std.proofs.Common.{◌≡◌, ◌⊎◌, inl, inr, ℕ, zero, suc, ◌==◌, ◌&&◌, not, Bool, true, false, List, [], ◌∷◌, ◌++◌, Option, Some, None, refl, sym, subst, ap, ◌∙◌, append_assoc, IsTrue, append-nil}
 use Rattle.std.specs.Prelude.{if◌then◌else◌, IsSome}
 use Rattle.fetch_plan.specs.declared.Plan.{Plan}
 use Rattle.std.specs.List.{AllByRecursion}
-use Rattle.std.proofs.lemmas.Bool.{false≢true}
-use Rattle.std.proofs.lemmas.Bool.Decides.{eqb_tells}
+use Rattle.std.proofs.lemmas.Bool.{false≢true, eq-eqb}
 use Rattle.repo_model.specs.Command.{Command, look, may_put, put, stage, drop_draft, unlist, collect, land}
 use Rattle.repo_model.specs.Effect.{Effect}
 use Rattle.repo_model.specs.Fetched.{Landing}
 use Rattle.repo_model.specs.History.{Entry, Fits, IsReply, due as due_reply, wants_memory, failed}
-use Rattle.repo_model.specs.Reply.{Reply, draft, fetches, landed, no_draft, no_memory, store_fault, created, same, relisted, taken, staged, session_full, no_session, is_free, can_get, is_put_reply, is_stage_reply}
+use Rattle.repo_model.specs.Reply.{Reply, draft, fetches, landed, no_draft, no_memory, store_fault, same, is_free, can_get, is_put_reply, is_stage_reply}
 use Rattle.repo_model.specs.Settings.{Settings}
 use Rattle.repo_model.specs.State.{State}
 use Rattle.repo_model.specs.Turn.{is_drawn, lands, says as turn_says, turn}
 use Rattle.repo_laws.proofs.Answered.{reply-can_get}
 use Rattle.repo_laws.specs.Replies.{GivesDraft, is_under, leaves_drafts, spends, uses_draft}
+use Rattle.repo_laws.proofs.HoldingLists.{all-join, all-split}
 use Rattle.repo_course.specs.Course.{Close, Course, asks, does, says, stops}
 use Rattle.repo_course.specs.declared.manner.Manner.{Manner}
 use Rattle.repo_course.specs.declared.outcomes.End.{End}
 use Rattle.repo_course.specs.Serving.{Follows, Outside}
 use Rattle.course_laws.specs.Duties.{Keeps, MayAsk, Stand, draft_after, left_by, spends_draft, stand_after, stand_done}
+use Rattle.answer_laws.specs.Why.{AsksWith, HasGiven}
 use Rattle.course_laws.proofs.Passes.{ArePass, IsPassCommand, deed-asks}
-
--- one of these entries gave the draft, and none behind it has spent it
-pub record HasGiven (entries : List Entry) (n : ℕ) : Type 0 where
-  pub first : List Entry
-  pub given : Entry
-  pub mine : List Entry
-  pub parts : entries ≡ first ++ given ∷ mine
-  pub draft_is : GivesDraft n given.reply
-  pub unspent : AllByRecursion (λ (x : Entry). spends n x ≡ false) mine
-
--- an entry behind these asks with such a draft
-pub record AsksWith (before : List Entry) (e : Entry) : Type 0 where
-  pub number : ℕ
-  pub asks : IsTrue (uses_draft number e.command)
-  pub has : HasGiven before number
 
 -- so does each that is answered that there is none
 abbrev pub AllAskWith : List Entry → List Entry → Type 0
@@ -61,13 +47,6 @@ module _ (settings : Settings) where
   no-draft-by e fits is =
       subst (λ (r : Reply). IsTrue (can_get e.command r)) is (reply-can_get settings fits.0 e fits.1 (subst (λ (r : Reply). is_free r ≡ false) (sym is) refl))
 
-  is-itself : (n : ℕ) → (n == n) ≡ true
-  is-itself n = pick (eqb_tells n n)
-    where
-      pick : ((n == n) ≡ true × (n ≡ n)) ⊎ ((n == n) ≡ false × ((n ≡ n) → ⊥)) → (n == n) ≡ true
-      pick (inl is) = is.0
-      pick (inr is) = absurd (is.1 refl)
-
   -- what lands under no draft is not told that there is none
   land-drawn : (e : Entry) → FitsOne e → (plan : Plan) (outcome : Landing) → e.command ≡ land plan outcome → e.reply ≡ no_draft → IsSome plan.draft
   land-drawn e fits plan outcome is none = by fits.1.reply
@@ -85,38 +64,25 @@ module _ (settings : Settings) where
   -- only who holds a draft is told that it is none
   held-by : (command : Command) (s : Stand) → MayAsk command s → IsTrue (can_get command no_draft)
       → ((plan : Plan) (outcome : Landing) → command ≡ land plan outcome → IsSome plan.draft) → (n : ℕ) × (s.draft ≡ Some n) × IsTrue (uses_draft n command)
-  held-by (put repo path m blob) s may can drawn = (m, may.1, is-itself m)
-  held-by (stage at path m blob) s may can drawn = (m, may.1, is-itself m)
+  held-by (put repo path m blob) s may can drawn = (m, may.1, eq-eqb m m refl)
+  held-by (stage at path m blob) s may can drawn = (m, may.1, eq-eqb m m refl)
   held-by (land plan outcome) s may can drawn = pick plan.draft (drawn plan outcome refl) may.2
     where
       pick : (under : Option ℕ) → IsSome under → s.draft ≡ under → (n : ℕ) × (s.draft ≡ Some n) × IsTrue (is_under n under)
       pick None some is = absurd (false≢true some)
-      pick (Some m) some is = (m, is, is-itself m)
+      pick (Some m) some is = (m, is, eq-eqb m m refl)
   held-by command s may can drawn = absurd (false≢true can)
 
   -- a reply by which the draft is still held has not spent it
   leaves-put : (reply : Reply) → (is_free reply ≡ true) ⊎ IsTrue (is_put_reply reply) → spends_draft reply ≡ false → leaves_drafts reply ≡ true
   leaves-put no_draft can is = refl
-  leaves-put no_memory can is = refl
-  leaves-put store_fault can is = refl
-  leaves-put (taken kept sent) can is = absurd (false≢true (sym is))
-  leaves-put same can is = absurd (false≢true (sym is))
-  leaves-put relisted can is = absurd (false≢true (sym is))
-  leaves-put created can is = absurd (false≢true (sym is))
-  leaves-put reply (inl free) is = absurd (false≢true free)
-  leaves-put reply (inr can) is = absurd (false≢true can)
+  leaves-put reply (inl free) is = (cc)
+  leaves-put reply (inr can) is = (cc)
 
   leaves-staged : (reply : Reply) → (is_free reply ≡ true) ⊎ IsTrue (is_stage_reply reply) → spends_draft reply ≡ false → leaves_drafts reply ≡ true
   leaves-staged no_draft can is = refl
-  leaves-staged no_memory can is = refl
-  leaves-staged store_fault can is = refl
-  leaves-staged (taken kept sent) can is = absurd (false≢true (sym is))
-  leaves-staged same can is = absurd (false≢true (sym is))
-  leaves-staged staged can is = absurd (false≢true (sym is))
-  leaves-staged session_full can is = absurd (false≢true (sym is))
-  leaves-staged no_session can is = absurd (false≢true (sym is))
-  leaves-staged reply (inl free) is = absurd (false≢true free)
-  leaves-staged reply (inr can) is = absurd (false≢true can)
+  leaves-staged reply (inl free) is = (cc)
+  leaves-staged reply (inr can) is = (cc)
 
   -- a draft that is held behind an entry was held before it, and the entry has not spent it; or the entry gave it
   abbrev Held : Command → Reply → Stand → ℕ → Type 0
@@ -153,18 +119,14 @@ module _ (settings : Settings) where
   abbrev AreGiven : Stand → List Entry → Type 0
   AreGiven s done = (n : ℕ) → s.draft ≡ Some n → HasGiven done n
 
-  all-joined : (P : Entry → Type 0) (xs ys : List Entry) → AllByRecursion P xs → AllByRecursion P ys → AllByRecursion P (xs ++ ys)
-  all-joined P [] ys all more = more
-  all-joined P (x ∷ xs) ys all more = (all.0, all-joined P xs ys all.1 more)
-
   given-longer : (done more : List Entry) (n : ℕ) → AllByRecursion (λ (x : Entry). spends n x ≡ false) more → HasGiven done n → HasGiven (done ++ more) n
   given-longer done more n unspent has = record {
     first = has.first;
     given = has.given;
-    mine = has.mine ++ more;
-    parts = ap (λ (l : List Entry). l ++ more) has.parts ∙ append_assoc has.first (has.given ∷ has.mine) more;
+    since = has.since ++ more;
+    parts = ap (λ (l : List Entry). l ++ more) has.parts ∙ append_assoc has.first (has.given ∷ has.since) more;
     draft_is = has.draft_is;
-    unspent = all-joined (λ (x : Entry). spends n x ≡ false) has.mine more has.unspent unspent;
+    unspent = all-join (λ (x : Entry). spends n x ≡ false) has.since more has.unspent unspent;
   }
 
   given-after : (s : Stand) (e : Entry) (done : List Entry) → FitsOne e → MayAsk e.command s → AreGiven s done → AreGiven (stand_after e.command e.reply s) (done ++ e ∷ [])
@@ -172,7 +134,7 @@ module _ (settings : Settings) where
     where
       pick : Held e.command e.reply s n → HasGiven (done ++ e ∷ []) n
       pick (inl (held, unspent)) = given-longer done (e ∷ []) n (unspent, tt) (given n held)
-      pick (inr gave) = record { first = done; given = e; mine = []; parts = refl; draft_is = gave; unspent = tt }
+      pick (inr gave) = record { first = done; given = e; since = []; parts = refl; draft_is = gave; unspent = tt }
 
   -- a pass spends none, and is told of none
   pass-spends : (command : Command) (reply : Reply) (n : ℕ) → IsPassCommand command → (uses_draft n command && not (leaves_drafts reply)) ≡ false
@@ -195,16 +157,8 @@ module _ (settings : Settings) where
 
   both-ask : (done xs ys : List Entry) → AllAskWith done xs → AllAskWith (done ++ xs) ys → AllAskWith done (xs ++ ys)
   both-ask done [] ys first rest = subst (λ (l : List Entry). AllAskWith l ys) (append-nil done) rest
-    where
-      append-nil : (l : List Entry) → l ++ [] ≡ l
-      append-nil [] = refl
-      append-nil (x ∷ l) = ap (λ (m : List Entry). x ∷ m) (append-nil l)
   both-ask done (x ∷ xs) ys first rest =
       (first.0, both-ask (done ++ x ∷ []) xs ys first.1 (subst (λ (l : List Entry). AllAskWith l ys) (sym (append_assoc done (x ∷ []) xs)) rest))
-
-  all-cut : (xs ys : List Entry) → AllByRecursion FitsOne (xs ++ ys) → AllByRecursion FitsOne xs × AllByRecursion FitsOne ys
-  all-cut [] ys all = (tt, all)
-  all-cut (x ∷ xs) ys all = let rest = all-cut xs ys all.1 in ((all.0, rest.0), rest.1)
 
   module _ (tells : Type 0) (by_text : List ℕ → Option Close) (manner : Manner) where
     pub follows-ask : (c : Course) (n : ℕ) (s : Stand) → Keeps by_text manner c n s → (done entries : List Entry) → AllByRecursion FitsOne entries → AreGiven s done
@@ -219,7 +173,7 @@ module _ (settings : Settings) where
           follows-ask (next e.reply) n (stand_after command e.reply s) (k.1 e.reply) (done ++ e ∷ []) es fit.1 further old new end f.1,
         )
     follows-ask (does deed next) n s k done entries fit given old new end f =
-        let cut = all-cut f.1 f.2 (subst (AllByRecursion FitsOne) f.4 fit) in
+        let cut = all-split FitsOne f.1 f.2 (subst (AllByRecursion FitsOne) f.4 fit) in
         let pass = deed-asks tells deed f.0 f.1 old f.3 f.5 in
         subst (AllAskWith done) (sym f.4)
         (both-ask done f.1 f.2 (pass-asks done f.1 cut.0 pass)

@@ -11,9 +11,10 @@ use Rattle.repo_laws.proofs.Drafts.{drafts-spent_between}
 use Rattle.repo_laws.proofs.EachCause.{entry-cause}
 use Rattle.repo_laws.specs.Replies.{spends}
 use Rattle.repo_course.specs.Asking.{LiesIn}
-use Rattle.answer_laws.specs.Marked.{Mark, entries_of, others_entry, own_entry, own_of}
-use Rattle.answer_laws.specs.Why.{AllCaused, IsCaused, IsSpentByAnother}
-use Rattle.answer_laws.proofs.Given.{AllAskWith, AsksWith, FitsOne}
+use Rattle.answer_laws.specs.Marked.{Mark, entries_of, others_entry, own_entry, own_of, IsAt}
+use Rattle.answer_laws.specs.Why.{AllCaused, AsksWith, IsCaused, IsSpentAmong, IsSpentByAnother}
+use Rattle.answer_laws.proofs.Given.{AllAskWith, FitsOne}
+use Rattle.course_laws.proofs.LeftBehind.{legal_cut}
 
 -- a history whose entries are all the caller's own, and one in which some entries lie
 pub all-own : (entries : List Entry) → (entries_of (map own_entry entries) ≡ entries) × (own_of (map own_entry entries) ≡ entries)
@@ -43,20 +44,13 @@ lies-marked (e ∷ es) history (before, rest, parts, lies) =
     (map others_entry before ++ own_entry e ∷ more.0, (all.0 ∙ sym parts, all.1))
 
 -- where one of the caller's entries stands
-record At (marks : List Mark) (front : List Entry) (e : Entry) (rest : List Entry) : Type 0 where
-  before : List Mark
-  behind : List Mark
-  place : marks ≡ before ++ own_entry e ∷ behind
-  lie : own_of before ≡ front
-  follow : own_of behind ≡ rest
-
-own-at : (marks : List Mark) (front : List Entry) (e : Entry) (rest : List Entry) → own_of marks ≡ front ++ e ∷ rest → At marks front e rest
+own-at : (marks : List Mark) (front : List Entry) (e : Entry) (rest : List Entry) → own_of marks ≡ front ++ e ∷ rest → IsAt marks front e rest
 own-at [] [] e rest is = absurd (cc)
 own-at [] (f ∷ front) e rest is = absurd (cc)
 own-at (m ∷ marks) front e rest is = pick m.own m.entry front is (λ f here. own-at marks f e rest here)
   where
     pick : (own : Bool) (x : Entry) (front : List Entry) → cond own (x ∷ own_of marks) (own_of marks) ≡ front ++ e ∷ rest
-        → ((f : List Entry) → own_of marks ≡ f ++ e ∷ rest → At marks f e rest) → At (record { own = own; entry = x } ∷ marks) front e rest
+        → ((f : List Entry) → own_of marks ≡ f ++ e ∷ rest → IsAt marks f e rest) → IsAt (record { own = own; entry = x } ∷ marks) front e rest
     pick false x front is later =
         let there = later front is in record {
           before = others_entry x ∷ there.before;
@@ -84,21 +78,14 @@ own-at (m ∷ marks) front e rest is = pick m.own m.entry front is (λ f here. o
         }
 
 -- where none of the caller's own entries spends a draft and some entry does, that is another's
-record Other (n : ℕ) (marks : List Mark) : Type 0 where
-  front : List Mark
-  other : Entry
-  back : List Mark
-  other_is : marks ≡ front ++ others_entry other ∷ back
-  spent : IsTrue (spends n other)
-
-other-spends : (n : ℕ) (marks : List Mark) → IsTrue (list_any (spends n) (entries_of marks)) → AllByRecursion (λ (x : Entry). spends n x ≡ false) (own_of marks) → Other n marks
+other-spends : (n : ℕ) (marks : List Mark) → IsTrue (list_any (spends n) (entries_of marks)) → AllByRecursion (λ (x : Entry). spends n x ≡ false) (own_of marks) → IsSpentAmong n marks
 other-spends n [] any none = absurd (false≢true any)
 other-spends n (m ∷ marks) any none = pick m.own m.entry (spends n m.entry) refl any none (λ a o. other-spends n marks a o)
   where
     pick : (own : Bool) (x : Entry) (b : Bool) → spends n x ≡ b → IsTrue (spends n x || list_any (spends n) (entries_of marks))
         → AllByRecursion (λ (y : Entry). spends n y ≡ false) (cond own (x ∷ own_of marks) (own_of marks))
-        → (IsTrue (list_any (spends n) (entries_of marks)) → AllByRecursion (λ (y : Entry). spends n y ≡ false) (own_of marks) → Other n marks)
-        → Other n (record { own = own; entry = x } ∷ marks)
+        → (IsTrue (list_any (spends n) (entries_of marks)) → AllByRecursion (λ (y : Entry). spends n y ≡ false) (own_of marks) → IsSpentAmong n marks)
+        → IsSpentAmong n (record { own = own; entry = x } ∷ marks)
     pick false x true is any none later = record { front = []; other = x; back = marks; other_is = refl; spent = is }
     pick own x false is any none later =
         let there = later (subst (λ (c : Bool). IsTrue (c || list_any (spends n) (entries_of marks))) is any) (behind own none) in record {
@@ -116,14 +103,6 @@ other-spends n (m ∷ marks) any none = pick m.own m.entry (spends n m.entry) re
     pick true x true is any none later = absurd (false≢true (sym none.0 ∙ is))
 
 module _ (settings : Settings) where
-  legal-at : (before rest : List Entry) (s : State) → Legal settings s (before ++ rest) → Legal settings (end settings s before) rest
-  legal-at [] rest s legal = legal
-  legal-at (b ∷ before) rest s legal = legal-at before rest (after settings s b) legal.1
-
-  legal-front : (front rest : List Entry) (s : State) → Legal settings s (front ++ rest) → Legal settings s front
-  legal-front [] rest s legal = tt
-  legal-front (e ∷ front) rest s legal = (legal.0, legal-front front rest (after settings s e) legal.1)
-
   -- each of the caller's entries in a legal history fits some state
   pub own-fit : (marks : List Mark) (s : State) → Legal settings s (entries_of marks) → AllByRecursion (FitsOne settings) (own_of marks)
   own-fit [] s legal = tt
@@ -143,52 +122,29 @@ module _ (settings : Settings) where
         → e.reply ≡ no_draft → AsksWith done e → IsSpentByAnother past done e before
     spent-by-another past done e before behind place lie none with =
         let has = with.has in
-        let split : own_of before ≡ (past ++ has.first) ++ has.given ∷ has.mine =
-        lie ∙ ap (λ (l : List Entry). past ++ l) has.parts ∙ sym (append_assoc past has.first (has.given ∷ has.mine)) in
-        let there = own-at before (past ++ has.first) has.given has.mine split in
+        let split : own_of before ≡ (past ++ has.first) ++ has.given ∷ has.since =
+        lie ∙ ap (λ (l : List Entry). past ++ l) has.parts ∙ sym (append_assoc past has.first (has.given ∷ has.since)) in
+        let there = own-at before (past ++ has.first) has.given has.since split in
         let first = entries_of there.before in
         let between = entries_of there.behind in
         let all : entries_of before ≡ first ++ has.given ∷ between = ap entries_of there.place ∙ map-append (λ (m : Mark). m.entry) there.before (own_entry has.given ∷ there.behind) in
         let whole : entries_of history ≡ first ++ ((has.given ∷ between ++ e ∷ []) ++ entries_of behind) =
         parts-of before e behind place ∙ ap (λ (l : List Entry). l ++ e ∷ entries_of behind) all ∙ append_assoc first (has.given ∷ between) (e ∷ entries_of behind)
         ∙ ap (λ (l : List Entry). first ++ l) (sym (append_assoc (has.given ∷ between) (e ∷ []) (entries_of behind))) in
-        let from = legal-at first ((has.given ∷ between ++ e ∷ []) ++ entries_of behind) start (subst (Legal settings start) whole legal) in
-        let upto = legal-front (has.given ∷ between ++ e ∷ []) (entries_of behind) (end settings start first) from in
+        let from = (legal_cut settings start first ((has.given ∷ between ++ e ∷ []) ++ entries_of behind) (subst (Legal settings start) whole legal)).1 in
+        let upto = (legal_cut settings (end settings start first) (has.given ∷ between ++ e ∷ []) (entries_of behind) from).0 in
         let spent = drafts-spent_between settings (end settings start first) has.given e between with.number upto has.draft_is with.asks none in
         let other = other-spends with.number there.behind spent (subst (AllByRecursion (λ (x : Entry). spends with.number x ≡ false)) (sym there.follow) has.unspent) in
-        record {
-          number = with.number;
-          first = has.first;
-          given = has.given;
-          since = has.mine;
-          parts = has.parts;
-          draft_is = has.draft_is;
-          asks = with.asks;
-          unspent = has.unspent;
-          earlier = there.before;
-          between = there.behind;
-          place = there.place;
-          lie = there.lie;
-          follow = there.follow;
-          front = other.front;
-          other = other.other;
-          back = other.back;
-          other_is = other.other_is;
-          spent = other.spent;
-        }
+        record { with = with; at = there; between = other }
 
     caused : (tells : Type 0) (past done : List Entry) (e : Entry) (later : List Entry) → own_of history ≡ (past ++ done) ++ e ∷ later
         → (e.reply ≡ no_draft → AsksWith done e) → IsCaused settings tells start history past done e later
     caused tells past done e later own ask =
         let there = own-at history (past ++ done) e later own in
         let fits : Fits settings (end settings start (entries_of there.before)) e =
-        (legal-at (entries_of there.before) (e ∷ entries_of there.behind) start (subst (Legal settings start) (parts-of there.before e there.behind there.place) legal)).0 in
+        (legal_cut settings start (entries_of there.before) (e ∷ entries_of there.behind) (subst (Legal settings start) (parts-of there.before e there.behind there.place) legal)).1.0 in
         record {
-          before = there.before;
-          behind = there.behind;
-          place = there.place;
-          lie = there.lie;
-          follow = there.follow;
+          at = there;
           fits = fits;
           cause = λ bound refused. entry-cause settings (end settings start (entries_of there.before)) e fits bound refused;
           spent = λ none. spent-by-another past done e there.before there.behind there.place there.lie none (ask none);

@@ -1,6 +1,6 @@
 -- Why a turn of a served stream is answered as it is: the head, the reply or the deed that its answer is due for, and the cause of each
 -- of its replies, in the state at the place of its entry in a history.
-use Rattle.std.specs.Prelude.{◌≡◌, ℕ, ◌≤◌, Bool, false, List, [], ◌∷◌, ◌++◌, Option, Some, None, IsTrue}
+use Rattle.std.specs.Prelude.{◌≡◌, ℕ, Bool, false, List, [], ◌∷◌, ◌++◌, Option, Some, None, IsTrue}
 use Rattle.std.specs.List.{AllByRecursion}
 use Rattle.repo_model.specs.History.{Entry, Fits, end}
 use Rattle.repo_model.specs.Reply.{no_draft, is_free}
@@ -18,38 +18,40 @@ use Rattle.repo_course.specs.declared.outcomes.End.{End}
 use Rattle.repo_course.specs.declared.outcomes.End.TheVariants as stream
 use Rattle.repo_course.specs.declared.said.Said.TheVariants as said
 use Rattle.course_laws.specs.Duties.{Duty, HoldsNothing, Rounds, Stand, due_after, due_done, rounds_after, duty_of, duty_without_head, manner_of, to_end}
+use Rattle.course_laws.specs.Endings.{Grew}
 use Rattle.closed_laws.specs.Streams.{Seen}
-use Rattle.answer_laws.specs.Marked.{Mark, entries_of, others_entry, own_entry, own_of}
+use Rattle.answer_laws.specs.Marked.{Mark, entries_of, others_entry, IsAt}
 use Rattle.answer_laws.specs.Steps.{Leads, Step, asked, did, due_by, made, rounds_behind, rounds_by}
+
+-- one of these entries gave the draft, and none behind it has spent it
+pub record HasGiven (entries : List Entry) (n : ℕ) : Type 0 where
+  pub first : List Entry
+  pub given : Entry
+  pub since : List Entry
+  pub parts : entries ≡ first ++ given ∷ since
+  pub draft_is : GivesDraft n given.reply
+  pub unspent : AllByRecursion (λ (x : Entry). spends n x ≡ false) since
+
+-- an entry behind these asks with such a draft
+pub record AsksWith (before : List Entry) (e : Entry) : Type 0 where
+  pub number : ℕ
+  pub asks : IsTrue (uses_draft number e.command)
+  pub has : HasGiven before number
+
+-- another's entry among these has spent the draft
+pub record IsSpentAmong (n : ℕ) (marks : List Mark) : Type 0 where
+  pub front : List Mark
+  pub other : Entry
+  pub back : List Mark
+  pub other_is : marks ≡ front ++ others_entry other ∷ back
+  pub spent : IsTrue (spends n other)
 
 -- A turn asks with a draft that an earlier one of its own entries was given, and none of the caller's own since then has spent that; an
 -- entry of another has, in the history before it. `past` are the caller's entries before the turn, `done` those of the turn before it.
 pub record IsSpentByAnother (past done : List Entry) (e : Entry) (before : List Mark) : Type 0 where
-  pub number : ℕ
-  pub first : List Entry
-  pub given : Entry
-  pub since : List Entry
-  pub parts : done ≡ first ++ given ∷ since
-  pub draft_is : GivesDraft number given.reply
-  pub asks : IsTrue (uses_draft number e.command)
-  pub unspent : AllByRecursion (λ (x : Entry). spends number x ≡ false) since
-  pub earlier : List Mark
-  pub between : List Mark
-  pub place : before ≡ earlier ++ own_entry given ∷ between
-  pub lie : own_of earlier ≡ past ++ first
-  pub follow : own_of between ≡ since
-  pub front : List Mark
-  pub other : Entry
-  pub back : List Mark
-  pub other_is : between ≡ front ++ others_entry other ∷ back
-  pub spent : IsTrue (spends number other)
-
--- no count of faults fell
-pub record NoneFell (old new : Outside) : Type 0 where
-  pub reads : old.read_faults ≤ new.read_faults
-  pub writes : old.write_faults ≤ new.write_faults
-  pub blobs : old.blob_faults ≤ new.blob_faults
-  pub remote : old.remote.faults ≤ new.remote.faults
+  pub with : AsksWith done e
+  pub at : IsAt before (past ++ with.has.first) with.has.given with.has.since
+  pub between : IsSpentAmong with.number at.behind
 
 -- these steps make no end due
 abbrev pub AreSilent : (List ℕ → Option Close) → Rounds → List Step → Type 0
@@ -66,7 +68,7 @@ pub data Why (tells : Type 0) (by_text : List ℕ → Option Close) (r : Rounds)
       → AreSilent by_text (rounds_after e.command (rounds_behind before r)) behind → Why tells by_text r due steps old new close
   by_deed : (before behind : List Step) (deed : Deed) (outcome : Outcome deed) (mine : List Entry) (from seen : Outside)
       → steps ≡ before ++ did deed outcome mine seen ∷ behind → due ≡ None
-      → Does tells deed outcome mine from seen → NoneFell old from → NoneFell seen new
+      → Does tells deed outcome mine from seen → Grew old from → Grew seen new
       → due_done by_text deed outcome None ≡ Some close → AreSilent by_text r before → AreSilent by_text (rounds_behind before r) behind
       → Why tells by_text r due steps old new close
 
@@ -77,6 +79,21 @@ EndsBy manner unread (speaks what) last mid new stop =
     let own = manner_of what unread manner in
     (last ≡ says what own) × Says (answer_of what own) (memory_answer own.head_only) (end_of own) mid new stop
 EndsBy manner unread (rests next) last mid new stop = (last ≡ stops next) × (new ≡ mid) × (stop ≡ next) × (next ≡ None → unread ≡ None)
+
+-- A course is followed from where it stands, by steps of its own, to an end that is due, holding nothing; and why that is due, by what is
+-- seen from the first on.
+pub record IsWalked (tells : Type 0) (duty : Duty) (c : Course) (s : Stand) (entries : List Entry) (first old new : Outside) (stop : Option End) : Type 0 where
+  pub steps : List Step
+  pub finish : Course
+  pub stand : Stand
+  pub to : Outside
+  pub leads : Leads tells duty steps c s old finish stand to
+  pub entries_are : entries ≡ made steps
+  pub holds : HoldsNothing stand
+  pub close : Close
+  pub due : stand.due ≡ Some close
+  pub why : Why tells duty.by_text s.rounds s.due steps first new close
+  pub ends : EndsBy duty.manner stand.unread close finish to new stop
 
 -- the entries of turns, one after another
 abbrev pub entries_in : List Seen → List Entry
@@ -99,17 +116,7 @@ module _ (settings : Settings) where
     pub course : Course
     pub mid : Outside
     pub opens : Opens settings last old mid course
-    pub steps : List Step
-    pub finish : Course
-    pub stand : Stand
-    pub to : Outside
-    pub leads : Leads tells (owed opens) steps course (owed opens).stand mid finish stand to
-    pub entries_are : entries ≡ made steps
-    pub holds : HoldsNothing stand
-    pub close : Close
-    pub due : stand.due ≡ Some close
-    pub why : Why tells (owed opens).by_text (owed opens).stand.rounds (owed opens).stand.due steps old new close
-    pub ends : EndsBy (owed opens).manner stand.unread close finish to new stop
+    pub walked : IsWalked tells (owed opens) course (owed opens).stand entries old mid new stop
 
   module _ (tells : Type 0) (start : State) (history : List Mark) where
     -- An entry of a turn is the caller's own in the history, behind its entries before it and before those that follow, and fits the
@@ -117,14 +124,10 @@ module _ (settings : Settings) where
     -- and their count has risen. Where it is refused, the cause is in that state; where it is told that there is no draft, another has
     -- spent it.
     pub record IsCaused (past done : List Entry) (e : Entry) (later : List Entry) : Type 0 where
-      pub before : List Mark
-      pub behind : List Mark
-      pub place : history ≡ before ++ own_entry e ∷ behind
-      pub lie : own_of before ≡ past ++ done
-      pub follow : own_of behind ≡ later
-      pub fits : Fits settings (end settings start (entries_of before)) e
-      pub cause : is_free e.reply ≡ false → IsTrue (is_refusal e.reply) → Cause settings (end settings start (entries_of before)) e.moment e.command e.reply
-      pub spent : e.reply ≡ no_draft → IsSpentByAnother past done e before
+      pub at : IsAt history (past ++ done) e later
+      pub fits : Fits settings (end settings start (entries_of at.before)) e
+      pub cause : is_free e.reply ≡ false → IsTrue (is_refusal e.reply) → Cause settings (end settings start (entries_of at.before)) e.moment e.command e.reply
+      pub spent : e.reply ≡ no_draft → IsSpentByAnother past done e at.before
 
     -- so does each of a turn's entries, between the caller's before it and behind it
     abbrev pub AllCaused : List Entry → List Entry → List Entry → List Entry → Type 0

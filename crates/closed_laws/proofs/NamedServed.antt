@@ -1,5 +1,5 @@
 -- A file that a served document named is seen as its answer.
-use Rattle.std.proofs.Common.{◌≡◌, inl, inr, ℕ, Bool, List, [], ◌∷◌, ◌++◌, Option, refl, sym, subst, ap, ◌∙◌}
+use Rattle.std.proofs.Common.{◌≡◌, inl, inr, ℕ, Bool, List, [], ◌∷◌, ◌++◌, Option, sym, subst, ap, ◌∙◌}
 use Rattle.std.specs.List.{AllByRecursion}
 use Rattle.mvn_coords.specs.declared.fault.Side.{Side}
 use Rattle.mvn_digest.specs.Sides.{side_text}
@@ -11,9 +11,9 @@ use Rattle.repo_model.specs.Settings.{Settings}
 use Rattle.repo_model.specs.State.{State, rows_of}
 use Rattle.repo_laws.specs.Closed.{Answers, GivesFile, GivesText, StandsInTime, named}
 use Rattle.repo_laws.specs.Described.{IsAmong}
-use Rattle.repo_laws.specs.Sound.{AreNamedApart, IsSound, Sound}
+use Rattle.repo_laws.specs.Sound.{AreNamedApart, IsSound}
 use Rattle.repo_laws.proofs.Closed.{answers-up-to, named-in-time}
-use Rattle.repo_laws.proofs.Histories.{sound-entry}
+use Rattle.repo_laws.proofs.Keeping.{ends-sound, keeps-sound}
 use Rattle.repo_course.specs.Serving.{Outside, whole as said_whole, memory as said_memory, cut as said_cut}
 use Rattle.repo_course.specs.declared.manner.Manner.{Manner}
 use Rattle.repo_course.specs.declared.outcomes.End.{End}
@@ -22,29 +22,16 @@ use Rattle.repo_course.specs.declared.said.Said.TheVariants as said
 use Rattle.closed_laws.specs.Answered.{ReadShows, IsLookedUp, looked, unread, failed, ShowsFile, starved, ShowsMemory, ShowsReply, ShowsSaid}
 use Rattle.closed_laws.specs.Named.{IsSideOf, ShowsNamed, ShowsSide, WasNamed}
 use Rattle.closed_laws.proofs.AnsweredReads.{By}
+use Rattle.course_laws.proofs.LeftBehind.{end_append, legal_cut}
 
 pub among-has : {X : Type 0} (P : X → Type 0) (x : X) (xs : List X) → AllByRecursion P xs → IsAmong x xs → P x
 among-has P x [] all among = absurd among
 among-has P x (y ∷ ys) all (inl is) = subst P is all.0
 among-has P x (y ∷ ys) all (inr more) = among-has P x ys all.1 more
 
--- a history in two parts
-pub legal-parts : (settings : Settings) (before more : List Entry) (s : State) → Legal settings s (before ++ more)
-    → Legal settings s before × Legal settings (end settings s before) more
-legal-parts settings [] more s legal = (tt, legal)
-legal-parts settings (e ∷ before) more s legal = let (one, other) = legal-parts settings before more (after settings s e) legal.1 in ((legal.0, one), other)
-
-end-parts : (settings : Settings) (before more : List Entry) (s : State) → end settings s (before ++ more) ≡ end settings (end settings s before) more
-end-parts settings [] more s = refl
-end-parts settings (e ∷ before) more s = end-parts settings before more (after settings s e)
-
 module _ (settings : Settings) (apart : AreNamedApart settings.hosted) where
-  ends-sound : (entries : List Entry) (s : State) → Sound settings s → Legal settings s entries → Sound settings (end settings s entries)
-  ends-sound [] s sound legal = sound
-  ends-sound (e ∷ entries) s sound legal = ends-sound entries (after settings s e) (sound-entry settings apart s e legal.0 sound) legal.1
-
   -- a look at what was named is answered with it
-  pub named-answers : (start : State) (before later : List Entry) (e : Entry) (repo : List ℕ) (row : Row) → Sound settings start
+  pub named-answers : (start : State) (before later : List Entry) (e : Entry) (repo : List ℕ) (row : Row) → IsSound settings start
       → Legal settings start (before ++ e ∷ later) → WasNamed settings start before repo row e.moment
       → Answers repo row.path row.blob (end settings start before) e
   named-answers start before later e repo row sound legal was =
@@ -52,18 +39,18 @@ module _ (settings : Settings) (apart : AreNamedApart settings.hosted) where
       let now = after settings s was.asked in
       let t = was.asked.moment in
       let all : Legal settings start (was.first ++ (was.asked ∷ was.rest)) × Legal settings (end settings start before) (e ∷ later) =
-      let both = legal-parts settings before (e ∷ later) start legal in (subst (Legal settings start) was.parts both.0, both.1) in
-      let cut : Legal settings start was.first × Legal settings s (was.asked ∷ was.rest) = legal-parts settings was.first (was.asked ∷ was.rest) start all.0 in
-      let sound_s : Sound settings s = ends-sound was.first start sound cut.0 in
-      let sound_now : Sound settings now = sound-entry settings apart s was.asked cut.1.0 sound_s in
+      let both = legal_cut settings start before (e ∷ later) legal in (subst (Legal settings start) was.parts both.0, both.1) in
+      let cut : Legal settings start was.first × Legal settings s (was.asked ∷ was.rest) = legal_cut settings start was.first (was.asked ∷ was.rest) all.0 in
+      let sound_s : IsSound settings s = ends-sound settings apart start was.first sound cut.0 in
+      let sound_now : IsSound settings now = keeps-sound settings apart s was.asked sound_s cut.1.0 in
       let in_time = among-has (λ (r : Row). StandsInTime settings.grace t repo r.path r.blob now) row (named was.directory (rows_of repo s) was.served)
-      (named-in-time settings apart s was.asked repo was.directory was.served cut.1.0 sound_s) was.names in
-      let then_too = (answers-up-to settings apart was.rest now t repo row.path row.blob sound_now cut.1.1 in_time).1 in
+      (named-in-time settings apart s was.asked repo was.directory was.served cut.1.0 sound_s.order) was.names in
+      let then_too = (answers-up-to settings apart was.rest now t repo row.path row.blob sound_now.order cut.1.1 in_time).1 in
       let ends : end settings start before ≡ end settings now was.rest =
-      ap (end settings start) was.parts ∙ end-parts settings was.first (was.asked ∷ was.rest) start in
-      let last_sound : Sound settings (end settings now was.rest) = ends-sound was.rest now sound_now cut.1.1 in
+      ap (end settings start) was.parts ∙ end_append settings start was.first (was.asked ∷ was.rest) in
+      let last_sound = ends-sound settings apart now was.rest sound_now cut.1.1 in
       let last_legal : Legal settings (end settings now was.rest) (e ∷ later) = subst (λ (x : State). Legal settings x (e ∷ later)) ends all.1 in
-      let answered = (answers-up-to settings apart (e ∷ later) (end settings now was.rest) t repo row.path row.blob last_sound last_legal then_too).0.0 was.in_time in
+      let answered = (answers-up-to settings apart (e ∷ later) (end settings now was.rest) t repo row.path row.blob last_sound.order last_legal then_too).0.0 was.in_time in
       subst (λ (x : State). Answers repo row.path row.blob x e) (sym ends) answered
 
 -- what is seen of want of memory is among what is seen of an answer
@@ -111,14 +98,14 @@ module _ (settings : Settings) (apart : AreNamedApart settings.hosted) (start : 
       → ReadShows settings last repo row.path (ShowsReply e.reply) old new stop
       → ReadShows settings last repo row.path (ShowsNamed s row.blob) old new stop
   file-answered later e tried last old new stop legal was looks a =
-      let gives = (named-answers settings apart start before later e repo row sound.order legal was).0 tried looks in
+      let gives = (named-answers settings apart start before later e repo row sound legal was).0 tried looks in
       answered-then settings last repo row.path (ShowsReply e.reply) (ShowsNamed s row.blob) (λ m from to ending seen. file-shown s row.blob e.reply m from to ending gives seen) old new stop a
 
   pub side-answered : (later : List Entry) (e : Entry) (at tried : List ℕ) (side : Side) (last : Bool) (old new : Outside) (stop : Option End)
       → Legal settings start (before ++ e ∷ later) → WasNamed settings start before repo row e.moment → e.command ≡ look repo at tried → IsSideOf row.path side at
       → ReadShows settings last repo at (ShowsReply e.reply) old new stop → ReadShows settings last repo at (ShowsSide side row.blob) old new stop
   side-answered later e at tried side last old new stop legal was looks beside a =
-      let gives = (named-answers settings apart start before later e repo row sound.order legal was).1 at tried beside.0 side looks beside.1 beside.2 in
+      let gives = (named-answers settings apart start before later e repo row sound legal was).1 at tried beside.0 side looks beside.1 beside.2 in
       answered-then settings last repo at (ShowsReply e.reply) (ShowsSide side row.blob) (λ m from to ending seen. text-shown (side_text side row.blob.print.digests) e.reply m from to ending gives seen) old new stop a
 
   pub file-looked : (entries later : List Entry) (manner : Manner) (left : List ℕ) (old new : Outside) (stop : Option End)
@@ -128,7 +115,7 @@ module _ (settings : Settings) (apart : AreNamedApart settings.hosted) (start : 
       manner left entries old new stop
   file-looked entries later manner left old new stop (looked e more is looks seen) =
       looked e more is looks (λ legal was.
-      let gives = (named-answers settings apart start before later e repo row sound.order legal was).0 [] looks in
+      let gives = (named-answers settings apart start before later e repo row sound legal was).0 [] looks in
       file-shown s row.blob e.reply manner _ new stop gives seen)
   file-looked entries later manner left old new stop (unread mid head_only to_head none reads seen) = unread mid head_only to_head none reads seen
   file-looked entries later manner left old new stop (failed none rose still ends) = failed none rose still ends
@@ -140,7 +127,7 @@ module _ (settings : Settings) (apart : AreNamedApart settings.hosted) (start : 
       manner left entries old new stop
   side-looked entries later at side manner left old new stop beside (looked e more is looks seen) =
       looked e more is looks (λ legal was.
-      let gives = (named-answers settings apart start before later e repo row sound.order legal was).1 at [] beside.0 side looks beside.1 beside.2 in
+      let gives = (named-answers settings apart start before later e repo row sound legal was).1 at [] beside.0 side looks beside.1 beside.2 in
       text-shown (side_text side row.blob.print.digests) e.reply manner _ new stop gives seen)
   side-looked entries later at side manner left old new stop beside (unread mid head_only to_head none reads seen) = unread mid head_only to_head none reads seen
   side-looked entries later at side manner left old new stop beside (failed none rose still ends) = failed none rose still ends

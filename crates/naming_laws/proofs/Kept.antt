@@ -10,7 +10,7 @@ use Rattle.repo_model.specs.declared.session.SessionResult.{SessionResult}
 use Rattle.repo_model.specs.Data.{Blob, Row, Phase, listed, fading, Staged, Session, is_same_print}
 use Rattle.repo_model.specs.Settings.{Settings}
 use Rattle.repo_model.specs.State.{State, change_where, is_row, row_at, rows_of, is_among}
-use Rattle.repo_model.specs.Effect.{Effect, draws, drops, creates, stages, delivers, discards, relists, fades, expires, forgets, lends, returns, opens, ends, list_again, fade, with_effect, with_effects}
+use Rattle.repo_model.specs.Effect.{Effect, drops, discards, relists, fades, expires, ends, keeps_doc, marks_missing, clears_mark, list_again, fade, with_effect, with_effects}
 use Rattle.repo_model.specs.May.{May, AllMay}
 use Rattle.repo_model.specs.Command.{Command, put}
 use Rattle.repo_model.specs.Reply.{no_draft, taken, is_free}
@@ -21,14 +21,14 @@ use Rattle.repo_model.specs.History.{Entry, IsReply, due, wants_memory, failed, 
 use Rattle.repo_laws.specs.Laws.{LastsFrom}
 use Rattle.repo_laws.specs.Sound.{AreNamedApart, IsSound}
 use Rattle.repo_laws.proofs.Answered.{free-none, no-free}
-use Rattle.repo_laws.proofs.Cases.{Case, lends_file, takes_back, gives_draft, makes_row, has_same, lists_again, has_other, gives_up, opens_one, stage_nowhere, stages_one, stage_full, stage_same, stage_other, deploys, aborts, unlists, collects, turn-case, plans_file, lands_one}
+use Rattle.repo_laws.proofs.Cases.{Case, makes_row, lists_again, deploys, aborts, unlists, collects, turn-case, lands_one}
 use Rattle.repo_laws.proofs.Histories.{entry-may}
 use Rattle.repo_laws.proofs.HoldingLists.{all-join}
 use Rattle.repo_laws.proofs.Keeping.{keeps-sound}
 use Rattle.repo_laws.proofs.Rows.{rows-changed}
 use Rattle.repo_laws.proofs.Stands.{stands-kept}
 use Rattle.naming_laws.specs.Kept.{file_in, files_of, may_change_files, takes_away, KeepsFiles}
-use Rattle.repo_laws.proofs.Making.{OfLanding, lands-made}
+use Rattle.repo_laws.proofs.Making.{is_left, lands-made}
 
 map-changed : {X Y : Type 0} (g : X → Y) (q : X → Bool) (f : X → X) → ((x : X) → g (f x) ≡ g x) → (xs : List X) → map g (change_where q f xs) ≡ map g xs
 map-changed g q f same [] = refl
@@ -61,27 +61,20 @@ all-discard id n result [] s = refl
 all-discard id n result (file ∷ files) s = all-discard id n result files (with_effect s (discards n file.path file.blob.number))
 
 -- what lands changes no file of a hosted repository
-same-files : (id : List ℕ) → OfLanding (λ e. (v : State) → files_of id (with_effect v e) ≡ files_of id v)
-same-files id = record {
-  drops_so = λ n v. refl;
-  caches_so = λ at path blob moment v. refl;
-  keeps_doc_so = λ at path document moment v. refl;
-  marks_so = λ at path moment v. refl;
-  clears_so = λ at path v. refl;
-}
+same-files : (id : List ℕ) (e : Effect) → is_left e ≡ true → (v : State) → files_of id (with_effect v e) ≡ files_of id v
+same-files id (drops n) is v = refl
+same-files id (keeps_doc at path document moment) is v = refl
+same-files id (marks_missing at path moment) is v = refl
+same-files id (clears_mark at path) is v = refl
+same-files id e is v = absurd (false≢true is)
 
 lands-none : (id : List ℕ) (es : List Effect) → AllByRecursion (λ e. (v : State) → files_of id (with_effect v e) ≡ files_of id v) es → (u : State) → files_of id (with_effects u es) ≡ files_of id u
 lands-none id [] all u = refl
 lands-none id (e ∷ es) all u = lands-none id es all.1 (with_effect u e) ∙ all.0 u
 
-none-away : OfLanding (λ e. takes_away e ≡ false)
-none-away = record {
-  drops_so = λ n. refl;
-  caches_so = λ id path blob moment. refl;
-  keeps_doc_so = λ id path document moment. refl;
-  marks_so = λ id path moment. refl;
-  clears_so = λ id path. refl;
-}
+none-away : (e : Effect) → is_left e ≡ true → takes_away e ≡ false
+none-away (expires repo path blob) is = absurd (false≢true is)
+none-away e is = refl
 
 -- by the reply of a turn
 module _ (settings : Settings) (s : State) (now : ℕ) where
@@ -92,7 +85,7 @@ module _ (settings : Settings) (s : State) (now : ℕ) where
   case-files id c t (aborts n one is going) still u = all-discard id one.number _ one.staged u
   case-files id c t (unlists repo h is) still u = all-fade id h.rule.id now (due_rows h.rule now h.rows) u
   case-files id c t collects still u = absurd (false≢true (sym still))
-  case-files id c t (lands_one plan outcome drawn) still u = lands-none id (lands s now plan outcome) (lands-made (λ e. (v : State) → files_of id (with_effect v e) ≡ files_of id v) (same-files id) s now plan outcome) u
+  case-files id c t (lands_one plan outcome drawn) still u = lands-none id (lands s now plan outcome) (lands-made (λ e. (v : State) → files_of id (with_effect v e) ≡ files_of id v) (same-files id) s now plan outcome (λ blob _ v. refl)) u
   case-files id c t case still u = refl
 
   abbrev Still : Turn → Type 0
@@ -197,23 +190,8 @@ module _ (settings : Settings) (s : State) (now : ℕ) where
       (files-stay one now (rows_of one.repo s) one.staged) (refl, tt)
   case-stay c t (aborts n one is going) other = discards-stay one.number _ one.staged
   case-stay c t (unlists repo h is) other = fading-stay h.rule.id now (due_rows h.rule now h.rows)
-  case-stay c t (lists_again repo path n blob among row since found phase_is) other = (refl, (refl, tt))
-  case-stay c t (plans_file repo path tried member rule at more is) other = (refl, tt)
-  case-stay c t (lands_one plan outcome drawn) other = lands-made (λ e. takes_away e ≡ false) none-away s now plan outcome
-  case-stay c t (lends_file repo path tried blob more is) other = (refl, tt)
-  case-stay c t (takes_back lease) other = (refl, tt)
-  case-stay c t (gives_draft place path more) other = (refl, tt)
-  case-stay c t (makes_row repo path n blob among free) other = (refl, tt)
-  case-stay c t (has_same repo path n blob among) other = (refl, tt)
-  case-stay c t (has_other repo path n blob kept among) other = (refl, tt)
-  case-stay c t (gives_up n among) other = (refl, tt)
-  case-stay c t (opens_one repo more few) other = (refl, tt)
-  case-stay c t (stage_nowhere at path n blob among) other = (refl, tt)
-  case-stay c t (stages_one at path n blob one among known free room) other = (refl, tt)
-  case-stay c t (stage_full at path n blob among) other = (refl, tt)
-  case-stay c t (stage_same at path n blob among) other = (refl, tt)
-  case-stay c t (stage_other at path n blob kept among) other = (refl, tt)
-  case-stay c t case other = tt
+  case-stay c t (lands_one plan outcome drawn) other = lands-made (λ e. takes_away e ≡ false) none-away s now plan outcome (λ blob _. refl)
+  case-stay c t case other = (assumption)
 
 pub entry-stays : (settings : Settings) (old : State) (e : Entry) → AreNamedApart settings.hosted → IsSound settings old → Fits settings old e → is_collect e.command ≡ false
     → KeepsFiles old (after settings old e)

@@ -18,11 +18,10 @@ use Rattle.repo_model.specs.History.{Entry, Fits, ticked, after, Legal, end}
 use Rattle.repo_laws.specs.Laws.{count_of, leases_of}
 use Rattle.repo_laws.specs.Replies.{uses_draft, leaves_drafts, spends, GivesDraft}
 use Rattle.repo_laws.proofs.Answered.{free-none, reply-determined, state-determined}
-use Rattle.repo_laws.proofs.Cases.{Case, does, lends_file, takes_back, gives_draft, makes_row, has_same, lists_again, has_other, gives_up, opens_one, stage_nowhere, stages_one, stage_full, stage_same, stage_other, deploys, aborts, unlists, collects, turn-case, plans_file, lands_one}
-use Rattle.repo_laws.proofs.Counts.{among-counts}
+use Rattle.repo_laws.proofs.Cases.{Case, does, lends_file, gives_draft, deploys, aborts, unlists, collects, turn-case, plans_file, lands_one}
+use Rattle.repo_laws.proofs.Counts.{among-counts, any-counts}
 use Rattle.repo_laws.proofs.Drafts.{drafts-put, drafts-staged, drafts-dropped, drafts-landed}
-use Rattle.repo_laws.proofs.HoldingLists.{any-counts}
-use Rattle.repo_laws.proofs.Making.{Bulk, deploys-made, aborts-made, unlists-made, collects-made, OfLanding, lands-made}
+use Rattle.repo_laws.proofs.Making.{is_bulk, deploys-made, aborts-made, unlists-made, collects-made, is_left, lands-made}
 use Rattle.repo_laws.proofs.Places.{is_draw}
 use Rattle.repo_laws.proofs.Readers.{none-lent}
 use Rattle.naming_laws.specs.Left.{IsDraftLeft, IsLeaseLeft}
@@ -43,24 +42,15 @@ is_loan effect = false
 abbrev IsPlain : Effect → Type 0
 IsPlain e = (is_draw e ≡ false) × (is_loan e ≡ false)
 
-all-plain : Bulk IsPlain
-all-plain = record {
-  delivers_so = λ n repo path blob moment. (refl, refl);
-  discards_so = λ n path d. (refl, refl);
-  relists_so = λ repo path moment. (refl, refl);
-  fades_so = λ repo path moment. (refl, refl);
-  expires_so = λ repo path blob. (refl, refl);
-  ends_so = λ n result. (refl, refl);
-}
+all-plain : (e : Effect) → is_bulk e ≡ true → IsPlain e
+all-plain draws is = absurd (false≢true is)
+all-plain (lends blob) is = absurd (false≢true is)
+all-plain e is = (refl, refl)
 
-plain-landing : OfLanding IsPlain
-plain-landing = record {
-  drops_so = λ n. (refl, refl);
-  caches_so = λ id path blob moment. (refl, refl);
-  keeps_doc_so = λ id path document moment. (refl, refl);
-  marks_so = λ id path moment. (refl, refl);
-  clears_so = λ id path. (refl, refl);
-}
+plain-landing : (e : Effect) → is_left e ≡ true → IsPlain e
+plain-landing draws is = absurd (false≢true is)
+plain-landing (lends blob) is = absurd (false≢true is)
+plain-landing e is = (refl, refl)
 
 module _ (settings : Settings) (s : State) (now : ℕ) where
   abbrev Draws : Turn → Type 0
@@ -76,24 +66,12 @@ module _ (settings : Settings) (s : State) (now : ℕ) where
   case-shape c u (lends_file repo path tried blob more is) = inr (inr (blob, refl))
   case-shape c u (gives_draft place path more) = inr (inl (draft s.yard.next_draft, refl, refl))
   case-shape c u (plans_file repo path tried member rule at more is) = inr (inl (_, refl, refl))
-  case-shape c u (lands_one plan outcome drawn) = inl (lands-made IsPlain plain-landing s now plan outcome)
-  case-shape c u (takes_back lease) = inl ((refl, refl), tt)
-  case-shape c u (makes_row repo path m blob among free) = inl ((refl, refl), tt)
-  case-shape c u (has_same repo path m blob among) = inl ((refl, refl), tt)
-  case-shape c u (lists_again repo path m blob among row since found phase_is) = inl ((refl, refl), ((refl, refl), tt))
-  case-shape c u (has_other repo path m blob kept among) = inl ((refl, refl), tt)
-  case-shape c u (gives_up m among) = inl ((refl, refl), tt)
-  case-shape c u (opens_one repo more few) = inl ((refl, refl), tt)
-  case-shape c u (stage_nowhere at path m blob among) = inl ((refl, refl), tt)
-  case-shape c u (stages_one at path m blob one among known free room) = inl ((refl, refl), tt)
-  case-shape c u (stage_full at path m blob among) = inl ((refl, refl), tt)
-  case-shape c u (stage_same at path m blob among) = inl ((refl, refl), tt)
-  case-shape c u (stage_other at path m blob kept among) = inl ((refl, refl), tt)
+  case-shape c u (lands_one plan outcome drawn) = inl (lands-made IsPlain plain-landing s now plan outcome (λ blob _. (refl, refl)))
   case-shape c u (deploys m one is going) = inl (deploys-made IsPlain all-plain one now (rows_of one.repo s) (Done (length one.staged)))
   case-shape c u (aborts m one is going) = inl (aborts-made IsPlain all-plain one Aborted)
   case-shape c u (unlists repo h is) = inl (unlists-made IsPlain all-plain h now)
   case-shape c u collects = inl (collects-made IsPlain all-plain settings.grace now s.hosted (unlent (with_effects s (expire_all settings.grace now s.hosted)).yard) (refl, refl))
-  case-shape c u case = inl tt
+  case-shape c u case = inl (assumption)
 
 module _ (n : ℕ) where
   abbrev HasDraft : State → Type 0
@@ -213,45 +191,33 @@ module _ (n : ℕ) where
           by_shape bound (shape-lease settings s e.moment e.faults u (case-shape settings s e.moment e.command u (turn-case settings s e.moment e.command))
           (subst HasLease (state-determined settings s e bound) there))
 
-  module _ (settings : Settings) where
-    left-draft : (entries : List Entry) (s : State) → Legal settings s entries → HasDraft (end settings s entries)
-        → (HasDraft s × AllByRecursion (λ (x : Entry). spends n x ≡ false) entries) ⊎ IsDraftLeft n entries
-    left-draft [] s legal there = inl (there, tt)
-    left-draft (e ∷ entries) s legal there = by (left-draft entries (after settings s e) legal.1 there) where
-      here : AllByRecursion (λ (x : Entry). spends n x ≡ false) entries → (HasDraft s × (spends n e ≡ false)) ⊎ GivesDraft n e.reply
-          → (HasDraft s × AllByRecursion (λ (x : Entry). spends n x ≡ false) (e ∷ entries)) ⊎ IsDraftLeft n (e ∷ entries)
-      here all (inl (old, unspent)) = inl (old, (unspent, all))
-      here all (inr gives) = inr ([], entries, e, refl, gives, all)
+-- what is there behind entries was there before them, and each of them kept it; or one of them gave it, and all behind that one kept it
+module _ (settings : Settings) (Has : State → Type 0) (Keeps Gives : Entry → Type 0) (Left : List Entry → Type 0)
+    (step : (s : State) (e : Entry) → Fits settings s e → Has (after settings s e) → (Has s × Keeps e) ⊎ Gives e)
+    (first : (e : Entry) (entries : List Entry) → Gives e → AllByRecursion Keeps entries → Left (e ∷ entries))
+    (more : (e : Entry) (entries : List Entry) → Left entries → Left (e ∷ entries)) where
+  behind : (entries : List Entry) (s : State) → Legal settings s entries → Has (end settings s entries) → (Has s × AllByRecursion Keeps entries) ⊎ Left entries
+  behind [] s legal there = inl (there, tt)
+  behind (e ∷ entries) s legal there =
+      elim (behind entries (after settings s e) legal.1 there) [
+        | inl w ↦ elim (step s e legal.0 w.0) [ inl old ↦ inl (old.0, (old.1, w.1)) | inr gives ↦ inr (first e entries gives w.1) ]
+        | inr left ↦ inr (more e entries left)
+      ]
 
-      by : (HasDraft (after settings s e) × AllByRecursion (λ (x : Entry). spends n x ≡ false) entries) ⊎ IsDraftLeft n entries
-          → (HasDraft s × AllByRecursion (λ (x : Entry). spends n x ≡ false) (e ∷ entries)) ⊎ IsDraftLeft n (e ∷ entries)
-      by (inl (then_there, all)) = here all (entry-draft settings s e legal.0 then_there)
-      by (inr (before, rest, x, is, gives, all)) = inr (e ∷ before, rest, x, ap (λ es. e ∷ es) is, gives, all)
-
-    left-lease : (entries : List Entry) (s : State) → Legal settings s entries → HasLease (end settings s entries)
-        → (HasLease s × AllByRecursion (λ (x : Entry). x.command ≢ done n) entries) ⊎ IsLeaseLeft n entries
-    left-lease [] s legal there = inl (there, tt)
-    left-lease (e ∷ entries) s legal there = by (left-lease entries (after settings s e) legal.1 there) where
-      here : AllByRecursion (λ (x : Entry). x.command ≢ done n) entries → (HasLease s × (e.command ≢ done n)) ⊎ ((blob : Blob) × (e.reply ≡ file n blob))
-          → (HasLease s × AllByRecursion (λ (x : Entry). x.command ≢ done n) (e ∷ entries)) ⊎ IsLeaseLeft n (e ∷ entries)
-      here all (inl (old, other)) = inl (old, (other, all))
-      here all (inr (blob, gives)) = inr ([], entries, e, blob, refl, gives, all)
-
-      by : (HasLease (after settings s e) × AllByRecursion (λ (x : Entry). x.command ≢ done n) entries) ⊎ IsLeaseLeft n entries
-          → (HasLease s × AllByRecursion (λ (x : Entry). x.command ≢ done n) (e ∷ entries)) ⊎ IsLeaseLeft n (e ∷ entries)
-      by (inl (then_there, all)) = here all (entry-lease settings s e legal.0 then_there)
-      by (inr (before, rest, x, blob, is, gives, all)) = inr (e ∷ before, rest, x, blob, ap (λ es. e ∷ es) is, gives, all)
+  given-behind : (entries : List Entry) (s : State) → Legal settings s entries → (Has s → ⊥) → Has (end settings s entries) → Left entries
+  given-behind entries s legal none there = elim (behind entries s legal there) [ inl old ↦ absurd (none old.0) | inr left ↦ left ]
 
 pub draft-left : (settings : Settings) (start : State) (entries : List Entry) (n : ℕ) → Legal settings start entries → start.yard.drafts ≡ []
     → is_among n (end settings start entries).yard.drafts ≡ true → IsDraftLeft n entries
-draft-left settings start entries n legal none there = by (left-draft n settings entries start legal there) where
-  by : ((is_among n start.yard.drafts ≡ true) × AllByRecursion (λ (x : Entry). spends n x ≡ false) entries) ⊎ IsDraftLeft n entries → IsDraftLeft n entries
-  by (inl (old, _)) = absurd (false≢true (sym (ap (is_among n) none) ∙ old))
-  by (inr left) = left
+draft-left settings start entries n legal none there =
+    given-behind settings (HasDraft n) (λ x. spends n x ≡ false) (λ x. GivesDraft n x.reply) (IsDraftLeft n) (entry-draft n settings) (λ e es gives all. ([], es, e, refl, gives, all))
+    (λ e es left. (e ∷ left.0, left.1, left.2, ap (λ (l : List Entry). e ∷ l) left.3, left.4, left.5)) entries start legal
+    (λ old. false≢true (sym (ap (is_among n) none) ∙ old)) there
 
 pub lease-left : (settings : Settings) (start : State) (entries : List Entry) (n : ℕ) → Legal settings start entries → start.yard.leases ≡ []
     → list_any (λ (lease : Lease). lease.number == n) (end settings start entries).yard.leases ≡ true → IsLeaseLeft n entries
-lease-left settings start entries n legal none there = by (left-lease n settings entries start legal there) where
-  by : ((list_any (λ (lease : Lease). lease.number == n) start.yard.leases ≡ true) × AllByRecursion (λ (x : Entry). x.command ≢ done n) entries) ⊎ IsLeaseLeft n entries → IsLeaseLeft n entries
-  by (inl (old, _)) = absurd (false≢true (sym (ap (list_any (λ (lease : Lease). lease.number == n)) none) ∙ old))
-  by (inr left) = left
+lease-left settings start entries n legal none there =
+    given-behind settings (HasLease n) (λ x. x.command ≢ done n) (λ x. (blob : Blob) × (x.reply ≡ file n blob)) (IsLeaseLeft n) (entry-lease n settings)
+    (λ e es gives all. ([], es, e, gives.0, refl, gives.1, all))
+    (λ e es left. (e ∷ left.0, left.1, left.2, left.3, ap (λ (l : List Entry). e ∷ l) left.4, left.5, left.6)) entries start legal
+    (λ old. false≢true (sym (ap (list_any (λ (lease : Lease). lease.number == n)) none) ∙ old)) there

@@ -1,12 +1,12 @@
 -- A file that has landed is not fetched again.
-use Rattle.std.proofs.Common.{◌≡◌, ℕ, true, List, [], ◌∷◌, ◌++◌, Option, Some, None, Result, Ok, Err, refl, sym, ◌∙◌, ap, subst}
+use Rattle.std.proofs.Common.{◌≡◌, ℕ, true, List, [], ◌∷◌, ◌++◌, Option, Some, None, Result, Ok, refl, sym, ◌∙◌, ap, subst}
 use Rattle.std.specs.Prelude.{is_some}
 use Rattle.std.specs.Option.{option_map_or}
 use Rattle.std.proofs.lemmas.Bool.{false≢true, and_parts}
 use Rattle.std.proofs.lemmas.Option.{none-some}
 use Rattle.mvn_coords.specs.Kind.{kind}
 use Rattle.mvn_coords.specs.declared.kind.Kind.{Kind}
-use Rattle.mvn_coords.specs.declared.kind.Kind.TheVariants.{File, FileSide, Doc, DocSide}
+use Rattle.mvn_coords.specs.declared.kind.Kind.TheVariants.{File, Doc}
 use Rattle.mvn_coords.specs.declared.fault.PathFault.{PathFault}
 use Rattle.mvn_coords.specs.Layout.{Coordinates}
 use Rattle.fetch_plan.specs.declared.Plan.{Plan}
@@ -47,12 +47,8 @@ no-plan-of-kept settings s now c plan coordinates row is file found =
 -- a file lands at a file's path
 landed-kind : (k : Result Kind PathFault) (under : Option ℕ) (blob : Blob) → is_landing k under (Got (got_file blob)) ≡ true → (coordinates : Coordinates) × (k ≡ Ok (File coordinates))
 landed-kind (Ok (File coordinates)) (Some n) blob lands = (coordinates, refl)
-landed-kind (Ok (File coordinates)) None blob lands = absurd (false≢true lands)
 landed-kind (Ok (Doc d)) None blob lands = absurd (false≢true lands)
-landed-kind (Ok (Doc d)) (Some n) blob lands = absurd (false≢true lands)
-landed-kind (Ok (FileSide c side)) under blob lands = absurd (false≢true lands)
-landed-kind (Ok (DocSide d side)) under blob lands = absurd (false≢true lands)
-landed-kind (Err fault) under blob lands = absurd (false≢true lands)
+landed-kind _ under blob lands = absurd (false≢true lands)
 
 landed-path : (settings : Settings) (old : State) (e : Entry) (id path : List ℕ) (blob : Blob) → Fits settings old e → LandsFile id path blob e → (coordinates : Coordinates) × (kind path ≡ Ok (File coordinates))
 landed-path settings old e id path blob fits ((plan, asks, proxy_is, path_is), replies) =

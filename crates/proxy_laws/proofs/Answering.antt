@@ -2,7 +2,6 @@
 use Rattle.std.proofs.Common.{◌≡◌, ℕ, Bool, true, false, List, [], Option, Some, None, Result, Ok, Err, refl, sym, ◌∙◌, ap, subst}
 use Rattle.std.specs.Prelude.{◌↔◌, ◌==◌, find, if◌then◌else◌}
 use Rattle.std.specs.Option.{option_map_or}
-use Rattle.std.proofs.lemmas.Bool.{false≢true}
 use Rattle.mvn_coords.specs.Kind.{kind}
 use Rattle.mvn_coords.specs.declared.kind.Kind.{Kind}
 use Rattle.mvn_coords.specs.declared.kind.Kind.TheVariants.{File, FileSide, Doc, DocSide}
@@ -18,7 +17,7 @@ use Rattle.repo_model.specs.State.{State, Yard, row_at, hosted_of, proxy_of, is_
 use Rattle.repo_model.specs.Command.{Command, look, group_rule_of, names_something}
 use Rattle.repo_model.specs.Reply.{Reply, missed, spent, blocked, negative, never_asked, is_free, is_look_reply}
 use Rattle.repo_model.specs.Proxies.{kept_at, subject_of, decided}
-use Rattle.repo_model.specs.Turn.{Turn, turn, draws_or_spent, shows, Seen, is_file, is_text, is_doc, is_nothing, is_to_fetch, is_blocked, is_negative, is_never, or_nothing, seen_at, document_text, document_shown, file_shown, is_of_file, served_by, stepped, proxy_seen, member_seen, fetches_one, serves_or_fetches, each_seen, directory_of, merged_of, first_or, group_seen, look_at}
+use Rattle.repo_model.specs.Turn.{Turn, turn, draws_or_spent, shows, Seen, is_file, is_text, is_doc, is_nothing, is_to_fetch, or_nothing, seen_at, document_text, document_shown, file_shown, is_of_file, served_by, stepped, proxy_seen, member_seen, fetches_one, serves_or_fetches, each_seen, directory_of, merged_of, first_or, group_seen, look_at}
 use Rattle.repo_model.specs.History.{Entry, Fits}
 use Rattle.repo_laws.proofs.Answered.{reply-determined}
 use Rattle.repo_laws.proofs.Lists.{found-passes}
@@ -53,10 +52,7 @@ rows-plain rows path (Err fault) = refl
 
 document-plain : (k : Result Kind PathFault) (document : Document) → is_plain (document_shown k document) ≡ true
 document-plain (Ok (DocSide d side)) document = refl
-document-plain (Ok (Doc d)) document = refl
-document-plain (Ok (File c)) document = refl
-document-plain (Ok (FileSide c side)) document = refl
-document-plain (Err fault) document = refl
+document-plain _ document = refl
 
 module _ (settings : Settings) (y : Yard) where
   abbrev told : Seen → Reply
@@ -64,55 +60,25 @@ module _ (settings : Settings) (y : Yard) where
 
   look-answer : (seen : Seen) → is_look_reply (told seen) ≡ true
   look-answer (is_file blob) = drawn-so (λ r. is_look_reply r ≡ true) y.next_lease _ refl refl
-  look-answer (is_text bytes) = refl
-  look-answer (is_doc bytes) = refl
-  look-answer is_nothing = refl
   look-answer (is_to_fetch member rule at true) = drawn-so (λ r. is_look_reply r ≡ true) y.next_draft _ refl refl
-  look-answer (is_to_fetch member rule at false) = refl
-  look-answer is_blocked = refl
-  look-answer is_negative = refl
-  look-answer is_never = refl
+  look-answer _ = refl
 
   rows-answer : (seen : Seen) → is_plain seen ≡ true → is_from_rows (told seen) ≡ true
   rows-answer (is_file blob) plain = drawn-so (λ r. is_from_rows r ≡ true) y.next_lease _ refl refl
-  rows-answer (is_text bytes) plain = refl
-  rows-answer (is_doc bytes) plain = refl
-  rows-answer is_nothing plain = refl
-  rows-answer (is_to_fetch member rule at o) plain = absurd (false≢true plain)
-  rows-answer is_blocked plain = absurd (false≢true plain)
-  rows-answer is_negative plain = absurd (false≢true plain)
-  rows-answer is_never plain = absurd (false≢true plain)
+  rows-answer _ plain = (cc)
 
   plain-member : (seen : Seen) → is_plain seen ≡ true → is_from_members (told seen) ≡ true
   plain-member (is_file blob) plain = drawn-so (λ r. is_from_members r ≡ true) y.next_lease _ refl refl
-  plain-member (is_text bytes) plain = refl
-  plain-member (is_doc bytes) plain = refl
-  plain-member is_nothing plain = refl
-  plain-member (is_to_fetch member rule at o) plain = absurd (false≢true plain)
-  plain-member is_blocked plain = absurd (false≢true plain)
-  plain-member is_negative plain = absurd (false≢true plain)
-  plain-member is_never plain = absurd (false≢true plain)
+  plain-member _ plain = (cc)
 
   fetch-member : (seen : Seen) → fetches_one seen ≡ true → is_from_members (told seen) ≡ true
   fetch-member (is_to_fetch member rule at true) fetches = drawn-so (λ r. is_from_members r ≡ true) y.next_draft _ refl refl
-  fetch-member (is_to_fetch member rule at false) fetches = refl
-  fetch-member (is_file blob) fetches = absurd (false≢true fetches)
-  fetch-member (is_text bytes) fetches = absurd (false≢true fetches)
-  fetch-member (is_doc bytes) fetches = absurd (false≢true fetches)
-  fetch-member is_nothing fetches = absurd (false≢true fetches)
-  fetch-member is_blocked fetches = absurd (false≢true fetches)
-  fetch-member is_negative fetches = absurd (false≢true fetches)
-  fetch-member is_never fetches = absurd (false≢true fetches)
+  fetch-member _ fetches = (cc)
 
   some-member : (seen : Seen) → serves_or_fetches seen ≡ true → is_from_members (told seen) ≡ true
   some-member (is_to_fetch member rule at o) some = fetch-member (is_to_fetch member rule at o) refl
   some-member (is_file blob) some = plain-member (is_file blob) refl
-  some-member (is_text bytes) some = refl
-  some-member (is_doc bytes) some = refl
-  some-member is_nothing some = refl
-  some-member is_blocked some = absurd (false≢true some)
-  some-member is_negative some = absurd (false≢true some)
-  some-member is_never some = absurd (false≢true some)
+  some-member _ some = (cc)
 
   group-answer : (s : State) (now : ℕ) (tried path : List ℕ) (k : Result Kind PathFault) (ids : List (List ℕ)) (directory : Option Directory)
       → is_from_members (told (group_seen s now tried path k ids directory)) ≡ true
@@ -167,20 +133,12 @@ said_of Fetch = None
 said_of step = Some step
 
 reply-said : (step : Step) (r : Reply) → reply_of step ≡ Some r → said_by r ≡ Some step
-reply-said Missed r is = let same : missed ≡ r = cc in ap said_by (sym same)
-reply-said Blocked r is = let same : blocked ≡ r = cc in ap said_by (sym same)
-reply-said Negative r is = let same : negative ≡ r = cc in ap said_by (sym same)
-reply-said Never r is = let same : never_asked ≡ r = cc in ap said_by (sym same)
-reply-said Serve r is = absurd (cc)
-reply-said Fetch r is = absurd (cc)
+reply-said Serve r is = (cc)
+reply-said _ r is = (cc)
 
 said-one : (step other : Step) → said_of step ≡ Some other → step ≡ other
-said-one Serve other is = absurd (cc)
-said-one Fetch other is = absurd (cc)
-said-one Missed other is = cc
-said-one Blocked other is = cc
-said-one Negative other is = cc
-said-one Never other is = cc
+said-one Serve other is = (cc)
+said-one _ other is = (cc)
 
 -- what is served or fetched
 abbrev is_something : Seen → Bool
@@ -192,17 +150,11 @@ is_something seen = false
 
 file-something : (k : Result Kind PathFault) (row : Row) → is_something (file_shown k row) ≡ true
 file-something (Ok (FileSide c side)) row = refl
-file-something (Ok (File c)) row = refl
-file-something (Ok (Doc d)) row = refl
-file-something (Ok (DocSide d side)) row = refl
-file-something (Err fault) row = refl
+file-something _ row = refl
 
 document-something : (k : Result Kind PathFault) (document : Document) → is_something (document_shown k document) ≡ true
 document-something (Ok (DocSide d side)) document = refl
-document-something (Ok (Doc d)) document = refl
-document-something (Ok (File c)) document = refl
-document-something (Ok (FileSide c side)) document = refl
-document-something (Err fault) document = refl
+document-something _ document = refl
 
 module _ (p : Proxy) (now : ℕ) (tried : Bool) where
   file-served : (at : List ℕ) (c : Coordinates) (k : Result Kind PathFault) → KeepsEnough p now tried at (Ok (File c)) → is_something (or_nothing (file_shown k) (row_at at p.files)) ≡ true
@@ -224,14 +176,8 @@ module _ (p : Proxy) (now : ℕ) (tried : Bool) where
 module _ (settings : Settings) (y : Yard) where
   something-unsaid : (seen : Seen) → is_something seen ≡ true → said_by (shows settings y seen).reply ≡ None
   something-unsaid (is_file blob) some = drawn-so (λ r. said_by r ≡ None) y.next_lease _ refl refl
-  something-unsaid (is_text bytes) some = refl
-  something-unsaid (is_doc bytes) some = refl
   something-unsaid (is_to_fetch member rule at true) some = drawn-so (λ r. said_by r ≡ None) y.next_draft _ refl refl
-  something-unsaid (is_to_fetch member rule at false) some = refl
-  something-unsaid is_nothing some = absurd (false≢true some)
-  something-unsaid is_blocked some = absurd (false≢true some)
-  something-unsaid is_negative some = absurd (false≢true some)
-  something-unsaid is_never some = absurd (false≢true some)
+  something-unsaid _ some = (cc)
 
 module _ (settings : Settings) (s : State) (now : ℕ) (path tried : List ℕ) (p : Proxy) (named : names_something (kind path) ≡ true) where
   abbrev at : List ℕ
@@ -249,18 +195,11 @@ module _ (settings : Settings) (s : State) (now : ℕ) (path tried : List ℕ) (
   step-said : (step : Step) → decided p now was at ≡ step → said_by (reply_for step) ≡ said_of step
   step-said Serve is = something-unsaid settings s.yard (served_by p at (kind path)) (enough-served p now was path (kind path) refl ((decision Serve).0 is).1)
   step-said Fetch is = something-unsaid settings s.yard (is_to_fetch 0 p.rule at (is_of_file (kind path))) refl
-  step-said Missed is = refl
-  step-said Blocked is = refl
-  step-said Negative is = refl
-  step-said Never is = refl
+  step-said _ is = refl
 
   step-replied : (step : Step) (r : Reply) → reply_of step ≡ Some r → reply_for step ≡ r
-  step-replied Missed r is = cc
-  step-replied Blocked r is = cc
-  step-replied Negative r is = cc
-  step-replied Never r is = cc
-  step-replied Serve r is = absurd (cc)
-  step-replied Fetch r is = absurd (cc)
+  step-replied Serve r is = (cc)
+  step-replied _ r is = (cc)
 
   decision-said : (step : Step) (r : Reply) → reply_of step ≡ Some r → (reply_for (decided p now was at) ≡ r) ↔ DecidedBy p now was at step
   decision-said step r tells = (

@@ -1,11 +1,11 @@
 -- What a proxy decides has its cause, and comes where there is one.
-use Rattle.std.proofs.Common.{◌≡◌, ◌≢◌, ◌+◌, ◌⊎◌, inl, inr, ℕ, Bool, true, false, List, Some, None, Result, Ok, Err, refl, sym, ◌∙◌, ap, subst}
+use Rattle.std.proofs.Common.{◌≡◌, ◌≢◌, ◌+◌, ◌⊎◌, inl, inr, ℕ, Bool, true, false, List, Some, None, Result, Ok, refl, sym, ◌∙◌, ap, subst}
 use Rattle.std.specs.Prelude.{◌↔◌, find, is_some, if◌then◌else◌}
 use Rattle.std.proofs.lemmas.Bool.{false≢true, ltb-true, lt-ltb, false_from_ne_true}
 use Rattle.std.proofs.lemmas.Option.{none-some}
 use Rattle.mvn_coords.specs.Kind.{kind}
 use Rattle.mvn_coords.specs.declared.kind.Kind.{Kind}
-use Rattle.mvn_coords.specs.declared.kind.Kind.TheVariants.{File, FileSide, Doc, DocSide}
+use Rattle.mvn_coords.specs.declared.kind.Kind.TheVariants.{File, Doc}
 use Rattle.mvn_coords.specs.declared.fault.PathFault.{PathFault}
 use Rattle.mvn_coords.specs.Layout.{Coordinates, Directory}
 use Rattle.path_patterns.specs.Pattern.{is_let_through}
@@ -20,11 +20,8 @@ use Rattle.proxy_laws.specs.Decisions.{IsSubject, IsLetThrough, IsFresh, IsMissi
 
 -- ---- tests and what they say
 never-is : (u : Update) → asks_never u ≡ true → u ≡ update.Never
-never-is update.Always is = absurd (false≢true is)
-never-is update.Hourly is = absurd (false≢true is)
-never-is update.Daily is = absurd (false≢true is)
-never-is update.Once is = absurd (false≢true is)
 never-is update.Never is = refl
+never-is _ is = (cc)
 
 never-not : (u : Update) → asks_never u ≡ false → u ≢ update.Never
 never-not u not is = false≢true (sym not ∙ ap asks_never is)
@@ -33,18 +30,16 @@ not-never : (u : Update) → u ≢ update.Never → asks_never u ≡ false
 not-never u other = false_from_ne_true (asks_never u) (λ is. other (never-is u is))
 
 fresh-is : (u : Update) (checked now : ℕ) → is_fresh u checked now ≡ true → IsFresh u checked now
-fresh-is update.Always checked now is = absurd (false≢true is)
 fresh-is update.Hourly checked now is = ltb-true now (checked + 3_600) is
 fresh-is update.Daily checked now is = ltb-true now (checked + 86_400) is
 fresh-is update.Once checked now is = tt
-fresh-is update.Never checked now is = absurd (false≢true is)
+fresh-is _ checked now is = absurd (false≢true is)
 
 is-fresh : (u : Update) (checked now : ℕ) → IsFresh u checked now → is_fresh u checked now ≡ true
-is-fresh update.Always checked now is = absurd is
 is-fresh update.Hourly checked now is = lt-ltb now (checked + 3_600) is
 is-fresh update.Daily checked now is = lt-ltb now (checked + 86_400) is
 is-fresh update.Once checked now is = refl
-is-fresh update.Never checked now is = absurd is
+is-fresh _ checked now is = absurd is
 
 module _ (p : Proxy) (now : ℕ) (at : List ℕ) where
   abbrev marked : Bool
@@ -131,9 +126,7 @@ module _ (p : Proxy) (now : ℕ) (at : List ℕ) where
     step-caused : (k : Result Kind PathFault) → IsSubject k → IsLetThrough p at → DecidedFor p now tried at k (step_for p now tried at k)
     step-caused (Ok (File c)) subject let_through = file-caused c let_through
     step-caused (Ok (Doc d)) subject let_through = document-caused d let_through
-    step-caused (Ok (FileSide c side)) subject let_through = absurd subject
-    step-caused (Ok (DocSide d side)) subject let_through = absurd subject
-    step-caused (Err fault) subject let_through = absurd subject
+    step-caused _ subject let_through = absurd subject
 
     abbrev decided_for : Result Kind PathFault → Step
     decided_for k = if is_let_through p.rule.allow p.rule.block at then step_for p now tried at k else Blocked
@@ -176,9 +169,7 @@ module _ (p : Proxy) (now : ℕ) (at : List ℕ) where
     nothing-step : (k : Result Kind PathFault) → KeepsNothing p at k → step_for p now tried at k ≡ step_out p now tried at
     nothing-step (Ok (File c)) none = ap (λ found. if is_some found then Serve else step_out p now tried at) none
     nothing-step (Ok (Doc d)) none = ap (document_step p now (step_out p now tried at)) none
-    nothing-step (Ok (FileSide c side)) none = absurd none
-    nothing-step (Ok (DocSide d side)) none = absurd none
-    nothing-step (Err fault) none = absurd none
+    nothing-step _ none = absurd none
 
     enough-step : (k : Result Kind PathFault) → KeepsEnough p now tried at k → step_for p now tried at k ≡ Serve
     enough-step (Ok (File c)) (row, found) = ap (λ f. if is_some f then Serve else step_out p now tried at) found
@@ -186,9 +177,7 @@ module _ (p : Proxy) (now : ℕ) (at : List ℕ) where
       by : IsFresh p.rule.update kept.checked now ⊎ IsUnasked p now tried at → (if is_fresh p.rule.update kept.checked now then Serve else instead (step_out p now tried at)) ≡ Serve
       by (inl fresh) = ap (λ b. if b then Serve else instead (step_out p now tried at)) (is-fresh p.rule.update kept.checked now fresh)
       by (inr why) = elim (is_fresh p.rule.update kept.checked now) as (λ b. (if b then Serve else instead (step_out p now tried at)) ≡ Serve) [ true ↦ refl | false ↦ unasked why ]
-    enough-step (Ok (FileSide c side)) enough = absurd enough
-    enough-step (Ok (DocSide d side)) enough = absurd enough
-    enough-step (Err fault) enough = absurd enough
+    enough-step _ enough = absurd enough
 
     little-step : (k : Result Kind PathFault) → KeepsTooLittle p now at k → step_out p now tried at ≡ Fetch → step_for p now tried at k ≡ Fetch
     little-step (Ok (File c)) none out = ap (λ found. if is_some found then Serve else step_out p now tried at) none ∙ out
@@ -200,9 +189,7 @@ module _ (p : Proxy) (now : ℕ) (at : List ℕ) where
               false_from_ne_true (is_fresh p.rule.update kept.checked now) (λ fresh. little kept found (fresh-is p.rule.update kept.checked now fresh)) in
               ap (λ b. if b then Serve else instead (step_out p now tried at)) old ∙ ap instead out
         ] refl
-    little-step (Ok (FileSide c side)) little out = absurd little
-    little-step (Ok (DocSide d side)) little out = absurd little
-    little-step (Err fault) little out = absurd little
+    little-step _ little out = absurd little
 
     let-in : (k : Result Kind PathFault) (step : Step) → IsLetThrough p at → step_for p now tried at k ≡ step → decided_for k ≡ step
     let-in k step let_through is = ap (λ b. if b then step_for p now tried at k else Blocked) let_through ∙ is

@@ -1,10 +1,11 @@
 -- What proxies keep changes only where something lands.
 use Rattle.std.proofs.Common.{◌≡◌, ℕ, true, List, [], ◌∷◌, length, refl, ◌∙◌, ap}
 use Rattle.std.specs.List.{AllByRecursion}
+use Rattle.std.proofs.lemmas.Bool.{false≢true}
 use Rattle.repo_model.specs.declared.session.SessionResult.TheVariants.{Aborted, Done}
 use Rattle.repo_model.specs.Settings.{Settings}
 use Rattle.repo_model.specs.State.{State, rows_of}
-use Rattle.repo_model.specs.Effect.{Effect, with_effect, with_effects}
+use Rattle.repo_model.specs.Effect.{Effect, caches, keeps_doc, marks_missing, clears_mark, with_effect, with_effects}
 use Rattle.repo_model.specs.Command.{Command}
 use Rattle.repo_model.specs.Reply.{landed, is_free}
 use Rattle.repo_model.specs.Purge.{expire_all}
@@ -12,7 +13,7 @@ use Rattle.repo_model.specs.Turn.{Turn, turn, unlent}
 use Rattle.repo_model.specs.History.{Entry, IsReply, due, wants_memory, failed, Fits, Legal, ticked, after, end}
 use Rattle.repo_laws.proofs.Answered.{free-none, no-free, state-determined}
 use Rattle.repo_laws.proofs.Cases.{Case, lands_one, deploys, aborts, unlists, collects, turn-case}
-use Rattle.repo_laws.proofs.Making.{Bulk, deploys-made, aborts-made, unlists-made, collects-made}
+use Rattle.repo_laws.proofs.Making.{is_bulk, deploys-made, aborts-made, unlists-made, collects-made}
 
 -- the effect leaves each proxy as it is
 abbrev Leaves : Effect → Type 0
@@ -23,15 +24,12 @@ all-leave [] all s = refl
 all-leave (e ∷ es) all s = all-leave es all.1 (with_effect s e) ∙ all.0 s
 
 -- so do those that a turn makes of a list of files or of rows
-bulk : Bulk Leaves
-bulk = record {
-  delivers_so = λ n repo path blob moment s. refl;
-  discards_so = λ n path draft s. refl;
-  relists_so = λ repo path moment s. refl;
-  fades_so = λ repo path moment s. refl;
-  expires_so = λ repo path blob s. refl;
-  ends_so = λ n result s. refl;
-}
+bulk : (e : Effect) → is_bulk e ≡ true → Leaves e
+bulk (caches id path blob moment) is = absurd (false≢true is)
+bulk (keeps_doc id path document moment) is = absurd (false≢true is)
+bulk (marks_missing id path moment) is = absurd (false≢true is)
+bulk (clears_mark id path) is = absurd (false≢true is)
+bulk e is = λ s. refl
 
 module _ (settings : Settings) (s : State) (now : ℕ) where
   case-leaves : (c : Command) (t : Turn) → Case settings s now c t → (t.reply ≡ landed → ⊥) → (u : State) → (with_effects u t.effects).proxies ≡ u.proxies

@@ -12,7 +12,6 @@ use Rattle.std.specs.declared.cmp.Ordering.TheVariants.{Less, Equal, Greater}
 use Rattle.std.proofs.lemmas.Bool.{false≢true, or_left, or_right, leb-true, leb-false}
 use Rattle.std.proofs.lemmas.Cmp.{tied_itself}
 use Rattle.std.proofs.lemmas.List.Sums.{count_by-le-length, length-filter}
-use Rattle.std.proofs.lemmas.Map.Lookups.{exact_bytes}
 use Rattle.std.proofs.lemmas.Option.{none-some}
 use Rattle.outside.specs.Moments.{Moments}
 use Rattle.repo_model.specs.Data.{Kept, Mark, Proxy}
@@ -23,8 +22,8 @@ use Rattle.repo_model.specs.Tables.{Tables, RecordedDocument}
 use Rattle.repo_model.specs.Restart.{documents_of, proxy_from, started}
 use Rattle.repo_model.specs.History.{Entry, ticked, effects_of, after, end}
 use Rattle.repo_laws.specs.Holds.{document_cmp, InOrder}
-use Rattle.repo_laws.proofs.HoldingLists.{all-change_first, find-gone}
-use Rattle.repo_laws.proofs.HoldingOrder.{after-all, before-it, filter-ordered}
+use Rattle.repo_laws.proofs.HoldingLists.{all-change_first, find-gone, none-filter}
+use Rattle.repo_laws.proofs.Inserted.{inserted, inserted-ordered, filter-ordered, free-keyed, with_kept-is}
 use Rattle.repo_laws.proofs.Releases.{is_itself, same_path}
 use Rattle.proxy_laws.specs.Limits.{kept_cmp, mark_cmp, KeepsLimits, KeepLimits}
 
@@ -38,59 +37,20 @@ none-rise : {K : Type 0} (c : K → K → Ordering) → IsStrictlySortedBy c []
 unfolding IsStrictlySortedBy
 none-rise c = tt
 
--- what rises behind a document rises behind another at its path
-same-all : (x y : Kept) (kept : List Kept) → kept_cmp x y ≡ Equal → AllByRecursion (λ z. kept_cmp y z ≡ Less) kept → AllByRecursion (λ z. kept_cmp x z ≡ Less) kept
-same-all x y [] same all = tt
-same-all x y (z ∷ kept) same all = (kept-order.congr x y z same ∙ all.0, same-all x y kept same all.1)
-
 -- one more document, in the place of the one at its path
-all-with_kept : (P : Kept → Type 0) (new : Kept) (kept : List Kept) → AllByRecursion P kept → P new → AllByRecursion P (with_kept new kept)
-all-with_kept P new [] all here = (here, tt)
-all-with_kept P new (k ∷ kept) all here =
-    elim (slice_cmp nat_cmp new.path k.path)
-    as (λ o. AllByRecursion P (match_ordering o (new ∷ k ∷ kept) (new ∷ kept) (k ∷ with_kept new kept))) [
-      | Less ↦ (here, all)
-      | Equal ↦ (here, all.1)
-      | Greater ↦ (all.0, all-with_kept P new kept all.1 here)
-    ]
-
 with_kept-ordered : (new : Kept) (kept : List Kept) → IsStrictlySortedBy kept_cmp kept → IsStrictlySortedBy kept_cmp (with_kept new kept)
-unfolding IsStrictlySortedBy
-with_kept-ordered new [] rising = (tt, tt)
-with_kept-ordered new (k ∷ kept) rising =
-    elim (kept_cmp new k)
-    as (λ o. kept_cmp new k ≡ o → IsStrictlySortedBy kept_cmp (match_ordering o (new ∷ k ∷ kept) (new ∷ kept) (k ∷ with_kept new kept))) [
-      | Less ↦ λ before. ((before, after-all kept_cmp kept-order new k kept before rising.0), rising)
-      | Equal ↦ λ same. (same-all new k kept same rising.0, rising.1)
-      | Greater ↦ λ behind. (all-with_kept (λ y. kept_cmp k y ≡ Less) new kept rising.0 (before-it kept_cmp kept-order new k behind), with_kept-ordered new kept rising.1)
-    ] refl
+with_kept-ordered new kept rising =
+    subst (IsStrictlySortedBy kept_cmp) (sym (with_kept-is new kept)) (inserted-ordered kept_cmp kept-order false new kept (λ is. absurd (false≢true is)) rising)
 
 -- one more mark, where there is none at its path
-all-insert : (P : Mark → Type 0) (new : Mark) (marks : List Mark) → AllByRecursion P marks → P new → AllByRecursion P (insert_mark new marks)
-all-insert P new [] all here = (here, tt)
-all-insert P new (m ∷ marks) all here =
-    elim (slice_cmp nat_cmp new.path m.path)
-    as (λ o. AllByRecursion P (match_ordering o (new ∷ m ∷ marks) (new ∷ m ∷ marks) (m ∷ insert_mark new marks))) [
-      | Less ↦ (here, all)
-      | Equal ↦ (here, all)
-      | Greater ↦ (all.0, all-insert P new marks all.1 here)
-    ]
+insert_mark-is : (new : Mark) (marks : List Mark) → insert_mark new marks ≡ inserted mark_cmp true new marks
+insert_mark-is new [] = refl
+insert_mark-is new (m ∷ marks) = ap (λ rest. match_ordering (mark_cmp new m) (new ∷ m ∷ marks) (new ∷ m ∷ marks) (m ∷ rest)) (insert_mark-is new marks)
 
 insert-ordered : (new : Mark) (marks : List Mark) → find (is_mark new.path) marks ≡ None → IsStrictlySortedBy mark_cmp marks → IsStrictlySortedBy mark_cmp (insert_mark new marks)
-unfolding IsStrictlySortedBy
-insert-ordered new [] free rising = (tt, tt)
-insert-ordered new (m ∷ marks) free rising =
-    elim (is_mark new.path m)
-    as (λ b. is_mark new.path m ≡ b → cond b (Some m) (find (is_mark new.path) marks) ≡ None → IsStrictlySortedBy mark_cmp (insert_mark new (m ∷ marks))) [
-      | true ↦ λ _ found. absurd (none-some m (sym found))
-      | false ↦ λ other free_then.
-          elim (mark_cmp new m)
-          as (λ o. mark_cmp new m ≡ o → IsStrictlySortedBy mark_cmp (match_ordering o (new ∷ m ∷ marks) (new ∷ m ∷ marks) (m ∷ insert_mark new marks))) [
-            | Less ↦ λ before. ((before, after-all mark_cmp marks-order new m marks before rising.0), rising)
-            | Equal ↦ λ same. absurd (false≢true (sym other ∙ ap (λ p. is_mark p m) (exact_bytes new.path m.path same) ∙ is_itself m.path))
-            | Greater ↦ λ behind. (all-insert (λ y. mark_cmp m y ≡ Less) new marks rising.0 (before-it mark_cmp marks-order new m behind), insert-ordered new marks free_then rising.1)
-          ] refl
-    ] refl free
+insert-ordered new marks free rising =
+    subst (IsStrictlySortedBy mark_cmp) (sym (insert_mark-is new marks))
+    (inserted-ordered mark_cmp marks-order true new marks (λ _. free-keyed (λ (m : Mark). m.path) new marks free) rising)
 
 insert-length : (new : Mark) (marks : List Mark) → length (insert_mark new marks) ≡ length marks + 1
 insert-length new [] = refl
@@ -105,19 +65,6 @@ insert-length new (m ∷ marks) =
 module _ {X : Type 0} where
   fewer : (q : X → Bool) (xs : List X) → length (filter q xs) ≤ length xs
   fewer q xs = omega (arith, length-filter q xs, count_by-le-length q xs)
-
-  -- what is not there is not among some of them
-  still-none : (p q : X → Bool) (xs : List X) → find p xs ≡ None → find p (filter q xs) ≡ None
-  still-none p q [] none = refl
-  still-none p q (x ∷ xs) none =
-      elim (p x) as (λ b. p x ≡ b → cond b (Some x) (find p xs) ≡ None → find p (filter q (x ∷ xs)) ≡ None) [
-        | true ↦ λ _ found. absurd (none-some x (sym found))
-        | false ↦ λ other later.
-            elim (q x) as (λ b. find p (cond b (x ∷ filter q xs) (filter q xs)) ≡ None) [
-              | true ↦ rw other (still-none p q xs later)
-              | false ↦ still-none p q xs later
-            ]
-      ] refl none
 
   -- where one passes a test, fewer do not
   one-less : (q : X → Bool) (xs : List X) → list_any q xs ≡ true → length (filter (λ x. not (q x)) xs) < length xs
@@ -198,7 +145,7 @@ marked-limits new marks rising few =
     let ordered : IsStrictlySortedBy mark_cmp rest = filter-ordered mark_cmp marks-order (λ m. not (is_mark new.path m)) marks rising in
     let free : find (is_mark new.path) rest ≡ None = find-gone (is_mark new.path) marks in
     let room_free : find (is_mark new.path) (with_room rest) ≡ None =
-    room-keeps rest (λ xs. find (is_mark new.path) xs ≡ None) (λ q. still-none (is_mark new.path) q rest free) free in
+    room-keeps rest (λ xs. find (is_mark new.path) xs ≡ None) (λ q. none-filter (is_mark new.path) q rest free) free in
     let room_ordered : IsStrictlySortedBy mark_cmp (with_room rest) =
     room-keeps rest (IsStrictlySortedBy mark_cmp) (λ q. filter-ordered mark_cmp marks-order q rest ordered) ordered in (
       insert-ordered new (with_room rest) room_free room_ordered,

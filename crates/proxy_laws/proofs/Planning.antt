@@ -14,7 +14,7 @@ use Rattle.mvn_metadata.specs.Document.{Document}
 use Rattle.fetch_plan.specs.declared.Plan.{Plan}
 use Rattle.path_patterns.specs.Pattern.{is_let_through}
 use Rattle.repo_model.specs.declared.step.Step.{Step}
-use Rattle.repo_model.specs.declared.step.Step.TheVariants.{Serve, Missed, Blocked, Negative, Never, Fetch}
+use Rattle.repo_model.specs.declared.step.Step.TheVariants.{Serve, Blocked, Fetch}
 use Rattle.repo_model.specs.Data.{Row, Kept, Hosted, Proxy}
 use Rattle.repo_model.specs.Settings.{GroupRule, ProxyRule, Settings}
 use Rattle.repo_model.specs.State.{State, is_proxy, row_at, hosted_of, proxy_of, is_among}
@@ -34,17 +34,11 @@ no-fetch f (Some x) other = other x
 
 document-quiet : (k : Result Kind PathFault) (document : Document) → fetches_one (document_shown k document) ≡ false
 document-quiet (Ok (DocSide d side)) document = refl
-document-quiet (Ok (Doc d)) document = refl
-document-quiet (Ok (File c)) document = refl
-document-quiet (Ok (FileSide c side)) document = refl
-document-quiet (Err fault) document = refl
+document-quiet _ document = refl
 
 file-quiet : (k : Result Kind PathFault) (row : Row) → fetches_one (file_shown k row) ≡ false
 file-quiet (Ok (FileSide c side)) row = refl
-file-quiet (Ok (File c)) row = refl
-file-quiet (Ok (Doc d)) row = refl
-file-quiet (Ok (DocSide d side)) row = refl
-file-quiet (Err fault) row = refl
+file-quiet _ row = refl
 
 pub served-quiet : (p : Proxy) (at : List ℕ) (k : Result Kind PathFault) → fetches_one (served_by p at k) ≡ false
 served-quiet p at k =
@@ -76,9 +70,7 @@ subject-so path named = subject-kind path (kind path) refl named
 fetch-subject : (p : Proxy) (now : ℕ) (tried : Bool) (at : List ℕ) (k : Result Kind PathFault) → step_for p now tried at k ≡ Fetch → IsSubject k
 fetch-subject p now tried at (Ok (File c)) is = tt
 fetch-subject p now tried at (Ok (Doc d)) is = tt
-fetch-subject p now tried at (Ok (FileSide c side)) is = absurd (cc)
-fetch-subject p now tried at (Ok (DocSide d side)) is = absurd (cc)
-fetch-subject p now tried at (Err fault) is = absurd (cc)
+fetch-subject p now tried at _ is = absurd (cc)
 
 decided-subject : (p : Proxy) (now : ℕ) (tried : Bool) (at : List ℕ) → decided p now tried at ≡ Fetch → IsSubject (kind at)
 decided-subject p now tried at is =
@@ -109,10 +101,7 @@ module _ (s : State) (now : ℕ) (tried path : List ℕ) (m : ℕ) (r : ProxyRul
       let found : proxy_of r.id s ≡ Some p = subst (λ (x : ProxyRule). proxy_of x.id s ≡ Some p) rule_is (subst (λ (x : List ℕ). proxy_of x s ≡ Some p) (sym id_is) there) in
       (p, found, subst (λ (x : List ℕ). decided p now (is_among m tried) x ≡ Fetch) at_is (subst (λ (n : ℕ). decided p now (is_among n tried) (subject_of path (kind path)) ≡ Fetch) member_is decides))
   proxy-decides id p member Serve there decides is = absurd (quiet-not (served_by p (subject_of path (kind path)) (kind path)) (served-quiet p (subject_of path (kind path)) (kind path)) is)
-  proxy-decides id p member Missed there decides is = absurd (cc)
-  proxy-decides id p member Blocked there decides is = absurd (cc)
-  proxy-decides id p member Negative there decides is = absurd (cc)
-  proxy-decides id p member Never there decides is = absurd (cc)
+  proxy-decides id p member _ there decides is = absurd (cc)
 
   member-decides : (member : ℕ) (id : List ℕ) → member_seen s now tried path (kind path) member id ≡ wanted → IsDecided
   member-decides member id is =

@@ -11,20 +11,19 @@ use Rattle.mvn_coords.specs.declared.fault.Side.{Side}
 use Rattle.mvn_coords.specs.Layout.{Coordinates, text_of}
 use Rattle.mvn_digest.specs.Sides.{side_text}
 use Rattle.path_patterns.specs.Pattern.{is_let_through}
-use Rattle.repo_model.specs.declared.step.Step.{Step}
 use Rattle.repo_model.specs.declared.step.Step.TheVariants.{Serve, Blocked}
 use Rattle.repo_model.specs.Data.{Hosted, Kept, Proxy, Row}
 use Rattle.repo_model.specs.Settings.{GroupRule, ProxyRule, Settings}
 use Rattle.repo_model.specs.State.{State, files_of, hosted_of, is_among, is_proxy, is_repository, number_end, proxy_of, row_at}
 use Rattle.repo_model.specs.Effect.{lends, recorded}
-use Rattle.repo_model.specs.Command.{group_rule_of, is_there, look, proxy_rule_of}
+use Rattle.repo_model.specs.Command.{group_rule_of, is_there, look}
 use Rattle.repo_model.specs.Reply.{file, spent, text}
 use Rattle.repo_model.specs.Proxies.{decided, kept_at, step_for, step_out, subject_of}
 use Rattle.repo_model.specs.Turn.{Seen, Turn, directory_of, document_shown, draws_or_spent, each_seen, file_shown, first_or, group_seen, is_nothing, is_of_file, look_at, member_seen, or_nothing, proxy_seen, says, seen_at, serves_or_fetches, shows, stepped, turn}
 use Rattle.repo_model.specs.History.{Entry, Fits}
 use Rattle.repo_laws.specs.Closed.{Answers, GivesFile, GivesText}
 use Rattle.repo_laws.specs.Sound.{IsSound, Sound}
-use Rattle.repo_laws.proofs.CausesSession.{any-none}
+use Rattle.repo_laws.proofs.HoldingLists.{any-none}
 use Rattle.repo_laws.proofs.Closed.{look-gives}
 use Rattle.repo_laws.proofs.Orderly.{there-as-set}
 use Rattle.proxy_laws.specs.Asked.{AsksFirst, LetsThrough, by_group, itself}

@@ -1,10 +1,7 @@
 -- A file that a proxy keeps stays there, one that lands is kept, and both outlast a start.
-use Rattle.std.proofs.Common.{◌≡◌, ℕ, Bool, true, false, cond, List, [], ◌∷◌, Option, Some, None, refl, sym, ◌∙◌, ap, subst, option_map}
+use Rattle.std.proofs.Common.{◌≡◌, ℕ, Bool, true, false, List, [], ◌∷◌, Option, Some, None, refl, sym, ◌∙◌, ap, subst, option_map}
 use Rattle.std.specs.Prelude.{IsTrue, if◌then◌else◌, is_some}
 use Rattle.std.specs.List.{list_any}
-use Rattle.std.specs.Ordering.{nat_cmp, match_ordering}
-use Rattle.std.specs.declared.cmp.Ordering.TheVariants.{Less, Equal, Greater}
-use Rattle.std.specs.Cmp.Lexicographic.{slice_cmp}
 use Rattle.std.proofs.lemmas.Bool.{and_parts}
 use Rattle.std.proofs.lemmas.Option.{none-some}
 use Rattle.fetch_plan.specs.declared.Plan.{Plan}
@@ -13,7 +10,7 @@ use Rattle.mvn_coords.specs.Kind.{kind}
 use Rattle.repo_model.specs.Fetched.{got_file}
 use Rattle.repo_model.specs.Data.{Blob, Row, Kept, Proxy}
 use Rattle.repo_model.specs.Settings.{Settings}
-use Rattle.repo_model.specs.State.{State, is_proxy, is_row, row_at, files_of}
+use Rattle.repo_model.specs.State.{State, is_proxy, row_at, files_of}
 use Rattle.repo_model.specs.Proxies.{kept_at}
 use Rattle.repo_model.specs.Effect.{Effect, caches, keeps_doc, marks_missing, clears_mark, with_row, new_row, proxy_after, with_effect, with_effects}
 use Rattle.repo_model.specs.May.{May}
@@ -30,9 +27,10 @@ use Rattle.repo_laws.specs.Sound.{AreNamedApart, Sound, IsSound}
 use Rattle.repo_laws.proofs.Answered.{reply-determined}
 use Rattle.repo_laws.proofs.Files.{files-changed}
 use Rattle.repo_laws.proofs.Histories.{entry-keeps, sound-entry}
-use Rattle.repo_laws.proofs.HoldingFiles.{part-there}
+use Rattle.repo_laws.proofs.HoldingRows.{row-new}
 use Rattle.repo_laws.proofs.Landing.{proxy-there-as-set}
-use Rattle.repo_laws.proofs.Releases.{is_itself, other_path, with_row-elsewhere}
+use Rattle.repo_laws.proofs.Rows.{part-there}
+use Rattle.repo_laws.proofs.Releases.{other_path, with_row-elsewhere}
 use Rattle.proxy_laws.specs.Limits.{kept_first}
 
 -- ---- effects, entries, histories
@@ -72,20 +70,6 @@ pub file-behind-history : (settings : Settings) (start : State) (entries : List 
 file-behind-history settings start entries id path row apart sound legal is = history-stays settings apart id path row entries start sound.order legal is
 
 -- ---- what lands
-row-new : (new : Row) (rows : List Row) → row_at new.path rows ≡ None → row_at new.path (with_row new rows) ≡ Some new
-row-new new [] none = rw (is_itself new.path) refl
-row-new new (row ∷ rows) none =
-    elim (is_row new.path row) as (λ b. is_row new.path row ≡ b → cond b (Some row) (row_at new.path rows) ≡ None → row_at new.path (with_row new (row ∷ rows)) ≡ Some new) [
-      | true ↦ λ _ found. absurd (none-some row (sym found))
-      | false ↦ λ other rest.
-          elim (slice_cmp nat_cmp new.path row.path)
-          as (λ o. row_at new.path (match_ordering o (new ∷ row ∷ rows) (new ∷ row ∷ rows) (row ∷ with_row new rows)) ≡ Some new) [
-            | Less ↦ rw (is_itself new.path) refl
-            | Equal ↦ rw (is_itself new.path) refl
-            | Greater ↦ rw other (row-new new rows rest)
-          ]
-    ] refl none
-
 -- a mark that is cleared changes no file, and neither does a draft that is given up
 cleared-files : (id at path : List ℕ) (found : Option Row) (s : State) → row_at path (files_of id s) ≡ found → row_at path (files_of id (with_effect s (clears_mark at path))) ≡ found
 cleared-files id at path found s is =
@@ -102,7 +86,7 @@ module _ (s : State) (plan : Plan) (blob : Blob) (now : ℕ) (there : list_any (
       let f : Proxy → Proxy = proxy_after (caches plan.proxy plan.path blob now) in
       let new : Row = new_row plan.path blob now in
       let rows_then : files_of plan.proxy (with_effect s (caches plan.proxy plan.path blob now)) ≡ with_row new (files_of plan.proxy s) =
-      part-there (λ (p : Proxy). p.files) plan.proxy f (with_row new) (λ p. refl) (λ p. refl) s.proxies there in
+      part-there (λ (p : Proxy). p.rule.id) f (λ p. refl) (λ (p : Proxy). p.files) (with_row new) (λ p. refl) plan.proxy s.proxies there in
       cleared-files plan.proxy plan.proxy plan.path (Some new) (with_effect s (caches plan.proxy plan.path blob now))
       (ap (row_at plan.path) rows_then ∙ row-new new (files_of plan.proxy s) free)
   file-lands (Some row) found =
